@@ -18,12 +18,12 @@ BEGIN, END = "<!-- counted by tests/beliefs.py -->", "<!-- end -->"
 TOP = ROOT / "crates" / "mtc_top" / "src"
 # Each statement: what its table is headed by, the functions whose contracts it is, and its page of definitions. First the
 # record that `run` ensures with the laws of each run, then the laws of courses, and those of what is printed.
-RUNS = ("The statement names", r"run|runs_\w+", ("mtc_top.specs.Run", "mtc_top.specs.RunLaws"))
+RUNS = ("The statement names", r"run|law_runs_\w+", ("mtc_top.specs.Run", "mtc_top.specs.RunLaws"))
 LAWS = "mtc_top.specs.{}Laws"
 PRINTED = tuple(map(LAWS.format, ("Export", "Audit", "Print", "Status")))
-PRINTS = ("The laws of what is printed name", r"(?:exports|audits|printed|misread)_\w+", PRINTED)
+PRINTS = ("The laws of what is printed name", r"law_(?:exports|audits|printed|misread)_\w+", PRINTED)
 LINKED = ("mtc_top.specs.Courses", LAWS.format("Course"), LAWS.format("Room"))
-COURSES = ("The laws of courses name", r"(?:courses|entries|journals|no|recovered|what)_\w+", LINKED)
+COURSES = ("The laws of courses name", r"law_(?:courses|entries|journals|no|recovered|released)_\w+", LINKED)
 STATEMENTS = (RUNS, COURSES, PRINTS)
 
 # The contracts are generic: what they say of a room, a device, a stream and a hash function is what these traits ensure.
@@ -32,14 +32,14 @@ TRAITS = ("mtc_room/src/room.rt", "disk_core/src/disk.rt", "mtc_io/src/source.rt
 # The promise as a whole is one law. Its level are the crates of what a reader has to take in for it: the list of all their definitions
 # on which it rests, with their types of the code, has at most so many. It ends at the words of the crates below. These are those of
 # these standards and formats, and behind none of them stands one of its level.
-WHOLE = r"the_whole_\w+"
+WHOLE = r"law_the_whole_\w+"
 LEVEL = ("node_history", "mtc_top")
 MOST = 61
 STANDARDS = {
-    "the words for bytes, readings and forms": ("byte_forms",),
+    "the words for bytes, readings and forms": ("byte_formats",),
     "files and streams ([OPERATIONS](OPERATIONS.md))": ("mtc_io", "disk_core", "mtc_room"),
     "journals, records, lists and exports ([FORMATS](FORMATS.md))": ("journal_core", "issuance_log", "cosigner_core", "entry_list"),
-    "words and answers ([COMMANDS](COMMANDS.md))": ("mtc_words", "mtc_answers", "mtc_reads", "mtc_logs", "mtc_cosigner", "mtc_monitor",
+    "words and answers ([COMMANDS](COMMANDS.md))": ("mtc_words", "mtc_command", "mtc_reads", "mtc_authority", "mtc_cosigner", "mtc_monitor",
                                                "mtc_drill"),
     "audits: a list of entries beside what was accepted": ("world_core",),
     "the draft: proofs, stores and judgement, issuing": ("mtc_proof", "policy_core", "authority_core"),

@@ -1,7 +1,7 @@
 #!/usr/bin/env python3
-"""Makes the answers about certificates of crates/reference_tables anew, by the readers of tests/reference; prints them.
+"""Makes the answers about certificates of crates/test_tables anew, by the readers of tests/reference; prints them.
 
-With --compare it says whether crates/reference_tables/stdout has them behind its answers about signatures. Each
+With --compare it says whether crates/test_tables/stdout has them behind its answers about signatures. Each
 certificate that is asked for has a line for itself, and one for each of its bytes: what is answered where that byte
 has another value, in runs of values of one answer. `certificate` asks what is read, or the first fault with its
 offset; `judgement` what a relying party says. The readers are written from docs/FORMATS.md, docs/COMMANDS.md and the

@@ -9,7 +9,7 @@ Usage: tests/drills.py [COUNT [FIRST]]      so many drills, 100 if nothing is sa
                                      and that of the largest number
        tests/drills.py --drawn NUMBER ..     plays nothing, and prints of each number what it draws: entries, landmarks,
                                      signatures, stops, the stopped calls that do not answer Ok, and those of an issue, a landmark
-                                     or an advance whose record is there, as crates/run_tests has them
+                                     or an advance whose record is there, as crates/test_run has them
 """
 
 import subprocess

@@ -1,8 +1,8 @@
 #!/usr/bin/env python3
-"""Makes the answers about signatures of crates/reference_tables anew, from RFC 8554 alone, and prints them.
+"""Makes the answers about signatures of crates/test_tables anew, from RFC 8554 alone, and prints them.
 
-With --compare it says whether crates/reference_tables/stdout begins with them. It reads the lines of
-crates/reference_tables/stdin that ask for signatures, and uses nothing of the crates. So what it prints is what the
+With --compare it says whether crates/test_tables/stdout begins with them. It reads the lines of
+crates/test_tables/stdin that ask for signatures, and uses nothing of the crates. So what it prints is what the
 program must print: the names of the refusals, the public keys, and the signatures by their lengths and SHA-256. It
 takes about half a minute. Sections and names are those of RFC 8554.
 Usage: tests/hss_vectors.py [--compare]

@@ -17,8 +17,8 @@ HINT = re.compile(r"#!?\[(?:tactic|inline|cycle|allow|must_use)\b[^\]]*\]")
 IMPORT = re.compile(r"^[ \t]*(pub(?:\([a-z]+\))? +)?(?:ghost )?use ([^;]+);", re.M)
 MODULE = re.compile(r"^[ \t]*(?:pub(?:\([a-z]+\))? +)?mod \w+;", re.M)
 WORD = re.compile(r"[^\s(){}\[\],;:.<>&]+")
-# byte_forms has laws alone.
-WITHOUT_EDITS = {"byte_forms"}
+# byte_formats has laws alone.
+WITHOUT_EDITS = {"byte_formats"}
 MOST, MOST_IN_THE_GATE = 12, 1
 
 

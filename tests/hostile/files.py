@@ -1,4 +1,4 @@
-"""Certificates and stores that are changed: those of crates/reference_tables, with signatures of three cosigners."""
+"""Certificates and stores that are changed: those of crates/test_tables, with signatures of three cosigners."""
 
 import base64
 from functools import cache
@@ -21,7 +21,7 @@ ALGORITHM, VALIDITY, EXTENSIONS = 2, 4, 7
 
 @cache
 def asked():
-    """The certificates that crates/reference_tables is asked about, by their labels."""
+    """The certificates that crates/test_tables is asked about, by their labels."""
     return {words[1]: tables.hexadecimal(words[-1]) for words in tables.asked(tables.CERTIFICATES)}
 
 

@@ -1,11 +1,11 @@
-"""The tables of crates/reference_tables: what its stdin asks, and what its stdout has to answer."""
+"""The tables of crates/test_tables: what its stdin asks, and what its stdout has to answer."""
 
 import sys
 from itertools import zip_longest
 from os.path import commonprefix
 from pathlib import Path
 
-FOLDER = Path(__file__).resolve().parents[2] / "crates/reference_tables"
+FOLDER = Path(__file__).resolve().parents[2] / "crates/test_tables"
 SIGNATURES, CERTIFICATES, LISTS = ("hss", "lms", "tree", "sign"), ("certificate", "judgement"), ("list",)
 # How much is shown of two lines that differ.
 COLUMNS = 100
@@ -56,10 +56,10 @@ def compare(kinds, made):
     lines = [(line, *pair) for line, pair in enumerate(zip_longest(found, made), first)]
     wrong = [difference(*line) for line in lines if line[1] != line[2]]
     if wrong or not made:
-        both = "first that of crates/reference_tables/stdout, then the one made here"
+        both = "first that of crates/test_tables/stdout, then the one made here"
         print(f"wrong: {len(wrong)} lines; {both}", *wrong[:3], sep="\n    ")
         return 1
-    print(f"ok: {len(made)} lines of crates/reference_tables/stdout, from line {first} on, are those made here")
+    print(f"ok: {len(made)} lines of crates/test_tables/stdout, from line {first} on, are those made here")
     return 0
 
 

@@ -4,7 +4,7 @@ use Rattle.std.proofs.Common.{refl, sym}
 use Rattle.std.proofs.Common.{ap, subst, ◌∙◌, take, drop, length, slice_index_or}
 use Rattle.std.specs.Prelude.{◌≤ℤ◌, map}
 use Rattle.std.proofs.lemmas.List.{drop-map, take-map}
-use Rattle.byte_forms.specs.Types.{Text, Hash, HashFunction}
+use Rattle.byte_formats.specs.Types.{Text, Hash, HashFunction}
 use Rattle.tls_wire.specs.Anchors.{text_of}
 use Rattle.tree_core.specs.Evaluation.{evaluation}
 use Rattle.tree_core.specs.Path.{part_of, path_of}

@@ -3,7 +3,7 @@ use Rattle.std.proofs.Common.{◌≡◌, ℕ, Option, None, Result, Ok, Err, IfE
 use Rattle.std.proofs.Common.{◌∙◌, arith}
 use Rattle.std.specs.Result.{IsErrAnd}
 use Rattle.std.proofs.lemmas.Result.{err_from_is_err_and}
-use Rattle.byte_forms.specs.Types.{Text}
+use Rattle.byte_formats.specs.Types.{Text}
 use Rattle.disk_core.specs.declared.disk.Disk.{Ghosts}
 use Rattle.journal_core.specs.Words.{end_of}
 use Rattle.journal_core.proofs.Appends.{untouched_after, untouched_moment}
@@ -57,7 +57,7 @@ module _ {H D T : Type 0} {hashes : Hashes H} {g : Ghosts D} {k : Ghosts T} wher
       afterwards = λ sound. untouched_after g (log_disk log) (end_of log.journal) body
           (log.journal.settled sound);
     };
-    tells = record { told = refl; leaves = refl };
+    is_modelled = record { contents = refl; leaves = refl };
   }
 
 -- behind the tests a disk fails, or memory is refused

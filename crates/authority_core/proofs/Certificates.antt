@@ -6,14 +6,14 @@ use Rattle.std.proofs.Common.{◌∙◌, subst, arith}
 use Rattle.std.specs.List.{AllByRecursion, concat}
 use Rattle.std.proofs.lemmas.Grind.{common_steps}
 use Rattle.std.proofs.lemmas.List.{length-append}
-use Rattle.byte_forms.specs.Places.{IsBytes}
-use Rattle.byte_forms.specs.Types.{Text, HashFunction}
-use Rattle.tls_wire.specs.Spelling.{AreHashes}
+use Rattle.byte_formats.specs.Places.{IsBytes}
+use Rattle.byte_formats.specs.Types.{Text, HashFunction}
+use Rattle.tls_wire.specs.Encoding.{AreHashes}
 use Rattle.cert_fields.specs.Certificate.{Parts}
 use Rattle.cert_fields.specs.Given.{given, size_of}
 use Rattle.cert_fields.specs.Grammar.{IsCertificate, IsPublicKey}
 use Rattle.cert_fields.specs.Keys.{is_public_key}
-use Rattle.cert_fields.specs.Spelling.{certificate, certificate_fields}
+use Rattle.cert_fields.specs.Encoding.{certificate, certificate_fields}
 use Rattle.cert_fields.specs.declared.parts.CertParts.{CertParts}
 use Rattle.cert_fields.proofs.Sizes.{given-short}
 use Rattle.mtc_proof.specs.Proofs.{ProofParts, IsProof, proof_text}
@@ -26,7 +26,7 @@ use Rattle.log_entry.specs.declared.entry.Entry.TheVariants.{Tbs}
 use Rattle.log_entry.specs.declared.entry.TbsEntry.{TbsEntry}
 use Rattle.log_entry.specs.declared.fault.EntryError.{EntryError}
 use Rattle.log_entry.proofs.EntryForm.{entries_again, entries_only}
-use Rattle.log_entry.proofs.Matches.{made_spelled, matches_only}
+use Rattle.log_entry.proofs.Matches.{made_encoded, matches_only}
 use Rattle.issuance_log.specs.Folds.{LogState}
 use Rattle.issuance_log.specs.Refusals.{item_at}
 use Rattle.issuance_log.specs.Sound.{IsItem, IsSound}
@@ -138,7 +138,7 @@ made_of : (h : HashFunction) (entry key : Text) (t : TbsParts) → IsBytes entry
     → IsTbs t × (IsPublicKey key × (h key ≡ t.key_hash))
 made_of h entry key t of_entry of_key belongs read =
     let m = matches_only h entry key of_entry of_key belongs in
-    let again : entry_in entry ≡ Ok (Some m.parts) = ap entry_in m.spelled
+    let again : entry_in entry ≡ Ok (Some m.parts) = ap entry_in m.encoded
     ∙ entries_again (Some m.parts) m.fits in
     let same : m.parts ≡ t = cc in (
       (entries_only entry (Some t) of_entry read).1,
@@ -162,7 +162,7 @@ certified h index entry key proof bytes t p of_entry of_key belongs read some be
       serial = below;
       algorithm = proof_algorithm;
       issuer = tbs.issuer;
-      validity = record { period = tbs.validity.period; spelled = refl };
+      validity = record { period = tbs.validity.period; encoded = refl };
       subject = tbs.subject;
       spki = facts.1.0;
       extensions = tbs.extensions;
@@ -172,7 +172,7 @@ certified h index entry key proof bytes t p of_entry of_key belongs read some be
       fields = t;
       read = read;
       fits = fits;
-      made = made_spelled h t q tbs fits (record {
+      made = made_encoded h t q tbs fits (record {
         issuer = refl;
         validity = refl;
         subject = refl;

@@ -1,6 +1,6 @@
 -- Object identifiers, by their arcs, and the algorithm of certificates.
 use Rattle.std.proofs.Common.{ℕ, ◌<◌, [], ◌∷◌, refl, lit<, arith, inl}
-use Rattle.byte_forms.specs.Types.{Text}
+use Rattle.byte_formats.specs.Types.{Text}
 use Rattle.der_core.specs.Elements.{element}
 use Rattle.der_core.specs.Forms.{IsSubidentifier, IsOid}
 use Rattle.cert_names.specs.LogNames.{log_id}
@@ -17,7 +17,7 @@ pub common_name_oid : IsOid common_name_id
 common_name_oid = record {
   arcs = (85 ∷ []) ∷ (4 ∷ []) ∷ (3 ∷ []) ∷ [];
   are_arcs = (short_arc 85 (lit< tt), (short_arc 4 (lit< tt), (short_arc 3 (lit< tt), tt)));
-  spelled = refl;
+  encoded = refl;
   some = lit< tt;
 }
 
@@ -25,7 +25,7 @@ pub alt_name_oid : IsOid subject_alt_name
 alt_name_oid = record {
   arcs = (85 ∷ []) ∷ (29 ∷ []) ∷ (17 ∷ []) ∷ [];
   are_arcs = (short_arc 85 (lit< tt), (short_arc 29 (lit< tt), (short_arc 17 (lit< tt), tt)));
-  spelled = refl;
+  encoded = refl;
   some = lit< tt;
 }
 
@@ -59,7 +59,7 @@ trees_oid last small = record {
       ),
     ),
   );
-  spelled = refl;
+  encoded = refl;
   some = lit< tt;
 }
 

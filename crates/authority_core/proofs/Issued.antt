@@ -7,7 +7,7 @@ use Rattle.std.specs.Prelude.{is_none, map}
 use Rattle.std.specs.List.{flat_map, list_any, AllByRecursion}
 use Rattle.std.proofs.lemmas.List.{length-append}
 use Rattle.std.proofs.lemmas.List.Folds.{flat_map-map}
-use Rattle.byte_forms.specs.Forms.{itself}
+use Rattle.byte_formats.specs.Forms.{itself}
 use Rattle.tls_wire.specs.Arcs.{IsAnchorId}
 use Rattle.tls_wire.specs.Anchors.{text_of}
 use Rattle.tls_wire.proofs.AnchorTexts.{text-short}
@@ -49,7 +49,7 @@ text_element text few = record {
   tag = 12;
   contents = text;
   fits = record { is_tag = tag_of 12 (lit< tt) refl; short = omega (arith, few) };
-  spelled = refl;
+  encoded = refl;
 }
 
 module _ (identifier text : List ℕ) (oid : IsOid identifier) (small : length identifier
@@ -77,7 +77,7 @@ module _ (identifier text : List ℕ) (oid : IsOid identifier) (small : length i
       tag = 48;
       contents = attribute_contents identifier text;
       fits = record { is_tag = tag_of 48 (lit< tt) refl; short = omega (arith, fields-few) };
-      spelled = refl;
+      encoded = refl;
     };
     risen = refl;
   }
@@ -130,7 +130,7 @@ host_is name f = record {
   contents = name;
   fits = record { is_tag = tag_of 130 (lit< tt) refl; short = omega (arith, host-short name f) };
   allowed = host-ascii name f;
-  spelled = refl;
+  encoded = refl;
 }
 
 hosts_are : (names : List (List ℕ)) → AllByRecursion IsHostName names
@@ -211,7 +211,7 @@ module _ (h : List ℕ → List ℕ) (id : List ℕ) (r : RequestParts) (sized :
   fields_are : IsTbs (tbs_for h id r)
   fields_are = record {
     issuer = issuer_is id anchor;
-    validity = record { period = f.validity; spelled = refl };
+    validity = record { period = f.validity; encoded = refl };
     subject = subject_is r.common_name f.common_name;
     key_hash = sized r.key;
     extensions = inr (field_is r f);

@@ -12,7 +12,7 @@ use Rattle.std.specs.List.{All, join_with_byte, list_all, onto_first, position, 
 use Rattle.std.specs.List.{slice_split}
 use Rattle.std.specs.Option.{unwrap_or}
 use Rattle.std.specs.Str.{bytes_eq}
-use Rattle.byte_forms.specs.Types.{Text}
+use Rattle.byte_formats.specs.Types.{Text}
 use Rattle.cert_fields.specs.AltNames.{is_ascii}
 use Rattle.authority_core.specs.Hosts.{is_dot, is_label, is_label_at, is_label_byte, are_labels}
 use Rattle.authority_core.specs.Hosts.{labels_of, is_host_name, AreJoined, IsHostName}

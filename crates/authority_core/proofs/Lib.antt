@@ -6,5 +6,5 @@ pub mod Marks
 mod Sizes
 mod Issued
 mod Accepted
-mod Told
+mod Modelled
 mod Answered

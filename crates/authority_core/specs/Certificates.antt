@@ -2,7 +2,7 @@
 use Rattle.std.specs.Prelude.{◌≡◌, ◌≢◌, ℕ, ◌-◌, ◌<◌, ◌≤◌, ◌==◌, ◌||◌, not, nat_lt, nat_le, true}
 use Rattle.std.specs.Prelude.{[], length, map, slice_index_or, Option, Some, None, is_none, Result}
 use Rattle.std.specs.Prelude.{Ok, Err, if◌then◌else◌}
-use Rattle.byte_forms.specs.Types.{Text, HashFunction}
+use Rattle.byte_formats.specs.Types.{Text, HashFunction}
 use Rattle.mtc_io.specs.Counts.{Rose}
 use Rattle.tree_core.specs.Path.{part_of, path_of}
 use Rattle.tree_core.specs.Subtree.{is_subtree}
@@ -13,7 +13,7 @@ use Rattle.cert_time.specs.Times.{validity_element}
 use Rattle.cert_fields.specs.Certificate.{Parts}
 use Rattle.cert_fields.specs.Given.{mtc_proof}
 use Rattle.cert_fields.specs.Grammar.{IsCertificate}
-use Rattle.cert_fields.specs.Spelling.{certificate}
+use Rattle.cert_fields.specs.Encoding.{certificate}
 use Rattle.mtc_proof.specs.Proofs.{ProofParts, proof_text}
 use Rattle.log_entry.specs.EntryOf.{entry_of}
 use Rattle.log_entry.specs.Entries.{TbsParts}

@@ -3,8 +3,8 @@
 use Rattle.std.specs.Prelude.{ℕ, ◌+◌, ◌&&◌, ◌==◌, nat_le, int_lt, Bool, ℤ, List, [], ◌∷◌, length}
 use Rattle.std.specs.Prelude.{codes, Option, Some, None, option_map, Result, Ok, Err, if◌then◌else◌}
 use Rattle.std.specs.Option.{option_and_then}
-use Rattle.byte_forms.specs.Types.{Text}
-use Rattle.byte_forms.specs.Readings.{◌>>=◌}
+use Rattle.byte_formats.specs.Types.{Text}
+use Rattle.byte_formats.specs.Readings.{◌>>=◌}
 use Rattle.cert_fields.specs.Keys.{is_public_key}
 use Rattle.cert_time.specs.Texts.{text_moment}
 use Rattle.toml.specs.Data.{Data, Items, no_items, item, Members, as_array, as_str, get_member}

@@ -4,7 +4,7 @@ use Rattle.std.specs.Prelude.{◌≡◌, ℕ, ◌-◌, ◌≤◌, ◌==◌, ◌&
 use Rattle.std.specs.Prelude.{List, [], ◌∷◌, length, codes, bytes_eq, slice_index}
 use Rattle.std.specs.List.{AllByRecursion, join_with_byte, list_all, slice_split}
 use Rattle.std.specs.Char.{is_ascii_alphanumeric}
-use Rattle.byte_forms.specs.Types.{Text}
+use Rattle.byte_formats.specs.Types.{Text}
 
 -- A letter, a digit or a hyphen.
 abbrev pub is_label_byte : ℕ → Bool

@@ -1,6 +1,6 @@
 -- What issuing answers, beside what the log answers when an entry is added.
 use Rattle.std.specs.Prelude.{ℕ, Option, Result, Ok, Err}
-use Rattle.byte_forms.specs.Types.{Text, HashFunction}
+use Rattle.byte_formats.specs.Types.{Text, HashFunction}
 use Rattle.issuance_log.specs.Folds.{LogState, with_item}
 use Rattle.issuance_log.specs.Records.{entry_record}
 use Rattle.issuance_log.specs.Refusals.{ItemKeepsTo}

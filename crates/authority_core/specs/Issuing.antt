@@ -1,7 +1,7 @@
 -- What is issued: the entry that a request makes in the log of the authority.
 use Rattle.std.specs.Prelude.{List, [], ◌∷◌, Option, Some, None, is_none}
 use Rattle.std.specs.List.{flat_map}
-use Rattle.byte_forms.specs.Types.{Text, HashFunction}
+use Rattle.byte_formats.specs.Types.{Text, HashFunction}
 use Rattle.tls_wire.specs.Anchors.{text_of}
 use Rattle.der_core.specs.Elements.{element}
 use Rattle.cert_time.specs.Times.{validity_element}

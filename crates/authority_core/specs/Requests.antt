@@ -1,7 +1,7 @@
 -- Requests, and which can be issued.
 use Rattle.std.specs.Prelude.{◌≤◌, ◌≤ℤ◌, List, length, Option}
 use Rattle.std.specs.Option.{IfSome}
-use Rattle.byte_forms.specs.Types.{Text}
+use Rattle.byte_formats.specs.Types.{Text}
 use Rattle.cert_fields.specs.Grammar.{IsPublicKey}
 use Rattle.cert_time.specs.Calendar.{IsPeriod, Period}
 use Rattle.authority_core.specs.Hosts.{AreHostNames}

@@ -12,10 +12,10 @@ mod requests;
 mod writing;
 
 pub use issuing::{
-    IssueError, entries_say_what_was_asked, entry_of_request, issue,
-    issued_entries_keep_to_the_rules,
+    IssueError, entry_of_request, issue, law_entries_say_what_was_asked,
+    law_issued_entries_keep_to_the_rules,
 };
 pub use requests::{
-    Field, Names, Request, RequestError, host_names_are_joined_labels, is_host, read_request,
+    Field, Names, Request, RequestError, is_host, law_host_names_are_joined_labels, read_request,
 };
 pub use writing::{WriteError, cert, light_cert};

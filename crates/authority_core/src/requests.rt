@@ -10,7 +10,7 @@ mod values;
 
 pub use error::{Field, RequestError};
 pub use hosts::is_host;
-pub use laws::host_names_are_joined_labels;
+pub use laws::law_host_names_are_joined_labels;
 pub use names::Names;
 pub use parts::Request;
 pub use reading::read_request;

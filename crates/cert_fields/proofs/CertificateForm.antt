@@ -5,14 +5,14 @@ use Rattle.std.proofs.Common.{lt-ltb, ltb-true}
 use Rattle.std.specs.Prelude.{◌==◌, nat_lt}
 use Rattle.std.proofs.lemmas.List.{length-append}
 use Rattle.std.proofs.lemmas.Slice.Eq.{bytes_eq-Decides}
-use Rattle.byte_forms.specs.Types.{Text}
-use Rattle.byte_forms.specs.Places.{IsBytes}
-use Rattle.byte_forms.specs.Readings.{both_at, mapped_at, tested_at, headed_at, refused_at, Gives}
-use Rattle.byte_forms.specs.Readings.{Reading}
-use Rattle.byte_forms.specs.Forms.{IsForm, Anything, Nothing, OtherThan, IsSpelling, itself, both}
-use Rattle.byte_forms.specs.Forms.{FitsBoth}
-use Rattle.byte_forms.proofs.Forms.{said_form, spelled_form, ended_form, both_form, mapped_form}
-use Rattle.byte_forms.proofs.Forms.{tested_form, headed_form, refused_form, one_form}
+use Rattle.byte_formats.specs.Types.{Text}
+use Rattle.byte_formats.specs.Places.{IsBytes}
+use Rattle.byte_formats.specs.Readings.{both_at, mapped_at, tested_at, headed_at, refused_at, Gives}
+use Rattle.byte_formats.specs.Readings.{Reading}
+use Rattle.byte_formats.specs.Forms.{IsForm, Anything, Nothing, OtherThan, IsEncoding, itself, both}
+use Rattle.byte_formats.specs.Forms.{FitsBoth}
+use Rattle.byte_formats.proofs.Forms.{said_form, encoded_form, ended_form, both_form, mapped_form}
+use Rattle.byte_formats.proofs.Forms.{tested_form, headed_form, refused_form, one_form}
 use Rattle.der_core.specs.Elements.{element}
 use Rattle.der_core.specs.Integers.{integer}
 use Rattle.der_core.specs.Fields.{inside_at, element_with_at, unsigned_at}
@@ -30,7 +30,7 @@ use Rattle.cert_fields.specs.Extensions.{extensions_at}
 use Rattle.cert_fields.specs.Certificate.{Parts, Body, nothing, version_at, serial_at, is_unique_id}
 use Rattle.cert_fields.specs.Certificate.{behind_serial_at, tbs_at, same_algorithm, signed_at}
 use Rattle.cert_fields.specs.Certificate.{to_parts, certificate_at, parts_of}
-use Rattle.cert_fields.specs.Spelling.{version, tbs_fields, certificate}
+use Rattle.cert_fields.specs.Encoding.{version, tbs_fields, certificate}
 use Rattle.cert_fields.specs.Grammar.{IsAlgorithm, IsPublicKey, IsName, IsValidity}
 use Rattle.cert_fields.specs.Grammar.{IsSignatureValue, IsCertificate}
 use Rattle.cert_fields.specs.Views.{parts}
@@ -66,14 +66,14 @@ unfolding version_at
 version_form =
     let read : Reading ℕ CertError = tested_at (λ n. n == 2) BadVersion (unsigned_at BadVersion) in
     let Fits : ℕ → Type 0 = λ n. IsVersion n × (length (number n) < 2 ^ 24) in
-    let spell : ℕ → Text = λ n. element 0xA0 (number n) in
+    let encode : ℕ → Text = λ n. element 0xA0 (number n) in
     let two : Unit {0} → ℕ = λ x. 2 in
-    spelled_form (λ x. spell (two x)) version_text NoValue Anything version_at (λ x f. version_is)
-    (said_form (λ x. spell (two x)) (λ x. Fits (two x)) NoValue Anything Anything version_at
+    encoded_form (λ x. encode (two x)) version_text NoValue Anything version_at (λ x f. version_is)
+    (said_form (λ x. encode (two x)) (λ x. Fits (two x)) NoValue Anything Anything version_at
     (λ x f. tt) (λ x f. ((lit< tt, refl), version-short)) (λ rest q. q)
-    (mapped_form spell Fits Anything (headed_at 0xA0 BadVersion (inside_at 0xA0 read)) nothing two
+    (mapped_form encode Fits Anything (headed_at 0xA0 BadVersion (inside_at 0xA0 read)) nothing two
     (λ n f. sym (eqb-true n 2 f.0.1)) (λ y f. refl)
-    (headed_form spell Fits Anything (inside_at 0xA0 read) 160 BadVersion
+    (headed_form encode Fits Anything (inside_at 0xA0 read) 160 BadVersion
     (λ n rest f. begins_with-element 0xA0 (number n) rest)
     (inside_form 0xA0 number IsVersion read (tag_of 0xA0 (lit< tt) refl)
     (ended_form number IsVersion Anything read tt
@@ -172,7 +172,7 @@ tbs_form =
     (λ y rest f q. tt))
 
 abbrev IsSequence : Text → Type 0
-IsSequence = IsSpelling (element 0x30) (λ contents. length contents < 2 ^ 24)
+IsSequence = IsEncoding (element 0x30) (λ contents. length contents < 2 ^ 24)
 
 abbrev IsPair : Signed × Text → Type 0
 IsPair x = FitsBoth IsTbs IsSequence x × (same_algorithm x ≡ true)
@@ -251,9 +251,9 @@ parts_from : (p : Parts) → IsCertificate p → IsWhole (from_parts p)
 parts_from p f =
     let all = length-append (element 0x30 (tbs_fields p) ++ p.algorithm)
     (element 0x03 (0 ∷ p.proof)) in
-    let front = length-append (element 0x30 (tbs_fields p)) p.algorithm in
+    let prefix = length-append (element 0x30 (tbs_fields p)) p.algorithm in
     let signed : length (tbs_fields p) < 2 ^ 24 =
-    omega (arith, f.short, all, front, element-longer 0x30 (tbs_fields p)) in
+    omega (arith, f.short, all, prefix, element-longer 0x30 (tbs_fields p)) in
     let proof : length (0 ∷ p.proof) < 2 ^ 24 =
     omega (arith, f.short, all, element-longer 0x03 (0 ∷ p.proof)) in
     let body : IsBody (from_parts p).0.0.1.1 =
@@ -275,10 +275,10 @@ unfolding certificate_at certificate
 certificate_form =
     let read : Reading Whole CertError = both_at signed_at signature_at in
     let Known : Whole → Type 0 = λ x. IsWhole x × (length (whole_text x) < 2 ^ 24) in
-    let spell : Whole → Text = λ x. element 0x30 (whole_text x) in
-    said_form (λ p. spell (from_parts p)) (λ p. Known (from_parts p)) IsCertificate Anything
+    let encode : Whole → Text = λ x. element 0x30 (whole_text x) in
+    said_form (λ p. encode (from_parts p)) (λ p. Known (from_parts p)) IsCertificate Anything
     Anything (mapped_at to_parts (inside_at 0x30 read)) parts_to parts_from (λ rest q. q)
-    (mapped_form spell Known Anything (inside_at 0x30 read) to_parts from_parts
+    (mapped_form encode Known Anything (inside_at 0x30 read) to_parts from_parts
     (λ x f. same_ways x f.0) (λ p f. refl)
     (inside_form 0x30 whole_text IsWhole read (tag_of 0x30 (lit< tt) refl)
     (ended_form whole_text IsWhole Anything read tt

@@ -5,17 +5,19 @@ use Rattle.std.proofs.Common.{arith, ◌⊎◌, lit<}
 use Rattle.std.specs.Prelude.{if◌then◌else◌, not, is_some}
 use Rattle.std.specs.List.{flat_map, AllByRecursion}
 use Rattle.std.proofs.lemmas.List.{length-append}
-use Rattle.byte_forms.specs.Types.{Text}
-use Rattle.byte_forms.specs.Places.{At, IsBytes, begins_with}
-use Rattle.byte_forms.specs.Readings.{both_at, mapped_at, tested_at, optional_at, some_at, is_read}
-use Rattle.byte_forms.specs.Readings.{Reading}
-use Rattle.byte_forms.specs.Forms.{Stands, IsForm, Anything, Nothing, OtherThan, itself, both}
-use Rattle.byte_forms.specs.Forms.{FitsBoth, optional, FitsEach}
-use Rattle.byte_forms.specs.Lists.{up_to_end}
-use Rattle.byte_forms.proofs.Steps.{bind_ok, pass_ok, ok_is, read_ok, IsBytes-front, IsBytes-back}
-use Rattle.byte_forms.proofs.Forms.{said_form, spelled_form, ended_form, both_form, mapped_form}
-use Rattle.byte_forms.proofs.Forms.{tested_form, optional_form, or_nothing_form, some_form}
-use Rattle.byte_forms.proofs.Lists.{many_form, up_to_end_drains, each_form, each_drains}
+use Rattle.byte_formats.specs.Types.{Text}
+use Rattle.byte_formats.specs.Places.{At, IsBytes, begins_with}
+use Rattle.byte_formats.specs.Readings.{both_at, mapped_at, tested_at, optional_at, some_at}
+use Rattle.byte_formats.specs.Readings.{is_read}
+use Rattle.byte_formats.specs.Readings.{Reading}
+use Rattle.byte_formats.specs.Forms.{Stands, IsForm, Anything, Nothing, OtherThan, itself, both}
+use Rattle.byte_formats.specs.Forms.{FitsBoth, optional, FitsEach}
+use Rattle.byte_formats.specs.Lists.{up_to_end}
+use Rattle.byte_formats.proofs.Steps.{bind_ok, pass_ok, ok_is, read_ok, IsBytes-prefix}
+use Rattle.byte_formats.proofs.Steps.{IsBytes-back}
+use Rattle.byte_formats.proofs.Forms.{said_form, encoded_form, ended_form, both_form, mapped_form}
+use Rattle.byte_formats.proofs.Forms.{tested_form, optional_form, or_nothing_form, some_form}
+use Rattle.byte_formats.proofs.Lists.{many_form, up_to_end_drains, each_form, each_drains}
 use Rattle.der_core.specs.Elements.{element, length_octets}
 use Rattle.der_core.specs.Items.{Item}
 use Rattle.der_core.specs.Reading.{element_at}
@@ -63,17 +65,17 @@ general_name_form = record {
           fits =
               read.fits;
           allowed = g.0;
-          spelled = read.whole;
+          encoded = read.whole;
         },
       );
   again = λ bytes p rest f q.
       let P : Text → Type 0 = λ t. general_name_at (record { place = p; rest = t ++ rest })
       ≡ Ok (t, record { place = p + length t; rest = rest }) in
-      subst P (sym f.spelled) (rw (element_again f.tag f.contents p rest f.fits, f.allowed) refl);
+      subst P (sym f.encoded) (rw (element_again f.tag f.contents p rest f.fits, f.allowed) refl);
 }
 
 general_name_some : (bytes : Text) → IsGeneralName bytes → 0 < length bytes
-general_name_some bytes f = omega (arith, ap length f.spelled, element-longer f.tag f.contents)
+general_name_some bytes f = omega (arith, ap length f.encoded, element-longer f.tag f.contents)
 
 general_names_form : IsForm itself IsGeneralNames Anything general_names_at
 unfolding general_names_at
@@ -105,18 +107,18 @@ general_names_again octets f = ap is_read
 -- ---- one extension
 
 -- A test that looks at the bytes of a value, said otherwise.
-tested_as : {X E : Type 0} (spell : X → Text) (Fits : X → Type 0) (Follows : Text
+tested_as : {X E : Type 0} (encode : X → Text) (Fits : X → Type 0) (Follows : Text
     → Type 0) (read : Reading X E) (test : X → Bool) (fault : E) (Says : X → Type 0)
-    → ((x : X) → IsBytes (spell x) → test x ≡ true → Says x) → ((x : X) → Says x → test x ≡ true)
-    → IsForm spell Fits Follows read → IsForm spell (λ x. Fits x
+    → ((x : X) → IsBytes (encode x) → test x ≡ true → Says x) → ((x : X) → Says x → test x ≡ true)
+    → IsForm encode Fits Follows read → IsForm encode (λ x. Fits x
     × Says x) Follows (tested_at test fault read)
-tested_as spell Fits Follows read test fault Says to from form =
-    let tested = tested_form spell Fits Follows read test fault form in
+tested_as encode Fits Follows read test fault Says to from form =
+    let tested = tested_form encode Fits Follows read test fault form in
     record {
       takes = λ a x b h e.
           let t = tested.takes a x b h e in
           let P : Text → Type 0 = IsBytes in
-          (t.0, (t.1.0, to x (IsBytes-front (spell x) b.rest (subst P t.0.parts h)) t.1.1));
+          (t.0, (t.1.0, to x (IsBytes-prefix (encode x) b.rest (subst P t.0.parts h)) t.1.1));
       again = λ x p rest f q. tested.again x p rest (f.0, from x f.1) q;
     }
 
@@ -162,7 +164,7 @@ unfolding critical_at
 critical_form =
     let read : Reading Bool CertError =
     tested_at (λ b. b) BadExtension (decoded_at 0x01 boolean_of) in
-    spelled_form (λ b. optional truth (marked b)) mark AnyMark (OtherThan 0x01)
+    encoded_form (λ b. optional truth (marked b)) mark AnyMark (OtherThan 0x01)
     (mapped_at is_some (optional_at 0x01 read)) (λ b f. mark_is b)
     (said_form (λ b. optional truth (marked b)) (λ b. IfSome (marked b) IsTruth) AnyMark
     (λ rest. Anything rest × OtherThan 0x01 rest) (OtherThan 0x01)

@@ -7,17 +7,17 @@ use Rattle.std.proofs.Common.{eqb-true, ne_eqb, lt-ltb}
 use Rattle.std.specs.Prelude.{if◌then◌else◌, ◌==◌, ℤ}
 use Rattle.std.specs.List.{flat_map, AllByRecursion}
 use Rattle.std.proofs.lemmas.List.{length-append}
-use Rattle.byte_forms.specs.Types.{Text}
-use Rattle.byte_forms.specs.Places.{At, IsBytes}
-use Rattle.byte_forms.specs.Readings.{◌>>=◌, some_or, discarded, both_at, mapped_at, last_at}
-use Rattle.byte_forms.specs.Forms.{Stands, IsForm, Anything, Nothing, itself, both, FitsBoth}
-use Rattle.byte_forms.specs.Forms.{FitsEach}
-use Rattle.byte_forms.specs.Lists.{up_to_end}
-use Rattle.byte_forms.proofs.Steps.{bind_ok, guard_ok, pass_ok, ok_is, discarded_ok}
-use Rattle.byte_forms.proofs.Steps.{some_or_ok}
-use Rattle.byte_forms.proofs.Forms.{said_form, ended_form, both_form, mapped_form, last_form}
-use Rattle.byte_forms.proofs.Forms.{one_value}
-use Rattle.byte_forms.proofs.Lists.{many_form, up_to_end_drains, each_drains}
+use Rattle.byte_formats.specs.Types.{Text}
+use Rattle.byte_formats.specs.Places.{At, IsBytes}
+use Rattle.byte_formats.specs.Readings.{◌>>=◌, some_or, discarded, both_at, mapped_at, last_at}
+use Rattle.byte_formats.specs.Forms.{Stands, IsForm, Anything, Nothing, itself, both, FitsBoth}
+use Rattle.byte_formats.specs.Forms.{FitsEach}
+use Rattle.byte_formats.specs.Lists.{up_to_end}
+use Rattle.byte_formats.proofs.Steps.{bind_ok, guard_ok, pass_ok, ok_is, discarded_ok}
+use Rattle.byte_formats.proofs.Steps.{some_or_ok}
+use Rattle.byte_formats.proofs.Forms.{said_form, ended_form, both_form, mapped_form, last_form}
+use Rattle.byte_formats.proofs.Forms.{one_value}
+use Rattle.byte_formats.proofs.Lists.{many_form, up_to_end_drains, each_drains}
 use Rattle.der_core.specs.Elements.{element, IsTag, FitsElement}
 use Rattle.der_core.specs.Items.{Item, inside}
 use Rattle.der_core.specs.Reading.{wanted_at, end_at}
@@ -51,7 +51,7 @@ pub identifier_form : IsForm (element 0x06) IsIdentifier Anything (decoded_at 0x
 identifier_form = decoded_form 0x06 itself IsOid oid_of (tag_of 0x06 (lit< tt) refl) oid_contents
 
 pub element_some : (bytes : Text) → IsElement bytes → 0 < length bytes
-element_some bytes f = omega (arith, ap length f.spelled, element-longer f.tag f.contents)
+element_some bytes f = omega (arith, ap length f.encoded, element-longer f.tag f.contents)
 
 pub algorithm_form : IsForm itself IsAlgorithm Anything algorithm_at
 unfolding algorithm_at
@@ -114,8 +114,8 @@ pub signature_form : IsForm (λ (proof : Text). element 0x03 (0 ∷ proof)) IsSi
     signature_at
 unfolding signature_at
 signature_form =
-    let spell : Text → Text = λ proof. element 0x03 (0 ∷ proof) in
-    said_form spell (λ proof. AnyBytes proof
+    let encode : Text → Text = λ proof. element 0x03 (0 ∷ proof) in
+    said_form encode (λ proof. AnyBytes proof
     × IsSignatureValue proof) IsSignatureValue Anything Anything (decoded_at 0x03 whole_bits_of)
     (λ x f. f.1) (λ x f. (tt, f)) (λ rest q. q)
     (decoded_form 0x03 (λ (proof : Text). 0 ∷ proof) AnyBytes whole_bits_of
@@ -139,7 +139,7 @@ attribute_is bytes f = record {
   tag = 48;
   contents = both (element 0x06) itself f.0;
   fits = record { is_tag = tag_of 0x30 (lit< tt) refl; short = f.1.1 };
-  spelled = f.2;
+  encoded = f.2;
 }
 
 attribute_some : (bytes : Text) → IsAttribute bytes → 0 < length bytes
@@ -402,11 +402,11 @@ validity_form =
     said_form (λ (v : Text × Period). v.0) Known IsValidity Anything Anything validity_at
     (λ v f. record {
       period = record { not_before = f.1.0.0; not_after = f.1.0.1 };
-      spelled = f.0
+      encoded = f.0
           ∙ validity_is v.1;
     })
     (λ v f. (
-      f.spelled ∙ sym (validity_is v.1),
+      f.encoded ∙ sym (validity_is v.1),
       (
         (f.period.not_before, f.period.not_after),
         omega (arith, times-short v.1),

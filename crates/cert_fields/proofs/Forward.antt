@@ -3,9 +3,9 @@ use Rattle.std.proofs.Common.{◌≡◌, ℕ, ◌+◌, ◌-◌, ◌*◌, ◌%◌
 use Rattle.std.proofs.Common.{Result, Ok, Err, subst, arith, inl, inr}
 use Rattle.std.specs.Prelude.{if◌then◌else◌, ◌==◌, nat_lt}
 use Rattle.std.proofs.lemmas.List.{length-drop}
-use Rattle.byte_forms.specs.Types.{Text}
-use Rattle.byte_forms.specs.Places.{At, after}
-use Rattle.byte_forms.proofs.Steps.{bind_ok, chosen, guard_ok, ok_is}
+use Rattle.byte_formats.specs.Types.{Text}
+use Rattle.byte_formats.specs.Places.{At, after}
+use Rattle.byte_formats.proofs.Steps.{bind_ok, chosen, guard_ok, ok_is}
 use Rattle.der_core.specs.Items.{Item}
 use Rattle.der_core.specs.Reading.{tag_at, one_at, two_at, three_at, length_at, behind_tag}
 use Rattle.der_core.specs.Reading.{element_at}

@@ -9,10 +9,10 @@ use Rattle.std.proofs.lemmas.Bool.{or_parts}
 use Rattle.std.proofs.lemmas.List.{length-append}
 use Rattle.std.proofs.lemmas.List.Folds.{list_any-append}
 use Rattle.std.proofs.lemmas.Slice.Eq.{bytes_eq-Decides}
-use Rattle.byte_forms.specs.Types.{Text}
-use Rattle.byte_forms.specs.Places.{At}
-use Rattle.byte_forms.specs.Forms.{itself, FitsEach}
-use Rattle.byte_forms.specs.Lists.{value_then}
+use Rattle.byte_formats.specs.Types.{Text}
+use Rattle.byte_formats.specs.Places.{At}
+use Rattle.byte_formats.specs.Forms.{itself, FitsEach}
+use Rattle.byte_formats.specs.Lists.{value_then}
 use Rattle.der_core.specs.Elements.{element, FitsElement}
 use Rattle.der_core.specs.Reading.{wanted_at}
 use Rattle.der_core.specs.Forms.{element_item}
@@ -133,7 +133,7 @@ names_found ns f short =
 
 pub octets_found : (octets : Text) (ns : List (ℕ × Text)) → AreNamesOf octets ns
     → names_in octets ≡ dns_only ns
-octets_found octets ns f = ap names_in f.spelled ∙ names_found ns f.each f.short
+octets_found octets ns f = ap names_in f.encoded ∙ names_found ns f.each f.short
 
 -- ---- the field of a certificate
 
@@ -142,10 +142,10 @@ pub field_extensions : (field : Text) → IsExtensions field → (xs : List Exte
     × AreExtensionsOf field xs
 field_extensions field (inl none) = ([], inl (none, refl))
 field_extensions field (inr f) =
-    let (contents, (sequence, short), spelled) = f in
+    let (contents, (sequence, short), encoded) = f in
     let (xs, (fits, inner), same) = sequence in
     let size : length (sequence_text xs) < 2 ^ 24 = omega (arith, short, ap length same) in
-    (xs, inr (fits, size, spelled ∙ ap (element 0xA3) same))
+    (xs, inr (fits, size, encoded ∙ ap (element 0xA3) same))
 
 absent : extensions_in [] ≡ []
 unfolding list_in wanted_at
@@ -158,7 +158,7 @@ absent_names = refl
 pub found_in : (field : Text) (xs : List ExtensionFields) → AreExtensionsOf field xs
     → extensions_in field ≡ xs
 found_in field xs (inl (none, nothing)) = ap extensions_in none ∙ (absent ∙ sym nothing)
-found_in field xs (inr (fits, short, spelled)) = ap extensions_in spelled
+found_in field xs (inr (fits, short, encoded)) = ap extensions_in encoded
     ∙ extensions_found xs fits short
 
 pub critical_found : (field : Text) (xs : List ExtensionFields) → AreExtensionsOf field xs
@@ -231,9 +231,9 @@ pub names_of_field : (field : Text) (xs : List ExtensionFields) (x : ExtensionFi
     → dns_names_in field ≡ dns_only ns
 names_of_field field xs x ns (inl (none, nothing)) (k, less, same) alt names =
     absurd (omega (arith, less, ap length nothing))
-names_of_field field xs x ns (inr (fits, short, spelled)) (k, less, same) alt names =
+names_of_field field xs x ns (inr (fits, short, encoded)) (k, less, same) alt names =
     ap (λ (ys : List ExtensionFields). names_in (alt_name_octets ys))
-    (found_in field xs (inr (fits, short, spelled)))
+    (found_in field xs (inr (fits, short, encoded)))
     ∙ (ap names_in (one_alt_name [] xs k x fits.each less same alt)
     ∙ octets_found x.octets ns names)
 
@@ -243,11 +243,11 @@ abbrev pairs : (names : List Text) → AllByRecursion IsGeneralName names → Li
 pairs [] f = []
 pairs (n ∷ ns) f = (f.0.tag, f.0.contents) ∷ pairs ns f.1
 
-pairs_spell : (names : List Text) (f : AllByRecursion IsGeneralName names)
+pairs_encode : (names : List Text) (f : AllByRecursion IsGeneralName names)
     → flat_map itself names ≡ flat_map name_text (pairs names f)
-pairs_spell [] f = refl
-pairs_spell (n ∷ ns) f = ap (λ (t : Text). t ++ flat_map itself ns) f.0.spelled
-    ∙ ap (λ (t : Text). element f.0.tag f.0.contents ++ t) (pairs_spell ns f.1)
+pairs_encode [] f = refl
+pairs_encode (n ∷ ns) f = ap (λ (t : Text). t ++ flat_map itself ns) f.0.encoded
+    ∙ ap (λ (t : Text). element f.0.tag f.0.contents ++ t) (pairs_encode ns f.1)
 
 pairs_fit : (names : List Text) (f : AllByRecursion IsGeneralName names)
     → AllByRecursion FitsName (pairs names f)
@@ -256,13 +256,13 @@ pairs_fit (n ∷ ns) f = (f.0.fits, pairs_fit ns f.1)
 
 pub octets_names : (octets : Text) → IsGeneralNames octets → (ns : List (ℕ × Text))
     × AreNamesOf octets ns
-octets_names octets (names, (each, short), spelled) =
-    let same = pairs_spell names each.0 in (
+octets_names octets (names, (each, short), encoded) =
+    let same = pairs_encode names each.0 in (
       pairs names each.0,
       record {
         each = pairs_fit names each.0;
         short =
             omega (arith, short, ap length same);
-        spelled = spelled ∙ ap (element 0x30) same;
+        encoded = encoded ∙ ap (element 0x30) same;
       },
     )

@@ -8,11 +8,11 @@ use Rattle.std.specs.Str.{bytes_eq}
 use Rattle.std.specs.List.{AllByRecursion}
 use Rattle.std.proofs.lemmas.Bool.{or_parts}
 use Rattle.std.proofs.lemmas.Slice.Eq.{bytes_eq-Decides}
-use Rattle.byte_forms.specs.Types.{Text}
-use Rattle.byte_forms.specs.Places.{At}
-use Rattle.byte_forms.specs.Readings.{discarded}
-use Rattle.byte_forms.proofs.Loops.{WalksEach, each_from, each_more, each_fails, each_end}
-use Rattle.byte_forms.proofs.Steps.{guard_ok, pass_ok, ok_is}
+use Rattle.byte_formats.specs.Types.{Text}
+use Rattle.byte_formats.specs.Places.{At}
+use Rattle.byte_formats.specs.Readings.{discarded}
+use Rattle.byte_formats.proofs.Loops.{WalksEach, each_from, each_more, each_fails, each_end}
+use Rattle.byte_formats.proofs.Steps.{guard_ok, pass_ok, ok_is}
 use Rattle.der_core.specs.Items.{Item, inside}
 use Rattle.der_core.specs.Reading.{wanted_at}
 use Rattle.der_core.specs.Contents.{are_arcs, oid_of}
@@ -25,7 +25,7 @@ use Rattle.cert_fields.specs.Extensions.{identifier_of, extension_at, extension_
 use Rattle.cert_fields.specs.Extensions.{identifiers, are_repeated}
 use Rattle.cert_fields.proofs.Walks.{oid_same, head_of, identifiers_more, identifiers_end, Taken}
 use Rattle.cert_fields.proofs.Walks.{taken_none, taken_more, all_taken}
-use Rattle.cert_fields.proofs.Twice.{repeated_front, repeated_push}
+use Rattle.cert_fields.proofs.Twice.{repeated_prefix, repeated_push}
 
 -- ---- identifiers that read
 
@@ -297,7 +297,7 @@ reaches_fails total list count a fault step some r = go (first_part a)
         ≡ Err (or_repeated (are_repeated (identifiers (count + 1) list)) fault))
         → total ≡ Err (or_repeated (are_repeated (identifiers (count + 1) list)) fault)
     before true e otherwise = told true (all
-        ∙ repeated_front r.seen (identifiers 1 a) e) (r.repeated e)
+        ∙ repeated_prefix r.seen (identifiers 1 a) e) (r.repeated e)
     before false e otherwise = otherwise e
 
     begun : (g : Begins a) (t : Bool) → are_repeated (r.seen ++ g.identifier ∷ []) ≡ t

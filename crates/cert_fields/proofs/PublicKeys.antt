@@ -1,10 +1,10 @@
 -- Public keys by their grammar.
 use Rattle.std.proofs.Common.{◌≡◌, true, sym, ap, subst}
-use Rattle.byte_forms.specs.Types.{Text}
-use Rattle.byte_forms.specs.Places.{IsBytes}
-use Rattle.byte_forms.specs.Readings.{is_read}
-use Rattle.byte_forms.specs.Forms.{itself}
-use Rattle.byte_forms.proofs.Steps.{read_ok}
+use Rattle.byte_formats.specs.Types.{Text}
+use Rattle.byte_formats.specs.Places.{IsBytes}
+use Rattle.byte_formats.specs.Readings.{is_read}
+use Rattle.byte_formats.specs.Forms.{itself}
+use Rattle.byte_formats.proofs.Steps.{read_ok}
 use Rattle.der_core.specs.Fields.{all_of}
 use Rattle.cert_fields.specs.Keys.{spki_at, is_public_key}
 use Rattle.cert_fields.specs.Grammar.{IsPublicKey}

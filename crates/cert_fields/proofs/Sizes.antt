@@ -2,7 +2,7 @@
 use Rattle.std.proofs.Common.{◌+◌, ◌^◌, ◌<◌, ◌≤◌, ◌∷◌, ◌++◌, length, arith, inl, inr}
 use Rattle.std.specs.Prelude.{ℤ}
 use Rattle.std.proofs.lemmas.List.{length-append}
-use Rattle.byte_forms.specs.Types.{Text}
+use Rattle.byte_formats.specs.Types.{Text}
 use Rattle.der_core.specs.Elements.{element}
 use Rattle.der_core.specs.Integers.{integer}
 use Rattle.der_core.proofs.Elements.{element-short}
@@ -12,7 +12,7 @@ use Rattle.cert_time.specs.Periods.{period}
 use Rattle.cert_time.specs.Times.{time_tag, time_contents, short_element, validity_element}
 use Rattle.cert_time.proofs.BothWays.{time_shape}
 use Rattle.cert_fields.specs.Certificate.{Parts}
-use Rattle.cert_fields.specs.Spelling.{version, tbs_fields, certificate_fields}
+use Rattle.cert_fields.specs.Encoding.{version, tbs_fields, certificate_fields}
 use Rattle.cert_fields.specs.Given.{mtc_proof, given, size_of}
 use Rattle.cert_fields.specs.declared.parts.CertParts.{CertParts}
 
@@ -62,7 +62,7 @@ given-short p small le =
     omega (arith, tbs-size q small, validity-short (period p.validity)) in
     let whole = length-append (element 0x30 (tbs_fields q) ++ mtc_proof)
     (element 0x03 (0 ∷ p.proof)) in
-    let front = length-append (element 0x30 (tbs_fields q)) mtc_proof in
+    let prefix = length-append (element 0x30 (tbs_fields q)) mtc_proof in
     record {
       signed = omega (arith, signed, le);
       signature = omega (arith, le);
@@ -71,7 +71,7 @@ given-short p small le =
         signed,
         le,
         whole,
-        front,
+        prefix,
         element-short 0x30 (tbs_fields q),
         element-short 0x03 (0 ∷ p.proof),
       );

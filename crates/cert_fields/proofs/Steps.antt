@@ -1,10 +1,10 @@
 -- What a reading that is made of others did, where it did not fail.
 use Rattle.std.proofs.Common.{◌≡◌, ℕ, Bool, true, Result, Ok, Err, refl, subst}
 use Rattle.std.specs.Prelude.{if◌then◌else◌}
-use Rattle.byte_forms.specs.Types.{Text}
-use Rattle.byte_forms.specs.Places.{At}
-use Rattle.byte_forms.specs.Readings.{◌>>=◌, both_at, mapped_at, tested_at, Reading}
-use Rattle.byte_forms.proofs.Steps.{bind_ok, pass_ok, ok_is}
+use Rattle.byte_formats.specs.Types.{Text}
+use Rattle.byte_formats.specs.Places.{At}
+use Rattle.byte_formats.specs.Readings.{◌>>=◌, both_at, mapped_at, tested_at, Reading}
+use Rattle.byte_formats.proofs.Steps.{bind_ok, pass_ok, ok_is}
 use Rattle.der_core.specs.Items.{Item, inside}
 use Rattle.der_core.specs.Reading.{wanted_at, end_at}
 use Rattle.der_core.specs.Fields.{der, inside_at, decoded_at}

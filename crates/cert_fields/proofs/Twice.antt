@@ -23,7 +23,7 @@ use Rattle.std.proofs.lemmas.Map.Keys.{IsDistinct-IsPermutation, IsDistinct-from
 use Rattle.std.proofs.lemmas.Map.Keys.{sorted_from_all_adjacent}
 use Rattle.std.proofs.lemmas.Map.Text.{is_eq-slice_cmp}
 use Rattle.std.proofs.lemmas.Slice.Eq.{bytes_eq-Decides}
-use Rattle.byte_forms.specs.Types.{Text}
+use Rattle.byte_formats.specs.Types.{Text}
 use Rattle.cert_fields.specs.Extensions.{is_among, are_repeated, any_among}
 use Rattle.cert_fields.specs.Views.{texts, AreSorted}
 
@@ -87,9 +87,9 @@ repeated_behind (x ∷ xs) ys none apart =
     rw all (repeated_behind xs ys others more)
 
 -- A repetition in the front.
-pub repeated_front : (xs ys : List Text) → are_repeated xs ≡ true → are_repeated (xs ++ ys) ≡ true
-repeated_front [] ys e = absurd (true≢false (sym e))
-repeated_front (x ∷ xs) ys e = go (is_among x xs) refl e (repeated_front xs ys)
+pub repeated_prefix : (xs ys : List Text) → are_repeated xs ≡ true → are_repeated (xs ++ ys) ≡ true
+repeated_prefix [] ys e = absurd (true≢false (sym e))
+repeated_prefix (x ∷ xs) ys e = go (is_among x xs) refl e (repeated_prefix xs ys)
   where
     go : (b : Bool) → is_among x xs ≡ b → (b || are_repeated xs) ≡ true
         → (are_repeated xs ≡ true → are_repeated (xs ++ ys) ≡ true)
@@ -118,7 +118,7 @@ repeated_push xs y = go (are_repeated xs) (is_among y xs) refl refl
   where
     go : (p q : Bool) → are_repeated xs ≡ p → is_among y xs ≡ q
         → are_repeated (xs ++ y ∷ []) ≡ (p || q)
-    go true q twice there = repeated_front xs (y ∷ []) twice
+    go true q twice there = repeated_prefix xs (y ∷ []) twice
     go false true once there = repeated_across xs (y ∷ []) (rw there refl)
     go false false once away = repeated_behind xs (y ∷ []) once
         (or_from (is_among y xs) false away refl)
@@ -297,10 +297,10 @@ searched xs x (Err i) rise range found =
     ]))
 
 -- A block whose front was put in order: what is looked up there was there before.
-pub among_front : (block sorted : List (Bor Text)) (n : ℕ) (ids : List Text) → n ≤ length block
+pub among_prefix : (block sorted : List (Bor Text)) (n : ℕ) (ids : List Text) → n ≤ length block
     → IsPermutation (take n block) sorted
     → any_among (texts (take n (sorted ++ drop n block))) ids ≡ any_among (texts (take n block)) ids
-among_front block sorted n ids le p =
+among_prefix block sorted n ids le p =
     let size : length sorted ≡ n = omega (
       arith,
       length_permutation (take n block) sorted p,

@@ -6,12 +6,12 @@ use Rattle.std.proofs.lemmas.List.{append-nil}
 use Rattle.std.specs.Prelude.{if◌then◌else◌, ◌==◌, not}
 use Rattle.std.specs.List.{list_any}
 use denote.Ref.{Bor}
-use Rattle.byte_forms.specs.Types.{Text}
+use Rattle.byte_formats.specs.Types.{Text}
 use Rattle.cert_fields.specs.Views.{texts}
-use Rattle.byte_forms.specs.Places.{At}
-use Rattle.byte_forms.specs.Readings.{both_at, mapped_at, tested_at, Reading}
-use Rattle.byte_forms.specs.Lists.{value_then}
-use Rattle.byte_forms.proofs.Steps.{guard_ok, pass_ok, ok_is}
+use Rattle.byte_formats.specs.Places.{At}
+use Rattle.byte_formats.specs.Readings.{both_at, mapped_at, tested_at, Reading}
+use Rattle.byte_formats.specs.Lists.{value_then}
+use Rattle.byte_formats.proofs.Steps.{guard_ok, pass_ok, ok_is}
 use Rattle.der_core.specs.Items.{Item, inside}
 use Rattle.der_core.specs.Reading.{element_at}
 use Rattle.der_core.specs.Contents.{are_arcs, oid_of}

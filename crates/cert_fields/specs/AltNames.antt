@@ -2,10 +2,10 @@
 use Rattle.std.specs.Prelude.{ℕ, zero, suc, nat_lt, ◌==◌, ◌&&◌, ◌||◌, Bool, true, List, [], ◌∷◌}
 use Rattle.std.specs.Prelude.{length, Result, Ok, Err, if◌then◌else◌}
 use Rattle.std.specs.List.{list_all}
-use Rattle.byte_forms.specs.Types.{Text}
-use Rattle.byte_forms.specs.Places.{At, at}
-use Rattle.byte_forms.specs.Readings.{◌>>=◌, some_at, is_read, Reading}
-use Rattle.byte_forms.specs.Lists.{up_to_end}
+use Rattle.byte_formats.specs.Types.{Text}
+use Rattle.byte_formats.specs.Places.{At, at}
+use Rattle.byte_formats.specs.Readings.{◌>>=◌, some_at, is_read, Reading}
+use Rattle.byte_formats.specs.Lists.{up_to_end}
 use Rattle.der_core.specs.Items.{Item, inside}
 use Rattle.der_core.specs.Reading.{element_at, wanted_at}
 use Rattle.der_core.specs.Fields.{der, whole_at, all_of}

@@ -2,9 +2,10 @@
 -- the left.
 use Rattle.std.specs.Prelude.{ℕ, nat_lt, ◌==◌, ◌||◌, Bool, Result}
 use Rattle.std.specs.Str.{bytes_eq}
-use Rattle.byte_forms.specs.Types.{Text}
-use Rattle.byte_forms.specs.Places.{begins_with}
-use Rattle.byte_forms.specs.Readings.{both_at, mapped_at, tested_at, headed_at, refused_at, Reading}
+use Rattle.byte_formats.specs.Types.{Text}
+use Rattle.byte_formats.specs.Places.{begins_with}
+use Rattle.byte_formats.specs.Readings.{both_at, mapped_at, tested_at, headed_at, refused_at}
+use Rattle.byte_formats.specs.Readings.{Reading}
 use Rattle.der_core.specs.Fields.{inside_at, element_with_at, unsigned_at, all_of}
 use Rattle.der_core.specs.declared.fault.CertError.{CertError}
 use Rattle.der_core.specs.declared.fault.CertError.TheVariants.{BadVersion, BadSerial}

@@ -3,11 +3,11 @@ use Rattle.std.specs.Prelude.{ℕ, zero, suc, ◌&&◌, ◌||◌, Bool, true, fa
 use Rattle.std.specs.Prelude.{length, is_some, Result, Ok, Err, if◌then◌else◌}
 use Rattle.std.specs.List.{list_any}
 use Rattle.std.specs.Str.{bytes_eq}
-use Rattle.byte_forms.specs.Types.{Text}
-use Rattle.byte_forms.specs.Places.{At, at}
-use Rattle.byte_forms.specs.Readings.{◌>>=◌, both_at, mapped_at, tested_at, optional_at}
-use Rattle.byte_forms.specs.Readings.{or_nothing_at, some_at, Reading}
-use Rattle.byte_forms.specs.Lists.{each_at, value_then}
+use Rattle.byte_formats.specs.Types.{Text}
+use Rattle.byte_formats.specs.Places.{At, at}
+use Rattle.byte_formats.specs.Readings.{◌>>=◌, both_at, mapped_at, tested_at, optional_at}
+use Rattle.byte_formats.specs.Readings.{or_nothing_at, some_at, Reading}
+use Rattle.byte_formats.specs.Lists.{each_at, value_then}
 use Rattle.der_core.specs.Items.{inside}
 use Rattle.der_core.specs.Reading.{wanted_at}
 use Rattle.der_core.specs.Contents.{boolean_of, oid_of}

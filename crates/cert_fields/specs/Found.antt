@@ -2,7 +2,7 @@
 -- in it.
 use Rattle.std.specs.Prelude.{◌≡◌, ℕ, ◌^◌, ◌<◌, ◌⊎◌, ◌==◌, List, [], ◌∷◌, length, if◌then◌else◌}
 use Rattle.std.specs.List.{flat_map, AllByRecursion}
-use Rattle.byte_forms.specs.Types.{Text}
+use Rattle.byte_formats.specs.Types.{Text}
 use Rattle.der_core.specs.Elements.{element, FitsElement}
 use Rattle.cert_fields.specs.AltNames.{dns_name}
 use Rattle.cert_fields.specs.Extensions.{ExtensionFields}
@@ -33,7 +33,7 @@ FitsName name = FitsElement name.0 name.1
 pub record AreNamesOf (octets : Text) (names : List (ℕ × Text)) : Type 0 where
   pub each : AllByRecursion FitsName names
   pub short : length (flat_map name_text names) < 2 ^ 24
-  pub spelled : octets ≡ element 0x30 (flat_map name_text names)
+  pub encoded : octets ≡ element 0x30 (flat_map name_text names)
 
 -- The contents of the dNSNames, in their order.
 abbrev pub dns_only : List (ℕ × Text) → List Text

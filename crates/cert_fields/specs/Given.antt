@@ -1,6 +1,6 @@
 -- What is written: the parts that are handed in, with the algorithm of Merkle tree proofs.
 use Rattle.std.specs.Prelude.{ℕ, ◌+◌, [], ◌∷◌, length}
-use Rattle.byte_forms.specs.Types.{Text}
+use Rattle.byte_formats.specs.Types.{Text}
 use Rattle.cert_time.specs.Times.{validity_element}
 use Rattle.cert_time.specs.Periods.{period}
 use Rattle.cert_fields.specs.Certificate.{Parts}

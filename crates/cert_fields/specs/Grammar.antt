@@ -1,8 +1,8 @@
 -- The grammar of a certificate (RFC 5280, section 4.1): what its parts are, apart from any reader.
 use Rattle.std.specs.Prelude.{◌≡◌, ℕ, ◌^◌, ◌<◌, ◌⊎◌, Bool, true, false, List, [], ◌∷◌, ◌++◌, length}
 use Rattle.std.specs.List.{flat_map, AllByRecursion}
-use Rattle.byte_forms.specs.Types.{Text}
-use Rattle.byte_forms.specs.Forms.{IsSpelling, itself, both, FitsBoth, FitsEach}
+use Rattle.byte_formats.specs.Types.{Text}
+use Rattle.byte_formats.specs.Forms.{IsEncoding, itself, both, FitsBoth, FitsEach}
 use Rattle.der_core.specs.Elements.{element, FitsElement}
 use Rattle.der_core.specs.Forms.{IsElement, IsOid, bit_string, IsBitString, IsRisen}
 use Rattle.cert_time.specs.Calendar.{Period, IsPeriod}
@@ -10,12 +10,12 @@ use Rattle.cert_time.specs.Times.{validity_element}
 use Rattle.cert_fields.specs.AltNames.{is_general_name}
 use Rattle.cert_fields.specs.Extensions.{ExtensionFields, is_among, is_alt_name, identifier_of}
 use Rattle.cert_fields.specs.Certificate.{Parts}
-use Rattle.cert_fields.specs.Spelling.{certificate_fields}
+use Rattle.cert_fields.specs.Encoding.{certificate_fields}
 
 -- The bytes are one element with this tag, and its contents spell a value.
 abbrev pub IsElementOf : {X : Type 0} → ℕ → (X → Text) → (X → Type 0) → Text → Type 0
-IsElementOf tag spell Fits =
-    IsSpelling (λ x. element tag (spell x)) (λ x. Fits x × (length (spell x) < 2 ^ 24))
+IsElementOf tag encode Fits =
+    IsEncoding (λ x. element tag (encode x)) (λ x. Fits x × (length (encode x) < 2 ^ 24))
 
 -- The contents of an object identifier's element.
 abbrev pub IsIdentifier : Text → Type 0
@@ -60,7 +60,7 @@ IsName = IsElementOf 0x30 (flat_map itself) (AllByRecursion IsSet)
 -- Validity (4.1.2.5): the element that its moments are written as.
 pub record IsValidity (v : Text × Period) : Type 0 where
   pub period : IsPeriod v.1
-  pub spelled : v.0 ≡ validity_element v.1
+  pub encoded : v.0 ≡ validity_element v.1
 
 -- The bytes of a signature (4.1.1.3): as a BIT STRING they are short enough for a length of three
 -- bytes.
@@ -73,7 +73,7 @@ pub record IsGeneralName (bytes : Text) : Type 0 where
   pub contents : Text
   pub fits : FitsElement tag contents
   pub allowed : is_general_name tag contents ≡ true
-  pub spelled : bytes ≡ element tag contents
+  pub encoded : bytes ≡ element tag contents
 
 -- GeneralNames (4.2.1.6): a SEQUENCE of them, at least one.
 abbrev pub IsGeneralNames : Text → Type 0

@@ -1,7 +1,7 @@
 -- Object identifiers that have a meaning here, as the contents of their encodings.
 use Rattle.std.specs.Prelude.{Bool, ◌||◌, [], ◌∷◌}
 use Rattle.std.specs.Str.{bytes_eq}
-use Rattle.byte_forms.specs.Types.{Text}
+use Rattle.byte_formats.specs.Types.{Text}
 
 -- id-ce-subjectAltName, 2.5.29.17 (RFC 5280, section 4.2.1.6).
 abbrev pub subject_alt_name : Text

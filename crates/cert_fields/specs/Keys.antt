@@ -1,8 +1,8 @@
 -- Algorithms, public keys and the signature's bits (RFC 5280, sections 4.1.1.2, 4.1.1.3 and
 -- 4.1.2.7).
 use Rattle.std.specs.Prelude.{ℕ, ◌==◌, Bool, Result, Ok, Err, if◌then◌else◌}
-use Rattle.byte_forms.specs.Types.{Text}
-use Rattle.byte_forms.specs.Readings.{◌>>=◌, both_at, last_at, is_read, Reading}
+use Rattle.byte_formats.specs.Types.{Text}
+use Rattle.byte_formats.specs.Readings.{◌>>=◌, both_at, last_at, is_read, Reading}
 use Rattle.der_core.specs.Contents.{oid_of, bits_of}
 use Rattle.der_core.specs.Fields.{whole_at, decoded_at, any_at, all_of}
 use Rattle.der_core.specs.declared.fault.DerError.{DerError}

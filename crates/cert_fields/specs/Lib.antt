@@ -7,7 +7,7 @@ pub mod Extensions
 pub mod Certificate
 pub mod Places
 pub mod Views
-pub mod Spelling
+pub mod Encoding
 pub mod Given
 pub mod Grammar
 pub mod Found

@@ -1,8 +1,8 @@
 -- Names (RFC 5280, section 4.1.2.4).
 use Rattle.std.specs.Prelude.{◌==◌, length, Ok, Err, if◌then◌else◌}
-use Rattle.byte_forms.specs.Types.{Text}
-use Rattle.byte_forms.specs.Readings.{◌>>=◌, both_at, discarded, Reading}
-use Rattle.byte_forms.specs.Lists.{up_to_end}
+use Rattle.byte_formats.specs.Types.{Text}
+use Rattle.byte_formats.specs.Readings.{◌>>=◌, both_at, discarded, Reading}
+use Rattle.byte_formats.specs.Lists.{up_to_end}
 use Rattle.der_core.specs.Items.{inside}
 use Rattle.der_core.specs.Reading.{wanted_at, end_at}
 use Rattle.der_core.specs.Contents.{oid_of}

@@ -1,7 +1,7 @@
 -- One field in a longer input, with the place behind it.
 use Rattle.std.specs.Prelude.{ℕ, Result, Ok, Err}
-use Rattle.byte_forms.specs.Types.{Text}
-use Rattle.byte_forms.specs.Places.{At}
+use Rattle.byte_formats.specs.Types.{Text}
+use Rattle.byte_formats.specs.Places.{At}
 use Rattle.cert_time.specs.Calendar.{Period}
 
 -- The offset behind what was read.

@@ -1,8 +1,8 @@
 -- Validity (RFC 5280, section 4.1.2.5).
 use Rattle.std.specs.Prelude.{ℕ, ℤ, Ok, if◌then◌else◌}
-use Rattle.byte_forms.specs.Types.{Text}
-use Rattle.byte_forms.specs.Places.{begins_with}
-use Rattle.byte_forms.specs.Readings.{◌>>=◌, both_at, mapped_at, some_or, Reading}
+use Rattle.byte_formats.specs.Types.{Text}
+use Rattle.byte_formats.specs.Places.{begins_with}
+use Rattle.byte_formats.specs.Readings.{◌>>=◌, both_at, mapped_at, some_or, Reading}
 use Rattle.der_core.specs.Reading.{wanted_at}
 use Rattle.der_core.specs.Fields.{der, noted_at}
 use Rattle.der_core.specs.declared.fault.CertError.{CertError}

@@ -3,9 +3,9 @@
 ghost use Rattle.std.specs.Prelude.{◌≡◌, ◌<◌, List, [], ◌∷◌, length, Ok, Err, OnOk, IfErr};
 ghost use Rattle.std.specs.Prelude.{MatchOption};
 ghost use Rattle.std.specs.Iterator.{YieldsFirstRef, item_count};
-ghost use Rattle.byte_forms.specs.Types.{Text};
-ghost use Rattle.byte_forms.specs.Readings.{Moves, discarded};
-ghost use Rattle.byte_forms.specs.Lists.{up_to_end};
+ghost use Rattle.byte_formats.specs.Types.{Text};
+ghost use Rattle.byte_formats.specs.Readings.{Moves, discarded};
+ghost use Rattle.byte_formats.specs.Lists.{up_to_end};
 ghost use Rattle.cert_fields.specs.AltNames.{is_name_tag, is_ascii, general_name_at};
 ghost use Rattle.cert_fields.specs.AltNames.{general_names_at, are_general_names, names_left};
 ghost use Rattle.cert_fields.specs.AltNames.{names_in};
@@ -94,7 +94,7 @@ pub struct DnsNames<'a> {
 
 impl<'a> Model for DnsNames<'a> {
     ghost use Rattle.std.specs.Prelude.{List};
-    ghost use Rattle.byte_forms.specs.Types.{Text};
+    ghost use Rattle.byte_formats.specs.Types.{Text};
     ghost use Rattle.cert_fields.specs.AltNames.{names_left};
 
     ghost Value = { List Text };

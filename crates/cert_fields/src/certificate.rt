@@ -1,11 +1,11 @@
 //! A whole certificate (RFC 5280, section 4.1).
 
 ghost use Rattle.std.specs.Prelude.{◌≡◌, Ok, IfOk};
-ghost use Rattle.byte_forms.specs.Readings.{Reads, Moves, Gives};
+ghost use Rattle.byte_formats.specs.Readings.{Reads, Moves, Gives};
 ghost use Rattle.cert_fields.specs.Certificate.{Parts, version_at, serial_at, behind_serial_at};
 ghost use Rattle.cert_fields.specs.Certificate.{tbs_at, signed_at, certificate_at, parts_of};
 ghost use Rattle.cert_fields.specs.Certificate.{is_unique_id};
-ghost use Rattle.cert_fields.specs.Spelling.{certificate};
+ghost use Rattle.cert_fields.specs.Encoding.{certificate};
 ghost use Rattle.cert_fields.specs.Grammar.{IsCertificate};
 ghost use Rattle.cert_fields.specs.Views.{parts, body};
 

@@ -1,8 +1,8 @@
 //! One field in a longer input. The places of refusals count in the whole input.
 
 ghost use Rattle.std.specs.Prelude.{◌≡◌, ◌↔◌, ◌≤◌, length, IfOk, IsTrue};
-ghost use Rattle.byte_forms.specs.Places.{at};
-ghost use Rattle.byte_forms.specs.Readings.{Gives};
+ghost use Rattle.byte_formats.specs.Places.{at};
+ghost use Rattle.byte_formats.specs.Readings.{Gives};
 ghost use Rattle.cert_time.specs.Periods.{period};
 ghost use Rattle.cert_fields.specs.Certificate.{version_at};
 ghost use Rattle.cert_fields.specs.Grammar.{IsPublicKey};

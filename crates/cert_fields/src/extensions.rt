@@ -3,7 +3,7 @@
 ghost use Rattle.std.specs.Prelude.{◌≡◌, ◌^◌, ◌<◌, [], length, Ok, Err, OnOk, IfErr};
 ghost use Rattle.std.specs.Prelude.{if◌then◌else◌};
 ghost use Rattle.std.specs.List.{list_any};
-ghost use Rattle.byte_forms.specs.Readings.{Reads, Moves, Gives, discarded};
+ghost use Rattle.byte_formats.specs.Readings.{Reads, Moves, Gives, discarded};
 ghost use Rattle.cert_fields.specs.Extensions.{new_identifier_at, critical_at};
 ghost use Rattle.cert_fields.specs.Extensions.{has_its_form, extension_at, extension_list_at};
 ghost use Rattle.cert_fields.specs.Extensions.{extension_sequence_at, extensions_at, identifiers};

@@ -1,7 +1,7 @@
 //! Algorithms, public keys and the signature (RFC 5280, sections 4.1.1.2, 4.1.1.3 and 4.1.2.7).
 
 ghost use Rattle.std.specs.Prelude.{◌≡◌};
-ghost use Rattle.byte_forms.specs.Readings.{Moves, Gives};
+ghost use Rattle.byte_formats.specs.Readings.{Moves, Gives};
 ghost use Rattle.cert_fields.specs.Keys.{algorithm_at, spki_at, is_public_key, whole_bits_of};
 ghost use Rattle.cert_fields.specs.Keys.{signature_at};
 

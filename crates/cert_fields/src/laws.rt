@@ -3,9 +3,9 @@
 ghost use Rattle.std.specs.Prelude.{◌≡◌, ℕ, ◌^◌, ◌<◌, ◌⊎◌, true, false, List, [], ◌∷◌, ◌++◌};
 ghost use Rattle.std.specs.Prelude.{length, Ok, Contains};
 ghost use Rattle.std.specs.List.{list_any};
-ghost use Rattle.byte_forms.specs.Types.{Text};
-ghost use Rattle.byte_forms.specs.Places.{IsBytes};
-ghost use Rattle.byte_forms.specs.Forms.{IsForm, Anything, OtherThan, itself};
+ghost use Rattle.byte_formats.specs.Types.{Text};
+ghost use Rattle.byte_formats.specs.Places.{IsBytes};
+ghost use Rattle.byte_formats.specs.Forms.{IsForm, Anything, OtherThan, itself};
 ghost use Rattle.der_core.specs.Elements.{element};
 ghost use Rattle.cert_fields.specs.Keys.{algorithm_at, spki_at, signature_at};
 ghost use Rattle.cert_fields.specs.Names.{name_at};
@@ -17,14 +17,14 @@ ghost use Rattle.cert_fields.specs.Extensions.{has_unknown_critical};
 ghost use Rattle.cert_fields.specs.Found.{sequence_text, extensions_text, AreExtensionsOf};
 ghost use Rattle.cert_fields.specs.Found.{AreNamesOf, dns_only};
 ghost use Rattle.cert_fields.specs.Certificate.{Parts, parts_of};
-ghost use Rattle.cert_fields.specs.Spelling.{certificate};
+ghost use Rattle.cert_fields.specs.Encoding.{certificate};
 ghost use Rattle.cert_fields.specs.Grammar.{IsAlgorithm, IsPublicKey, IsName, IsValidity};
 ghost use Rattle.cert_fields.specs.Grammar.{IsSignatureValue, IsGeneralNames, AreExtensions};
 ghost use Rattle.cert_fields.specs.Grammar.{IsExtensionsField, IsCertificate};
 
 /// Algorithms, public keys, names, validities and signatures are read exactly from their spellings,
 /// whatever follows.
-pub fn fields_are_read_as_spelled()
+pub fn law_fields_decode_as_encoded()
     ensures algorithms { IsForm itself IsAlgorithm Anything algorithm_at }
     ensures public_keys { IsForm itself IsPublicKey Anything spki_at }
     ensures names { IsForm itself IsName Anything name_at }
@@ -35,7 +35,7 @@ pub fn fields_are_read_as_spelled()
 
 /// The extensions field is read exactly from its spelling where nothing with its tag follows, and
 /// the octets of a subjectAltName pass exactly where they are general names.
-pub fn extensions_are_read_as_spelled()
+pub fn law_extensions_decode_as_encoded()
     ensures field { IsForm itself (λ bytes. (bytes ≡ []) ⊎ IsExtensionsField bytes)
         (λ rest. Anything rest × OtherThan 0xA3 rest) extensions_at }
     ensures only { (octets : Text) → IsBytes octets → are_general_names octets ≡ true
@@ -45,7 +45,7 @@ pub fn extensions_are_read_as_spelled()
 
 /// In the field that is spelled from extensions just these are found, in their order; and in a
 /// subjectAltName just its dNSNames.
-pub fn extensions_are_found()
+pub fn law_extensions_are_found()
     ensures extensions { (xs : List ExtensionFields) → AreExtensions xs
         → length (sequence_text xs) < 2 ^ 24 → extensions_in (extensions_text xs) ≡ xs }
     ensures names { (octets : Text) (ns : List (ℕ × Text)) → AreNamesOf octets ns
@@ -57,7 +57,7 @@ pub fn extensions_are_found()
 /// octets of a subjectAltName are those of some names. The dNSNames are those of the one
 /// subjectAltName, none without it; and an unknown extension that is critical is told exactly where
 /// one of the extensions is.
-pub fn names_and_marks_are_found()
+pub fn law_names_and_marks_are_found()
     ensures field { (field : Text) → (field ≡ []) ⊎ IsExtensionsField field
         → (xs : List ExtensionFields) × AreExtensionsOf field xs }
     ensures octets { (octets : Text) → IsGeneralNames octets → (ns : List (ℕ × Text))
@@ -73,14 +73,14 @@ pub fn names_and_marks_are_found()
 
 /// What is read as a certificate is spelled as one, and the spelling of each certificate is read as
 /// its parts.
-pub fn certificates_are_read_as_spelled()
+pub fn law_certificates_decode_as_encoded()
     ensures only { (bytes : Text) (p : Parts) → IsBytes bytes → parts_of bytes ≡ Ok p
         → (bytes ≡ certificate p) × IsCertificate p }
     ensures again { (p : Parts) → IsCertificate p → parts_of (certificate p) ≡ Ok p }
 {}
 
 /// A certificate has one spelling, and no certificate begins another one.
-pub fn one_spelling()
+pub fn law_one_encoding()
     ensures { (p q : Parts) (s t : Text) → IsCertificate p → IsCertificate q
         → certificate p ++ s ≡ certificate q ++ t → (p ≡ q) × (s ≡ t) }
 {}

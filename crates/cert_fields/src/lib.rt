@@ -15,7 +15,7 @@ mod checks;
 mod extensions;
 mod identifiers;
 mod keys;
-mod laws;
+pub mod laws;
 mod names;
 mod parts;
 mod repeats;
@@ -32,10 +32,6 @@ pub use checks::{
 };
 pub use extensions::{dns_names, read_extensions, unknown_critical};
 pub use identifiers::{MTC_PROOF, SUBJECT_ALT_NAME};
-pub use laws::{
-    certificates_are_read_as_spelled, extensions_are_found, extensions_are_read_as_spelled,
-    fields_are_read_as_spelled, names_and_marks_are_found, one_spelling,
-};
 pub use names::read_name;
 pub use parts::CertParts;
 pub use times::read_validity;

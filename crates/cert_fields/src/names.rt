@@ -1,8 +1,8 @@
 //! Names (RFC 5280, section 4.1.2.4).
 
 ghost use Rattle.std.specs.Prelude.{◌≡◌, ◌<◌, length, Ok, Err, OnOk, IfErr};
-ghost use Rattle.byte_forms.specs.Readings.{Reads, Moves, discarded};
-ghost use Rattle.byte_forms.specs.Lists.{up_to_end};
+ghost use Rattle.byte_formats.specs.Readings.{Reads, Moves, discarded};
+ghost use Rattle.byte_formats.specs.Lists.{up_to_end};
 ghost use Rattle.cert_fields.specs.Names.{attribute_at, set_at, name_at};
 
 use der_core::tags::{OBJECT_IDENTIFIER, SEQUENCE, SET};

@@ -6,7 +6,7 @@
 ghost use Rattle.std.specs.Prelude.{◌≡◌, ℕ, ◌+◌, ◌*◌, ◌<◌, ◌≤◌, ◌⊎◌, ◌++◌, []};
 ghost use Rattle.std.specs.Prelude.{length, take, OnOk};
 ghost use Rattle.std.specs.List.Sorted.{IsPermutation};
-ghost use Rattle.byte_forms.specs.Readings.{Moves};
+ghost use Rattle.byte_formats.specs.Readings.{Moves};
 ghost use Rattle.cert_fields.specs.Extensions.{is_among, head_at, identifiers, are_repeated};
 ghost use Rattle.cert_fields.specs.Extensions.{any_among};
 ghost use Rattle.cert_fields.specs.Views.{texts, AreSorted};

@@ -1,7 +1,7 @@
 //! Validity (RFC 5280, section 4.1.2.5).
 
 ghost use Rattle.std.specs.Prelude.{IfOk};
-ghost use Rattle.byte_forms.specs.Readings.{Reads, Moves};
+ghost use Rattle.byte_formats.specs.Readings.{Reads, Moves};
 ghost use Rattle.cert_time.specs.Calendar.{IsMoment};
 ghost use Rattle.cert_time.specs.Periods.{period};
 ghost use Rattle.cert_fields.specs.Times.{time_at, validity_at};

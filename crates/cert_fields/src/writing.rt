@@ -3,7 +3,7 @@
 ghost use Rattle.std.specs.Prelude.{◌≡◌, ◌^◌, ◌<◌, ◌≤◌, ◌∷◌, Ok, IfOk};
 ghost use Rattle.cert_fields.specs.Certificate.{parts_of};
 ghost use Rattle.cert_fields.specs.Grammar.{IsCertificate};
-ghost use Rattle.cert_fields.specs.Spelling.{tbs_fields, certificate_fields, certificate};
+ghost use Rattle.cert_fields.specs.Encoding.{tbs_fields, certificate_fields, certificate};
 ghost use Rattle.cert_fields.specs.Given.{given, size_of};
 
 use crate::identifiers::MTC_PROOF;
@@ -32,7 +32,7 @@ pub fn write(alloc: Global, parts: &CertParts) -> Result<Bytes, Memory>
 }
 
 // The whole certificate.
-#[tactic(auto, unfolding(crate::specs::Spelling::certificate))]
+#[tactic(auto, unfolding(crate::specs::Encoding::certificate))]
 fn certificate_element(alloc: Global, parts: &CertParts) -> Result<Bytes, Memory>
     requires short { size_of parts.now ≤ 16000000 }
     ensures { IfOk result (λ bytes. bytes ≡ certificate (given parts.now)) }

@@ -6,11 +6,11 @@ use Rattle.std.specs.Prelude.{if◌then◌else◌, ◌==◌}
 use Rattle.std.specs.Borrow.{Bor}
 use Rattle.std.proofs.lemmas.List.{length-append}
 use Rattle.std.proofs.lemmas.Slice.Eq.{bytes_eq-Decides}
-use Rattle.byte_forms.specs.Types.{Text}
-use Rattle.byte_forms.specs.Places.{IsBytes}
-use Rattle.byte_forms.specs.Readings.{is_read, both_at, tested_at, Reading}
-use Rattle.byte_forms.specs.Forms.{IsForm, Anything, both, FitsBoth}
-use Rattle.byte_forms.proofs.Forms.{said_form, ended_form, both_form, mapped_form, tested_form}
+use Rattle.byte_formats.specs.Types.{Text}
+use Rattle.byte_formats.specs.Places.{IsBytes}
+use Rattle.byte_formats.specs.Readings.{is_read, both_at, tested_at, Reading}
+use Rattle.byte_formats.specs.Forms.{IsForm, Anything, both, FitsBoth}
+use Rattle.byte_formats.proofs.Forms.{said_form, ended_form, both_form, mapped_form, tested_form}
 use Rattle.der_core.specs.Elements.{element}
 use Rattle.der_core.specs.Fields.{inside_at, contents_at, all_of}
 use Rattle.der_core.specs.declared.fault.CertError.{CertError}
@@ -61,13 +61,14 @@ parts_form =
     (λ y rest f q. tt)))
 
 -- An element around a text.
-around : (tag : ℕ) (spell : Text → Text) (Fits : Text → Type 0) (read : Reading Text CertError)
+around : (tag : ℕ) (encode : Text → Text) (Fits : Text → Type 0) (read : Reading Text CertError)
     → tag < 256 → (tag % 32 == 31) ≡ false
-    → IsForm spell Fits Anything read → IsForm (λ text. element tag (spell text)) (λ text. Fits text
-    × Short (spell text)) Anything (inside_at tag read)
-around tag spell Fits read byte low form =
-    inside_form tag spell Fits read (tag_of tag byte low)
-    (ended_form spell Fits Anything read tt form)
+    → IsForm encode Fits Anything read
+    → IsForm (λ text. element tag (encode text)) (λ text. Fits text
+    × Short (encode text)) Anything (inside_at tag read)
+around tag encode Fits read byte low form =
+    inside_form tag encode Fits read (tag_of tag byte low)
+    (ended_form encode Fits Anything read tt form)
 
 name_form : IsForm name_with (λ text. Short (name_contents log_id text)) Anything log_name_at
 unfolding log_name_at log_set_at log_attribute_at name_with
@@ -120,7 +121,7 @@ log_only name text h e = go (all_of log_name_at name) refl e
         chosen_text t true id read found =
             let known = whole_takes name t h read in
             let P : Text → Type 0 = IsLogName name in
-            subst P (some_is t text found) (record { id = id; short = known.1; spelled = known.0 })
+            subst P (some_is t text found) (record { id = id; short = known.1; encoded = known.0 })
           where
             some_is : (x y : Text) → Some x ≡ Some y → x ≡ y
             some_is x y e = cc
@@ -129,7 +130,7 @@ log_only name text h e = go (all_of log_name_at name) refl e
 
 pub log_again : (name text : Text) → IsLogName name text → log_in name ≡ Some text
 unfolding log_in
-log_again name text f = ap (λ (n : Text). id_only (all_of log_name_at n)) f.spelled
+log_again name text f = ap (λ (n : Text). id_only (all_of log_name_at n)) f.encoded
     ∙ rw (whole_again text f.short, f.id) refl
 
 -- ---- an answer that is exactly the text
@@ -157,5 +158,5 @@ pub id_named : (id : Text) → IsAnchorId id → IsLogName (name_with (text_of i
 id_named id f = record {
   id = ap is_read (text_again id f);
   short = omega (arith, name-size log_id (text_of id), text-short id f);
-  spelled = refl;
+  encoded = refl;
 }

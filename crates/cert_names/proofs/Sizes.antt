@@ -1,7 +1,7 @@
 -- How long the parts of a name of one attribute are at most.
 use Rattle.std.proofs.Common.{◌+◌, ◌≤◌, length, arith}
 use Rattle.std.proofs.lemmas.List.{length-append}
-use Rattle.byte_forms.specs.Types.{Text}
+use Rattle.byte_formats.specs.Types.{Text}
 use Rattle.der_core.specs.Elements.{element}
 use Rattle.der_core.proofs.Elements.{element-short}
 use Rattle.cert_names.specs.Names.{attribute_contents, set_contents, name_contents, name_of}

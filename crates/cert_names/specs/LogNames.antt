@@ -3,8 +3,8 @@
 use Rattle.std.specs.Prelude.{◌≡◌, ◌^◌, ◌<◌, Bool, true, [], ◌∷◌, length, Option, Some, None}
 use Rattle.std.specs.Prelude.{Result, Ok, Err, if◌then◌else◌}
 use Rattle.std.specs.Str.{bytes_eq}
-use Rattle.byte_forms.specs.Types.{Text}
-use Rattle.byte_forms.specs.Readings.{Reading, both_at, mapped_at, tested_at}
+use Rattle.byte_formats.specs.Types.{Text}
+use Rattle.byte_formats.specs.Readings.{Reading, both_at, mapped_at, tested_at}
 use Rattle.der_core.specs.Fields.{inside_at, contents_at, all_of}
 use Rattle.der_core.specs.declared.fault.CertError.{CertError}
 use Rattle.der_core.specs.declared.fault.CertError.TheVariants.{BadName}
@@ -23,7 +23,7 @@ name_with text = name_of log_id text
 pub record IsLogName (name text : Text) : Type 0 where
   pub id : is_anchor_text text ≡ true
   pub short : length (name_contents log_id text) < 2 ^ 24
-  pub spelled : name ≡ name_with text
+  pub encoded : name ≡ name_with text
 
 -- ---- reading
 

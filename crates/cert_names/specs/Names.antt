@@ -1,6 +1,6 @@
 -- Names of one attribute, whose value is a UTF8String (RFC 5280, section 4.1.2.4).
 use Rattle.std.specs.Prelude.{◌++◌}
-use Rattle.byte_forms.specs.Types.{Text}
+use Rattle.byte_formats.specs.Types.{Text}
 use Rattle.der_core.specs.Elements.{element}
 
 -- The contents of the attribute: its identifier and its text.

@@ -1,14 +1,14 @@
 //! Laws of log names: the clauses are the laws, and the functions do nothing.
 
 ghost use Rattle.std.specs.Prelude.{◌≡◌, Some};
-ghost use Rattle.byte_forms.specs.Types.{Text};
-ghost use Rattle.byte_forms.specs.Places.{IsBytes};
+ghost use Rattle.byte_formats.specs.Types.{Text};
+ghost use Rattle.byte_formats.specs.Places.{IsBytes};
 ghost use Rattle.tls_wire.specs.Arcs.{IsAnchorId};
 ghost use Rattle.tls_wire.specs.Anchors.{text_of};
 ghost use Rattle.cert_names.specs.LogNames.{IsLogName, name_with, log_in};
 
 /// The name of each anchor id is a log's, and a log's name is read exactly from its spelling.
-pub fn log_names_are_read_as_spelled()
+pub fn law_log_names_decode_as_encoded()
     ensures ids { (id : Text) → IsAnchorId id → IsLogName (name_with (text_of id)) (text_of id) }
     ensures read { (name text : Text) → IsBytes name → log_in name ≡ Some text
         → IsLogName name text }

@@ -2,12 +2,11 @@
 //! log as text, both ways.
 #![tactic(auto)]
 
-mod laws;
+pub mod laws;
 mod names;
 mod reading;
 mod writing;
 
-pub use laws::log_names_are_read_as_spelled;
 pub use names::name_of;
 pub use reading::log_of;
 pub use writing::log_name;

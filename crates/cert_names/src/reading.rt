@@ -1,8 +1,8 @@
 //! From a name to the id of a log.
 
 ghost use Rattle.std.specs.Prelude.{◌≡◌, Some, None, IfSome, MatchOption};
-ghost use Rattle.byte_forms.specs.Types.{Text};
-ghost use Rattle.byte_forms.specs.Readings.{Moves, Gives};
+ghost use Rattle.byte_formats.specs.Types.{Text};
+ghost use Rattle.byte_formats.specs.Readings.{Moves, Gives};
 ghost use Rattle.der_core.specs.Fields.{all_of};
 ghost use Rattle.cert_names.specs.LogNames.{IsLogName, log_text_at, log_attribute_at, log_set_at};
 ghost use Rattle.cert_names.specs.LogNames.{log_name_at, log_in};

@@ -4,7 +4,7 @@ use Rattle.std.proofs.Common.{nat_lt, nat_le, cond, length, refl, sym, ap, subst
 use Rattle.std.proofs.Common.{pos, Option, Some, None, IfSome}
 use Rattle.std.proofs.lemmas.Bool.{and_parts, leb-true, eqb-true}
 use Rattle.std.proofs.lemmas.Bool.Decides.{nat_tests}
-use Rattle.byte_forms.specs.Types.{Text}
+use Rattle.byte_formats.specs.Types.{Text}
 use Rattle.jiff_core.proofs.CalendarLemmas.{days_in_month_bounds}
 use Rattle.cert_time.specs.declared.civil.CivilTime.{CivilTime}
 use Rattle.cert_time.specs.Calendar.{exists, moment, moment_from, IsMoment, civil_of}
@@ -15,8 +15,8 @@ use Rattle.cert_time.specs.Times.{general_parts, general_with, general_moment, t
 use Rattle.cert_time.specs.Times.{time_tag, time_contents, tag_with, contents_with}
 use Rattle.cert_time.proofs.Moments.{Exists, exists-from, exists-to, Names, civil_of-names}
 use Rattle.cert_time.proofs.Moments.{names-civil_of, IsMoment-names}
-use Rattle.cert_time.proofs.Spelling.{text_back, text_fits, text_read, utc_back, utc_fits, utc_read}
-use Rattle.cert_time.proofs.Spelling.{utc_year, general_back, general_fits, general_read}
+use Rattle.cert_time.proofs.Encoding.{text_back, text_fits, text_read, utc_back, utc_fits, utc_read}
+use Rattle.cert_time.proofs.Encoding.{utc_year, general_back, general_fits, general_read}
 
 -- the moment of a text in a form
 abbrev read_by : Bool → ℕ → CivilTime → Option ℤ

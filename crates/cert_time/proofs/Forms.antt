@@ -1,7 +1,7 @@
 -- Texts that have a form.
 use Rattle.std.proofs.Common.{◌≡◌, true, false, [], ◌∷◌, length, arith, refl}
 use Rattle.std.proofs.lemmas.Bool.{and_parts, false_from_ne_true}
-use Rattle.byte_forms.specs.Types.{Text}
+use Rattle.byte_formats.specs.Types.{Text}
 use Rattle.cert_time.specs.Forms.{fits_byte, fits_form}
 
 -- a text that has a form is as long

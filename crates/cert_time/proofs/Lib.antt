@@ -2,4 +2,4 @@ pub mod BothWays
 pub mod Dates
 pub mod Forms
 pub mod Moments
-pub mod Spelling
+pub mod Encoding

@@ -2,7 +2,7 @@
 use Rattle.std.specs.Prelude.{ℕ, ◌+◌, ◌-◌, ◌*◌, ◌/◌, ◌%◌, ◌<◌, ◌==◌, ◌&&◌, Bool, true, false}
 use Rattle.std.specs.Prelude.{if◌then◌else◌, [], ◌∷◌, ◌++◌, slice_index}
 use Rattle.std.specs.Char.{is_ascii_digit}
-use Rattle.byte_forms.specs.Types.{Text}
+use Rattle.byte_formats.specs.Types.{Text}
 use Rattle.cert_time.specs.declared.civil.CivilTime.{CivilTime}
 
 -- A byte at a place of a form, where 0 in the form stands for any digit, and anything else for

@@ -1,6 +1,6 @@
 -- Moments as texts: YYYY-MM-DDTHH:MM:SSZ.
 use Rattle.std.specs.Prelude.{if◌then◌else◌, ℤ, ◌++◌, codes, Option, None}
-use Rattle.byte_forms.specs.Types.{Text}
+use Rattle.byte_formats.specs.Types.{Text}
 use Rattle.cert_time.specs.declared.civil.CivilTime.{CivilTime}
 use Rattle.cert_time.specs.Calendar.{moment_from, civil_of}
 use Rattle.cert_time.specs.Forms.{fits_form, two_digits_at, four_digits_at, two_digits, four_digits}

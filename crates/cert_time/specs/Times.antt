@@ -2,7 +2,7 @@
 -- and 11.8).
 use Rattle.std.specs.Prelude.{ℕ, ◌+◌, ◌/◌, ◌%◌, ◌==◌, nat_lt, if◌then◌else◌, ℤ, ◌∷◌, ◌++◌, length}
 use Rattle.std.specs.Prelude.{codes, Option, None}
-use Rattle.byte_forms.specs.Types.{Text}
+use Rattle.byte_formats.specs.Types.{Text}
 use Rattle.cert_time.specs.declared.civil.CivilTime.{CivilTime}
 use Rattle.cert_time.specs.Calendar.{Period, moment_from, civil_of}
 use Rattle.cert_time.specs.Forms.{fits_form, two_digits_at, four_digits_at, two_digits}

@@ -1,20 +1,20 @@
 //! What is written is read again, and what is read is what would be written.
 
 ghost use Rattle.std.specs.Prelude.{◌≡◌, ℕ, ◌↔◌, ◌⊎◌, ℤ, length, Some};
-ghost use Rattle.byte_forms.specs.Types.{Text};
+ghost use Rattle.byte_formats.specs.Types.{Text};
 ghost use Rattle.cert_time.specs.Calendar.{IsMoment};
 ghost use Rattle.cert_time.specs.Texts.{text_moment, moment_text};
 ghost use Rattle.cert_time.specs.Times.{time_contents, time_moment, time_tag};
 
 /// Law: each moment has one text, and each text that is read is the text of its moment.
-pub fn one_text()
+pub fn law_one_text()
     ensures { (text : Text) (z : ℤ)
         → (text_moment text ≡ Some z) ↔ (IsMoment z × (text ≡ moment_text z)) }
 {}
 
 /// Law: each moment has one time in a certificate, and each time that is read is that of its
 /// moment. It is a UTCTime of 13 bytes or a GeneralizedTime of 15.
-pub fn one_time()
+pub fn law_one_time()
     ensures both_ways { (tag : ℕ) (contents : Text) (z : ℤ)
         → (time_moment tag contents ≡ Some z)
         ↔ (IsMoment z × (tag ≡ time_tag z) × (contents ≡ time_contents z)) }

@@ -9,13 +9,12 @@
 mod calendar;
 mod civil;
 mod digits;
-mod laws;
+pub mod laws;
 mod text;
 mod time;
 mod validity;
 mod writing;
 
-pub use laws::{one_text, one_time};
 pub use text::{seconds_to_text, text_to_seconds};
 pub use time::{GENERALIZED_TIME, UTC_TIME, read_time};
 pub use validity::Validity;

@@ -8,7 +8,7 @@ use Rattle.std.proofs.lemmas.Bool.{cases_lt, cond-false, cond-true, false≢true
 use Rattle.std.proofs.lemmas.List.{get_or-drop, get_or-take, reverse-append}
 use Rattle.std.proofs.lemmas.List.Elements.{Contains-append_cases, Contains-append_left}
 use Rattle.std.proofs.lemmas.List.Elements.{Contains-append_right}
-use Rattle.byte_forms.specs.Types.{Hash, HashFunction, Text}
+use Rattle.byte_formats.specs.Types.{Hash, HashFunction, Text}
 use Rattle.tree_core.proofs.Evaluates.{eval-leaf, eval-left, eval-long, eval-right, eval-short}
 use Rattle.tree_core.proofs.Roots.{root_of-one}
 use Rattle.tree_core.specs.Evaluation.{eval_from_root, eval_of}

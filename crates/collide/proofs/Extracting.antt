@@ -8,7 +8,7 @@ use Rattle.std.specs.List.{AllByRecursion, Contains}
 use Rattle.std.proofs.lemmas.Bool.{false≢true}
 use Rattle.std.proofs.lemmas.List.{length-append, reverse-append, reverse-reverse}
 use Rattle.std.proofs.lemmas.Slice.Eq.{bytes_eq-Decides}
-use Rattle.byte_forms.specs.Types.{Hash, HashFunction, Text}
+use Rattle.byte_formats.specs.Types.{Hash, HashFunction, Text}
 use Rattle.tree_core.proofs.Powers.{split_bounds}
 use Rattle.tree_core.proofs.Roots.{root_of-none, root_of-one, tree_hash-split}
 use Rattle.tree_core.specs.Split.{split_of}

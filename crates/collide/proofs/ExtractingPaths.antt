@@ -7,7 +7,7 @@ use Rattle.std.specs.Prelude.{IsSome, is_some, reverse}
 use Rattle.std.specs.List.{AllByRecursion, Contains}
 use Rattle.std.proofs.lemmas.Bool.{cases_lt}
 use Rattle.std.proofs.lemmas.List.{reverse-append, reverse-reverse}
-use Rattle.byte_forms.specs.Types.{Hash, HashFunction, Text}
+use Rattle.byte_formats.specs.Types.{Hash, HashFunction, Text}
 use Rattle.tree_core.proofs.Evaluates.{ok-evaluation}
 use Rattle.tree_core.proofs.Roots.{root_of-one}
 use Rattle.tree_core.specs.Evaluation.{eval_of}

@@ -5,7 +5,7 @@ use Rattle.std.proofs.Common.{get_or, sym, ◌∙◌, ap, refl, arith}
 use Rattle.std.specs.Prelude.{map}
 use Rattle.std.proofs.lemmas.List.{drop-map, length-drop, length-map, length-take, take-map}
 use Rattle.std.proofs.lemmas.List.{get_or-drop, get_or-take, take-append-drop}
-use Rattle.byte_forms.specs.Types.{Text}
+use Rattle.byte_formats.specs.Types.{Text}
 use Rattle.tree_core.proofs.Powers.{split_bounds}
 use Rattle.tree_core.specs.Split.{split_of}
 use Rattle.tree_proofs.proofs.Splits.{shifted}
@@ -21,14 +21,14 @@ halves_by items left right e more fits low high left_is right_is =
     let bounds = split_bounds (length items) in
     let positive = bounds.positive in
     let below = bounds.below in
-    let front : left ≡ take (split_of (length items)) items = left_is
+    let prefix : left ≡ take (split_of (length items)) items = left_is
     ∙ ap (λ k. take k items) split in
     let back : right ≡ drop (split_of (length items)) items = right_is
     ∙ ap (λ k. drop k items) split in
-    let front_size = ap length front ∙ length-take (split_of (length items)) items in
+    let prefix_size = ap length prefix ∙ length-take (split_of (length items)) items in
     let back_size = ap length back ∙ length-drop (split_of (length items)) items in
     record {
-      left = front;
+      left = prefix;
       right = back;
       count = omega arith;
       some = omega arith;
@@ -43,7 +43,7 @@ halves_of items more =
     let bounds = split_bounds (length items) in
     let positive = bounds.positive in
     let below = bounds.below in
-    let front = length-take (split_of (length items)) items in
+    let prefix = length-take (split_of (length items)) items in
     let back = length-drop (split_of (length items)) items in
     record {
       left = refl;

@@ -8,7 +8,7 @@ use Rattle.std.proofs.lemmas.List.Elements.{Contains-append_left, Contains-appen
 use Rattle.std.proofs.lemmas.List.Elements.{Contains-push, Contains-push_cases}
 use Rattle.std.proofs.lemmas.Nat.{pow_pos}
 use Rattle.std.proofs.Math.Seq.{drop-append_seam, take-append_seam}
-use Rattle.byte_forms.specs.Types.{HashFunction, Text}
+use Rattle.byte_formats.specs.Types.{HashFunction, Text}
 use Rattle.tree_core.proofs.Powers.{largest_unique, split_bounds}
 use Rattle.tree_core.proofs.Roots.{part_sizes, root_of-none, root_of-one, tree_hash-split}
 use Rattle.tree_core.specs.Laws.{IsLargestPowerBelow}
@@ -77,7 +77,7 @@ inputs_of-split h (x ∷ y ∷ rest) more =
     let bounds = split_bounds (length entries) in
     let positive = bounds.positive in
     let below = bounds.below in
-    let front = length-take (split_of (length entries)) entries in
+    let prefix = length-take (split_of (length entries)) entries in
     let back = length-drop (split_of (length entries)) entries in
     let top = pair_input (tree_hash h (take (split_of (length entries)) entries))
     (tree_hash h (drop (split_of (length entries)) entries)) in

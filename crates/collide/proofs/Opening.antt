@@ -7,7 +7,7 @@ use Rattle.std.specs.List.{Contains}
 use Rattle.std.proofs.lemmas.Bool.{cond-false, cond-true, false≢true, le-leb, lt-leb}
 use Rattle.std.proofs.lemmas.List.{drop-take, length-drop, length-take, reverse-append, take-take}
 use Rattle.std.proofs.lemmas.List.Elements.{Contains-append_right}
-use Rattle.byte_forms.specs.Types.{Hash, HashFunction, Text}
+use Rattle.byte_formats.specs.Types.{Hash, HashFunction, Text}
 use Rattle.tree_core.proofs.Powers.{split_bounds, split_power, split_unique}
 use Rattle.tree_core.specs.Path.{part_of}
 use Rattle.tree_core.specs.Split.{split_of}
@@ -105,16 +105,16 @@ turned h s e n known node z proof rest is =
     ap (open_inputs_from_root h s e n known node) (ap reverse is ∙ reverse-append rest (z ∷ []))
 
 -- one of the texts in front of those of the part
-front_in : (x : Text) (texts front more rest : List Text) → texts ≡ front ++ rest
-    → front ≡ x ∷ more → Contains texts x
-front_in x texts front more rest texts_are front_is =
-    subst (λ t. Contains t x) (sym (texts_are ∙ ap (λ f. f ++ rest) front_is))
+prefix_in : (x : Text) (texts prefix more rest : List Text) → texts ≡ prefix ++ rest
+    → prefix ≡ x ∷ more → Contains texts x
+prefix_in x texts prefix more rest texts_are prefix_is =
+    subst (λ t. Contains t x) (sym (texts_are ∙ ap (λ f. f ++ rest) prefix_is))
     (first_in x (more ++ rest))
 
-rest_in : (texts front rest : List Text) (t : Text) → texts ≡ front ++ rest → Contains rest t
+rest_in : (texts prefix rest : List Text) (t : Text) → texts ≡ prefix ++ rest → Contains rest t
     → Contains texts t
-rest_in texts front rest t texts_are within =
-    subst (λ all. Contains all t) (sym texts_are) (Contains-append_right front rest t within)
+rest_in texts prefix rest t texts_are within =
+    subst (λ all. Contains all t) (sym texts_are) (Contains-append_right prefix rest t within)
 
 -- The levels of a list and of an opening.
 
@@ -134,7 +134,7 @@ open_level-left h xs l r s e n k known node z proof rest o below halves is more 
       first = sym (halves_hash h xs l r halves);
       second = ap (λ o. o.root) given;
       first_in = root_in h xs l r halves;
-      second_in = front_in (pair_input below.root z) _ _ [] _ texts (ap (inputs_left z) gives);
+      second_in = prefix_in (pair_input below.root z) _ _ [] _ texts (ap (inputs_left z) gives);
       firsts = λ t. left_in h xs l r t halves;
       seconds = λ t. rest_in _ _ _ t texts;
     }
@@ -158,7 +158,7 @@ open_level-right h xs l r s e n k a b c known node z proof rest o below halves i
       first = sym (halves_hash h xs l r halves);
       second = ap (λ o. o.root) given;
       first_in = root_in h xs l r halves;
-      second_in = front_in (pair_input z below.root) _ _ [] _ texts (ap (inputs_right z) gives);
+      second_in = prefix_in (pair_input z below.root) _ _ [] _ texts (ap (inputs_right z) gives);
       firsts = λ t. right_in h xs l r t halves;
       seconds = λ t. rest_in _ _ _ t texts;
     }
@@ -182,7 +182,7 @@ open_level-over h xs l r s e n k b c known node z proof rest o below halves is m
       first = sym (halves_hash h xs l r halves);
       second = ap (λ o. o.root) given;
       first_in = root_in h xs l r halves;
-      second_in = front_in (pair_input z below.root) _ _ (pair_input z below.subtree ∷ []) _ texts
+      second_in = prefix_in (pair_input z below.root) _ _ (pair_input z below.subtree ∷ []) _ texts
           (ap (inputs_over z) gives);
       firsts = λ t. right_in h xs l r t halves;
       seconds = λ t. rest_in _ _ _ t texts;
@@ -216,7 +216,7 @@ over_halves xs l r e b halves within e_is some =
     let power = split_power (length xs) in
     let power_is : split_of (length xs) ≡ 2 ^ power.0 = power.1 in
     let bounds = split_bounds (length xs) in
-    let front = halves.some in
+    let prefix = halves.some in
     let back = halves.rest in
     let all = halves.all in
     let size : length (take e xs) ≡ e = length-take e xs ∙ omega arith in
@@ -238,7 +238,7 @@ over_halves xs l r e b halves within e_is some =
       right = right ∙ ap (λ k. drop k (take e xs)) (sym split)
           ∙ ap (drop (split_of (length (part_of xs 0 e)))) (sym part);
       count = count ∙ sym split;
-      some = front;
+      some = prefix;
       rest = omega arith;
       all = omega arith;
     }

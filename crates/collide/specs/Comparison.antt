@@ -1,6 +1,6 @@
 -- What two computations of the hash of one node come to.
 use Rattle.std.specs.Prelude.{◌≡◌, List, Result, Ok, Err}
-use Rattle.byte_forms.specs.Types.{Hash, HashFunction, Text}
+use Rattle.byte_formats.specs.Types.{Hash, HashFunction, Text}
 use Rattle.collide.specs.declared.comparing.Halt.{Halt}
 use Rattle.collide.specs.declared.comparing.Halt.TheVariants.{Found, Memory}
 use Rattle.collide.specs.declared.comparing.Roots.{Roots}

@@ -1,7 +1,7 @@
 //! The items of a list, and the list's tree hash.
 
 ghost use Rattle.std.specs.Prelude.{◌≡◌, ◌-◌, ◌<◌, ◌≤◌, length, map, take, drop};
-ghost use Rattle.byte_forms.specs.Types.{Text};
+ghost use Rattle.byte_formats.specs.Types.{Text};
 ghost use Rattle.tree_core.specs.Tree.{tree_hash};
 ghost use Rattle.collide.specs.Halves.{AreHalves};
 

@@ -24,13 +24,12 @@ mod comparing;
 mod consistency;
 mod entry;
 mod finding;
-mod laws;
+pub mod laws;
 mod lists;
 mod paths;
 
 pub use consistency::in_consistency;
 pub use entry::{AsEntry, list_hash};
 pub use finding::Finding;
-pub use laws::{inputs_by_clauses, lists_extract, paths_extract, proofs_extract};
 pub use lists::two_lists;
 pub use paths::in_list;

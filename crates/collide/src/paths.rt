@@ -2,7 +2,7 @@
 
 ghost use Rattle.std.specs.Prelude.{◌≡◌, ◌-◌, ◌<◌, ◌≤◌, [], length, map, slice_index_or, IfOk};
 ghost use Rattle.std.specs.Prelude.{IsSome, Some, Ok};
-ghost use Rattle.byte_forms.specs.Types.{Hash};
+ghost use Rattle.byte_formats.specs.Types.{Hash};
 ghost use Rattle.tree_core.specs.Evaluation.{eval_of, evaluation};
 ghost use Rattle.tree_core.specs.Path.{part_of};
 ghost use Rattle.tree_core.specs.Tree.{leaf_hash, tree_hash};

@@ -5,15 +5,15 @@ use Rattle.std.proofs.Common.{Result, Ok, ◌∙◌}
 use Rattle.std.specs.Prelude.{if◌then◌else◌, is_some}
 use Rattle.std.proofs.Common.{Err, OnErr, IsErrAnd, IsErrOf, IsTrue, refl, sym, ap, subst, arith}
 use Rattle.std.proofs.lemmas.Bool.{ltb-true, lt-ltb}
-use Rattle.byte_forms.specs.Types.{HashFunction, Text}
-use Rattle.byte_forms.specs.Refusals.{answer_of}
+use Rattle.byte_formats.specs.Types.{HashFunction, Text}
+use Rattle.byte_formats.specs.Refusals.{answer_of}
 use Rattle.disk_core.specs.declared.disk.Disk.{Ghosts}
 use Rattle.disk_core.specs.Moments.{LeavesOnly}
 use Rattle.tree_core.specs.declared.hashing.TreeHash.{Ghosts as Hashes}
-use Rattle.journal_core.specs.Ends.{settled_of, settled_records}
-use Rattle.journal_core.specs.Format.{StandsForEither, most_bytes}
+use Rattle.journal_core.specs.Ends.{durable_of, durable_records}
+use Rattle.journal_core.specs.Format.{RepresentsEither, most_bytes}
 use Rattle.journal_core.specs.Owners.{OwnerAppends, owner_over}
-use Rattle.journal_core.specs.Words.{AllStandFor, AppendLeaves, IsUntouched, disk_of, end_of}
+use Rattle.journal_core.specs.Words.{AllRepresent, AppendLeaves, IsUntouched, disk_of, end_of}
 use Rattle.journal_core.specs.Words.{is_broken, records}
 use Rattle.journal_core.specs.declared.journal.Journal.{Journal}
 use Rattle.journal_core.proofs.Appends.{all_kept, untouched_after, untouched_moment}
@@ -21,7 +21,7 @@ use Rattle.journal_core.proofs.Owners.{refused_by, was_sound}
 use Rattle.journal_core.specs.declared.error.AppendError.{AppendError}
 use Rattle.journal_core.specs.declared.error.AppendError.TheVariants.{Broken, Failed, Full}
 use Rattle.cosigner_core.specs.Folds.{CosignerState}
-use Rattle.cosigner_core.specs.SettledRecords.{IsSettledAs}
+use Rattle.cosigner_core.specs.DurableRecords.{IsDurableAs}
 use Rattle.cosigner_core.specs.Refusals.{IsOfRequest, CosignKeepsTo, earlier}
 use Rattle.cosigner_core.specs.Refusals.{journal_refusal}
 use Rattle.cosigner_core.specs.Words.{CosignerAppends, CosignerLeaves}
@@ -38,8 +38,8 @@ use Rattle.cosigner_core.proofs.Keeps.{Keeps, failed_keeps, of_sound, sound_reco
 abbrev pub Answer : Type 0
 Answer = Result (Unit {0}) AppendError
 
-abbrev pub told : AppendError → Answer
-told why = Err why
+abbrev pub contents : AppendError → Answer
+contents why = Err why
 
 abbrev pub done : Answer
 done = Ok tt
@@ -61,13 +61,13 @@ err_is (Err x) e is = ap Err (sym is)
 -- a journal whose disk had no call
 unmoved : {D : Type 0} {g : Ghosts D} (h : HashFunction) (s : CosignerState)
     (old new : Journal D g) → IsUntouched old new → Keeps h s old
-    → Keeps h s new × (settled_records new ≡ settled_records old)
+    → Keeps h s new × (durable_records new ≡ durable_records old)
 unmoved {D} {g} h s old new same keeps = (
-  subst (λ (d : D). (bytes : Text) → g.told d ≡ Some bytes → IsSettledAs h s (end_of new) bytes)
-      (sym same.disk) (subst (λ (n : ℕ). (bytes : Text) → g.told (disk_of old) ≡ Some bytes
-      → IsSettledAs h s n bytes) (sym same.end) keeps),
-  ap (λ (d : D). option_map (settled_of (end_of new)) (g.told d)) same.disk
-      ∙ ap (λ (n : ℕ). option_map (settled_of n) (g.told (disk_of old))) same.end,
+  subst (λ (d : D). (bytes : Text) → g.contents d ≡ Some bytes → IsDurableAs h s (end_of new) bytes)
+      (sym same.disk) (subst (λ (n : ℕ). (bytes : Text) → g.contents (disk_of old) ≡ Some bytes
+      → IsDurableAs h s n bytes) (sym same.end) keeps),
+  ap (λ (d : D). option_map (durable_of (end_of new)) (g.contents d)) same.disk
+      ∙ ap (λ (n : ℕ). option_map (durable_of n) (g.contents (disk_of old))) same.end,
 )
 
 module _ {D : Type 0} {g : Ghosts D} where
@@ -77,37 +77,37 @@ module _ {D : Type 0} {g : Ghosts D} where
       : Type 0 where
     pub leaves : AppendLeaves body old new result
     pub broken : IsErrOf result Broken ↔ IsTrue (is_broken old)
-    pub told : is_some (records new) ≡ is_some (records old)
+    pub contents : is_some (records new) ≡ is_some (records old)
     pub count : g.faults (disk_of old) ≤ g.faults (disk_of new)
     pub as_read : is_broken old ≡ false → IfSome (records old) (λ list.
-        IfSome (g.told (disk_of new)) (StandsForEither list body))
+        IfSome (g.contents (disk_of new)) (RepresentsEither list body))
     pub any_moment : is_broken old ≡ false → IfSome (records old) (λ list.
-        LeavesOnly g (disk_of old) (disk_of new) (StandsForEither list body))
+        LeavesOnly g (disk_of old) (disk_of new) (RepresentsEither list body))
     pub afterwards : is_broken old ≡ false → IfSome (records old) (λ list.
-        (c : Text) → g.may_leave (disk_of new) c → StandsForEither list body c)
+        (c : Text) → g.may_leave (disk_of new) c → RepresentsEither list body c)
 
   -- at any moment of it, and behind it, of the settled records
   moments : (old new : Journal D g) (body : Text) (result : Result (Unit {0}) AppendError)
-      → Appended old new body result → is_broken old ≡ false → IfSome (settled_records old) (λ list.
-      LeavesOnly g (disk_of old) (disk_of new) (StandsForEither list body))
+      → Appended old new body result → is_broken old ≡ false → IfSome (durable_records old) (λ list.
+      LeavesOnly g (disk_of old) (disk_of new) (RepresentsEither list body))
   moments old new body result did sound =
-      of_sound old (λ list. LeavesOnly g (disk_of old) (disk_of new) (StandsForEither list body))
+      of_sound old (λ list. LeavesOnly g (disk_of old) (disk_of new) (RepresentsEither list body))
       sound (did.any_moment sound)
 
   behind_it : (old new : Journal D g) (body : Text) (result : Result (Unit {0}) AppendError)
-      → Appended old new body result → is_broken old ≡ false → IfSome (settled_records old) (λ list.
-      (c : Text) → g.may_leave (disk_of new) c → StandsForEither list body c)
+      → Appended old new body result → is_broken old ≡ false → IfSome (durable_records old) (λ list.
+      (c : Text) → g.may_leave (disk_of new) c → RepresentsEither list body c)
   behind_it old new body result did sound =
       of_sound old (λ list. (c : Text) → g.may_leave (disk_of new) c
-      → StandsForEither list body c) sound (did.afterwards sound)
+      → RepresentsEither list body c) sound (did.afterwards sound)
 
   -- the settled records, where nothing was appended
   pub stay_kept : (h : HashFunction) (s : CosignerState) (old new : Journal D g) (body : Text)
       (why : AppendError) → Appended old new body (Err why) → Keeps h s old
-      → Keeps h s new × (settled_records new ≡ settled_records old)
+      → Keeps h s new × (durable_records new ≡ durable_records old)
   stay_kept h s old new body Failed did keeps =
       let sound = was_sound (is_broken old) did.broken.1 in
-      failed_keeps h s old new body sound did.leaves.end (did.as_read sound) did.told keeps
+      failed_keeps h s old new body sound did.leaves.end (did.as_read sound) did.contents keeps
   stay_kept h s old new body Broken did keeps = unmoved h s old new did.leaves keeps
   stay_kept h s old new body Full did keeps = unmoved h s old new did.leaves keeps
 
@@ -143,10 +143,10 @@ module _ {H D : Type 0} {hashes : Hashes H} {g : Ghosts D} where
         kept = tt;
         count = omega arith;
         any_moment = λ sound. of_sound it.journal (λ list. LeavesOnly g (cosigner_disk it)
-            (cosigner_disk it) (StandsForEither list body)) sound (untouched_moment g
+            (cosigner_disk it) (RepresentsEither list body)) sound (untouched_moment g
             (cosigner_disk it) (cosigner_end it) body (it.journal.settled sound) only_now);
         afterwards = λ sound. of_sound it.journal (λ list. (c : Text)
-            → g.may_leave (cosigner_disk it) c → StandsForEither list body c) sound
+            → g.may_leave (cosigner_disk it) c → RepresentsEither list body c) sound
             (untouched_after g (cosigner_disk it) (cosigner_end it) body
             (it.journal.settled sound));
       })
@@ -155,7 +155,7 @@ module _ {H D : Type 0} {hashes : Hashes H} {g : Ghosts D} where
   abbrev Grows : Text → CosignerState → Cosigner H D hashes g → Journal D g → CosignerState
       → Result (Unit {0}) CosignError → Type 0
   Grows body next old new now result = OwnerAppends g of_cosigner_journal body next
-      (cosigner_owner old) (owner_over new (settled_records new) now) result
+      (cosigner_owner old) (owner_over new (durable_records new) now) result
 
   grown_by : (old : Cosigner H D hashes g) (new : Journal D g) (now : CosignerState) (body : Text)
       (next : CosignerState)
@@ -172,8 +172,8 @@ module _ {H D : Type 0} {hashes : Hashes H} {g : Ghosts D} where
           sound = did.leaves.sound;
           fine = did.leaves.fine;
         };
-        kept = of_sound old.journal (λ list. AllStandFor g (disk_of new) (list ++ body ∷ []))
-            did.leaves.was_sound (all_kept g (disk_of new) (g.told (disk_of new))
+        kept = of_sound old.journal (λ list. AllRepresent g (disk_of new) (list ++ body ∷ []))
+            did.leaves.was_sound (all_kept g (disk_of new) (g.contents (disk_of new))
             (records old.journal) body body did.leaves.records refl did.leaves.all);
         count = did.count;
         any_moment = moments old.journal new body (Ok tt) did;
@@ -193,7 +193,7 @@ module _ {H D : Type 0} {hashes : Hashes H} {g : Ghosts D} where
       → Appended old.journal new body (Err why) → now ≡ cosigner_state old
       → Grows body next old new now (Err (Append why))
   unappended old new now body next why did same = record {
-    leaves = refused_by old.journal new body (cosigner_records old) (settled_records new)
+    leaves = refused_by old.journal new body (cosigner_records old) (durable_records new)
         (cosigner_state old) now same why did.leaves did.broken;
     kept = tt;
     count = did.count;
@@ -244,8 +244,8 @@ keeps_second first second result is keeps =
 
 -- what the journal refuses
 keeps_why : (broken : Bool) (end : ℕ) (body : Text) (why : AppendError)
-    → (IsErrOf (told why) Broken ↔ IsTrue broken)
-    → (IsErrOf (told why) Full
+    → (IsErrOf (contents why) Broken ↔ IsTrue broken)
+    → (IsErrOf (contents why) Full
     ↔ (broken ≡ false) × (most_bytes < end + 5 + length body))
     → CosignKeepsTo (journal_refusal broken end body) (Err (Append why))
 keeps_why true end body Broken by_broken by_full = refl
@@ -255,22 +255,22 @@ keeps_why broken end body Full by_broken by_full =
     let full = by_full.0 refl in
     rw (full.0, lt-ltb most_bytes (end + 5 + length body) full.1) refl
 keeps_why true end body Failed by_broken by_full =
-    let wrong : told Failed ≡ told Broken = by_broken.1 refl in cc
+    let wrong : contents Failed ≡ contents Broken = by_broken.1 refl in cc
 keeps_why false end body Failed by_broken by_full =
-    room (nat_lt most_bytes (end + 5 + length body)) refl
+    capacity (nat_lt most_bytes (end + 5 + length body)) refl
   where
-    room : (b : Bool) → nat_lt most_bytes (end + 5 + length body) ≡ b
+    capacity : (b : Bool) → nat_lt most_bytes (end + 5 + length body) ≡ b
         → (if b then Some (Append Full) else None) ≡ None
-    room true is =
-        let wrong : told Failed ≡ told Full =
+    capacity true is =
+        let wrong : contents Failed ≡ contents Full =
         by_full.1 (refl, ltb-true most_bytes (end + 5 + length body) is) in cc
-    room false is = refl
+    capacity false is = refl
 
 pub keeps_append : (broken : Bool) (end : ℕ) (written body : Text)
     (result : Result (Unit {0}) CosignError) (why : AppendError)
     → IsErrAnd result (λ e. e ≡ Append why) → written ≡ body
-    → (IsErrOf (told why) Broken ↔ IsTrue broken)
-    → (IsErrOf (told why) Full
+    → (IsErrOf (contents why) Broken ↔ IsTrue broken)
+    → (IsErrOf (contents why) Full
     ↔ (broken ≡ false) × (most_bytes < end + 5 + length written))
     → CosignKeepsTo (journal_refusal broken end body) result
 keeps_append broken end written body result why is same by_broken by_full =
@@ -283,13 +283,13 @@ pub keeps_ok : (broken : Bool) (end : ℕ) (body : Text)
     → (IsErrOf done Full ↔ (broken ≡ false) × (most_bytes < end + 5 + length body))
     → CosignKeepsTo (journal_refusal broken end body) (Ok tt)
 keeps_ok true end body by_broken by_full =
-    let wrong : done ≡ told Broken = by_broken.1 refl in cc
+    let wrong : done ≡ contents Broken = by_broken.1 refl in cc
 keeps_ok false end body by_broken by_full =
-    room (nat_lt most_bytes (end + 5 + length body)) refl
+    capacity (nat_lt most_bytes (end + 5 + length body)) refl
   where
-    room : (b : Bool) → nat_lt most_bytes (end + 5 + length body) ≡ b
+    capacity : (b : Bool) → nat_lt most_bytes (end + 5 + length body) ≡ b
         → (if b then Some (Append Full) else None) ≡ None
-    room true is =
-        let wrong : done ≡ told Full =
+    capacity true is =
+        let wrong : done ≡ contents Full =
         by_full.1 (refl, ltb-true most_bytes (end + 5 + length body) is) in cc
-    room false is = refl
+    capacity false is = refl

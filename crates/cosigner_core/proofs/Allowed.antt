@@ -5,9 +5,9 @@ use Rattle.std.proofs.Common.{◌∙◌, subst}
 use Rattle.std.specs.Prelude.{if◌then◌else◌}
 use Rattle.std.proofs.lemmas.Bool.{eq-eqb, leb-false, lt-ltb, not-false}
 use Rattle.std.specs.Str.{bytes_eq}
-use Rattle.byte_forms.specs.Types.{HashFunction, Text}
+use Rattle.byte_formats.specs.Types.{HashFunction, Text}
 use Rattle.tree_core.specs.Subtree.{is_subtree}
-use Rattle.cosigner_core.specs.Checkpoints.{has_subtree, is_front_of}
+use Rattle.cosigner_core.specs.Checkpoints.{has_subtree, is_prefix_of}
 use Rattle.cosigner_core.specs.Folds.{CosignerState, after_step, cosigner_of, having_signed}
 use Rattle.cosigner_core.specs.Folds.{holding}
 use Rattle.cosigner_core.specs.Folds.{key_count}
@@ -18,7 +18,7 @@ use Rattle.cosigner_core.specs.Refusals.{advance_refusal, earlier, journal_refus
 use Rattle.cosigner_core.specs.Refusals.{subtree_refusal}
 use Rattle.cosigner_core.specs.Requests.{AdvanceParts, SubtreeParts}
 use Rattle.cosigner_core.specs.declared.error.CosignError.{CosignError}
-use Rattle.cosigner_core.proofs.Spelled.{step_added}
+use Rattle.cosigner_core.proofs.Encoded.{step_added}
 
 passed : (b : Bool) (why : CosignError) (o : Option CosignError)
     → (if b then Some why else o) ≡ None → (b ≡ false) × (o ≡ None)
@@ -32,10 +32,10 @@ unfolding advance_refusal
 advance_allowed h s r is =
     let named = passed (not (bytes_eq r.log s.log)) _ _ is in
     let newer = passed (nat_le r.size s.held.size) _ _ named.1 in
-    let shown = passed (not (is_front_of h s.held r.size r.root r.proof)) _ _ newer.1 in
+    let shown = passed (not (is_prefix_of h s.held r.size r.root r.proof)) _ _ newer.1 in
     rw (
       lt-ltb s.held.size r.size (leb-false r.size s.held.size newer.0),
-      not-false (is_front_of h s.held r.size r.root r.proof) shown.0,
+      not-false (is_prefix_of h s.held r.size r.root r.proof) shown.0,
     ) refl
 
 pub sign_allowed : (h : HashFunction) (s : CosignerState) (r : SubtreeParts)

@@ -3,13 +3,13 @@ use Rattle.std.proofs.Common.{◌≡◌, ℕ, zero, suc, ◌+◌, ◌^◌, ◌<�
 use Rattle.std.proofs.Common.{List, [], ◌∷◌, length, slice_get, Option, Some, None, Ok}
 use Rattle.std.proofs.Common.{option_map, option_and_then, sym, ap, ◌∙◌, subst, arith}
 use Rattle.std.proofs.lemmas.Bool.{and_parts, eqb-true, ltb-true}
-use Rattle.byte_forms.specs.Types.{HashFunction, Text}
-use Rattle.byte_forms.specs.Readings.{some_or}
-use Rattle.byte_forms.proofs.Steps.{bind_ok, ok_is, some_or_ok}
+use Rattle.byte_formats.specs.Types.{HashFunction, Text}
+use Rattle.byte_formats.specs.Readings.{some_or}
+use Rattle.byte_formats.proofs.Steps.{bind_ok, ok_is, some_or_ok}
 use Rattle.hss_core.specs.Counted.{Counted}
 use Rattle.journal_core.specs.Folds.{state_behind, taken_from}
 use Rattle.lms_core.specs.Heights.{height}
-use Rattle.cosigner_core.specs.Checkpoints.{has_subtree, is_front_of}
+use Rattle.cosigner_core.specs.Checkpoints.{has_subtree, is_prefix_of}
 use Rattle.cosigner_core.specs.Counts.{CountsUp, index_before, indices_in, indices_of}
 use Rattle.cosigner_core.specs.Folds.{CosignerState, after_step, begun_cosigner, cosigner_fold}
 use Rattle.cosigner_core.specs.Folds.{cosigner_of}
@@ -54,7 +54,7 @@ counts_step : (h : HashFunction) (s u t : CosignerState) (said : Option Step) (i
     → CountsFrom s (index_before said indices) t
 counts_step h s u t None indices is counts = let wrong : None ≡ Some u = is in cc
 counts_step h s u t (Some (Advance size root proof)) indices is counts =
-    let made = when_some (nat_lt s.held.size size && is_front_of h s.held size root proof)
+    let made = when_some (nat_lt s.held.size size && is_prefix_of h s.held size root proof)
     (Some (holding size root s)) u is in
     let same = some_value (holding size root s) u made.1 in
     held_on s u t indices (sym (ap (λ (v : CosignerState). v.key) same)) counts

@@ -7,12 +7,12 @@ use Rattle.std.specs.Int.{w8, w16, w32, to_be_bytes}
 use Rattle.std.specs.List.{AllByRecursion}
 use Rattle.std.proofs.lemmas.Bool.{le-leb}
 use Rattle.std.proofs.lemmas.List.{length-append, length-take-le}
-use Rattle.byte_forms.specs.Types.{HashFunction, Text}
-use Rattle.byte_forms.specs.Places.{At, IsBytes, at}
-use Rattle.byte_forms.specs.Readings.{some_or}
-use Rattle.byte_forms.proofs.Steps.{IsBytes-drop, IsBytes-take, bind_ok, ok_is, some_or_ok}
+use Rattle.byte_formats.specs.Types.{HashFunction, Text}
+use Rattle.byte_formats.specs.Places.{At, IsBytes, at}
+use Rattle.byte_formats.specs.Readings.{some_or}
+use Rattle.byte_formats.proofs.Steps.{IsBytes-drop, IsBytes-take, bind_ok, ok_is, some_or_ok}
 use Rattle.journal_core.specs.Folds.{state_behind, taken_from}
-use Rattle.journal_core.specs.Format.{AreRecordsAt, IsRecordAt, StandsFor}
+use Rattle.journal_core.specs.Format.{AreRecordsAt, IsRecordAt, Represents}
 use Rattle.lmots_core.specs.Strings.{u32_at}
 use Rattle.lms_core.specs.Heights.{height}
 use Rattle.lms_core.specs.Trees.{lms_public}
@@ -20,14 +20,14 @@ use Rattle.lms_core.specs.declared.private_key.PrivateKey.{PrivateKey}
 use Rattle.lms_core.proofs.Verifies.{key_types-lms_public, length-lms_public}
 use Rattle.hss_core.specs.Hss.{hss_key_types, one_level_public}
 use Rattle.tls_wire.specs.Arcs.{IsAnchorId}
-use Rattle.tls_wire.specs.Spelling.{vector}
+use Rattle.tls_wire.specs.Encoding.{vector}
 use Rattle.tls_wire.proofs.AnchorForm.{anchor_again}
 use Rattle.tls_wire.proofs.Numbers.{wide8, wide16, wide32}
 use Rattle.tls_wire.proofs.Vectors.{vector_form}
-use Rattle.cosigner_core.specs.ExportReading.{all_exported_at, export_front_at, export_id_at}
+use Rattle.cosigner_core.specs.ExportReading.{all_exported_at, export_prefix_at, export_id_at}
 use Rattle.cosigner_core.specs.ExportReading.{export_in, export_key_at, export_of, exported_at}
 use Rattle.cosigner_core.specs.ExportReading.{export_progress, signing_keys, steps_left}
-use Rattle.cosigner_core.specs.Exports.{export_text, front_text, records_text}
+use Rattle.cosigner_core.specs.Exports.{export_text, prefix_text, records_text}
 use Rattle.cosigner_core.specs.Folds.{CosignerState, after_step, begun_cosigner, cosigner_fold}
 use Rattle.cosigner_core.specs.Folds.{cosigner_of}
 use Rattle.cosigner_core.specs.Folds.{key_count, new_cosigner, next_state, progress_of}
@@ -167,13 +167,13 @@ key_again place keys key rest short is =
     let one = (vector_form w16 (2 ^ 16) wide16).again key place rest short tt in
     rw (one, is) refl
 
-pub front_again : (id log key rest : Text) (keys : ℕ) → IsAnchorId id → IsAnchorId log
+pub prefix_again : (id log key rest : Text) (keys : ℕ) → IsAnchorId id → IsAnchorId log
     → length key < 2 ^ 16 → signing_keys key ≡ Some keys
-    → (place : ℕ) × (export_front_at (at (front_text id log key ++ rest) 0)
+    → (place : ℕ) × (export_prefix_at (at (prefix_text id log key ++ rest) 0)
     ≡ Ok ((id, (log, (key, keys))), record { place = place; rest = rest }))
-unfolding export_front_at
-front_again id log key rest keys fits other short is =
-    let grouped : front_text id log key ++ rest
+unfolding export_prefix_at
+prefix_again id log key rest keys fits other short is =
+    let grouped : prefix_text id log key ++ rest
     ≡ vector w8 id ++ (vector w8 log ++ (vector w16 key ++ rest)) =
     append_assoc (vector w8 id) (vector w8 log ++ vector w16 key) rest
     ∙ ap (λ (t : Text). vector w8 id ++ t) (append_assoc (vector w8 log) (vector w16 key) rest) in
@@ -182,7 +182,7 @@ front_again id log key rest keys fits other short is =
     let three = key_again (0 + length (vector w8 id) + length (vector w8 log)) keys key rest short
     is in (
       0 + length (vector w8 id) + length (vector w8 log) + length (vector w16 key),
-      ap (λ (t : Text). export_front_at (record { place = 0; rest = t })) grouped
+      ap (λ (t : Text). export_prefix_at (record { place = 0; rest = t })) grouped
           ∙ rw (one, two, three) refl,
     )
 
@@ -219,7 +219,7 @@ read_whole : (h : HashFunction) (s u : CosignerState) (bodies : List Text)
     → progress_of u ≡ first_progress h → taken_from (cosigner_fold h) 1 u bodies ≡ Ok s
     → ((place : ℕ) → IsAgain h u s bodies (length (records_text bodies)) 1 place)
     → (steps : List Step) × (steps_in bodies ≡ Some steps)
-    × (export_in h (front_text s.id s.log (one_level_public s.key.key) ++ records_text bodies)
+    × (export_in h (prefix_text s.id s.log (one_level_public s.key.key) ++ records_text bodies)
     ≡ Ok (Some (export_of s steps)))
     × (export_progress h (export_of s steps) ≡ Some (progress_of s))
 unfolding export_in steps_left
@@ -236,21 +236,21 @@ read_whole h s u bodies id log size small begins taken again =
     ap (λ (k : PrivateKey). length (one_level_public k)) there.key ∙ public_size u.key.key size in
     omega arith in
     let text : Text = records_text bodies in
-    let front = front_again s.id s.log public text (key_count u) own other short keys in
-    let here = again front.0 in
+    let prefix = prefix_again s.id s.log public text (key_count u) own other short keys in
+    let here = again prefix.0 in
     let read : all_exported_at h (key_count u) (length text) 1 (first_progress h)
-    (record { place = front.0; rest = text }) ≡ Ok (here.steps, here.end) =
+    (record { place = prefix.0; rest = text }) ≡ Ok (here.steps, here.end) =
     ap (λ (p : Progress). all_exported_at h (key_count u) (length text) 1 p
-    (record { place = front.0; rest = text })) (sym begins) ∙ here.read in
-    let long : length (front_text s.id s.log public ++ text) ≢ 0 = omega (
+    (record { place = prefix.0; rest = text })) (sym begins) ∙ here.read in
+    let long : length (prefix_text s.id s.log public ++ text) ≢ 0 = omega (
       arith,
-      length-append (front_text s.id s.log public) text,
+      length-append (prefix_text s.id s.log public) text,
       length-append (vector w8 s.id) (vector w8 s.log ++ vector w16 public),
       length-append (to_be_bytes w8 (length s.id)) s.id,
     ) in (
       here.steps,
       here.said,
-      rw (ne_eqb (length (front_text s.id s.log public ++ text)) 0 long, front.1, read) refl,
+      rw (ne_eqb (length (prefix_text s.id s.log public ++ text)) 0 long, prefix.1, read) refl,
       ap (option_and_then (λ (n : ℕ). progress_by h n (first_progress h) here.steps)) keys
           ∙ ap (λ (p : Progress). progress_by h (key_count u) p here.steps) (sym begins)
           ∙ sym (ap (option_and_then (progress_by h (key_count u) (progress_of u))) here.said)
@@ -258,7 +258,7 @@ read_whole h s u bodies id log size small begins taken again =
     )
 
 pub export_again : (h : HashFunction) (bytes : Text) (list : List Text) (s : CosignerState)
-    → IsBytes bytes → StandsFor bytes list → cosigner_of h list ≡ Ok s
+    → IsBytes bytes → Represents bytes list → cosigner_of h list ≡ Ok s
     → (steps : List Step) × (steps_in (drop 1 list) ≡ Some steps)
     × (export_in h (export_text s list) ≡ Ok (Some (export_of s steps)))
     × (export_progress h (export_of s steps) ≡ Some (progress_of s))
@@ -274,7 +274,7 @@ export_again h bytes (first ∷ bodies) s are stands is =
         → option_map (λ x. new_cosigner h x.0 x.1) o ≡ Some u
         → taken_from (cosigner_fold h) 1 u bodies ≡ Ok s
         → (steps : List Step) × (steps_in bodies ≡ Some steps)
-        × (export_in h (front_text s.id s.log (one_level_public s.key.key) ++ records_text bodies)
+        × (export_in h (prefix_text s.id s.log (one_level_public s.key.key) ++ records_text bodies)
         ≡ Ok (Some (export_of s steps)))
         × (export_progress h (export_of s steps) ≡ Some (progress_of s))
     go None was u made rest = let wrong : None ≡ Some u = made in absurd cc

@@ -7,26 +7,27 @@ use Rattle.std.specs.Int.{w8, w16, w32}
 use Rattle.std.specs.List.{AllByRecursion}
 use Rattle.std.proofs.lemmas.Bool.{eqb-true}
 use Rattle.std.proofs.lemmas.List.{length-append, nil_from_length}
-use Rattle.byte_forms.specs.Types.{HashFunction, Text}
-use Rattle.byte_forms.specs.Forms.{Stands}
-use Rattle.byte_forms.specs.Places.{At, IsBytes, at}
-use Rattle.byte_forms.specs.Readings.{◌>>=◌, blamed, both_at, lifted, some_or}
-use Rattle.byte_forms.proofs.Steps.{IsBytes-back, IsBytes-front, Stands-none, Stands-then, bind_ok}
-use Rattle.byte_forms.proofs.Steps.{blamed_ok, chosen, lifted_ok, ok_is, some_or_ok}
+use Rattle.byte_formats.specs.Types.{HashFunction, Text}
+use Rattle.byte_formats.specs.Forms.{Stands}
+use Rattle.byte_formats.specs.Places.{At, IsBytes, at}
+use Rattle.byte_formats.specs.Readings.{◌>>=◌, blamed, both_at, lifted, some_or}
+use Rattle.byte_formats.proofs.Steps.{IsBytes-back, IsBytes-prefix, Stands-none, Stands-then}
+use Rattle.byte_formats.proofs.Steps.{bind_ok}
+use Rattle.byte_formats.proofs.Steps.{blamed_ok, chosen, lifted_ok, ok_is, some_or_ok}
 use Rattle.tls_wire.specs.Anchors.{anchor_of}
 use Rattle.tls_wire.specs.Arcs.{IsAnchorId}
 use Rattle.tls_wire.specs.Reading.{vector_at}
-use Rattle.tls_wire.specs.Spelling.{number, vector}
+use Rattle.tls_wire.specs.Encoding.{number, vector}
 use Rattle.tls_wire.proofs.AnchorForm.{anchor_takes}
 use Rattle.tls_wire.proofs.Numbers.{wide8, wide16, wide32}
 use Rattle.tls_wire.proofs.Vectors.{vector_form}
 use Rattle.cosigner_core.specs.ExportReading.{IsExport, all_exported_at, allowed_step}
-use Rattle.cosigner_core.specs.ExportReading.{export_front_at}
+use Rattle.cosigner_core.specs.ExportReading.{export_prefix_at}
 use Rattle.cosigner_core.specs.ExportReading.{export_id_at, export_in, export_key_at, export_with}
 use Rattle.cosigner_core.specs.ExportReading.{exported_at, exported_text, short_export}
 use Rattle.cosigner_core.specs.ExportReading.{signing_keys}
 use Rattle.cosigner_core.specs.ExportReading.{steps_left}
-use Rattle.cosigner_core.specs.Exports.{front_text, records_text}
+use Rattle.cosigner_core.specs.Exports.{prefix_text, records_text}
 use Rattle.cosigner_core.specs.Progress.{first_progress, is_allowed, progress_by, with_step}
 use Rattle.cosigner_core.specs.Records.{FitsStep, step_in, step_record}
 use Rattle.cosigner_core.specs.declared.error.ReadExportError.{ReadExportError}
@@ -34,14 +35,14 @@ use Rattle.cosigner_core.specs.declared.error.ReadExportError.TheVariants.{BadId
 use Rattle.cosigner_core.specs.declared.lists.Export.{Export}
 use Rattle.cosigner_core.specs.declared.progress.Progress.{Progress}
 use Rattle.cosigner_core.specs.declared.step.Step.{Step}
-use Rattle.cosigner_core.proofs.Spelled.{step_takes}
+use Rattle.cosigner_core.proofs.Encoded.{step_takes}
 use Rattle.cosigner_core.proofs.Tagged.{some_value, when_some}
 
 -- the bytes of a vector that stands somewhere are bytes
 vector_bytes : (a : At) (size bytes : Text) (b : At) → IsBytes a.rest
     → Stands a (size ++ bytes) b → IsBytes bytes
 vector_bytes a size bytes b are stands =
-    IsBytes-back size bytes (IsBytes-front (size ++ bytes) b.rest (subst IsBytes stands.parts are))
+    IsBytes-back size bytes (IsBytes-prefix (size ++ bytes) b.rest (subst IsBytes stands.parts are))
 
 -- ---- one record
 
@@ -177,19 +178,19 @@ key_takes a x are e =
     (ok_is ReadExportError ((s.0.0, t.0), s.0.1) x t.2)
     (stands.0, some_or_ok BadKey (signing_keys s.0.0) t.0 t.1)
 
-abbrev Front : Type 0
-Front = Text × (Text × (Text × ℕ))
+abbrev Prefix : Type 0
+Prefix = Text × (Text × (Text × ℕ))
 
-record TakesFront (a : At) (x : Front × At) : Type 0 where
-  pub stands : Stands a (front_text x.0.0 x.0.1.0 x.0.1.1.0) x.1
+record TakesPrefix (a : At) (x : Prefix × At) : Type 0 where
+  pub stands : Stands a (prefix_text x.0.0 x.0.1.0 x.0.1.1.0) x.1
   pub cosigner : IsAnchorId x.0.0
   pub log : IsAnchorId x.0.1.0
   pub keys : signing_keys x.0.1.1.0 ≡ Some x.0.1.1.1
 
-front_takes : (a : At) (x : Front × At) → IsBytes a.rest → export_front_at a ≡ Ok x
-    → TakesFront a x
-unfolding export_front_at
-front_takes a x are e =
+prefix_takes : (a : At) (x : Prefix × At) → IsBytes a.rest → export_prefix_at a ≡ Ok x
+    → TakesPrefix a x
+unfolding export_prefix_at
+prefix_takes a x are e =
     let s = bind_ok (export_id_at a) (λ (y : Text × At). both_at export_id_at export_key_at y.1
     >>= λ (z : (Text × (Text × ℕ)) × At). Ok ((y.0, z.0), z.1)) x e in
     let t = bind_ok (both_at export_id_at export_key_at s.0.1)
@@ -201,7 +202,7 @@ front_takes a x are e =
     let one = id_takes a s.0 are s.1 in
     let two = id_takes s.0.1 u.0 one.0.bytes u.1 in
     let three = key_takes u.0.1 w.0 two.0.bytes w.1 in
-    let made : TakesFront a ((s.0.0, (u.0.0, w.0.0)), w.0.1) = record {
+    let made : TakesPrefix a ((s.0.0, (u.0.0, w.0.0)), w.0.1) = record {
       stands = Stands-then a (vector w8 s.0.0) s.0.1 (vector w8 u.0.0 ++ vector w16 w.0.0.0) w.0.1
           one.0 (Stands-then s.0.1 (vector w8 u.0.0) u.0.1 (vector w16 w.0.0.0) w.0.1 two.0
           three.0);
@@ -209,8 +210,8 @@ front_takes a x are e =
       log = two.1;
       keys = three.1;
     } in
-    subst (TakesFront a) (ok_is ReadExportError ((s.0.0, t.0.0), t.0.1) x t.2)
-    (subst (λ (z : (Text × (Text × ℕ)) × At). TakesFront a ((s.0.0, z.0), z.1))
+    subst (TakesPrefix a) (ok_is ReadExportError ((s.0.0, t.0.0), t.0.1) x t.2)
+    (subst (λ (z : (Text × (Text × ℕ)) × At). TakesPrefix a ((s.0.0, z.0), z.1))
     (ok_is ReadExportError ((u.0.0, w.0.0), w.0.1) t.0 w.2) made)
 
 -- ---- the whole
@@ -220,34 +221,34 @@ pub export_takes : (h : HashFunction) (bytes : Text) (e : Export) → IsBytes by
 unfolding export_in steps_left
 export_takes h bytes e are is =
     let more : Result (Option Export) ReadExportError =
-    export_front_at (at bytes 0)
-    >>= λ (x : Front × At). steps_left h x.0.1.1.1 x.1
+    export_prefix_at (at bytes 0)
+    >>= λ (x : Prefix × At). steps_left h x.0.1.1.1 x.1
     >>= λ (steps : List Step). Ok (Some (export_with x.0 steps)) in
     elim (chosen (length bytes == 0) (Ok None) more (Ok (Some e)) is) [
       | inl c ↦ let wrong : None ≡ Some e = ok_is ReadExportError None (Some e) c.1 in absurd cc
       | inr c ↦
-          let s = bind_ok (export_front_at (at bytes 0)) (λ (x : Front
+          let s = bind_ok (export_prefix_at (at bytes 0)) (λ (x : Prefix
           × At). steps_left h x.0.1.1.1 x.1
           >>= λ (steps : List Step). Ok (Some (export_with x.0 steps))) (Some e) c.1 in
           let t = bind_ok (steps_left h s.0.0.1.1.1 s.0.1)
           (λ (steps : List Step). Ok (Some (export_with s.0.0 steps))) (Some e) s.2 in
           let v = bind_ok (all_exported_at h s.0.0.1.1.1 (length s.0.1.rest) 1 (first_progress h)
           s.0.1) (λ (xs : List Step × At). Ok xs.0) t.0 t.1 in
-          let front = front_takes (at bytes 0) s.0 are s.1 in
+          let prefix = prefix_takes (at bytes 0) s.0 are s.1 in
           let steps = steps_take h s.0.0.1.1.1 (length s.0.1.rest) 1 (first_progress h) s.0.1 v.0
-          front.stands.bytes (omega arith) v.1 in
+          prefix.stands.bytes (omega arith) v.1 in
           let text : bytes ≡ exported_text (export_with s.0.0 v.0.0) =
-          front.stands.parts
-          ∙ ap (λ (rest : Text). front_text s.0.0.0 s.0.0.1.0 s.0.0.1.1.0 ++ rest)
+          prefix.stands.parts
+          ∙ ap (λ (rest : Text). prefix_text s.0.0.0 s.0.0.1.0 s.0.0.1.1.0 ++ rest)
           (steps.stands.parts
           ∙ ap (λ (rest : Text). records_text (map step_record v.0.0) ++ rest) steps.end
           ∙ append-nil (records_text (map step_record v.0.0))) in
           let made : IsExport h (export_with s.0.0 v.0.0) = record {
-            cosigner = front.cosigner;
-            log = front.log;
+            cosigner = prefix.cosigner;
+            log = prefix.log;
             fits = steps.fits;
             progress = steps.progress;
-            valid = rw front.keys steps.valid;
+            valid = rw prefix.keys steps.valid;
           } in
           let P : Export → Type 0 = λ f. (bytes ≡ exported_text f) × IsExport h f in
           subst P (some_value (export_with s.0.0 t.0) e

@@ -4,9 +4,9 @@ use Rattle.std.proofs.Common.{◌≡◌, ◌≢◌, ℕ, zero, suc, ◌+◌, ◌
 use Rattle.std.proofs.Common.{Result, Ok, Err, refl, sym, ap, ◌∙◌, subst, append-nil, append_assoc}
 use Rattle.std.proofs.Common.{arith, ne_eqb, eq-eqb}
 use Rattle.std.proofs.lemmas.List.{length-append}
-use Rattle.byte_forms.specs.Types.{HashFunction}
-use Rattle.byte_forms.specs.Places.{At}
-use Rattle.byte_forms.specs.Readings.{◌>>=◌}
+use Rattle.byte_formats.specs.Types.{HashFunction}
+use Rattle.byte_formats.specs.Places.{At}
+use Rattle.byte_formats.specs.Readings.{◌>>=◌}
 use Rattle.cosigner_core.specs.ExportReading.{all_exported_at, exported_at, steps_left}
 use Rattle.cosigner_core.specs.Progress.{first_progress, with_step}
 use Rattle.cosigner_core.specs.declared.error.ReadExportError.{ReadExportError}

@@ -7,24 +7,24 @@ use Rattle.std.specs.Int.{w8, w16, w32, w64, to_be_bytes}
 use Rattle.std.specs.List.{AllByRecursion, concat}
 use Rattle.std.proofs.lemmas.Bool.{and_parts, eqb-true}
 use Rattle.std.proofs.lemmas.List.{length-append}
-use Rattle.byte_forms.specs.Types.{Hash, HashFunction, Text}
-use Rattle.byte_forms.specs.Places.{At}
+use Rattle.byte_formats.specs.Types.{Hash, HashFunction, Text}
+use Rattle.byte_formats.specs.Places.{At}
 use Rattle.hss_core.specs.Hss.{hss_key_types, with_levels}
 use Rattle.lmots_core.specs.Strings.{u32_at}
 use Rattle.lms_core.specs.Refusals.{key_types}
-use Rattle.tls_wire.specs.Spelling.{hashes, number, vector}
+use Rattle.tls_wire.specs.Encoding.{hashes, number, vector}
 use Rattle.cosigner_core.specs.ExportReading.{IsExport, all_exported_at, export_in, exported_text}
 use Rattle.cosigner_core.specs.ExportReading.{keys_of_types, signing_keys, steps_left}
-use Rattle.cosigner_core.specs.Exports.{front_text, records_text}
+use Rattle.cosigner_core.specs.Exports.{prefix_text, records_text}
 use Rattle.cosigner_core.specs.Progress.{first_progress, is_allowed, progress_by, with_step}
 use Rattle.cosigner_core.specs.Records.{FitsStep, advance_record, sign_record, step_record}
 use Rattle.cosigner_core.specs.declared.lists.Export.{Export}
 use Rattle.cosigner_core.specs.declared.progress.Progress.{Progress}
 use Rattle.cosigner_core.specs.declared.step.Step.{Step}
 use Rattle.cosigner_core.specs.declared.step.Step.TheVariants.{Advance, Sign}
-use Rattle.cosigner_core.proofs.ExportAgain.{exported_again, front_again}
+use Rattle.cosigner_core.proofs.ExportAgain.{exported_again, prefix_again}
 use Rattle.cosigner_core.proofs.FirstRecords.{then_some}
-use Rattle.cosigner_core.proofs.Spelled.{step_again}
+use Rattle.cosigner_core.proofs.Encoded.{step_again}
 use Rattle.cosigner_core.proofs.Tagged.{some_value, when_some}
 
 -- ---- lengths
@@ -164,14 +164,14 @@ export_written h e is =
     let text : Text = records_text (map step_record e.steps) in
     let sixty = key_size e.public keys made.1 in
     let short : length e.public < 2 ^ 16 = omega arith in
-    let front = front_again e.cosigner e.log e.public text keys is.cosigner is.log short made.1 in
-    let rest = steps_written h keys (length text) 1 front.0 (first_progress h) is.progress e.steps
+    let prefix = prefix_again e.cosigner e.log e.public text keys is.cosigner is.log short made.1 in
+    let rest = steps_written h keys (length text) 1 prefix.0 (first_progress h) is.progress e.steps
     is.fits made.2 (omega arith) in
-    let long : length (front_text e.cosigner e.log e.public ++ text) ≢ 0 = omega (
+    let long : length (prefix_text e.cosigner e.log e.public ++ text) ≢ 0 = omega (
       arith,
-      length-append (front_text e.cosigner e.log e.public) text,
+      length-append (prefix_text e.cosigner e.log e.public) text,
       length-append (vector w8 e.cosigner) (vector w8 e.log ++ vector w16 e.public),
       length-append (to_be_bytes w8 (length e.cosigner)) e.cosigner,
     ) in
-    rw (ne_eqb (length (front_text e.cosigner e.log e.public ++ text)) 0 long, front.1, rest.read)
+    rw (ne_eqb (length (prefix_text e.cosigner e.log e.public ++ text)) 0 long, prefix.1, rest.read)
     refl

@@ -3,22 +3,23 @@ use Rattle.std.proofs.Common.{◌≡◌, ℕ, ◌+◌, min, List, [], ◌∷◌,
 use Rattle.std.proofs.Common.{None, IfSome, option_map, Ok, Err, refl, ap, subst}
 use Rattle.std.specs.Io.KnownBytes.{Appends}
 use Rattle.std.proofs.KnownBytes.{Appends-trans}
-use Rattle.byte_forms.specs.Types.{HashFunction, Text}
-use Rattle.byte_forms.specs.Places.{IsBytes}
+use Rattle.byte_formats.specs.Types.{HashFunction, Text}
+use Rattle.byte_formats.specs.Places.{IsBytes}
 use Rattle.journal_core.specs.Copies.{sized, sized_text}
-use Rattle.journal_core.specs.Ends.{StandBetween, settled_of}
+use Rattle.journal_core.specs.Ends.{StandBetween, durable_of}
 use Rattle.journal_core.specs.Folds.{state_behind}
 use Rattle.journal_core.specs.Format.{AreRecordsAt, end_behind}
-use Rattle.journal_core.proofs.Copies.{behind_first, first_are_bytes, prefix_behind, prefix_front}
+use Rattle.journal_core.proofs.Copies.{behind_first, first_are_bytes, prefix_behind}
+use Rattle.journal_core.proofs.Copies.{prefix_of_prefix}
 use Rattle.mtc_io.specs.Streams.{AppendsPrefix}
 use Rattle.hss_core.specs.Hss.{one_level_public}
-use Rattle.cosigner_core.specs.Exports.{export_text, front_text, records_text}
+use Rattle.cosigner_core.specs.Exports.{export_text, prefix_text, records_text}
 use Rattle.cosigner_core.specs.Folds.{CosignerState, cosigner_of}
-use Rattle.cosigner_core.specs.SettledRecords.{IsSettledAs}
+use Rattle.cosigner_core.specs.DurableRecords.{IsDurableAs}
 use Rattle.cosigner_core.proofs.Names.{first-long}
 
-abbrev pub front_of : CosignerState → Text
-front_of s = front_text s.id s.log (one_level_public s.key.key)
+abbrev pub prefix_of : CosignerState → Text
+prefix_of s = prefix_text s.id s.log (one_level_public s.key.key)
 
 -- the records of an export are spelled as the copies of a journal's
 pub same_text : (bodies : List Text) → sized_text bodies ≡ records_text bodies
@@ -42,47 +43,50 @@ module _ (h : HashFunction) (s : CosignerState) (from end : ℕ) (is : IsFirstEn
       (first-long h first bodies s (first_are_bytes bytes first bodies are_bytes there) made))
 
 module _ (h : HashFunction) (s : CosignerState) (from end : ℕ) (is : IsFirstEnd s from end)
-    (told : Option Text) (a b c : Option (List ℕ))
-    (kept : (bytes : Text) → told ≡ Some bytes → IsSettledAs h s end bytes)
-    (are_bytes : (bytes : Text) → told ≡ Some bytes → IsBytes bytes)
-    (front : Appends a b (front_of s)) where
+    (contents : Option Text) (a b c : Option (List ℕ))
+    (kept : (bytes : Text) → contents ≡ Some bytes → IsDurableAs h s end bytes)
+    (are_bytes : (bytes : Text) → contents ≡ Some bytes → IsBytes bytes)
+    (prefix : Appends a b (prefix_of s)) where
   -- of the records that are copied to what is exported
   exported : (P : Text → Type 0) (Q : List Text → Type 0)
       → ((list : List Text) → P (records_text (drop 1 list)) → Q list)
-      → IfSome told (λ bytes. (bodies : List Text) → StandBetween bytes from end bodies
+      → IfSome contents (λ bytes. (bodies : List Text) → StandBetween bytes from end bodies
       → P (sized_text bodies))
-      → IfSome (option_map (settled_of end) told) Q
-  exported P Q then rest = go told kept are_bytes rest
+      → IfSome (option_map (durable_of end) contents) Q
+  exported P Q then rest = go contents kept are_bytes rest
     where
-      go : (o : Option Text) → ((bytes : Text) → o ≡ Some bytes → IsSettledAs h s end bytes)
+      go : (o : Option Text) → ((bytes : Text) → o ≡ Some bytes → IsDurableAs h s end bytes)
           → ((bytes : Text) → o ≡ Some bytes → IsBytes bytes)
           → IfSome o (λ bytes. (bodies : List Text) → StandBetween bytes from end bodies
           → P (sized_text bodies))
-          → IfSome (option_map (settled_of end) o) Q
+          → IfSome (option_map (durable_of end) o) Q
       go None keeps are copied = tt
       go (Some bytes) keeps are copied =
           let k = keeps bytes refl in
-          let list = settled_of end bytes in
+          let list = durable_of end bytes in
           let there = second h s from end is bytes list (are bytes refl) k.settled.there
           k.settled.last k.made in
           then list (subst P (same_text (drop 1 list)) (copied (drop 1 list) there))
 
-  pub export_whole : IfSome told (λ bytes. (bodies : List Text) → StandBetween bytes from end bodies
+  pub export_whole : IfSome contents
+      (λ bytes. (bodies : List Text) → StandBetween bytes from end bodies
       → Appends b c (sized_text bodies))
-      → IfSome (option_map (settled_of end) told) (λ list. Appends a c (export_text s list))
+      → IfSome (option_map (durable_of end) contents) (λ list. Appends a c (export_text s list))
   export_whole rest = exported (Appends b c) (λ list. Appends a c (export_text s list))
-      (λ list is. Appends-trans a b c (front_of s) (records_text (drop 1 list)) front is) rest
+      (λ list is. Appends-trans a b c (prefix_of s) (records_text (drop 1 list)) prefix is) rest
 
-  pub export_prefix : IfSome told (λ bytes. (bodies : List Text)
+  pub export_prefix : IfSome contents (λ bytes. (bodies : List Text)
       → StandBetween bytes from end bodies → AppendsPrefix b c (sized_text bodies))
-      → IfSome (option_map (settled_of end) told) (λ list. AppendsPrefix a c (export_text s list))
+      → IfSome (option_map (durable_of end) contents)
+      (λ list. AppendsPrefix a c (export_text s list))
   export_prefix rest = exported (AppendsPrefix b c)
       (λ list. AppendsPrefix a c (export_text s list))
-      (λ list is. prefix_behind a b c (front_of s) (records_text (drop 1 list)) front is) rest
+      (λ list is. prefix_behind a b c (prefix_of s) (records_text (drop 1 list)) prefix is) rest
 
 -- A prefix of what stands before the records.
-pub export_begun : (s : CosignerState) (told : Option (List Text)) (a b : Option (List ℕ))
-    → AppendsPrefix a b (front_of s)
-    → IfSome told (λ list. AppendsPrefix a b (export_text s list))
+pub export_begun : (s : CosignerState) (contents : Option (List Text)) (a b : Option (List ℕ))
+    → AppendsPrefix a b (prefix_of s)
+    → IfSome contents (λ list. AppendsPrefix a b (export_text s list))
 export_begun s None a b is = tt
-export_begun s (Some list) a b is = prefix_front a b (front_of s) (records_text (drop 1 list)) is
+export_begun s (Some list) a b is =
+    prefix_of_prefix a b (prefix_of s) (records_text (drop 1 list)) is

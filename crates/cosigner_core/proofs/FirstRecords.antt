@@ -5,11 +5,11 @@ use Rattle.std.proofs.Common.{ap, ◌∙◌, subst, arith}
 use Rattle.std.specs.Prelude.{if◌then◌else◌}
 use Rattle.std.specs.Int.{w8, w32}
 use Rattle.std.proofs.lemmas.Bool.{eqb-true}
-use Rattle.byte_forms.specs.Types.{Text}
-use Rattle.byte_forms.specs.Places.{At, at, IsBytes}
-use Rattle.byte_forms.specs.Forms.{both, itself}
-use Rattle.byte_forms.proofs.Steps.{IsBytes-back, IsBytes-front}
-use Rattle.byte_forms.specs.Readings.{whole_of}
+use Rattle.byte_formats.specs.Types.{Text}
+use Rattle.byte_formats.specs.Places.{At, at, IsBytes}
+use Rattle.byte_formats.specs.Forms.{both, itself}
+use Rattle.byte_formats.proofs.Steps.{IsBytes-back, IsBytes-prefix}
+use Rattle.byte_formats.specs.Readings.{whole_of}
 use Rattle.lmots_core.specs.Parameters.{type_of_code, typecode}
 use Rattle.lmots_core.specs.declared.parameters.OtsType.{OtsType}
 use Rattle.lmots_core.specs.declared.parameters.OtsType.TheVariants.{W1, W2, W4, W8}
@@ -18,7 +18,7 @@ use Rattle.lms_core.specs.declared.heights.LmsType.{LmsType}
 use Rattle.lms_core.specs.declared.heights.LmsType.TheVariants.{H5, H10}
 use Rattle.tls_wire.specs.Anchors.{anchor_of}
 use Rattle.tls_wire.specs.Reading.{number_at}
-use Rattle.tls_wire.specs.Spelling.{number, vector}
+use Rattle.tls_wire.specs.Encoding.{number, vector}
 use Rattle.tls_wire.specs.declared.cursor.Short.{Short}
 use Rattle.tls_wire.specs.declared.fault.AnchorBytesError.{AnchorBytesError}
 use Rattle.tls_wire.proofs.AnchorForm.{anchor_takes}
@@ -26,8 +26,8 @@ use Rattle.cosigner_core.specs.Records.{FitsCosigner, cosigner_at, cosigner_in, 
 use Rattle.cosigner_core.specs.Records.{first_by_tag, founded, cosigner_settings_with, signing_type}
 use Rattle.cosigner_core.specs.Records.{with_ids}
 use Rattle.cosigner_core.specs.declared.settings.CosignerSettings.{CosignerSettings}
-use Rattle.cosigner_core.proofs.Spelled.{CosignerFields, FitCosigner, cosigner_fields}
-use Rattle.cosigner_core.proofs.Spelled.{cosigner_form}
+use Rattle.cosigner_core.proofs.Encoded.{CosignerFields, FitCosigner, cosigner_fields}
+use Rattle.cosigner_core.proofs.Encoded.{cosigner_form}
 use Rattle.cosigner_core.proofs.Tagged.{some_value, tag_takes, when_some, whole_takes}
 
 pub then_some : {X Y : Type 0} (f : X → Option Y) (o : Option X) (y : Y)
@@ -135,7 +135,7 @@ pub cosigner_takes : (body : Text) (s : CosignerSettings) (secret : Text) → Is
 unfolding cosigner_in cosigner_record
 cosigner_takes body s secret bytes is = go (number_at w8 (at body 0)) refl is
   where
-    spelled : (a : At) (x : CosignerFields) → body ≡ number w8 0x11 ++ a.rest → IsBytes a.rest
+    encoded : (a : At) (x : CosignerFields) → body ≡ number w8 0x11 ++ a.rest → IsBytes a.rest
         → whole_of (cosigner_at a) ≡ Some x → founded x ≡ Some (s, secret)
         → (body ≡ number w8 0x11 ++ cosigner_fields (
           s.id,
@@ -147,16 +147,16 @@ cosigner_takes body s secret bytes is = go (number_at w8 (at body 0)) refl is
             ),
           ),
         )) × FitsCosigner s secret
-    spelled a x begins rest read is =
+    encoded a x begins rest read is =
         let took = whole_takes cosigner_fields FitCosigner cosigner_at cosigner_form a x
         rest read in
         let text : IsBytes (cosigner_fields x) = subst IsBytes took.0 rest in
         let later : IsBytes (both (vector w8) (both (number w32) (both (number w32) itself)) x.1) =
         IsBytes-back (vector w8 x.0)
         (both (vector w8) (both (number w32) (both (number w32) itself)) x.1) text in
-        let id = IsBytes-back (number w8 (length x.0)) x.0 (IsBytes-front (vector w8 x.0)
+        let id = IsBytes-back (number w8 (length x.0)) x.0 (IsBytes-prefix (vector w8 x.0)
         (both (vector w8) (both (number w32) (both (number w32) itself)) x.1) text) in
-        let log = IsBytes-back (number w8 (length x.1.0)) x.1.0 (IsBytes-front (vector w8 x.1.0)
+        let log = IsBytes-back (number w8 (length x.1.0)) x.1.0 (IsBytes-prefix (vector w8 x.1.0)
         (both (number w32) (both (number w32) itself) x.1.1) later) in
         let known = settings_of x s secret id log is in
         let last : x.1.1.1.1 ≡ secret = ap (λ (y : CosignerFields). y.1.1.1.1) known.fields in (
@@ -185,4 +185,4 @@ cosigner_takes body s secret bytes is = go (number_at w8 (at body 0)) refl is
         let read = then_some founded (whole_of (cosigner_at tag.1)) (s, secret) test.1 in
         let here : body ≡ number w8 0x11 ++ tag.1.rest =
         begins.0 ∙ ap (λ (n : ℕ). number w8 n ++ tag.1.rest) (eqb-true tag.0 0x11 test.0) in
-        spelled tag.1 read.0 here begins.1 read.1 read.2
+        encoded tag.1 read.0 here begins.1 read.1 read.2

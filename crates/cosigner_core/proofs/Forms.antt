@@ -4,14 +4,14 @@ use Rattle.std.proofs.Common.{sym, ap, subst, ◌∙◌, append-nil, eqb-true}
 use Rattle.std.specs.Prelude.{if◌then◌else◌, ◌==◌}
 use Rattle.std.specs.Int.{w8, w64}
 use Rattle.std.proofs.lemmas.List.{nil_from_length}
-use Rattle.byte_forms.specs.Types.{Hash, Text}
-use Rattle.byte_forms.specs.Places.{At, IsBytes, at, has_bytes}
-use Rattle.byte_forms.specs.Readings.{◌>>=◌, both_at, lifted_at, mapped_at}
-use Rattle.byte_forms.specs.Forms.{Anything, FitsBoth, IsForm, both, itself}
-use Rattle.byte_forms.proofs.Steps.{bind_ok, has_bytes-some, ok_is, pass_ok, some-has_bytes}
-use Rattle.byte_forms.proofs.Forms.{both_form, lifted_form, mapped_form, said_form, tested_form}
+use Rattle.byte_formats.specs.Types.{Hash, Text}
+use Rattle.byte_formats.specs.Places.{At, IsBytes, at, has_bytes}
+use Rattle.byte_formats.specs.Readings.{◌>>=◌, both_at, lifted_at, mapped_at}
+use Rattle.byte_formats.specs.Forms.{Anything, FitsBoth, IsForm, both, itself}
+use Rattle.byte_formats.proofs.Steps.{bind_ok, has_bytes-some, ok_is, pass_ok, some-has_bytes}
+use Rattle.byte_formats.proofs.Forms.{both_form, lifted_form, mapped_form, said_form, tested_form}
 use Rattle.tls_wire.specs.Reading.{bytes_at, hashes_at, number_at, vector_at}
-use Rattle.tls_wire.specs.Spelling.{AreHashes, hashes, number, vector}
+use Rattle.tls_wire.specs.Encoding.{AreHashes, hashes, number, vector}
 use Rattle.tls_wire.proofs.Hashes.{hashes_form}
 use Rattle.tls_wire.proofs.Numbers.{bytes_form, wide8, word_form}
 use Rattle.tls_wire.proofs.Vectors.{vector_form}
@@ -76,8 +76,8 @@ Advance = Text × (ℕ × Root)
 abbrev from_advance : AdvanceParts → Advance
 from_advance r = (r.log, (r.size, (r.root, r.proof)))
 
-abbrev advance_spelled : Advance → Text
-advance_spelled = both (vector w8) (both (number w64) root_text)
+abbrev advance_encoded : Advance → Text
+advance_encoded = both (vector w8) (both (number w64) root_text)
 
 abbrev AreAdvance : Advance → Type 0
 AreAdvance = FitsBoth IsId (FitsBoth IsWord IsRoot)
@@ -99,10 +99,10 @@ unfolding advance_at
 advance_form =
     let read : At → Result (Advance × At) FormError =
     both_at log_id_at (both_at u64_at (both_at hash_at proof_at)) in
-    said_form (λ r. advance_spelled (from_advance r)) (λ r. AreAdvance (from_advance r)) IsAdvance
+    said_form (λ r. advance_encoded (from_advance r)) (λ r. AreAdvance (from_advance r)) IsAdvance
     Anything Anything
     (mapped_at to_advance read) advance_to advance_from (λ rest q. q)
-    (mapped_form advance_spelled AreAdvance Anything read to_advance from_advance (λ x f. refl)
+    (mapped_form advance_encoded AreAdvance Anything read to_advance from_advance (λ x f. refl)
     (λ r f. refl)
     (both_form (vector w8) IsId Anything log_id_at (both (number w64) root_text)
     (FitsBoth IsWord IsRoot) Anything
@@ -123,8 +123,8 @@ Subtree = Text × (ℕ × (ℕ × Root))
 abbrev from_subtree : SubtreeParts → Subtree
 from_subtree r = (r.log, (r.start, (r.end, (r.hash, r.proof))))
 
-abbrev subtree_spelled : Subtree → Text
-subtree_spelled = both (vector w8) (both (number w64) (both (number w64) root_text))
+abbrev subtree_encoded : Subtree → Text
+subtree_encoded = both (vector w8) (both (number w64) (both (number w64) root_text))
 
 abbrev AreSubtree : Subtree → Type 0
 AreSubtree = FitsBoth IsId (FitsBoth IsWord (FitsBoth IsWord IsRoot))
@@ -147,10 +147,10 @@ unfolding subtree_at
 subtree_form =
     let read : At → Result (Subtree × At) FormError =
     both_at log_id_at (both_at u64_at (both_at u64_at (both_at hash_at proof_at))) in
-    said_form (λ r. subtree_spelled (from_subtree r)) (λ r. AreSubtree (from_subtree r))
+    said_form (λ r. subtree_encoded (from_subtree r)) (λ r. AreSubtree (from_subtree r))
     IsSubtreeRequest Anything Anything
     (mapped_at to_subtree read) subtree_to subtree_from (λ rest q. q)
-    (mapped_form subtree_spelled AreSubtree Anything read to_subtree from_subtree (λ x f. refl)
+    (mapped_form subtree_encoded AreSubtree Anything read to_subtree from_subtree (λ x f. refl)
     (λ r f. refl)
     (both_form (vector w8) IsId Anything log_id_at (both (number w64) (both (number w64) root_text))
     (FitsBoth IsWord (FitsBoth IsWord IsRoot)) Anything
@@ -159,28 +159,28 @@ subtree_form =
 
 -- ---- all of the bytes
 
-whole_only : {X : Type 0} (spell : X → Text) (Fits : X → Type 0) (read : At
+whole_only : {X : Type 0} (encode : X → Text) (Fits : X → Type 0) (read : At
     → Result (X × At) FormError)
-    → IsForm spell Fits Anything read
+    → IsForm encode Fits Anything read
     → (bytes : Text) (r : X) → IsBytes bytes → whole_in read bytes ≡ Ok r
-    → (bytes ≡ spell r) × Fits r
-whole_only {X} spell Fits read form bytes r h e =
+    → (bytes ≡ encode r) × Fits r
+whole_only {X} encode Fits read form bytes r h e =
     let s = bind_ok (read (at bytes 0)) (λ (x : X × At). if length x.1.rest == 0 then Ok x.0
     else Err Trailing) r e in
     let g = pass_ok (length s.0.1.rest == 0) (Ok s.0.0) Trailing r s.2 in
     let known = form.takes (at bytes 0) s.0.0 s.0.1 h s.1 in
     let none : s.0.1.rest ≡ [] = nil_from_length s.0.1.rest (eqb-true (length s.0.1.rest) 0 g.0) in
-    let all : bytes ≡ spell s.0.0 = known.0.parts ∙ ap (λ rest. spell s.0.0 ++ rest) none
-    ∙ append-nil (spell s.0.0) in
-    let P : X → Type 0 = λ x. (bytes ≡ spell x) × Fits x in
+    let all : bytes ≡ encode s.0.0 = known.0.parts ∙ ap (λ rest. encode s.0.0 ++ rest) none
+    ∙ append-nil (encode s.0.0) in
+    let P : X → Type 0 = λ x. (bytes ≡ encode x) × Fits x in
     subst P (ok_is FormError s.0.0 r g.1) (all, known.1)
 
-whole_again : {X : Type 0} (spell : X → Text) (Fits : X → Type 0) (read : At
+whole_again : {X : Type 0} (encode : X → Text) (Fits : X → Type 0) (read : At
     → Result (X × At) FormError)
-    → IsForm spell Fits Anything read → (r : X) → Fits r → whole_in read (spell r) ≡ Ok r
-whole_again {X} spell Fits read form r f =
+    → IsForm encode Fits Anything read → (r : X) → Fits r → whole_in read (encode r) ≡ Ok r
+whole_again {X} encode Fits read form r f =
     let step = form.again r 0 [] f tt in
-    let same : spell r ≡ spell r ++ [] = sym (append-nil (spell r)) in
+    let same : encode r ≡ encode r ++ [] = sym (append-nil (encode r)) in
     ap (λ (c : Text). read (record { place = 0; rest = c }) >>= λ (x : X
     × At). if length x.1.rest == 0 then Ok x.0 else Err Trailing) same
     ∙ rw step refl

@@ -13,6 +13,6 @@ pub mod Keeps
 pub mod Lengths
 pub mod Names
 pub mod Readings
-pub mod Spelled
+pub mod Encoded
 pub mod Tagged
 pub mod Writes

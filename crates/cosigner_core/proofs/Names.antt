@@ -1,10 +1,10 @@
 -- The ids of a cosigner stay as its first record has them, and tell how long that record is.
 use Rattle.std.proofs.Common.{◌≡◌, ℕ, ◌+◌, List, [], ◌∷◌, length, Option, Some, None, Ok}
 use Rattle.std.proofs.Common.{option_map, option_and_then, refl, sym, ap, ◌∙◌, arith}
-use Rattle.byte_forms.specs.Types.{HashFunction, Text}
-use Rattle.byte_forms.specs.Places.{IsBytes}
-use Rattle.byte_forms.specs.Readings.{some_or}
-use Rattle.byte_forms.proofs.Steps.{bind_ok, ok_is, some_or_ok}
+use Rattle.byte_formats.specs.Types.{HashFunction, Text}
+use Rattle.byte_formats.specs.Places.{IsBytes}
+use Rattle.byte_formats.specs.Readings.{some_or}
+use Rattle.byte_formats.proofs.Steps.{bind_ok, ok_is, some_or_ok}
 use Rattle.journal_core.specs.Folds.{state_behind, taken_from}
 use Rattle.cosigner_core.specs.Folds.{CosignerState, after_step, begun_cosigner, cosigner_fold}
 use Rattle.cosigner_core.specs.Folds.{cosigner_of}
@@ -15,7 +15,7 @@ use Rattle.cosigner_core.specs.Records.{cosigner_in, step_in}
 use Rattle.cosigner_core.specs.declared.settings.CosignerSettings.{CosignerSettings}
 use Rattle.cosigner_core.specs.declared.step.Step.{Step}
 use Rattle.cosigner_core.proofs.FirstRecords.{cosigner_takes}
-use Rattle.cosigner_core.proofs.Spelled.{length-cosigner}
+use Rattle.cosigner_core.proofs.Encoded.{length-cosigner}
 use Rattle.cosigner_core.proofs.Tagged.{some_value, when_some}
 
 -- the same ids

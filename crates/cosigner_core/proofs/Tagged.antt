@@ -5,12 +5,12 @@ use Rattle.std.proofs.Common.{◌∙◌, if◌then◌else◌}
 use Rattle.std.proofs.lemmas.Bool.{eqb-true}
 use Rattle.std.proofs.lemmas.List.{append-nil, nil_from_length}
 use Rattle.std.specs.Int.{w8}
-use Rattle.byte_forms.specs.Types.{Text}
-use Rattle.byte_forms.specs.Places.{At, at, IsBytes}
-use Rattle.byte_forms.specs.Forms.{Anything, IsForm}
-use Rattle.byte_forms.specs.Readings.{whole_of}
+use Rattle.byte_formats.specs.Types.{Text}
+use Rattle.byte_formats.specs.Places.{At, at, IsBytes}
+use Rattle.byte_formats.specs.Forms.{Anything, IsForm}
+use Rattle.byte_formats.specs.Readings.{whole_of}
 use Rattle.tls_wire.specs.Reading.{number_at}
-use Rattle.tls_wire.specs.Spelling.{number}
+use Rattle.tls_wire.specs.Encoding.{number}
 use Rattle.tls_wire.proofs.Numbers.{number_form, wide8}
 
 pub some_value : {X : Type 0} (y x : X) → Some y ≡ Some x → y ≡ x
@@ -22,29 +22,30 @@ pub when_some : {X : Type 0} (b : Bool) (o : Option X) (x : X) → (if b then o 
 when_some {X} true o x is = (refl, is)
 when_some {X} false o x is = let wrong : None ≡ Some x = is in cc
 
-module _ {X E : Type 0} (spell : X → Text) (Fits : X → Type 0) (read : At → Result (X × At) E)
-    (form : IsForm spell Fits Anything read) where
+module _ {X E : Type 0} (encode : X → Text) (Fits : X → Type 0) (read : At → Result (X × At) E)
+    (form : IsForm encode Fits Anything read) where
   -- all of a spelling is read
   pub whole_again : (place : ℕ) (x : X) → Fits x
-      → whole_of (read (record { place = place; rest = spell x })) ≡ Some x
+      → whole_of (read (record { place = place; rest = encode x })) ≡ Some x
   whole_again place x fits =
       ap (λ (text : Text). whole_of (read (record { place = place; rest = text })))
-      (sym (append-nil (spell x)))
+      (sym (append-nil (encode x)))
       ∙ ap whole_of (form.again x place [] fits tt)
 
   -- what is read to the end is spelled so
   pub whole_takes : (a : At) (x : X) → IsBytes a.rest → whole_of (read a) ≡ Some x
-      → (a.rest ≡ spell x) × Fits x
+      → (a.rest ≡ encode x) × Fits x
   whole_takes a x bytes is = go (read a) refl is
     where
-      ended : (b : At) (y : X) → a.rest ≡ spell y ++ b.rest → (length b.rest == 0) ≡ true → y ≡ x
-          → a.rest ≡ spell x
+      ended : (b : At) (y : X) → a.rest ≡ encode y ++ b.rest → (length b.rest == 0) ≡ true → y ≡ x
+          → a.rest ≡ encode x
       ended b y parts test same =
           let none : b.rest ≡ [] = nil_from_length b.rest (eqb-true (length b.rest) 0 test) in
-          parts ∙ ap (λ (rest : Text). spell y ++ rest) none ∙ append-nil (spell y) ∙ ap spell same
+          parts ∙ ap (λ (rest : Text). encode y ++ rest) none ∙ append-nil (encode y)
+          ∙ ap encode same
 
       go : (r : Result (X × At) E) → read a ≡ r → whole_of r ≡ Some x
-          → (a.rest ≡ spell x) × Fits x
+          → (a.rest ≡ encode x) × Fits x
       go (Err fault) was is = let wrong : None ≡ Some x = is in cc
       go (Ok v) was is =
           let test = when_some (length v.1.rest == 0) (Some v.0) x is in

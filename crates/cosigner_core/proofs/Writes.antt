@@ -1,8 +1,8 @@
 -- Pieces put one behind the other.
 use Rattle.std.proofs.Common.{◌≡◌, List, [], ◌++◌, ap, ◌∙◌}
 use Rattle.std.proofs.lemmas.List.{append_assoc}
-use Rattle.byte_forms.specs.Types.{Hash, Text}
-use Rattle.tls_wire.specs.Spelling.{hashes}
+use Rattle.byte_formats.specs.Types.{Hash, Text}
+use Rattle.tls_wire.specs.Encoding.{hashes}
 
 -- the last of them is the spelling of hashes
 pub four_pieces : (o first second third last a b c : Text) (items proof : List Hash)

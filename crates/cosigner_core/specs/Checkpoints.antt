@@ -1,6 +1,6 @@
 -- What a cosigner holds of its log, and what a consistency proof shows of it.
 use Rattle.std.specs.Prelude.{ℕ, ◌==◌, Bool, List, [], length, is_ok, if◌then◌else◌}
-use Rattle.byte_forms.specs.Types.{Hash, HashFunction}
+use Rattle.byte_formats.specs.Types.{Hash, HashFunction}
 use Rattle.tree_proofs.specs.Consistency.{consistency}
 use Rattle.cosigner_core.specs.declared.checkpoint.Checkpoint.{Checkpoint}
 
@@ -10,8 +10,8 @@ empty_checkpoint h = record { size = 0; root = h [] }
 
 -- The entries that are held are the first ones of the log with this size and root, by this proof.
 -- Of no entries it is the proof of no hashes.
-abbrev pub is_front_of : HashFunction → Checkpoint → ℕ → Hash → List Hash → Bool
-is_front_of h held size root proof =
+abbrev pub is_prefix_of : HashFunction → Checkpoint → ℕ → Hash → List Hash → Bool
+is_prefix_of h held size root proof =
     if held.size == 0 then length proof == 0
     else is_ok (consistency h 0 held.size size held.root root proof)
 

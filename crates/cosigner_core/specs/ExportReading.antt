@@ -4,9 +4,9 @@ use Rattle.std.specs.Prelude.{length, Option, Some, None, option_and_then, Resul
 use Rattle.std.specs.Prelude.{if◌then◌else◌, map, ◌++◌}
 use Rattle.std.specs.Int.{w8, w16, w32}
 use Rattle.std.specs.List.{AllByRecursion}
-use Rattle.byte_forms.specs.Types.{HashFunction, Text}
-use Rattle.byte_forms.specs.Places.{At, at}
-use Rattle.byte_forms.specs.Readings.{Reading, ◌>>=◌, blamed, both_at, lifted_at, some_or}
+use Rattle.byte_formats.specs.Types.{HashFunction, Text}
+use Rattle.byte_formats.specs.Places.{At, at}
+use Rattle.byte_formats.specs.Readings.{Reading, ◌>>=◌, blamed, both_at, lifted_at, some_or}
 use Rattle.hss_core.specs.Hss.{hss_key_types, one_level_public}
 use Rattle.lmots_core.specs.declared.parameters.OtsType.{OtsType}
 use Rattle.lms_core.specs.Heights.{height}
@@ -15,7 +15,7 @@ use Rattle.tls_wire.specs.Anchors.{anchor_of}
 use Rattle.tls_wire.specs.Arcs.{IsAnchorId}
 use Rattle.tls_wire.specs.Reading.{vector_at}
 use Rattle.tls_wire.specs.declared.cursor.Short.{Short as ShortForm}
-use Rattle.cosigner_core.specs.Exports.{front_text, records_text}
+use Rattle.cosigner_core.specs.Exports.{prefix_text, records_text}
 use Rattle.cosigner_core.specs.Folds.{CosignerState}
 use Rattle.cosigner_core.specs.Progress.{first_progress, is_allowed, progress_by, with_step}
 use Rattle.cosigner_core.specs.Records.{FitsStep, step_in, step_record}
@@ -53,8 +53,8 @@ export_key_at a =
     >>= λ key. some_or BadKey (signing_keys key.0) >>= λ keys. Ok ((key.0, keys), key.1)
 
 -- what stands before the records: the ids of the cosigner and of its log, and the public key
-unfoldable pub export_front_at : Reading (Text × (Text × (Text × ℕ))) ReadExportError
-export_front_at a = both_at export_id_at (both_at export_id_at export_key_at) a
+unfoldable pub export_prefix_at : Reading (Text × (Text × (Text × ℕ))) ReadExportError
+export_prefix_at a = both_at export_id_at (both_at export_id_at export_key_at) a
 
 -- the step that a record says, where it is allowed
 abbrev pub allowed_step : HashFunction → ℕ → Progress → Option Step → Option Step
@@ -91,13 +91,13 @@ export_with x steps = record { cosigner = x.0; log = x.1.0; public = x.1.1.0; st
 unfoldable pub export_in : HashFunction → Text → Result (Option Export) ReadExportError
 export_in h bytes =
     if length bytes == 0 then Ok None
-    else (export_front_at (at bytes 0)
+    else (export_prefix_at (at bytes 0)
     >>= λ x. steps_left h x.0.1.1.1 x.1 >>= λ steps. Ok (Some (export_with x.0 steps)))
 
 -- How an export is spelled: the ids, the public key, and the record of each step.
 abbrev pub exported_text : Export → Text
 exported_text e =
-    front_text e.cosigner e.log e.public ++ records_text (map step_record e.steps)
+    prefix_text e.cosigner e.log e.public ++ records_text (map step_record e.steps)
 
 -- The export of a cosigner with these steps.
 abbrev pub export_of : CosignerState → List Step → Export

@@ -3,15 +3,15 @@
 use Rattle.std.specs.Prelude.{◌++◌, List, drop}
 use Rattle.std.specs.List.{flat_map}
 use Rattle.std.specs.Int.{w8, w16, w32}
-use Rattle.byte_forms.specs.Types.{Text}
+use Rattle.byte_formats.specs.Types.{Text}
 use Rattle.hss_core.specs.Hss.{one_level_public}
-use Rattle.tls_wire.specs.Spelling.{vector}
+use Rattle.tls_wire.specs.Encoding.{vector}
 use Rattle.cosigner_core.specs.Folds.{CosignerState}
 
 -- the ids of the cosigner and of its log, each behind its length of one byte, and the public key
 -- behind its length of two bytes
-abbrev pub front_text : Text → Text → Text → Text
-front_text id log public = vector w8 id ++ (vector w8 log ++ vector w16 public)
+abbrev pub prefix_text : Text → Text → Text → Text
+prefix_text id log public = vector w8 id ++ (vector w8 log ++ vector w16 public)
 
 -- records, each behind its length of four bytes
 abbrev pub records_text : List Text → Text
@@ -20,4 +20,4 @@ records_text bodies = flat_map (vector w32) bodies
 -- The export of a cosigner with these records.
 abbrev pub export_text : CosignerState → List Text → Text
 export_text s list =
-    front_text s.id s.log (one_level_public s.key.key) ++ records_text (drop 1 list)
+    prefix_text s.id s.log (one_level_public s.key.key) ++ records_text (drop 1 list)

@@ -2,7 +2,7 @@
 -- an Advance or a Sign that its state allows.
 use Rattle.std.specs.Prelude.{ℕ, ◌+◌, ◌^◌, List, Option, Some, None, option_map, option_and_then}
 use Rattle.std.specs.Prelude.{Result, if◌then◌else◌}
-use Rattle.byte_forms.specs.Types.{Hash, HashFunction, Text}
+use Rattle.byte_formats.specs.Types.{Hash, HashFunction, Text}
 use Rattle.journal_core.specs.Folds.{Fold, state_behind}
 use Rattle.hss_core.specs.Counted.{Counted}
 use Rattle.lms_core.specs.Heights.{height}

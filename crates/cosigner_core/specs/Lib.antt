@@ -4,7 +4,7 @@ pub mod ExportReading
 pub mod Exports
 pub mod Faults
 pub mod Folds
-pub mod SettledRecords
+pub mod DurableRecords
 pub mod Openings
 pub mod Progress
 pub mod Reading

@@ -1,6 +1,6 @@
 -- What is read of a file that is opened as a cosigner's.
 use Rattle.std.specs.Prelude.{◌≡◌, ◌≢◌, Result}
-use Rattle.byte_forms.specs.Types.{Text, HashFunction}
+use Rattle.byte_formats.specs.Types.{Text, HashFunction}
 use Rattle.disk_core.specs.declared.disk.Disk.{Ghosts}
 use Rattle.journal_core.specs.Folds.{Found, read_by, AreRefused, IsCauseOf}
 use Rattle.journal_core.specs.declared.error.OpenError.TheVariants as open_error
@@ -21,7 +21,7 @@ cosigner_read h bytes = read_by (cosigner_fold h) bytes
 abbrev pub HasCosignerCause : {D : Type 0} → Ghosts D → HashFunction → D → D → CosignerOpenError
     → Type 0
 HasCosignerCause g h old new (BadRecord k) =
-    AreRefused (cosigner_fold h) (g.told old) (BadRecord k)
+    AreRefused (cosigner_fold h) (g.contents old) (BadRecord k)
 HasCosignerCause g h old new (Open why) = IsCauseOf g (cosigner_fold h) old new why
 
 -- no fault was counted, unless it is the refusal

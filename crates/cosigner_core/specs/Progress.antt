@@ -2,8 +2,8 @@
 -- that signs next. It is the same of the records of a journal and of the steps of an export.
 use Rattle.std.specs.Prelude.{ℕ, ◌+◌, ◌==◌, ◌&&◌, nat_lt, Bool, List, [], ◌∷◌, Option, Some, None}
 use Rattle.std.specs.Prelude.{option_map, option_and_then, is_some, if◌then◌else◌}
-use Rattle.byte_forms.specs.Types.{HashFunction, Text}
-use Rattle.cosigner_core.specs.Checkpoints.{empty_checkpoint, has_subtree, is_front_of}
+use Rattle.byte_formats.specs.Types.{HashFunction, Text}
+use Rattle.cosigner_core.specs.Checkpoints.{empty_checkpoint, has_subtree, is_prefix_of}
 use Rattle.cosigner_core.specs.Records.{step_in}
 use Rattle.cosigner_core.specs.declared.progress.Progress.{Progress}
 use Rattle.cosigner_core.specs.declared.step.Step.{Step}
@@ -18,7 +18,7 @@ first_progress h = record { held = empty_checkpoint h; next = 0 }
 -- there, and a proof of the subtree in what is held.
 abbrev pub is_allowed : HashFunction → ℕ → Progress → Step → Bool
 is_allowed h keys p (Advance size root proof) =
-    nat_lt p.held.size size && is_front_of h p.held size root proof
+    nat_lt p.held.size size && is_prefix_of h p.held size root proof
 is_allowed h keys p (Sign index start end hash proof) =
     (index == p.next) && (nat_lt index keys && has_subtree h p.held start end hash proof)
 

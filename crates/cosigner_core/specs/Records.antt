@@ -3,9 +3,9 @@
 use Rattle.std.specs.Prelude.{◌≡◌, ℕ, ◌^◌, ◌<◌, ◌==◌, List, ◌++◌, length, Option, Some, None}
 use Rattle.std.specs.Prelude.{option_map, option_and_then, Result, Ok, Err, if◌then◌else◌}
 use Rattle.std.specs.Int.{w8, w32, w64}
-use Rattle.byte_forms.specs.Types.{Hash, Text}
-use Rattle.byte_forms.specs.Places.{At, at}
-use Rattle.byte_forms.specs.Readings.{Reading, both_at, lifted_at, whole_of}
+use Rattle.byte_formats.specs.Types.{Hash, Text}
+use Rattle.byte_formats.specs.Places.{At, at}
+use Rattle.byte_formats.specs.Readings.{Reading, both_at, lifted_at, whole_of}
 use Rattle.lmots_core.specs.Parameters.{typecode, type_of_code}
 use Rattle.lmots_core.specs.declared.parameters.OtsType.{OtsType}
 use Rattle.lms_core.specs.Heights.{IsSigningHeight, lms_code}
@@ -14,7 +14,7 @@ use Rattle.lms_core.specs.declared.heights.LmsType.TheVariants.{H5, H10}
 use Rattle.tls_wire.specs.Anchors.{anchor_of}
 use Rattle.tls_wire.specs.Arcs.{IsAnchorId}
 use Rattle.tls_wire.specs.Reading.{bytes_at, number_at, vector_at}
-use Rattle.tls_wire.specs.Spelling.{AreHashes, hashes, number, vector}
+use Rattle.tls_wire.specs.Encoding.{AreHashes, hashes, number, vector}
 use Rattle.tls_wire.specs.declared.cursor.Short.{Short}
 use Rattle.tls_wire.specs.declared.fault.AnchorBytesError.{AnchorBytesError}
 use Rattle.cosigner_core.specs.Reading.{hash_at, proof_at, short_fault, u64_at}

@@ -2,11 +2,11 @@
 use Rattle.std.specs.Prelude.{◌≡◌, ℕ, ◌+◌, nat_le, nat_lt, not, Bool, length, Option, Some}
 use Rattle.std.specs.Prelude.{None, Result, Ok, Err, if◌then◌else◌}
 use Rattle.std.specs.Str.{bytes_eq}
-use Rattle.byte_forms.specs.Types.{HashFunction, Text}
+use Rattle.byte_formats.specs.Types.{HashFunction, Text}
 use Rattle.journal_core.specs.Format.{most_bytes}
 use Rattle.journal_core.specs.declared.error.AppendError.TheVariants as append_error
 use Rattle.tree_core.specs.Subtree.{is_subtree}
-use Rattle.cosigner_core.specs.Checkpoints.{has_subtree, is_front_of}
+use Rattle.cosigner_core.specs.Checkpoints.{has_subtree, is_prefix_of}
 use Rattle.cosigner_core.specs.Folds.{CosignerState, key_count}
 use Rattle.cosigner_core.specs.Records.{advance_record, sign_record}
 use Rattle.cosigner_core.specs.Requests.{AdvanceParts, SubtreeParts}
@@ -21,7 +21,7 @@ unfoldable pub advance_refusal : HashFunction → CosignerState → AdvanceParts
 advance_refusal h s r =
     if not (bytes_eq r.log s.log) then Some WrongLog
     else (if nat_le r.size s.held.size then Some (NotNewer s.held.size)
-    else (if not (is_front_of h s.held r.size r.root r.proof) then Some BadProof else None))
+    else (if not (is_prefix_of h s.held r.size r.root r.proof) then Some BadProof else None))
 
 -- of a request to sign a subtree: another log, an interval that is none, one that ends behind what
 -- is held, a proof that doesn't show its hash, and a key whose one-time keys have all signed

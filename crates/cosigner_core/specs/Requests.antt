@@ -1,9 +1,9 @@
 -- The requests to a cosigner: how their parts are spelled, in the presentation language of RFC 8446
 -- (section 3).
 use Rattle.std.specs.Prelude.{◌≡◌, ℕ, ◌^◌, ◌<◌, List, ◌++◌, length}
-use Rattle.byte_forms.specs.Types.{Hash, Text}
+use Rattle.byte_formats.specs.Types.{Hash, Text}
 use Rattle.std.specs.Int.{w8, w64}
-use Rattle.tls_wire.specs.Spelling.{AreHashes, hashes, number, vector}
+use Rattle.tls_wire.specs.Encoding.{AreHashes, hashes, number, vector}
 
 -- To hold the root of a larger log: the log's id, its size and root, and the consistency proof of
 -- what is held.

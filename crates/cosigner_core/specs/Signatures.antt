@@ -1,6 +1,6 @@
 -- The signature of a cosigner.
 use Rattle.std.specs.Prelude.{ℕ}
-use Rattle.byte_forms.specs.Types.{Hash, Text}
+use Rattle.byte_formats.specs.Types.{Hash, Text}
 use Rattle.hss_core.specs.Hss.{one_level_signature}
 use Rattle.mtc_proof.specs.Inputs.{signed_text}
 use Rattle.cosigner_core.specs.Folds.{CosignerState}

@@ -1,9 +1,9 @@
 -- What a cosigner shows, and what a call that appends a record makes of it.
 use Rattle.std.specs.Prelude.{◌≡◌, ℕ, Bool, List, Option, Some, None, Result}
-use Rattle.byte_forms.specs.Types.{Text}
+use Rattle.byte_formats.specs.Types.{Text}
 use Rattle.disk_core.specs.declared.disk.Disk.{Ghosts}
 use Rattle.tree_core.specs.declared.hashing.TreeHash.{Ghosts as Hashes}
-use Rattle.journal_core.specs.Ends.{settled_records}
+use Rattle.journal_core.specs.Ends.{durable_records}
 use Rattle.journal_core.specs.Owners.{Owner, OwnerAppends, OwnerHasGrown, OwnerLeaves, owner_over}
 use Rattle.journal_core.specs.Words.{disk_of, end_of, is_broken}
 use Rattle.journal_core.specs.declared.error.AppendError.{AppendError}
@@ -31,7 +31,7 @@ module _ {H D : Type 0} {hashes : Hashes H} {g : Ghosts D} where
   -- The records that make the cosigner, where the disk tells its bytes. Unless an append has
   -- failed they are all records of its journal.
   abbrev pub cosigner_records : Cosigner H D hashes g → Option (List Text)
-  cosigner_records it = settled_records it.journal
+  cosigner_records it = durable_records it.journal
 
   -- the end of its journal
   abbrev pub cosigner_end : Cosigner H D hashes g → ℕ

@@ -1,7 +1,7 @@
 //! What a cosigner holds of its log.
 
 ghost use Rattle.std.specs.Prelude.{◌≡◌, ◌≤◌, true, length};
-ghost use Rattle.cosigner_core.specs.Checkpoints.{empty_checkpoint, has_subtree, is_front_of};
+ghost use Rattle.cosigner_core.specs.Checkpoints.{empty_checkpoint, has_subtree, is_prefix_of};
 
 use tree_core::TreeHash;
 use tree_proofs::check;
@@ -26,13 +26,13 @@ impl Checkpoint {
 
     /// The proof shows that these entries are the first ones of the log that has this size and
     /// root. For no entries it is the proof of no hashes.
-    pub(crate) fn is_front_of<H: TreeHash>(
+    pub(crate) fn is_prefix_of<H: TreeHash>(
         &self,
         size: u64,
         root: &[u8; 32],
         proof: &[[u8; 32]],
     ) -> bool
-        ensures exact { result ≡ is_front_of H.hash self.now size root.now proof.now }
+        ensures exact { result ≡ is_prefix_of H.hash self.now size root.now proof.now }
         ensures short { result ≡ true → length proof.now ≤ 65 }
     {
         if self.size == 0 {

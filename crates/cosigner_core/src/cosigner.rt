@@ -5,15 +5,15 @@ ghost use Rattle.std.specs.Prelude.{Some, option_map, Ok, IfSome, IfOk, IfErr, O
 ghost use Rattle.std.proofs.Props.{props};
 ghost use Rattle.std.specs.Io.KnownBytes.{Appends};
 ghost use Rattle.mtc_io.specs.Streams.{AppendsPrefix};
-ghost use Rattle.disk_core.specs.Moments.{Looks};
+ghost use Rattle.disk_core.specs.Moments.{OnlyReads};
 ghost use Rattle.journal_core.specs.Copies.{HasCopyCause};
-ghost use Rattle.journal_core.specs.Format.{StandsFor, end_behind, records_of};
-ghost use Rattle.journal_core.specs.Words.{disk_of, end_of, AllStandFor};
+ghost use Rattle.journal_core.specs.Format.{Represents, end_behind, records_of};
+ghost use Rattle.journal_core.specs.Words.{disk_of, end_of, AllRepresent};
 ghost use Rattle.hss_core.specs.Hss.{Verifies, one_level_public};
 ghost use Rattle.mtc_proof.specs.Inputs.{signed_text};
 ghost use Rattle.cosigner_core.specs.Exports.{export_text};
 ghost use Rattle.cosigner_core.specs.Folds.{cosigner_of, having_signed, holding};
-ghost use Rattle.cosigner_core.specs.SettledRecords.{IsSettledAs, IsSettledAs-prop};
+ghost use Rattle.cosigner_core.specs.DurableRecords.{IsDurableAs, IsDurableAs-prop};
 ghost use Rattle.cosigner_core.specs.Openings.{CosignerCountsNoOther, HasCosignerCause};
 ghost use Rattle.cosigner_core.specs.Openings.{cosigner_read};
 ghost use Rattle.cosigner_core.specs.Records.{advance_record, sign_record};
@@ -22,7 +22,7 @@ ghost use Rattle.cosigner_core.specs.Signatures.{signature_by};
 ghost use Rattle.cosigner_core.specs.Views.{advance_parts, subtree_parts};
 
 use crate::error::{CosignError, CosignerOpenError, hand_back};
-use crate::export::{first_size, write_front};
+use crate::export::{first_size, write_prefix};
 use crate::opening::read_signer;
 use crate::requests::{AdvanceRequest, SubtreeRequest};
 use crate::signer::Signer;
@@ -43,8 +43,8 @@ pub struct Cosigner<H: TreeHash, D: Disk> {
     journal: Journal<D>,
     signer: Signer,
     hash: PhantomData<H>,
-    ghost settled: { (b : List ℕ) → D.Disk.told (disk_of journal) ≡ Some b → IsSettledAs
-        H.TreeHash.hash signer (end_of journal) b } by { Prim.hlevel (props, IsSettledAs-prop) },
+    ghost settled: { (b : List ℕ) → D.Disk.contents (disk_of journal) ≡ Some b → IsDurableAs
+        H.TreeHash.hash signer (end_of journal) b } by { Prim.hlevel (props, IsDurableAs-prop) },
 }
 
 // A drop in one step: a derived one is proved field by field wherever a value is let go.
@@ -71,22 +71,23 @@ impl<H: TreeHash, D: Disk> Cosigner<H, D> {
     /// there is none; `Open(Memory)` for the key. The disk is handed back, and was only looked at.
     pub fn open(alloc: Global, disk: D) -> Result<Cosigner<H, D>, Refused<D, CosignerOpenError>>
         ensures sound { IfOk result (λ it. cosigner_broken it ≡ false) }
-        ensures looks { IfOk result (λ it. Looks D.Disk disk (cosigner_disk it)) }
+        ensures only_reads { IfOk result (λ it. OnlyReads D.Disk disk (cosigner_disk it)) }
         ensures fine { IfOk result (λ it. D.faults (cosigner_disk it) ≡ D.faults disk) }
         ensures list { IfOk result (λ it. cosigner_records it
-            ≡ option_map records_of (D.told (cosigner_disk it))) }
-        ensures found { IfOk result (λ it. IfSome (D.told disk) (λ b. IfSome (cosigner_records it)
+            ≡ option_map records_of (D.contents (cosigner_disk it))) }
+        ensures found { IfOk result
+            (λ it. IfSome (D.contents disk) (λ b. IfSome (cosigner_records it)
             (λ list. cosigner_read H.hash b
             ≡ Ok (record { records = list; state = cosigner_state it })))) }
         ensures valid { IfOk result (λ it. IfSome (cosigner_records it)
             (λ list. cosigner_of H.hash list ≡ Ok (cosigner_state it))) }
-        ensures stands { IfOk result (λ it. IfSome (D.told (cosigner_disk it))
-            (λ b. IfSome (cosigner_records it) (StandsFor b))) }
+        ensures stands { IfOk result (λ it. IfSome (D.contents (cosigner_disk it))
+            (λ b. IfSome (cosigner_records it) (Represents b))) }
         ensures all { IfOk result
-            (λ it. IfSome (cosigner_records it) (AllStandFor D.Disk (cosigner_disk it))) }
+            (λ it. IfSome (cosigner_records it) (AllRepresent D.Disk (cosigner_disk it))) }
         ensures end { IfOk result (λ it. IfSome (cosigner_records it)
             (λ list. cosigner_end it ≡ end_behind list)) }
-        ensures err { IfErr result (λ e. Looks D.Disk disk e.disk) }
+        ensures err { IfErr result (λ e. OnlyReads D.Disk disk e.disk) }
         ensures cause { IfErr result (λ e. HasCosignerCause D.Disk H.hash disk e.disk e.why) }
         ensures fine_err { IfErr result (λ e. CosignerCountsNoOther D.Disk disk e.disk e.why) }
     {
@@ -202,12 +203,12 @@ impl<H: TreeHash, D: Disk> Cosigner<H, D> {
         ensures prefix { IfSome (cosigner_records self.old)
             (λ list. AppendsPrefix (O.taken out.old) (O.taken out.new)
             (export_text (cosigner_state self.old) list)) }
-        ensures looks { Looks D.Disk (cosigner_disk self.old) (cosigner_disk self.new) }
+        ensures only_reads { OnlyReads D.Disk (cosigner_disk self.old) (cosigner_disk self.new) }
         ensures same { IsShown self.old self.new }
         ensures cause { HasCopyCause (D.faults (cosigner_disk self.old)) (O.faults out.old)
             (D.faults (cosigner_disk self.new)) (O.faults out.new) result }
     {
-        match write_front(&self.signer, out) {
+        match write_prefix(&self.signer, out) {
             Ok(()) => {}
             Err(Failed) => return Err(CopyError::Write),
         }

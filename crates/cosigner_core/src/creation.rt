@@ -1,8 +1,8 @@
 //! The journal of a new cosigner.
 
 ghost use Rattle.std.specs.Prelude.{◌≡◌, ◌≢◌, [], ◌∷◌, Ok, IfSome, IfOk, IfErr};
-ghost use Rattle.byte_forms.specs.Types.{HashFunction};
-ghost use Rattle.disk_core.specs.Moments.{Looks};
+ghost use Rattle.byte_formats.specs.Types.{HashFunction};
+ghost use Rattle.disk_core.specs.Moments.{OnlyReads};
 ghost use Rattle.journal_core.specs.Packed.{first_body};
 ghost use Rattle.journal_core.specs.Starts.{HasStarted, IsNotStarted};
 ghost use Rattle.lms_core.specs.Heights.{IsSigningHeight};
@@ -49,8 +49,8 @@ pub fn create<D: Disk>(
     requires { IsSigningHeight settings.now.lms }
     ensures ok { IfOk result (HasStarted (cosigner_record settings.now secret.now) disk) }
     ensures err { IfErr result (λ e. IsNotStarted D.Disk disk e.disk e.why) }
-    ensures spared { IfErr result (λ e. IfSome (D.told disk)
-        (λ b. b ≢ [] → Looks D.Disk disk e.disk)) }
+    ensures spared { IfErr result (λ e. IfSome (D.contents disk)
+        (λ b. b ≢ [] → OnlyReads D.Disk disk e.disk)) }
     ensures valid { (h : HashFunction)
         → cosigner_of h (cosigner_record settings.now secret.now ∷ [])
         ≡ Ok (new_cosigner h settings.now secret.now) }

@@ -6,7 +6,7 @@ ghost use Rattle.std.specs.Io.KnownBytes.{Appends};
 ghost use Rattle.mtc_io.specs.Counts.{HasCause};
 ghost use Rattle.mtc_io.specs.Streams.{AppendsPrefix};
 ghost use Rattle.hss_core.specs.Hss.{one_level_public};
-ghost use Rattle.cosigner_core.specs.Exports.{front_text};
+ghost use Rattle.cosigner_core.specs.Exports.{prefix_text};
 
 use crate::signer::Signer;
 use mtc_io::{Failed, Sink, write_pieces};
@@ -26,11 +26,11 @@ pub(crate) fn first_size(signer: &Signer) -> u64
 }
 
 /// Writes the ids of a cosigner and of its log, and its public key.
-pub(crate) fn write_front<O: Sink>(signer: &Signer, out: &mut O) -> Result<(), Failed>
+pub(crate) fn write_prefix<O: Sink>(signer: &Signer, out: &mut O) -> Result<(), Failed>
     ensures ok { OnOk result (Appends (O.taken out.old) (O.taken out.new)
-        (front_text signer.now.id signer.now.log (one_level_public signer.now.key.key))) }
+        (prefix_text signer.now.id signer.now.log (one_level_public signer.now.key.key))) }
     ensures prefix { AppendsPrefix (O.taken out.old) (O.taken out.new)
-        (front_text signer.now.id signer.now.log (one_level_public signer.now.key.key)) }
+        (prefix_text signer.now.id signer.now.log (one_level_public signer.now.key.key)) }
     ensures cause { HasCause (O.faults out.old) (O.faults out.new) result }
 {
     let id = signer.id().as_bytes();

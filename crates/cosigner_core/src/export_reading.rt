@@ -2,14 +2,14 @@
 
 ghost use Rattle.std.specs.Prelude.{◌≡◌, ◌<◌, ◌++◌, [], ◌∷◌, length, IfSome, IfOk, OnOk};
 ghost use Rattle.std.specs.Int.{w32};
-ghost use Rattle.byte_forms.specs.Readings.{Answers, Moves};
+ghost use Rattle.byte_formats.specs.Readings.{Answers, Moves};
 ghost use Rattle.tls_wire.specs.Reading.{vector_at};
-ghost use Rattle.cosigner_core.specs.ExportReading.{MovesUnless, export_front_at, export_id_at};
+ghost use Rattle.cosigner_core.specs.ExportReading.{MovesUnless, export_prefix_at, export_id_at};
 ghost use Rattle.cosigner_core.specs.ExportReading.{export_in, export_key_at, exported_at};
 ghost use Rattle.cosigner_core.specs.ExportReading.{signing_keys, steps_left};
 ghost use Rattle.cosigner_core.specs.Progress.{with_step};
 ghost use Rattle.cosigner_core.specs.Views.{step_said};
-ghost use Rattle.cosigner_core.specs.declared.error.ReadExportError.TheVariants.{Memory as NoRoom};
+ghost use Rattle.cosigner_core.specs.declared.error.ReadExportError.TheVariants.{Memory as NoCapacity};
 
 use crate::error::ReadExportError;
 use crate::lists::{Export, Hashes, StepList};
@@ -49,7 +49,7 @@ fn vec32<'a>(cursor: &mut Cursor<'a>) -> Result<&'a [u8], Short>
 
 #[tactic(auto, unfolding(crate::specs::ExportReading::export_id_at))]
 fn read_id(alloc: Global, cursor: &mut Cursor<'_>) -> Result<AnchorId, ReadExportError>
-    ensures { MovesUnless NoRoom (λ id. id) export_id_at cursor.old result cursor.new }
+    ensures { MovesUnless NoCapacity (λ id. id) export_id_at cursor.old result cursor.new }
 {
     let bytes = cursor.vec8()?;
     match AnchorId::from_bytes(alloc, bytes) {
@@ -73,12 +73,12 @@ fn read_public(cursor: &mut Cursor<'_>) -> Result<([u8; PUBLIC_KEY_LEN], u32), R
 }
 
 // The two ids, the public key, and the number of its one-time keys.
-#[tactic(auto, unfolding(crate::specs::ExportReading::export_front_at))]
-fn read_front(
+#[tactic(auto, unfolding(crate::specs::ExportReading::export_prefix_at))]
+fn read_prefix(
     alloc: Global,
     cursor: &mut Cursor<'_>,
 ) -> Result<(AnchorId, AnchorId, [u8; PUBLIC_KEY_LEN], u32), ReadExportError>
-    ensures { MovesUnless NoRoom (λ x. (x.0, (x.1, (x.2, x.3)))) export_front_at cursor.old
+    ensures { MovesUnless NoCapacity (λ x. (x.0, (x.1, (x.2, x.3)))) export_prefix_at cursor.old
         result cursor.new }
 {
     let cosigner = read_id(alloc, cursor)?;
@@ -150,7 +150,7 @@ fn read_steps<H: TreeHash>(
     mut cursor: Cursor<'_>,
     keys: u32,
 ) -> Result<StepList, ReadExportError>
-    ensures { Answers NoRoom (steps_left H.hash keys cursor.entry) result }
+    ensures { Answers NoCapacity (steps_left H.hash keys cursor.entry) result }
 {
     let mut progress = Progress::empty::<H>();
     let mut steps = Vec::new(alloc);
@@ -177,13 +177,13 @@ pub fn read_export<H: TreeHash>(
     alloc: Global,
     bytes: &[u8],
 ) -> Result<Option<Export>, ReadExportError>
-    ensures { Answers NoRoom (export_in H.hash bytes.now) result }
+    ensures { Answers NoCapacity (export_in H.hash bytes.now) result }
 {
     if bytes.is_empty() {
         return Ok(None);
     }
     let mut cursor = Cursor::new(bytes);
-    let (cosigner, log, public, keys) = read_front(alloc, &mut cursor)?;
+    let (cosigner, log, public, keys) = read_prefix(alloc, &mut cursor)?;
     let steps = read_steps::<H>(alloc, cursor, keys)?;
     Ok(Some(Export {
         cosigner,

@@ -2,10 +2,10 @@
 
 ghost use Rattle.std.specs.Prelude.{◌≡◌, ◌^◌, true, List, ◌∷◌, drop, is_ok, Some, Ok};
 ghost use Rattle.lms_core.specs.Heights.{height};
-ghost use Rattle.byte_forms.specs.Types.{HashFunction, Text};
-ghost use Rattle.byte_forms.specs.Forms.{Anything, IsForm};
-ghost use Rattle.byte_forms.specs.Places.{IsBytes};
-ghost use Rattle.journal_core.specs.Format.{StandsFor};
+ghost use Rattle.byte_formats.specs.Types.{HashFunction, Text};
+ghost use Rattle.byte_formats.specs.Forms.{Anything, IsForm};
+ghost use Rattle.byte_formats.specs.Places.{IsBytes};
+ghost use Rattle.journal_core.specs.Format.{Represents};
 ghost use Rattle.cosigner_core.specs.Counts.{AreCounted, CountsUp};
 ghost use Rattle.cosigner_core.specs.ExportReading.{IsExport, export_in, export_of};
 ghost use Rattle.cosigner_core.specs.ExportReading.{export_progress, exported_text};
@@ -25,7 +25,7 @@ ghost use Rattle.cosigner_core.specs.Requests.{SubtreeParts, advance_text, subtr
 
 /// What is read as a request to hold a larger log is spelled as one, and the spelling of each such
 /// request is read as its parts. So a request has one spelling.
-pub fn advance_requests_are_read_as_spelled()
+pub fn law_advance_requests_decode_as_encoded()
     ensures form { IsForm advance_text IsAdvance Anything advance_at }
     ensures only { (bytes : Text) (r : AdvanceParts) → IsBytes bytes → advance_in bytes ≡ Ok r
         → (bytes ≡ advance_text r) × IsAdvance r }
@@ -33,7 +33,7 @@ pub fn advance_requests_are_read_as_spelled()
 {}
 
 /// The same for a request to sign a subtree.
-pub fn subtree_requests_are_read_as_spelled()
+pub fn law_subtree_requests_decode_as_encoded()
     ensures form { IsForm subtree_text IsSubtreeRequest Anything subtree_at }
     ensures only { (bytes : Text) (r : SubtreeParts) → IsBytes bytes → subtree_in bytes ≡ Ok r
         → (bytes ≡ subtree_text r) × IsSubtreeRequest r }
@@ -41,7 +41,7 @@ pub fn subtree_requests_are_read_as_spelled()
 {}
 
 /// The body of an Advance or a Sign is read as what it says, and only what is spelled so is read.
-pub fn steps_are_read_as_spelled()
+pub fn law_steps_decode_as_encoded()
     ensures again { (step : Step) → FitsStep step → step_in (step_record step) ≡ Some step }
     ensures only { (body : Text) (step : Step) → IsBytes body → step_in body ≡ Some step
         → (body ≡ step_record step) × FitsStep step }
@@ -49,7 +49,7 @@ pub fn steps_are_read_as_spelled()
 
 /// The body of a Cosigner is read as the settings and the secret that it spells, and only what is
 /// spelled so is read.
-pub fn first_records_are_read_as_spelled()
+pub fn law_first_records_decode_as_encoded()
     ensures again { (s : CosignerSettings) (secret : Text) → FitsCosigner s secret
         → cosigner_in (cosigner_record s secret) ≡ Some (s, secret) }
     ensures only { (body : Text) (s : CosignerSettings) (secret : Text) → IsBytes body
@@ -58,18 +58,18 @@ pub fn first_records_are_read_as_spelled()
 {}
 
 /// A file is read as a cosigner's exactly where it stands for records that make this cosigner.
-pub fn cosigners_are_read_from_their_journals()
+pub fn law_cosigners_are_read_from_their_journals()
     ensures read { (h : HashFunction) (bytes : Text) (list : List Text) (s : CosignerState)
-        → StandsFor bytes list → cosigner_of h list ≡ Ok s
+        → Represents bytes list → cosigner_of h list ≡ Ok s
         → cosigner_read h bytes ≡ Ok (record { records = list; state = s }) }
     ensures only { (h : HashFunction) (bytes : Text) (found : FoundCosigner) → IsBytes bytes
         → cosigner_read h bytes ≡ Ok found
-        → StandsFor bytes found.records × (cosigner_of h found.records ≡ Ok found.state) }
+        → Represents bytes found.records × (cosigner_of h found.records ≡ Ok found.state) }
 {}
 
 /// In the records of a cosigner no one-time key signs twice: the i-th Sign record, counted from 0,
 /// has the number i.
-pub fn one_time_keys_sign_once()
+pub fn law_one_time_keys_sign_once()
     ensures { (h : HashFunction) (list : List Text) (s : CosignerState)
         → cosigner_of h list ≡ Ok s → CountsUp list s }
 {}
@@ -77,13 +77,13 @@ pub fn one_time_keys_sign_once()
 /// What is read as an export is spelled as one, and its steps are those of a cosigner; and the
 /// spelling of each export is read as it. What a cosigner exports of a file that stands for its
 /// records is read as their steps, which bring it as far as it is.
-pub fn exports_are_read_as_spelled()
+pub fn law_exports_decode_as_encoded()
     ensures only { (h : HashFunction) (bytes : Text) (e : Export) → IsBytes bytes
         → export_in h bytes ≡ Ok (Some e) → (bytes ≡ exported_text e) × IsExport h e }
     ensures written { (h : HashFunction) (e : Export) → IsExport h e
         → export_in h (exported_text e) ≡ Ok (Some e) }
     ensures again { (h : HashFunction) (bytes : Text) (list : List Text) (s : CosignerState)
-        → IsBytes bytes → StandsFor bytes list → cosigner_of h list ≡ Ok s
+        → IsBytes bytes → Represents bytes list → cosigner_of h list ≡ Ok s
         → (steps : List Step) × (steps_in (drop 1 list) ≡ Some steps)
         × (export_in h (export_text s list) ≡ Ok (Some (export_of s steps)))
         × (export_progress h (export_of s steps) ≡ Some (progress_of s)) }
@@ -91,7 +91,7 @@ pub fn exports_are_read_as_spelled()
 
 /// An export shows nothing of the first record, which holds the secret: cosigners with the same
 /// ids, the same public key and the same records behind the first one have the same export.
-pub fn exports_never_show_the_secret()
+pub fn law_exports_never_show_the_secret()
     ensures { (s t : CosignerState) (first other : Text) (bodies : List Text) → s.id ≡ t.id
         → s.log ≡ t.log → one_level_public s.key.key ≡ one_level_public t.key.key
         → export_text s (first ∷ bodies) ≡ export_text t (other ∷ bodies) }
@@ -100,7 +100,7 @@ pub fn exports_never_show_the_secret()
 /// Records make a cosigner exactly where the first one has settings and a secret, and the others
 /// may stand behind it. The secret has no part in it, but for the key. No two of these have the
 /// number of one one-time key: the i-th number among them is i.
-pub fn cosigners_begin_with_their_settings()
+pub fn law_cosigners_begin_with_their_settings()
     ensures behind { (h : HashFunction) (first : Text) (s : CosignerSettings) (secret : Text)
         (bodies : List Text) → cosigner_in first ≡ Some (s, secret)
         → is_ok (cosigner_of h (first ∷ bodies))

@@ -26,7 +26,7 @@ mod export;
 mod export_reading;
 mod fault;
 mod following;
-mod laws;
+pub mod laws;
 mod lists;
 mod opening;
 mod progress;
@@ -47,12 +47,6 @@ pub use export_reading::read_export;
 pub use fault::FormError;
 pub use following::may_follow;
 pub use journal_core::CopyError as ExportError;
-pub use laws::{
-    advance_requests_are_read_as_spelled, cosigners_are_read_from_their_journals,
-    cosigners_begin_with_their_settings, exports_are_read_as_spelled,
-    exports_never_show_the_secret, first_records_are_read_as_spelled, one_time_keys_sign_once,
-    steps_are_read_as_spelled, subtree_requests_are_read_as_spelled,
-};
 pub use lists::{Export, Hashes, StepList};
 pub use progress::Progress;
 pub use reading::{read_advance, read_subtree};

@@ -2,7 +2,7 @@
 
 ghost use Rattle.std.specs.Prelude.{◌≡◌, ◌<◌, [], false, None, option_map, MatchBool, IfOk, IfErr};
 ghost use Rattle.std.specs.Prelude.{OnOk};
-ghost use Rattle.disk_core.specs.Moments.{Looks};
+ghost use Rattle.disk_core.specs.Moments.{OnlyReads};
 ghost use Rattle.journal_core.specs.Openings.{opening_disk, read_list, is_ended, refusal};
 ghost use Rattle.journal_core.specs.Openings.{bytes_left};
 ghost use Rattle.journal_core.specs.Readings.{HasFolded, HasFound};
@@ -35,12 +35,12 @@ fn read_first<H: TreeHash, D: Disk>(
     opening: &mut Opening<D>,
 ) -> Result<Contents, CosignerOpenError>
     requires list { read_list opening.old
-        ≡ option_map (λ _. []) (D.told (opening_disk opening.old)) }
+        ≡ option_map (λ _. []) (D.contents (opening_disk opening.old)) }
     requires goes_on { (is_ended opening.old ≡ false) × (refusal opening.old ≡ None) }
     ensures folded { IfOk result (λ c. HasFolded (cosigner_fold H.hash) c opening.new) }
     ensures err { IfErr result (HasCosignerCause D.Disk H.hash (opening_disk opening.old)
         (opening_disk opening.new)) }
-    ensures looks { Looks D.Disk (opening_disk opening.old) (opening_disk opening.new) }
+    ensures only_reads { OnlyReads D.Disk (opening_disk opening.old) (opening_disk opening.new) }
     ensures fine { OnOk result (D.faults (opening_disk opening.new)
         ≡ D.faults (opening_disk opening.old)) }
     ensures fine_err { IfErr result (CosignerCountsNoOther D.Disk (opening_disk opening.old)
@@ -69,7 +69,7 @@ fn read_next<H: TreeHash, D: Disk>(
         (λ more. MatchBool more (bytes_left opening.new < bytes_left opening.old) (Unit {0})) }
     ensures err { IfErr result (HasCosignerCause D.Disk H.hash (opening_disk opening.old)
         (opening_disk opening.new)) }
-    ensures looks { Looks D.Disk (opening_disk opening.old) (opening_disk opening.new) }
+    ensures only_reads { OnlyReads D.Disk (opening_disk opening.old) (opening_disk opening.new) }
     ensures fine { OnOk result (D.faults (opening_disk opening.new)
         ≡ D.faults (opening_disk opening.old)) }
     ensures fine_err { IfErr result (CosignerCountsNoOther D.Disk (opening_disk opening.old)
@@ -95,7 +95,7 @@ fn read_rest<H: TreeHash, D: Disk>(
     ensures found { OnOk result (HasFound (cosigner_fold H.hash) contents.new opening.new) }
     ensures err { IfErr result (HasCosignerCause D.Disk H.hash (opening_disk opening.old)
         (opening_disk opening.new)) }
-    ensures looks { Looks D.Disk (opening_disk opening.old) (opening_disk opening.new) }
+    ensures only_reads { OnlyReads D.Disk (opening_disk opening.old) (opening_disk opening.new) }
     ensures fine { OnOk result (D.faults (opening_disk opening.new)
         ≡ D.faults (opening_disk opening.old)) }
     ensures fine_err { IfErr result (CosignerCountsNoOther D.Disk (opening_disk opening.old)
@@ -115,12 +115,12 @@ pub(crate) fn read_signer<H: TreeHash, D: Disk>(
     opening: &mut Opening<D>,
 ) -> Result<Signer, CosignerOpenError>
     requires list { read_list opening.old
-        ≡ option_map (λ _. []) (D.told (opening_disk opening.old)) }
+        ≡ option_map (λ _. []) (D.contents (opening_disk opening.old)) }
     requires goes_on { (is_ended opening.old ≡ false) × (refusal opening.old ≡ None) }
     ensures found { IfOk result (λ s. HasFound (cosigner_fold H.hash) s opening.new) }
     ensures err { IfErr result (HasCosignerCause D.Disk H.hash (opening_disk opening.old)
         (opening_disk opening.new)) }
-    ensures looks { Looks D.Disk (opening_disk opening.old) (opening_disk opening.new) }
+    ensures only_reads { OnlyReads D.Disk (opening_disk opening.old) (opening_disk opening.new) }
     ensures fine { OnOk result (D.faults (opening_disk opening.new)
         ≡ D.faults (opening_disk opening.old)) }
     ensures fine_err { IfErr result (CosignerCountsNoOther D.Disk (opening_disk opening.old)

@@ -33,7 +33,7 @@ impl Progress {
     {
         match step {
             StepRef::Advance { size, root, proof } => {
-                if *size <= self.held.size || !self.held.is_front_of::<H>(*size, root, proof) {
+                if *size <= self.held.size || !self.held.is_prefix_of::<H>(*size, root, proof) {
                     return None;
                 }
                 Some(Progress {

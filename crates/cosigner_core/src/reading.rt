@@ -1,6 +1,6 @@
 //! Reading requests.
 
-ghost use Rattle.byte_forms.specs.Readings.{Gives, Moves};
+ghost use Rattle.byte_formats.specs.Readings.{Gives, Moves};
 ghost use Rattle.cosigner_core.specs.Reading.{advance_at, advance_in, log_id_at, subtree_at};
 ghost use Rattle.cosigner_core.specs.Reading.{subtree_in};
 ghost use Rattle.cosigner_core.specs.Views.{advance_parts, subtree_parts};

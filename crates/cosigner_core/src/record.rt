@@ -1,7 +1,7 @@
 //! Reading the bodies of a cosigner's records.
 
 ghost use Rattle.std.specs.Prelude.{◌≡◌, ◌≢◌, Err, option_map, option_and_then, IfSome, IfOk};
-ghost use Rattle.byte_forms.specs.Readings.{Moves, whole_of};
+ghost use Rattle.byte_formats.specs.Readings.{Moves, whole_of};
 ghost use Rattle.lms_core.specs.Heights.{IsSigningHeight};
 ghost use Rattle.tls_wire.specs.Reading.{bytes_at};
 ghost use Rattle.cosigner_core.specs.Records.{advance_step_at, cosigner_at, cosigner_in, founded};

@@ -1,7 +1,7 @@
 //! A cosigner without its journal.
 
 ghost use Rattle.std.specs.Prelude.{◌≡◌, ◌<◌, ◌≤◌, ◌^◌, length, IfErr, OnOk};
-ghost use Rattle.byte_forms.specs.Refusals.{answer_of};
+ghost use Rattle.byte_formats.specs.Refusals.{answer_of};
 ghost use Rattle.hss_core.specs.Hss.{Verifies, one_level_public};
 ghost use Rattle.mtc_proof.specs.Inputs.{signed_text};
 ghost use Rattle.cosigner_core.specs.Folds.{having_signed, holding, key_count};
@@ -97,7 +97,7 @@ impl Signer {
         }
         if !self
             .held
-            .is_front_of::<H>(request.size, &request.root, request.proof)
+            .is_prefix_of::<H>(request.size, &request.root, request.proof)
         {
             return Err(CosignError::BadProof);
         }

@@ -2,7 +2,7 @@
 
 ghost use Rattle.std.specs.Prelude.{◌≡◌, ◌+◌, ◌*◌, ◌≤◌, ◌++◌, [], length, IfOk};
 ghost use Rattle.lms_core.specs.Heights.{IsSigningHeight};
-ghost use Rattle.tls_wire.specs.Spelling.{hashes};
+ghost use Rattle.tls_wire.specs.Encoding.{hashes};
 ghost use Rattle.cosigner_core.specs.Records.{FitsAdvance, FitsCosigner, FitsSign, advance_record};
 ghost use Rattle.cosigner_core.specs.Records.{cosigner_record, sign_record};
 
@@ -103,7 +103,7 @@ impl StepRecord {
     // Puts hashes behind the bytes so far, behind their length in bytes.
     fn append_hashes(&mut self, items: &[[u8; 32]])
         requires few { length items.now ≤ 65 }
-        requires room { length self.old + 2 + 32 * length items.now ≤ 2135 }
+        requires capacity { length self.old + 2 + 32 * length items.now ≤ 2135 }
         ensures { self.new ≡ self.old ++ hashes items.now }
     {
         let bytes = items.as_flattened();

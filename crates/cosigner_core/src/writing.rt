@@ -1,7 +1,7 @@
 //! Writing requests.
 
 ghost use Rattle.std.specs.Prelude.{◌≡◌, ◌++◌, ◌<◌, ◌≤◌, length, Ok, IfOk, OnOk};
-ghost use Rattle.tls_wire.specs.Spelling.{AreHashes, hashes};
+ghost use Rattle.tls_wire.specs.Encoding.{AreHashes, hashes};
 ghost use Rattle.cosigner_core.specs.Reading.{advance_in, subtree_in};
 ghost use Rattle.cosigner_core.specs.Requests.{advance_text, subtree_text};
 

@@ -8,11 +8,11 @@ use Rattle.std.proofs.lemmas.Bool.{cases_lt}
 use Rattle.std.proofs.lemmas.Nat.{div-mul-add, mod-mul-add}
 use Rattle.std.proofs.lemmas.List.{take_at, drop_at, take-append-drop, length-append}
 use Rattle.std.proofs.lemmas.List.{length-take-le}
-use Rattle.byte_forms.specs.Types.{Text}
-use Rattle.byte_forms.specs.Places.{At, IsBytes, begins_with}
-use Rattle.byte_forms.specs.Readings.{◌>>=◌}
-use Rattle.byte_forms.proofs.Steps.{bind_ok, chosen, guard_ok, pass_ok, ok_is, IsBytes-rest}
-use Rattle.byte_forms.proofs.Steps.{IsBytes-front, IsBytes-back}
+use Rattle.byte_formats.specs.Types.{Text}
+use Rattle.byte_formats.specs.Places.{At, IsBytes, begins_with}
+use Rattle.byte_formats.specs.Readings.{◌>>=◌}
+use Rattle.byte_formats.proofs.Steps.{bind_ok, chosen, guard_ok, pass_ok, ok_is, IsBytes-rest}
+use Rattle.byte_formats.proofs.Steps.{IsBytes-prefix, IsBytes-back}
 use Rattle.der_core.specs.Elements.{length_octets, element, IsTag, FitsElement}
 use Rattle.der_core.specs.Items.{Item}
 use Rattle.der_core.specs.Reading.{tag_at, one_at, two_at, three_at, length_at, behind_tag}
@@ -251,7 +251,7 @@ is_read a tag contents rest e b h fits parts same =
         whole =
             refl;
         place = refl;
-        bytes = IsBytes-front contents rest others;
+        bytes = IsBytes-prefix contents rest others;
       },
       refl,
     )
@@ -280,10 +280,10 @@ behind_takes a tag rest e b cut h is_tag read =
     let contents : Text = take n others in
     let behind : Text = drop n others in
     let count : length contents ≡ n = length-take-le n others le in
-    let spelled : length_octets n ++ others ≡ length_octets (length contents)
+    let encoded : length_octets n ++ others ≡ length_octets (length contents)
     ++ (contents ++ behind) = rw (count, take-append-drop n others) refl in
     let rest_is : rest ≡ length_octets (length contents) ++ (contents ++ behind) = len.parts
-    ∙ spelled in
+    ∙ encoded in
     let parts : a.rest ≡ element tag contents ++ behind = cut ∙ (ap (λ (t : Text). tag ∷ t) rest_is
     ∙ sym (element_parts tag contents behind)) in
     let short : length contents < 2 ^ 24 = omega (arith, len.short) in

@@ -7,14 +7,15 @@ use Rattle.std.specs.List.{flat_map}
 use Rattle.std.specs.Ordering.{nat_cmp, is_gt}
 use Rattle.std.specs.Cmp.Lexicographic.{slice_cmp}
 use Rattle.std.proofs.lemmas.List.{nil_from_length}
-use Rattle.byte_forms.specs.Types.{Text}
-use Rattle.byte_forms.specs.Places.{At, IsBytes, at}
-use Rattle.byte_forms.specs.Readings.{◌>>=◌, discarded, some_or, Reading}
-use Rattle.byte_forms.specs.Forms.{Stands, IsForm, Anything, Nothing, IsSpelling, itself, FitsEach}
-use Rattle.byte_forms.proofs.Steps.{bind_ok, discarded_ok, guard_ok, lifted_ok, pass_ok, ok_is}
-use Rattle.byte_forms.proofs.Steps.{some_or_ok}
-use Rattle.byte_forms.proofs.Forms.{said_form}
-use Rattle.byte_forms.proofs.Lists.{each_form}
+use Rattle.byte_formats.specs.Types.{Text}
+use Rattle.byte_formats.specs.Places.{At, IsBytes, at}
+use Rattle.byte_formats.specs.Readings.{◌>>=◌, discarded, some_or, Reading}
+use Rattle.byte_formats.specs.Forms.{Stands, IsForm, Anything, Nothing, IsEncoding, itself}
+use Rattle.byte_formats.specs.Forms.{FitsEach}
+use Rattle.byte_formats.proofs.Steps.{bind_ok, discarded_ok, guard_ok, lifted_ok, pass_ok, ok_is}
+use Rattle.byte_formats.proofs.Steps.{some_or_ok}
+use Rattle.byte_formats.proofs.Forms.{said_form}
+use Rattle.byte_formats.proofs.Lists.{each_form}
 use Rattle.der_core.specs.declared.fault.DerError.{DerError}
 use Rattle.der_core.specs.declared.fault.DerError.TheVariants.{Trailing, SetOrder}
 use Rattle.der_core.specs.declared.fault.CertError.{CertError}
@@ -90,7 +91,7 @@ contents_form tag is_tag = record {
 
 -- The bytes of an element with this tag.
 pub element_with_form : (tag : ℕ) → IsTag tag
-    → IsForm itself (IsSpelling (element tag) (λ contents. length contents < 2 ^ 24)) Anything
+    → IsForm itself (IsEncoding (element tag) (λ contents. length contents < 2 ^ 24)) Anything
     (element_with_at tag)
 element_with_form tag is_tag = record {
   takes = λ a bytes b h e.
@@ -101,7 +102,7 @@ element_with_form tag is_tag = record {
       let read = contents_takes tag a s.0.0 s.0.1 h s.1 in
       let same = whole_wanted tag a s.0.0 s.0.1 read in
       let P : Text × At → Type 0 = λ v. Stands a v.0 v.1
-      × IsSpelling (element tag) (λ contents. length contents < 2 ^ 24) v.0 in
+      × IsEncoding (element tag) (λ contents. length contents < 2 ^ 24) v.0 in
       subst P (ok_is CertError (s.0.0.whole, s.0.1) (bytes, b) s.2)
       (rw same (stands_wanted tag a s.0.0 s.0.1 read), (s.0.0.contents, read.0.fits.short, same));
   again = λ bytes p rest f q.
@@ -128,22 +129,22 @@ any_form = record {
           contents = s.0.0.contents;
           fits =
               read.fits;
-          spelled = read.whole;
+          encoded = read.whole;
         },
       );
   again = λ bytes p rest f q.
       let P : Text → Type 0 = λ t. any_at (record { place = p; rest = t ++ rest })
       ≡ Ok (t, record { place = p + length t; rest = rest }) in
-      subst P (sym f.spelled) (rw (element_again f.tag f.contents p rest f.fits) refl);
+      subst P (sym f.encoded) (rw (element_again f.tag f.contents p rest f.fits) refl);
 }
 
 -- The value of an element, by the rule for its contents.
-pub decoded_form : {X : Type 0} (tag : ℕ) (spell : X → Text) (Fits : X → Type 0) (decode : ℕ → Text
+pub decoded_form : {X : Type 0} (tag : ℕ) (encode : X → Text) (Fits : X → Type 0) (decode : ℕ → Text
     → Result X DerError)
-    → IsTag tag → IsContents spell Fits decode
-    → IsForm (λ x. element tag (spell x)) (λ x. Fits x
-    × (length (spell x) < 2 ^ 24)) Anything (decoded_at tag decode)
-decoded_form {X} tag spell Fits decode is_tag rule = record {
+    → IsTag tag → IsContents encode Fits decode
+    → IsForm (λ x. element tag (encode x)) (λ x. Fits x
+    × (length (encode x) < 2 ^ 24)) Anything (decoded_at tag decode)
+decoded_form {X} tag encode Fits decode is_tag rule = record {
   takes = λ a x b h e.
       let s = bind_ok (der (wanted_at tag a)) (λ (v : Item
       × At). der (decode v.0.place v.0.contents) >>= λ (y : X). Ok (y, v.1)) (x, b) e in
@@ -154,14 +155,14 @@ decoded_form {X} tag spell Fits decode is_tag rule = record {
       let read = contents_takes tag a s.0.0 s.0.1 h s.1 in
       let known = rule.takes s.0.0.place s.0.0.contents t.0 read.0.bytes
       (der_ok (decode s.0.0.place s.0.0.contents) t.0 t.1) in
-      let P : X × At → Type 0 = λ v. Stands a (element tag (spell v.0)) v.1
-      × (Fits v.0 × (length (spell v.0) < 2 ^ 24)) in
+      let P : X × At → Type 0 = λ v. Stands a (element tag (encode v.0)) v.1
+      × (Fits v.0 × (length (encode v.0) < 2 ^ 24)) in
       let Q : Text → Type 0 = λ c. Stands a (element tag c) s.0.1 × (length c < 2 ^ 24) in
       let text = subst Q known.0 (stands_wanted tag a s.0.0 s.0.1 read, read.0.fits.short) in
       subst P (ok_is CertError (t.0, s.0.1) (x, b) t.2) (text.0, (known.1, text.1));
   again = λ x p rest f q.
       rw (
-        wanted_again tag (spell x) p rest (record { is_tag = is_tag; short = f.1 }),
+        wanted_again tag (encode x) p rest (record { is_tag = is_tag; short = f.1 }),
         rule.again p x f.0,
       ) refl;
 }
@@ -205,31 +206,31 @@ unsigned_form fault =
 -- ---- what stands inside an element
 
 -- What was read inside is all of the contents.
-inner_takes : {X : Type 0} (spell : X → Text) (Fits : X → Type 0) (read : Reading X CertError)
-    → IsForm spell Fits Nothing read
+inner_takes : {X : Type 0} (encode : X → Text) (Fits : X → Type 0) (read : Reading X CertError)
+    → IsForm encode Fits Nothing read
     → (e : Item) (x : X) (b : At) (done : Unit {0}) → IsBytes e.contents
     → read (inside e) ≡ Ok (x, b) → der (end_at b) ≡ Ok done
-    → (e.contents ≡ spell x) × Fits x
-inner_takes spell Fits read form e x b done h step end =
+    → (e.contents ≡ encode x) × Fits x
+inner_takes encode Fits read form e x b done h step end =
     let t = form.takes (inside e) x b h step in
     let nothing = end_ok b done (der_ok (end_at b) done end) in
-    (t.0.parts ∙ (ap (λ (c : Text). spell x ++ c) nothing ∙ append-nil (spell x)), t.1)
+    (t.0.parts ∙ (ap (λ (c : Text). encode x ++ c) nothing ∙ append-nil (encode x)), t.1)
 
-inner_again : {X : Type 0} (spell : X → Text) (Fits : X → Type 0) (read : Reading X CertError)
-    → IsForm spell Fits Nothing read
-    → (x : X) (place : ℕ) → Fits x → read (record { place = place; rest = spell x })
-    ≡ Ok (x, record { place = place + length (spell x); rest = [] })
-inner_again spell Fits read form x place f =
-    ap (λ (c : Text). read (record { place = place; rest = c })) (sym (append-nil (spell x)))
+inner_again : {X : Type 0} (encode : X → Text) (Fits : X → Type 0) (read : Reading X CertError)
+    → IsForm encode Fits Nothing read
+    → (x : X) (place : ℕ) → Fits x → read (record { place = place; rest = encode x })
+    ≡ Ok (x, record { place = place + length (encode x); rest = [] })
+inner_again encode Fits read form x place f =
+    ap (λ (c : Text). read (record { place = place; rest = c })) (sym (append-nil (encode x)))
     ∙ form.again x place [] f refl
 
 -- What is read inside an element.
-pub inside_form : {X : Type 0} (tag : ℕ) (spell : X → Text) (Fits : X
+pub inside_form : {X : Type 0} (tag : ℕ) (encode : X → Text) (Fits : X
     → Type 0) (read : Reading X CertError)
-    → IsTag tag → IsForm spell Fits Nothing read
-    → IsForm (λ x. element tag (spell x)) (λ x. Fits x
-    × (length (spell x) < 2 ^ 24)) Anything (inside_at tag read)
-inside_form {X} tag spell Fits read is_tag form = record {
+    → IsTag tag → IsForm encode Fits Nothing read
+    → IsForm (λ x. element tag (encode x)) (λ x. Fits x
+    × (length (encode x) < 2 ^ 24)) Anything (inside_at tag read)
+inside_form {X} tag encode Fits read is_tag form = record {
   takes = λ a x b h e.
       let s = bind_ok (der (wanted_at tag a)) (λ (v : Item × At). read (inside v.0) >>= λ (y : X
       × At). der (end_at y.1) >>= λ (done : Unit {0}). Ok (y.0, v.1)) (x, b) e in
@@ -237,27 +238,27 @@ inside_form {X} tag spell Fits read is_tag form = record {
       × At). der (end_at y.1) >>= λ (done : Unit {0}). Ok (y.0, s.0.1)) (x, b) s.2 in
       let u = bind_ok (der (end_at t.0.1)) (λ (done : Unit {0}). Ok (t.0.0, s.0.1)) (x, b) t.2 in
       let whole = contents_takes tag a s.0.0 s.0.1 h s.1 in
-      let known = inner_takes spell Fits read form s.0.0 t.0.0 t.0.1 u.0 whole.0.bytes t.1 u.1 in
-      let P : X × At → Type 0 = λ v. Stands a (element tag (spell v.0)) v.1
-      × (Fits v.0 × (length (spell v.0) < 2 ^ 24)) in
+      let known = inner_takes encode Fits read form s.0.0 t.0.0 t.0.1 u.0 whole.0.bytes t.1 u.1 in
+      let P : X × At → Type 0 = λ v. Stands a (element tag (encode v.0)) v.1
+      × (Fits v.0 × (length (encode v.0) < 2 ^ 24)) in
       let Q : Text → Type 0 = λ c. Stands a (element tag c) s.0.1 × (length c < 2 ^ 24) in
       let text = subst Q known.0 (stands_wanted tag a s.0.0 s.0.1 whole, whole.0.fits.short) in
       subst P (ok_is CertError (t.0.0, s.0.1) (x, b) u.2) (text.0, (known.1, text.1));
   again = λ x p rest f q.
       rw (
-        wanted_again tag (spell x) p rest (record { is_tag = is_tag; short = f.1 }),
-        inner_again spell Fits read form x
-            (p + (length (element tag (spell x)) - length (spell x))) f.0,
+        wanted_again tag (encode x) p rest (record { is_tag = is_tag; short = f.1 }),
+        inner_again encode Fits read form x
+            (p + (length (element tag (encode x)) - length (encode x))) f.0,
       ) refl;
 }
 
 -- The bytes of an element and what is read inside it.
-pub noted_form : {X : Type 0} (tag : ℕ) (spell : X → Text) (Fits : X
+pub noted_form : {X : Type 0} (tag : ℕ) (encode : X → Text) (Fits : X
     → Type 0) (read : Reading X CertError)
-    → IsTag tag → IsForm spell Fits Nothing read
-    → IsForm (λ v. v.0) (λ (v : Text × X). (v.0 ≡ element tag (spell v.1))
-    × (Fits v.1 × (length (spell v.1) < 2 ^ 24))) Anything (noted_at tag read)
-noted_form {X} tag spell Fits read is_tag form = record {
+    → IsTag tag → IsForm encode Fits Nothing read
+    → IsForm (λ v. v.0) (λ (v : Text × X). (v.0 ≡ element tag (encode v.1))
+    × (Fits v.1 × (length (encode v.1) < 2 ^ 24))) Anything (noted_at tag read)
+noted_form {X} tag encode Fits read is_tag form = record {
   takes = λ a x b h e.
       let s = bind_ok (der (wanted_at tag a)) (λ (v : Item × At). read (inside v.0) >>= λ (y : X
       × At). der (end_at y.1) >>= λ (done : Unit {0}). Ok ((v.0.whole, y.0), v.1)) (x, b) e in
@@ -269,11 +270,11 @@ noted_form {X} tag spell Fits read is_tag form = record {
       let u = bind_ok (der (end_at t.0.1)) (λ (done : Unit {0}). Ok ((s.0.0.whole, t.0.0), s.0.1))
       (x, b) t.2 in
       let whole = contents_takes tag a s.0.0 s.0.1 h s.1 in
-      let known = inner_takes spell Fits read form s.0.0 t.0.0 t.0.1 u.0 whole.0.bytes t.1 u.1 in
+      let known = inner_takes encode Fits read form s.0.0 t.0.0 t.0.1 u.0 whole.0.bytes t.1 u.1 in
       let same = whole_wanted tag a s.0.0 s.0.1 whole in
       let P : (Text × X) × At → Type 0 = λ v. Stands a v.0.0 v.1
-      × ((v.0.0 ≡ element tag (spell v.0.1))
-      × (Fits v.0.1 × (length (spell v.0.1) < 2 ^ 24))) in
+      × ((v.0.0 ≡ element tag (encode v.0.1))
+      × (Fits v.0.1 × (length (encode v.0.1) < 2 ^ 24))) in
       let Q : Text → Type 0 = λ c. (s.0.0.whole ≡ element tag c) × (length c < 2 ^ 24) in
       let text = subst Q known.0 (same, whole.0.fits.short) in
       subst P (ok_is CertError ((s.0.0.whole, t.0.0), s.0.1) (x, b) u.2)
@@ -282,23 +283,23 @@ noted_form {X} tag spell Fits read is_tag form = record {
       let P : Text → Type 0 = λ t. noted_at tag read (record { place = p; rest = t ++ rest })
       ≡ Ok ((t, x.1), record { place = p + length t; rest = rest }) in
       subst P (sym f.0) (rw (
-        wanted_again tag (spell x.1) p rest (record {
+        wanted_again tag (encode x.1) p rest (record {
           is_tag = is_tag;
           short =
               f.1.1;
         }),
-        inner_again spell Fits read form x.1
-            (p + (length (element tag (spell x.1)) - length (spell x.1))) f.1.0,
+        inner_again encode Fits read form x.1
+            (p + (length (element tag (encode x.1)) - length (encode x.1))) f.1.0,
       ) refl);
 }
 
 -- The bytes of an element whose contents are read.
-pub whole_form : {X : Type 0} (tag : ℕ) (spell : X → Text) (Fits : X
+pub whole_form : {X : Type 0} (tag : ℕ) (encode : X → Text) (Fits : X
     → Type 0) (read : Reading X CertError)
-    → IsTag tag → IsForm spell Fits Nothing read
-    → IsForm itself (IsSpelling (λ x. element tag (spell x)) (λ x. Fits x
-    × (length (spell x) < 2 ^ 24))) Anything (whole_at tag read)
-whole_form {X} tag spell Fits read is_tag form = record {
+    → IsTag tag → IsForm encode Fits Nothing read
+    → IsForm itself (IsEncoding (λ x. element tag (encode x)) (λ x. Fits x
+    × (length (encode x) < 2 ^ 24))) Anything (whole_at tag read)
+whole_form {X} tag encode Fits read is_tag form = record {
   takes = λ a x b h e.
       let s = bind_ok (der (wanted_at tag a)) (λ (v : Item
       × At). discarded (read (inside v.0)) >>= λ (c : At). der
@@ -314,11 +315,11 @@ whole_form {X} tag spell Fits read is_tag form = record {
       ) t.2 in
       let step = discarded_ok (read (inside s.0.0)) t.0 t.1 in
       let whole = contents_takes tag a s.0.0 s.0.1 h s.1 in
-      let known = inner_takes spell Fits read form s.0.0 step.0 t.0 u.0 whole.0.bytes step.1 u.1 in
+      let known = inner_takes encode Fits read form s.0.0 step.0 t.0 u.0 whole.0.bytes step.1 u.1 in
       let same = whole_wanted tag a s.0.0 s.0.1 whole in
       let P : Text × At → Type 0 = λ v. Stands a v.0 v.1
-      × IsSpelling (λ x. element tag (spell x)) (λ x. Fits x
-      × (length (spell x) < 2 ^ 24)) v.0 in
+      × IsEncoding (λ x. element tag (encode x)) (λ x. Fits x
+      × (length (encode x) < 2 ^ 24)) v.0 in
       let Q : Text → Type 0 = λ c. (s.0.0.whole ≡ element tag c) × (length c < 2 ^ 24) in
       let text = subst Q known.0 (same, whole.0.fits.short) in
       subst P (ok_is CertError (s.0.0.whole, s.0.1) (x, b) u.2)
@@ -327,13 +328,13 @@ whole_form {X} tag spell Fits read is_tag form = record {
       let P : Text → Type 0 = λ t. whole_at tag read (record { place = p; rest = t ++ rest })
       ≡ Ok (t, record { place = p + length t; rest = rest }) in
       subst P (sym f.2) (rw (
-        wanted_again tag (spell f.0) p rest (record {
+        wanted_again tag (encode f.0) p rest (record {
           is_tag = is_tag;
           short =
               f.1.1;
         }),
-        inner_again spell Fits read form f.0
-            (p + (length (element tag (spell f.0)) - length (spell f.0))) f.1.0,
+        inner_again encode Fits read form f.0
+            (p + (length (element tag (encode f.0)) - length (encode f.0))) f.1.0,
       ) refl);
 }
 
@@ -360,7 +361,7 @@ risen_form place seen = record {
             contents =
                 s.0.0.contents;
             fits = read.fits;
-            spelled = read.whole;
+            encoded = read.whole;
           };
           risen = g.0;
         },
@@ -369,7 +370,7 @@ risen_form place seen = record {
       let P : Text → Type 0 = λ t. is_gt (slice_cmp nat_cmp (last_of seen) t) ≡ false
       → risen_at place (last_of seen) (record { place = p; rest = t ++ rest })
       ≡ Ok (t, record { place = p + length t; rest = rest }) in
-      subst P (sym f.is_element.spelled)
+      subst P (sym f.is_element.encoded)
       (λ low. rw (
         element_again f.is_element.tag f.is_element.contents p rest f.is_element.fits,
         low,
@@ -380,7 +381,7 @@ risen_form place seen = record {
 pub next_some : (seen : List Text) (bytes : Text) → IsRisen seen bytes → 0 < length bytes
 next_some seen bytes f = omega (
   arith,
-  ap length f.is_element.spelled,
+  ap length f.is_element.encoded,
   element-longer f.is_element.tag f.is_element.contents,
 )
 
@@ -393,28 +394,30 @@ rising_form place = each_form itself itself IsRisen (λ seen. risen_at place (la
 -- ---- whole inputs
 
 -- Bytes that read up to their end are the spelling of what was read.
-pub all_takes : {X : Type 0} (spell : X → Text) (Fits : X → Type 0) (read : Reading X CertError)
-    → IsForm spell Fits Anything read
-    → (bytes : Text) (x : X) → IsBytes bytes → all_of read bytes ≡ Ok x → (bytes ≡ spell x) × Fits x
-all_takes {X} spell Fits read form bytes x h e =
+pub all_takes : {X : Type 0} (encode : X → Text) (Fits : X → Type 0) (read : Reading X CertError)
+    → IsForm encode Fits Anything read
+    → (bytes : Text) (x : X) → IsBytes bytes → all_of read bytes ≡ Ok x
+    → (bytes ≡ encode x) × Fits x
+all_takes {X} encode Fits read form bytes x h e =
     let s = bind_ok (read (at bytes 0)) (λ (v : X × At). der (end_at v.1) >>= λ (done : Unit {0}).
     Ok v.0) x e in
     let t = bind_ok (der (end_at s.0.1)) (λ (done : Unit {0}). Ok s.0.0) x s.2 in
     let known = form.takes (at bytes 0) s.0.0 s.0.1 h s.1 in
     let nothing = end_ok s.0.1 t.0 (der_ok (end_at s.0.1) t.0 t.1) in
-    let P : X → Type 0 = λ v. (bytes ≡ spell v) × Fits v in
+    let P : X → Type 0 = λ v. (bytes ≡ encode v) × Fits v in
     subst P (ok_is CertError s.0.0 x t.2) (
       known.0.parts
-          ∙ (ap (λ (c : Text). spell s.0.0 ++ c) nothing ∙ append-nil (spell s.0.0)),
+          ∙ (ap (λ (c : Text). encode s.0.0 ++ c) nothing ∙ append-nil (encode s.0.0)),
       known.1,
     )
 
 -- A spelling reads up to its end.
-pub all_again : {X : Type 0} (spell : X → Text) (Fits : X → Type 0) (read : Reading X CertError)
-    → IsForm spell Fits Anything read
-    → (x : X) → Fits x → all_of read (spell x) ≡ Ok x
-all_again spell Fits read form x f =
-    let step : read (at (spell x) 0) ≡ Ok (x, record { place = 0 + length (spell x); rest = [] }) =
-    ap (λ (c : Text). read (record { place = 0; rest = c })) (sym (append-nil (spell x)))
+pub all_again : {X : Type 0} (encode : X → Text) (Fits : X → Type 0) (read : Reading X CertError)
+    → IsForm encode Fits Anything read
+    → (x : X) → Fits x → all_of read (encode x) ≡ Ok x
+all_again encode Fits read form x f =
+    let step : read (at (encode x) 0)
+    ≡ Ok (x, record { place = 0 + length (encode x); rest = [] }) =
+    ap (λ (c : Text). read (record { place = 0; rest = c })) (sym (append-nil (encode x)))
     ∙ form.again x 0 [] f tt in
     rw step refl

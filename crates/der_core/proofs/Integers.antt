@@ -9,11 +9,12 @@ use Rattle.std.proofs.lemmas.Bool.{cases_lt}
 use Rattle.std.specs.Int.{w64, to_be_bytes, from_be_bytes}
 use Rattle.std.proofs.lemmas.Nat.{mul-add-lt, from_be_bytes-to_be_bytes_8}
 use Rattle.std.proofs.Math.Nat.{pow-le-pow_right, div-lt_iff_lt-mul, pow-zero}
-use Rattle.byte_forms.specs.Types.{Text}
-use Rattle.byte_forms.specs.Places.{IsBytes}
-use Rattle.byte_forms.specs.Numbers.{value, digits}
-use Rattle.byte_forms.proofs.Steps.{guard_ok, ok_is, chosen, IsBytes-rest}
-use Rattle.byte_forms.proofs.Digits.{value-lt, value-digits, digits-value, power_pos, length-digits}
+use Rattle.byte_formats.specs.Types.{Text}
+use Rattle.byte_formats.specs.Places.{IsBytes}
+use Rattle.byte_formats.specs.Numbers.{value, digits}
+use Rattle.byte_formats.proofs.Steps.{guard_ok, ok_is, chosen, IsBytes-rest}
+use Rattle.byte_formats.proofs.Digits.{value-lt, value-digits, digits-value, power_pos}
+use Rattle.byte_formats.proofs.Digits.{length-digits}
 use Rattle.der_core.specs.declared.fault.DerError.{DerError}
 use Rattle.der_core.specs.declared.fault.DerError.TheVariants.{BadInteger}
 use Rattle.der_core.specs.Contents.{is_padded, if_small, unsigned_of}

@@ -5,8 +5,8 @@ use Rattle.std.proofs.Common.{le-ltb, lt-ltb, pow-suc, mul-le-mul_left, inl, inr
 use Rattle.std.specs.Prelude.{if◌then◌else◌, ◌==◌, nat_lt}
 use Rattle.std.proofs.lemmas.List.{drop_more, drop_all}
 use Rattle.std.proofs.Math.Nat.{one-le-pow}
-use Rattle.byte_forms.specs.Types.{Text}
-use Rattle.byte_forms.specs.Numbers.{value}
+use Rattle.byte_formats.specs.Types.{Text}
+use Rattle.byte_formats.specs.Numbers.{value}
 use Rattle.der_core.specs.Contents.{are_arcs, if_small}
 
 -- ---- arcs

@@ -7,10 +7,10 @@ use Rattle.std.specs.Prelude.{if◌then◌else◌, ◌==◌, nat_le, nat_lt}
 use Rattle.std.specs.List.{AllByRecursion}
 use Rattle.std.proofs.lemmas.Bool.{cases_lt}
 use Rattle.std.proofs.lemmas.Bool.{and_parts}
-use Rattle.byte_forms.specs.Types.{Text}
-use Rattle.byte_forms.specs.Places.{IsBytes}
-use Rattle.byte_forms.specs.Forms.{itself}
-use Rattle.byte_forms.proofs.Steps.{guard_ok, pass_ok, chosen, ok_is}
+use Rattle.byte_formats.specs.Types.{Text}
+use Rattle.byte_formats.specs.Places.{IsBytes}
+use Rattle.byte_formats.specs.Forms.{itself}
+use Rattle.byte_formats.proofs.Steps.{guard_ok, pass_ok, chosen, ok_is}
 use Rattle.der_core.specs.declared.fault.DerError.{DerError}
 use Rattle.der_core.specs.declared.fault.DerError.TheVariants.{BadBool, BadOid, BadBits}
 use Rattle.der_core.specs.Contents.{boolean_of, are_arcs, oid_of, are_unused, bits_of}
@@ -46,12 +46,12 @@ boolean_contents = record { takes = boolean_takes; again = boolean_again }
 abbrev Split : Bool → Text → Type 0
 Split true bytes = (arcs : List Text) × AllByRecursion IsSubidentifier arcs
     × (bytes ≡ flat_map itself arcs)
-Split false bytes = (front : Text) × EndsOnce front × (arcs : List Text)
-    × AllByRecursion IsSubidentifier arcs × (bytes ≡ front ++ flat_map itself arcs)
+Split false bytes = (prefix : Text) × EndsOnce prefix × (arcs : List Text)
+    × AllByRecursion IsSubidentifier arcs × (bytes ≡ prefix ++ flat_map itself arcs)
 
-ends_more : (b : ℕ) (front : Text) → 128 ≤ b → EndsOnce front → EndsOnce (b ∷ front)
+ends_more : (b : ℕ) (prefix : Text) → 128 ≤ b → EndsOnce prefix → EndsOnce (b ∷ prefix)
 ends_more b [] le ends = absurd ends
-ends_more b (c ∷ front) le ends = (le, ends)
+ends_more b (c ∷ prefix) le ends = (le, ends)
 
 split : (begins : Bool) (bytes : Text) → are_arcs begins bytes ≡ true → Split begins bytes
 unfolding are_arcs
@@ -100,22 +100,22 @@ split false (b ∷ rest) e =
 arcs_take : (bytes : Text) → are_arcs true bytes ≡ true → Split true bytes
 arcs_take bytes e = split true bytes e
 
-inside_again : (front rest : Text) → EndsOnce front
-    → are_arcs false (front ++ rest) ≡ are_arcs true rest
+inside_again : (prefix rest : Text) → EndsOnce prefix
+    → are_arcs false (prefix ++ rest) ≡ are_arcs true rest
 unfolding are_arcs
 inside_again [] rest ends = absurd ends
 inside_again (b ∷ []) rest ends = rw (lt-ltb b 128 ends) refl
-inside_again (b ∷ c ∷ front) rest ends =
-    rw (le-ltb b 128 ends.0) (inside_again (c ∷ front) rest ends.1)
+inside_again (b ∷ c ∷ prefix) rest ends =
+    rw (le-ltb b 128 ends.0) (inside_again (c ∷ prefix) rest ends.1)
 
 arc_again : (arc rest : Text) → IsSubidentifier arc
     → are_arcs true (arc ++ rest) ≡ are_arcs true rest
 unfolding are_arcs
 arc_again [] rest is_arc = absurd is_arc.ends
 arc_again (b ∷ []) rest is_arc = rw (ne_eqb b 128 is_arc.fewest, lt-ltb b 128 is_arc.ends) refl
-arc_again (b ∷ c ∷ front) rest is_arc =
+arc_again (b ∷ c ∷ prefix) rest is_arc =
     rw (ne_eqb b 128 is_arc.fewest, le-ltb b 128 is_arc.ends.0)
-    (inside_again (c ∷ front) rest is_arc.ends.1)
+    (inside_again (c ∷ prefix) rest is_arc.ends.1)
 
 arcs_again : (arcs : List Text) → AllByRecursion IsSubidentifier arcs
     → are_arcs true (flat_map itself arcs) ≡ true
@@ -141,7 +141,7 @@ oid_takes place contents x h e =
         arcs = found.0;
         are_arcs =
             found.1;
-        spelled = found.2;
+        encoded = found.2;
         some = omega arith;
       },
     )
@@ -150,7 +150,7 @@ oid_again : (place : ℕ) (x : Text) → IsOid x → oid_of place x ≡ Ok x
 unfolding oid_of
 oid_again place x f =
     let some : length x ≢ 0 = omega (arith, f.some) in
-    let arcs : are_arcs true x ≡ true = ap (are_arcs true) f.spelled
+    let arcs : are_arcs true x ≡ true = ap (are_arcs true) f.encoded
     ∙ arcs_again f.arcs f.are_arcs in
     rw (ne_eqb (length x) 0 some, arcs) refl
 

@@ -2,10 +2,10 @@
 use Rattle.std.proofs.Common.{◌≡◌, ℕ, ◌<◌, true, false, List, [], ◌∷◌, ◌++◌, length, Result, Ok}
 use Rattle.std.proofs.Common.{Err, refl, ap, ◌∙◌}
 use Rattle.std.specs.Prelude.{◌==◌}
-use Rattle.byte_forms.specs.Types.{Text}
-use Rattle.byte_forms.specs.Places.{At}
-use Rattle.byte_forms.specs.Forms.{itself}
-use Rattle.byte_forms.proofs.Loops.{WalksEach, each_more, each_fails, each_end}
+use Rattle.byte_formats.specs.Types.{Text}
+use Rattle.byte_formats.specs.Places.{At}
+use Rattle.byte_formats.specs.Forms.{itself}
+use Rattle.byte_formats.proofs.Loops.{WalksEach, each_more, each_fails, each_end}
 use Rattle.der_core.specs.declared.fault.DerError.{DerError}
 use Rattle.der_core.specs.Sets.{risen_at, last_of, finished}
 

@@ -2,8 +2,8 @@
 use Rattle.std.specs.Prelude.{ℕ, ◌-◌, ◌%◌, ◌^◌, Bool, true, false, ◌&&◌, ◌||◌, nat_lt, nat_le, ◌==◌}
 use Rattle.std.specs.Prelude.{[], ◌∷◌, length, slice_index, Option, Some, None, Result, Ok, Err}
 use Rattle.std.specs.Prelude.{if◌then◌else◌}
-use Rattle.byte_forms.specs.Types.{Text}
-use Rattle.byte_forms.specs.Numbers.{value}
+use Rattle.byte_formats.specs.Types.{Text}
+use Rattle.byte_formats.specs.Numbers.{value}
 use Rattle.der_core.specs.declared.fault.DerError.{DerError}
 use Rattle.der_core.specs.declared.fault.DerError.TheVariants.{BadInteger, BadBool, BadOid, BadBits}
 

@@ -2,7 +2,7 @@
 -- contents (X.690, sections 8.1 and 10.1).
 use Rattle.std.specs.Prelude.{◌≢◌, ℕ, ◌/◌, ◌%◌, ◌^◌, ◌<◌, nat_lt, [], ◌∷◌, ◌++◌, length}
 use Rattle.std.specs.Prelude.{if◌then◌else◌}
-use Rattle.byte_forms.specs.Types.{Text}
+use Rattle.byte_formats.specs.Types.{Text}
 
 -- A length below 2 ^ 24 in the fewest bytes (8.1.3 and 10.1): itself below 128, else behind a byte
 -- that counts its bytes.

@@ -4,9 +4,9 @@ use Rattle.std.specs.Prelude.{[], ◌∷◌, length, Result, Ok}
 use Rattle.std.specs.List.{AllByRecursion}
 use Rattle.std.specs.Ordering.{nat_cmp, is_gt}
 use Rattle.std.specs.Cmp.Lexicographic.{slice_cmp}
-use Rattle.byte_forms.specs.Types.{Text}
-use Rattle.byte_forms.specs.Places.{At, IsBytes}
-use Rattle.byte_forms.specs.Forms.{Stands, itself}
+use Rattle.byte_formats.specs.Types.{Text}
+use Rattle.byte_formats.specs.Places.{At, IsBytes}
+use Rattle.byte_formats.specs.Forms.{Stands, itself}
 use Rattle.der_core.specs.Elements.{element, FitsElement}
 use Rattle.der_core.specs.Items.{Item}
 use Rattle.der_core.specs.Contents.{are_unused}
@@ -35,14 +35,14 @@ pub record IsElement (bytes : Text) : Type 0 where
   pub tag : ℕ
   pub contents : Text
   pub fits : FitsElement tag contents
-  pub spelled : bytes ≡ element tag contents
+  pub encoded : bytes ≡ element tag contents
 
 -- A rule for contents reads exactly the spellings of its values.
-pub record IsContents {X : Type 0} (spell : X → Text) (Fits : X → Type 0)
+pub record IsContents {X : Type 0} (encode : X → Text) (Fits : X → Type 0)
     (decode : ℕ → Text → Result X DerError) : Type 0 where
   pub takes : (place : ℕ) (contents : Text) (x : X) → IsBytes contents
-      → decode place contents ≡ Ok x → (contents ≡ spell x) × Fits x
-  pub again : (place : ℕ) (x : X) → Fits x → decode place (spell x) ≡ Ok x
+      → decode place contents ≡ Ok x → (contents ≡ encode x) × Fits x
+  pub again : (place : ℕ) (x : X) → Fits x → decode place (encode x) ≡ Ok x
 
 -- The contents of a BOOLEAN (X.690, 11.1).
 abbrev pub boolean : Bool → Text
@@ -69,7 +69,7 @@ pub record IsSubidentifier (bytes : Text) : Type 0 where
 pub record IsOid (contents : Text) : Type 0 where
   pub arcs : List Text
   pub are_arcs : AllByRecursion IsSubidentifier arcs
-  pub spelled : contents ≡ flat_map itself arcs
+  pub encoded : contents ≡ flat_map itself arcs
   pub some : 0 < length contents
 
 -- The contents of a BIT STRING: the number of unused bits and the bytes.

@@ -1,7 +1,7 @@
 -- The encoding of whole numbers from 0 on (X.690, section 8.3).
 use Rattle.std.specs.Prelude.{ℕ, zero, suc, ◌+◌, ◌*◌, ◌^◌, nat_lt, if◌then◌else◌}
-use Rattle.byte_forms.specs.Types.{Text}
-use Rattle.byte_forms.specs.Numbers.{digits}
+use Rattle.byte_formats.specs.Types.{Text}
+use Rattle.byte_formats.specs.Numbers.{digits}
 
 -- The fewest bytes of a number whose highest bit is 0, at least k + 1 of them.
 abbrev pub width_from : ℕ → ℕ → ℕ → ℕ

@@ -1,9 +1,9 @@
 -- Reading one element, with its faults in their order.
 use Rattle.std.specs.Prelude.{ℕ, ◌+◌, ◌-◌, ◌*◌, ◌%◌, nat_lt, ◌==◌, [], ◌∷◌, length, take, Result}
 use Rattle.std.specs.Prelude.{Ok, Err, if◌then◌else◌}
-use Rattle.byte_forms.specs.Types.{Text}
-use Rattle.byte_forms.specs.Places.{At, after}
-use Rattle.byte_forms.specs.Readings.{Reading, ◌>>=◌}
+use Rattle.byte_formats.specs.Types.{Text}
+use Rattle.byte_formats.specs.Places.{At, after}
+use Rattle.byte_formats.specs.Readings.{Reading, ◌>>=◌}
 use Rattle.der_core.specs.Items.{Item}
 use Rattle.der_core.specs.declared.fault.DerError.{DerError}
 use Rattle.der_core.specs.declared.fault.DerError.TheVariants.{WrongTag, HighTag, LongForm}

@@ -2,11 +2,11 @@
 use Rattle.std.specs.Prelude.{ℕ, List, [], ◌∷◌, length, Result, Ok, Err, if◌then◌else◌}
 use Rattle.std.specs.Ordering.{nat_cmp, is_gt}
 use Rattle.std.specs.Cmp.Lexicographic.{slice_cmp}
-use Rattle.byte_forms.specs.Types.{Text}
-use Rattle.byte_forms.specs.Places.{At}
-use Rattle.byte_forms.specs.Readings.{Reading, ◌>>=◌, discarded}
-use Rattle.byte_forms.specs.Forms.{itself}
-use Rattle.byte_forms.specs.Lists.{each_at}
+use Rattle.byte_formats.specs.Types.{Text}
+use Rattle.byte_formats.specs.Places.{At}
+use Rattle.byte_formats.specs.Readings.{Reading, ◌>>=◌, discarded}
+use Rattle.byte_formats.specs.Forms.{itself}
+use Rattle.byte_formats.specs.Lists.{each_at}
 use Rattle.der_core.specs.Items.{Item, inside}
 use Rattle.der_core.specs.Reading.{element_at}
 use Rattle.der_core.specs.declared.fault.DerError.{DerError}

@@ -1,8 +1,8 @@
 //! The contents of elements that have rules of their own. The tag isn't looked at.
 
 ghost use Rattle.std.specs.Prelude.{◌≡◌, ◌<◌, true};
-ghost use Rattle.byte_forms.specs.Readings.{Gives};
-ghost use Rattle.byte_forms.specs.Numbers.{value};
+ghost use Rattle.byte_formats.specs.Readings.{Gives};
+ghost use Rattle.byte_formats.specs.Numbers.{value};
 ghost use Rattle.der_core.specs.Contents.{is_padded, if_small, unsigned_of, boolean_of, are_arcs};
 ghost use Rattle.der_core.specs.Contents.{oid_of, are_unused, bits_of};
 

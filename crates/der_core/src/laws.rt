@@ -2,9 +2,9 @@
 
 ghost use Rattle.std.specs.Prelude.{◌≡◌, ℕ, ◌+◌, ◌^◌, ◌<◌, [], ◌++◌, length, Some, Ok};
 ghost use Rattle.std.specs.List.{flat_map};
-ghost use Rattle.byte_forms.specs.Types.{Text};
-ghost use Rattle.byte_forms.specs.Places.{At, IsBytes};
-ghost use Rattle.byte_forms.specs.Forms.{IsForm, Nothing, FitsEach, itself};
+ghost use Rattle.byte_formats.specs.Types.{Text};
+ghost use Rattle.byte_formats.specs.Places.{At, IsBytes};
+ghost use Rattle.byte_formats.specs.Forms.{IsForm, Nothing, FitsEach, itself};
 ghost use Rattle.der_core.specs.Elements.{element, FitsElement};
 ghost use Rattle.der_core.specs.Items.{Item};
 ghost use Rattle.der_core.specs.Reading.{element_at, wanted_at};
@@ -16,7 +16,7 @@ ghost use Rattle.der_core.specs.Forms.{IsOid, bit_string, IsBitString, IsRisen};
 
 /// What is read is spelled so, and an element that is spelled so is read again, whatever follows
 /// it.
-pub fn elements_are_read_as_spelled()
+pub fn law_elements_decode_as_encoded()
     ensures read { (a : At) (e : Item) (b : At) → IsBytes a.rest → element_at a ≡ Ok (e, b)
         → IsRead a e b }
     ensures again { (tag : ℕ) (contents : Text) (place : ℕ) (rest : Text)
@@ -36,20 +36,20 @@ pub fn elements_are_read_as_spelled()
 {}
 
 /// An element has one spelling, and no spelling of an element begins another one.
-pub fn elements_have_one_spelling()
+pub fn law_elements_have_one_encoding()
     ensures { (s t : ℕ) (c d a b : Text) → FitsElement s c → FitsElement t d
         → element s c ++ a ≡ element t d ++ b → (s ≡ t) × (c ≡ d) × (a ≡ b) }
 {}
 
 /// A number below 2 ^ 64 has one encoding, which is read as that number.
-pub fn numbers_are_read_as_spelled()
+pub fn law_numbers_decode_as_encoded()
     ensures read { (place : ℕ) (contents : Text) (n : ℕ) → IsBytes contents
         → unsigned_of place contents ≡ Ok (Some n) → (contents ≡ integer n) × (n < 2 ^ 64) }
     ensures again { (place n : ℕ) → n < 2 ^ 64 → unsigned_of place (integer n) ≡ Ok (Some n) }
 {}
 
 /// Truth values, object identifiers and strings of bits are read exactly from their spellings.
-pub fn contents_are_read_as_spelled()
+pub fn law_contents_decode_as_encoded()
     ensures booleans { IsContents boolean FitsBoolean boolean_of }
     ensures identifiers { IsContents itself IsOid oid_of }
     ensures bit_strings { IsContents bit_string IsBitString bits_of }
@@ -57,7 +57,7 @@ pub fn contents_are_read_as_spelled()
 
 /// The contents that are in order are the encodings of elements, one behind the other, each not
 /// below the one before it.
-pub fn sets_are_read_as_spelled()
+pub fn law_sets_decode_as_encoded()
     ensures { (place : ℕ)
         → IsForm (flat_map itself) (FitsEach itself IsRisen []) Nothing (rising_at place) }
 {}

@@ -9,7 +9,7 @@
 mod contents;
 mod element;
 mod fault;
-mod laws;
+pub mod laws;
 mod reader;
 mod set;
 pub mod tags;
@@ -18,10 +18,6 @@ mod writing;
 pub use contents::{bits, boolean, oid, unsigned};
 pub use element::Element;
 pub use fault::{CertError, DerError};
-pub use laws::{
-    contents_are_read_as_spelled, elements_are_read_as_spelled, elements_have_one_spelling,
-    numbers_are_read_as_spelled, sets_are_read_as_spelled,
-};
 pub use reader::{Reader, expect, read};
 pub use set::set_in_order;
 pub use writing::{element_of, put, put_unsigned};

@@ -1,8 +1,8 @@
 //! Reading elements one behind the other.
 
 ghost use Rattle.std.specs.Prelude.{◌≡◌, ◌+◌, ◌^◌, ◌<◌, ◌≤◌, ◌==◌, length, OnOk, IfOk};
-ghost use Rattle.byte_forms.specs.Places.{At, at, begins_with};
-ghost use Rattle.byte_forms.specs.Readings.{Reads, Gives, found};
+ghost use Rattle.byte_formats.specs.Places.{At, at, begins_with};
+ghost use Rattle.byte_formats.specs.Readings.{Reads, Gives, found};
 ghost use Rattle.der_core.specs.Items.{item, inside};
 ghost use Rattle.der_core.specs.Reading.{length_at, one_at, two_at, three_at, behind_tag};
 ghost use Rattle.der_core.specs.Reading.{element_at, wanted_at, end_at};
@@ -21,7 +21,7 @@ pub struct Reader<'a> {
 
 impl<'a> Model for Reader<'a> {
     ghost use Rattle.std.specs.Prelude.{◌+◌, ◌^◌, ◌<◌, length};
-    ghost use Rattle.byte_forms.specs.Places.{At};
+    ghost use Rattle.byte_formats.specs.Places.{At};
 
     ghost Value = { At };
 

@@ -3,7 +3,7 @@
 ghost use Rattle.std.specs.Prelude.{◌≡◌, ◌<◌, length, OnOk};
 ghost use Rattle.std.specs.Ordering.{nat_cmp, is_gt};
 ghost use Rattle.std.specs.Cmp.Lexicographic.{slice_cmp};
-ghost use Rattle.byte_forms.specs.Readings.{Gives, Moves};
+ghost use Rattle.byte_formats.specs.Readings.{Gives, Moves};
 ghost use Rattle.der_core.specs.Items.{item};
 ghost use Rattle.der_core.specs.Sets.{risen_at, order_of};
 

@@ -3,8 +3,8 @@
 
 ghost use Rattle.std.specs.Prelude.{◌≡◌, ◌≢◌, ◌%◌, ◌^◌, ◌<◌, ◌≤◌, ◌++◌, false, length, slice_index};
 ghost use Rattle.std.specs.Prelude.{IfOk, OnOk, OnErr};
-ghost use Rattle.byte_forms.specs.Places.{IsBytes};
-ghost use Rattle.byte_forms.specs.Numbers.{value};
+ghost use Rattle.byte_formats.specs.Places.{IsBytes};
+ghost use Rattle.byte_formats.specs.Numbers.{value};
 ghost use Rattle.der_core.specs.Elements.{element};
 ghost use Rattle.der_core.specs.Integers.{integer};
 ghost use Rattle.der_core.specs.Contents.{is_padded};

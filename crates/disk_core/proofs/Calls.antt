@@ -5,8 +5,8 @@ use Rattle.std.proofs.Common.{Bool, true, ◌&&◌}
 use Rattle.std.proofs.lemmas.Grind.{replicate_next}
 use Rattle.std.proofs.lemmas.List.Folds.{list_all-append}
 use Rattle.std.proofs.lemmas.List.{length-append, take_all, take_more}
-use Rattle.byte_forms.specs.Types.{Text}
-use Rattle.disk_core.specs.Calls.{are_changes, calls_in, looked}
+use Rattle.byte_formats.specs.Types.{Text}
+use Rattle.disk_core.specs.Calls.{are_changes, calls_in, only_read}
 use Rattle.disk_core.specs.Fuse.{is_change}
 use Rattle.disk_core.specs.Replay.{State, run, settled, state_now, step}
 use Rattle.disk_core.specs.declared.memory.call.Change.{Change}
@@ -14,36 +14,40 @@ use Rattle.disk_core.specs.declared.memory.call.Made.{Made}
 use Rattle.disk_core.proofs.Replay.{run-append}
 
 -- one call more that looks
-pub look_more : (changes : List Change) (looks : ℕ)
-    → calls_in changes (looks + 1) ≡ calls_in changes looks ++ looked ∷ []
-look_more [] looks = replicate_next looks looked
-look_more (change ∷ changes) looks =
-    ap (λ (rest : List Made). replicate change.looks looked ++ change.made ∷ rest)
-    (look_more changes looks)
-    ∙ sym (append_assoc (replicate change.looks looked) (change.made ∷ calls_in changes looks)
-    (looked ∷ []))
+pub look_more : (changes : List Change) (only_reads : ℕ)
+    → calls_in changes (only_reads + 1) ≡ calls_in changes only_reads ++ only_read ∷ []
+look_more [] only_reads = replicate_next only_reads only_read
+look_more (change ∷ changes) only_reads =
+    ap (λ (rest : List Made). replicate change.only_reads only_read ++ change.made ∷ rest)
+    (look_more changes only_reads)
+    ∙ sym (append_assoc (replicate change.only_reads only_read)
+    (change.made ∷ calls_in changes only_reads)
+    (only_read ∷ []))
 
 -- no more of them than there are calls
-pub looks_few : (changes : List Change) (looks : ℕ) → looks ≤ length (calls_in changes looks)
-looks_few [] looks = all_long looks
+pub only_reads_few : (changes : List Change) (only_reads : ℕ)
+    → only_reads ≤ length (calls_in changes only_reads)
+only_reads_few [] only_reads = all_long only_reads
   where
-    all_long : (count : ℕ) → count ≤ length (replicate count looked)
+    all_long : (count : ℕ) → count ≤ length (replicate count only_read)
     all_long zero = omega arith
     all_long (suc count) = let rest = all_long count in omega arith
-looks_few (change ∷ changes) looks =
-    let rest = looks_few changes looks in
+only_reads_few (change ∷ changes) only_reads =
+    let rest = only_reads_few changes only_reads in
     let all =
-    length-append (replicate change.looks looked) (change.made ∷ calls_in changes looks) in
+    length-append (replicate change.only_reads only_read)
+    (change.made ∷ calls_in changes only_reads) in
     omega arith
 
 -- one change more
 pub change_more : (changes : List Change) (change : Change)
-    → calls_in (changes ++ change ∷ []) 0 ≡ calls_in changes change.looks ++ change.made ∷ []
+    → calls_in (changes ++ change ∷ []) 0 ≡ calls_in changes change.only_reads ++ change.made ∷ []
 change_more [] change = refl
 change_more (first ∷ changes) change =
-    ap (λ (rest : List Made). replicate first.looks looked ++ first.made ∷ rest)
+    ap (λ (rest : List Made). replicate first.only_reads only_read ++ first.made ∷ rest)
     (change_more changes change)
-    ∙ sym (append_assoc (replicate first.looks looked) (first.made ∷ calls_in changes change.looks)
+    ∙ sym (append_assoc (replicate first.only_reads only_read)
+    (first.made ∷ calls_in changes change.only_reads)
     (change.made ∷ []))
 
 -- and it is one of them
@@ -60,22 +64,22 @@ kept_calls [] = []
 kept_calls (change ∷ changes) = change.made ∷ kept_calls changes
 
 -- calls that look leave the state alone
-looked_alone : (s : State) (count : ℕ) (calls : List Made)
-    → run s (replicate count looked ++ calls) ≡ run s calls
-looked_alone s zero calls = refl
-looked_alone s (suc count) calls = looked_alone s count calls
+only_read_alone : (s : State) (count : ℕ) (calls : List Made)
+    → run s (replicate count only_read ++ calls) ≡ run s calls
+only_read_alone s zero calls = refl
+only_read_alone s (suc count) calls = only_read_alone s count calls
 
-all_looked_alone : (s : State) (count : ℕ) → run s (replicate count looked) ≡ s
-all_looked_alone s zero = refl
-all_looked_alone s (suc count) = all_looked_alone s count
+all_only_read_alone : (s : State) (count : ℕ) → run s (replicate count only_read) ≡ s
+all_only_read_alone s zero = refl
+all_only_read_alone s (suc count) = all_only_read_alone s count
 
 -- so the changes make it
-pub changes_make : (s : State) (changes : List Change) (looks : ℕ)
-    → run s (calls_in changes looks) ≡ run s (kept_calls changes)
-changes_make s [] looks = all_looked_alone s looks
-changes_make s (change ∷ changes) looks =
-    looked_alone s change.looks (change.made ∷ calls_in changes looks)
-    ∙ changes_make (step s change.made) changes looks
+pub changes_make : (s : State) (changes : List Change) (only_reads : ℕ)
+    → run s (calls_in changes only_reads) ≡ run s (kept_calls changes)
+changes_make s [] only_reads = all_only_read_alone s only_reads
+changes_make s (change ∷ changes) only_reads =
+    only_read_alone s change.only_reads (change.made ∷ calls_in changes only_reads)
+    ∙ changes_make (step s change.made) changes only_reads
 
 -- the state behind so many of the changes
 abbrev pub state_in : Text → List Change → ℕ → State
@@ -100,10 +104,10 @@ state_in_more first changes index change within is =
     ∙ ap (λ (c : Change). step (state_in first changes index) c.made) (sym is)
 
 -- behind all of them
-pub state_in_all : (first : Text) (changes : List Change) (count looks : ℕ)
+pub state_in_all : (first : Text) (changes : List Change) (count only_reads : ℕ)
     → length changes ≤ count
-    → state_in first changes count ≡ state_now first (calls_in changes looks)
-state_in_all first changes count looks all =
+    → state_in first changes count ≡ state_now first (calls_in changes only_reads)
+state_in_all first changes count only_reads all =
     ap (λ (kept : List Change). run (settled first) (kept_calls kept))
     (take_all count changes all)
-    ∙ sym (changes_make (settled first) changes looks)
+    ∙ sym (changes_make (settled first) changes only_reads)

@@ -1,7 +1,7 @@
 -- Runs of calls of a disk, and what a crash leaves at their moments.
 use Rattle.std.proofs.Common.{◌≡◌, ◌⊎◌, inl, inr, ℕ, ◌≤◌, List, refl, ◌∙◌, arith}
 use Rattle.disk_core.specs.Disk.{Elapses, NoNew}
-use Rattle.disk_core.specs.Moments.{LeavesOnly, Looks}
+use Rattle.disk_core.specs.Moments.{LeavesOnly, OnlyReads}
 use Rattle.disk_core.specs.declared.disk.Disk.{Ghosts}
 
 module _ {D : Type 0} (g : Ghosts D) where
@@ -68,9 +68,10 @@ module _ {D : Type 0} (g : Ghosts D) where
       λ c left. run.each c (counts_now (g.moment old) c run.later left)
 
   -- a look behind another
-  pub looked_on : (old mid new : D) → Looks g old mid → Looks g mid new → Looks g old new
-  looked_on old mid new first second = record {
-    told = second.told ∙ first.told;
+  pub only_read_on : (old mid new : D) → OnlyReads g old mid → OnlyReads g mid new
+      → OnlyReads g old new
+  only_read_on old mid new first second = record {
+    contents = second.contents ∙ first.contents;
     crash = λ c left. first.crash c (second.crash c left);
     moments = joined old mid new (g.may_leave old) first.moments (weaker mid new (g.may_leave mid)
         (g.may_leave old) first.crash second.moments);
@@ -79,15 +80,15 @@ module _ {D : Type 0} (g : Ghosts D) where
   }
 
   -- one call that looks
-  pub one_look : (old new : D) → g.told new ≡ g.told old
+  pub one_look : (old new : D) → g.contents new ≡ g.contents old
       → NoNew (g.may_leave old) (g.may_leave new)
       → Elapses (g.moment old) (g.moment new) (g.left_since old) (g.left_since new)
       (g.may_leave new)
       → g.known old ≤ g.known new → g.faults old ≤ g.faults new
       → ((c : List ℕ) → g.left_since old (g.moment old) c → g.may_leave old c)
-      → Looks g old new
-  one_look old new told crash time known faults only_now = record {
-    told = told;
+      → OnlyReads g old new
+  one_look old new contents crash time known faults only_now = record {
+    contents = contents;
     crash = crash;
     moments = goes_on old old new (g.may_leave old)
         (started old (g.may_leave old) only_now (λ c left. left)) time crash;
@@ -96,10 +97,11 @@ module _ {D : Type 0} (g : Ghosts D) where
   }
 
   -- no look
-  pub no_look : (now : D) → ((c : List ℕ) → g.left_since now (g.moment now) c → g.may_leave now c)
-      → Looks g now now
-  no_look now only_now = record {
-    told = refl;
+  pub nothing_read : (now : D)
+      → ((c : List ℕ) → g.left_since now (g.moment now) c → g.may_leave now c)
+      → OnlyReads g now now
+  nothing_read now only_now = record {
+    contents = refl;
     crash = λ c left. left;
     moments = started now (g.may_leave now) only_now (λ c left. left);
     known = omega arith;

@@ -31,7 +31,7 @@ pub time_pushed : (first : List ℕ) (calls next : List Made) (made : Made)
     (IsImage (state_now first next))
 time_pushed first calls next made is =
     let longer : length next ≡ length calls + 1 = rw is (length_push calls made) in
-    let front : (count : ℕ) → count ≤ length calls
+    let prefix : (count : ℕ) → count ≤ length calls
     → state_at first next count ≡ state_at first calls count
     = λ count le. subst (λ (n : List Made). state_at first n count
     ≡ state_at first calls count) (sym is)
@@ -46,14 +46,14 @@ time_pushed first calls next made is =
           since.0,
           since.1,
           within,
-          subst (λ (s : State). IsImage s c) (front since.0 within) since.3,
+          subst (λ (s : State). IsImage s c) (prefix since.0 within) since.3,
         )
       ];
       keeps = λ t c le since. (
         since.0,
         since.1,
         (let l = since.2 in omega arith),
-        subst (λ (s : State). IsImage s c) (sym (front since.0 since.2)) since.3,
+        subst (λ (s : State). IsImage s c) (sym (prefix since.0 since.2)) since.3,
       );
     }
 

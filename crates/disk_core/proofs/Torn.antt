@@ -7,12 +7,12 @@ use Rattle.std.proofs.lemmas.Bool.{cases_lt, cases_eq}
 use Rattle.std.proofs.lemmas.List.{length-take, length-drop, get_or-take, get_or-drop, get_or_past}
 use Rattle.std.proofs.lemmas.List.{ext_get_or, drop-drop, take-append-drop, append_assoc}
 use Rattle.std.proofs.lemmas.List.FromFn.{length-map-range_with_len, get_or-map-range_with_len}
-use Rattle.byte_forms.specs.Places.{IsBytes}
+use Rattle.byte_formats.specs.Places.{IsBytes}
 use Rattle.disk_core.specs.Disk.{overwritten, part, Torn, Follows}
 use Rattle.disk_core.specs.Moments.{LeavesOnly}
 use Rattle.disk_core.specs.Replay.{IsImageOf}
 use Rattle.disk_core.specs.Torn.{LeavesByte, AllLeaveByte, KeepsOthers, Extends, EachHas}
-use Rattle.disk_core.specs.Writes.{over_front, over_within, over_behind}
+use Rattle.disk_core.specs.Writes.{over_prefix, over_within, over_behind}
 use Rattle.disk_core.specs.declared.disk.Disk.{Ghosts}
 use Rattle.disk_core.proofs.Moments.{weaker}
 
@@ -20,11 +20,11 @@ use Rattle.disk_core.proofs.Moments.{weaker}
 leaves_same : (old : List ℕ) (i : ℕ) (write : ℕ × List ℕ) → i < length old
     → LeavesByte old i write
     → slice_index (overwritten write.0 write.1 old) i ≡ slice_index old i
-leaves_same old i write there (inl (inl front)) = over_front write.0 write.1 old i there front
+leaves_same old i write there (inl (inl prefix)) = over_prefix write.0 write.1 old i there prefix
 leaves_same old i write there (inl (inr behind)) = over_behind write.0 write.1 old i there behind
 leaves_same old i write there (inr same) =
     elim (cases_lt i write.0) [
-      | inl front ↦ over_front write.0 write.1 old i there front
+      | inl prefix ↦ over_prefix write.0 write.1 old i there prefix
       | inr from ↦ elim (cases_lt i (write.0 + length write.1)) [
         | inl within ↦ over_within write.0 write.1 old i there from within ∙ same
         | inr behind ↦ over_behind write.0 write.1 old i there behind
@@ -36,7 +36,7 @@ same_leaves : (old : List ℕ) (i : ℕ) (write : ℕ × List ℕ) → i < lengt
     → LeavesByte old i write
 same_leaves old i write there same =
     elim (cases_lt i write.0) [
-      | inl front ↦ inl (inl front)
+      | inl prefix ↦ inl (inl prefix)
       | inr from ↦ elim (cases_lt i (write.0 + length write.1)) [
         | inl within ↦ inr (sym (over_within write.0 write.1 old i there from within) ∙ same)
         | inr behind ↦ inl (inr behind)
@@ -68,7 +68,7 @@ torn_before place piece old new torn =
     ≡ min (min place (length old)) (length new) =
     length-take (min place (length old)) new in
     get_or-take (min place (length old)) new i 0 (omega arith)
-    ∙ torn.stays i (omega arith) (over_front place piece old i (omega arith) (omega arith))
+    ∙ torn.stays i (omega arith) (over_prefix place piece old i (omega arith) (omega arith))
     ∙ sym (get_or-take place old i 0 (omega arith)))
 
 -- and all behind it, below the old end
@@ -177,7 +177,7 @@ one_leaves : (old : List ℕ) (i : ℕ) (write : ℕ × List ℕ)
     → LeavesByte old i write ⊎ (LeavesByte old i write → ⊥)
 one_leaves old i write =
     elim (cases_lt i write.0) [
-      | inl front ↦ inl (inl (inl front))
+      | inl prefix ↦ inl (inl (inl prefix))
       | inr from ↦ elim (cases_lt i (write.0 + length write.1)) [
         | inl within ↦ elim (cases_eq (slice_index write.1 (i - write.0)) (slice_index old i)) [
           | inl same ↦ inl (inr same)
@@ -190,7 +190,7 @@ one_leaves old i write =
     changed : write.0 ≤ i → i < write.0 + length write.1
         → (slice_index write.1 (i - write.0) ≡ slice_index old i → ⊥)
         → LeavesByte old i write → ⊥
-    changed from within other (inl (inl front)) = omega arith
+    changed from within other (inl (inl prefix)) = omega arith
     changed from within other (inl (inr behind)) = omega arith
     changed from within other (inr same) = other same
 

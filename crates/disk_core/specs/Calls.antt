@@ -8,14 +8,14 @@ use Rattle.disk_core.specs.declared.memory.call.Change.{Change}
 use Rattle.disk_core.specs.declared.memory.call.Made.{Made}
 
 -- a call that only looked: what it asked isn't kept, nor its answer
-abbrev pub looked : Made
-looked = record { call = Len; ok = true }
+abbrev pub only_read : Made
+only_read = record { call = Len; ok = true }
 
 -- all calls, the oldest first, with so many that only looked behind the last change
 abbrev pub calls_in : List Change → ℕ → List Made
-calls_in [] looks = replicate looks looked
-calls_in (change ∷ changes) looks =
-    replicate change.looks looked ++ change.made ∷ calls_in changes looks
+calls_in [] only_reads = replicate only_reads only_read
+calls_in (change ∷ changes) only_reads =
+    replicate change.only_reads only_read ++ change.made ∷ calls_in changes only_reads
 
 -- each of them is a write or a sync
 abbrev pub are_changes : List Change → Bool

@@ -1,6 +1,6 @@
 -- What the calls of a disk do to its bytes, and what a crash may leave of them.
 use Rattle.std.specs.Prelude.{◌≡◌, ◌⊎◌, ℕ, ◌+◌, ◌<◌, ◌≤◌, ◌++◌, length, take, drop, slice_index}
-use Rattle.byte_forms.specs.Types.{Text}
+use Rattle.byte_formats.specs.Types.{Text}
 
 -- the bytes after a piece is written over them at a place
 abbrev pub overwritten : ℕ → Text → Text → Text

@@ -1,6 +1,6 @@
 -- What the history of a disk in memory tells.
 use Rattle.std.specs.Prelude.{ℕ, length}
-use Rattle.byte_forms.specs.Types.{Text}
+use Rattle.byte_formats.specs.Types.{Text}
 use Rattle.disk_core.specs.Noted.{made_calls}
 use Rattle.disk_core.specs.Replay.{state_now, IsImage, LeftSince}
 use Rattle.disk_core.specs.declared.memory.history.History.{History}

@@ -1,6 +1,6 @@
 -- What a `MemDisk` shows.
 use Rattle.std.specs.Prelude.{◌≡◌, ℕ, List, [], length}
-use Rattle.byte_forms.specs.Types.{Text}
+use Rattle.byte_formats.specs.Types.{Text}
 use Rattle.disk_core.specs.History.{seen_of, left_of}
 use Rattle.disk_core.specs.Noted.{made_calls}
 use Rattle.disk_core.specs.declared.memory.call.Change.{Change}

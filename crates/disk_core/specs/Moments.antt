@@ -1,6 +1,6 @@
 -- What a crash leaves over more than one call of a disk.
 use Rattle.std.specs.Prelude.{◌≡◌, ◌⊎◌, ℕ, ◌≤◌}
-use Rattle.byte_forms.specs.Types.{Text}
+use Rattle.byte_formats.specs.Types.{Text}
 use Rattle.disk_core.specs.Disk.{NoNew}
 use Rattle.disk_core.specs.declared.disk.Disk.{Ghosts}
 
@@ -14,8 +14,8 @@ pub record LeavesOnly {D : Type 0} (g : Ghosts D) (old new : D) (P : Text → Ty
 
 -- Calls that only look at a disk: what it tells stays, and a crash leaves nothing new at any
 -- moment.
-pub record Looks {D : Type 0} (g : Ghosts D) (old new : D) : Type 0 where
-  pub told : g.told new ≡ g.told old
+pub record OnlyReads {D : Type 0} (g : Ghosts D) (old new : D) : Type 0 where
+  pub contents : g.contents new ≡ g.contents old
   pub crash : NoNew (g.may_leave old) (g.may_leave new)
   pub moments : LeavesOnly g old new (g.may_leave old)
   pub known : g.known old ≤ g.known new

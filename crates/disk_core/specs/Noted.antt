@@ -7,9 +7,9 @@ use Rattle.disk_core.specs.declared.memory.calls.Calls.{Calls}
 
 -- all calls, the oldest first
 abbrev pub made_calls : Calls → List Made
-made_calls calls = calls_in calls.changes.items calls.looks
+made_calls calls = calls_in calls.changes.items calls.only_reads
 
 -- there is room for a change more, and a number for it
-pub record HasRoom (calls : Calls) : Type 0 where
-  pub room : vec_len calls.changes < vec_capacity calls.changes
+pub record HasCapacity (calls : Calls) : Type 0 where
+  pub capacity : vec_len calls.changes < vec_capacity calls.changes
   pub number : calls.made < last_count

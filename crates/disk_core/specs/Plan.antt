@@ -2,7 +2,7 @@
 use Rattle.std.specs.Prelude.{◌≡◌, ◌<◌, ◌⊎◌, Bool, false, if◌then◌else◌, [], ◌∷◌, ◌++◌, length}
 use Rattle.std.specs.Prelude.{Contains}
 use Rattle.mtc_io.specs.Counts.{last_count, with_count}
-use Rattle.disk_core.specs.Calls.{looked}
+use Rattle.disk_core.specs.Calls.{only_read}
 use Rattle.disk_core.specs.Noted.{made_calls}
 use Rattle.disk_core.specs.declared.memory.call.Call.{Call}
 use Rattle.disk_core.specs.declared.memory.call.Call.TheVariants.{Len, Read, Write, Sync}
@@ -40,10 +40,10 @@ pub record NotedTurn (plan : Plan) (past : History) (made : Made) (ok : Bool)
 -- record of changes doesn't grow.
 pub record LookTurn (plan : Plan) (past : History) (ok : Bool)
     (plan' : Plan) (past' : History) : Type 0 where
-  pub turn : NotedTurn plan past looked ok plan' past'
+  pub turn : NotedTurn plan past only_read ok plan' past'
   pub changes : past'.calls.changes.items ≡ past.calls.changes.items
   pub counted : length (made_calls past.calls) < last_count
-      → made_calls past'.calls ≡ made_calls past.calls ++ looked ∷ []
+      → made_calls past'.calls ≡ made_calls past.calls ++ only_read ∷ []
 
 -- One call of a disk in memory.
 abbrev pub PlanTurn : Plan → History → Call → Bool → Plan → History → Type 0

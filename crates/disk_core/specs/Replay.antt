@@ -1,8 +1,8 @@
 -- A disk in memory, as the replay of its calls over what it held at first.
 use Rattle.std.specs.Prelude.{◌≡◌, ℕ, ◌≤◌, Bool, if◌then◌else◌, List, [], ◌∷◌, ◌++◌, length, take}
 use Rattle.std.proofs.Props.{props}
-use Rattle.byte_forms.specs.Types.{Text}
-use Rattle.byte_forms.specs.Places.{IsBytes}
+use Rattle.byte_formats.specs.Types.{Text}
+use Rattle.byte_formats.specs.Places.{IsBytes}
 use Rattle.disk_core.specs.Disk.{overwritten, Torn}
 use Rattle.disk_core.specs.declared.memory.call.Call.{Call}
 use Rattle.disk_core.specs.declared.memory.call.Call.TheVariants.{Len, Read, Write, Sync}

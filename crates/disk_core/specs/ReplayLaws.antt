@@ -4,8 +4,8 @@ use Rattle.std.specs.Prelude.{◌≡◌, ℕ, zero, suc, ◌≤◌, Bool, true, 
 use Rattle.std.specs.Prelude.{take, Some, refl}
 use Rattle.std.proofs.Common.{arith, sym, subst}
 use Rattle.std.proofs.lemmas.List.{take_all}
-use Rattle.byte_forms.specs.Types.{Text}
-use Rattle.byte_forms.specs.Places.{IsBytes}
+use Rattle.byte_formats.specs.Types.{Text}
+use Rattle.byte_formats.specs.Places.{IsBytes}
 use Rattle.disk_core.specs.Writes.{torn_none, torn_all, IsBytes-overwritten}
 use Rattle.disk_core.specs.Replay.{State, settled, after_call, step, run, state_now, IsImageOf}
 use Rattle.disk_core.specs.Replay.{IsImage, LeftSince, WritesBytes, AllWriteBytes, HoldsBytes}
@@ -98,22 +98,22 @@ since_now first calls c (count, late, there, is) =
     let whole : take count calls ≡ calls = take_all count calls late in
     subst (λ (kept : List Made). IsImage (run (settled first) kept) c) whole is
 
-pub told_seen : (first : Text) (calls : List Made) (bytes : Text) → HoldsBytes first calls
+pub contents_seen : (first : Text) (calls : List Made) (bytes : Text) → HoldsBytes first calls
     → Some (state_now first calls).seen ≡ Some bytes → IsImage (state_now first calls) bytes
-told_seen first calls bytes holds is =
+contents_seen first calls bytes holds is =
     let same : (state_now first calls).seen ≡ bytes = cc in
     subst (λ (c : Text). IsImage (state_now first calls) c) same (now_seen first calls holds)
 
-pub told_are : (first : Text) (calls : List Made) (bytes : Text) → HoldsBytes first calls
+pub contents_are : (first : Text) (calls : List Made) (bytes : Text) → HoldsBytes first calls
     → Some (state_now first calls).seen ≡ Some bytes → IsBytes bytes
-told_are first calls bytes holds is =
+contents_are first calls bytes holds is =
     let same : (state_now first calls).seen ≡ bytes = cc in
     let now : AreBytes (state_now first calls) = run_bytes (settled first) calls holds.written_are
     (first_bytes first holds.first_are) in
     subst IsBytes same now.seen
 
-pub told_length : (known : ℕ) (seen bytes : Text) → known ≤ length seen → Some seen ≡ Some bytes
+pub contents_length : (known : ℕ) (seen bytes : Text) → known ≤ length seen → Some seen ≡ Some bytes
     → known ≤ length bytes
-told_length known seen bytes there is =
+contents_length known seen bytes there is =
     let same : seen ≡ bytes = cc in
     subst (λ (c : Text). known ≤ length c) same there

@@ -1,7 +1,7 @@
 -- What a crash may leave of writes, in the words of single bytes.
 use Rattle.std.specs.Prelude.{◌≡◌, ◌⊎◌, ℕ, ◌+◌, ◌-◌, ◌<◌, ◌≤◌, List, [], ◌∷◌, length, take}
 use Rattle.std.specs.Prelude.{slice_index}
-use Rattle.byte_forms.specs.Types.{Text}
+use Rattle.byte_formats.specs.Types.{Text}
 
 -- a place outside of a write
 abbrev pub IsOutside : ℕ → ℕ × Text → Type 0

@@ -7,9 +7,9 @@ use Rattle.std.proofs.lemmas.List.{length-take, length-drop, length-append, get_
 use Rattle.std.proofs.lemmas.List.{get_or-drop, get_or_append_left, get_or-append-add}
 use Rattle.std.proofs.lemmas.List.{get_or-append_right}
 use Rattle.std.proofs.lemmas.Bool.{cases_lt}
-use Rattle.byte_forms.specs.Types.{Text}
-use Rattle.byte_forms.specs.Places.{IsBytes}
-use Rattle.byte_forms.proofs.Steps.{IsBytes-take, IsBytes-drop}
+use Rattle.byte_formats.specs.Types.{Text}
+use Rattle.byte_formats.specs.Places.{IsBytes}
+use Rattle.byte_formats.proofs.Steps.{IsBytes-take, IsBytes-drop}
 use Rattle.disk_core.specs.Disk.{overwritten, Torn}
 
 -- nothing of it
@@ -27,34 +27,34 @@ over_no_shorter : (place : ℕ) (piece old : Text)
 over_no_shorter place piece old = simp (length-append, length-take, length-drop) (omega arith)
 
 -- a byte in front of the range
-pub over_front : (place : ℕ) (piece old : Text) (i : ℕ) → i < length old → i < place
+pub over_prefix : (place : ℕ) (piece old : Text) (i : ℕ) → i < length old → i < place
     → slice_index (overwritten place piece old) i ≡ slice_index old i
-over_front place piece old i there front =
+over_prefix place piece old i there prefix =
     let kept : i < length (take place old) = simp length-take (omega arith) in
     let both : i < length (take place old ++ piece) = simp length-append (omega arith) in
     get_or_append_left (take place old ++ piece) (drop (place + length piece) old) 0 i both
-    ∙ get_or_append_left (take place old) piece 0 i kept ∙ get_or-take place old i 0 front
+    ∙ get_or_append_left (take place old) piece 0 i kept ∙ get_or-take place old i 0 prefix
 
 -- one in it
 pub over_within : (place : ℕ) (piece old : Text) (i : ℕ) → i < length old → place ≤ i
     → i < place + length piece
     → slice_index (overwritten place piece old) i ≡ slice_index piece (i - place)
 over_within place piece old i there from within =
-    let front : length (take place old) ≡ place = simp length-take (omega arith) in
+    let prefix : length (take place old) ≡ place = simp length-take (omega arith) in
     let both : i < length (take place old ++ piece) = simp length-append (omega arith) in
     get_or_append_left (take place old ++ piece) (drop (place + length piece) old) 0 i both
-    ∙ get_or-append_right (take place old) piece place i 0 front from
+    ∙ get_or-append_right (take place old) piece place i 0 prefix from
 
 -- one behind it
 pub over_behind : (place : ℕ) (piece old : Text) (i : ℕ) → i < length old
     → place + length piece ≤ i
     → slice_index (overwritten place piece old) i ≡ slice_index old i
 over_behind place piece old i there behind =
-    let front : length (take place old ++ piece) ≡ place + length piece
+    let prefix : length (take place old ++ piece) ≡ place + length piece
     = simp (length-append, length-take) (omega arith) in
     let split : (place + length piece) + (i - (place + length piece)) ≡ i = omega arith in
     get_or-append_right (take place old ++ piece) (drop (place + length piece) old)
-    (place + length piece) i 0 front behind
+    (place + length piece) i 0 prefix behind
     ∙ get_or-drop (place + length piece) old (i - (place + length piece)) 0
     ∙ ap (λ (n : ℕ). slice_index old n) split
 
@@ -68,7 +68,7 @@ pub torn_other : (place : ℕ) (piece other old : Text) → length other ≤ len
 torn_other place piece other old few same_there = record {
   no_shorter = over_no_shorter place other old;
   stays = λ i there same. elim (cases_lt i place) [
-    | inl front ↦ over_front place other old i there front
+    | inl prefix ↦ over_prefix place other old i there prefix
     | inr from ↦ elim (cases_lt i (place + length other)) [
       | inl within ↦
           let split : place + (i - place) ≡ i = omega arith in
@@ -83,9 +83,9 @@ torn_other place piece other old few same_there = record {
 }
 
 -- its front
-pub torn_front : (place count : ℕ) (piece old : Text) → count ≤ length piece
+pub torn_prefix : (place count : ℕ) (piece old : Text) → count ≤ length piece
     → Torn place piece old (overwritten place (take count piece) old)
-torn_front place count piece old few =
+torn_prefix place count piece old few =
     torn_other place piece (take count piece) old (simp length-take (omega arith))
     (λ k within there same.
     let size : length (take count piece) ≡ min count (length piece) = length-take count piece in
@@ -109,9 +109,9 @@ torn_longer place piece old new more torn = record {
 }
 
 IsBytes-append : (a b : Text) → IsBytes a → IsBytes b → IsBytes (a ++ b)
-IsBytes-append a b front back i =
+IsBytes-append a b prefix back i =
     elim (cases_lt i (length a)) [
-      | inl lt ↦ rw (get_or_append_left a b 0 i lt) (front i)
+      | inl lt ↦ rw (get_or_append_left a b 0 i lt) (prefix i)
       | inr le ↦
           let split : length a + (i - length a) ≡ i = omega arith in
           subst (λ (n : ℕ). slice_index (a ++ b) n < 256) split

@@ -3,8 +3,8 @@
 ghost use Rattle.std.specs.Prelude.{◌≡◌, ℕ, ◌+◌, ◌^◌, ◌<◌, ◌≤◌, max, Bool, length, Option, is_some};
 ghost use Rattle.std.specs.Prelude.{is_ok, option_map, Some, IfSome, IfOk, OnOk, OnErr};
 ghost use Rattle.std.specs.Prelude.{MatchResult};
-ghost use Rattle.byte_forms.specs.Types.{Text};
-ghost use Rattle.byte_forms.specs.Places.{IsBytes};
+ghost use Rattle.byte_formats.specs.Types.{Text};
+ghost use Rattle.byte_formats.specs.Places.{IsBytes};
 ghost use Rattle.mtc_io.specs.Counts.{Rose, HasCause};
 ghost use Rattle.disk_core.specs.Disk.{overwritten, part, Torn, Follows, NoNew, Only, Elapses};
 ghost use Rattle.disk_core.specs.declared.memory.call.Call.{Call};
@@ -20,7 +20,7 @@ use mtc_io::Failed;
 /// bytes once more. After a `sync` that answers Ok a crash leaves what a read gives.
 pub trait Disk {
     /// The bytes that a read gives, where the disk tells them.
-    ghost told: { Self → Option Text };
+    ghost contents: { Self → Option Text };
 
     /// The known length: nothing past it is read, and no write begins past it.
     ghost known: { Self → ℕ };
@@ -44,10 +44,10 @@ pub trait Disk {
 
     /// The number of bytes.
     fn len(&mut self) -> Result<u64, Failed>
-        ensures length { IfOk result (λ n. IfSome (told self.old) (λ b. n ≡ length b)) }
+        ensures length { IfOk result (λ n. IfSome (contents self.old) (λ b. n ≡ length b)) }
         ensures known { MatchResult result (λ n. known self.new ≡ max n (known self.old))
             (λ _. known self.new ≡ known self.old) }
-        ensures told { told self.new ≡ told self.old }
+        ensures contents { contents self.new ≡ contents self.old }
         ensures crash { NoNew (may_leave self.old) (may_leave self.new) }
         ensures time { Elapses (moment self.old) (moment self.new) (left_since self.old)
             (left_since self.new) (may_leave self.new) }
@@ -58,10 +58,10 @@ pub trait Disk {
     /// Fills `out` with the bytes from a place on. Its range ends at or below the known length.
     fn read_at(&mut self, place: u64, out: &mut [u8]) -> Result<(), Failed>
         requires { place + length out.old ≤ known self.old }
-        ensures read { OnOk result (IfSome (told self.old)
+        ensures read { OnOk result (IfSome (contents self.old)
             (λ b. out.new ≡ part place (length out.old) b)) }
         ensures known { known self.new ≡ known self.old }
-        ensures told { told self.new ≡ told self.old }
+        ensures contents { contents self.new ≡ contents self.old }
         ensures crash { NoNew (may_leave self.old) (may_leave self.new) }
         ensures time { Elapses (moment self.old) (moment self.new) (left_since self.old)
             (left_since self.new) (may_leave self.new) }
@@ -73,12 +73,13 @@ pub trait Disk {
     fn write_at(&mut self, place: u64, bytes: &[u8]) -> Result<(), Failed>
         requires place { place ≤ known self.old }
         requires end { place + length bytes.now < 2 ^ 63 }
-        ensures written { OnOk result (told self.new ≡ option_map (overwritten place bytes.now)
-            (told self.old)) }
+        ensures written { OnOk result (contents self.new ≡ option_map (overwritten place bytes.now)
+            (contents self.old)) }
         ensures known { OnOk result (known self.new
             ≡ max (place + length bytes.now) (known self.old)) }
         ensures known_err { OnErr result (known self.new ≡ known self.old) }
-        ensures told_err { OnErr result (is_some (told self.new) ≡ is_some (told self.old)) }
+        ensures contents_err { OnErr result
+            (is_some (contents self.new) ≡ is_some (contents self.old)) }
         ensures crash { Follows (Torn place bytes.now) (may_leave self.old)
             (may_leave self.new) }
         ensures time { Elapses (moment self.old) (moment self.new) (left_since self.old)
@@ -89,9 +90,10 @@ pub trait Disk {
 
     /// After an Ok a crash leaves what a read gives.
     fn sync(&mut self) -> Result<(), Failed>
-        ensures durable { OnOk result (IfSome (told self.old) (λ b. Only b (may_leave self.new))) }
+        ensures durable { OnOk result
+            (IfSome (contents self.old) (λ b. Only b (may_leave self.new))) }
         ensures known { known self.new ≡ known self.old }
-        ensures told { told self.new ≡ told self.old }
+        ensures contents { contents self.new ≡ contents self.old }
         ensures crash { NoNew (may_leave self.old) (may_leave self.new) }
         ensures time { Elapses (moment self.old) (moment self.new) (left_since self.old)
             (left_since self.new) (may_leave self.new) }
@@ -100,13 +102,13 @@ pub trait Disk {
         ensures turn { turn self.old Sync (is_ok result) self.new };
 
     /// What a read gives is one of the images.
-    ghost reads_image: { (d : Self) (b : Text) → told d ≡ Some b → may_leave d b };
+    ghost reads_image: { (d : Self) (b : Text) → contents d ≡ Some b → may_leave d b };
 
     /// What is told are bytes.
-    ghost told_bytes: { (d : Self) (b : Text) → told d ≡ Some b → IsBytes b };
+    ghost contents_bytes: { (d : Self) (b : Text) → contents d ≡ Some b → IsBytes b };
 
     /// Where the bytes are told, the known length is at most their number.
-    ghost known_there: { (d : Self) (b : Text) → told d ≡ Some b → known d ≤ length b };
+    ghost known_there: { (d : Self) (b : Text) → contents d ≡ Some b → known d ≤ length b };
 
     /// This moment is one of those since an earlier one.
     ghost counts_now: { (d : Self) (t : ℕ) (c : Text) → t ≤ moment d → may_leave d c

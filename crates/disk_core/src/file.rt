@@ -1,7 +1,7 @@
 //! An open file as a disk.
 
 ghost use Rattle.std.specs.Prelude.{◌≡◌, ◌≤◌, None, false, if◌then◌else◌, is_err, IfOk, OnOk};
-ghost use Rattle.byte_forms.specs.Places.{IsBytes};
+ghost use Rattle.byte_formats.specs.Places.{IsBytes};
 ghost use Rattle.mtc_io.specs.Counts.{Rose, HasCause, with_count};
 ghost use Rattle.disk_core.specs.File.{open_file, file_faults, file_known, file_moment, FileTurn};
 ghost use Rattle.disk_core.specs.File.{is_file_lost};
@@ -87,7 +87,7 @@ fn measure(file: &impl OpenFile) -> io::Result<u64> {
 }
 
 impl<F: OpenFile + FileExt> Disk for FileDisk<F> {
-    ghost told = { λ _. None };
+    ghost contents = { λ _. None };
 
     ghost known = { λ d. d.known };
 
@@ -131,7 +131,7 @@ impl<F: OpenFile + FileExt> Disk for FileDisk<F> {
 
     ghost reads_image = { λ _ _ is. Prim.cc };
 
-    ghost told_bytes = { λ _ _ is _. Prim.cc };
+    ghost contents_bytes = { λ _ _ is _. Prim.cc };
 
     ghost known_there = { λ _ _ is. Prim.cc };
 

@@ -80,7 +80,7 @@ fn spend(passes: &mut u64, blown: &mut bool, refused: &mut u64) -> Result<(), Fa
 impl<D: Disk> Disk for Fuse<D> {
     ghost use Rattle.disk_core.specs.Fuse.{FuseTurn};
 
-    ghost told = { λ f. D.Disk.told f.disk };
+    ghost contents = { λ f. D.Disk.contents f.disk };
 
     ghost known = { λ f. D.Disk.known f.disk };
 
@@ -116,7 +116,7 @@ impl<D: Disk> Disk for Fuse<D> {
 
     ghost reads_image = { λ f b is. D.Disk.reads_image f.disk b is };
 
-    ghost told_bytes = { λ f b is. D.Disk.told_bytes f.disk b is };
+    ghost contents_bytes = { λ f b is. D.Disk.contents_bytes f.disk b is };
 
     ghost known_there = { λ f b is. D.Disk.known_there f.disk b is };
 

@@ -1,8 +1,8 @@
 //! Laws of what a crash leaves: the clauses are the laws, and the functions do nothing.
 
 ghost use Rattle.std.specs.Prelude.{◌≡◌, ◌↔◌, ℕ, ◌+◌, ◌<◌, List, [], ◌∷◌, length, slice_index};
-ghost use Rattle.byte_forms.specs.Types.{Text};
-ghost use Rattle.byte_forms.specs.Places.{IsBytes};
+ghost use Rattle.byte_formats.specs.Types.{Text};
+ghost use Rattle.byte_formats.specs.Places.{IsBytes};
 ghost use Rattle.disk_core.specs.Disk.{part, Torn, Follows};
 ghost use Rattle.disk_core.specs.Moments.{LeavesOnly};
 ghost use Rattle.disk_core.specs.Replay.{IsImageOf};
@@ -13,14 +13,14 @@ use crate::disk::Disk;
 /// The law of a write that is torn: its images are exactly those that keep each byte below the old
 /// end that it leaves as it was, since it lies outside of the range or is written again. All other
 /// bytes may be any, and the image may end anywhere from the old end on.
-pub fn a_torn_write_keeps_others()
+pub fn law_a_torn_write_keeps_others()
     ensures { (place : ℕ) (piece old new : Text)
         → Torn place piece old new ↔ KeepsOthers ((place, piece) ∷ []) old new }
 {}
 
 /// The law of one or more writes since a sync: the images of the disk in memory are exactly the
 /// bytes that keep each byte below the end at the sync that all of them leave as it was there.
-pub fn torn_writes_keep_others()
+pub fn law_torn_writes_keep_others()
     ensures kept { (base : Text) (writes : List (ℕ × Text)) (image : Text)
         → IsImageOf base writes image → KeepsOthers writes base image }
     ensures all { (base : Text) (write : ℕ × Text) (writes : List (ℕ × Text)) (image : Text)
@@ -32,7 +32,7 @@ pub fn torn_writes_keep_others()
 /// end (`exact`). So where each image of a disk has the written bytes, a crash leaves no image but
 /// one from before, with anything behind its end: behind the write (`images`), and at any moment of
 /// it (`moments`). And a byte of it that each image has is in each image behind it (`byte`).
-pub fn bytes_written_again_stay<D: Disk>()
+pub fn law_bytes_written_again_stay<D: Disk>()
     ensures exact { (place : ℕ) (piece old new : Text) → part place (length piece) old ≡ piece
         → (Torn place piece old new ↔ Extends old new) }
     ensures images { (place : ℕ) (piece : Text) (old new : D)

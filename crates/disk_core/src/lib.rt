@@ -14,7 +14,7 @@
 mod disk;
 mod file;
 mod fuse;
-mod laws;
+pub mod laws;
 mod memory;
 mod refusing;
 mod steps;
@@ -22,6 +22,5 @@ mod steps;
 pub use disk::Disk;
 pub use file::FileDisk;
 pub use fuse::Fuse;
-pub use laws::{a_torn_write_keeps_others, bytes_written_again_stay, torn_writes_keep_others};
 pub use memory::{Call, Change, Made, MemDisk};
 pub use steps::{look_at, look_len, settle, write_synced};

@@ -3,10 +3,10 @@
 
 ghost use Rattle.std.specs.Prelude.{◌≡◌, ◌+◌, ◌^◌, ◌<◌, ◌≤◌, max, length, is_some, option_map};
 ghost use Rattle.std.specs.Prelude.{IfSome, IfOk, OnOk, MatchResult};
-ghost use Rattle.byte_forms.specs.Types.{Text};
+ghost use Rattle.byte_formats.specs.Types.{Text};
 ghost use Rattle.mtc_io.specs.Counts.{Rose, HasCause};
 ghost use Rattle.disk_core.specs.Disk.{overwritten, part, Torn, Only};
-ghost use Rattle.disk_core.specs.Moments.{LeavesOnly, Looks};
+ghost use Rattle.disk_core.specs.Moments.{LeavesOnly, OnlyReads};
 
 use crate::disk::Disk;
 use mtc_io::Failed;
@@ -17,14 +17,15 @@ use mtc_io::Failed;
 pub fn write_synced<D: Disk>(disk: &mut D, place: u64, bytes: &[u8]) -> Result<(), Failed>
     requires place { place ≤ D.known disk.old }
     requires end { place + length bytes.now < 2 ^ 63 }
-    ensures written { OnOk result (D.told disk.new ≡ option_map (overwritten place bytes.now)
-        (D.told disk.old)) }
-    ensures durable { OnOk result (IfSome (D.told disk.new) (λ b. Only b (D.may_leave disk.new))) }
+    ensures written { OnOk result (D.contents disk.new ≡ option_map (overwritten place bytes.now)
+        (D.contents disk.old)) }
+    ensures durable { OnOk result
+        (IfSome (D.contents disk.new) (λ b. Only b (D.may_leave disk.new))) }
     ensures known { OnOk result (D.known disk.new
         ≡ max (place + length bytes.now) (D.known disk.old)) }
     ensures known_kept { D.known disk.old ≤ D.known disk.new }
     ensures reach { D.known disk.new ≤ max (place + length bytes.now) (D.known disk.old) }
-    ensures told { is_some (D.told disk.new) ≡ is_some (D.told disk.old) }
+    ensures contents { is_some (D.contents disk.new) ≡ is_some (D.contents disk.old) }
     ensures any_moment { LeavesOnly D.Disk disk.old disk.new
         (λ c. (d : Text) × D.may_leave disk.old d × Torn place bytes.now d c) }
     ensures clock { OnOk result (Rose (D.moment disk.old) (D.moment disk.new)) }
@@ -36,10 +37,10 @@ pub fn write_synced<D: Disk>(disk: &mut D, place: u64, bytes: &[u8]) -> Result<(
 
 /// The number of bytes, as [`Disk::len`].
 pub fn look_len<D: Disk>(disk: &mut D) -> Result<u64, Failed>
-    ensures length { IfOk result (λ n. IfSome (D.told disk.old) (λ b. n ≡ length b)) }
+    ensures length { IfOk result (λ n. IfSome (D.contents disk.old) (λ b. n ≡ length b)) }
     ensures known { MatchResult result (λ n. D.known disk.new ≡ max n (D.known disk.old))
         (λ _. D.known disk.new ≡ D.known disk.old) }
-    ensures looks { Looks D.Disk disk.old disk.new }
+    ensures only_reads { OnlyReads D.Disk disk.old disk.new }
     ensures clock { OnOk result (Rose (D.moment disk.old) (D.moment disk.new)) }
     ensures cause { HasCause (D.faults disk.old) (D.faults disk.new) result }
 {
@@ -49,10 +50,10 @@ pub fn look_len<D: Disk>(disk: &mut D) -> Result<u64, Failed>
 /// The bytes from a place on, as [`Disk::read_at`].
 pub fn look_at<D: Disk>(disk: &mut D, place: u64, out: &mut [u8]) -> Result<(), Failed>
     requires { place + length out.old ≤ D.known disk.old }
-    ensures read { OnOk result (IfSome (D.told disk.old)
+    ensures read { OnOk result (IfSome (D.contents disk.old)
         (λ b. out.new ≡ part place (length out.old) b)) }
     ensures known { D.known disk.new ≡ D.known disk.old }
-    ensures looks { Looks D.Disk disk.old disk.new }
+    ensures only_reads { OnlyReads D.Disk disk.old disk.new }
     ensures clock { OnOk result (Rose (D.moment disk.old) (D.moment disk.new)) }
     ensures cause { HasCause (D.faults disk.old) (D.faults disk.new) result }
 {
@@ -61,9 +62,10 @@ pub fn look_at<D: Disk>(disk: &mut D, place: u64, out: &mut [u8]) -> Result<(), 
 
 /// Makes certain what was there, as [`Disk::sync`].
 pub fn settle<D: Disk>(disk: &mut D) -> Result<(), Failed>
-    ensures durable { OnOk result (IfSome (D.told disk.new) (λ b. Only b (D.may_leave disk.new))) }
+    ensures durable { OnOk result
+        (IfSome (D.contents disk.new) (λ b. Only b (D.may_leave disk.new))) }
     ensures known { D.known disk.new ≡ D.known disk.old }
-    ensures looks { Looks D.Disk disk.old disk.new }
+    ensures only_reads { OnlyReads D.Disk disk.old disk.new }
     ensures clock { OnOk result (Rose (D.moment disk.old) (D.moment disk.new)) }
     ensures cause { HasCause (D.faults disk.old) (D.faults disk.new) result }
 {

@@ -1,8 +1,8 @@
 -- The bytes that are read as an anchor id are that id.
 use Rattle.std.proofs.Common.{◌≡◌, ◌==◌, ℕ, Bool, true, false, Result, Ok, Err, length}
 use Rattle.std.specs.Prelude.{if◌then◌else◌, nat_lt}
-use Rattle.byte_forms.specs.Types.{Text}
-use Rattle.byte_forms.specs.Readings.{◌>>=◌}
+use Rattle.byte_formats.specs.Types.{Text}
+use Rattle.byte_formats.specs.Readings.{◌>>=◌}
 use Rattle.tls_wire.specs.Anchors.{anchor_of, arcs_only}
 use Rattle.tls_wire.specs.declared.fault.AnchorBytesError.{AnchorBytesError}
 use Rattle.drill_nodes.specs.Ids.{id_of}

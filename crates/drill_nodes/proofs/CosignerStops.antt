@@ -5,15 +5,15 @@ use Rattle.std.proofs.Common.{append_assoc, length}
 use Rattle.std.specs.List.{Contains}
 use Rattle.std.proofs.lemmas.List.{append-nil}
 use Rattle.std.proofs.lemmas.List.Elements.{Contains-append_left, Contains-push}
-use Rattle.byte_forms.specs.Types.{Hash, Text, HashFunction}
-use Rattle.tls_wire.specs.Spelling.{AreHashes}
+use Rattle.byte_formats.specs.Types.{Hash, Text, HashFunction}
+use Rattle.tls_wire.specs.Encoding.{AreHashes}
 use Rattle.journal_core.specs.Folds.{state_behind}
-use Rattle.journal_core.specs.Format.{StandsFor}
+use Rattle.journal_core.specs.Format.{Represents}
 use Rattle.cosigner_core.specs.Folds.{CosignerState, cosigner_of}
 use Rattle.cosigner_core.specs.Records.{sign_record}
 use Rattle.cosigner_core.specs.declared.requests.SubtreeRequest.{SubtreeRequest}
 use Rattle.cosigner_core.specs.declared.step.Step.TheVariants.{Sign}
-use Rattle.cosigner_core.proofs.Spelled.{step_again}
+use Rattle.cosigner_core.proofs.Encoded.{step_again}
 use Rattle.drill_nodes.specs.CosignerCalls.{IsNumbered, IsSignature, body_called, cosigner_behind}
 use Rattle.drill_nodes.specs.CosignerNodes.{HasMore, HasRecorded, HasSign, HasSigned, IsAsBefore}
 use Rattle.drill_nodes.specs.CosignerNodes.{IsBehindCall, IsLeftBy, IsReopened, most_of}
@@ -25,7 +25,7 @@ use Rattle.drill_nodes.specs.declared.turns.Stop.{Stop}
 pub reopened_by : (h : HashFunction) (call : CosignerCall) (s t : CosignerState)
     (before after : List Text) (images : Text → Type 0) (bytes out : Text) (done : Bool)
     → IsLeftBy h call s before images out done → images bytes
-    → ((list : List Text) (u : CosignerState) → StandsFor bytes list → cosigner_of h list ≡ Ok u
+    → ((list : List Text) (u : CosignerState) → Represents bytes list → cosigner_of h list ≡ Ok u
     → (t ≡ u) × (after ≡ list)) → IsReopened call s t before after out done
 reopened_by h call s t before after images bytes out done left image opened =
     let either : IsAsBefore s t before after ⊎ IsBehindCall call s t before after =

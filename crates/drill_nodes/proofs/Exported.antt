@@ -1,11 +1,11 @@
 -- A cosigner of a drill that was looked on.
 use Rattle.std.proofs.Common.{◌≡◌, ◌∙◌, List, Some, Ok, sym, ap, subst, refl, drop}
-use Rattle.byte_forms.specs.Places.{IsBytes}
-use Rattle.byte_forms.specs.Types.{Text, HashFunction}
+use Rattle.byte_formats.specs.Places.{IsBytes}
+use Rattle.byte_formats.specs.Types.{Text, HashFunction}
 use Rattle.disk_core.specs.Memory.{bytes_of, calls_of, images_of}
-use Rattle.disk_core.specs.ReplayLaws.{told_are}
+use Rattle.disk_core.specs.ReplayLaws.{contents_are}
 use Rattle.disk_core.specs.declared.memory.mem_disk.MemDisk.{MemDisk}
-use Rattle.journal_core.specs.Format.{StandsFor, records_of}
+use Rattle.journal_core.specs.Format.{Represents, records_of}
 use Rattle.cosigner_core.specs.ExportReading.{export_in, export_of}
 use Rattle.cosigner_core.specs.Exports.{export_text}
 use Rattle.cosigner_core.specs.Folds.{CosignerState, cosigner_of}
@@ -23,14 +23,14 @@ pub same_list : (x y : List Text) → Some x ≡ Some y → x ≡ y
 same_list x y e = cc
 
 -- a disk that tells the same, and may leave nothing new
-pub looked_on : (h : HashFunction) (s t : CosignerState) (old new : MemDisk)
+pub only_read_on : (h : HashFunction) (s t : CosignerState) (old new : MemDisk)
     → bytes_of new ≡ bytes_of old → ((c : Text) → images_of new c → images_of old c) → t ≡ s
     → IsCosignerDisk h s old → IsCosignerDisk h t new
-looked_on h s t old new bytes images state is =
+only_read_on h s t old new bytes images state is =
     let same : records_on new ≡ records_on old = ap records_of bytes in
     record {
-      holds = subst (λ (b : Text). StandsFor b (records_of b)) (sym bytes) is.holds;
-      images = λ c there. subst (λ (list : List Text). StandsFor c list) (sym same)
+      holds = subst (λ (b : Text). Represents b (records_of b)) (sym bytes) is.holds;
+      images = λ c there. subst (λ (list : List Text). Represents c list) (sym same)
           (is.images c (images c there));
       valid = ap (cosigner_of h) same ∙ is.valid ∙ ap Ok (sym state);
     }
@@ -41,7 +41,7 @@ module _ (h : HashFunction) (s : CosignerState) (disk : MemDisk) (is : IsCosigne
         × (export_in h (export_text s (records_on disk)) ≡ Ok (Some (export_of s steps)))
     again =
         let are : IsBytes (bytes_of disk) =
-        told_are disk.past.first (calls_of disk) (bytes_of disk) disk.past.are_bytes refl in
+        contents_are disk.past.first (calls_of disk) (bytes_of disk) disk.past.are_bytes refl in
         let all = export_again h (bytes_of disk) (records_on disk) s are is.holds is.valid in
         (all.0, all.1, all.2)
 

@@ -9,7 +9,7 @@ use Rattle.std.specs.List.{flat_map, remove, sum_by}
 use Rattle.std.proofs.lemmas.Grind.{flat_map-append}
 use Rattle.std.proofs.lemmas.List.{append-nil}
 use Rattle.std.proofs.Common.{append_assoc}
-use Rattle.byte_forms.specs.Types.{Hash, Text}
+use Rattle.byte_formats.specs.Types.{Hash, Text}
 use Rattle.tree_core.specs.declared.hashing.TreeHash.{Ghosts as Hashes}
 use Rattle.mtc_proof.specs.Proofs.{SigParts, signature_text}
 use Rattle.drill_nodes.specs.CosignerNodes.{most_of}
@@ -20,7 +20,7 @@ use Rattle.drill_nodes.specs.Rounds.{stops_in}
 use Rattle.drill_nodes.specs.declared.cosigner_node.CosignerNode.{CosignerNode}
 use Rattle.drill_nodes.specs.declared.turns.Stop.{Stop}
 use Rattle.drill_nodes.proofs.MadeStops.{next_stopped}
-use Rattle.drill_nodes.proofs.Pairs.{front_is, front_more, gone_on, paired_push}
+use Rattle.drill_nodes.proofs.Pairs.{prefix_is, prefix_more, gone_on, paired_push}
 
 -- So many have gone round: those that are behind the others are what their turns made of them.
 pub record HaveGone {A : Type 0} (R : A → A → Type 0) (i : ℕ) (old now : List A) : Type 0 where
@@ -42,13 +42,13 @@ module _ {A : Type 0} (R : A → A → Type 0) where
 
   pub next_is : (i : ℕ) (old now : List A) (x : A) → HaveGone R i old now → i < length old
       → x ≡ get_or now 0 x → get_or old i x ≡ x
-  next_is i old now x gone below at = front_is old gone.done now i x below gone.items at
+  next_is i old now x gone below at = prefix_is old gone.done now i x below gone.items at
 
   pub next_gone : (i : ℕ) (old now next : List A) (x y : A) → HaveGone R i old now
       → i < length old → x ≡ get_or now 0 x → next ≡ remove now 0 ++ y ∷ [] → R x y
       → HaveGone R (i + 1) old next
   next_gone i old now next x y gone below at next_is here =
-      let more = front_more old i x below (front_is old gone.done now i x below gone.items at) in
+      let more = prefix_more old i x below (prefix_is old gone.done now i x below gone.items at) in
       record {
         done = gone.done ++ y ∷ [];
         items = next_is ∙ gone_on old gone.done now i x y below gone.items;
@@ -80,9 +80,9 @@ sum_round f (z ∷ rest) next x y some at is =
     let whole : sum_by f next ≡ sum_by f rest + sum_by f (y ∷ []) =
     ap (sum_by f) is ∙ sum_by-append f rest (y ∷ []) in
     let last = sum_by-cons f y [] in
-    let front = sum_by-cons f z rest in
+    let prefix = sum_by-cons f z rest in
     let same : f x ≡ f z = ap f at in
-    omega (arith, whole, last, front, same)
+    omega (arith, whole, last, prefix, same)
 
 pub length_round : {A : Type 0} (now next : List A) (y : A) → 0 < length now
     → next ≡ remove now 0 ++ y ∷ [] → length next ≡ length now
@@ -132,10 +132,10 @@ module _ {H : Type 0} {hashes : Hashes H} (size : ℕ) (hash : Hash) where
 
 -- ---- a list whose front is taken away, one by one
 
-pub left_front : {A : Type 0} (old now : List A) (i : ℕ) (x : A) → i < length old
+pub left_prefix : {A : Type 0} (old now : List A) (i : ℕ) (x : A) → i < length old
     → now ≡ drop i old → x ≡ get_or now 0 x → get_or old i x ≡ x
-left_front old now i x below are at =
-    front_is old [] now i x below (are ∙ sym (append-nil (drop i old))) at
+left_prefix old now i x below are at =
+    prefix_is old [] now i x below (are ∙ sym (append-nil (drop i old))) at
 
 pub left_next : {A : Type 0} (old now : List A) (i : ℕ) (x : A) → i < length old
     → now ≡ drop i old → remove now 0 ≡ drop (i + 1) old

@@ -1,9 +1,9 @@
 -- The disk of a cosigner that has grown by a record.
 use Rattle.std.proofs.Common.{◌≡◌, List, Ok, sym, subst}
-use Rattle.byte_forms.specs.Types.{Text, HashFunction}
+use Rattle.byte_formats.specs.Types.{Text, HashFunction}
 use Rattle.disk_core.specs.Memory.{bytes_of, images_of}
 use Rattle.disk_core.specs.declared.memory.mem_disk.MemDisk.{MemDisk}
-use Rattle.journal_core.specs.Format.{StandsFor}
+use Rattle.journal_core.specs.Format.{Represents}
 use Rattle.journal_core.proofs.Records.{records_of-stands}
 use Rattle.cosigner_core.specs.Folds.{CosignerState, cosigner_of}
 use Rattle.drill_nodes.specs.CosignerNodes.{IsCosignerDisk}
@@ -11,19 +11,19 @@ use Rattle.drill_nodes.specs.Disks.{records_on}
 
 -- the records of a disk whose images stand for these
 pub records_grown : (disk : MemDisk) (list : List Text) → images_of disk (bytes_of disk)
-    → ((c : Text) → images_of disk c → StandsFor c list) → records_on disk ≡ list
+    → ((c : Text) → images_of disk c → Represents c list) → records_on disk ≡ list
 records_grown disk list reads images =
     records_of-stands (bytes_of disk) list (images (bytes_of disk) reads)
 
 -- a disk whose images stand for records that make this cosigner
 pub is_disk : (h : HashFunction) (s : CosignerState) (disk : MemDisk) (list : List Text)
-    → images_of disk (bytes_of disk) → ((c : Text) → images_of disk c → StandsFor c list)
+    → images_of disk (bytes_of disk) → ((c : Text) → images_of disk c → Represents c list)
     → cosigner_of h list ≡ Ok s → IsCosignerDisk h s disk
 is_disk h s disk list reads images valid =
     let same : list ≡ records_on disk = sym (records_grown disk list reads images) in
     record {
-      holds = subst (λ (l : List Text). StandsFor (bytes_of disk) l) same
+      holds = subst (λ (l : List Text). Represents (bytes_of disk) l) same
           (images (bytes_of disk) reads);
-      images = λ c is. subst (λ (l : List Text). StandsFor c l) same (images c is);
+      images = λ c is. subst (λ (l : List Text). Represents c l) same (images c is);
       valid = subst (λ (l : List Text). cosigner_of h l ≡ Ok s) same valid;
     }

@@ -2,11 +2,11 @@
 use Rattle.std.proofs.Common.{◌≡◌, ◌∙◌, List, [], ◌∷◌, ◌++◌, Option, Ok, Bool, option_map, ap, sym}
 use Rattle.std.proofs.Common.{subst}
 use Rattle.std.specs.Prelude.{IfSome}
-use Rattle.byte_forms.specs.Types.{Text, HashFunction}
+use Rattle.byte_formats.specs.Types.{Text, HashFunction}
 use Rattle.disk_core.specs.declared.disk.Disk.{Ghosts}
 use Rattle.tree_core.specs.declared.hashing.TreeHash.{Ghosts as Hashes}
-use Rattle.journal_core.specs.Format.{StandsFor, StandsForEither}
-use Rattle.journal_core.specs.Words.{AllStandFor}
+use Rattle.journal_core.specs.Format.{Represents, RepresentsEither}
+use Rattle.journal_core.specs.Words.{AllRepresent}
 use Rattle.cosigner_core.specs.Folds.{CosignerState, cosigner_of}
 use Rattle.cosigner_core.specs.Words.{cosigner_disk, cosigner_state}
 use Rattle.cosigner_core.specs.declared.cosigner.Cosigner.{Cosigner}
@@ -28,17 +28,17 @@ module _ {H D : Type 0} {hashes : Hashes H} {g : Ghosts D} (h : HashFunction)
       ≡ Ok (cosigner_behind (cosigner_state old) call))) is.records called.valid in
       let either = subst (λ (o : Option (List Text)). IfSome o (λ xs. (c : Text)
       → g.may_leave (cosigner_disk new) c
-      → StandsForEither xs (body_called (cosigner_state old) call) c))
+      → RepresentsEither xs (body_called (cosigner_state old) call) c))
       is.records (called.images is.sound) in
       record {
         old = is.valid;
         new = subst (λ (t : CosignerState). cosigner_of h (list ++ body_called t call ∷ [])
             ≡ Ok (cosigner_behind t call)) is.state valid;
         either = λ c there. subst (λ (t : CosignerState).
-            StandsForEither list (body_called t call) c) is.state (either c (leaves c there));
+            RepresentsEither list (body_called t call) c) is.state (either c (leaves c there));
         all = λ did c there. subst (λ (t : CosignerState).
-            StandsFor c (list ++ body_called t call ∷ [])) is.state
-            (subst (λ (o : Option (List Text)). IfSome o (λ xs. AllStandFor g (cosigner_disk new)
+            Represents c (list ++ body_called t call ∷ [])) is.state
+            (subst (λ (o : Option (List Text)). IfSome o (λ xs. AllRepresent g (cosigner_disk new)
             (xs ++ body_called (cosigner_state old) call ∷ []))) is.records (called.kept did) c
             (leaves c there));
         signed = λ did. subst (λ (t : CosignerState). IsSignature t call out) is.state

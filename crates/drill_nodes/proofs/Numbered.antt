@@ -3,7 +3,7 @@ use Rattle.std.proofs.Common.{◌≡◌, ◌<◌, ◌≤◌, ◌^◌, Bool, true
 use Rattle.std.proofs.Common.{refl, ltb-true}
 use Rattle.std.specs.Prelude.{nat_lt, not, if◌then◌else◌}
 use Rattle.std.specs.Str.{bytes_eq}
-use Rattle.byte_forms.specs.Types.{HashFunction}
+use Rattle.byte_formats.specs.Types.{HashFunction}
 use Rattle.tree_core.specs.Subtree.{is_subtree}
 use Rattle.lms_core.specs.Heights.{height}
 use Rattle.lms_core.specs.declared.heights.LmsType.{LmsType}

@@ -65,9 +65,9 @@ module _ {A : Type 0} where
   all_at P (y ∷ ys) (suc i) x all below at = all_at P ys i x all.1 (omega (arith, below)) at
 
   -- what is at the front of a list that went round so far
-  pub front_is : (old done items : List A) (i : ℕ) (x : A) → i < length old
+  pub prefix_is : (old done items : List A) (i : ℕ) (x : A) → i < length old
       → items ≡ drop i old ++ done → x ≡ get_or items 0 x → get_or old i x ≡ x
-  front_is old done items i x below are at =
+  prefix_is old done items i x below are at =
       ap (λ (xs : List A). get_or (xs ++ done) 0 x) (sym (drop-cons old i x below))
       ∙ ap (λ (xs : List A). get_or xs 0 x) (sym are) ∙ sym at
 
@@ -81,7 +81,7 @@ module _ {A : Type 0} where
       ∙ append_assoc (drop (suc i) old) done (y ∷ []))
 
   -- the front that went round, with one more
-  pub front_more : (old : List A) (i : ℕ) (x : A) → i < length old → get_or old i x ≡ x
+  pub prefix_more : (old : List A) (i : ℕ) (x : A) → i < length old → get_or old i x ≡ x
       → take (i + 1) old ≡ take i old ++ x ∷ []
-  front_more old i x below at =
+  prefix_more old i x below at =
       rw (add-one i) (take-suc old i x below ∙ ap (λ (z : A). take i old ++ z ∷ []) at)

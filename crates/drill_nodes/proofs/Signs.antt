@@ -4,8 +4,8 @@ use Rattle.std.proofs.Common.{None, Ok, cond, refl, sym, ap, arith, subst}
 use Rattle.std.specs.Prelude.{option_map}
 use Rattle.std.specs.List.{count_by}
 use Rattle.std.proofs.lemmas.List.Sums.{sum_by-cons}
-use Rattle.byte_forms.specs.Types.{HashFunction, Text}
-use Rattle.byte_forms.proofs.Steps.{ok_is}
+use Rattle.byte_formats.specs.Types.{HashFunction, Text}
+use Rattle.byte_formats.proofs.Steps.{ok_is}
 use Rattle.disk_core.specs.declared.memory.mem_disk.MemDisk.{MemDisk}
 use Rattle.cosigner_core.specs.Counts.{index_before, indices_in, indices_of}
 use Rattle.cosigner_core.specs.ExportReading.{export_in, export_of}

@@ -1,11 +1,11 @@
 -- What calls that add a record make of a cosigner.
 use Rattle.std.specs.Prelude.{◌≡◌, ◌<◌, ◌^◌, true, false, List, [], ◌∷◌, ◌++◌, length, IfSome, Ok}
 use Rattle.std.specs.Prelude.{Bool, Some, option_map}
-use Rattle.byte_forms.specs.Types.{Text, HashFunction}
+use Rattle.byte_formats.specs.Types.{Text, HashFunction}
 use Rattle.disk_core.specs.declared.disk.Disk.{Ghosts}
 use Rattle.tree_core.specs.declared.hashing.TreeHash.{Ghosts as Hashes}
-use Rattle.journal_core.specs.Format.{StandsFor, StandsForEither, records_of}
-use Rattle.journal_core.specs.Words.{AllStandFor}
+use Rattle.journal_core.specs.Format.{Represents, RepresentsEither, records_of}
+use Rattle.journal_core.specs.Words.{AllRepresent}
 use Rattle.hss_core.specs.Hss.{Verifies, one_level_public}
 use Rattle.mtc_proof.specs.Inputs.{signed_text}
 use Rattle.cosigner_core.specs.Folds.{CosignerState, cosigner_of, having_signed, holding}
@@ -49,15 +49,15 @@ module _ {H D : Type 0} {hashes : Hashes H} {g : Ghosts D} where
         ≡ Ok (cosigner_behind (cosigner_state old) call))
     pub images : cosigner_broken old ≡ false → IfSome (cosigner_records old) (λ list. (c : Text)
         → g.may_leave (cosigner_disk new) c
-        → StandsForEither list (body_called (cosigner_state old) call) c)
+        → RepresentsEither list (body_called (cosigner_state old) call) c)
     pub grown : done ≡ true → CosignerHasGrown (body_called (cosigner_state old) call)
         (cosigner_behind (cosigner_state old) call) old new
-    pub kept : done ≡ true → IfSome (cosigner_records old) (λ list. AllStandFor g
+    pub kept : done ≡ true → IfSome (cosigner_records old) (λ list. AllRepresent g
         (cosigner_disk new) (list ++ body_called (cosigner_state old) call ∷ []))
     pub signed : done ≡ true → IsSignature (cosigner_state old) call out
     pub numbered : done ≡ true → IsNumbered (cosigner_state old) call
     -- what is read is one of the images
-    pub reads : IfSome (g.told (cosigner_disk new)) (g.may_leave (cosigner_disk new))
+    pub reads : IfSome (g.contents (cosigner_disk new)) (g.may_leave (cosigner_disk new))
 
   -- An open cosigner with this state, over these records, which make it.
   pub record IsCosignerWith (h : HashFunction) (s : CosignerState) (list : List Text)
@@ -71,10 +71,11 @@ module _ {H D : Type 0} {hashes : Hashes H} {g : Ghosts D} where
   pub record HasOpenedCosigner (h : HashFunction) (disk : D) (it : Cosigner H D hashes g)
       : Type 0 where
     pub sound : cosigner_broken it ≡ false
-    pub found : IfSome (g.told disk) (λ b. (list : List Text) (s : CosignerState)
-        → StandsFor b list → cosigner_of h list ≡ Ok s
+    pub found : IfSome (g.contents disk) (λ b. (list : List Text) (s : CosignerState)
+        → Represents b list → cosigner_of h list ≡ Ok s
         → (cosigner_records it ≡ Some list) × (cosigner_state it ≡ s))
     pub valid : IfSome (cosigner_records it) (λ list. cosigner_of h list ≡ Ok (cosigner_state it))
-    pub images : IfSome (cosigner_records it) (AllStandFor g (cosigner_disk it))
-    pub list : cosigner_records it ≡ option_map records_of (g.told (cosigner_disk it))
-    pub holds : IfSome (g.told (cosigner_disk it)) (λ b. IfSome (cosigner_records it) (StandsFor b))
+    pub images : IfSome (cosigner_records it) (AllRepresent g (cosigner_disk it))
+    pub list : cosigner_records it ≡ option_map records_of (g.contents (cosigner_disk it))
+    pub holds : IfSome (g.contents (cosigner_disk it))
+        (λ b. IfSome (cosigner_records it) (Represents b))

@@ -4,11 +4,11 @@ use Rattle.std.specs.Prelude.{Option, Some, None, Bool, true, replicate, drop}
 use Rattle.std.specs.Int.{w64, to_be_bytes}
 use Rattle.std.specs.List.{Contains}
 use Rattle.std.proofs.Props.{props}
-use Rattle.byte_forms.specs.Types.{Hash, Text, HashFunction}
+use Rattle.byte_formats.specs.Types.{Hash, Text, HashFunction}
 use Rattle.disk_core.specs.Memory.{bytes_of, images_of}
 use Rattle.disk_core.specs.declared.memory.mem_disk.MemDisk.{MemDisk}
-use Rattle.journal_core.specs.Format.{StandsFor, StandsForEither}
-use Rattle.journal_core.specs.Settled.{StandsFor-prop}
+use Rattle.journal_core.specs.Format.{Represents, RepresentsEither}
+use Rattle.journal_core.specs.Durable.{Represents-prop}
 use Rattle.lmots_core.specs.declared.parameters.OtsType.TheVariants.{W4}
 use Rattle.lms_core.specs.declared.heights.LmsType.TheVariants.{H5}
 use Rattle.cosigner_core.specs.Folds.{CosignerState, cosigner_of}
@@ -25,8 +25,8 @@ use Rattle.drill_nodes.specs.declared.turns.Stop.{Stop}
 -- What a disk holds and all that a crash now may leave of it stand for its records, and these make
 -- this cosigner.
 pub record IsCosignerDisk (h : HashFunction) (s : CosignerState) (disk : MemDisk) : Type 0 where
-  pub holds : StandsFor (bytes_of disk) (records_on disk)
-  pub images : (c : Text) → images_of disk c → StandsFor c (records_on disk)
+  pub holds : Represents (bytes_of disk) (records_on disk)
+  pub images : (c : Text) → images_of disk c → Represents c (records_on disk)
   pub valid : cosigner_of h (records_on disk) ≡ Ok s
 
 pub IsCosignerDisk-prop : (h : HashFunction) (s : CosignerState) (disk : MemDisk)
@@ -34,8 +34,8 @@ pub IsCosignerDisk-prop : (h : HashFunction) (s : CosignerState) (disk : MemDisk
 IsCosignerDisk-prop h s disk =
     hlevel (
       props,
-      StandsFor-prop (bytes_of disk) (records_on disk),
-      λ (c : Text). StandsFor-prop c (records_on disk),
+      Represents-prop (bytes_of disk) (records_on disk),
+      λ (c : Text). Represents-prop c (records_on disk),
     )
 
 -- A disk that a stop within a call has left: each of its images stands for the records from before,
@@ -45,8 +45,8 @@ pub record IsLeftBy (h : HashFunction) (call : CosignerCall) (s : CosignerState)
     (images : Text → Type 0) (out : Text) (done : Bool) : Type 0 where
   pub old : cosigner_of h list ≡ Ok s
   pub new : cosigner_of h (list ++ body_called s call ∷ []) ≡ Ok (cosigner_behind s call)
-  pub either : (c : Text) → images c → StandsForEither list (body_called s call) c
-  pub all : done ≡ true → (c : Text) → images c → StandsFor c (list ++ body_called s call ∷ [])
+  pub either : (c : Text) → images c → RepresentsEither list (body_called s call) c
+  pub all : done ≡ true → (c : Text) → images c → Represents c (list ++ body_called s call ∷ [])
   pub signed : done ≡ true → IsSignature s call out
   pub numbered : done ≡ true → IsNumbered s call
 

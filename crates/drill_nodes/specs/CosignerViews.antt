@@ -1,6 +1,6 @@
 -- A cosigner of a drill as its state, the records on its disk, and the stops in its calls.
 use Rattle.std.specs.Prelude.{◌≡◌, ℕ, List, length, drop, Ok, Some}
-use Rattle.byte_forms.specs.Types.{HashFunction, Text}
+use Rattle.byte_formats.specs.Types.{HashFunction, Text}
 use Rattle.disk_core.specs.declared.memory.mem_disk.MemDisk.{MemDisk}
 use Rattle.tree_core.specs.declared.hashing.TreeHash.{Ghosts as Hashes}
 use Rattle.cosigner_core.specs.Folds.{CosignerState}

@@ -1,7 +1,7 @@
 -- What calls make of the cosigners of a drill, one behind the other.
 use Rattle.std.specs.Prelude.{◌≡◌, ◌<◌, ◌≤◌, ◌+◌, ◌^◌, ◌++◌, [], ◌∷◌, ℕ, List, length}
 use Rattle.std.specs.List.{flat_map, sum_by}
-use Rattle.byte_forms.specs.Types.{Hash, HashFunction, Text}
+use Rattle.byte_formats.specs.Types.{Hash, HashFunction, Text}
 use Rattle.hss_core.specs.Hss.{Verifies, one_level_public}
 use Rattle.mtc_proof.specs.Inputs.{signed_text}
 use Rattle.mtc_proof.specs.Proofs.{SigParts, signature_text}

@@ -1,6 +1,6 @@
 -- The names of the nodes.
 use Rattle.std.specs.Prelude.{ℕ, [], ◌∷◌}
-use Rattle.byte_forms.specs.Types.{Text}
+use Rattle.byte_formats.specs.Types.{Text}
 
 -- the anchor id 32473.N, N below 128
 abbrev pub id_of : ℕ → Text

@@ -1,9 +1,9 @@
 //! The cosigners of a drill.
 
 ghost use Rattle.std.specs.Prelude.{◌≡◌, ◌<◌, ◌+◌, List, [], ◌∷◌, length, Ok, IfOk};
-ghost use Rattle.byte_forms.specs.Types.{Text};
+ghost use Rattle.byte_formats.specs.Types.{Text};
 ghost use Rattle.disk_core.specs.Memory.{bytes_of, images_of};
-ghost use Rattle.journal_core.specs.Format.{StandsFor};
+ghost use Rattle.journal_core.specs.Format.{Represents};
 ghost use Rattle.cosigner_core.specs.Folds.{CosignerState, cosigner_of, holding, new_cosigner};
 ghost use Rattle.drill_nodes.specs.CosignerCalls.{IsCosignerWith};
 ghost use Rattle.drill_nodes.specs.CosignerNodes.{HasMore, HasRecorded, HasSigned, IsLeftBy};
@@ -48,7 +48,7 @@ fn opened<H: TreeHash>(
     stops: Stops,
 ) -> Result<CosignerNode<H>, Memory>
     ensures state { IfOk result (λ it. (list : List Text) (s : CosignerState)
-        → StandsFor (bytes_of disk) list → cosigner_of H.hash list ≡ Ok s
+        → Represents (bytes_of disk) list → cosigner_of H.hash list ≡ Ok s
         → (cosigner_shown it ≡ s) × (records_shown it ≡ list)) }
     ensures stops { IfOk result (λ it. cosigner_stops it ≡ length stops.made.items) }
 {

@@ -130,7 +130,7 @@ impl<H: TreeHash> Cosigners<H> {
     {
         let mut texts = Vec::new(alloc);
         let count = self.nodes.len();
-        for _told in 0..count {
+        for _contents in 0..count {
             let mut node = self.nodes.remove(0);
             let text = node.export(alloc)?;
             texts.push(text)?;

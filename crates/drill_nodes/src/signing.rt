@@ -2,7 +2,7 @@
 
 ghost use Rattle.std.specs.Prelude.{◌≡◌, ◌<◌, ◌≤◌, ◌+◌, ◌^◌, ◌++◌, [], ◌∷◌, length, IfOk};
 ghost use Rattle.std.specs.Prelude.{OnOk};
-ghost use Rattle.tls_wire.specs.Spelling.{AreHashes};
+ghost use Rattle.tls_wire.specs.Encoding.{AreHashes};
 ghost use Rattle.mtc_proof.specs.Proofs.{signature_text};
 ghost use Rattle.drill_nodes.specs.Cosigners.{IsAdvanced, IsPut, IsSigned};
 ghost use Rattle.drill_nodes.specs.CosignerNodes.{most_of};
@@ -21,7 +21,7 @@ use tree_core::TreeHash;
 
 // The types of a hash and of a proof make hashes as long as hashes are: the clauses say it, and the
 // call does nothing.
-fn are_hashes(hash: &[u8; 32], proof: &[[u8; 32]])
+fn law_are_hashes(hash: &[u8; 32], proof: &[[u8; 32]])
     requires { length proof.now ≤ 128 }
     ensures one { length hash.now ≡ 32 }
     ensures all { AreHashes proof.now }
@@ -98,7 +98,7 @@ pub(crate) fn signed<H: TreeHash>(
         hash,
         proof,
     };
-    are_hashes(&request.hash, request.proof);
+    law_are_hashes(&request.hash, request.proof);
     let mut out = SigBuf::new();
     let node = node.cosign(alloc, &request, turn, &mut out)?;
     put_signature(&node, &out, signatures)?;

@@ -2,10 +2,10 @@
 use Rattle.std.proofs.Common.{◌≡◌, ℕ, ◌<◌, length, Ok, Err, subst, arith}
 use Rattle.std.specs.Prelude.{if◌then◌else◌}
 use Rattle.std.specs.Int.{w16}
-use Rattle.byte_forms.specs.Types.{HashFunction, Text}
-use Rattle.byte_forms.specs.Places.{At}
-use Rattle.byte_forms.specs.Readings.{◌>>=◌, both_at}
-use Rattle.byte_forms.proofs.Steps.{bind_ok, lifted_ok, ok_is, pass_ok}
+use Rattle.byte_formats.specs.Types.{HashFunction, Text}
+use Rattle.byte_formats.specs.Places.{At}
+use Rattle.byte_formats.specs.Readings.{◌>>=◌, both_at}
+use Rattle.byte_formats.proofs.Steps.{bind_ok, lifted_ok, ok_is, pass_ok}
 use Rattle.tls_wire.specs.Reading.{vector_at}
 use Rattle.tls_wire.proofs.Vectors.{vector_forward}
 use Rattle.entry_list.specs.Items.{is_key_of}

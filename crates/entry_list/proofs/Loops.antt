@@ -7,11 +7,11 @@ use Rattle.std.specs.Prelude.{if◌then◌else◌}
 use Rattle.std.proofs.lemmas.Bool.{cases_lt}
 use Rattle.std.proofs.lemmas.List.{get_or-append_right, get_or-map, get_or_append_left}
 use Rattle.std.proofs.lemmas.List.{length-append, length-map, map-append}
-use Rattle.byte_forms.specs.Types.{HashFunction, Text}
-use Rattle.byte_forms.specs.Places.{At, at}
-use Rattle.byte_forms.specs.Readings.{◌>>=◌, both_at}
-use Rattle.byte_forms.specs.Lists.{each_at}
-use Rattle.byte_forms.proofs.Steps.{bind_ok, ok_is, pass_ok}
+use Rattle.byte_formats.specs.Types.{HashFunction, Text}
+use Rattle.byte_formats.specs.Places.{At, at}
+use Rattle.byte_formats.specs.Readings.{◌>>=◌, both_at}
+use Rattle.byte_formats.specs.Lists.{each_at}
+use Rattle.byte_formats.proofs.Steps.{bind_ok, ok_is, pass_ok}
 use Rattle.cert_fields.specs.Views.{texts}
 use Rattle.entry_list.specs.Items.{AreItems, ItemLists, is_key_of, lists_of}
 use Rattle.entry_list.specs.Reading.{listed_at, item_behind, all_listed_at, items_in, vector_item}

@@ -8,16 +8,16 @@ use Rattle.std.specs.List.{concat, range_with_len, flat_map}
 use Rattle.std.proofs.lemmas.List.{get_or-map, get_or-take, length-append, length-map}
 use Rattle.std.proofs.lemmas.List.{length-take-le, nil_from_length, take-map}
 use Rattle.std.proofs.Math.Seq.{take-length}
-use Rattle.byte_forms.specs.Types.{HashFunction, Text}
-use Rattle.byte_forms.specs.Places.{At, IsBytes, at}
-use Rattle.byte_forms.specs.Readings.{◌>>=◌, both_at}
-use Rattle.byte_forms.specs.Forms.{Anything, FitsBoth, FitsEach, IsForm, Nothing, both}
-use Rattle.byte_forms.specs.Lists.{each_at}
-use Rattle.byte_forms.proofs.Forms.{both_form, lifted_form, tested_form}
-use Rattle.byte_forms.proofs.Lists.{each_form}
-use Rattle.byte_forms.proofs.Steps.{bind_ok, chosen, ok_is}
+use Rattle.byte_formats.specs.Types.{HashFunction, Text}
+use Rattle.byte_formats.specs.Places.{At, IsBytes, at}
+use Rattle.byte_formats.specs.Readings.{◌>>=◌, both_at}
+use Rattle.byte_formats.specs.Forms.{Anything, FitsBoth, FitsEach, IsForm, Nothing, both}
+use Rattle.byte_formats.specs.Lists.{each_at}
+use Rattle.byte_formats.proofs.Forms.{both_form, lifted_form, tested_form}
+use Rattle.byte_formats.proofs.Lists.{each_form}
+use Rattle.byte_formats.proofs.Steps.{bind_ok, chosen, ok_is}
 use Rattle.tls_wire.specs.Reading.{vector_at}
-use Rattle.tls_wire.specs.Spelling.{vector}
+use Rattle.tls_wire.specs.Encoding.{vector}
 use Rattle.tls_wire.proofs.Numbers.{wide16}
 use Rattle.tls_wire.proofs.Vectors.{vector_form}
 use Rattle.entry_list.proofs.Forward.{item_forward}

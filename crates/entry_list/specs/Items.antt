@@ -4,12 +4,12 @@ use Rattle.std.specs.Prelude.{take, slice_index_or, Option, Some, None, Result, 
 use Rattle.std.specs.Prelude.{if◌then◌else◌}
 use Rattle.std.specs.Int.{w16}
 use Rattle.std.specs.List.{concat, range_with_len}
-use Rattle.byte_forms.specs.Types.{HashFunction, Text}
+use Rattle.byte_formats.specs.Types.{HashFunction, Text}
 use Rattle.log_entry.specs.Entries.{TbsParts}
 use Rattle.log_entry.specs.Matching.{matches}
 use Rattle.log_entry.specs.Reading.{entry_in}
 use Rattle.log_entry.specs.declared.fault.EntryError.{EntryError}
-use Rattle.tls_wire.specs.Spelling.{vector}
+use Rattle.tls_wire.specs.Encoding.{vector}
 use Rattle.entry_list.specs.declared.items.Item.{Item}
 
 -- An entry and its key, as their bytes.

@@ -1,10 +1,10 @@
 -- Reading a file of entries, with its faults in their order.
 use Rattle.std.specs.Prelude.{ℕ, List, [], length, Result, Ok}
 use Rattle.std.specs.Int.{w16}
-use Rattle.byte_forms.specs.Types.{HashFunction, Text}
-use Rattle.byte_forms.specs.Places.{at}
-use Rattle.byte_forms.specs.Readings.{Reading, ◌>>=◌, both_at, lifted_at, tested_at}
-use Rattle.byte_forms.specs.Lists.{each_at}
+use Rattle.byte_formats.specs.Types.{HashFunction, Text}
+use Rattle.byte_formats.specs.Places.{at}
+use Rattle.byte_formats.specs.Readings.{Reading, ◌>>=◌, both_at, lifted_at, tested_at}
+use Rattle.byte_formats.specs.Lists.{each_at}
 use Rattle.tls_wire.specs.Reading.{vector_at}
 use Rattle.tls_wire.specs.declared.cursor.Short.{Short}
 use Rattle.entry_list.specs.Items.{ItemLists, is_key_of, lists_of}

@@ -1,14 +1,14 @@
 //! Laws of files of entries: the clauses are the laws, and the functions do nothing.
 
 ghost use Rattle.std.specs.Prelude.{◌≡◌, ℕ, ◌≤◌, length, Ok};
-ghost use Rattle.byte_forms.specs.Types.{HashFunction, Text};
-ghost use Rattle.byte_forms.specs.Places.{IsBytes};
+ghost use Rattle.byte_formats.specs.Types.{HashFunction, Text};
+ghost use Rattle.byte_formats.specs.Places.{IsBytes};
 ghost use Rattle.entry_list.specs.Items.{AreItems, FitsFile, ItemLists, first_items, file_text};
 ghost use Rattle.entry_list.specs.Reading.{items_in};
 
 /// What is read is the text of the items that were read, each beside its own key; and the text of
 /// such items, or of so many of the first of them, is read as them. So items have one text.
-pub fn items_are_read_as_written()
+pub fn law_items_are_read_as_written()
     ensures only { (h : HashFunction) (bytes : Text) (items : ItemLists) → IsBytes bytes
         → items_in h bytes ≡ Ok items
         → (bytes ≡ file_text items (length items.entries)) × (AreItems h items × FitsFile items) }

@@ -8,10 +8,9 @@
 
 mod error;
 mod items;
-mod laws;
+pub mod laws;
 mod reading;
 
 pub use error::ItemsError;
 pub use items::{Item, Items};
-pub use laws::items_are_read_as_written;
 pub use reading::read_items;

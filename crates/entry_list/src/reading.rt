@@ -1,11 +1,11 @@
 //! Reading a file of entries.
 
 ghost use Rattle.std.specs.Prelude.{◌≡◌, ◌<◌, [], ◌∷◌, ◌++◌, length, OnOk};
-ghost use Rattle.byte_forms.specs.Readings.{Answers, Moves};
+ghost use Rattle.byte_formats.specs.Readings.{Answers, Moves};
 ghost use Rattle.cert_fields.specs.Views.{texts};
 ghost use Rattle.entry_list.specs.Items.{is_key_of, item_pair};
 ghost use Rattle.entry_list.specs.Reading.{listed_at, items_in};
-ghost use Rattle.entry_list.specs.declared.error.ItemsError.TheVariants.{Memory as NoRoom};
+ghost use Rattle.entry_list.specs.declared.error.ItemsError.TheVariants.{Memory as NoCapacity};
 
 use crate::error::ItemsError;
 use crate::items::{Item, Items};
@@ -58,7 +58,7 @@ pub fn read_items<'a, H: TreeHash>(
     alloc: Global,
     bytes: &'a [u8],
 ) -> Result<Items<'a, H>, ItemsError>
-    ensures { Answers NoRoom (items_in H.hash bytes.now) result }
+    ensures { Answers NoCapacity (items_in H.hash bytes.now) result }
 {
     let mut cursor = Cursor::new(bytes);
     let mut entries = Vec::new(alloc);

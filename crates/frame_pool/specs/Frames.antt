@@ -1,7 +1,7 @@
 -- What a pool of frames is to a caller.
 use Rattle.std.specs.Prelude.{◌≡◌, ◌≢◌, ℕ, ◌<◌, ◌⊎◌, Bool, true, false, List, [], length}
 use Rattle.std.specs.Prelude.{slice_index_or, slice_set, Option, Some, None}
-use Rattle.byte_forms.specs.Types.{Text}
+use Rattle.byte_formats.specs.Types.{Text}
 use Rattle.frame_pool.specs.Order.{moved_last}
 use Rattle.frame_pool.specs.declared.key.TileKey.{TileKey}
 

@@ -1,7 +1,7 @@
 -- What a pool is once a frame of it was lent.
 use Rattle.std.specs.Prelude.{ℕ, slice_set}
 use Rattle.std.specs.Borrow.{Array, Fml, Lends, MutBor, u8}
-use Rattle.byte_forms.specs.Types.{Text}
+use Rattle.byte_formats.specs.Types.{Text}
 use Rattle.frame_pool.specs.Frames.{PoolState}
 use Rattle.frame_pool.specs.contracts.pool.Pool.{the_row}
 

@@ -76,7 +76,7 @@ impl Pool {
     }
 
     /// What holds of every pool: a caller's proof may use it.
-    pub fn sound(&self)
+    pub fn law_sound(&self)
         ensures { IsSoundPool self.now }
     {
         let _keys = self.keys.as_slice();

@@ -3,7 +3,7 @@
 ghost use Rattle.std.specs.Prelude.{◌≡◌, ◌≢◌, ℕ, ◌<◌, ◌≤◌, ◌==◌, List, length, slice_index_or};
 ghost use Rattle.std.specs.Prelude.{Some, None, true, false, is_none, MatchOption};
 ghost use Rattle.std.specs.List.{All, Contains, position};
-ghost use Rattle.byte_forms.specs.Types.{Text};
+ghost use Rattle.byte_formats.specs.Types.{Text};
 ghost use Rattle.frame_pool.specs.Frames.{IsNextSlot};
 ghost use Rattle.frame_pool.specs.Order.{moved_last};
 

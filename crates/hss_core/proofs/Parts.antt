@@ -3,14 +3,14 @@ use Rattle.std.proofs.Common.{◌≡◌, ℕ, suc, ◌+◌, ◌≤◌, Bool, tru
 use Rattle.std.proofs.Common.{Some, None, Ok, Err, refl}
 use Rattle.std.proofs.lemmas.Bool.{le-leb, leb-true}
 use Rattle.std.specs.Prelude.{nat_le}
-use Rattle.byte_forms.specs.Types.{Text}
-use Rattle.byte_forms.specs.Refusals.{answer_of}
+use Rattle.byte_formats.specs.Types.{Text}
+use Rattle.byte_formats.specs.Refusals.{answer_of}
 use Rattle.lms_core.specs.declared.refusals.SigError.{SigError}
 use Rattle.lms_core.specs.Refusals.{check_refusal}
-use Rattle.hss_core.specs.Hss.{behind_key, front_length, key_behind, levels_refusal, parts_fit}
+use Rattle.hss_core.specs.Hss.{behind_key, prefix_length, key_behind, levels_refusal, parts_fit}
 
 -- one pair less
-pub parts_fit-pair : (n m size : ℕ) (s : Text) → m ≡ suc n → front_length s ≡ Some size
+pub parts_fit-pair : (n m size : ℕ) (s : Text) → m ≡ suc n → prefix_length s ≡ Some size
     → size + 56 ≤ length s
     → parts_fit m s ≡ parts_fit n (behind_key size s)
 unfolding parts_fit
@@ -22,7 +22,7 @@ and-true true b both = (refl, both)
 and-true false b both = cc
 
 -- where one more pair fits, it is there
-pub parts_fit-more : (n m size : ℕ) (s : Text) → m ≡ suc n → front_length s ≡ Some size
+pub parts_fit-more : (n m size : ℕ) (s : Text) → m ≡ suc n → prefix_length s ≡ Some size
     → parts_fit m s ≡ true
     → (size + 56 ≤ length s) × (parts_fit n (behind_key size s) ≡ true)
 unfolding parts_fit
@@ -43,7 +43,7 @@ answer_of-ok (Some d) same = cc
 
 -- the first level that is refused is the answer
 pub levels_refusal-refused : (n m size : ℕ) (key message s : Text) (e : SigError) → m ≡ suc n
-    → front_length s ≡ Some size
+    → prefix_length s ≡ Some size
     → check_refusal key (key_behind size s) (take size s) ≡ Some e
     → levels_refusal m key message s ≡ Some e
 unfolding levels_refusal
@@ -51,7 +51,7 @@ levels_refusal-refused n m size key message s e more found refused = rw (more, f
 
 -- one that passes leaves the answer to those below it
 pub levels_refusal-passed : (n m size : ℕ) (key message s : Text) → m ≡ suc n
-    → front_length s ≡ Some size
+    → prefix_length s ≡ Some size
     → check_refusal key (key_behind size s) (take size s) ≡ None
     → levels_refusal m key message s ≡ levels_refusal n (key_behind size s) message
     (behind_key size s)

@@ -7,7 +7,7 @@ use Rattle.std.proofs.lemmas.Bool.{eqb-true, le-leb}
 use Rattle.std.proofs.lemmas.List.{drop_at, take_at}
 use Rattle.std.proofs.lemmas.Nat.{from_be_bytes-to_be_bytes_4}
 use Rattle.std.specs.Int.{w32, to_be_bytes}
-use Rattle.byte_forms.specs.Types.{Text}
+use Rattle.byte_formats.specs.Types.{Text}
 use Rattle.lmots_core.specs.declared.parameters.OtsType.{OtsType}
 use Rattle.lmots_core.specs.Strings.{u32_at}
 use Rattle.lms_core.specs.declared.heights.LmsType.{LmsType}
@@ -19,7 +19,7 @@ use Rattle.lms_core.specs.Refusals.{check_refusal}
 use Rattle.lms_core.proofs.Parts.{part}
 use Rattle.lms_core.proofs.Verifies.{check_refusal-lms_signature, front_types-append}
 use Rattle.lms_core.proofs.Verifies.{key_types-lms_public, length-lms_public, length-lms_signature}
-use Rattle.hss_core.specs.Hss.{behind_key, front_length, hss_key_types, hss_refusal, key_behind}
+use Rattle.hss_core.specs.Hss.{behind_key, prefix_length, hss_key_types, hss_refusal, key_behind}
 use Rattle.hss_core.specs.Hss.{levels_public, levels_refusal, levels_signature, parts_fit}
 use Rattle.hss_core.specs.Hss.{refusal_of_types, SignedKeyVerifies, Verifies}
 use Rattle.hss_core.proofs.Parts.{levels_refusal-passed, parts_fit-pair}
@@ -92,7 +92,7 @@ signed_key_verifies k q below public message parts id index few verifies =
       key_size (levels_public below public) message (levels_signature below parts) verifies,
       length-append (to_be_bytes w32 (below + 1)) public,
     ) in
-    let found : front_length s ≡ Some size =
+    let found : prefix_length s ≡ Some size =
     rw (append_assoc, front_types-append k q public (public ++ parts)) refl in
     let signed : length (lms_signature k q public) ≡ size = length-lms_signature k q public in
     let both : length (lms_signature k q public ++ public) ≡ size + 56 =

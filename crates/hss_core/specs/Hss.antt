@@ -4,7 +4,7 @@ use Rattle.std.specs.Prelude.{◌≡◌, ℕ, zero, suc, ◌+◌, ◌==◌, ◌&
 use Rattle.std.specs.Prelude.{nat_le, not, ◌++◌, length, take, drop, Option, Some, None}
 use Rattle.std.specs.Option.{option_map_or}
 use Rattle.std.specs.Int.{w32, to_be_bytes}
-use Rattle.byte_forms.specs.Types.{Text}
+use Rattle.byte_formats.specs.Types.{Text}
 use Rattle.lmots_core.specs.declared.parameters.OtsType.{OtsType}
 use Rattle.lmots_core.specs.Strings.{u32_at}
 use Rattle.lms_core.specs.declared.heights.LmsType.{LmsType}
@@ -45,8 +45,8 @@ length_of None = None
 length_of (Some (l, t)) = Some (lms_signature_length l t)
 
 -- The bytes of the LMS signature that the bytes begin with, where they begin with one.
-abbrev pub front_length : Text → Option ℕ
-front_length s = length_of (front_types s)
+abbrev pub prefix_length : Text → Option ℕ
+prefix_length s = length_of (front_types s)
 
 -- The public key behind a signature of n bytes, and what stands behind that key.
 abbrev pub key_behind : ℕ → Text → Text
@@ -57,10 +57,10 @@ behind_key n s = drop (n + 56) s
 
 -- The bytes are so many pairs of a signature and a public key, and one last signature.
 unfoldable pub parts_fit : ℕ → Text → Bool
-parts_fit zero s = option_map_or (λ n. n == length s) (front_length s) false
+parts_fit zero s = option_map_or (λ n. n == length s) (prefix_length s) false
 parts_fit (suc pairs) s =
     option_map_or (λ n. nat_le (n + 56) (length s) && parts_fit pairs (behind_key n s))
-    (front_length s) false
+    (prefix_length s) false
 
 -- ---- refusals (6.3)
 
@@ -74,7 +74,7 @@ levels_refusal zero key message s = check_refusal key message s
 levels_refusal (suc pairs) key message s =
     option_map_or (λ n. first_refusal (check_refusal key (key_behind n s) (take n s))
     (levels_refusal pairs (key_behind n s) message (behind_key n s)))
-    (front_length s) (Some BadLength)
+    (prefix_length s) (Some BadLength)
 
 abbrev pub refusal_of_types : Option (ℕ × LmsType × OtsType) → Text → Text → Text → Option SigError
 refusal_of_types None key message s = Some BadKey

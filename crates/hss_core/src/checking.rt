@@ -1,7 +1,7 @@
 //! What a key, a message and a signature are answered.
 
 ghost use Rattle.std.specs.Prelude.{◌≡◌, ◌≤◌, length, IfSome};
-ghost use Rattle.byte_forms.specs.Refusals.{answer_of};
+ghost use Rattle.byte_formats.specs.Refusals.{answer_of};
 ghost use Rattle.hss_core.specs.Hss.{hss_key_types, hss_refusal};
 
 use crate::levels::{check_levels, parts_fit};

@@ -1,17 +1,17 @@
 //! The parts of a signature of several levels, and their checks from the top down.
 
 ghost use Rattle.std.specs.Prelude.{◌≡◌, ◌≤◌, true, length, IfSome};
-ghost use Rattle.byte_forms.specs.Refusals.{answer_of};
-ghost use Rattle.hss_core.specs.Hss.{front_length, levels_refusal, parts_fit};
+ghost use Rattle.byte_formats.specs.Refusals.{answer_of};
+ghost use Rattle.hss_core.specs.Hss.{prefix_length, levels_refusal, parts_fit};
 
-use lms_core::{PUBLIC_KEY_LEN, SigError, check, front};
+use lms_core::{PUBLIC_KEY_LEN, SigError, check, prefix};
 
 // The bytes of the LMS signature that these begin with, where they begin with one.
-fn front_len(bytes: &[u8]) -> Option<usize>
-    ensures value { result ≡ front_length bytes.now }
+fn prefix_len(bytes: &[u8]) -> Option<usize>
+    ensures value { result ≡ prefix_length bytes.now }
     ensures within { IfSome result (λ n. n ≤ length bytes.now) }
 {
-    match front(bytes) {
+    match prefix(bytes) {
         None => None,
         Some((lms, ots)) => Some(lms.signature_len(ots)),
     }
@@ -24,7 +24,7 @@ pub fn parts_fit(count: u32, bytes: &[u8]) -> bool
 {
     let mut rest = bytes;
     for done in 0..count {
-        let Some(length) = front_len(rest) else {
+        let Some(length) = prefix_len(rest) else {
             return false;
         };
         if rest.len() - length < PUBLIC_KEY_LEN {
@@ -33,7 +33,7 @@ pub fn parts_fit(count: u32, bytes: &[u8]) -> bool
         let (_, behind) = rest.split_at(length + PUBLIC_KEY_LEN);
         rest = behind;
     }
-    match front_len(rest) {
+    match prefix_len(rest) {
         None => false,
         Some(length) => length == rest.len(),
     }
@@ -49,7 +49,7 @@ pub fn check_levels(count: u32, key: &[u8], message: &[u8], bytes: &[u8]) -> Res
     let mut key = key;
     let mut rest = bytes;
     for done in 0..count {
-        let Some(length) = front_len(rest) else {
+        let Some(length) = prefix_len(rest) else {
             return Err(SigError::BadLength);
         };
         let (signature, behind) = rest.split_at(length);

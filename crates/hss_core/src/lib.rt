@@ -8,11 +8,10 @@
 
 mod checking;
 mod counted_key;
-mod laws;
+pub mod laws;
 mod levels;
 
 pub use checking::{PUBLIC_KEY_LEN, read_key, verify};
 pub use counted_key::Key;
-pub use laws::{signature_verifies, signed_key_verifies};
 pub use lmots_core::{OtsType, SigBuf};
 pub use lms_core::{LmsType, SECRET_LEN, Secret, SigError};

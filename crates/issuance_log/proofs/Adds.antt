@@ -5,10 +5,10 @@ use Rattle.std.proofs.Common.{Option, Some, None, IfSome, option_map, Ok, refl, 
 use Rattle.std.proofs.Common.{◌∙◌, subst, arith}
 use Rattle.std.proofs.lemmas.Bool.{leb-false, ltb-true, ltb-false, not-false}
 use Rattle.std.proofs.lemmas.Bool.Decides.{nat_tests}
-use Rattle.byte_forms.specs.Types.{Text}
+use Rattle.byte_formats.specs.Types.{Text}
 use Rattle.disk_core.specs.declared.disk.Disk.{Ghosts}
 use Rattle.disk_core.specs.Moments.{LeavesOnly}
-use Rattle.journal_core.specs.Format.{StandsForEither}
+use Rattle.journal_core.specs.Format.{RepresentsEither}
 use Rattle.journal_core.specs.declared.error.AppendError.{AppendError}
 use Rattle.journal_core.specs.declared.error.AppendError.TheVariants.{Broken}
 use Rattle.log_entry.specs.Matching.{matches}
@@ -23,11 +23,11 @@ use Rattle.issuance_log.specs.declared.error.LogError.{LogError}
 use Rattle.issuance_log.specs.declared.error.LogError.TheVariants.{Append}
 use Rattle.issuance_log.proofs.Growth.{last_in, size_fits}
 use Rattle.issuance_log.proofs.Shown.{shown_size}
-use Rattle.issuance_log.proofs.Spelled.{length-entry, log_added, log_marked, log_tiled}
+use Rattle.issuance_log.proofs.Encoded.{length-entry, log_added, log_marked, log_tiled}
 
 -- a log that isn't full has room
-pub room_of : (size limit : ℕ) → not (nat_lt size limit) ≡ false → size < limit
-room_of size limit is = ltb-true size limit (not-false (nat_lt size limit) is)
+pub capacity_of : (size limit : ℕ) → not (nat_lt size limit) ≡ false → size < limit
+capacity_of size limit is = ltb-true size limit (not-false (nat_lt size limit) is)
 
 -- the size of a record
 pub record_some : (body entry key : List ℕ) → body ≡ entry_record entry key → 1 ≤ length body
@@ -84,17 +84,17 @@ module _ (h : List ℕ → List ℕ) (v : LogView) (sound : HasSoundNumbers v) w
       let first = passed _ _ _ none in
       let second = passed _ _ _ first.1 in
       let few = sound.few in
-      let room : v.size < v.settings.limit = below _ _ few first.0 in
-      each records (agrees (unbroken broken _ second.1)) room
+      let capacity : v.size < v.settings.limit = below _ _ few first.0 in
+      each records (agrees (unbroken broken _ second.1)) capacity
       (ltb-false most_item (length entry + length key) second.0)
     where
       each : (o : Option (List (List ℕ))) → IfSome o (MakesShown h v)
           → v.size < v.settings.limit → length entry + length key ≤ most_item
           → MakesBehind h v (entry_record entry key) (with_item entry key) o
-      each None is room few = tt
-      each (Some list) is room few =
+      each None is capacity few = tt
+      each (Some list) is capacity few =
           log_added h list (shown_with v list) entry key is.made
-          (subst (λ (n : ℕ). n < v.settings.limit) (sym (shown_size v list is.within)) room)
+          (subst (λ (n : ℕ). n < v.settings.limit) (sym (shown_size v list is.within)) capacity)
           few belongs
 
   pub marked_unrefused : (records : Option (List (List ℕ))) (broken : Bool) (end : ℕ)
@@ -142,12 +142,12 @@ module _ (h : List ℕ → List ℕ) (v : LogView) (sound : HasSoundNumbers v) w
 -- what a crash leaves of a journal, where the record was written as these bytes
 module _ {D : Type 0} (g : Ghosts D) (list : Option (List Text)) (old new : D) (body record_ : Text)
     (is : body ≡ record_) where
-  pub moment_is : IfSome list (λ l. LeavesOnly g old new (StandsForEither l body))
-      → IfSome list (λ l. LeavesOnly g old new (StandsForEither l record_))
+  pub moment_is : IfSome list (λ l. LeavesOnly g old new (RepresentsEither l body))
+      → IfSome list (λ l. LeavesOnly g old new (RepresentsEither l record_))
   moment_is left = subst (λ (b : Text). IfSome list
-      (λ l. LeavesOnly g old new (StandsForEither l b))) is left
+      (λ l. LeavesOnly g old new (RepresentsEither l b))) is left
 
-  pub after_is : IfSome list (λ l. (c : Text) → g.may_leave new c → StandsForEither l body c)
-      → IfSome list (λ l. (c : Text) → g.may_leave new c → StandsForEither l record_ c)
+  pub after_is : IfSome list (λ l. (c : Text) → g.may_leave new c → RepresentsEither l body c)
+      → IfSome list (λ l. (c : Text) → g.may_leave new c → RepresentsEither l record_ c)
   after_is left = subst (λ (b : Text). IfSome list
-      (λ l. (c : Text) → g.may_leave new c → StandsForEither l b c)) is left
+      (λ l. (c : Text) → g.may_leave new c → RepresentsEither l b c)) is left

@@ -2,8 +2,8 @@
 use Rattle.std.proofs.Common.{◌≡◌, ℕ, ◌+◌, ◌<◌, ◌^◌, List, Option, Some, None, IfSome, option_map}
 use Rattle.std.proofs.Common.{Ok, ap, length, refl, subst, sym, ◌∙◌}
 use Rattle.std.proofs.lemmas.Option.{IfSome_then}
-use Rattle.byte_forms.specs.Types.{Text, HashFunction}
-use Rattle.disk_core.specs.Moments.{Looks}
+use Rattle.byte_formats.specs.Types.{Text, HashFunction}
+use Rattle.disk_core.specs.Moments.{OnlyReads}
 use Rattle.disk_core.specs.declared.disk.Disk.{Ghosts}
 use Rattle.journal_core.proofs.FoldSteps.{cause_later, refused_later}
 use Rattle.journal_core.specs.Openings.{next_place, opening_disk, read_list}
@@ -35,22 +35,22 @@ cause_of_log g k h old new tiles later (Open why) is = is
 
 -- behind calls that only looked at the journal's disk
 pub log_later : {D : Type 0} (g : Ghosts D) (h : HashFunction) (disk mid new : D)
-    (why : LogOpenError) → Looks g disk mid → HasLogCause g h mid new why
+    (why : LogOpenError) → OnlyReads g disk mid → HasLogCause g h mid new why
     → HasLogCause g h disk new why
-log_later g h disk mid new (BadRecord n) looks is =
-    refused_later g (log_fold h) disk mid (BadRecord n) looks is
-log_later g h disk mid new (Tile why) looks is = absurd is
-log_later g h disk mid new (Open why) looks is =
-    cause_later g (log_fold h) disk mid new why looks is
+log_later g h disk mid new (BadRecord n) only_reads is =
+    refused_later g (log_fold h) disk mid (BadRecord n) only_reads is
+log_later g h disk mid new (Tile why) only_reads is = absurd is
+log_later g h disk mid new (Open why) only_reads is =
+    cause_later g (log_fold h) disk mid new why only_reads is
 
 -- the tiles of the last size stand, where both disks tell their bytes
 pub tiles_stand : (h : HashFunction) (v : LogView) (records : Option (List Text))
-    (told : Option Text) (leaves : Text → List (List ℕ)) (adopted : ℕ) → adopted ≡ 0
-    → IfSome records (AreHashed h v (option_map leaves told))
-    → IfSome told (λ bytes. IfSome (option_map leaves told) (λ l. (level place : ℕ)
+    (contents : Option Text) (leaves : Text → List (List ℕ)) (adopted : ℕ) → adopted ≡ 0
+    → IfSome records (AreHashed h v (option_map leaves contents))
+    → IfSome contents (λ bytes. IfSome (option_map leaves contents) (λ l. (level place : ℕ)
     → IsNewTile adopted v.tiled level place → StandsIn h l bytes level place))
-    → IfSome records (λ list. IfSome told (HasItsTiles h (shown_with v list)))
-tiles_stand h v None told leaves adopted none hashed stands = tt
+    → IfSome records (λ list. IfSome contents (HasItsTiles h (shown_with v list)))
+tiles_stand h v None contents leaves adopted none hashed stands = tt
 tiles_stand h v (Some list) None leaves adopted none hashed stands = tt
 tiles_stand h v (Some list) (Some bytes) leaves adopted none hashed stands =
     λ level place new. subst (λ (l : List (List ℕ)). StandsIn h l bytes level place) hashed
@@ -58,15 +58,15 @@ tiles_stand h v (Some list) (Some bytes) leaves adopted none hashed stands =
 
 -- the tile that isn't there is the first one
 pub bad_tile : (h : HashFunction) (v : LogView) (records : Text → List Text) (bytes : Option Text)
-    (told : Option Text) (leaves : Text → List (List ℕ)) (adopted level place : ℕ)
+    (contents : Option Text) (leaves : Text → List (List ℕ)) (adopted level place : ℕ)
     → v.tiled < 2 ^ 32 → adopted ≡ 0
-    → IfSome (option_map records bytes) (AreHashed h v (option_map leaves told))
+    → IfSome (option_map records bytes) (AreHashed h v (option_map leaves contents))
     → IfSome bytes (λ b. IfSome (option_map records bytes) (λ list. log_read h b
     ≡ Ok (record { records = list; state = shown_with v list })))
-    → IfSome told (λ t. IfSome (option_map leaves told) (λ l.
+    → IfSome contents (λ t. IfSome (option_map leaves contents) (λ l.
     IsFirstBad h l t adopted v.tiled level place))
-    → IfSome bytes (λ b. IfSome told (λ t. IsBadTile h b t level place))
-bad_tile h v records None told leaves adopted level place few none hashed found bad = tt
+    → IfSome bytes (λ b. IfSome contents (λ t. IsBadTile h b t level place))
+bad_tile h v records None contents leaves adopted level place few none hashed found bad = tt
 bad_tile h v records (Some b) None leaves adopted level place few none hashed found bad = tt
 bad_tile h v records (Some b) (Some t) leaves adopted level place few none hashed found bad
     = record {
@@ -79,16 +79,16 @@ bad_tile h v records (Some b) (Some t) leaves adopted level place few none hashe
 
 -- behind calls that only looked at the journal's disk
 pub open_later : {D T : Type 0} (g : Ghosts D) (k : Ghosts T) (h : HashFunction)
-    (disk mid new : D) (tiles later : T) (why : LogOpenError) → Looks g disk mid
+    (disk mid new : D) (tiles later : T) (why : LogOpenError) → OnlyReads g disk mid
     → HasOpenCause g k h mid new tiles later why → HasOpenCause g k h disk new tiles later why
-open_later g k h disk mid new tiles later (BadRecord n) looks is =
-    refused_later g (log_fold h) disk mid (BadRecord n) looks is
-open_later g k h disk mid new tiles later (Tile Failed) looks is = is
-open_later g k h disk mid new tiles later (Tile (BadTile level place)) looks is =
-    subst (λ (told : Option Text). IfSome told (λ bytes. IfSome (k.told tiles) (λ t.
-    IsBadTile h bytes t level place))) looks.told is
-open_later g k h disk mid new tiles later (Open why) looks is =
-    cause_later g (log_fold h) disk mid new why looks is
+open_later g k h disk mid new tiles later (BadRecord n) only_reads is =
+    refused_later g (log_fold h) disk mid (BadRecord n) only_reads is
+open_later g k h disk mid new tiles later (Tile Failed) only_reads is = is
+open_later g k h disk mid new tiles later (Tile (BadTile level place)) only_reads is =
+    subst (λ (contents : Option Text). IfSome contents (λ bytes. IfSome (k.contents tiles) (λ t.
+    IsBadTile h bytes t level place))) only_reads.contents is
+open_later g k h disk mid new tiles later (Open why) only_reads is =
+    cause_later g (log_fold h) disk mid new why only_reads is
 
 -- what holds of the records, of the log that they tell
 pub if_shown : (v : LogView) (P : LogState → Type 0) (o new : Option (List Text)) → new ≡ o
@@ -123,16 +123,16 @@ module _ {H D T : Type 0} {hashes : Hashes H} {g : Ghosts D} {k : Ghosts T} (v :
 
   module _ (size : ℕ) (same : size ≡ v.tiled) (none : tiles_adopted (items_tiles items) ≡ 0) where
     -- its tiles were adopted
-    pub its_tiles : IfSome (k.told (tiles_disk (items_tiles items))) (λ bytes.
+    pub its_tiles : IfSome (k.contents (tiles_disk (items_tiles items))) (λ bytes.
         IfSome (items_leaves items) (λ leaves. (level place : ℕ)
         → IsNewTile (tiles_adopted (items_tiles items)) size level place
         → StandsIn hashes.hash leaves bytes level place))
-        → IfSome (read_list opening) (λ list. IfSome (k.told (tiles_disk (items_tiles items)))
+        → IfSome (read_list opening) (λ list. IfSome (k.contents (tiles_disk (items_tiles items)))
         (HasItsTiles hashes.hash (shown_with v list)))
     its_tiles stands = tiles_stand hashes.hash v (read_list opening)
-        (k.told (tiles_disk (items_tiles items))) _ (tiles_adopted (items_tiles items)) none
+        (k.contents (tiles_disk (items_tiles items))) _ (tiles_adopted (items_tiles items)) none
         hashed_in
-        (subst (λ (n : ℕ). IfSome (k.told (tiles_disk (items_tiles items))) (λ bytes.
+        (subst (λ (n : ℕ). IfSome (k.contents (tiles_disk (items_tiles items))) (λ bytes.
         IfSome (items_leaves items) (λ leaves. (level place : ℕ)
         → IsNewTile (tiles_adopted (items_tiles items)) n level place
         → StandsIn hashes.hash leaves bytes level place))) same stands)
@@ -144,10 +144,11 @@ module _ {H D T : Type 0} {hashes : Hashes H} {g : Ghosts D} {k : Ghosts T} (v :
         later why
     tile_cause later Failed few is = is
     tile_cause later (BadTile level place) few is =
-        bad_tile hashes.hash v _ (g.told (opening_disk opening))
-        (k.told (tiles_disk (items_tiles items))) _ (tiles_adopted (items_tiles items)) level place
+        bad_tile hashes.hash v _ (g.contents (opening_disk opening))
+        (k.contents (tiles_disk (items_tiles items))) _ (tiles_adopted (items_tiles items)) level
+        place
         few none hashed_in found.found
-        (subst (λ (n : ℕ). IfSome (k.told (tiles_disk (items_tiles items))) (λ t.
+        (subst (λ (n : ℕ). IfSome (k.contents (tiles_disk (items_tiles items))) (λ t.
         IfSome (items_leaves items) (λ l. IsFirstBad hashes.hash l t
         (tiles_adopted (items_tiles items)) n level place))) same is.1)
 

@@ -6,7 +6,7 @@ use Rattle.std.proofs.Common.{sym, ◌∙◌, ap, subst, ⊎_elim, arith}
 use Rattle.std.specs.Prelude.{◌↔◌, IsErrOf, IsTrue}
 use Rattle.std.proofs.lemmas.Bool.{cases_lt, le-ltb}
 use Rattle.std.proofs.lemmas.Bool.Decides.{nat_tests}
-use Rattle.byte_forms.specs.Types.{Text}
+use Rattle.byte_formats.specs.Types.{Text}
 use Rattle.journal_core.specs.Format.{most_bytes}
 use Rattle.journal_core.specs.declared.error.AppendError.{AppendError}
 use Rattle.journal_core.specs.declared.error.AppendError.TheVariants.{Broken, Failed, Full}
@@ -21,11 +21,11 @@ use Rattle.issuance_log.specs.declared.error.LogError.TheVariants.{Append, Memor
 use Rattle.issuance_log.specs.declared.error.LogError.TheVariants.{Failed as TilesFailed}
 
 -- a journal that answers so is broken, and so is too full
-abbrev TellsBroken : Result (Unit {0}) AppendError → Bool → Type 0
-TellsBroken result broken = IsErrOf result Broken ↔ IsTrue broken
+abbrev AnswersBroken : Result (Unit {0}) AppendError → Bool → Type 0
+AnswersBroken result broken = IsErrOf result Broken ↔ IsTrue broken
 
-abbrev TellsFull : Result (Unit {0}) AppendError → Bool → ℕ → Text → Type 0
-TellsFull result broken end text =
+abbrev AnswersFull : Result (Unit {0}) AppendError → Bool → ℕ → Text → Type 0
+AnswersFull result broken end text =
     IsErrOf result Full ↔ (broken ≡ false) × (most_bytes < end + 5 + length text)
 
 -- where the journal would not answer so, the record fits
@@ -45,7 +45,7 @@ apart_test a b less = grind (arith, nat_tests)
 -- ---- a record that was appended
 
 appended_none : (broken : Bool) (end : ℕ) (text body : Text) (done : Unit {0}) → text ≡ body
-    → broken ≡ false → TellsFull (Ok done) broken end text → append_refusal broken end body ≡ None
+    → broken ≡ false → AnswersFull (Ok done) broken end text → append_refusal broken end body ≡ None
 appended_none broken end text body done is sound full =
     let fits = fits_unless (end + 5 + length text) most_bytes (λ more.
     let wrong : ◌≡◌ {A = Result (Unit {0}) AppendError} (Ok done) (Err Full) =
@@ -57,11 +57,11 @@ appended_none broken end text body done is sound full =
 
 pub added_answer : (v : LogView) (broken : Bool) (end : ℕ) (entry key text : Text)
     (done : Unit {0}) → v.size < v.settings.limit → length entry + length key ≤ most_item
-    → text ≡ entry_record entry key → broken ≡ false → TellsFull (Ok done) broken end text
+    → text ≡ entry_record entry key → broken ≡ false → AnswersFull (Ok done) broken end text
     → add_refusal v broken end entry key ≡ None
 unfolding add_refusal
-added_answer v broken end entry key text done room few is sound full =
-    else_is (v.size == v.settings.limit) _ _ (apart_test v.size v.settings.limit room)
+added_answer v broken end entry key text done capacity few is sound full =
+    else_is (v.size == v.settings.limit) _ _ (apart_test v.size v.settings.limit capacity)
     ∙ else_is (nat_lt most_item (length entry + length key)) _ _
     (le-ltb most_item (length entry + length key) few)
     ∙ ap (λ o. option_map Append o)
@@ -75,25 +75,26 @@ AppendKeepsTo wanted Broken = wanted ≡ Some Broken
 AppendKeepsTo wanted Full = wanted ≡ Some Full
 
 refused_keeps : (broken : Bool) (end : ℕ) (text : Text) (why : AppendError)
-    → TellsBroken (Err why) broken → TellsFull (Err why) broken end text
+    → AnswersBroken (Err why) broken → AnswersFull (Err why) broken end text
     → AppendKeepsTo (append_refusal broken end text) why
-refused_keeps true end text Failed tells full =
-    let wrong : ◌≡◌ {A = Result (Unit {0}) AppendError} (Err Failed) (Err Broken) = tells.1 refl in
+refused_keeps true end text Failed is_modelled full =
+    let wrong : ◌≡◌ {A = Result (Unit {0}) AppendError} (Err Failed) (Err Broken) =
+    is_modelled.1 refl in
     let none : ⊥ = cc in absurd none
-refused_keeps false end text Failed tells full =
+refused_keeps false end text Failed is_modelled full =
     let fits = fits_unless (end + 5 + length text) most_bytes (λ more.
     let wrong : ◌≡◌ {A = Result (Unit {0}) AppendError} (Err Failed) (Err Full) =
     full.1 (refl, more) in cc) in
     else_is (nat_lt most_bytes (end + 5 + length text)) Full None
     (le-ltb most_bytes (end + 5 + length text) fits)
-refused_keeps true end text Broken tells full = refl
-refused_keeps false end text Broken tells full =
-    let wrong : false ≡ true = tells.0 refl in
+refused_keeps true end text Broken is_modelled full = refl
+refused_keeps false end text Broken is_modelled full =
+    let wrong : false ≡ true = is_modelled.0 refl in
     let none : ⊥ = cc in absurd none
-refused_keeps true end text Full tells full =
+refused_keeps true end text Full is_modelled full =
     let wrong : true ≡ false = (full.0 refl).0 in
     let none : ⊥ = cc in absurd none
-refused_keeps false end text Full tells full =
+refused_keeps false end text Full is_modelled full =
     let more = (full.0 refl).1 in
     let test : nat_lt most_bytes (end + 5 + length text) ≡ true = grind (arith, nat_tests) in
     ap (λ (b : Bool). if b then Some Full else None) test
@@ -106,15 +107,15 @@ mark_keeps wanted Full is = ap (λ o. option_map Append o) is
 
 pub marked_refused : (v : LogView) (broken : Bool) (end : ℕ) (text : Text) (why : AppendError)
     → last_mark v.marks < v.size → text ≡ landmark_record v.size
-    → TellsBroken (Err why) broken → TellsFull (Err why) broken end text
+    → AnswersBroken (Err why) broken → AnswersFull (Err why) broken end text
     → MarkKeepsTo (mark_refusal v broken end) (Err (Append why))
 unfolding mark_refusal
-marked_refused v broken end text why above is tells full =
+marked_refused v broken end text why above is is_modelled full =
     subst (λ (o : Option LogError). MarkKeepsTo o (Err (Append why)))
     (sym (else_is (last_mark v.marks == v.size) _ _ (apart_test (last_mark v.marks) v.size above)))
     (mark_keeps (append_refusal broken end (landmark_record v.size)) why
     (subst (λ (t : Text). AppendKeepsTo (append_refusal broken end t) why) is
-    (refused_keeps broken end text why tells full)))
+    (refused_keeps broken end text why is_modelled full)))
 
 -- ---- tiles
 
@@ -159,7 +160,7 @@ tiles_failed v broken end less =
 
 pub tiled_answer : (v : LogView) (broken : Bool) (end : ℕ) (text : Text) (done : Unit {0})
     → v.tiled < full_size v → text ≡ tiles_record (full_size v) → broken ≡ false
-    → TellsFull (Ok done) broken end text → tile_refusal v broken end ≡ None
+    → AnswersFull (Ok done) broken end text → tile_refusal v broken end ≡ None
 tiled_answer v broken end text done less is sound full =
     tiles_new v broken end less ∙ ap (λ o. option_map Append o)
     (appended_none broken end text (tiles_record (full_size v)) done is sound full)
@@ -171,12 +172,12 @@ tiles_keep wanted Broken is = ap (λ o. option_map Append o) is
 tiles_keep wanted Full is = ap (λ o. option_map Append o) is
 
 pub tiled_refused : (v : LogView) (broken : Bool) (end : ℕ) (text : Text) (why : AppendError)
-    → v.tiled < full_size v → text ≡ tiles_record (full_size v) → TellsBroken (Err why) broken
-    → TellsFull (Err why) broken end text
+    → v.tiled < full_size v → text ≡ tiles_record (full_size v) → AnswersBroken (Err why) broken
+    → AnswersFull (Err why) broken end text
     → TilesKeepTo (tile_refusal v broken end) (Err (Append why))
-tiled_refused v broken end text why less is tells full =
+tiled_refused v broken end text why less is is_modelled full =
     subst (λ (o : Option LogError). TilesKeepTo o (Err (Append why)))
     (sym (tiles_new v broken end less))
     (tiles_keep (append_refusal broken end (tiles_record (full_size v))) why
     (subst (λ (t : Text). AppendKeepsTo (append_refusal broken end t) why) is
-    (refused_keeps broken end text why tells full)))
+    (refused_keeps broken end text why is_modelled full)))

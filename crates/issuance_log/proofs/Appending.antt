@@ -5,15 +5,15 @@ use Rattle.std.proofs.Common.{subst, sym, ◌∙◌, arith}
 use Rattle.std.specs.Prelude.{◌↔◌, Bool, map, option_and_then, option_to_list, is_some, is_ok}
 use Rattle.std.specs.Prelude.{Result, IsErrOf, IsTrue}
 use Rattle.std.proofs.lemmas.List.{append-nil}
-use Rattle.byte_forms.specs.Types.{Text, HashFunction}
+use Rattle.byte_formats.specs.Types.{Text, HashFunction}
 use Rattle.disk_core.specs.declared.disk.Disk.{Ghosts}
-use Rattle.journal_core.specs.Format.{StandsForEither, end_behind, records_of}
+use Rattle.journal_core.specs.Format.{RepresentsEither, end_behind, records_of}
 use Rattle.journal_core.specs.Words.{AppendLeaves, HasAppended, disk_of, end_of, is_broken, records}
 use Rattle.journal_core.specs.declared.error.AppendError.{AppendError}
 use Rattle.journal_core.specs.declared.error.AppendError.TheVariants.{Broken, Failed, Full}
 use Rattle.journal_core.specs.declared.journal.Journal.{Journal}
 use Rattle.journal_core.proofs.Records.{records_of-stands}
-use Rattle.journal_core.proofs.Told.{if_some}
+use Rattle.journal_core.proofs.Modelled.{if_some}
 use Rattle.log_entry.specs.Matching.{matches}
 use Rattle.tree_core.specs.Tree.{leaf_hash}
 use Rattle.tree_core.specs.declared.hashing.TreeHash.{Ghosts as Hashes}
@@ -31,7 +31,7 @@ use Rattle.issuance_log.specs.declared.log.Log.{Log}
 use Rattle.issuance_log.proofs.Adds.{MakesShown}
 use Rattle.issuance_log.proofs.Keeping.{if_more, kept_more, shown_next}
 use Rattle.issuance_log.proofs.Shown.{all_are_shown, shown_longer, shown_size, shown_view}
-use Rattle.issuance_log.proofs.Spelled.{item_again, next_added, next_marked, next_tiled}
+use Rattle.issuance_log.proofs.Encoded.{item_again, next_added, next_marked, next_tiled}
 use Rattle.issuance_log.proofs.Standing.{hashed_longer, refused_keeps, refused_same, some_record}
 use Rattle.issuance_log.proofs.Standing.{stand_longer}
 
@@ -72,10 +72,10 @@ module _ (h : HashFunction) (v : LogView) (places : List ℕ) (leaves : Option (
       → IfSome o (AreKept h v places leaves)
       → IfSome o (λ list. next_log h (shown_with v list) (entry_record entry key)
       ≡ Some (with_item entry key (shown_with v list)))
-  adds entry key room few_entry few_key belongs None kept = tt
-  adds entry key room few_entry few_key belongs (Some list) kept =
+  adds entry key capacity few_entry few_key belongs None kept = tt
+  adds entry key capacity few_entry few_key belongs (Some list) kept =
       next_added h (shown_with v list) entry key
-      (subst (λ (n : ℕ). n < v.settings.limit) (sym (shown_size v list kept.stand.within)) room)
+      (subst (λ (n : ℕ). n < v.settings.limit) (sym (shown_size v list kept.stand.within)) capacity)
       few_entry few_key belongs
 
   pub marks_it : v.size < 2 ^ 64 → last_mark v.marks < v.size → (o : Option (List Text))
@@ -142,12 +142,13 @@ abbrev pub leaves_by : HashFunction → LogView → Option Text → Option (List
 leaves_by h v tiles list = option_map (λ (s : LogState). map (leaf_hash h) s.entries)
     (option_map (shown_with v) (option_and_then (λ (t : Text). list) tiles))
 
-told_with : (v w : LogView) (body : Text) (next : LogState → LogState) (o new : Option (List Text))
+modelled_with : (v w : LogView) (body : Text) (next : LogState → LogState)
+    (o new : Option (List Text))
     → new ≡ option_map (λ list. list ++ body ∷ []) o
     → IfSome o (λ list. shown_with w (list ++ body ∷ []) ≡ next (shown_with v list))
     → option_map (shown_with w) new ≡ option_map next (option_map (shown_with v) o)
-told_with v w body next None new is shown = ap (option_map (shown_with w)) is
-told_with v w body next (Some list) new is shown =
+modelled_with v w body next None new is shown = ap (option_map (shown_with w)) is
+modelled_with v w body next (Some list) new is shown =
     ap (option_map (shown_with w)) is ∙ ap Some shown
 
 leaves_with : (h : HashFunction) (v w : LogView) (next : LogState → LogState)
@@ -156,11 +157,13 @@ leaves_with : (h : HashFunction) (v w : LogView) (next : LogState → LogState)
     → leaves_by h w later new
     ≡ option_map (λ (s : LogState). map (leaf_hash h) (next s).entries)
     (option_map (shown_with v) (option_and_then (λ (t : Text). o) tiles))
-leaves_with h v w next None None o new both told = refl
-leaves_with h v w next None (Some t) o new both told = let wrong : true ≡ false = both in absurd cc
-leaves_with h v w next (Some t) None o new both told = let wrong : false ≡ true = both in absurd cc
-leaves_with h v w next (Some t) (Some u) o new both told =
-    ap (option_map (λ (s : LogState). map (leaf_hash h) s.entries)) told ∙ twice o
+leaves_with h v w next None None o new both contents = refl
+leaves_with h v w next None (Some t) o new both contents = let wrong : true ≡ false =
+    both in absurd cc
+leaves_with h v w next (Some t) None o new both contents = let wrong : false ≡ true =
+    both in absurd cc
+leaves_with h v w next (Some t) (Some u) o new both contents =
+    ap (option_map (λ (s : LogState). map (leaf_hash h) s.entries)) contents ∙ twice o
   where
     twice : (p : Option (List Text))
         → option_map (λ (s : LogState). map (leaf_hash h) s.entries)
@@ -174,41 +177,41 @@ pub leaves_same : (h : HashFunction) (v w : LogView) (tiles later : Option Text)
     (o new : Option (List Text)) → is_some later ≡ is_some tiles
     → option_map (shown_with w) new ≡ option_map (shown_with v) o
     → leaves_by h w later new ≡ leaves_by h v tiles o
-leaves_same h v w None None o new both told = refl
-leaves_same h v w None (Some t) o new both told = let wrong : true ≡ false = both in absurd cc
-leaves_same h v w (Some t) None o new both told = let wrong : false ≡ true = both in absurd cc
-leaves_same h v w (Some t) (Some u) o new both told =
-    ap (option_map (λ (s : LogState). map (leaf_hash h) s.entries)) told
+leaves_same h v w None None o new both contents = refl
+leaves_same h v w None (Some t) o new both contents = let wrong : true ≡ false = both in absurd cc
+leaves_same h v w (Some t) None o new both contents = let wrong : false ≡ true = both in absurd cc
+leaves_same h v w (Some t) (Some u) o new both contents =
+    ap (option_map (λ (s : LogState). map (leaf_hash h) s.entries)) contents
 
 -- the log that is told shows the numbers, and is sound
-pub view_told : (h : HashFunction) (v : LogView) (places : List ℕ) (o : Option (List Text))
+pub view_modelled : (h : HashFunction) (v : LogView) (places : List ℕ) (o : Option (List Text))
     → IfSome o (StandAt h v places)
     → IfSome (option_map (shown_with v) o) (λ s. view_in s ≡ v)
-view_told h v places None stand = tt
-view_told h v places (Some list) stand = shown_view v list stand.within
+view_modelled h v places None stand = tt
+view_modelled h v places (Some list) stand = shown_view v list stand.within
 
-pub sound_told : (h : HashFunction) (v : LogView) (places : List ℕ) (o : Option (List Text))
+pub sound_modelled : (h : HashFunction) (v : LogView) (places : List ℕ) (o : Option (List Text))
     → IfSome o (StandAt h v places) → IfSome (option_map (shown_with v) o) (IsSound h)
-sound_told h v places None stand = tt
-sound_told h v places (Some list) stand = stand.sound
+sound_modelled h v places None stand = tt
+sound_modelled h v places (Some list) stand = stand.sound
 
 -- leaves are told where bytes are
-pub some_told : (f f' : Text → List (List ℕ)) (told later : Option Text)
-    → option_map f' later ≡ option_map f told → is_some later ≡ is_some told
-some_told f f' None None same = refl
-some_told f f' None (Some b) same = let wrong : Some (f' b) ≡ None = same in absurd cc
-some_told f f' (Some b) None same = let wrong : None ≡ Some (f b) = same in absurd cc
-some_told f f' (Some b) (Some c) same = refl
+pub some_modelled : (f f' : Text → List (List ℕ)) (contents later : Option Text)
+    → option_map f' later ≡ option_map f contents → is_some later ≡ is_some contents
+some_modelled f f' None None same = refl
+some_modelled f f' None (Some b) same = let wrong : Some (f' b) ≡ None = same in absurd cc
+some_modelled f f' (Some b) None same = let wrong : None ≡ Some (f b) = same in absurd cc
+some_modelled f f' (Some b) (Some c) same = refl
 
 -- ---- one record more
 
 module _ {D : Type 0} {g : Ghosts D} (h : HashFunction) (v w : LogView) (places : List ℕ)
     (leaves : Option (List (List ℕ))) (old new : Journal D g) (text body : Text)
-    (spelled : text ≡ body) (grown : HasAppended text old new)
+    (encoded : text ≡ body) (grown : HasAppended text old new)
     (next : next_view h v body ≡ Some w) where
   pub records_are : records new ≡ option_map (λ list. list ++ body ∷ []) (records old)
   records_are = subst (λ (b : Text). records new
-      ≡ option_map (λ list. list ++ b ∷ []) (records old)) spelled grown.records
+      ≡ option_map (λ list. list ++ b ∷ []) (records old)) encoded grown.records
 
   pub grown_kept : (places' : List ℕ) (leaves' : Option (List (List ℕ))) (place : ℕ)
       → IfSome (records old) (AreKept h v places leaves) → HasShortItem (item_in body)
@@ -230,23 +233,24 @@ module _ {D : Type 0} {g : Ghosts D} (h : HashFunction) (v w : LogView) (places 
       some_list : (x y : List Text) → Some x ≡ Some y → x ≡ y
       some_list x y is = cc
 
-      at : (told : Option Text) (list : List Text) → option_map records_of told ≡ Some list
-          → ((b : Text) → told ≡ Some b → end_of old ≡ end_behind (records_of b))
+      at : (contents : Option Text) (list : List Text) → option_map records_of contents ≡ Some list
+          → ((b : Text) → contents ≡ Some b → end_of old ≡ end_behind (records_of b))
           → end_of old ≡ end_behind list
       at None list is end = let wrong : None ≡ Some list = is in absurd cc
       at (Some b) list is end = end b refl ∙ ap end_behind (some_list (records_of b) list is)
 
       end_is : (list : List Text) → records old ≡ Some list → end_of old ≡ end_behind list
-      end_is list is = at (g.told (disk_of old)) list is
-          (λ b told. (old.settled grown.was_sound b told).end_is)
+      end_is list is = at (g.contents (disk_of old)) list is
+          (λ b contents. (old.settled grown.was_sound b contents).end_is)
 
-  pub grown_told : (make : LogState → LogState) → IfSome (records old) (AreKept h v places leaves)
+  pub grown_modelled : (make : LogState → LogState)
+      → IfSome (records old) (AreKept h v places leaves)
       → IfSome (records old) (λ list. next_log h (shown_with v list) body
       ≡ Some (make (shown_with v list)))
       → option_map (shown_with w) (records new)
       ≡ option_map make (option_map (shown_with v) (records old))
-  grown_told make kept makes =
-      told_with v w body make (records old) (records new) records_are
+  grown_modelled make kept makes =
+      modelled_with v w body make (records old) (records new) records_are
       (each (records old) kept makes)
     where
       each : (o : Option (List Text)) → IfSome o (AreKept h v places leaves)
@@ -267,7 +271,7 @@ module _ {D : Type 0} {g : Ghosts D} (h : HashFunction) (v w : LogView) (places 
       (option_map (shown_with v) (option_and_then (λ (t : Text). records old) tiles))
   grown_leaves make tiles later both kept makes =
       leaves_with h v w make tiles later (records old) (records new) both
-      (grown_told make kept makes)
+      (grown_modelled make kept makes)
 
 -- ---- an append that was refused, or failed
 
@@ -282,9 +286,11 @@ end_stays text old new (Err Full) refused leaves = leaves.end
 
 -- what is told of the log stays, also where its disk tells a record more
 pub shown_either : (h : HashFunction) (v : LogView) (places : List ℕ) (text : Text)
-    (o : Option (List Text)) (told : Option Text) → is_some (option_map records_of told) ≡ is_some o
-    → IfSome o (λ list. IfSome told (StandsForEither list text)) → IfSome o (StandAt h v places)
-    → option_map (shown_with v) (option_map records_of told) ≡ option_map (shown_with v) o
+    (o : Option (List Text)) (contents : Option Text)
+    → is_some (option_map records_of contents) ≡ is_some o
+    → IfSome o (λ list. IfSome contents (RepresentsEither list text))
+    → IfSome o (StandAt h v places)
+    → option_map (shown_with v) (option_map records_of contents) ≡ option_map (shown_with v) o
 shown_either h v places text None None same either stand = refl
 shown_either h v places text None (Some b) same either stand =
     let wrong : true ≡ false = same in absurd cc
@@ -317,30 +323,32 @@ module _ {H D T : Type 0} {hashes : Hashes H} {g : Ghosts D} {k : Ghosts T}
       each (Some list) kept = record { made = kept.made; within = kept.stand.within }
 
 -- What the journal's records say of a log that shows this.
-pub record AreTold (h : HashFunction) (v : LogView) (places : List ℕ)
-    (leaves : Option (List (List ℕ))) (broken : Bool) (told : Option (List Text)) : Type 0 where
-  pub agrees : broken ≡ false → IfSome told (λ list. log_of h list ≡ Ok (shown_with v list))
-  pub stand : IfSome told (StandAt h v places)
-  pub hashed : IfSome told (AreHashed h v leaves)
+pub record AreModelled (h : HashFunction) (v : LogView) (places : List ℕ)
+    (leaves : Option (List (List ℕ))) (broken : Bool) (contents : Option (List Text)) : Type 0 where
+  pub agrees : broken ≡ false → IfSome contents (λ list. log_of h list ≡ Ok (shown_with v list))
+  pub stand : IfSome contents (StandAt h v places)
+  pub hashed : IfSome contents (AreHashed h v leaves)
 
-pub told_of : (h : HashFunction) (v : LogView) (places : List ℕ) (leaves : Option (List (List ℕ)))
-    (broken : Bool) (told : Option (List Text)) → IfSome told (AreKept h v places leaves)
-    → AreTold h v places leaves broken told
-told_of h v places leaves broken told kept = record {
-  agrees = λ sound. made_of h v places leaves told kept;
-  stand = stand_of h v places leaves told kept;
-  hashed = hashed_of h v places leaves told kept;
+pub modelled_of : (h : HashFunction) (v : LogView) (places : List ℕ)
+    (leaves : Option (List (List ℕ)))
+    (broken : Bool) (contents : Option (List Text)) → IfSome contents (AreKept h v places leaves)
+    → AreModelled h v places leaves broken contents
+modelled_of h v places leaves broken contents kept = record {
+  agrees = λ sound. made_of h v places leaves contents kept;
+  stand = stand_of h v places leaves contents kept;
+  hashed = hashed_of h v places leaves contents kept;
 }
 
 -- they say it of the same
-pub told_same : (h : HashFunction) (v w : LogView) (places places' : List ℕ)
-    (leaves leaves' : Option (List (List ℕ))) (broken : Bool) (told : Option (List Text)) → w ≡ v
-    → places' ≡ places → leaves' ≡ leaves → AreTold h v places leaves broken told
-    → AreTold h w places' leaves' broken told
-told_same h v w places places' leaves leaves' broken told view one two is =
-    subst (λ (u : LogView). AreTold h u places' leaves' broken told) (sym view)
-    (subst (λ (l : List ℕ). AreTold h v l leaves' broken told) (sym one)
-    (subst (λ o. AreTold h v places o broken told) (sym two) is))
+pub contents_same : (h : HashFunction) (v w : LogView) (places places' : List ℕ)
+    (leaves leaves' : Option (List (List ℕ))) (broken : Bool) (contents : Option (List Text))
+    → w ≡ v
+    → places' ≡ places → leaves' ≡ leaves → AreModelled h v places leaves broken contents
+    → AreModelled h w places' leaves' broken contents
+contents_same h v w places places' leaves leaves' broken contents view one two is =
+    subst (λ (u : LogView). AreModelled h u places' leaves' broken contents) (sym view)
+    (subst (λ (l : List ℕ). AreModelled h v l leaves' broken contents) (sym one)
+    (subst (λ o. AreModelled h v places o broken contents) (sym two) is))
 
 pub below_same : (places places' : List ℕ) (end end' : ℕ) → places' ≡ places → end' ≡ end
     → AreBelow places end → AreBelow places' end'
@@ -349,24 +357,25 @@ below_same places places' end end' one two is =
     (subst (λ (n : ℕ). AreBelow places n) (sym two) is)
 
 -- So they do behind an append that was refused, or failed.
-pub told_behind : {D : Type 0} {g : Ghosts D} (h : HashFunction) (v : LogView) (places : List ℕ)
+pub modelled_behind : {D : Type 0} {g : Ghosts D} (h : HashFunction) (v : LogView) (places : List ℕ)
     (leaves : Option (List (List ℕ))) (text : Text) (old new : Journal D g)
     (result : Result (Unit {0}) AppendError) → 1 ≤ v.size
     → is_ok result ≡ false → AppendLeaves text old new result
     → (IsErrOf result Broken ↔ IsTrue (is_broken old))
     → is_some (records new) ≡ is_some (records old)
     → (is_broken old ≡ false → IfSome (records old) (λ list.
-    IfSome (g.told (disk_of new)) (StandsForEither list text)))
-    → AreTold h v places leaves (is_broken old) (records old)
-    → AreTold h v places leaves (is_broken new) (records new)
-told_behind h v places leaves text old new result some refused leaves_ broken told either is =
+    IfSome (g.contents (disk_of new)) (RepresentsEither list text)))
+    → AreModelled h v places leaves (is_broken old) (records old)
+    → AreModelled h v places leaves (is_broken new) (records new)
+modelled_behind h v places leaves text old new result some refused leaves_ broken contents either
+    is =
     let both = refused_keeps (λ list. StandAt h v places list × AreHashed h v leaves list) text
     old new result
     (λ list was. (
       stand_longer h v places list text (some_record v list some was.0.within) was.0,
       hashed_longer h v leaves list text was.0.within was.1,
     ))
-    refused leaves_ broken told either (pair (records old) is.stand is.hashed) in
+    refused leaves_ broken contents either (pair (records old) is.stand is.hashed) in
     record {
       agrees = refused_same (λ list. log_of h list ≡ Ok (shown_with v list)) text old new result
           refused leaves_ is.agrees;

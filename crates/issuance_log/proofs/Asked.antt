@@ -1,9 +1,9 @@
 -- What stays of a log that was asked, for the layers above.
 use Rattle.std.proofs.Common.{◌≡◌, option_map, ap, sym, subst, ◌∙◌}
 use Rattle.std.specs.Prelude.{map, option_and_then}
-use Rattle.byte_forms.specs.Types.{Text}
-use Rattle.disk_core.proofs.Moments.{no_look}
-use Rattle.disk_core.specs.Moments.{Looks}
+use Rattle.byte_formats.specs.Types.{Text}
+use Rattle.disk_core.proofs.Moments.{nothing_read}
+use Rattle.disk_core.specs.Moments.{OnlyReads}
 use Rattle.disk_core.specs.declared.disk.Disk.{Ghosts}
 use Rattle.journal_core.specs.Format.{records_of}
 use Rattle.tree_core.specs.Tree.{leaf_hash}
@@ -11,7 +11,8 @@ use Rattle.tree_core.specs.declared.hashing.TreeHash.{Ghosts as Hashes}
 use Rattle.issuance_log.specs.Folds.{LogState}
 use Rattle.issuance_log.specs.Shown.{shown_with}
 use Rattle.issuance_log.specs.Words.{LogAsksTiles, LogStays, both_records, log_disk, log_leaves}
-use Rattle.issuance_log.specs.Words.{log_records, log_tiles_disk, told_by_both, told_state, view_of}
+use Rattle.issuance_log.specs.Words.{log_records, log_tiles_disk, modelled_by_both, modelled_state}
+use Rattle.issuance_log.specs.Words.{view_of}
 use Rattle.issuance_log.specs.declared.log.Log.{Log}
 
 module _ {H D T : Type 0} {hashes : Hashes H} {g : Ghosts D} {k : Ghosts T} where
@@ -20,8 +21,8 @@ module _ {H D T : Type 0} {hashes : Hashes H} {g : Ghosts D} {k : Ghosts T} wher
       → ((c : Text) → g.left_since (log_disk old) (g.moment (log_disk old)) c
       → g.may_leave (log_disk old) c) → LogAsksTiles old new → LogStays old new
   asks_stays old new only_now is = record {
-    looks = subst (λ (d : D). Looks g (log_disk old) d) (sym is.disk)
-        (no_look g (log_disk old) only_now);
+    only_reads = subst (λ (d : D). OnlyReads g (log_disk old) d) (sym is.disk)
+        (nothing_read g (log_disk old) only_now);
     tiles = is.tiles;
     view = is.view;
     end = is.end;
@@ -29,32 +30,33 @@ module _ {H D T : Type 0} {hashes : Hashes H} {g : Ghosts D} {k : Ghosts T} wher
   }
 
   -- so what it tells stays
-  pub asks_told : (old new : Log H D T hashes g k) → LogAsksTiles old new
-      → told_state new ≡ told_state old
-  asks_told old new is =
+  pub asks_modelled : (old new : Log H D T hashes g k) → LogAsksTiles old new
+      → modelled_state new ≡ modelled_state old
+  asks_modelled old new is =
       ap (λ v. option_map (shown_with v) (log_records new)) is.view
-      ∙ ap (λ d. option_map (shown_with (view_of old)) (option_map records_of (g.told d))) is.disk
+      ∙ ap (λ d. option_map (shown_with (view_of old)) (option_map records_of (g.contents d)))
+      is.disk
 
   -- What the disks tell stays.
   module _ (old new : Log H D T hashes g k) (is : LogStays old new) where
     pub records_stay : log_records new ≡ log_records old
-    records_stay = ap (option_map records_of) is.looks.told
+    records_stay = ap (option_map records_of) is.only_reads.contents
 
-    pub told_stays : told_state new ≡ told_state old
-    told_stays =
+    pub modelled_stays : modelled_state new ≡ modelled_state old
+    modelled_stays =
         ap (λ v. option_map (shown_with v) (log_records new)) is.view
         ∙ ap (option_map (shown_with (view_of old))) records_stay
 
     pub both_stay : both_records new ≡ both_records old
     both_stay =
-        ap (λ o. option_and_then (λ tiles. log_records new) o) is.tiles.told
-        ∙ ap (λ r. option_and_then (λ tiles. r) (k.told (log_tiles_disk old))) records_stay
+        ap (λ o. option_and_then (λ tiles. log_records new) o) is.tiles.contents
+        ∙ ap (λ r. option_and_then (λ tiles. r) (k.contents (log_tiles_disk old))) records_stay
 
-    pub told_by_both_stays : told_by_both new ≡ told_by_both old
-    told_by_both_stays =
+    pub modelled_by_both_stays : modelled_by_both new ≡ modelled_by_both old
+    modelled_by_both_stays =
         ap (λ v. option_map (shown_with v) (both_records new)) is.view
         ∙ ap (option_map (shown_with (view_of old))) both_stay
 
     pub leaves_stay : log_leaves new ≡ log_leaves old
     leaves_stay = ap (option_map (λ (s : LogState). map (leaf_hash hashes.hash) s.entries))
-        told_by_both_stays
+        modelled_by_both_stays

@@ -3,9 +3,9 @@ use Rattle.std.proofs.Common.{◌≡◌, ℕ, ◌+◌, ◌<◌, ◌≤◌, Bool,
 use Rattle.std.proofs.Common.{List, [], ◌∷◌, ◌++◌, length, drop, get_or, Option, Some, None, Result}
 use Rattle.std.proofs.Common.{Ok, Err, is_ok, option_map, refl, ap, sym, ◌∙◌}
 use Rattle.std.specs.Prelude.{if◌then◌else◌}
-use Rattle.byte_forms.specs.Types.{Text, HashFunction}
-use Rattle.byte_forms.specs.Readings.{◌>>=◌, some_or}
-use Rattle.byte_forms.proofs.Steps.{bind_ok, ok_is, some_or_ok}
+use Rattle.byte_formats.specs.Types.{Text, HashFunction}
+use Rattle.byte_formats.specs.Readings.{◌>>=◌, some_or}
+use Rattle.byte_formats.proofs.Steps.{bind_ok, ok_is, some_or_ok}
 use Rattle.journal_core.specs.Folds.{Fold, state_behind, taken_from}
 use Rattle.journal_core.proofs.Bodies.{none_left, rest_at}
 use Rattle.issuance_log.specs.Folds.{LogState, begun_log, log_behind, log_fold, log_of, new_log}
@@ -13,7 +13,7 @@ use Rattle.issuance_log.specs.Folds.{next_log, takes_entry, takes_landmark, take
 use Rattle.issuance_log.specs.Folds.{with_item, with_mark, with_tiles}
 use Rattle.issuance_log.specs.Records.{item_in, mark_in, tiled_in, settings_in}
 use Rattle.issuance_log.specs.Settings.{Settings}
-use Rattle.issuance_log.proofs.Spelled.{changed_log}
+use Rattle.issuance_log.proofs.Encoded.{changed_log}
 
 module _ {S E : Type 0} (fold : Fold S E) where
   -- the first of these records is taken, or breaks the rules

@@ -3,7 +3,7 @@ use Rattle.std.proofs.Common.{◌≡◌, ◌⊎◌, inl, inr, ℕ, suc, ◌+◌,
 use Rattle.std.proofs.Common.{◌∷◌, ◌++◌, length, get_or, subst, ap, sym, ◌∙◌, arith}
 use Rattle.std.proofs.lemmas.List.{length-append, length_push, get_or_append_left}
 use Rattle.std.proofs.Math.Seq.{get_or-append_seam}
-use Rattle.byte_forms.specs.Types.{Text, HashFunction}
+use Rattle.byte_formats.specs.Types.{Text, HashFunction}
 use Rattle.issuance_log.specs.Folds.{LogState, LogView, one_item_more, one_mark_more, tiled_to}
 use Rattle.issuance_log.specs.Folds.{view_in, with_item}
 use Rattle.issuance_log.specs.Marks.{last_mark, AreRising}
@@ -68,10 +68,10 @@ numbers_marked v is above = record {
 
 pub numbers_with : (v : LogView) → HasSoundNumbers v → v.size < v.settings.limit
     → HasSoundNumbers (one_item_more v)
-numbers_with v is room = record {
+numbers_with v is capacity = record {
   allowed = is.allowed;
   some = omega (arith, is.some);
-  few = omega (arith, room);
+  few = omega (arith, capacity);
   marks = rising_on 0 v.size (v.size + 1) v.marks (omega arith) is.marks;
   multiple = is.multiple;
   tiled = omega (arith, is.tiled);

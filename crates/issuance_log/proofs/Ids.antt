@@ -1,7 +1,7 @@
 -- An anchor id that is read again is the same.
 use Rattle.std.proofs.Common.{◌≡◌, Ok, sym, ap, ◌∙◌}
-use Rattle.byte_forms.specs.Types.{Text}
-use Rattle.byte_forms.proofs.Steps.{ok_is}
+use Rattle.byte_formats.specs.Types.{Text}
+use Rattle.byte_formats.proofs.Steps.{ok_is}
 use Rattle.tls_wire.specs.Anchors.{anchor_of}
 use Rattle.tls_wire.specs.Arcs.{IsAnchorId}
 use Rattle.tls_wire.specs.declared.fault.AnchorBytesError.{AnchorBytesError}

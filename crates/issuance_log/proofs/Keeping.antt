@@ -5,7 +5,7 @@ use Rattle.std.proofs.Common.{◌%◌, ◌==◌, ◌&&◌, nat_le, nat_lt}
 use Rattle.std.specs.Prelude.{map, option_to_list}
 use Rattle.std.proofs.lemmas.Bool.{and_parts, eqb-true, leb-true, ltb-true}
 use Rattle.std.proofs.lemmas.List.{map-append, take_all}
-use Rattle.byte_forms.specs.Types.{Text, HashFunction}
+use Rattle.byte_formats.specs.Types.{Text, HashFunction}
 use Rattle.journal_core.specs.Format.{behind}
 use Rattle.journal_core.proofs.Folds.{state_begins, state_next}
 use Rattle.log_entry.specs.Matching.{matches}
@@ -26,7 +26,7 @@ use Rattle.issuance_log.proofs.Growth.{numbers_marked, numbers_tiled, sound_with
 use Rattle.issuance_log.proofs.Rules.{test_from}
 use Rattle.issuance_log.proofs.Shown.{all_shown, entries_of, next_items, shown_size, shown_so}
 use Rattle.issuance_log.proofs.Shown.{shown_view}
-use Rattle.issuance_log.proofs.Spelled.{changed_log, some_value}
+use Rattle.issuance_log.proofs.Encoded.{changed_log, some_value}
 use Rattle.issuance_log.proofs.Standing.{places_count, places_with}
 use Rattle.issuance_log.proofs.Views.{views_follow}
 

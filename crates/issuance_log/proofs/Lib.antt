@@ -14,7 +14,7 @@ mod Readings
 mod Rereading
 mod Rules
 mod Shown
-pub mod Spelled
+pub mod Encoded
 mod Standing
 mod Tiling
 mod Views

@@ -13,27 +13,27 @@ use Rattle.tree_core.specs.Path.{part_of}
 use Rattle.tree_core.specs.Tree.{root_of}
 
 -- what holds of leaves that are told, of them with more behind them
-pub when_behind : (told : Option (List ℕ)) (f : List ℕ → List (List ℕ)) (w : List (List ℕ))
-    (C P Q : List (List ℕ) → Type 0) → IfSome (option_map f told) C
-    → IfSome (option_map f told) P
+pub when_behind : (contents : Option (List ℕ)) (f : List ℕ → List (List ℕ)) (w : List (List ℕ))
+    (C P Q : List (List ℕ) → Type 0) → IfSome (option_map f contents) C
+    → IfSome (option_map f contents) P
     → ((l : List (List ℕ)) → C l → P l → Q (l ++ w))
-    → IfSome (option_map (λ b. f b ++ w) told) Q
+    → IfSome (option_map (λ b. f b ++ w) contents) Q
 when_behind None f w C P Q counted holds each = tt
 when_behind (Some b) f w C P Q counted holds each = each (f b) counted holds
 
-pub when_told : (told : Option (List ℕ)) (f : List ℕ → List (List ℕ)) (w : List (List ℕ))
+pub when_modelled : (contents : Option (List ℕ)) (f : List ℕ → List (List ℕ)) (w : List (List ℕ))
     (C : List (List ℕ) → Type 0) (P Q : List ℕ → List (List ℕ) → Type 0)
-    → IfSome (option_map f told) C → IfSome told (λ t. IfSome (option_map f told) (P t))
+    → IfSome (option_map f contents) C → IfSome contents (λ t. IfSome (option_map f contents) (P t))
     → ((t : List ℕ) (l : List (List ℕ)) → C l → P t l → Q t (l ++ w))
-    → IfSome told (λ t. IfSome (option_map (λ b. f b ++ w) told) (Q t))
-when_told None f w C P Q counted holds each = tt
-when_told (Some b) f w C P Q counted holds each = each b (f b) counted holds
+    → IfSome contents (λ t. IfSome (option_map (λ b. f b ++ w) contents) (Q t))
+when_modelled None f w C P Q counted holds each = tt
+when_modelled (Some b) f w C P Q counted holds each = each b (f b) counted holds
 
 -- ---- parts, and tiles, of a list with more behind it
 
-pub part_front : (leaves more : List (List ℕ)) (low high : ℕ) → low ≤ high
+pub part_of_prefix : (leaves more : List (List ℕ)) (low high : ℕ) → low ≤ high
     → high ≤ length leaves → part_of (leaves ++ more) low high ≡ part_of leaves low high
-part_front leaves more low high order within =
+part_of_prefix leaves more low high order within =
     let size = length-drop low leaves in
     ap (take (high - low)) (drop-append-le low leaves more (omega arith))
     ∙ take-append-le (high - low) (drop low leaves) more (omega arith)
@@ -52,7 +52,7 @@ tile_shorter h leaves more level place tile full is = record {
       let step = mul-le-mul_right {m = 256 * place + i} {n = 256 * place + i + 1} (256 ^ level)
       (omega arith) in
       is.hashes i inside
-      ∙ ap (root_of h) (part_front leaves more ((256 * place + i) * 256 ^ level)
+      ∙ ap (root_of h) (part_of_prefix leaves more ((256 * place + i) * 256 ^ level)
       ((256 * place + i + 1) * 256 ^ level) step (omega arith));
 }
 

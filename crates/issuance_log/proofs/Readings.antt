@@ -4,8 +4,8 @@ use Rattle.std.proofs.Common.{Option, Some, None, IfSome, option_map, Ok, Err, r
 use Rattle.std.proofs.Common.{ap, subst, sym, ◌∙◌, arith}
 use Rattle.std.specs.Prelude.{map, option_to_list, replicate, Bool, true, false, if◌then◌else◌}
 use Rattle.std.proofs.lemmas.List.{length-append, length-map, length-replicate}
-use Rattle.byte_forms.specs.Types.{Text, HashFunction}
-use Rattle.disk_core.specs.Moments.{Looks}
+use Rattle.byte_formats.specs.Types.{Text, HashFunction}
+use Rattle.disk_core.specs.Moments.{OnlyReads}
 use Rattle.disk_core.specs.declared.disk.Disk.{Ghosts}
 use Rattle.journal_core.specs.Format.{end_behind}
 use Rattle.journal_core.specs.Openings.{HasEnded, HasRead, HasStepped, last_body, next_place}
@@ -95,11 +95,11 @@ unfolding next_view
 size_next h v w body is = size_by h v w (item_in body) (mark_in body) (tiled_in body) is
 
 -- what was read, of the records behind as many
-read_so : (h : HashFunction) (v : LogView) (told : Option Text) (old new : Option (List Text))
+read_so : (h : HashFunction) (v : LogView) (contents : Option Text) (old new : Option (List Text))
     → new ≡ old
-    → IfSome told (λ bytes. IfSome new (λ list. log_read h bytes
+    → IfSome contents (λ bytes. IfSome new (λ list. log_read h bytes
     ≡ Ok (record { records = list; state = log_at v old })))
-    → IfSome told (λ bytes. IfSome new (λ list. log_read h bytes
+    → IfSome contents (λ bytes. IfSome new (λ list. log_read h bytes
     ≡ Ok (record { records = list; state = shown_with v list })))
 read_so h v None old new is read = tt
 read_so h v (Some bytes) old None is read = tt
@@ -116,14 +116,15 @@ module _ {D : Type 0} {g : Ghosts D} (old new : Opening D g) (body : Text)
   place_is = subst (λ (b : Text). next_place new ≡ next_place old + 5 + length b) last read.place
 
   -- the first record is not taken
-  pub cause_begun : (h : HashFunction) → Looks g (opening_disk old) (opening_disk new)
+  pub cause_begun : (h : HashFunction) → OnlyReads g (opening_disk old) (opening_disk new)
       → (X : Type 0) (shows : X → LogView) (why : RecordError)
-      → read_list old ≡ option_map (λ _. []) (g.told (opening_disk old))
+      → read_list old ≡ option_map (λ _. []) (g.contents (opening_disk old))
       → LogFinds shows (option_map view_in (begun_log body)) (Err why)
       → HasLogCause g h (opening_disk old) (opening_disk new) (log_refusal_at 0 why)
-  cause_begun h looks X shows Unfit none finds =
-      refused_first (log_fold h) old new body last read looks none (no_log (begun_log body) finds)
-  cause_begun h looks X shows Memory none finds = tt
+  cause_begun h only_reads X shows Unfit none finds =
+      refused_first (log_fold h) old new body last read only_reads none
+      (no_log (begun_log body) finds)
+  cause_begun h only_reads X shows Memory none finds = tt
 
 module _ {H D T : Type 0} {hashes : Hashes H} {g : Ghosts D} {k : Ghosts T}
     (old new : Opening D g) where
@@ -178,7 +179,7 @@ module _ {H D T : Type 0} {hashes : Hashes H} {g : Ghosts D} {k : Ghosts T}
 
     -- it is the first one
     pub gathered_first : (v : LogView) (items items' : Items H T hashes k)
-        → read_list old ≡ option_map (λ _. []) (g.told (opening_disk old)) → next_place old ≡ 16
+        → read_list old ≡ option_map (λ _. []) (g.contents (opening_disk old)) → next_place old ≡ 16
         → option_map view_in (begun_log body) ≡ Some v → HasSoundNumbers v
         → items_places items ≡ [] → IfSome (items_leaves items) (λ l. l ≡ [])
         → HaveTaken hashes.hash (Some (null_entry, [])) 0 items items' → HasGathered v items' new
@@ -201,17 +202,17 @@ module _ {H D T : Type 0} {hashes : Hashes H} {g : Ghosts D} {k : Ghosts T}
               (λ list is empty. subst (λ (l : List Text). AreKept hashes.hash v
               (items_places items') (items_leaves items') (l ++ body ∷ []))
               (sym empty) kept.1)
-              (all_empty (g.told (opening_disk old)) (read_list old) none);
+              (all_empty (g.contents (opening_disk old)) (read_list old) none);
         }
       where
-        all_empty : (told : Option Text) (list : Option (List Text))
-            → list ≡ option_map (λ _. []) told → IfSome list (λ l. l ≡ [])
+        all_empty : (contents : Option Text) (list : Option (List Text))
+            → list ≡ option_map (λ _. []) contents → IfSome list (λ l. l ≡ [])
         all_empty None list is =
             subst (λ (o : Option (List Text)). IfSome o (λ l. l ≡ [])) (sym is) tt
         all_empty (Some b) list is =
             subst (λ (o : Option (List Text)). IfSome o (λ l. l ≡ [])) (sym is) refl
 
-    module _ (looks : Looks g (opening_disk old) (opening_disk new)) where
+    module _ (only_reads : OnlyReads g (opening_disk old) (opening_disk new)) where
       -- the record with this number is not taken
       pub cause_taken : (v w : LogView) (items : Items H T hashes k) (number : ℕ)
           (why : RecordError) → IfSome (read_list old) (λ list. number ≡ length list)
@@ -219,7 +220,7 @@ module _ {H D T : Type 0} {hashes : Hashes H} {g : Ghosts D} {k : Ghosts T}
           → HasLogCause g hashes.hash (opening_disk old) (opening_disk new)
           (log_refusal_at number why)
       cause_taken v w items number Unfit count was takes =
-          refused_next (log_fold hashes.hash) old new body last read looks
+          refused_next (log_fold hashes.hash) old new body last read only_reads
           (log_at v (read_list old)) number count (has_folded v items was)
           (not_taken hashes.hash v (log_at v (read_list old)) body
           (shows_at hashes.hash v (items_places items) (items_leaves items)
@@ -229,10 +230,11 @@ module _ {H D T : Type 0} {hashes : Hashes H} {g : Ghosts D} {k : Ghosts T}
   -- ---- the end of the journal
 
   pub gathered_last : (v : LogView) (items : Items H T hashes k) → HasEnded old new
-      → Looks g (opening_disk old) (opening_disk new) → HasGathered v items old
+      → OnlyReads g (opening_disk old) (opening_disk new) → HasGathered v items old
       → HasGatheredAll v items new
-  gathered_last v items ended looks was =
-      let found = found_last (log_fold hashes.hash) old new ended looks (log_at v (read_list old))
+  gathered_last v items ended only_reads was =
+      let found =
+      found_last (log_fold hashes.hash) old new ended only_reads (log_at v (read_list old))
       (has_folded v items was) in
       record {
         ended = ended.ended;
@@ -241,7 +243,8 @@ module _ {H D T : Type 0} {hashes : Hashes H} {g : Ghosts D} {k : Ghosts T}
             was.below;
         kept = subst (λ (o : Option (List Text)). IfSome o (AreKept hashes.hash v
             (items_places items) (items_leaves items))) (sym ended.list) was.kept;
-        found = read_so hashes.hash v (g.told (opening_disk new)) (read_list old) (read_list new)
+        found =
+            read_so hashes.hash v (g.contents (opening_disk new)) (read_list old) (read_list new)
             ended.list found.found;
         stands = found.stands;
       }

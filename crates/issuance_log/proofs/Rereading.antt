@@ -8,7 +8,7 @@ use Rattle.std.proofs.lemmas.Bool.{le-ltb, lt-ltb}
 use Rattle.std.proofs.lemmas.Result.{err_from_is_err_and}
 use Rattle.std.specs.Result.{IsErrAnd}
 use Rattle.std.proofs.lemmas.List.{get_or-map, get_or-take, take-append-le, take_all}
-use Rattle.byte_forms.specs.Types.{Text, HashFunction}
+use Rattle.byte_formats.specs.Types.{Text, HashFunction}
 use Rattle.journal_core.specs.Words.{HasSize, HoldsBody}
 use Rattle.issuance_log.specs.Entries.{IsBodyAt, IsNoAnswer}
 use Rattle.issuance_log.specs.Folds.{LogState, LogView, null_entry}
@@ -158,10 +158,10 @@ body_read place size o later out items len same sized holds of_out of_items of_l
         → IfSome p (HoldsBody (place + 1 + 4) out)
         → IfSome p (IsBodyAt place (take len (out ++ drop (length out) items)))
     each None has body_is = tt
-    each (Some list) has body_is = λ front body back list_is place_is.
+    each (Some list) has body_is = λ prefix body back list_is place_is.
         let size_is : size ≡ length body =
-        (has front body back list_is (ap (λ (n : ℕ). n + 1) place_is)).0 in
+        (has prefix body back list_is (ap (λ (n : ℕ). n + 1) place_is)).0 in
         let read : out ≡ take (length out) body =
-        body_is front body back 0 list_is (omega arith) (omega arith) in
+        body_is prefix body back 0 list_is (omega arith) (omega arith) in
         sym (take-append-le len out (drop (length out) items) (omega arith)
         ∙ take_all len out (omega arith) ∙ read ∙ take_all (length out) body (omega arith))

@@ -5,11 +5,11 @@ use Rattle.std.proofs.Common.{None, option_map, option_and_then, Result, Ok, Err
 use Rattle.std.proofs.Common.{sym, ◌∙◌, arith}
 use Rattle.std.specs.Int.{w8, w32}
 use Rattle.std.proofs.lemmas.Bool.{and_parts, eqb-true, leb-true, ltb-true}
-use Rattle.byte_forms.specs.Places.{at, IsBytes}
-use Rattle.byte_forms.proofs.Steps.{IsBytes-front, IsBytes-back}
+use Rattle.byte_formats.specs.Places.{at, IsBytes}
+use Rattle.byte_formats.proofs.Steps.{IsBytes-prefix, IsBytes-back}
 use Rattle.tls_wire.specs.Anchors.{anchor_of}
 use Rattle.tls_wire.specs.Reading.{number_at}
-use Rattle.tls_wire.specs.Spelling.{number, vector}
+use Rattle.tls_wire.specs.Encoding.{number, vector}
 use Rattle.tls_wire.specs.declared.fault.AnchorBytesError.{AnchorBytesError}
 use Rattle.tls_wire.proofs.AnchorForm.{anchor_takes}
 use Rattle.landmarks.specs.Limits.{most_active, most_entries}
@@ -22,10 +22,10 @@ use Rattle.issuance_log.specs.Records.{settings_in, item_in, mark_in, tiled_in, 
 use Rattle.issuance_log.specs.Records.{landmark_record}
 use Rattle.issuance_log.specs.Rules.{IsFirst, IsNext}
 use Rattle.issuance_log.specs.Settings.{Settings, are_allowed, AreAllowed}
-use Rattle.issuance_log.proofs.Spelled.{some_value, FitSettings, settings_text, settings_form}
-use Rattle.issuance_log.proofs.Spelled.{settings_again, item_takes, mark_takes, tagged_takes}
-use Rattle.issuance_log.proofs.Spelled.{changed_log, next_added, next_marked, next_tiled}
-use Rattle.issuance_log.proofs.Spelled.{tiled_takes}
+use Rattle.issuance_log.proofs.Encoded.{some_value, FitSettings, settings_text, settings_form}
+use Rattle.issuance_log.proofs.Encoded.{settings_again, item_takes, mark_takes, tagged_takes}
+use Rattle.issuance_log.proofs.Encoded.{changed_log, next_added, next_marked, next_tiled}
+use Rattle.issuance_log.proofs.Encoded.{tiled_takes}
 
 pub test_from : {X : Type 0} (b : Bool) (o : Option X) (x : X) → (if b then o else None) ≡ Some x
     → (b ≡ true) × (o ≡ Some x)
@@ -35,12 +35,12 @@ test_from {X} false o x is = let wrong : None ≡ Some x = is in cc
 pub is_next : (h : List ℕ → List ℕ) (s : LogState) (body : List ℕ) (t : LogState)
     → IsNext h s body t → next_log h s body ≡ Some t
 is_next h s body t (inl is) =
-    ap (next_log h s) is.spelled ∙ next_added h s is.entry is.key is.room is.short_entry
+    ap (next_log h s) is.encoded ∙ next_added h s is.entry is.key is.capacity is.short_entry
     is.short_key is.belongs ∙ ap Some (sym is.made)
 is_next h s body t (inr (inl is)) =
-    ap (next_log h s) is.spelled ∙ next_marked h s is.fits is.above ∙ ap Some (sym is.made)
+    ap (next_log h s) is.encoded ∙ next_marked h s is.fits is.above ∙ ap Some (sym is.made)
 is_next h s body t (inr (inr is)) =
-    ap (next_log h s) is.spelled
+    ap (next_log h s) is.encoded
     ∙ next_tiled h s is.size is.fits is.multiple is.above is.within ∙ ap Some (sym is.made)
 
 pub next_is : (h : List ℕ → List ℕ) (s : LogState) (body : List ℕ) (t : LogState) → IsBytes body
@@ -53,42 +53,42 @@ next_is h s body t bytes is =
         → mark_in body ≡ mark → tiled_in body ≡ tiled
         → changed_log h s item mark tiled ≡ Some t → IsNext h s body t
     go (Some x) mark tiled one two three is =
-        let spelled = item_takes body x.0 x.1 bytes one in
+        let encoded = item_takes body x.0 x.1 bytes one in
         let made = test_from (takes_entry h (view_in s) x) (Some (with_item x.0 x.1 s)) t is in
         let tests = and_parts (nat_lt (length s.entries) s.settings.limit) (matches h x.0 x.1)
         made.0 in
         inl (record {
           entry = x.0;
           key = x.1;
-          spelled = spelled.0;
-          short_entry = spelled.1;
-          short_key = spelled.2;
+          encoded = encoded.0;
+          short_entry = encoded.1;
+          short_key = encoded.2;
           belongs = tests.1;
-          room = ltb-true (length s.entries) s.settings.limit tests.0;
+          capacity = ltb-true (length s.entries) s.settings.limit tests.0;
           made = sym (some_value _ _ made.1);
         })
     go None (Some size) tiled one two three is =
-        let spelled = mark_takes body size bytes two in
+        let encoded = mark_takes body size bytes two in
         let made = test_from (takes_landmark (view_in s) size) (Some (with_mark s)) t is in
         let tests = and_parts (size == length s.entries) (nat_lt (last_mark s.marks) size)
         made.0 in
         let same : size ≡ length s.entries = eqb-true size (length s.entries) tests.0 in
         inr (inl (record {
-          spelled = spelled.0 ∙ ap landmark_record same;
-          fits = subst (λ (n : ℕ). n < 2 ^ 64) same spelled.1;
+          encoded = encoded.0 ∙ ap landmark_record same;
+          fits = subst (λ (n : ℕ). n < 2 ^ 64) same encoded.1;
           above = subst (λ (n : ℕ). last_mark s.marks < n) same (ltb-true _ _ tests.1);
           made = sym (some_value _ _ made.1);
         }))
     go None None (Some size) one two three is =
-        let spelled = tiled_takes body size bytes three in
+        let encoded = tiled_takes body size bytes three in
         let made = test_from (takes_tiles (view_in s) size) (Some (with_tiles size s)) t is in
         let tests = and_parts (size % 256 == 0)
         (nat_lt s.tiled size && nat_le size (length s.entries)) made.0 in
         let both = and_parts (nat_lt s.tiled size) (nat_le size (length s.entries)) tests.1 in
         inr (inr (record {
           size = size;
-          spelled = spelled.0;
-          fits = spelled.1;
+          encoded = encoded.0;
+          fits = encoded.1;
           multiple = eqb-true (size % 256) 0 tests.0;
           above = ltb-true s.tiled size both.0;
           within = leb-true size (length s.entries) both.1;
@@ -99,7 +99,7 @@ next_is h s body t bytes is =
 pub is_first : (body : List ℕ) (s : LogState) → IsFirst body s → begun_log body ≡ Some s
 unfolding begun_log
 is_first body s is =
-    ap (λ (b : List ℕ). option_map new_log (settings_in b)) is.spelled
+    ap (λ (b : List ℕ). option_map new_log (settings_in b)) is.encoded
     ∙ ap (option_map new_log) (settings_again is.settings is.id is.allowed)
     ∙ ap Some (sym is.made)
 
@@ -110,12 +110,12 @@ first_is body s bytes is =
     let found = map_from (settings_in body) is in
     let read = option_from_settings (tagged log_tag settings_at (number_at w8 (at body 0)))
     found.0 found.1 in
-    let spelled = tagged_takes log_tag (omega arith) settings_text FitSettings settings_at
+    let encoded = tagged_takes log_tag (omega arith) settings_text FitSettings settings_at
     settings_form body read.0 bytes read.1 in
     let tests = test_from (are_allowed read.0.1.0 read.0.1.1)
     (with_id read.0.1.0 read.0.1.1 (anchor_of read.0.0)) found.0 read.2 in
     let made = id_from read.0.1.0 read.0.1.1 (anchor_of read.0.0) found.0 tests.1 in
-    let id = anchor_takes read.0.0 made.0 (id_bytes body read.0 bytes spelled.0) made.1 in
+    let id = anchor_takes read.0.0 made.0 (id_bytes body read.0 bytes encoded.0) made.1 in
     let settings : Settings = record {
       id = read.0.0;
       max_active = read.0.1.0;
@@ -131,7 +131,7 @@ first_is body s bytes is =
     }) id.0 in
     record {
       settings = settings;
-      spelled = spelled.0;
+      encoded = encoded.0;
       id = id.1;
       allowed = allowed_tests read.0.1.0 read.0.1.1 tests.0;
       made = sym found.2 ∙ ap new_log same;
@@ -158,7 +158,7 @@ first_is body s bytes is =
         → body ≡ number w8 log_tag ++ settings_text v → IsBytes v.0
     id_bytes body v bytes is =
         let behind = IsBytes-back (number w8 log_tag) (settings_text v) (subst IsBytes is bytes) in
-        IsBytes-back (number w8 (length v.0)) v.0 (IsBytes-front (vector w8 v.0) (number w32 v.1.0
+        IsBytes-back (number w8 (length v.0)) v.0 (IsBytes-prefix (vector w8 v.0) (number w32 v.1.0
         ++ number w32 v.1.1) behind)
 
     allowed_tests : (active limit : ℕ) → are_allowed active limit ≡ true → AreAllowed active limit

@@ -5,9 +5,9 @@ use Rattle.std.specs.Prelude.{map, flat_map, option_to_list}
 use Rattle.std.proofs.lemmas.List.{append_assoc, append-nil, length-append, length-map}
 use Rattle.std.proofs.lemmas.List.{length-take-le, map-append, take-append-le, take_all}
 use Rattle.std.proofs.lemmas.Grind.{flat_map-append}
-use Rattle.byte_forms.specs.Types.{Text, HashFunction}
-use Rattle.byte_forms.specs.Readings.{some_or}
-use Rattle.byte_forms.proofs.Steps.{bind_ok, ok_is, some_or_ok}
+use Rattle.byte_formats.specs.Types.{Text, HashFunction}
+use Rattle.byte_formats.specs.Readings.{some_or}
+use Rattle.byte_formats.proofs.Steps.{bind_ok, ok_is, some_or_ok}
 use Rattle.journal_core.specs.Folds.{taken_from}
 use Rattle.issuance_log.specs.Folds.{LogState, LogView, log_fold, log_of, new_log, next_log}
 use Rattle.issuance_log.specs.Folds.{null_entry, takes_entry, takes_landmark, takes_tiles, view_in}
@@ -16,7 +16,7 @@ use Rattle.issuance_log.specs.Records.{IsShort, entry_record, item_in, landmark_
 use Rattle.issuance_log.specs.Records.{tiled_in, tiles_record}
 use Rattle.issuance_log.specs.Shown.{recorded_items, shown_with}
 use Rattle.issuance_log.proofs.Behind.{only_begins, when}
-use Rattle.issuance_log.proofs.Spelled.{changed_log, item_again, mark_alone, tiles_no_item}
+use Rattle.issuance_log.proofs.Encoded.{changed_log, item_again, mark_alone, tiles_no_item}
 
 -- the entries and the keys of items
 abbrev pub entries_of : List (Text × Text) → List Text

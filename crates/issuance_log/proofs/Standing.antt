@@ -6,9 +6,9 @@ use Rattle.std.specs.Prelude.{◌↔◌, Bool, map, option_to_list, is_ok, is_so
 use Rattle.std.specs.Prelude.{IsErrOf, IsTrue}
 use Rattle.std.proofs.lemmas.List.{append_assoc, append-nil, length-append, length-map}
 use Rattle.std.proofs.lemmas.List.{take-append-le}
-use Rattle.byte_forms.specs.Types.{Text, HashFunction}
+use Rattle.byte_formats.specs.Types.{Text, HashFunction}
 use Rattle.disk_core.specs.declared.disk.Disk.{Ghosts}
-use Rattle.journal_core.specs.Format.{StandsForEither, behind, records_of}
+use Rattle.journal_core.specs.Format.{RepresentsEither, behind, records_of}
 use Rattle.journal_core.specs.Words.{AppendLeaves, disk_of, is_broken, records}
 use Rattle.journal_core.specs.declared.error.AppendError.{AppendError}
 use Rattle.journal_core.specs.declared.error.AppendError.TheVariants.{Broken, Failed, Full}
@@ -75,7 +75,7 @@ by_item : (before bodies : List Text) (body : Text) (o : Option (Text × Text)) 
     (slice_index_or (option_to_list o ++ later_items bodies) i ([], []))
 by_item before bodies body None is rest i there = rest i there
 by_item before bodies body (Some x) is rest zero there = record {
-  front = before;
+  prefix = before;
   body = body;
   back = bodies;
   split = refl;
@@ -151,18 +151,18 @@ refused_same {g = g} P body old new (Ok done) same leaves was sound = absurd cc
 refused_same {g = g} P body old new (Err Failed) same leaves was sound =
     let wrong : true ≡ false = sym leaves.broken ∙ sound in absurd cc
 refused_same {g = g} P body old new (Err Broken) same leaves was sound =
-    subst (λ d. IfSome (option_map records_of (g.told d)) P) (sym leaves.disk)
+    subst (λ d. IfSome (option_map records_of (g.contents d)) P) (sym leaves.disk)
     (was (sym leaves.broken ∙ sound))
 refused_same {g = g} P body old new (Err Full) same leaves was sound =
-    subst (λ d. IfSome (option_map records_of (g.told d)) P) (sym leaves.disk)
+    subst (λ d. IfSome (option_map records_of (g.contents d)) P) (sym leaves.disk)
     (was (sym leaves.broken ∙ sound))
 
 -- What stays with a record more holds behind an append that failed.
 failed_keeps : (P : List Text → Type 0) (body : Text) (old : Option (List Text))
-    (told : Option Text) → ((list : List Text) → P list → P (list ++ body ∷ []))
-    → is_some (option_map records_of told) ≡ is_some old
-    → IfSome old (λ list. IfSome told (StandsForEither list body)) → IfSome old P
-    → IfSome (option_map records_of told) P
+    (contents : Option Text) → ((list : List Text) → P list → P (list ++ body ∷ []))
+    → is_some (option_map records_of contents) ≡ is_some old
+    → IfSome old (λ list. IfSome contents (RepresentsEither list body)) → IfSome old P
+    → IfSome (option_map records_of contents) P
 failed_keeps P body old None longer same either is = tt
 failed_keeps P body None (Some b) longer same either is = absurd cc
 failed_keeps P body (Some list) (Some b) longer same either is = elim either [
@@ -177,16 +177,17 @@ pub refused_keeps : {D : Type 0} {g : Ghosts D} (P : List Text → Type 0) (body
     → (IsErrOf result Broken ↔ IsTrue (is_broken old))
     → is_some (records new) ≡ is_some (records old)
     → (is_broken old ≡ false → IfSome (records old) (λ list.
-    IfSome (g.told (disk_of new)) (StandsForEither list body)))
+    IfSome (g.contents (disk_of new)) (RepresentsEither list body)))
     → IfSome (records old) P → IfSome (records new) P
-refused_keeps {g = g} P body old new (Ok done) longer same leaves broken told either is = absurd cc
-refused_keeps {g = g} P body old new (Err Failed) longer same leaves broken told either is =
-    failed_keeps P body (records old) (g.told (disk_of new)) longer told
+refused_keeps {g = g} P body old new (Ok done) longer same leaves broken contents either is =
+    absurd cc
+refused_keeps {g = g} P body old new (Err Failed) longer same leaves broken contents either is =
+    failed_keeps P body (records old) (g.contents (disk_of new)) longer contents
     (either (not_broken (is_broken old) broken)) is
-refused_keeps {g = g} P body old new (Err Broken) longer same leaves broken told either is =
-    subst (λ d. IfSome (option_map records_of (g.told d)) P) (sym leaves.disk) is
-refused_keeps {g = g} P body old new (Err Full) longer same leaves broken told either is =
-    subst (λ d. IfSome (option_map records_of (g.told d)) P) (sym leaves.disk) is
+refused_keeps {g = g} P body old new (Err Broken) longer same leaves broken contents either is =
+    subst (λ d. IfSome (option_map records_of (g.contents d)) P) (sym leaves.disk) is
+refused_keeps {g = g} P body old new (Err Full) longer same leaves broken contents either is =
+    subst (λ d. IfSome (option_map records_of (g.contents d)) P) (sym leaves.disk) is
 
 -- The items stand where they stood with a record more.
 pub stand_longer : (h : HashFunction) (v : LogView) (places : List ℕ) (list : List Text)

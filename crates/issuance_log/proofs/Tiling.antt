@@ -3,19 +3,19 @@ use Rattle.std.proofs.Common.{◌≡◌, ℕ, ◌^◌, ◌<◌, ◌≤◌, List,
 use Rattle.std.proofs.Common.{length, Option, Some, None, IfSome, option_map, refl, ap, subst, sym}
 use Rattle.std.proofs.Common.{◌∙◌, arith, false}
 use Rattle.std.proofs.lemmas.List.{length-append}
-use Rattle.byte_forms.specs.Types.{Text, HashFunction}
+use Rattle.byte_formats.specs.Types.{Text, HashFunction}
 use Rattle.disk_core.specs.Moments.{LeavesOnly}
 use Rattle.disk_core.specs.declared.disk.Disk.{Ghosts}
 use Rattle.disk_core.proofs.Moments.{started, weaker}
-use Rattle.journal_core.specs.Format.{StandsFor, records_of}
-use Rattle.journal_core.specs.Settled.{IsSettled}
+use Rattle.journal_core.specs.Format.{Represents, records_of}
+use Rattle.journal_core.specs.Durable.{IsDurable}
 use Rattle.journal_core.proofs.Records.{records_of-stands}
-use Rattle.journal_core.proofs.Told.{if_some}
+use Rattle.journal_core.proofs.Modelled.{if_some}
 use Rattle.tile_store.specs.Contents.{HoldsTiles}
 use Rattle.tile_store.specs.Layout.{tiles_end}
 use Rattle.tile_store.specs.Store.{tiles_stored}
 use Rattle.tile_store.specs.Writing.{IsImageBehind}
-use Rattle.tile_store.proofs.Fronts.{front-less}
+use Rattle.tile_store.proofs.Prefixes.{prefix-less}
 use Rattle.tile_store.proofs.Kept.{tiles-kept}
 use Rattle.tree_core.specs.declared.hashing.TreeHash.{Ghosts as Hashes}
 use Rattle.issuance_log.specs.Folds.{LogView}
@@ -42,14 +42,15 @@ module _ {T : Type 0} (k : Ghosts T) (old new : T) (h : HashFunction) (leaves : 
   stored_held stored few within any_moment =
       weaker k old new (IsImageBehind k old (tiles_end stored)) (HoldsTiles h leaves size)
       (λ c is. tiles-kept h leaves size is.before c few
-      (front-less (tiles_end size) (tiles_end stored) is.before c (ends_before size stored within)
+      (prefix-less (tiles_end size) (tiles_end stored) is.before c (ends_before size stored within)
       is.keeps) (held is.before is.left)) any_moment
 
 -- the hashes of the entries are the nodes that are kept
-pub leaves_are : (h : HashFunction) (v : LogView) (told : Option Text)
+pub leaves_are : (h : HashFunction) (v : LogView) (contents : Option Text)
     (kept : Text → List (List ℕ)) (records : Option (List Text)) (P : List (List ℕ) → Type 0)
-    → IfSome records (AreHashed h v (option_map kept told)) → IfSome (option_map kept told) P
-    → IfSome (leaves_by h v told records) P
+    → IfSome records (AreHashed h v (option_map kept contents))
+    → IfSome (option_map kept contents) P
+    → IfSome (leaves_by h v contents records) P
 leaves_are h v None kept records P hashed is = tt
 leaves_are h v (Some t) kept None P hashed is = tt
 leaves_are h v (Some t) kept (Some list) P hashed is = subst P hashed is
@@ -62,18 +63,18 @@ longer_other list body is =
     absurd (omega arith)
 
 pub no_record : {D : Type 0} (g : Ghosts D) (disk : D) (end : ℕ) (body : Text)
-    (settled : (b : Text) → g.told disk ≡ Some b → IsSettled b (g.may_leave disk) end)
+    (settled : (b : Text) → g.contents disk ≡ Some b → IsDurable b (g.may_leave disk) end)
     (only_now : (c : Text) → g.left_since disk (g.moment disk) c → g.may_leave disk c)
     (P : Text → Type 0)
-    → IfSome (option_map records_of (g.told disk)) (λ list. (c : Text)
-    → g.left_since disk (g.moment disk) c → StandsFor c (list ++ body ∷ [])
+    → IfSome (option_map records_of (g.contents disk)) (λ list. (c : Text)
+    → g.left_since disk (g.moment disk) c → Represents c (list ++ body ∷ [])
     → P c)
-no_record g disk end body settled only_now P = at (g.told disk) settled
+no_record g disk end body settled only_now P = at (g.contents disk) settled
   where
-    at : (told : Option Text)
-        → ((b : Text) → told ≡ Some b → IsSettled b (g.may_leave disk) end)
-        → IfSome (option_map records_of told) (λ list. (c : Text)
-        → g.left_since disk (g.moment disk) c → StandsFor c (list ++ body ∷ []) → P c)
+    at : (contents : Option Text)
+        → ((b : Text) → contents ≡ Some b → IsDurable b (g.may_leave disk) end)
+        → IfSome (option_map records_of contents) (λ list. (c : Text)
+        → g.left_since disk (g.moment disk) c → Represents c (list ++ body ∷ []) → P c)
     at None is = tt
     at (Some b) is = λ c left stands.
         let here = is b refl in
@@ -104,7 +105,7 @@ module _ {H D T : Type 0} {hashes : Hashes H} {g : Ghosts D} {k : Ghosts T}
       (disk : T) → log_broken log ≡ false → IfSome (log_leaves log) (λ leaves.
       IfSome (log_records log) (λ list. (c : Text)
       → g.left_since (log_disk log) (g.moment (log_disk log)) c
-      → StandsFor c (list ++ body ∷ []) → (d : Text) → k.may_leave disk d
+      → Represents c (list ++ body ∷ []) → (d : Text) → k.may_leave disk d
       → HoldsTiles hashes.hash leaves size d))
   behind_none only_now body size disk sound = for_each _ (log_leaves log) (λ leaves.
       no_record g (log_disk log) (log_end log) body (log.journal.settled sound) only_now
@@ -130,7 +131,7 @@ module _ {H D T : Type 0} {hashes : Hashes H} {g : Ghosts D} {k : Ghosts T}
       → Stands list c → (d : Text) → k.may_leave disk d
       → HoldsTiles hashes.hash leaves size d))
   behind_stored Left Stands size disk holds =
-      leaves_are hashes.hash (view_of log) (k.told (log_tiles_disk log)) _ (log_records log)
+      leaves_are hashes.hash (view_of log) (k.contents (log_tiles_disk log)) _ (log_records log)
       (λ leaves. IfSome (log_records log) (λ list. (c : Text) → Left c
       → Stands list c → (d : Text) → k.may_leave disk d → HoldsTiles hashes.hash leaves size d))
       log.hashed

@@ -5,8 +5,8 @@ use Rattle.std.proofs.Common.{Ok, Err, IfOk, is_ok, refl, ap, sym, ◌∙◌}
 use Rattle.std.specs.Prelude.{if◌then◌else◌, nat_lt}
 use Rattle.std.proofs.lemmas.Bool.{and_parts, eq-eqb, le-leb, lt-ltb, ltb-true}
 use Rattle.std.proofs.lemmas.List.{length_push}
-use Rattle.byte_forms.specs.Types.{Text, HashFunction}
-use Rattle.byte_forms.specs.Readings.{◌>>=◌, some_or}
+use Rattle.byte_formats.specs.Types.{Text, HashFunction}
+use Rattle.byte_formats.specs.Readings.{◌>>=◌, some_or}
 use Rattle.journal_core.specs.Folds.{Fold, taken_from}
 use Rattle.log_entry.specs.Matching.{matches}
 use Rattle.issuance_log.specs.Folds.{LogState, LogView, begun_log, changed, log_fold, next_log}
@@ -20,8 +20,8 @@ use Rattle.issuance_log.specs.Results.{HasTried}
 use Rattle.issuance_log.specs.declared.error.LogOpenError.{LogOpenError}
 use Rattle.issuance_log.specs.declared.error.LogOpenError.TheVariants.{BadRecord, Open}
 use Rattle.issuance_log.proofs.Behind.{last_follows, last_not}
-use Rattle.issuance_log.proofs.Spelled.{item_again, mark_again, mark_alone, tiled_again}
-use Rattle.issuance_log.proofs.Spelled.{tiles_no_item, tiles_no_mark}
+use Rattle.issuance_log.proofs.Encoded.{item_again, mark_again, mark_alone, tiled_again}
+use Rattle.issuance_log.proofs.Encoded.{tiles_no_item, tiles_no_mark}
 
 -- what is shown as a kind of journal
 abbrev pub view_fold : HashFunction → Fold LogView LogOpenError
@@ -132,17 +132,17 @@ pub item_refused : (h : HashFunction) (v : LogView) (body : Text) (x : Text × T
     → item_in body ≡ Some x → takes_entry h v x ≡ false → next_view h v body ≡ None
 item_refused h v body x is takes = view_item_is h v body x false is takes
 
-pub taken_room : (h : HashFunction) (v : LogView) (x : Text × Text) → takes_entry h v x ≡ true
+pub taken_capacity : (h : HashFunction) (v : LogView) (x : Text × Text) → takes_entry h v x ≡ true
     → v.size < v.settings.limit
-taken_room h v x takes = ltb-true v.size v.settings.limit
+taken_capacity h v x takes = ltb-true v.size v.settings.limit
     (and_parts (nat_lt v.size v.settings.limit) (matches h x.0 x.1) takes).0
 
 pub view_added : (h : HashFunction) (v : LogView) (entry key : Text)
     → v.size < v.settings.limit → IsShort entry → IsShort key → matches h entry key ≡ true
     → next_view h v (entry_record entry key) ≡ Some (one_item_more v)
-view_added h v entry key room few_entry few_key belongs =
+view_added h v entry key capacity few_entry few_key belongs =
     let test : takes_entry h v (entry, key) ≡ true =
-    rw (lt-ltb v.size v.settings.limit room, belongs) refl in
+    rw (lt-ltb v.size v.settings.limit capacity, belongs) refl in
     view_says h v (entry_record entry key) (Some (entry, key)) _ _
     (item_again entry key few_entry few_key) refl refl
     ∙ ap (λ (b : Bool). if b then Some (one_item_more v) else None) test

@@ -1,7 +1,7 @@
 -- What the tiles give, of the leaves behind which more wait.
 use Rattle.std.proofs.Common.{◌≡◌, ℕ, ◌≤◌, length}
 use Rattle.std.proofs.Common.{IfSome, subst, arith}
-use Rattle.byte_forms.specs.Types.{Text}
+use Rattle.byte_formats.specs.Types.{Text}
 use Rattle.disk_core.specs.declared.disk.Disk.{Ghosts}
 use Rattle.mtc_io.specs.Counts.{Rose}
 use Rattle.tile_store.specs.Causes.{HasCauseOf, IsFirstBad, IsNewTile, StandsIn}
@@ -15,46 +15,46 @@ use Rattle.tree_core.specs.declared.hashing.TreeHash.{Ghosts as Hashes}
 use Rattle.issuance_log.specs.Late.{HasLateCause, LateStays, late_leaves}
 use Rattle.issuance_log.specs.declared.late.LateTiles.{LateTiles}
 use Rattle.issuance_log.proofs.Longer.{bad_longer, holds_longer, new_longer}
-use Rattle.issuance_log.proofs.Longer.{when_behind, when_told}
+use Rattle.issuance_log.proofs.Longer.{when_behind, when_modelled}
 
 -- nodes were made over so many leaves
 module _ {H T : Type 0} {hashes : Hashes H} {k : Ghosts T} (old mid : LateTiles H T hashes k)
     (stays : LateStays old mid) (size : ℕ) (reached : size ≤ tiles_count mid.tiles) where
   -- stored tiles
-  pub holds_of_front : (Left : Text → Type 0)
+  pub holds_of_prefix : (Left : Text → Type 0)
       → IfSome (tiles_leaves mid.tiles)
       (λ leaves. (c : Text) → Left c → HoldsTiles hashes.hash leaves size c)
       → IfSome (late_leaves old)
       (λ leaves. (c : Text) → Left c → HoldsTiles hashes.hash leaves size c)
-  holds_of_front Left is =
+  holds_of_prefix Left is =
       subst (λ o. IfSome o (λ leaves. (c : Text) → Left c
       → HoldsTiles hashes.hash leaves size c)) stays.leaves
-      (when_behind (k.told mid.tiles.disk) (leaves_with mid.tiles.adopted mid.tiles.rows)
+      (when_behind (k.contents mid.tiles.disk) (leaves_with mid.tiles.adopted mid.tiles.rows)
       mid.waiting.items (λ l. tiles_count mid.tiles ≡ length l) _
       (λ leaves. (c : Text) → Left c → HoldsTiles hashes.hash leaves size c)
       (counted-tiles mid.tiles) is (λ l counted each c left.
       holds_longer hashes.hash l mid.waiting.items size (omega arith) c (each c left)))
 
   -- adopted ones
-  pub stands_of_front : IfSome (k.told (tiles_disk mid.tiles)) (λ bytes.
+  pub stands_of_prefix : IfSome (k.contents (tiles_disk mid.tiles)) (λ bytes.
       IfSome (tiles_leaves mid.tiles) (λ leaves. (level place : ℕ)
       → IsNewTile (tiles_adopted mid.tiles) size level place
       → StandsIn hashes.hash leaves bytes level place))
-      → IfSome (k.told (tiles_disk old.tiles)) (λ bytes.
+      → IfSome (k.contents (tiles_disk old.tiles)) (λ bytes.
       IfSome (late_leaves old) (λ leaves. (level place : ℕ)
       → IsNewTile (tiles_adopted old.tiles) size level place
       → StandsIn hashes.hash leaves bytes level place))
-  stands_of_front is =
-      subst (λ (disk : T). IfSome (k.told disk) (λ bytes. IfSome (late_leaves old) (λ leaves.
+  stands_of_prefix is =
+      subst (λ (disk : T). IfSome (k.contents disk) (λ bytes. IfSome (late_leaves old) (λ leaves.
       (level place : ℕ) → IsNewTile (tiles_adopted old.tiles) size level place
       → StandsIn hashes.hash leaves bytes level place))) stays.disk
-      (subst (λ (n : ℕ). IfSome (k.told (tiles_disk mid.tiles)) (λ bytes.
+      (subst (λ (n : ℕ). IfSome (k.contents (tiles_disk mid.tiles)) (λ bytes.
       IfSome (late_leaves old) (λ leaves. (level place : ℕ) → IsNewTile n size level place
       → StandsIn hashes.hash leaves bytes level place))) stays.adopted
-      (subst (λ o. IfSome (k.told (tiles_disk mid.tiles)) (λ bytes. IfSome o (λ leaves.
+      (subst (λ o. IfSome (k.contents (tiles_disk mid.tiles)) (λ bytes. IfSome o (λ leaves.
       (level place : ℕ) → IsNewTile (tiles_adopted mid.tiles) size level place
       → StandsIn hashes.hash leaves bytes level place))) stays.leaves
-      (when_told (k.told mid.tiles.disk) (leaves_with mid.tiles.adopted mid.tiles.rows)
+      (when_modelled (k.contents mid.tiles.disk) (leaves_with mid.tiles.adopted mid.tiles.rows)
       mid.waiting.items (λ l. tiles_count mid.tiles ≡ length l) _
       (λ bytes leaves. (level place : ℕ)
       → IsNewTile (tiles_adopted mid.tiles) size level place
@@ -64,22 +64,22 @@ module _ {H T : Type 0} {hashes : Hashes H} {k : Ghosts T} (old mid : LateTiles 
       (tiles_adopted mid.tiles) each))))
 
   -- and the first bad one
-  bad_of_front : (level place : ℕ) → IfSome (k.told (tiles_disk mid.tiles)) (λ bytes.
+  bad_of_prefix : (level place : ℕ) → IfSome (k.contents (tiles_disk mid.tiles)) (λ bytes.
       IfSome (tiles_leaves mid.tiles) (λ leaves. IsFirstBad hashes.hash leaves bytes
       (tiles_adopted mid.tiles) size level place))
-      → IfSome (k.told (tiles_disk old.tiles)) (λ bytes. IfSome (late_leaves old) (λ leaves.
+      → IfSome (k.contents (tiles_disk old.tiles)) (λ bytes. IfSome (late_leaves old) (λ leaves.
       IsFirstBad hashes.hash leaves bytes (tiles_adopted old.tiles) size level place))
-  bad_of_front level place is =
-      subst (λ (disk : T). IfSome (k.told disk) (λ bytes. IfSome (late_leaves old) (λ leaves.
+  bad_of_prefix level place is =
+      subst (λ (disk : T). IfSome (k.contents disk) (λ bytes. IfSome (late_leaves old) (λ leaves.
       IsFirstBad hashes.hash leaves bytes (tiles_adopted old.tiles) size level place)))
       stays.disk
-      (subst (λ (n : ℕ). IfSome (k.told (tiles_disk mid.tiles)) (λ bytes.
+      (subst (λ (n : ℕ). IfSome (k.contents (tiles_disk mid.tiles)) (λ bytes.
       IfSome (late_leaves old) (λ leaves.
       IsFirstBad hashes.hash leaves bytes n size level place))) stays.adopted
-      (subst (λ o. IfSome (k.told (tiles_disk mid.tiles)) (λ bytes. IfSome o (λ leaves.
+      (subst (λ o. IfSome (k.contents (tiles_disk mid.tiles)) (λ bytes. IfSome o (λ leaves.
       IsFirstBad hashes.hash leaves bytes (tiles_adopted mid.tiles) size level place)))
       stays.leaves
-      (when_told (k.told mid.tiles.disk) (leaves_with mid.tiles.adopted mid.tiles.rows)
+      (when_modelled (k.contents mid.tiles.disk) (leaves_with mid.tiles.adopted mid.tiles.rows)
       mid.waiting.items (λ l. tiles_count mid.tiles ≡ length l) _
       (λ bytes leaves. IsFirstBad hashes.hash leaves bytes (tiles_adopted mid.tiles) size level
       place)
@@ -87,11 +87,11 @@ module _ {H T : Type 0} {hashes : Hashes H} {k : Ghosts T} (old mid : LateTiles 
       bad_longer hashes.hash l mid.waiting.items size (omega arith) bytes
       (tiles_adopted mid.tiles) level place bad))))
 
-  pub cause_of_front : (disk : T) (why : TileError) → HasCauseOf mid.tiles disk size why
+  pub cause_of_prefix : (disk : T) (why : TileError) → HasCauseOf mid.tiles disk size why
       → HasLateCause old disk size why
-  cause_of_front disk Failed is =
+  cause_of_prefix disk Failed is =
       subst (λ (d : T). Rose (k.faults d) (k.faults disk)) stays.disk is
-  cause_of_front disk (BadTile level place) is = (
+  cause_of_prefix disk (BadTile level place) is = (
     subst (λ (d : T). k.faults disk ≡ k.faults d) stays.disk is.0,
-    bad_of_front level place is.1,
+    bad_of_prefix level place is.1,
   )

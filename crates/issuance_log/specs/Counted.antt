@@ -36,4 +36,4 @@ module _ {H D T : Type 0} {hashes : Hashes H} {g : Ghosts D} {k : Ghosts T} wher
       → IfSome (log_leaves log) (λ list. (view_of log).size ≡ length list)
   leaves_counted log =
       counted_when hashes.hash (view_of log) (items_places log.items)
-      (k.told (log_tiles_disk log)) (log_records log) log.stand
+      (k.contents (log_tiles_disk log)) (log_records log) log.stand

@@ -3,7 +3,7 @@
 use Rattle.std.specs.Prelude.{ℕ, ◌+◌, ◌%◌, ◌==◌, ◌&&◌, nat_lt, nat_le, List, [], ◌∷◌, ◌++◌, length}
 use Rattle.std.specs.Prelude.{Option, Some, None, option_map, Result, is_ok}
 use Rattle.std.specs.Prelude.{if◌then◌else◌, Bool}
-use Rattle.byte_forms.specs.Types.{Text, HashFunction}
+use Rattle.byte_formats.specs.Types.{Text, HashFunction}
 use Rattle.journal_core.specs.Folds.{Fold, state_behind, taken_from}
 use Rattle.log_entry.specs.Matching.{matches}
 use Rattle.issuance_log.specs.Marks.{last_mark}

@@ -1,7 +1,7 @@
 -- A log that is read record by record.
 use Rattle.std.specs.Prelude.{◌≡◌, ◌+◌, true, false, None, Ok, length, IfSome}
 use Rattle.disk_core.specs.declared.disk.Disk.{Ghosts}
-use Rattle.journal_core.specs.Format.{StandsFor}
+use Rattle.journal_core.specs.Format.{Represents}
 use Rattle.journal_core.specs.Openings.{opening_disk, read_list, next_place, is_ended, refusal}
 use Rattle.journal_core.specs.declared.opening.Opening.{Opening}
 use Rattle.tree_core.specs.declared.hashing.TreeHash.{Ghosts as Hashes}
@@ -30,8 +30,8 @@ module _ {H D T : Type 0} {hashes : Hashes H} {g : Ghosts D} {k : Ghosts T} wher
     pub below : AreBelow (items_places items) (next_place opening + 1)
     pub kept : IfSome (read_list opening)
         (AreKept hashes.hash v (items_places items) (items_leaves items))
-    pub found : IfSome (g.told (opening_disk opening)) (λ bytes. IfSome (read_list opening)
+    pub found : IfSome (g.contents (opening_disk opening)) (λ bytes. IfSome (read_list opening)
         (λ list. log_read hashes.hash bytes
         ≡ Ok (record { records = list; state = shown_with v list })))
-    pub stands : IfSome (g.told (opening_disk opening))
-        (λ bytes. IfSome (read_list opening) (StandsFor bytes))
+    pub stands : IfSome (g.contents (opening_disk opening))
+        (λ bytes. IfSome (read_list opening) (Represents bytes))

@@ -4,13 +4,13 @@ use Rattle.std.specs.Prelude.{◌≡◌, ℕ, ◌+◌, ◌<◌, ◌≤◌, List,
 use Rattle.std.specs.Prelude.{Option, Some, option_map, option_to_list, IfSome, Ok, vec_len}
 use Rattle.std.specs.Prelude.{vec_capacity}
 use Rattle.std.proofs.Props.{props}
-use Rattle.byte_forms.specs.Types.{Hash, HashFunction, Text}
+use Rattle.byte_formats.specs.Types.{Hash, HashFunction, Text}
 use Rattle.disk_core.specs.declared.disk.Disk.{Ghosts}
 use Rattle.tile_store.specs.declared.store.Tiles.{Tiles}
 use Rattle.tree_core.specs.Tree.{leaf_hash}
 use Rattle.tree_core.specs.declared.hashing.TreeHash.{Ghosts as Hashes}
 use Rattle.issuance_log.specs.Folds.{LogView, log_of}
-use Rattle.issuance_log.specs.Late.{HasLateRoom, late_leaves, late_tiles}
+use Rattle.issuance_log.specs.Late.{HasLateCapacity, late_leaves, late_tiles}
 use Rattle.issuance_log.specs.Places.{places_of}
 use Rattle.issuance_log.specs.Records.{IsShort}
 use Rattle.issuance_log.specs.Shown.{recorded_items, shown_with}
@@ -77,6 +77,6 @@ module _ {H T : Type 0} {hashes : Hashes H} {k : Ghosts T} where
         (items_leaves old)
 
   -- one item more needs no memory
-  pub record HasItemRoom (items : Items H T hashes k) : Type 0 where
+  pub record HasItemCapacity (items : Items H T hashes k) : Type 0 where
     pub place : vec_len items.places < vec_capacity items.places
-    pub leaf : HasLateRoom items.nodes
+    pub leaf : HasLateCapacity items.nodes

@@ -1,7 +1,7 @@
 -- Tiles whose last leaves wait for their nodes.
 use Rattle.std.specs.Prelude.{◌≡◌, ℕ, ◌+◌, ◌<◌, List, ◌++◌, Option, option_map, IfSome}
 use Rattle.std.specs.Prelude.{vec_len, vec_capacity}
-use Rattle.byte_forms.specs.Types.{Hash}
+use Rattle.byte_formats.specs.Types.{Hash}
 use Rattle.disk_core.specs.declared.disk.Disk.{Ghosts}
 use Rattle.mtc_io.specs.Counts.{Rose}
 use Rattle.tile_store.specs.Causes.{IsFirstBad}
@@ -26,12 +26,12 @@ module _ {H T : Type 0} {hashes : Hashes H} {k : Ghosts T} where
   abbrev pub late_leaves : LateTiles H T hashes k → Option (List Hash)
   late_leaves late =
       option_map (λ bytes. leaves_with late.tiles.adopted late.tiles.rows bytes
-      ++ late.waiting.items) (k.told late.tiles.disk)
+      ++ late.waiting.items) (k.contents late.tiles.disk)
 
   -- one leaf more needs no memory, now and when its nodes are made
-  pub record HasLateRoom (late : LateTiles H T hashes k) : Type 0 where
+  pub record HasLateCapacity (late : LateTiles H T hashes k) : Type 0 where
     pub place : vec_len late.waiting < vec_capacity late.waiting
-    pub spare : vec_len late.waiting < late.room
+    pub spare : vec_len late.waiting < late.capacity
 
   -- The leaves are the same ones, and the tiles have the same disk, adopted and stored.
   pub record LateStays (old new : LateTiles H T hashes k) : Type 0 where
@@ -46,5 +46,5 @@ module _ {H T : Type 0} {hashes : Hashes H} {k : Ghosts T} where
   HasLateCause old disk size Failed = Rose (k.faults (tiles_disk old.tiles)) (k.faults disk)
   HasLateCause old disk size (BadTile level place) =
       (k.faults disk ≡ k.faults (tiles_disk old.tiles))
-      × IfSome (k.told (tiles_disk old.tiles)) (λ bytes. IfSome (late_leaves old) (λ leaves.
+      × IfSome (k.contents (tiles_disk old.tiles)) (λ bytes. IfSome (late_leaves old) (λ leaves.
       IsFirstBad hashes.hash leaves bytes (tiles_adopted old.tiles) size level place))

@@ -1,6 +1,6 @@
 -- What is read of a file that is opened as a log.
 use Rattle.std.specs.Prelude.{◌≡◌, ◌≢◌, ℕ, ◌<◌, ◌^◌, map, Result, Ok, IfSome}
-use Rattle.byte_forms.specs.Types.{Text, HashFunction}
+use Rattle.byte_formats.specs.Types.{Text, HashFunction}
 use Rattle.disk_core.specs.declared.disk.Disk.{Ghosts}
 use Rattle.journal_core.specs.Folds.{Found, read_by, AreRefused, IsCauseOf}
 use Rattle.journal_core.specs.declared.error.OpenError.TheVariants as open_error
@@ -38,7 +38,7 @@ pub record IsBadTile (h : HashFunction) (bytes tiles : Text) (level place : ℕ)
 -- the cause of a refusal of the journal, over the disk before the call and after it: the bytes, a
 -- fault, or want of memory; tiles are none
 abbrev pub HasLogCause : {D : Type 0} → Ghosts D → HashFunction → D → D → LogOpenError → Type 0
-HasLogCause g h old new (BadRecord k) = AreRefused (log_fold h) (g.told old) (BadRecord k)
+HasLogCause g h old new (BadRecord k) = AreRefused (log_fold h) (g.contents old) (BadRecord k)
 HasLogCause g h old new (Tile why) = ⊥
 HasLogCause g h old new (Open why) = IsCauseOf g (log_fold h) old new why
 
@@ -47,7 +47,7 @@ abbrev pub HasTileCause : {D T : Type 0} → Ghosts D → Ghosts T → HashFunct
     → TileError → Type 0
 HasTileCause g k h disk old new tile_error.Failed = Rose (k.faults old) (k.faults new)
 HasTileCause g k h disk old new (tile_error.BadTile level place) =
-    IfSome (g.told disk) (λ bytes. IfSome (k.told old) (λ tiles.
+    IfSome (g.contents disk) (λ bytes. IfSome (k.contents old) (λ tiles.
     IsBadTile h bytes tiles level place))
 
 -- the cause of a refusal, by both disks before the call and after it

@@ -1,6 +1,6 @@
 -- Where the items of a log stand in its journal.
 use Rattle.std.specs.Prelude.{◌≡◌, ℕ, ◌+◌, List, [], ◌∷◌, ◌++◌, length, map, option_to_list, Some}
-use Rattle.byte_forms.specs.Types.{Text}
+use Rattle.byte_formats.specs.Types.{Text}
 use Rattle.journal_core.specs.Format.{behind}
 use Rattle.issuance_log.specs.Records.{item_in}
 
@@ -19,9 +19,9 @@ places_of (first ∷ bodies) = 0 ∷ places_behind (behind 16 (first ∷ [])) bo
 
 -- At a place stands the Entry of this item.
 pub record IsPlaced (list : List Text) (place : ℕ) (item : Text × Text) : Type 0 where
-  pub front : List Text
+  pub prefix : List Text
   pub body : Text
   pub back : List Text
-  pub split : list ≡ front ++ body ∷ back
-  pub place_is : place ≡ behind 16 front
+  pub split : list ≡ prefix ++ body ∷ back
+  pub place_is : place ≡ behind 16 prefix
   pub is : item_in body ≡ Some item

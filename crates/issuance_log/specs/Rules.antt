@@ -1,6 +1,6 @@
 -- The rules of a log's records, each for itself.
 use Rattle.std.specs.Prelude.{◌≡◌, ◌⊎◌, ℕ, ◌%◌, ◌^◌, ◌<◌, ◌≤◌, true, length}
-use Rattle.byte_forms.specs.Types.{Text, HashFunction}
+use Rattle.byte_formats.specs.Types.{Text, HashFunction}
 use Rattle.log_entry.specs.Matching.{matches}
 use Rattle.tls_wire.specs.Arcs.{IsAnchorId}
 use Rattle.issuance_log.specs.Folds.{LogState, new_log, with_item, with_mark, with_tiles}
@@ -13,7 +13,7 @@ use Rattle.issuance_log.specs.Settings.{Settings, AreAllowed}
 -- entry.
 pub record IsFirst (body : Text) (s : LogState) : Type 0 where
   pub settings : Settings
-  pub spelled : body ≡ settings_record settings
+  pub encoded : body ≡ settings_record settings
   pub id : IsAnchorId settings.id
   pub allowed : AreAllowed settings.max_active settings.limit
   pub made : s ≡ new_log settings
@@ -23,16 +23,16 @@ pub record IsEntryRecord (h : HashFunction) (s : LogState) (body : Text)
     (t : LogState) : Type 0 where
   pub entry : Text
   pub key : Text
-  pub spelled : body ≡ entry_record entry key
+  pub encoded : body ≡ entry_record entry key
   pub short_entry : IsShort entry
   pub short_key : IsShort key
   pub belongs : matches h entry key ≡ true
-  pub room : length s.entries < s.settings.limit
+  pub capacity : length s.entries < s.settings.limit
   pub made : t ≡ with_item entry key s
 
 -- A Landmark is the size, and above the last one. It makes the log with that landmark.
 pub record IsLandmarkRecord (s : LogState) (body : Text) (t : LogState) : Type 0 where
-  pub spelled : body ≡ landmark_record (length s.entries)
+  pub encoded : body ≡ landmark_record (length s.entries)
   pub fits : length s.entries < 2 ^ 64
   pub above : last_mark s.marks < length s.entries
   pub made : t ≡ with_mark s
@@ -41,7 +41,7 @@ pub record IsLandmarkRecord (s : LogState) (body : Text) (t : LogState) : Type 0
 -- tiles of this size.
 pub record IsTilesRecord (s : LogState) (body : Text) (t : LogState) : Type 0 where
   pub size : ℕ
-  pub spelled : body ≡ tiles_record size
+  pub encoded : body ≡ tiles_record size
   pub fits : size < 2 ^ 64
   pub multiple : size % 256 ≡ 0
   pub above : s.tiled < size

@@ -1,6 +1,6 @@
 -- The settings of a log, and the limits that they keep.
 use Rattle.std.specs.Prelude.{ℕ, ◌≤◌, ◌&&◌, nat_le, Bool}
-use Rattle.byte_forms.specs.Types.{Text}
+use Rattle.byte_formats.specs.Types.{Text}
 use Rattle.landmarks.specs.Limits.{most_active, most_entries}
 
 -- the id as its bytes, how many landmarks are active at most, and how many entries there are at

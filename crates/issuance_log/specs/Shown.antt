@@ -1,7 +1,7 @@
 -- What is said of a log where its disk tells the records: its items are the first ones in these, as
 -- many as it shows over every disk.
 use Rattle.std.specs.Prelude.{List, [], ◌∷◌, map, take, flat_map, option_to_list}
-use Rattle.byte_forms.specs.Types.{Text}
+use Rattle.byte_formats.specs.Types.{Text}
 use Rattle.issuance_log.specs.Folds.{LogState, LogView, null_entry}
 use Rattle.issuance_log.specs.Records.{item_in}
 

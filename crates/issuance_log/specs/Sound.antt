@@ -1,7 +1,7 @@
 -- What holds of every log.
 use Rattle.std.specs.Prelude.{◌≡◌, ℕ, ◌<◌, ◌≤◌, ◌%◌, true, List, [], ◌∷◌, length, slice_index_or}
 use Rattle.std.proofs.Props.{props}
-use Rattle.byte_forms.specs.Types.{Text, HashFunction}
+use Rattle.byte_formats.specs.Types.{Text, HashFunction}
 use Rattle.log_entry.specs.Matching.{matches}
 use Rattle.issuance_log.specs.Folds.{LogState, LogView, view_in, null_entry}
 use Rattle.issuance_log.specs.Marks.{AreRising}

@@ -1,7 +1,7 @@
 -- A log that calls look at, one after the other.
 use Rattle.std.proofs.Common.{refl, ◌∙◌}
-use Rattle.byte_forms.specs.Types.{Text}
-use Rattle.disk_core.proofs.Moments.{looked_on, no_look}
+use Rattle.byte_formats.specs.Types.{Text}
+use Rattle.disk_core.proofs.Moments.{only_read_on, nothing_read}
 use Rattle.disk_core.specs.declared.disk.Disk.{Ghosts}
 use Rattle.issuance_log.specs.Words.{LogAsksTiles, LogStays, log_disk, log_tiles_disk}
 use Rattle.issuance_log.specs.declared.log.Log.{Log}
@@ -14,7 +14,7 @@ module _ {H D T : Type 0} {hashes : Hashes H} {g : Ghosts D} {k : Ghosts T} wher
       → k.may_leave (log_tiles_disk log) c) → LogAsksTiles log log
   asks_alone log only_now = record {
     disk = refl;
-    tiles = no_look k (log_tiles_disk log) only_now;
+    tiles = nothing_read k (log_tiles_disk log) only_now;
     view = refl;
     end = refl;
     broken = refl;
@@ -25,7 +25,8 @@ module _ {H D T : Type 0} {hashes : Hashes H} {g : Ghosts D} {k : Ghosts T} wher
       → LogAsksTiles mid new → LogAsksTiles old new
   asks_both old mid new first second = record {
     disk = second.disk ∙ first.disk;
-    tiles = looked_on k (log_tiles_disk old) (log_tiles_disk mid) (log_tiles_disk new) first.tiles
+    tiles =
+        only_read_on k (log_tiles_disk old) (log_tiles_disk mid) (log_tiles_disk new) first.tiles
         second.tiles;
     view = second.view ∙ first.view;
     end = second.end ∙ first.end;
@@ -38,8 +39,8 @@ module _ {H D T : Type 0} {hashes : Hashes H} {g : Ghosts D} {k : Ghosts T} wher
       → ((c : Text) → k.left_since (log_tiles_disk log) (k.moment (log_tiles_disk log)) c
       → k.may_leave (log_tiles_disk log) c) → LogStays log log
   stays_alone log only_now tiles_now = record {
-    looks = no_look g (log_disk log) only_now;
-    tiles = no_look k (log_tiles_disk log) tiles_now;
+    only_reads = nothing_read g (log_disk log) only_now;
+    tiles = nothing_read k (log_tiles_disk log) tiles_now;
     view = refl;
     end = refl;
     broken = refl;
@@ -48,8 +49,10 @@ module _ {H D T : Type 0} {hashes : Hashes H} {g : Ghosts D} {k : Ghosts T} wher
   pub stays_both : (old mid new : Log H D T hashes g k) → LogStays old mid → LogStays mid new
       → LogStays old new
   stays_both old mid new first second = record {
-    looks = looked_on g (log_disk old) (log_disk mid) (log_disk new) first.looks second.looks;
-    tiles = looked_on k (log_tiles_disk old) (log_tiles_disk mid) (log_tiles_disk new) first.tiles
+    only_reads = only_read_on g (log_disk old) (log_disk mid) (log_disk new) first.only_reads
+        second.only_reads;
+    tiles =
+        only_read_on k (log_tiles_disk old) (log_tiles_disk mid) (log_tiles_disk new) first.tiles
         second.tiles;
     view = second.view ∙ first.view;
     end = second.end ∙ first.end;

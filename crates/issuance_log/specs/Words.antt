@@ -1,15 +1,15 @@
 -- What a log shows, and what a call that appends a record makes of it.
 use Rattle.std.specs.Prelude.{◌≡◌, ℕ, Bool, false, List, [], ◌∷◌, ◌++◌, map, Option, Some, None}
 use Rattle.std.specs.Prelude.{option_map, option_and_then, IfSome, Result, Ok, Err}
-use Rattle.byte_forms.specs.Types.{Hash, Text}
-use Rattle.disk_core.specs.Moments.{LeavesOnly, Looks}
+use Rattle.byte_formats.specs.Types.{Hash, Text}
+use Rattle.disk_core.specs.Moments.{LeavesOnly, OnlyReads}
 use Rattle.disk_core.specs.declared.disk.Disk.{Ghosts}
 use Rattle.tile_store.specs.Contents.{HoldsTiles}
 use Rattle.tile_store.specs.Store.{tiles_disk}
 use Rattle.tile_store.specs.declared.store.Tiles.{Tiles}
 use Rattle.tree_core.specs.Tree.{leaf_hash}
 use Rattle.tree_core.specs.declared.hashing.TreeHash.{Ghosts as Hashes}
-use Rattle.journal_core.specs.Format.{StandsFor}
+use Rattle.journal_core.specs.Format.{Represents}
 use Rattle.journal_core.specs.Owners.{Owner, OwnerAppends, OwnerHasGrown, owner_over}
 use Rattle.journal_core.specs.Words.{disk_of, end_of, is_broken, records}
 use Rattle.journal_core.specs.declared.error.AppendError.{AppendError}
@@ -63,25 +63,25 @@ module _ {H D T : Type 0} {hashes : Hashes H} {g : Ghosts D} {k : Ghosts T} wher
 
   -- The log as its journal tells it, where it does: what it shows over every disk, with the first
   -- items in the records.
-  abbrev pub told_state : Log H D T hashes g k → Option LogState
-  told_state log = option_map (shown_with (view_of log)) (log_records log)
+  abbrev pub modelled_state : Log H D T hashes g k → Option LogState
+  modelled_state log = option_map (shown_with (view_of log)) (log_records log)
 
   -- the records, where the disk of the tiles tells its bytes too; and the log as both tell it
   abbrev pub both_records : Log H D T hashes g k → Option (List Text)
-  both_records log = option_and_then (λ tiles. log_records log) (k.told (log_tiles_disk log))
+  both_records log = option_and_then (λ tiles. log_records log) (k.contents (log_tiles_disk log))
 
-  abbrev pub told_by_both : Log H D T hashes g k → Option LogState
-  told_by_both log = option_map (shown_with (view_of log)) (both_records log)
+  abbrev pub modelled_by_both : Log H D T hashes g k → Option LogState
+  modelled_by_both log = option_map (shown_with (view_of log)) (both_records log)
 
   -- the hashes of its entries, where both disks tell their bytes
   abbrev pub log_leaves : Log H D T hashes g k → Option (List Hash)
-  log_leaves log = option_map (λ s. map (leaf_hash hashes.hash) s.entries) (told_by_both log)
+  log_leaves log = option_map (λ s. map (leaf_hash hashes.hash) s.entries) (modelled_by_both log)
 
   -- The disks were only looked at. The log shows what it showed, with the same records and the same
   -- end, and is broken where it was.
   pub record LogStays (old new : Log H D T hashes g k) : Type 0 where
-    pub looks : Looks g (log_disk old) (log_disk new)
-    pub tiles : Looks k (log_tiles_disk old) (log_tiles_disk new)
+    pub only_reads : OnlyReads g (log_disk old) (log_disk new)
+    pub tiles : OnlyReads k (log_tiles_disk old) (log_tiles_disk new)
     pub view : view_of new ≡ view_of old
     pub end : log_end new ≡ log_end old
     pub broken : log_broken new ≡ log_broken old
@@ -89,7 +89,7 @@ module _ {H D T : Type 0} {hashes : Hashes H} {g : Ghosts D} {k : Ghosts T} wher
   -- so it is, and the disk of the journal had no call
   pub record LogAsksTiles (old new : Log H D T hashes g k) : Type 0 where
     pub disk : log_disk new ≡ log_disk old
-    pub tiles : Looks k (log_tiles_disk old) (log_tiles_disk new)
+    pub tiles : OnlyReads k (log_tiles_disk old) (log_tiles_disk new)
     pub view : view_of new ≡ view_of old
     pub end : log_end new ≡ log_end old
     pub broken : log_broken new ≡ log_broken old
@@ -105,18 +105,18 @@ module _ {H D T : Type 0} {hashes : Hashes H} {g : Ghosts D} {k : Ghosts T} wher
       OwnerHasGrown g body (seen (view_of old)) (log_owner old) (log_owner new)
 
   -- the journal tells the log so, and both disks the hashes of its entries
-  pub record LogIsTold (state : Option LogState) (all : Option (List Hash))
+  pub record LogIsModelled (state : Option LogState) (all : Option (List Hash))
       (log : Log H D T hashes g k) : Type 0 where
-    pub told : told_state log ≡ state
+    pub contents : modelled_state log ≡ state
     pub leaves : log_leaves log ≡ all
 
   -- What is told behind a call that appends a record, by its answer: at Ok this of what was told
   -- before, and else what was told before.
-  abbrev pub LogTells : {X : Type 0} → (LogState → LogState) → Log H D T hashes g k
+  abbrev pub LogModelMoves : {X : Type 0} → (LogState → LogState) → Log H D T hashes g k
       → Log H D T hashes g k → Result X LogError → Type 0
-  LogTells next old new (Ok answer) = LogIsTold (option_map next (told_state old))
-      (option_map (λ s. map (leaf_hash hashes.hash) (next s).entries) (told_by_both old)) new
-  LogTells next old new (Err why) = LogIsTold (told_state old) (log_leaves old) new
+  LogModelMoves next old new (Ok answer) = LogIsModelled (option_map next (modelled_state old))
+      (option_map (λ s. map (leaf_hash hashes.hash) (next s).entries) (modelled_by_both old)) new
+  LogModelMoves next old new (Err why) = LogIsModelled (modelled_state old) (log_leaves old) new
 
   -- What a call does that appends this record, which makes this of what the old log showed, and
   -- this of what it told: as the owner of its journal it appends the record, and it tells that.
@@ -125,7 +125,7 @@ module _ {H D T : Type 0} {hashes : Hashes H} {g : Ghosts D} {k : Ghosts T} wher
       (result : Result X LogError) : Type 0 where
     pub journal : OwnerAppends g of_log_journal body (seen (view_of old)) (log_owner old)
         (log_owner new) result
-    pub tells : LogTells next old new result
+    pub is_modelled : LogModelMoves next old new result
 
   -- At any moment a crash leaves the tiles of this size on their disk, where it would have left
   -- them before.
@@ -140,5 +140,5 @@ module _ {H D T : Type 0} {hashes : Hashes H} {g : Ghosts D} {k : Ghosts T} wher
   abbrev pub TilesStandBehind : Text → ℕ → Log H D T hashes g k → Log H D T hashes g k → Type 0
   TilesStandBehind body size old new = log_broken old ≡ false → IfSome (log_leaves old) (λ leaves.
       IfSome (log_records old) (λ list. (c : Text)
-      → g.left_since (log_disk new) (g.moment (log_disk old)) c → StandsFor c (list ++ body ∷ [])
+      → g.left_since (log_disk new) (g.moment (log_disk old)) c → Represents c (list ++ body ∷ [])
       → (d : Text) → k.may_leave (log_tiles_disk new) d → HoldsTiles hashes.hash leaves size d))

@@ -2,8 +2,8 @@
 
 ghost use Rattle.std.specs.Prelude.{◌≡◌, ◌+◌, ◌≤◌, [], length, Some, IfSome, IfOk, IfErr};
 ghost use Rattle.std.specs.Prelude.{OnOk, OnErr};
-ghost use Rattle.byte_forms.specs.Types.{Text};
-ghost use Rattle.disk_core.specs.Moments.{Looks};
+ghost use Rattle.byte_formats.specs.Types.{Text};
+ghost use Rattle.disk_core.specs.Moments.{OnlyReads};
 ghost use Rattle.journal_core.specs.Words.{disk_of, end_of, is_broken, records};
 ghost use Rattle.issuance_log.specs.Entries.{IsBodyAt, IsNoAnswer, LogCounts};
 ghost use Rattle.issuance_log.specs.Places.{IsPlaced};
@@ -17,7 +17,7 @@ use mtc_io::{Bytes, Memory};
 use std::alloc::Global;
 
 // The gate of a record, and its length.
-const GATE: u64 = 1;
+const COMMIT_BYTE: u64 = 1;
 
 const LENGTH: u64 = 4;
 
@@ -41,17 +41,17 @@ fn read_body<D: Disk>(
     ensures records { records journal.new ≡ records journal.old }
     ensures end { end_of journal.new ≡ end_of journal.old }
     ensures broken { is_broken journal.new ≡ is_broken journal.old }
-    ensures looks { Looks D.Disk (disk_of journal.old) (disk_of journal.new) }
+    ensures only_reads { OnlyReads D.Disk (disk_of journal.old) (disk_of journal.new) }
     ensures cause { LogCounts (D.faults (disk_of journal.old)) (D.faults (disk_of journal.new))
         result }
 {
-    let there = journal.end() - place - GATE - LENGTH;
-    let size = journal.read_size(place + GATE)? as usize;
+    let there = journal.end() - place - COMMIT_BYTE - LENGTH;
+    let size = journal.read_size(place + COMMIT_BYTE)? as usize;
     if size > MAX_BODY || size as u64 > there {
         return Err(LogError::Memory);
     }
     let mut body = zeros(alloc, size)?;
-    journal.read(place + GATE + LENGTH, &mut body)?;
+    journal.read(place + COMMIT_BYTE + LENGTH, &mut body)?;
     Ok(body)
 }
 
@@ -65,10 +65,10 @@ fn copy_item(body: &[u8], entry: &mut Bytes, spki: &mut Bytes) -> Result<(), Log
     ensures err { OnErr result ((entry.new ≡ []) × (spki.new ≡ [])) }
     ensures why { IfErr result (λ why. why ≡ LogError.Memory) }
 {
-    let Ok((front, back)) = read_item(body) else {
+    let Ok((prefix, back)) = read_item(body) else {
         return Err(LogError::Memory);
     };
-    entry.append(front)?;
+    entry.append(prefix)?;
     if spki.append(back).is_err() {
         entry.truncate(0);
         return Err(LogError::Memory);
@@ -97,7 +97,7 @@ pub(crate) fn read_entry<D: Disk>(
     ensures records { records journal.new ≡ records journal.old }
     ensures end { end_of journal.new ≡ end_of journal.old }
     ensures broken { is_broken journal.new ≡ is_broken journal.old }
-    ensures looks { Looks D.Disk (disk_of journal.old) (disk_of journal.new) }
+    ensures only_reads { OnlyReads D.Disk (disk_of journal.old) (disk_of journal.new) }
     ensures cause { LogCounts (D.faults (disk_of journal.old)) (D.faults (disk_of journal.new))
         result }
 {

@@ -3,8 +3,8 @@
 ghost use Rattle.std.specs.Prelude.{◌≡◌, ℕ, ◌<◌, ◌≤◌, ◌+◌, ◌*◌, ◌%◌, ◌^◌, max, [], ◌∷◌, ◌++◌};
 ghost use Rattle.std.specs.Prelude.{length, slice_index_or, vec_len, option_map, IfSome, IfOk};
 ghost use Rattle.std.specs.Prelude.{IfErr, OnOk, OnErr};
-ghost use Rattle.byte_forms.specs.Types.{Text};
-ghost use Rattle.disk_core.specs.Moments.{LeavesOnly, Looks};
+ghost use Rattle.byte_formats.specs.Types.{Text};
+ghost use Rattle.disk_core.specs.Moments.{LeavesOnly, OnlyReads};
 ghost use Rattle.frame_pool.specs.Frames.{HoldsKey};
 ghost use Rattle.frame_pool.specs.declared.key.TileKey.{TileKey as Key};
 ghost use Rattle.mtc_io.specs.Counts.{HasCause};
@@ -14,7 +14,7 @@ ghost use Rattle.tile_store.specs.Layout.{tiles_end};
 ghost use Rattle.tile_store.specs.Store.{tiles_adopted, tiles_disk, tiles_stored};
 ghost use Rattle.tile_store.specs.Writing.{IsImageBehind};
 ghost use Rattle.tree_core.specs.Tree.{leaf_hash};
-ghost use Rattle.tree_proofs.specs.Told.{IsRootOf};
+ghost use Rattle.tree_proofs.specs.Modelled.{IsRootOf};
 ghost use Rattle.issuance_log.specs.Late.{HasLateCause, late_count};
 
 use crate::late::LateTiles;
@@ -37,7 +37,7 @@ pub(crate) struct Items<H: TreeHash, T: Disk> {
 }
 
 impl<H: TreeHash, T: Disk> Items<H, T> {
-    ghost use Rattle.issuance_log.specs.Items.{HasItemRoom, items_leaves, items_nodes};
+    ghost use Rattle.issuance_log.specs.Items.{HasItemCapacity, items_leaves, items_nodes};
     ghost use Rattle.issuance_log.specs.Items.{items_places, items_tiles};
 
     /// No items, over a disk and a pool whose frames hold no tile. It takes no memory.
@@ -56,7 +56,7 @@ impl<H: TreeHash, T: Disk> Items<H, T> {
 
     /// Makes room for one item more. The items stay as they were.
     pub(crate) fn reserve(&mut self) -> Result<(), Memory>
-        ensures room { OnOk result (HasItemRoom self.new) }
+        ensures capacity { OnOk result (HasItemCapacity self.new) }
         ensures places { items_places self.new ≡ items_places self.old }
         ensures leaves { items_leaves self.new ≡ items_leaves self.old }
         ensures disk { tiles_disk (items_tiles self.new) ≡ tiles_disk (items_tiles self.old) }
@@ -71,7 +71,7 @@ impl<H: TreeHash, T: Disk> Items<H, T> {
     /// Puts the place of an item and the hash of its entry behind the others, in room that is
     /// there.
     pub(crate) fn push(&mut self, place: u64, leaf: &[u8; 32])
-        requires room { HasItemRoom self.old }
+        requires capacity { HasItemCapacity self.old }
         requires few { length (items_places self.old) + 1 < 2 ^ 32 }
         ensures places { items_places self.new ≡ items_places self.old ++ place ∷ [] }
         ensures leaves { items_leaves self.new
@@ -123,7 +123,7 @@ impl<H: TreeHash, T: Disk> Items<H, T> {
         ensures places { items_places self.new ≡ items_places self.old }
         ensures leaves { items_leaves self.new ≡ items_leaves self.old }
         ensures stored { tiles_stored (items_tiles self.new) ≡ tiles_stored (items_tiles self.old) }
-        ensures looks { Looks T.Disk (tiles_disk (items_tiles self.old))
+        ensures only_reads { OnlyReads T.Disk (tiles_disk (items_tiles self.old))
             (tiles_disk (items_tiles self.new)) }
         ensures cause { HasCause (T.faults (tiles_disk (items_tiles self.old)))
             (T.faults (tiles_disk (items_tiles self.new))) result }
@@ -165,11 +165,12 @@ impl<H: TreeHash, T: Disk> Items<H, T> {
         requires within { size ≤ length (items_places self.old) }
         ensures places { items_places self.new ≡ items_places self.old }
         ensures leaves { items_leaves self.new ≡ items_leaves self.old }
-        ensures looks { Looks T.Disk (tiles_disk (items_tiles self.old))
+        ensures only_reads { OnlyReads T.Disk (tiles_disk (items_tiles self.old))
             (tiles_disk (items_tiles self.new)) }
         ensures stored { OnOk result (tiles_stored (items_tiles self.new)
             ≡ max size (tiles_stored (items_tiles self.old))) }
-        ensures stands { OnOk result (IfSome (T.told (tiles_disk (items_tiles self.old))) (λ bytes.
+        ensures stands { OnOk result
+            (IfSome (T.contents (tiles_disk (items_tiles self.old))) (λ bytes.
             IfSome (items_leaves self.old) (λ leaves. (level place : ℕ)
             → IsNewTile (tiles_adopted (items_tiles self.old)) size level place
             → StandsIn H.hash leaves bytes level place))) }

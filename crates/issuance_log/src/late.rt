@@ -3,8 +3,8 @@
 ghost use Rattle.std.specs.Prelude.{◌≡◌, ℕ, ◌<◌, ◌≤◌, ◌+◌, ◌*◌, ◌%◌, ◌^◌, max, [], ◌∷◌, ◌++◌};
 ghost use Rattle.std.specs.Prelude.{length, option_map, vec_len, IfSome, IfOk, IfErr, OnOk};
 ghost use Rattle.std.specs.Prelude.{OnErr};
-ghost use Rattle.byte_forms.specs.Types.{Text};
-ghost use Rattle.disk_core.specs.Moments.{LeavesOnly, Looks};
+ghost use Rattle.byte_formats.specs.Types.{Text};
+ghost use Rattle.disk_core.specs.Moments.{LeavesOnly, OnlyReads};
 ghost use Rattle.frame_pool.specs.Frames.{HoldsKey};
 ghost use Rattle.frame_pool.specs.declared.key.TileKey.{TileKey as Key};
 ghost use Rattle.mtc_io.specs.Counts.{HasCause};
@@ -14,7 +14,7 @@ ghost use Rattle.tile_store.specs.Layout.{tiles_end};
 ghost use Rattle.tile_store.specs.Store.{tiles_adopted, tiles_count, tiles_disk, tiles_leaves};
 ghost use Rattle.tile_store.specs.Store.{tiles_spare, tiles_stored};
 ghost use Rattle.tile_store.specs.Writing.{IsImageBehind};
-ghost use Rattle.tree_proofs.specs.Told.{IsRootOf};
+ghost use Rattle.tree_proofs.specs.Modelled.{IsRootOf};
 
 use disk_core::Disk;
 use frame_pool::Pool;
@@ -34,15 +34,15 @@ const LEAST: usize = 64;
 pub(crate) struct LateTiles<H: TreeHash, T: Disk> {
     tiles: Tiles<H, T>,
     waiting: Vec<[u8; 32]>,
-    room: usize,
+    capacity: usize,
     ghost few: { tiles_count tiles + vec_len waiting < 2 ^ 32 },
-    ghost within: { vec_len waiting ≤ room },
-    ghost spare: { room ≤ tiles_spare tiles },
+    ghost within: { vec_len waiting ≤ capacity },
+    ghost spare: { capacity ≤ tiles_spare tiles },
 }
 
 // Puts leaf hashes behind the others, in room that is there.
 fn put_all<H: TreeHash, T: Disk>(tiles: &mut Tiles<H, T>, leaves: &[[u8; 32]])
-    requires room { length leaves.now ≤ tiles_spare tiles.old }
+    requires capacity { length leaves.now ≤ tiles_spare tiles.old }
     requires few { tiles_count tiles.old + length leaves.now < 2 ^ 32 }
     ensures leaves { tiles_leaves tiles.new
         ≡ option_map (λ list. list ++ leaves.now) (tiles_leaves tiles.old) }
@@ -60,7 +60,7 @@ fn put_all<H: TreeHash, T: Disk>(tiles: &mut Tiles<H, T>, leaves: &[[u8; 32]])
 }
 
 impl<H: TreeHash, T: Disk> LateTiles<H, T> {
-    ghost use Rattle.issuance_log.specs.Late.{HasLateCause, HasLateRoom, LateStays, late_count};
+    ghost use Rattle.issuance_log.specs.Late.{HasLateCause, HasLateCapacity, LateStays, late_count};
     ghost use Rattle.issuance_log.specs.Late.{late_leaves, late_tiles};
 
     /// No leaves, over a disk and a pool whose frames hold no tile. It takes no memory.
@@ -74,7 +74,7 @@ impl<H: TreeHash, T: Disk> LateTiles<H, T> {
         LateTiles {
             tiles: Tiles::new(alloc, disk, pool),
             waiting: Vec::new(alloc),
-            room: 0,
+            capacity: 0,
         }
     }
 
@@ -87,7 +87,7 @@ impl<H: TreeHash, T: Disk> LateTiles<H, T> {
 
     /// Makes room for one leaf more. The leaves stay as they were.
     pub(crate) fn reserve(&mut self) -> Result<(), Memory>
-        ensures room { OnOk result (HasLateRoom self.new) }
+        ensures capacity { OnOk result (HasLateCapacity self.new) }
         ensures stays { LateStays self.old self.new }
     {
         self.waiting.reserve(1)?;
@@ -97,23 +97,23 @@ impl<H: TreeHash, T: Disk> LateTiles<H, T> {
     // Makes room in the tiles for one leaf more than wait. It grows with their number, which keeps
     // the cost of many single leaves linear.
     fn reserve_nodes(&mut self) -> Result<(), Memory>
-        ensures spare { OnOk result (vec_len self.new.waiting < self.new.room) }
+        ensures spare { OnOk result (vec_len self.new.waiting < self.new.capacity) }
         ensures waiting { self.new.waiting ≡ self.old.waiting }
         ensures stays { LateStays self.old self.new }
     {
         let count = self.waiting.len();
-        if count < self.room {
+        if count < self.capacity {
             return Ok(());
         }
-        let room = LEAST.max(2 * count);
-        self.tiles.reserve(room)?;
-        self.room = room;
+        let capacity = LEAST.max(2 * count);
+        self.tiles.reserve(capacity)?;
+        self.capacity = capacity;
         Ok(())
     }
 
     /// Puts a leaf hash behind the others, in room that is there.
     pub(crate) fn push(&mut self, leaf: &[u8; 32])
-        requires room { HasLateRoom self.old }
+        requires capacity { HasLateCapacity self.old }
         requires few { late_count self.old + 1 < 2 ^ 32 }
         ensures leaves { late_leaves self.new
             ≡ option_map (λ list. list ++ leaf.now ∷ []) (late_leaves self.old) }
@@ -134,7 +134,7 @@ impl<H: TreeHash, T: Disk> LateTiles<H, T> {
         ensures stays { LateStays self.old self.new }
     {
         put_all(&mut self.tiles, &self.waiting[..count]);
-        self.room -= count;
+        self.capacity -= count;
         drop(self.waiting.drain(..count));
         self.waiting.shrink_to(LEAST);
     }
@@ -166,7 +166,7 @@ impl<H: TreeHash, T: Disk> LateTiles<H, T> {
         ensures leaves { late_leaves self.new ≡ late_leaves self.old }
         ensures count { late_count self.new ≡ late_count self.old }
         ensures stored { tiles_stored (late_tiles self.new) ≡ tiles_stored (late_tiles self.old) }
-        ensures looks { Looks T.Disk (tiles_disk (late_tiles self.old))
+        ensures only_reads { OnlyReads T.Disk (tiles_disk (late_tiles self.old))
             (tiles_disk (late_tiles self.new)) }
         ensures cause { HasCause (T.faults (tiles_disk (late_tiles self.old)))
             (T.faults (tiles_disk (late_tiles self.new))) result }
@@ -212,11 +212,11 @@ impl<H: TreeHash, T: Disk> LateTiles<H, T> {
         ensures count { late_count self.new ≡ late_count self.old }
         ensures most { tiles_count (late_tiles self.new)
             ≤ max size (tiles_count (late_tiles self.old)) }
-        ensures looks { Looks T.Disk (tiles_disk (late_tiles self.old))
+        ensures only_reads { OnlyReads T.Disk (tiles_disk (late_tiles self.old))
             (tiles_disk (late_tiles self.new)) }
         ensures stored { OnOk result (tiles_stored (late_tiles self.new)
             ≡ max size (tiles_stored (late_tiles self.old))) }
-        ensures stands { OnOk result (IfSome (T.told (tiles_disk (late_tiles self.old)))
+        ensures stands { OnOk result (IfSome (T.contents (tiles_disk (late_tiles self.old)))
             (λ bytes. IfSome (late_leaves self.old) (λ leaves. (level place : ℕ)
             → IsNewTile (tiles_adopted (late_tiles self.old)) size level place
             → StandsIn H.hash leaves bytes level place))) }

@@ -2,9 +2,9 @@
 
 ghost use Rattle.std.specs.Prelude.{◌≡◌, ◌+◌, ◌<◌, ◌≤◌, ◌^◌, ℕ, List, [], ◌∷◌, ◌++◌, length};
 ghost use Rattle.std.specs.Prelude.{Some, Ok, option_map};
-ghost use Rattle.byte_forms.specs.Types.{Text, HashFunction};
-ghost use Rattle.byte_forms.specs.Places.{IsBytes};
-ghost use Rattle.journal_core.specs.Format.{StandsFor};
+ghost use Rattle.byte_formats.specs.Types.{Text, HashFunction};
+ghost use Rattle.byte_formats.specs.Places.{IsBytes};
+ghost use Rattle.journal_core.specs.Format.{Represents};
 ghost use Rattle.issuance_log.specs.Folds.{LogState, LogView, begun_log, next_log, next_view};
 ghost use Rattle.issuance_log.specs.Folds.{log_behind, log_of, view_in, with_item};
 ghost use Rattle.issuance_log.specs.Openings.{FoundLog, log_read};
@@ -16,7 +16,7 @@ ghost use Rattle.issuance_log.specs.Shown.{recorded_items, shown_with};
 
 /// The body of an Entry is read as the entry and the key that it spells, and only what is spelled
 /// so is read.
-pub fn items_are_read_as_spelled()
+pub fn law_items_decode_as_encoded()
     ensures again { (entry key : Text) → IsShort entry → IsShort key
         → item_in (entry_record entry key) ≡ Some (entry, key) }
     ensures only { (body entry key : Text) → IsBytes body → item_in body ≡ Some (entry, key)
@@ -24,27 +24,27 @@ pub fn items_are_read_as_spelled()
 {}
 
 /// The body of a Landmark is read as the size that it spells, and only what is spelled so is read.
-pub fn landmarks_are_read_as_spelled()
+pub fn law_landmarks_decode_as_encoded()
     ensures again { (size : ℕ) → size < 2 ^ 64 → mark_in (landmark_record size) ≡ Some size }
     ensures only { (body : Text) (size : ℕ) → IsBytes body → mark_in body ≡ Some size
         → (body ≡ landmark_record size) × (size < 2 ^ 64) }
 {}
 
 /// The body of a Tiles is read as the size that it spells, and only what is spelled so is read.
-pub fn tiles_are_read_as_spelled()
+pub fn law_tiles_decode_as_encoded()
     ensures again { (size : ℕ) → size < 2 ^ 64 → tiled_in (tiles_record size) ≡ Some size }
     ensures only { (body : Text) (size : ℕ) → IsBytes body → tiled_in body ≡ Some size
         → (body ≡ tiles_record size) × (size < 2 ^ 64) }
 {}
 
 /// A record makes of what a log shows over every disk what the log that it makes shows.
-pub fn views_follow_the_records()
+pub fn law_views_follow_the_records()
     ensures { (h : HashFunction) (s : LogState) (body : Text)
         → next_view h (view_in s) body ≡ option_map view_in (next_log h s body) }
 {}
 
 /// A record begins a log, or makes a log of another one, exactly where it keeps to the rules.
-pub fn records_keep_to_the_rules()
+pub fn law_records_keep_to_the_rules()
     ensures first { (body : Text) (s : LogState) → IsFirst body s → begun_log body ≡ Some s }
     ensures only_first { (body : Text) (s : LogState) → IsBytes body → begun_log body ≡ Some s
         → IsFirst body s }
@@ -57,19 +57,19 @@ pub fn records_keep_to_the_rules()
 {}
 
 /// A file is read as a log exactly where it stands for records that make this log.
-pub fn logs_are_read_from_their_journals()
+pub fn law_logs_are_read_from_their_journals()
     ensures read { (h : HashFunction) (bytes : Text) (list : List Text) (s : LogState)
-        → StandsFor bytes list
+        → Represents bytes list
         → log_of h list ≡ Ok s → log_read h bytes ≡ Ok (record { records = list; state = s }) }
     ensures only { (h : HashFunction) (bytes : Text) (found : FoundLog) → IsBytes bytes
         → log_read h bytes ≡ Ok found
-        → StandsFor bytes found.records × (log_of h found.records ≡ Ok found.state) }
+        → Represents bytes found.records × (log_of h found.records ≡ Ok found.state) }
 {}
 
 /// A log that records make is what it shows over every disk, with the first items in the records.
 /// It stays so where a record more stands behind them. Where all of the items are shown, the record
 /// of an item adds this one, and that of a landmark or of tiles adds none.
-pub fn records_tell_the_items()
+pub fn law_records_determine_the_items()
     ensures whole { (h : HashFunction) (list : List Text) (s : LogState) → log_of h list ≡ Ok s
         → shown_with (view_in s) list ≡ s }
     ensures longer { (v : LogView) (list : List Text) (body : Text)
@@ -87,7 +87,7 @@ pub fn records_tell_the_items()
 
 /// Records make a log exactly where the first one has settings, and the others may stand behind
 /// it: then the log is the one that these make of the settings.
-pub fn logs_begin_with_their_settings()
+pub fn law_logs_begin_with_their_settings()
     ensures behind { (h : HashFunction) (first : Text) (s : Settings) (bodies : List Text)
         → settings_in first ≡ Some s → log_of h (first ∷ bodies) ≡ log_behind h s bodies }
     ensures only { (h : HashFunction) (list : List Text) (t : LogState) → log_of h list ≡ Ok t

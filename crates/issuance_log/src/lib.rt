@@ -21,7 +21,7 @@ mod error;
 mod following;
 mod items;
 mod late;
-mod laws;
+pub mod laws;
 mod log;
 mod nodes;
 mod numbers;
@@ -32,10 +32,5 @@ mod settings;
 pub use creation::{create, pack};
 pub use error::{LogError, LogOpenError, LogRefused};
 pub use following::may_follow;
-pub use laws::{
-    items_are_read_as_spelled, landmarks_are_read_as_spelled, logs_are_read_from_their_journals,
-    logs_begin_with_their_settings, records_keep_to_the_rules, records_tell_the_items,
-    tiles_are_read_as_spelled, views_follow_the_records,
-};
 pub use log::Log;
 pub use settings::LogSettings;

@@ -4,16 +4,16 @@ ghost use Rattle.std.specs.Prelude.{◌≡◌, ◌↔◌, ℕ, ◌≤◌, ◌+�
 ghost use Rattle.std.specs.Prelude.{false, None, Ok, IfSome, IfOk, IfErr, IsErrOf, OnOk, OnErr};
 ghost use Rattle.std.specs.Prelude.{max};
 ghost use Rattle.std.proofs.Props.{props};
-ghost use Rattle.disk_core.specs.Moments.{Looks};
+ghost use Rattle.disk_core.specs.Moments.{OnlyReads};
 ghost use Rattle.frame_pool.specs.Frames.{HoldsKey};
 ghost use Rattle.frame_pool.specs.declared.key.TileKey.{TileKey as Key};
-ghost use Rattle.journal_core.specs.Format.{StandsFor, end_behind};
-ghost use Rattle.journal_core.specs.Words.{end_of, is_broken, records, AllStandFor};
+ghost use Rattle.journal_core.specs.Format.{Represents, end_behind};
+ghost use Rattle.journal_core.specs.Words.{end_of, is_broken, records, AllRepresent};
 ghost use Rattle.log_entry.specs.Matching.{matches};
 ghost use Rattle.mtc_io.specs.Counts.{HasCause};
 ghost use Rattle.tile_store.specs.Layout.{tiles_end};
 ghost use Rattle.tile_store.specs.Store.{tiles_stored};
-ghost use Rattle.tree_proofs.specs.Told.{IsRootOf};
+ghost use Rattle.tree_proofs.specs.Modelled.{IsRootOf};
 ghost use Rattle.issuance_log.specs.Entries.{LogCounts};
 ghost use Rattle.issuance_log.specs.Folds.{log_of, with_item, with_mark, with_tiles};
 ghost use Rattle.issuance_log.specs.Folds.{one_item_more, one_mark_more, tiled_to, view_in};
@@ -93,7 +93,7 @@ impl<H: TreeHash, D: Disk + Drop, T: Disk + Drop> Drop for Log<H, D, T> {
 
 impl<H: TreeHash, D: Disk, T: Disk> Log<H, D, T> {
     ghost use Rattle.issuance_log.specs.Words.{log_disk, log_tiles_disk, log_records, log_end};
-    ghost use Rattle.issuance_log.specs.Words.{log_broken, log_leaves, told_state};
+    ghost use Rattle.issuance_log.specs.Words.{log_broken, log_leaves, modelled_state};
     ghost use Rattle.issuance_log.specs.Words.{view_of, LogAppends, LogAsksTiles, LogStays};
     ghost use Rattle.issuance_log.specs.Words.{KeepsTiles, TilesStandBehind};
 
@@ -113,25 +113,26 @@ impl<H: TreeHash, D: Disk, T: Disk> Log<H, D, T> {
     ) -> Result<Log<H, D, T>, LogRefused<D, T>>
         requires { (slot : ℕ) (key : Key) → HoldsKey pool slot key → ⊥ }
         ensures sound { IfOk result (λ it. log_broken it ≡ false) }
-        ensures looks { IfOk result (λ it. Looks D.Disk disk (log_disk it)) }
-        ensures looks_tiles { IfOk result (λ it. Looks T.Disk tiles (log_tiles_disk it)) }
+        ensures only_reads { IfOk result (λ it. OnlyReads D.Disk disk (log_disk it)) }
+        ensures only_reads_tiles { IfOk result (λ it. OnlyReads T.Disk tiles (log_tiles_disk it)) }
         ensures fine { IfOk result (λ it. D.faults (log_disk it) ≡ D.faults disk) }
         ensures fine_tiles { IfOk result (λ it. T.faults (log_tiles_disk it) ≡ T.faults tiles) }
-        ensures found { IfOk result (λ it. IfSome (D.told disk) (λ b. IfSome (log_records it)
+        ensures found { IfOk result (λ it. IfSome (D.contents disk) (λ b. IfSome (log_records it)
             (λ list. log_read H.hash b
             ≡ Ok (record { records = list; state = shown_with (view_of it) list })))) }
         ensures valid { IfOk result (λ it. IfSome (log_records it)
             (λ list. log_of H.hash list ≡ Ok (shown_with (view_of it) list))) }
-        ensures tiles { IfOk result (λ it. IfSome (told_state it) (λ s. IfSome (T.told tiles)
+        ensures tiles { IfOk result
+            (λ it. IfSome (modelled_state it) (λ s. IfSome (T.contents tiles)
             (HasItsTiles H.hash s))) }
-        ensures stands { IfOk result (λ it. IfSome (D.told (log_disk it))
-            (λ b. IfSome (log_records it) (StandsFor b))) }
+        ensures stands { IfOk result (λ it. IfSome (D.contents (log_disk it))
+            (λ b. IfSome (log_records it) (Represents b))) }
         ensures all { IfOk result
-            (λ it. IfSome (log_records it) (AllStandFor D.Disk (log_disk it))) }
+            (λ it. IfSome (log_records it) (AllRepresent D.Disk (log_disk it))) }
         ensures end { IfOk result (λ it. IfSome (log_records it)
             (λ list. log_end it ≡ end_behind list)) }
-        ensures err { IfErr result (λ e. Looks D.Disk disk e.disk) }
-        ensures err_tiles { IfErr result (λ e. Looks T.Disk tiles e.tiles) }
+        ensures err { IfErr result (λ e. OnlyReads D.Disk disk e.disk) }
+        ensures err_tiles { IfErr result (λ e. OnlyReads T.Disk tiles e.tiles) }
         ensures cause { IfErr result
             (λ e. HasOpenCause D.Disk T.Disk H.hash disk e.disk tiles e.tiles e.why) }
         ensures fine_err { IfErr result (λ e. LogCountsNoOther D.Disk disk e.disk e.why) }
@@ -297,10 +298,10 @@ impl<H: TreeHash, D: Disk, T: Disk> Log<H, D, T> {
     /// tells its bytes, what it tells shows the same numbers, each entry but the first reads as one
     /// of type 1 to which its key belongs, and the lengths of both are told in two bytes; also
     /// behind an append that failed.
-    pub fn sound(&self)
+    pub fn law_sound(&self)
         ensures numbers { HasSoundNumbers (view_of self.now) }
-        ensures view { IfSome (told_state self.now) (λ s. view_in s ≡ view_of self.now) }
-        ensures items { IfSome (told_state self.now) (IsSound H.hash) }
+        ensures view { IfSome (modelled_state self.now) (λ s. view_in s ≡ view_of self.now) }
+        ensures items { IfSome (modelled_state self.now) (IsSound H.hash) }
     {
         let _ = self.numbers.size();
     }
@@ -344,7 +345,7 @@ impl<H: TreeHash, D: Disk, T: Disk> Log<H, D, T> {
     /// `Memory`.
     #[tactic(auto, unfolding(crate::specs::Refusals::item_at))]
     pub fn entry(&mut self, index: u64, entry: &mut Bytes, spki: &mut Bytes) -> Result<(), LogError>
-        ensures item { IfSome (told_state self.old)
+        ensures item { IfSome (modelled_state self.old)
             (λ s. GivesItem (item_at s index) result entry.new spki.new) }
         ensures none { IsErrOf result LogError.NoSuchEntry ↔ ((view_of self.old).size ≤ index) }
         ensures short { OnOk result (IsShort entry.new × IsShort spki.new) }

@@ -2,7 +2,7 @@
 
 ghost use Rattle.std.specs.Prelude.{◌≡◌, ◌<◌, ◌≤◌, [], false, Some, None, option_map, length};
 ghost use Rattle.std.specs.Prelude.{MatchBool, IfSome, IfOk, IfErr, OnOk};
-ghost use Rattle.disk_core.specs.Moments.{Looks};
+ghost use Rattle.disk_core.specs.Moments.{OnlyReads};
 ghost use Rattle.journal_core.specs.Openings.{opening_disk, read_list, next_place, is_ended};
 ghost use Rattle.journal_core.specs.Openings.{bytes_left, refusal};
 ghost use Rattle.tile_store.specs.Store.{tiles_adopted, tiles_disk, tiles_stored};
@@ -94,7 +94,7 @@ fn read_first<H: TreeHash, D: Disk, T: Disk>(
     items: &mut Items<H, T>,
 ) -> Result<Numbers, LogOpenError>
     requires list { read_list opening.old
-        ≡ option_map (λ _. []) (D.told (opening_disk opening.old)) }
+        ≡ option_map (λ _. []) (D.contents (opening_disk opening.old)) }
     requires place { next_place opening.old ≡ 16 }
     requires goes_on { (is_ended opening.old ≡ false) × (refusal opening.old ≡ None) }
     requires none { items_places items.old ≡ [] }
@@ -105,7 +105,7 @@ fn read_first<H: TreeHash, D: Disk, T: Disk>(
         ≡ tiles_adopted (items_tiles items.old) }
     ensures err { IfErr result (HasLogCause D.Disk H.hash (opening_disk opening.old)
         (opening_disk opening.new)) }
-    ensures looks { Looks D.Disk (opening_disk opening.old) (opening_disk opening.new) }
+    ensures only_reads { OnlyReads D.Disk (opening_disk opening.old) (opening_disk opening.new) }
     ensures fine { OnOk result (D.faults (opening_disk opening.new)
         ≡ D.faults (opening_disk opening.old)) }
     ensures fine_err { IfErr result (LogCountsNoOther D.Disk (opening_disk opening.old)
@@ -138,7 +138,7 @@ fn read_next<H: TreeHash, D: Disk, T: Disk>(
         ≡ tiles_adopted (items_tiles items.old) }
     ensures err { IfErr result (HasLogCause D.Disk H.hash (opening_disk opening.old)
         (opening_disk opening.new)) }
-    ensures looks { Looks D.Disk (opening_disk opening.old) (opening_disk opening.new) }
+    ensures only_reads { OnlyReads D.Disk (opening_disk opening.old) (opening_disk opening.new) }
     ensures fine { OnOk result (D.faults (opening_disk opening.new)
         ≡ D.faults (opening_disk opening.old)) }
     ensures fine_err { IfErr result (LogCountsNoOther D.Disk (opening_disk opening.old)
@@ -168,7 +168,7 @@ fn read_rest<H: TreeHash, D: Disk, T: Disk>(
         ≡ tiles_adopted (items_tiles items.old) }
     ensures err { IfErr result (HasLogCause D.Disk H.hash (opening_disk opening.old)
         (opening_disk opening.new)) }
-    ensures looks { Looks D.Disk (opening_disk opening.old) (opening_disk opening.new) }
+    ensures only_reads { OnlyReads D.Disk (opening_disk opening.old) (opening_disk opening.new) }
     ensures fine { OnOk result (D.faults (opening_disk opening.new)
         ≡ D.faults (opening_disk opening.old)) }
     ensures fine_err { IfErr result (LogCountsNoOther D.Disk (opening_disk opening.old)
@@ -188,7 +188,7 @@ pub(crate) fn read_log<H: TreeHash, D: Disk, T: Disk>(
     items: &mut Items<H, T>,
 ) -> Result<Numbers, LogOpenError>
     requires list { read_list opening.old
-        ≡ option_map (λ _. []) (D.told (opening_disk opening.old)) }
+        ≡ option_map (λ _. []) (D.contents (opening_disk opening.old)) }
     requires place { next_place opening.old ≡ 16 }
     requires goes_on { (is_ended opening.old ≡ false) × (refusal opening.old ≡ None) }
     requires none { items_places items.old ≡ [] }
@@ -199,7 +199,7 @@ pub(crate) fn read_log<H: TreeHash, D: Disk, T: Disk>(
         ≡ tiles_adopted (items_tiles items.old) }
     ensures err { IfErr result (HasLogCause D.Disk H.hash (opening_disk opening.old)
         (opening_disk opening.new)) }
-    ensures looks { Looks D.Disk (opening_disk opening.old) (opening_disk opening.new) }
+    ensures only_reads { OnlyReads D.Disk (opening_disk opening.old) (opening_disk opening.new) }
     ensures fine { OnOk result (D.faults (opening_disk opening.new)
         ≡ D.faults (opening_disk opening.old)) }
     ensures fine_err { IfErr result (LogCountsNoOther D.Disk (opening_disk opening.old)
@@ -217,7 +217,7 @@ pub(crate) fn read_tiled<H: TreeHash, D: Disk, T: Disk>(
     items: &mut Items<H, T>,
 ) -> Result<Numbers, LogOpenError>
     requires list { read_list opening.old
-        ≡ option_map (λ _. []) (D.told (opening_disk opening.old)) }
+        ≡ option_map (λ _. []) (D.contents (opening_disk opening.old)) }
     requires place { next_place opening.old ≡ 16 }
     requires goes_on { (is_ended opening.old ≡ false) × (refusal opening.old ≡ None) }
     requires none { items_places items.old ≡ [] }
@@ -226,13 +226,13 @@ pub(crate) fn read_tiled<H: TreeHash, D: Disk, T: Disk>(
     ensures found { IfOk result (λ n. HasGatheredAll n.view items.new opening.new) }
     ensures stored { IfOk result (λ n. n.view.tiled ≤ tiles_stored (items_tiles items.new)) }
     ensures tiles { IfOk result (λ n. IfSome (read_list opening.new) (λ list.
-        IfSome (T.told (tiles_disk (items_tiles items.old)))
+        IfSome (T.contents (tiles_disk (items_tiles items.old)))
         (HasItsTiles H.hash (shown_with n.view list)))) }
     ensures err { IfErr result (HasOpenCause D.Disk T.Disk H.hash (opening_disk opening.old)
         (opening_disk opening.new) (tiles_disk (items_tiles items.old))
         (tiles_disk (items_tiles items.new))) }
-    ensures looks { Looks D.Disk (opening_disk opening.old) (opening_disk opening.new) }
-    ensures looks_tiles { Looks T.Disk (tiles_disk (items_tiles items.old))
+    ensures only_reads { OnlyReads D.Disk (opening_disk opening.old) (opening_disk opening.new) }
+    ensures only_reads_tiles { OnlyReads T.Disk (tiles_disk (items_tiles items.old))
         (tiles_disk (items_tiles items.new)) }
     ensures fine { OnOk result (D.faults (opening_disk opening.new)
         ≡ D.faults (opening_disk opening.old)) }

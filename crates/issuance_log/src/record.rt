@@ -1,7 +1,7 @@
 //! The bodies of a log's records.
 
 ghost use Rattle.std.specs.Prelude.{◌≡◌, ◌+◌, ◌<◌, ◌≤◌, length, true, IfOk};
-ghost use Rattle.byte_forms.specs.Readings.{Moves};
+ghost use Rattle.byte_formats.specs.Readings.{Moves};
 ghost use Rattle.issuance_log.specs.Records.{settings_at, entry_at, log_settings_with, settings_in};
 ghost use Rattle.issuance_log.specs.Records.{item_in, mark_in, tiled_in, settings_record, IsShort};
 ghost use Rattle.issuance_log.specs.Records.{entry_record, landmark_record, tiles_record};

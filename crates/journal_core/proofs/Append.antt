@@ -10,7 +10,7 @@ use Rattle.std.proofs.lemmas.Bool.{cases_eq}
 use Rattle.disk_core.specs.Disk.{overwritten, part, Torn}
 use Rattle.disk_core.specs.Writes.{torn_all}
 use Rattle.disk_core.proofs.Torn.{torn_after, torn_before}
-use Rattle.journal_core.specs.Format.{behind, IsClosedAt, StandsFor, StandsForEither, tail_of}
+use Rattle.journal_core.specs.Format.{behind, IsClosedAt, Represents, RepresentsEither, tail_of}
 use Rattle.journal_core.specs.Format.{new_file_of}
 use Rattle.journal_core.proofs.Records.{part_kept, byte_kept, records_kept, header_kept}
 use Rattle.journal_core.proofs.Records.{stands_kept, behind_later, behind-append, records-append}
@@ -18,7 +18,7 @@ use Rattle.journal_core.proofs.Records.{stands_kept, behind_later, behind-append
 -- The write behind the closed gate leaves the list as it was, however it is torn.
 pub torn_behind : (end : ℕ) (piece : List ℕ) (records : List (List ℕ)) (old new : List ℕ)
     → end ≡ behind 16 records + 1 → Torn end piece old new
-    → StandsFor old records → StandsFor new records
+    → Represents old records → Represents new records
 torn_behind end piece records old new end_is torn is =
     let there = is.ends.there in
     let longer = torn.no_shorter in
@@ -28,7 +28,7 @@ torn_behind end piece records old new end_is torn is =
 
 -- The list stands, and behind its closed gate lie the length of a body, the body and a closed gate.
 pub record IsStaged (bytes : List ℕ) (records : List (List ℕ)) (body : List ℕ) : Type 0 where
-  pub stands : StandsFor bytes records
+  pub stands : Represents bytes records
   pub tail : part (behind 16 records + 1) (5 + length body) bytes ≡ tail_of body
 
 pub length-tail : (body : List ℕ) → length (tail_of body) ≡ 5 + length body
@@ -36,19 +36,19 @@ length-tail body = simp length-append (omega arith)
 
 -- after the first write
 pub staged : (end : ℕ) (records : List (List ℕ)) (body old new : List ℕ)
-    → end ≡ behind 16 records + 1 → StandsFor old records
+    → end ≡ behind 16 records + 1 → Represents old records
     → new ≡ overwritten end (tail_of body) old → IsStaged new records body
 staged end records body old new end_is is new_is =
     let there = is.ends.there in
-    let front : length (take end old) ≡ end = simp length-take (omega arith) in
+    let prefix : length (take end old) ≡ end = simp length-take (omega arith) in
     let back = drop (end + length (tail_of body)) old in
-    let behind_front : drop end (overwritten end (tail_of body) old) ≡ tail_of body ++ back
+    let behind_prefix : drop end (overwritten end (tail_of body) old) ≡ tail_of body ++ back
     = rw (append_assoc (take end old) (tail_of body) back) (drop_at (take end old) (tail_of body
-    ++ back) end front) in
+    ++ back) end prefix) in
     let found : part end (5 + length body) (overwritten end (tail_of body) old) ≡ tail_of body
-    = rw behind_front (take_at (tail_of body) back (5 + length body) (length-tail body)) in
+    = rw behind_prefix (take_at (tail_of body) back (5 + length body) (length-tail body)) in
     record {
-      stands = subst (λ (bytes : List ℕ). StandsFor bytes records) (sym new_is)
+      stands = subst (λ (bytes : List ℕ). Represents bytes records) (sym new_is)
           (torn_behind end (tail_of body) records old _ end_is
           (torn_all end (tail_of body) old) is);
       tail = subst (λ (bytes : List ℕ). part (behind 16 records + 1) (5 + length body) bytes
@@ -87,26 +87,28 @@ byte_after from place old new same past within =
     (omega arith) ∙ sym (shifted old)
 
 -- what is written over the closed gate and behind it
-pub opened_before : (gate end : ℕ) (tail bytes : List ℕ) → end ≡ gate + 1 → end ≤ length bytes
-    → overwritten gate (1 ∷ []) (overwritten end tail bytes) ≡ overwritten gate (1 ∷ tail) bytes
-opened_before gate end tail bytes end_is there =
+pub opened_before : (commit_byte end : ℕ) (tail bytes : List ℕ) → end ≡ commit_byte + 1
+    → end ≤ length bytes
+    → overwritten commit_byte (1 ∷ []) (overwritten end tail bytes)
+    ≡ overwritten commit_byte (1 ∷ tail) bytes
+opened_before commit_byte end tail bytes end_is there =
     let back = drop (end + length tail) bytes in
-    let front : length (take end bytes) ≡ end = simp length-take (omega arith) in
+    let prefix : length (take end bytes) ≡ end = simp length-take (omega arith) in
     let split : overwritten end tail bytes ≡ take end bytes ++ (tail ++ back)
     = append_assoc (take end bytes) tail back in
-    let before : take gate (overwritten end tail bytes) ≡ take gate bytes
-    = ap (take gate) split
-    ∙ take-append-le gate (take end bytes) (tail ++ back) (omega arith)
-    ∙ take-take gate end bytes (omega arith) in
-    let behind_gate : drop (gate + 1) (overwritten end tail bytes) ≡ tail ++ back
-    = ap (drop (gate + 1)) split
-    ∙ drop_at (take end bytes) (tail ++ back) (gate + 1) (omega arith) in
-    let whole : end + length tail ≡ gate + length (1 ∷ tail) = omega arith in
-    ap (λ (f : List ℕ). f ++ 1 ∷ [] ++ drop (gate + 1) (overwritten end tail bytes)) before
-    ∙ ap (λ (r : List ℕ). take gate bytes ++ 1 ∷ [] ++ r) behind_gate
-    ∙ append_assoc (take gate bytes) (1 ∷ []) (tail ++ back)
-    ∙ sym (append_assoc (take gate bytes) (1 ∷ tail) back)
-    ∙ ap (λ (n : ℕ). take gate bytes ++ (1 ∷ tail) ++ drop n bytes) whole
+    let before : take commit_byte (overwritten end tail bytes) ≡ take commit_byte bytes
+    = ap (take commit_byte) split
+    ∙ take-append-le commit_byte (take end bytes) (tail ++ back) (omega arith)
+    ∙ take-take commit_byte end bytes (omega arith) in
+    let behind_commit_byte : drop (commit_byte + 1) (overwritten end tail bytes) ≡ tail ++ back
+    = ap (drop (commit_byte + 1)) split
+    ∙ drop_at (take end bytes) (tail ++ back) (commit_byte + 1) (omega arith) in
+    let whole : end + length tail ≡ commit_byte + length (1 ∷ tail) = omega arith in
+    ap (λ (f : List ℕ). f ++ 1 ∷ [] ++ drop (commit_byte + 1) (overwritten end tail bytes)) before
+    ∙ ap (λ (r : List ℕ). take commit_byte bytes ++ 1 ∷ [] ++ r) behind_commit_byte
+    ∙ append_assoc (take commit_byte bytes) (1 ∷ []) (tail ++ back)
+    ∙ sym (append_assoc (take commit_byte bytes) (1 ∷ tail) back)
+    ∙ ap (λ (n : ℕ). take commit_byte bytes ++ (1 ∷ tail) ++ drop n bytes) whole
 
 module _ (bytes : List ℕ) (records : List (List ℕ)) (body : List ℕ)
     (is : IsStaged bytes records body) where
@@ -129,44 +131,45 @@ module _ (bytes : List ℕ) (records : List (List ℕ)) (body : List ℕ)
 
   pub staged_body : part (behind 16 records + 5) (length body) bytes ≡ body
   staged_body =
-      let behind_gate = drop (behind 16 records + 1) bytes in
+      let behind_commit_byte = drop (behind 16 records + 1) bytes in
       let split : behind 16 records + 5 ≡ (behind 16 records + 1) + 4 = omega arith in
       let size_and_body : length (to_be_bytes w32 (length body) ++ body) ≡ 4 + length body =
       length-append (to_be_bytes w32 (length body)) body in
       ap (λ (n : ℕ). take (length body) (drop n bytes)) split
       ∙ ap (take (length body)) (sym (drop-drop 4 (behind 16 records + 1) bytes))
-      ∙ sym (drop-take 4 (length body) behind_gate)
-      ∙ ap (drop 4) (sym (take-take (4 + length body) (5 + length body) behind_gate (omega arith))
+      ∙ sym (drop-take 4 (length body) behind_commit_byte)
+      ∙ ap (drop 4)
+      (sym (take-take (4 + length body) (5 + length body) behind_commit_byte (omega arith))
       ∙ ap (take (4 + length body)) is.tail
       ∙ take_at (to_be_bytes w32 (length body) ++ body) (0 ∷ []) (4 + length body) size_and_body)
       ∙ drop_at (to_be_bytes w32 (length body)) body 4 refl
 
   staged_end : slice_index bytes (behind 16 records + 5 + length body) ≡ 0
   staged_end =
-      let behind_gate = drop (behind 16 records + 1) bytes in
+      let behind_commit_byte = drop (behind 16 records + 1) bytes in
       let split : behind 16 records + 5 + length body
       ≡ (behind 16 records + 1) + (4 + length body) = omega arith in
       let size_and_body : length (to_be_bytes w32 (length body) ++ body) ≡ 4 + length body =
       length-append (to_be_bytes w32 (length body)) body in
       ap (λ (n : ℕ). get_or bytes n 0) split
       ∙ sym (get_or-drop (behind 16 records + 1) bytes (4 + length body) 0)
-      ∙ sym (get_or-take (5 + length body) behind_gate (4 + length body) 0 (omega arith))
+      ∙ sym (get_or-take (5 + length body) behind_commit_byte (4 + length body) 0 (omega arith))
       ∙ ap (λ (t : List ℕ). get_or t (4 + length body) 0) is.tail
       ∙ get_or_at (to_be_bytes w32 (length body) ++ body) 0 [] 0 (4 + length body) size_and_body
 
   module _ (new : List ℕ) (torn : Torn (behind 16 records) (1 ∷ []) bytes new) where
-    front_same : take (behind 16 records) new ≡ take (behind 16 records) bytes
-    front_same =
+    prefix_same : take (behind 16 records) new ≡ take (behind 16 records) bytes
+    prefix_same =
         let there = is.stands.ends.there in
         let whole : min (behind 16 records) (length bytes) ≡ behind 16 records = omega arith in
         rw whole at (torn_before (behind 16 records) (1 ∷ []) bytes new torn)
 
     -- the gate is still closed
-    pub gate_shut : slice_index new (behind 16 records) ≡ 0 → StandsFor new records
-    gate_shut shut = record {
-      begins = header_kept (behind 16 records) bytes new front_same (behind_later 16 records)
+    pub commit_byte_shut : slice_index new (behind 16 records) ≡ 0 → Represents new records
+    commit_byte_shut shut = record {
+      begins = header_kept (behind 16 records) bytes new prefix_same (behind_later 16 records)
           is.stands.begins;
-      holds = records_kept (behind 16 records) 16 records bytes new front_same
+      holds = records_kept (behind 16 records) 16 records bytes new prefix_same
           (omega arith) is.stands.holds;
       ends = record {
         there = (let there = is.stands.ends.there in let longer =
@@ -176,55 +179,63 @@ module _ (bytes : List ℕ) (records : List (List ℕ)) (body : List ℕ)
     }
 
     -- the gate is open
-    pub gate_open : 1 ≤ length body → length body ≤ 131072 → slice_index new (behind 16 records) ≢ 0
-        → StandsFor new (records ++ body ∷ [])
-    gate_open some few opened =
-        let gate = behind 16 records in
-        let there : gate + (5 + length body) < length bytes = staged_length in
+    pub commit_byte_open : 1 ≤ length body → length body ≤ 131072
+        → slice_index new (behind 16 records) ≢ 0
+        → Represents new (records ++ body ∷ [])
+    commit_byte_open some few opened =
+        let commit_byte = behind 16 records in
+        let there : commit_byte + (5 + length body) < length bytes = staged_length in
         let longer = torn.no_shorter in
-        let after : take (length bytes - (gate + 1)) (drop (gate + 1) new) ≡ drop (gate + 1) bytes
-        = torn_after gate (1 ∷ []) bytes new torn in
+        let after : take (length bytes - (commit_byte + 1)) (drop (commit_byte + 1) new)
+        ≡ drop (commit_byte + 1) bytes
+        = torn_after commit_byte (1 ∷ []) bytes new torn in
         record {
-          begins = header_kept gate bytes new front_same (behind_later 16 records) is.stands.begins;
+          begins = header_kept commit_byte bytes new prefix_same (behind_later 16 records)
+              is.stands.begins;
           holds = records-append new 16 records body
-              (records_kept gate 16 records bytes new front_same (omega arith) is.stands.holds)
+              (records_kept commit_byte 16 records bytes new prefix_same (omega arith)
+              is.stands.holds)
               (record {
                 some = some;
                 few = few;
-                open_gate = opened;
-                size = part_after (gate + 1) (gate + 1) 4 bytes new after (omega arith)
+                open_commit_byte = opened;
+                size =
+                    part_after (commit_byte + 1) (commit_byte + 1) 4 bytes new after (omega arith)
                     (omega arith) ∙ staged_size;
-                body_is = part_after (gate + 1) (gate + 5) (length body) bytes new after
+                body_is =
+                    part_after (commit_byte + 1) (commit_byte + 5) (length body) bytes new after
                     (omega arith) (omega arith) ∙ staged_body;
               });
           ends = subst (λ (place : ℕ). IsClosedAt new place) (sym (behind-append 16 records body))
               (record {
                 there = omega arith;
-                shut = byte_after (gate + 1) (gate + 5 + length body) bytes new after
+                shut = byte_after (commit_byte + 1) (commit_byte + 5 + length body) bytes new after
                     (omega arith) (omega arith) ∙ staged_end;
               });
         }
 
     -- however the write of the gate is torn
-    pub torn_gate : 1 ≤ length body → length body ≤ 131072 → StandsForEither records body new
-    torn_gate some few = elim (cases_eq (slice_index new (behind 16 records)) 0) [
-      | inl shut ↦ inl (gate_shut shut)
-      | inr opened ↦ inr (gate_open some few opened)
+    pub torn_commit_byte : 1 ≤ length body → length body ≤ 131072
+        → RepresentsEither records body new
+    torn_commit_byte some few = elim (cases_eq (slice_index new (behind 16 records)) 0) [
+      | inl shut ↦ inl (commit_byte_shut shut)
+      | inr opened ↦ inr (commit_byte_open some few opened)
     ]
 
   -- after the second write
   pub opened : (new : List ℕ) → 1 ≤ length body → length body ≤ 131072
       → new ≡ overwritten (behind 16 records) (1 ∷ []) bytes
-      → StandsFor new (records ++ body ∷ [])
+      → Represents new (records ++ body ∷ [])
   opened new some few new_is =
-      let gate = behind 16 records in
+      let commit_byte = behind 16 records in
       let there = is.stands.ends.there in
-      let front : length (take gate bytes) ≡ gate = simp length-take (omega arith) in
-      let one : slice_index (overwritten gate (1 ∷ []) bytes) gate ≡ 1
-      = rw (append_assoc (take gate bytes) (1 ∷ []) (drop (gate + 1) bytes))
-      (get_or_at (take gate bytes) 1 (drop (gate + 1) bytes) 0 gate front) in
-      subst (λ (c : List ℕ). StandsFor c (records ++ body ∷ [])) (sym new_is)
-      (gate_open (overwritten gate (1 ∷ []) bytes) (torn_all gate (1 ∷ []) bytes) some few
+      let prefix : length (take commit_byte bytes) ≡ commit_byte = simp length-take (omega arith) in
+      let one : slice_index (overwritten commit_byte (1 ∷ []) bytes) commit_byte ≡ 1
+      = rw (append_assoc (take commit_byte bytes) (1 ∷ []) (drop (commit_byte + 1) bytes))
+      (get_or_at (take commit_byte bytes) 1 (drop (commit_byte + 1) bytes) 0 commit_byte prefix) in
+      subst (λ (c : List ℕ). Represents c (records ++ body ∷ [])) (sym new_is)
+      (commit_byte_open (overwritten commit_byte (1 ∷ []) bytes)
+      (torn_all commit_byte (1 ∷ []) bytes) some few
       (λ (shut : _ ≡ 0). let wrong : 1 ≡ 0 = sym one ∙ shut in cc))
 
 -- A new file, after its first write.

@@ -5,45 +5,45 @@ use Rattle.std.proofs.Common.{option_map, sym, ap, ◌∙◌, subst}
 use Rattle.disk_core.specs.Moments.{LeavesOnly}
 use Rattle.disk_core.specs.declared.disk.Disk.{Ghosts}
 use Rattle.disk_core.proofs.Moments.{started}
-use Rattle.journal_core.specs.Format.{StandsFor, StandsForEither, records_of}
-use Rattle.journal_core.specs.Settled.{IsSettled}
-use Rattle.journal_core.specs.Words.{AllStandFor}
-use Rattle.journal_core.proofs.Told.{of_records}
+use Rattle.journal_core.specs.Format.{Represents, RepresentsEither, records_of}
+use Rattle.journal_core.specs.Durable.{IsDurable}
+use Rattle.journal_core.specs.Words.{AllRepresent}
+use Rattle.journal_core.proofs.Modelled.{of_records}
 
 some_records : (x y : List (List ℕ)) → Some x ≡ Some y → x ≡ y
 some_records x y is = cc
 
 -- every image stands for the old records and the new one
-pub all_kept : {D : Type 0} (g : Ghosts D) (disk : D) (told : Option (List ℕ))
+pub all_kept : {D : Type 0} (g : Ghosts D) (disk : D) (contents : Option (List ℕ))
     (old : Option (List (List ℕ))) (body other : List ℕ)
-    → option_map records_of told ≡ option_map (λ list. list ++ body ∷ []) old → body ≡ other
-    → IfSome told (λ b. AllStandFor g disk (records_of b))
-    → IfSome old (λ list. AllStandFor g disk (list ++ other ∷ []))
-all_kept {D} g disk told None body other news is all = tt
+    → option_map records_of contents ≡ option_map (λ list. list ++ body ∷ []) old → body ≡ other
+    → IfSome contents (λ b. AllRepresent g disk (records_of b))
+    → IfSome old (λ list. AllRepresent g disk (list ++ other ∷ []))
+all_kept {D} g disk contents None body other news is all = tt
 all_kept {D} g disk None (Some list) body other news is all =
     let wrong : None ≡ Some (list ++ body ∷ []) = news in cc
 all_kept {D} g disk (Some b) (Some list) body other news is all =
-    subst (AllStandFor g disk) (some_records _ _ news
+    subst (AllRepresent g disk) (some_records _ _ news
     ∙ ap (λ (last : List ℕ). list ++ last ∷ []) is) all
 
 -- a journal whose disk had no call
 module _ {D : Type 0} (g : Ghosts D) (disk : D) (end : ℕ) (body : List ℕ)
-    (settled : (b : List ℕ) → g.told disk ≡ Some b → IsSettled b (g.may_leave disk) end) where
-  stands_now : (b : List ℕ) → g.told disk ≡ Some b → (c : List ℕ) → g.may_leave disk c
-      → StandsForEither (records_of b) body c
-  stands_now b told c left =
-      let was = settled b told in
-      inl (subst (λ (bytes : List ℕ). StandsFor bytes (records_of b)) (sym (was.only c left))
+    (settled : (b : List ℕ) → g.contents disk ≡ Some b → IsDurable b (g.may_leave disk) end) where
+  stands_now : (b : List ℕ) → g.contents disk ≡ Some b → (c : List ℕ) → g.may_leave disk c
+      → RepresentsEither (records_of b) body c
+  stands_now b contents c left =
+      let was = settled b contents in
+      inl (subst (λ (bytes : List ℕ). Represents bytes (records_of b)) (sym (was.only c left))
       was.stands)
 
   pub untouched_moment : ((c : List ℕ) → g.left_since disk (g.moment disk) c → g.may_leave disk c)
-      → IfSome (option_map records_of (g.told disk)) (λ list. LeavesOnly g disk disk
-      (StandsForEither list body))
+      → IfSome (option_map records_of (g.contents disk)) (λ list. LeavesOnly g disk disk
+      (RepresentsEither list body))
   untouched_moment only_now = of_records (λ list. LeavesOnly g disk disk
-      (StandsForEither list body)) (g.told disk)
-      (λ b told. started g disk _ only_now (stands_now b told))
+      (RepresentsEither list body)) (g.contents disk)
+      (λ b contents. started g disk _ only_now (stands_now b contents))
 
-  pub untouched_after : IfSome (option_map records_of (g.told disk)) (λ list. (c : List ℕ)
-      → g.may_leave disk c → StandsForEither list body c)
+  pub untouched_after : IfSome (option_map records_of (g.contents disk)) (λ list. (c : List ℕ)
+      → g.may_leave disk c → RepresentsEither list body c)
   untouched_after = of_records (λ list. (c : List ℕ) → g.may_leave disk c
-      → StandsForEither list body c) (g.told disk) stands_now
+      → RepresentsEither list body c) (g.contents disk) stands_now

@@ -4,17 +4,17 @@ use Rattle.std.proofs.Common.{IfSome, option_map, refl, ap, sym, ◌∙◌, subs
 use Rattle.std.proofs.lemmas.List.{append-nil, drop_all}
 use Rattle.disk_core.specs.Disk.{overwritten, Only}
 use Rattle.disk_core.specs.declared.disk.Disk.{Ghosts}
-use Rattle.journal_core.specs.Format.{header, behind, StandsFor, record_bytes, new_file_of}
+use Rattle.journal_core.specs.Format.{header, behind, Represents, record_bytes, new_file_of}
 use Rattle.journal_core.specs.Format.{records_of}
-use Rattle.journal_core.specs.Settled.{IsSettled}
-use Rattle.journal_core.specs.Words.{AllStandFor}
+use Rattle.journal_core.specs.Durable.{IsDurable}
+use Rattle.journal_core.specs.Words.{AllRepresent}
 use Rattle.journal_core.proofs.Records.{records_of-stands}
 use Rattle.journal_core.proofs.Append.{first_staged, opened}
-use Rattle.journal_core.proofs.Told.{at_told, told_before, of_records}
+use Rattle.journal_core.proofs.Modelled.{at_contents, contents_before, of_records}
 
 -- the bytes of a new file of one record
 pub first_stands : (first b : List ℕ) → 1 ≤ length first → length first ≤ 131072
-    → b ≡ overwritten 16 (1 ∷ []) (overwritten 0 (new_file_of first) []) → StandsFor b (first ∷ [])
+    → b ≡ overwritten 16 (1 ∷ []) (overwritten 0 (new_file_of first) []) → Represents b (first ∷ [])
 first_stands first b some few is =
     let whole : overwritten 0 (new_file_of first) [] ≡ new_file_of first
     = ap (λ (rest : List ℕ). new_file_of first ++ rest)
@@ -32,68 +32,70 @@ first_written first =
     ∙ ap (overwritten 16 (1 ∷ [])) (append-nil (new_file_of first))
 
 module _ {D : Type 0} (g : Ghosts D) (old new : D) (first piece : List ℕ)
-    (empty : IfSome (g.told old) (λ b. b ≡ []))
+    (empty : IfSome (g.contents old) (λ b. b ≡ []))
     (piece_is : piece ≡ new_file_of first) (some : 1 ≤ length first) (few : length first ≤ 131072)
-    (written : g.told new ≡ option_map (λ b. overwritten 16 (1 ∷ []) (overwritten 0 piece b))
-    (g.told old))
-    (durable : IfSome (g.told new) (λ b. Only b (g.may_leave new))) where
-  started_stands : (b : List ℕ) → g.told new ≡ Some b → StandsFor b (first ∷ [])
-  started_stands b told =
-      let (was, told_old, b_is) = told_before (g.told old) (g.told new)
-      (λ (b : List ℕ). overwritten 16 (1 ∷ []) (overwritten 0 piece b)) b written told in
-      let none : was ≡ [] = at_told (λ (b : List ℕ). b ≡ []) (g.told old) was told_old empty in
+    (written : g.contents new ≡ option_map (λ b. overwritten 16 (1 ∷ []) (overwritten 0 piece b))
+    (g.contents old))
+    (durable : IfSome (g.contents new) (λ b. Only b (g.may_leave new))) where
+  started_stands : (b : List ℕ) → g.contents new ≡ Some b → Represents b (first ∷ [])
+  started_stands b contents =
+      let (was, contents_old, b_is) = contents_before (g.contents old) (g.contents new)
+      (λ (b : List ℕ). overwritten 16 (1 ∷ []) (overwritten 0 piece b)) b written contents in
+      let none : was ≡ [] =
+      at_contents (λ (b : List ℕ). b ≡ []) (g.contents old) was contents_old empty in
       first_stands first b some few (b_is
       ∙ ap (λ (b : List ℕ). overwritten 16 (1 ∷ []) (overwritten 0 piece b)) none
       ∙ ap (λ (p : List ℕ). overwritten 16 (1 ∷ []) (overwritten 0 p [])) piece_is)
 
-  pub started_settled : (b : List ℕ) → g.told new ≡ Some b
-      → IsSettled b (g.may_leave new) (length first + 22)
-  started_settled b told =
-      let stands = started_stands b told in
+  pub started_durable : (b : List ℕ) → g.contents new ≡ Some b
+      → IsDurable b (g.may_leave new) (length first + 22)
+  started_durable b contents =
+      let stands = started_stands b contents in
       let same : records_of b ≡ first ∷ [] = records_of-stands b _ stands in
       record {
-        stands = subst (λ (list : List (List ℕ)). StandsFor b list) (sym same) stands;
+        stands = subst (λ (list : List (List ℕ)). Represents b list) (sym same) stands;
         end_is = subst (λ (list : List (List ℕ)). length first + 22 ≡ behind 16 list + 1) (sym same)
             (omega arith);
-        only = at_told (λ (bytes : List ℕ). Only bytes (g.may_leave new))
-            (g.told new) b told durable;
+        only = at_contents (λ (bytes : List ℕ). Only bytes (g.may_leave new))
+            (g.contents new) b contents durable;
       }
 
-  pub started_written : g.told new ≡ option_map (λ _. header ++ record_bytes first) (g.told old)
-  started_written = go (g.told old) refl
+  pub started_written : g.contents new
+      ≡ option_map (λ _. header ++ record_bytes first) (g.contents old)
+  started_written = go (g.contents old) refl
     where
-      go : (was : Option (List ℕ)) → g.told old ≡ was
-          → g.told new ≡ option_map (λ _. header ++ record_bytes first) was
+      go : (was : Option (List ℕ)) → g.contents old ≡ was
+          → g.contents new ≡ option_map (λ _. header ++ record_bytes first) was
       go None is = written
           ∙ ap (option_map (λ (b : List ℕ). overwritten 16 (1 ∷ []) (overwritten 0 piece b))) is
       go (Some b) is =
-          let none : b ≡ [] = at_told (λ (b : List ℕ). b ≡ []) (g.told old) b is empty in
+          let none : b ≡ [] = at_contents (λ (b : List ℕ). b ≡ []) (g.contents old) b is empty in
           written
           ∙ ap (option_map (λ (b : List ℕ). overwritten 16 (1 ∷ []) (overwritten 0 piece b))) is
           ∙ ap (λ (b : List ℕ). Some (overwritten 16 (1 ∷ []) (overwritten 0 piece b))) none
           ∙ ap (λ (p : List ℕ). Some (overwritten 16 (1 ∷ []) (overwritten 0 p []))) piece_is
           ∙ ap Some (first_written first)
 
-  pub started_all : IfSome (option_map records_of (g.told new)) (AllStandFor g new)
-  started_all = of_records (AllStandFor g new) (g.told new) (λ b told. let is =
-      started_settled b told in
-      λ c left. subst (λ (bytes : List ℕ). StandsFor bytes (records_of b))
+  pub started_all : IfSome (option_map records_of (g.contents new)) (AllRepresent g new)
+  started_all = of_records (AllRepresent g new) (g.contents new) (λ b contents. let is =
+      started_durable b contents in
+      λ c left. subst (λ (bytes : List ℕ). Represents bytes (records_of b))
       (sym (is.only c left)) is.stands)
 
-  pub started_records : option_map records_of (g.told new)
-      ≡ option_map (λ _. first ∷ []) (g.told old)
-  started_records = go (g.told old) refl
+  pub started_records : option_map records_of (g.contents new)
+      ≡ option_map (λ _. first ∷ []) (g.contents old)
+  started_records = go (g.contents old) refl
     where
-      go : (was : Option (List ℕ)) → g.told old ≡ was
-          → option_map records_of (g.told new) ≡ option_map (λ _. first ∷ []) (g.told old)
+      go : (was : Option (List ℕ)) → g.contents old ≡ was
+          → option_map records_of (g.contents new) ≡ option_map (λ _. first ∷ []) (g.contents old)
       go None is =
-          let none : g.told new ≡ None = written
+          let none : g.contents new ≡ None = written
           ∙ ap (option_map (λ (b : List ℕ). overwritten 16 (1 ∷ []) (overwritten 0 piece b)))
           is in
           rw (none, is) refl
       go (Some bytes) is =
           let now : List ℕ = overwritten 16 (1 ∷ []) (overwritten 0 piece bytes) in
-          let told : g.told new ≡ Some now = written
+          let contents : g.contents new ≡ Some now = written
           ∙ ap (option_map (λ (b : List ℕ). overwritten 16 (1 ∷ []) (overwritten 0 piece b)))
           is in
-          rw (told, is) (ap Some (records_of-stands now _ (started_stands now told)))
+          rw (contents, is) (ap Some (records_of-stands now _ (started_stands now contents)))

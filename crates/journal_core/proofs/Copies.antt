@@ -7,9 +7,9 @@ use Rattle.std.specs.Io.KnownBytes.{Appends}
 use Rattle.std.proofs.KnownBytes.{Appends-trans, Appends-nil}
 use Rattle.std.proofs.Math.Seq.{take-add}
 use Rattle.std.proofs.lemmas.List.{drop-drop}
-use Rattle.byte_forms.specs.Types.{Text}
-use Rattle.byte_forms.specs.Places.{IsBytes}
-use Rattle.byte_forms.proofs.Steps.{IsBytes-drop, IsBytes-take}
+use Rattle.byte_formats.specs.Types.{Text}
+use Rattle.byte_formats.specs.Places.{IsBytes}
+use Rattle.byte_formats.proofs.Steps.{IsBytes-drop, IsBytes-take}
 use Rattle.disk_core.specs.Disk.{part}
 use Rattle.journal_core.specs.Copies.{sized, sized_text}
 use Rattle.journal_core.specs.Ends.{StandBetween}
@@ -20,7 +20,8 @@ use Rattle.mtc_io.proofs.Streams.{prefix_more, prefix_whole}
 
 -- ---- facts where a disk tells its bytes
 
-pub any_some : {X : Type 0} (P : X → Type 0) (told : Option X) → ((x : X) → P x) → IfSome told P
+pub any_some : {X : Type 0} (P : X → Type 0) (contents : Option X) → ((x : X) → P x)
+    → IfSome contents P
 any_some P None is = tt
 any_some P (Some x) is = is x
 
@@ -35,9 +36,9 @@ pub prefix_none : (a : Option (List ℕ)) (xs : List ℕ) → AppendsPrefix a a 
 prefix_none a xs = (0, Appends-nil a)
 
 -- a prefix of the front
-pub prefix_front : (a b : Option (List ℕ)) (xs ys : List ℕ) → AppendsPrefix a b xs
+pub prefix_of_prefix : (a b : Option (List ℕ)) (xs ys : List ℕ) → AppendsPrefix a b xs
     → AppendsPrefix a b (xs ++ ys)
-prefix_front a b xs ys is = prefix_more a a b [] xs ys (Appends-nil a) is
+prefix_of_prefix a b xs ys is = prefix_more a a b [] xs ys (Appends-nil a) is
 
 -- the front, and a prefix of what is behind it
 pub prefix_behind : (a b c : Option (List ℕ)) (xs ys : List ℕ) → Appends a b xs
@@ -78,13 +79,14 @@ part_whole place done more bytes a b c first second =
     (Appends-trans a b c _ _ first second)
 
 -- The same of the bytes that a disk tells, also after it was looked at.
-module _ (told later : Option Text) (same : later ≡ told) (place done more count : ℕ)
-    (a b c : Option (List ℕ)) (first : IfSome told (λ bytes. Appends a b (part place done bytes)))
+module _ (contents later : Option Text) (same : later ≡ contents) (place done more count : ℕ)
+    (a b c : Option (List ℕ))
+    (first : IfSome contents (λ bytes. Appends a b (part place done bytes)))
   where
-    pub told_prefix : done + more ≤ count
+    pub contents_prefix : done + more ≤ count
         → IfSome later (λ bytes. AppendsPrefix b c (part (place + done) more bytes))
-        → IfSome told (λ bytes. AppendsPrefix a c (part place count bytes))
-    told_prefix within second = go told first
+        → IfSome contents (λ bytes. AppendsPrefix a c (part place count bytes))
+    contents_prefix within second = go contents first
         (subst (λ (o : Option Text). IfSome o (λ bytes. AppendsPrefix b c
         (part (place + done) more bytes))) same second)
       where
@@ -94,9 +96,9 @@ module _ (told later : Option Text) (same : later ≡ told) (place done more cou
         go None p q = tt
         go (Some bytes) p q = part_prefix place done more count bytes a b c within p q
 
-    pub told_whole : IfSome later (λ bytes. Appends b c (part (place + done) more bytes))
-        → IfSome told (λ bytes. Appends a c (part place (done + more) bytes))
-    told_whole second = go told first
+    pub contents_whole : IfSome later (λ bytes. Appends b c (part (place + done) more bytes))
+        → IfSome contents (λ bytes. Appends a c (part place (done + more) bytes))
+    contents_whole second = go contents first
         (subst (λ (o : Option Text). IfSome o (λ bytes. Appends b c
         (part (place + done) more bytes))) same second)
       where
@@ -109,56 +111,59 @@ module _ (told later : Option Text) (same : later ≡ told) (place done more cou
 -- ---- records
 
 -- The part of the file that a record of an export is.
-pub record_part : (bytes body : Text) (gate : ℕ) → IsRecordAt bytes gate body
-    → part (gate + 1) (4 + length body) bytes ≡ sized body
-record_part bytes body gate is =
-    part-more (gate + 1) 4 (length body) bytes
-    ∙ ap (λ (size : Text). size ++ part (gate + 1 + 4) (length body) bytes) is.size
+pub record_part : (bytes body : Text) (commit_byte : ℕ) → IsRecordAt bytes commit_byte body
+    → part (commit_byte + 1) (4 + length body) bytes ≡ sized body
+record_part bytes body commit_byte is =
+    part-more (commit_byte + 1) 4 (length body) bytes
+    ∙ ap (λ (size : Text). size ++ part (commit_byte + 1 + 4) (length body) bytes) is.size
     ∙ ap (λ (rest : Text). to_be_bytes w32 (length body) ++ rest)
-    (let same : gate + 1 + 4 ≡ gate + 5 = omega arith in
+    (let same : commit_byte + 1 + 4 ≡ commit_byte + 5 = omega arith in
     ap (λ (n : ℕ). part n (length body) bytes) same ∙ is.body_is)
 
 -- a fact of the record at a gate that ends before an end, in the bytes that a disk tells
 abbrev pub AtRecord : Option Text → ℕ → ℕ → (Text → Type 0) → Type 0
-AtRecord told gate end P = IfSome told (λ bytes. (body : Text) → IsRecordAt bytes gate body
-    → gate + 6 + length body ≤ end → P body)
+AtRecord contents commit_byte end P =
+    IfSome contents (λ bytes. (body : Text) → IsRecordAt bytes commit_byte body
+    → commit_byte + 6 + length body ≤ end → P body)
 
 -- What was written of the part is written of the record.
-pub record_of_part : (P : Text → Type 0) (told later : Option Text) → later ≡ told
-    → (gate end size : ℕ) → AtRecord told gate end (λ body. size ≡ length body)
-    → IfSome later (λ bytes. P (part (gate + 1) (4 + size) bytes))
-    → AtRecord told gate end (λ body. P (sized body))
-record_of_part P told later same gate end size long is = go told long
-    (subst (λ (o : Option Text). IfSome o (λ bytes. P (part (gate + 1) (4 + size) bytes))) same is)
+pub record_of_part : (P : Text → Type 0) (contents later : Option Text) → later ≡ contents
+    → (commit_byte end size : ℕ) → AtRecord contents commit_byte end (λ body. size ≡ length body)
+    → IfSome later (λ bytes. P (part (commit_byte + 1) (4 + size) bytes))
+    → AtRecord contents commit_byte end (λ body. P (sized body))
+record_of_part P contents later same commit_byte end size long is = go contents long
+    (subst (λ (o : Option Text). IfSome o (λ bytes. P (part (commit_byte + 1) (4 + size) bytes)))
+    same is)
   where
-    go : (o : Option Text) → AtRecord o gate end (λ body. size ≡ length body)
-        → IfSome o (λ bytes. P (part (gate + 1) (4 + size) bytes))
-        → AtRecord o gate end (λ body. P (sized body))
+    go : (o : Option Text) → AtRecord o commit_byte end (λ body. size ≡ length body)
+        → IfSome o (λ bytes. P (part (commit_byte + 1) (4 + size) bytes))
+        → AtRecord o commit_byte end (λ body. P (sized body))
     go None long is = tt
     go (Some bytes) long is = λ body there within.
-        subst P (record_part bytes body gate there)
-        (subst (λ (n : ℕ). P (part (gate + 1) (4 + n) bytes)) (long body there within) is)
+        subst P (record_part bytes body commit_byte there)
+        (subst (λ (n : ℕ). P (part (commit_byte + 1) (4 + n) bytes)) (long body there within) is)
 
 -- nothing was written of any record
-pub record_none : (told : Option Text) (gate end : ℕ) (a : Option (List ℕ))
-    → AtRecord told gate end (λ body. AppendsPrefix a a (sized body))
-record_none None gate end a = tt
-record_none (Some bytes) gate end a = λ body there within. prefix_none a (sized body)
+pub record_none : (contents : Option Text) (commit_byte end : ℕ) (a : Option (List ℕ))
+    → AtRecord contents commit_byte end (λ body. AppendsPrefix a a (sized body))
+record_none None commit_byte end a = tt
+record_none (Some bytes) commit_byte end a = λ body there within. prefix_none a (sized body)
 
 -- Up to this gate the records were written; these are left.
-pub record IsCopied (bytes whole : Text) (gate end : ℕ) (old now : Option Text) : Type 0 where
+pub record IsCopied (bytes whole : Text) (commit_byte end : ℕ) (old now : Option Text) : Type
+    0 where
   pub written : Text
   pub rest : List Text
-  pub there : AreRecordsAt bytes gate rest
-  pub last : end ≡ behind gate rest + 1
+  pub there : AreRecordsAt bytes commit_byte rest
+  pub last : end ≡ behind commit_byte rest + 1
   pub appended : Appends old now written
   pub made : written ++ sized_text rest ≡ whole
 
 -- none was written yet
-pub copied_none : (bytes : Text) (bodies : List Text) (gate end : ℕ) (a : Option Text)
-    → AreRecordsAt bytes gate bodies → end ≡ behind gate bodies + 1
-    → IsCopied bytes (sized_text bodies) gate end a a
-copied_none bytes bodies gate end a there last = record {
+pub copied_none : (bytes : Text) (bodies : List Text) (commit_byte end : ℕ) (a : Option Text)
+    → AreRecordsAt bytes commit_byte bodies → end ≡ behind commit_byte bodies + 1
+    → IsCopied bytes (sized_text bodies) commit_byte end a a
+copied_none bytes bodies commit_byte end a there last = record {
   written = [];
   rest = bodies;
   there = there;
@@ -168,48 +173,51 @@ copied_none bytes bodies gate end a there last = record {
 }
 
 -- all were written
-pub copied_all : (bytes whole : Text) (gate end : ℕ) (a b : Option Text)
-    → end - gate < 6 → IsCopied bytes whole gate end a b → Appends a b whole
-copied_all bytes whole gate end a b few is = go is.rest is.last is.made
+pub copied_all : (bytes whole : Text) (commit_byte end : ℕ) (a b : Option Text)
+    → end - commit_byte < 6 → IsCopied bytes whole commit_byte end a b → Appends a b whole
+copied_all bytes whole commit_byte end a b few is = go is.rest is.last is.made
   where
-    go : (rest : List Text) → end ≡ behind gate rest + 1
+    go : (rest : List Text) → end ≡ behind commit_byte rest + 1
         → is.written ++ sized_text rest ≡ whole → Appends a b whole
     go [] last made = subst (Appends a b) (sym (append-nil is.written) ∙ made) is.appended
     go (body ∷ rest) last made =
-        let later = behind_later (gate + 5 + length body) rest in absurd (omega arith)
+        let later = behind_later (commit_byte + 5 + length body) rest in absurd (omega arith)
 
-module _ (bytes whole : Text) (gate end : ℕ) (a b c : Option Text) (some : 6 ≤ end - gate) where
+module _ (bytes whole : Text) (commit_byte end : ℕ) (a b c : Option Text)
+    (some : 6 ≤ end - commit_byte) where
   -- a prefix of one record more
-  pub copied_prefix : IsCopied bytes whole gate end a b
-      → ((body : Text) → IsRecordAt bytes gate body → gate + 6 + length body ≤ end
+  pub copied_prefix : IsCopied bytes whole commit_byte end a b
+      → ((body : Text) → IsRecordAt bytes commit_byte body → commit_byte + 6 + length body ≤ end
       → AppendsPrefix b c (sized body))
       → AppendsPrefix a c whole
   copied_prefix is more = go is.rest is.there is.last is.made
     where
-      go : (rest : List Text) → AreRecordsAt bytes gate rest → end ≡ behind gate rest + 1
+      go : (rest : List Text) → AreRecordsAt bytes commit_byte rest
+          → end ≡ behind commit_byte rest + 1
           → is.written ++ sized_text rest ≡ whole → AppendsPrefix a c whole
       go [] there last made = absurd (omega arith)
       go (body ∷ rest) there last made =
-          let later = behind_later (gate + 5 + length body) rest in
+          let later = behind_later (commit_byte + 5 + length body) rest in
           subst (AppendsPrefix a c) made
           (prefix_more a b c is.written (sized body) (sized_text rest) is.appended
           (more body there.0 (omega arith)))
 
   -- one record more
-  pub copied_more : (next : ℕ) → IsCopied bytes whole gate end a b
-      → ((body : Text) → IsRecordAt bytes gate body → gate + 6 + length body ≤ end
-      → next ≡ gate + 5 + length body)
-      → ((body : Text) → IsRecordAt bytes gate body → gate + 6 + length body ≤ end
+  pub copied_more : (next : ℕ) → IsCopied bytes whole commit_byte end a b
+      → ((body : Text) → IsRecordAt bytes commit_byte body → commit_byte + 6 + length body ≤ end
+      → next ≡ commit_byte + 5 + length body)
+      → ((body : Text) → IsRecordAt bytes commit_byte body → commit_byte + 6 + length body ≤ end
       → Appends b c (sized body))
       → IsCopied bytes whole next end a c
   copied_more next is far more = go is.rest is.there is.last is.made
     where
-      go : (rest : List Text) → AreRecordsAt bytes gate rest → end ≡ behind gate rest + 1
+      go : (rest : List Text) → AreRecordsAt bytes commit_byte rest
+          → end ≡ behind commit_byte rest + 1
           → is.written ++ sized_text rest ≡ whole → IsCopied bytes whole next end a c
       go [] there last made = absurd (omega arith)
       go (body ∷ rest) there last made =
-          let later = behind_later (gate + 5 + length body) rest in
-          let here : next ≡ gate + 5 + length body = far body there.0 (omega arith) in
+          let later = behind_later (commit_byte + 5 + length body) rest in
+          let here : next ≡ commit_byte + 5 + length body = far body there.0 (omega arith) in
           record {
             written = is.written ++ sized body;
             rest = rest;
@@ -221,76 +229,79 @@ module _ (bytes whole : Text) (gate end : ℕ) (a b c : Option Text) (some : 6 �
 
 -- a fact of the records from a gate to an end, in the bytes that a disk tells
 abbrev pub OfRecords : Option Text → ℕ → ℕ → (Text → List Text → Type 0) → Type 0
-OfRecords told first end P = IfSome told (λ bytes. (bodies : List Text)
+OfRecords contents first end P = IfSome contents (λ bytes. (bodies : List Text)
     → AreRecordsAt bytes first bodies → end ≡ behind first bodies + 1 → P bytes bodies)
 
 -- the same from the end behind the gate on
-pub between : (told : Option Text) (from end : ℕ) (P : List Text → Type 0)
-    → OfRecords told (from - 1) end (λ bytes bodies. P bodies)
-    → IfSome told (λ bytes. (bodies : List Text) → StandBetween bytes from end bodies → P bodies)
+pub between : (contents : Option Text) (from end : ℕ) (P : List Text → Type 0)
+    → OfRecords contents (from - 1) end (λ bytes bodies. P bodies)
+    → IfSome contents
+    (λ bytes. (bodies : List Text) → StandBetween bytes from end bodies → P bodies)
 between None from end P is = tt
 between (Some bytes) from end P is = λ bodies stand. is bodies stand.0 stand.1
 
-pub records_none : (told : Option Text) (first end : ℕ) (a : Option (List ℕ))
-    → OfRecords told first end
+pub records_none : (contents : Option Text) (first end : ℕ) (a : Option (List ℕ))
+    → OfRecords contents first end
     (λ bytes bodies. IsCopied bytes (sized_text bodies) first end a a)
 records_none None first end a = tt
 records_none (Some bytes) first end a = λ bodies there last.
     copied_none bytes bodies first end a there last
 
-pub records_all : (told : Option Text) (first gate end : ℕ) (a b : Option (List ℕ))
-    → end - gate < 6 → OfRecords told first end
-    (λ bytes bodies. IsCopied bytes (sized_text bodies) gate end a b)
-    → OfRecords told first end (λ bytes bodies. Appends a b (sized_text bodies))
-records_all None first gate end a b few is = tt
-records_all (Some bytes) first gate end a b few is = λ bodies there last.
-    copied_all bytes (sized_text bodies) gate end a b few (is bodies there last)
+pub records_all : (contents : Option Text) (first commit_byte end : ℕ) (a b : Option (List ℕ))
+    → end - commit_byte < 6 → OfRecords contents first end
+    (λ bytes bodies. IsCopied bytes (sized_text bodies) commit_byte end a b)
+    → OfRecords contents first end (λ bytes bodies. Appends a b (sized_text bodies))
+records_all None first commit_byte end a b few is = tt
+records_all (Some bytes) first commit_byte end a b few is = λ bodies there last.
+    copied_all bytes (sized_text bodies) commit_byte end a b few (is bodies there last)
 
-pub records_whole : (told : Option Text) (first end : ℕ) (a b : Option (List ℕ))
-    → OfRecords told first end (λ bytes bodies. Appends a b (sized_text bodies))
-    → OfRecords told first end (λ bytes bodies. AppendsPrefix a b (sized_text bodies))
+pub records_whole : (contents : Option Text) (first end : ℕ) (a b : Option (List ℕ))
+    → OfRecords contents first end (λ bytes bodies. Appends a b (sized_text bodies))
+    → OfRecords contents first end (λ bytes bodies. AppendsPrefix a b (sized_text bodies))
 records_whole None first end a b is = tt
 records_whole (Some bytes) first end a b is = λ bodies there last.
     prefix_whole a b (sized_text bodies) (is bodies there last)
 
-module _ (told later : Option Text) (same : later ≡ told) (first gate end : ℕ)
-    (a b c : Option (List ℕ)) (some : 6 ≤ end - gate)
-    (copied : OfRecords told first end
-    (λ bytes bodies. IsCopied bytes (sized_text bodies) gate end a b)) where
-  pub records_prefix : AtRecord later gate end (λ body. AppendsPrefix b c (sized body))
-      → OfRecords told first end (λ bytes bodies. AppendsPrefix a c (sized_text bodies))
-  records_prefix more = go told copied
-      (subst (λ (o : Option Text). AtRecord o gate end
+module _ (contents later : Option Text) (same : later ≡ contents) (first commit_byte end : ℕ)
+    (a b c : Option (List ℕ)) (some : 6 ≤ end - commit_byte)
+    (copied : OfRecords contents first end
+    (λ bytes bodies. IsCopied bytes (sized_text bodies) commit_byte end a b)) where
+  pub records_prefix : AtRecord later commit_byte end (λ body. AppendsPrefix b c (sized body))
+      → OfRecords contents first end (λ bytes bodies. AppendsPrefix a c (sized_text bodies))
+  records_prefix more = go contents copied
+      (subst (λ (o : Option Text). AtRecord o commit_byte end
       (λ body. AppendsPrefix b c (sized body))) same more)
     where
       go : (o : Option Text) → OfRecords o first end
-          (λ bytes bodies. IsCopied bytes (sized_text bodies) gate end a b)
-          → AtRecord o gate end (λ body. AppendsPrefix b c (sized body))
+          (λ bytes bodies. IsCopied bytes (sized_text bodies) commit_byte end a b)
+          → AtRecord o commit_byte end (λ body. AppendsPrefix b c (sized body))
           → OfRecords o first end (λ bytes bodies. AppendsPrefix a c (sized_text bodies))
       go None is more = tt
       go (Some bytes) is more = λ bodies there last.
-          copied_prefix bytes (sized_text bodies) gate end a b c some (is bodies there last) more
+          copied_prefix bytes (sized_text bodies) commit_byte end a b c some (is bodies there last)
+          more
 
   pub records_more : (next : ℕ)
-      → AtRecord later gate end (λ body. next ≡ gate + 5 + length body)
-      → AtRecord later gate end (λ body. Appends b c (sized body))
-      → OfRecords told first end
+      → AtRecord later commit_byte end (λ body. next ≡ commit_byte + 5 + length body)
+      → AtRecord later commit_byte end (λ body. Appends b c (sized body))
+      → OfRecords contents first end
       (λ bytes bodies. IsCopied bytes (sized_text bodies) next end a c)
-  records_more next far more = go told copied
-      (subst (λ (o : Option Text). AtRecord o gate end
-      (λ body. next ≡ gate + 5 + length body)) same far)
-      (subst (λ (o : Option Text). AtRecord o gate end
+  records_more next far more = go contents copied
+      (subst (λ (o : Option Text). AtRecord o commit_byte end
+      (λ body. next ≡ commit_byte + 5 + length body)) same far)
+      (subst (λ (o : Option Text). AtRecord o commit_byte end
       (λ body. Appends b c (sized body))) same more)
     where
       go : (o : Option Text) → OfRecords o first end
-          (λ bytes bodies. IsCopied bytes (sized_text bodies) gate end a b)
-          → AtRecord o gate end (λ body. next ≡ gate + 5 + length body)
-          → AtRecord o gate end (λ body. Appends b c (sized body))
+          (λ bytes bodies. IsCopied bytes (sized_text bodies) commit_byte end a b)
+          → AtRecord o commit_byte end (λ body. next ≡ commit_byte + 5 + length body)
+          → AtRecord o commit_byte end (λ body. Appends b c (sized body))
           → OfRecords o first end
           (λ bytes bodies. IsCopied bytes (sized_text bodies) next end a c)
       go None is far more = tt
       go (Some bytes) is far more = λ bodies there last.
-          copied_more bytes (sized_text bodies) gate end a b c some next (is bodies there last)
+          copied_more bytes (sized_text bodies) commit_byte end a b c some next
+          (is bodies there last)
           far more
 
 -- The records behind the first one stand behind the end behind it.

@@ -1,10 +1,11 @@
 -- The records before an end, in the bytes of a journal.
 use Rattle.std.proofs.Common.{◌≡◌, ℕ, ◌+◌, ◌-◌, ◌<◌, List, [], ◌∷◌, ◌++◌, length, inl, inr}
 use Rattle.std.proofs.Common.{sym, subst, arith}
-use Rattle.byte_forms.specs.Types.{Text}
-use Rattle.journal_core.specs.Ends.{AreSettled, settled_of}
-use Rattle.journal_core.specs.Format.{AreRecordsAt, StandsForEither, behind, end_behind, records_of}
-use Rattle.journal_core.specs.Settled.{IsSettled}
+use Rattle.byte_formats.specs.Types.{Text}
+use Rattle.journal_core.specs.Ends.{AreDurable, durable_of}
+use Rattle.journal_core.specs.Format.{AreRecordsAt, RepresentsEither, behind, end_behind}
+use Rattle.journal_core.specs.Format.{records_of}
+use Rattle.journal_core.specs.Durable.{IsDurable}
 use Rattle.journal_core.proofs.Records.{behind-append, records_before-are}
 
 -- the records up to an end, and a gate behind them
@@ -14,39 +15,39 @@ pub record HoldsUpTo (bytes : Text) (list : List Text) (end : ℕ) : Type 0 wher
   pub within : behind 16 list < length bytes
 
 pub settled-are : (bytes : Text) (list : List Text) (end : ℕ) → HoldsUpTo bytes list end
-    → settled_of end bytes ≡ list
+    → durable_of end bytes ≡ list
 settled-are bytes list end is =
     records_before-are bytes list (end - 1) is.there (omega (arith, is.last))
     (omega (arith, is.last, is.within))
 
-pub are_settled : (bytes : Text) (list : List Text) (end : ℕ) → HoldsUpTo bytes list end
-    → AreSettled end bytes
-are_settled bytes list end is =
+pub are_durable : (bytes : Text) (list : List Text) (end : ℕ) → HoldsUpTo bytes list end
+    → AreDurable end bytes
+are_durable bytes list end is =
     let same = sym (settled-are bytes list end is) in record {
       there = subst (AreRecordsAt bytes 16) same is.there;
       last = subst (λ (l : List Text). end ≡ end_behind l) same is.last;
     }
 
-pub of_settled : (bytes : Text) (images : Text → Type 0) (end : ℕ) → IsSettled bytes images end
+pub of_durable : (bytes : Text) (images : Text → Type 0) (end : ℕ) → IsDurable bytes images end
     → HoldsUpTo bytes (records_of bytes) end
-of_settled bytes images end is = record {
+of_durable bytes images end is = record {
   there = is.stands.holds;
   last = is.end_is;
   within = is.stands.ends.there;
 }
 
-front_there : (bytes : Text) (place : ℕ) (list : List Text) (body : Text)
+prefix_there : (bytes : Text) (place : ℕ) (list : List Text) (body : Text)
     → AreRecordsAt bytes place (list ++ body ∷ []) → AreRecordsAt bytes place list
-front_there bytes place [] body are = tt
-front_there bytes place (first ∷ list) body are =
-    (are.0, front_there bytes (place + 5 + length first) list body are.1)
+prefix_there bytes place [] body are = tt
+prefix_there bytes place (first ∷ list) body are =
+    (are.0, prefix_there bytes (place + 5 + length first) list body are.1)
 
 pub of_either : (bytes : Text) (list : List Text) (body : Text) (end : ℕ) → end ≡ end_behind list
-    → StandsForEither list body bytes → HoldsUpTo bytes list end
+    → RepresentsEither list body bytes → HoldsUpTo bytes list end
 of_either bytes list body end last (inl stands) =
     record { there = stands.holds; last = last; within = stands.ends.there }
 of_either bytes list body end last (inr stands) = record {
-  there = front_there bytes 16 list body stands.holds;
+  there = prefix_there bytes 16 list body stands.holds;
   last = last;
   within = omega (arith, behind-append 16 list body, stands.ends.there);
 }

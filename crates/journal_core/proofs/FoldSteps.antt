@@ -2,7 +2,7 @@
 use Rattle.std.proofs.Common.{◌≡◌, ◌≢◌, ℕ, false, List, [], ◌∷◌, ◌++◌, length, take, Option, Some}
 use Rattle.std.proofs.Common.{None, IfSome, option_map, Ok, Err, refl, ap, sym, ◌∙◌, subst}
 use Rattle.std.proofs.Common.{append_assoc, arith}
-use Rattle.disk_core.specs.Moments.{Looks}
+use Rattle.disk_core.specs.Moments.{OnlyReads}
 use Rattle.disk_core.specs.declared.disk.Disk.{Ghosts}
 use Rattle.journal_core.specs.Folds.{Fold, state_behind, read_by, AreRefused, IsCauseOf}
 use Rattle.journal_core.specs.Format.{header, records_before}
@@ -10,14 +10,14 @@ use Rattle.journal_core.specs.Opens.{HasReason, IsOfHeader, IsOfRecord, IsWalkTo
 use Rattle.journal_core.specs.Openings.{opening_disk, read_list, next_place, refusal, last_body}
 use Rattle.journal_core.specs.Openings.{HasRead, HasEnded, HasStepped}
 use Rattle.journal_core.specs.Readings.{HasFolded, HasFound}
-use Rattle.journal_core.specs.Walk.{FileEnd, walk_of, at_gate, at_bad_length, at_cut}
+use Rattle.journal_core.specs.Walk.{FileEnd, walk_of, at_commit_byte, at_bad_length, at_cut}
 use Rattle.journal_core.specs.declared.opening.Opening.{Opening}
 use Rattle.journal_core.specs.declared.error.OpenError.{OpenError}
 use Rattle.journal_core.specs.declared.error.OpenError.TheVariants.{NotJournal, BadLength, CutShort}
 use Rattle.journal_core.specs.declared.error.OpenError.TheVariants.{Failed, Memory}
 use Rattle.journal_core.proofs.Folds.{state_next, state_stops, state_begins, state_begins_not}
 use Rattle.journal_core.proofs.Found.{read_ends, read_none, read_bad, read_other}
-use Rattle.journal_core.proofs.Told.{if_told, at_told, if_some}
+use Rattle.journal_core.proofs.Modelled.{if_modelled, at_contents, if_some}
 use Rattle.journal_core.proofs.Walk.{records_begin}
 
 abbrev pushed : List ℕ → List (List ℕ) → List (List ℕ)
@@ -32,8 +32,8 @@ if_pushed P Q None new body is step fact =
 if_pushed P Q (Some list) new body is step fact =
     subst (λ (o : Option (List (List ℕ))). IfSome o Q) (sym is) (step list fact)
 
-all_empty : (told : Option (List ℕ)) (list : Option (List (List ℕ)))
-    → list ≡ option_map (λ _. []) told → IfSome list (λ l. l ≡ [])
+all_empty : (contents : Option (List ℕ)) (list : Option (List (List ℕ)))
+    → list ≡ option_map (λ _. []) contents → IfSome list (λ l. l ≡ [])
 all_empty None list is = subst (λ (o : Option (List (List ℕ))). IfSome o (λ l. l ≡ [])) (sym is) tt
 all_empty (Some b) list is = subst (λ (o : Option (List (List ℕ))). IfSome o (λ l. l ≡ []))
     (sym is) refl
@@ -43,14 +43,15 @@ some_is x y is = cc
 
 module _ {D : Type 0} {g : Ghosts D} {S E : Type 0} (fold : Fold S E) (old new : Opening D g) where
   -- what the disk told and the records that were read, where it tells them
-  read_at : (o : Opening D g) (b : List ℕ) → g.told (opening_disk o) ≡ Some b
+  read_at : (o : Opening D g) (b : List ℕ) → g.contents (opening_disk o) ≡ Some b
       → read_list o ≡ Some (records_before b (next_place o))
-  read_at o b told = ap (option_map (λ (bytes : List ℕ). records_before bytes (next_place o))) told
+  read_at o b contents =
+      ap (option_map (λ (bytes : List ℕ). records_before bytes (next_place o))) contents
 
-  of_list : (o : Opening D g) (b : List ℕ) → g.told (opening_disk o) ≡ Some b
+  of_list : (o : Opening D g) (b : List ℕ) → g.contents (opening_disk o) ≡ Some b
       → (P : List (List ℕ) → Type 0) → IfSome (read_list o) P → P (records_before b (next_place o))
-  of_list o b told P fact = at_told P (read_list o) (records_before b (next_place o))
-      (read_at o b told) fact
+  of_list o b contents P fact = at_contents P (read_list o) (records_before b (next_place o))
+      (read_at o b contents) fact
 
   -- ---- one record more
 
@@ -70,7 +71,8 @@ module _ {D : Type 0} {g : Ghosts D} {S E : Type 0} (fold : Fold S E) (old new :
           (λ list is. state_next fold list s body t is next) was.made;
     }
 
-    pub folded_first : (s : S) → read_list old ≡ option_map (λ _. []) (g.told (opening_disk old))
+    pub folded_first : (s : S)
+        → read_list old ≡ option_map (λ _. []) (g.contents (opening_disk old))
         → fold.begins body ≡ Some s → HasFolded fold s new
     folded_first s none is = record {
       unended = read.goes_on.0;
@@ -82,19 +84,20 @@ module _ {D : Type 0} {g : Ghosts D} {S E : Type 0} (fold : Fold S E) (old new :
           ∙ state_begins fold body s is) (all_empty _ (read_list old) none);
     }
 
-    module _ (looks : Looks g (opening_disk old) (opening_disk new)) where
+    module _ (only_reads : OnlyReads g (opening_disk old) (opening_disk new)) where
       -- the whole records of the file begin with those that were read and this one
-      walk_begins : (b : List ℕ) → g.told (opening_disk old) ≡ Some b
+      walk_begins : (b : List ℕ) → g.contents (opening_disk old) ≡ Some b
           → (rest : List (List ℕ)) × ((walk_of b).records ≡ records_before b (next_place old)
           ++ body ∷ rest)
-      walk_begins b told =
-          let told_new : g.told (opening_disk new) ≡ Some b = looks.told ∙ told in
+      walk_begins b contents =
+          let contents_new : g.contents (opening_disk new) ≡ Some b =
+          only_reads.contents ∙ contents in
           let begin = records_begin b (g.may_leave (opening_disk new)) (next_place new)
-          (new.reading b told_new) in
+          (new.reading b contents_new) in
           let more : records_before b (next_place new)
           ≡ pushed body (records_before b (next_place old))
-          = some_is _ _ (sym (read_at new b told_new) ∙ list_is
-          ∙ ap (option_map (pushed body)) (read_at old b told)) in (
+          = some_is _ _ (sym (read_at new b contents_new) ∙ list_is
+          ∙ ap (option_map (pushed body)) (read_at old b contents)) in (
             begin.0,
             begin.1 ∙ ap (λ (list : List (List ℕ)). list ++ begin.0) more
                 ∙ append_assoc (records_before b (next_place old)) (body ∷ []) begin.0,
@@ -103,48 +106,51 @@ module _ {D : Type 0} {g : Ghosts D} {S E : Type 0} (fold : Fold S E) (old new :
       -- the record with this number is not taken
       pub refused_next : (s : S) (k : ℕ) → IfSome (read_list old) (λ list. k ≡ length list)
           → HasFolded fold s old → fold.takes s body ≡ None
-          → AreRefused fold (g.told (opening_disk old)) (fold.bad_record k)
+          → AreRefused fold (g.contents (opening_disk old)) (fold.bad_record k)
       refused_next s k count was next =
-          if_told (λ (b : List ℕ). read_by fold b ≡ Err (fold.bad_record k))
-          (g.told (opening_disk old)) (λ b told.
+          if_modelled (λ (b : List ℕ). read_by fold b ≡ Err (fold.bad_record k))
+          (g.contents (opening_disk old)) (λ b contents.
           let list = records_before b (next_place old) in
-          let walk = walk_begins b told in
+          let walk = walk_begins b contents in
           let state : state_behind fold list ≡ Ok s =
-          of_list old b told (λ (l : List (List ℕ)). state_behind fold l ≡ Ok s) was.made in
-          let number : k ≡ length list = of_list old b told (λ (l : List (List ℕ)). k
+          of_list old b contents (λ (l : List (List ℕ)). state_behind fold l ≡ Ok s) was.made in
+          let number : k ≡ length list = of_list old b contents (λ (l : List (List ℕ)). k
           ≡ length l) count in
-          read_bad fold b list body walk.0 k (old.reading b told).begins walk.1
+          read_bad fold b list body walk.0 k (old.reading b contents).begins walk.1
           (state_stops fold list s body walk.0 state next ∙ ap Err (sym number)))
 
       -- the first record is not taken
-      pub refused_first : read_list old ≡ option_map (λ _. []) (g.told (opening_disk old))
+      pub refused_first : read_list old ≡ option_map (λ _. []) (g.contents (opening_disk old))
           → fold.begins body ≡ None
-          → AreRefused fold (g.told (opening_disk old)) (fold.bad_record 0)
-      refused_first none next = if_told (λ (b : List ℕ). read_by fold b ≡ Err (fold.bad_record 0))
-          (g.told (opening_disk old)) (λ b told.
+          → AreRefused fold (g.contents (opening_disk old)) (fold.bad_record 0)
+      refused_first none next =
+          if_modelled (λ (b : List ℕ). read_by fold b ≡ Err (fold.bad_record 0))
+          (g.contents (opening_disk old)) (λ b contents.
           let list = records_before b (next_place old) in
-          let walk = walk_begins b told in
-          let empty : list ≡ [] = of_list old b told (λ (l : List (List ℕ)). l
+          let walk = walk_begins b contents in
+          let empty : list ≡ [] = of_list old b contents (λ (l : List (List ℕ)). l
           ≡ []) (all_empty _ (read_list old) none) in
-          read_bad fold b [] body walk.0 0 (old.reading b told).begins (walk.1
+          read_bad fold b [] body walk.0 0 (old.reading b contents).begins (walk.1
           ∙ ap (λ (l : List (List ℕ)). l ++ body ∷ walk.0) empty)
           (state_begins_not fold body walk.0 next))
 
   -- ---- the closed gate
 
-  module _ (ended : HasEnded old new) (looks : Looks g (opening_disk old) (opening_disk new)) where
-    walk_ends : (b : List ℕ) → g.told (opening_disk new) ≡ Some b → walk_of b ≡ record {
+  module _ (ended : HasEnded old new)
+      (only_reads : OnlyReads g (opening_disk old) (opening_disk new)) where
+    walk_ends : (b : List ℕ) → g.contents (opening_disk new) ≡ Some b → walk_of b ≡ record {
       records =
           records_before b (next_place new);
-      end = at_gate;
+      end = at_commit_byte;
     }
-    walk_ends b told = of_list new b told (λ (l : List (List ℕ)). walk_of b ≡ record {
+    walk_ends b contents = of_list new b contents (λ (l : List (List ℕ)). walk_of b ≡ record {
       records =
           l;
-      end = at_gate;
+      end = at_commit_byte;
     })
-        (at_told (λ (bytes : List ℕ). IfSome (read_list new) (λ l. walk_of bytes
-        ≡ record { records = l; end = at_gate })) (g.told (opening_disk new)) b told ended.walk)
+        (at_contents (λ (bytes : List ℕ). IfSome (read_list new) (λ l. walk_of bytes
+        ≡ record { records = l; end = at_commit_byte })) (g.contents (opening_disk new)) b contents
+        ended.walk)
 
     pub found_last : (s : S) → HasFolded fold s old → HasFound fold s new
     found_last s was =
@@ -154,36 +160,38 @@ module _ {D : Type 0} {g : Ghosts D} {S E : Type 0} (fold : Fold S E) (old new :
         record {
           ended = ended.ended;
           made = made;
-          found = if_told (λ (b : List ℕ). IfSome (read_list new) (λ l. read_by fold b
-              ≡ Ok (record { records = l; state = s }))) (g.told (opening_disk new)) (λ b told.
+          found = if_modelled (λ (b : List ℕ). IfSome (read_list new) (λ l. read_by fold b
+              ≡ Ok (record { records = l; state = s }))) (g.contents (opening_disk new))
+              (λ b contents.
               subst (λ (o : Option (List (List ℕ))). IfSome o (λ l. read_by fold b
-              ≡ Ok (record { records = l; state = s }))) (sym (read_at new b told))
-              (read_ends fold b (records_before b (next_place new)) at_gate s
-              (new.reading b told).begins (walk_ends b told)
-              (of_list new b told (λ (l : List (List ℕ)). state_behind fold l ≡ Ok s) made)));
+              ≡ Ok (record { records = l; state = s }))) (sym (read_at new b contents))
+              (read_ends fold b (records_before b (next_place new)) at_commit_byte s
+              (new.reading b contents).begins (walk_ends b contents)
+              (of_list new b contents (λ (l : List (List ℕ)). state_behind fold l ≡ Ok s) made)));
           stands = ended.stands;
         }
 
-    pub missing_first : read_list old ≡ option_map (λ _. []) (g.told (opening_disk old))
-        → AreRefused fold (g.told (opening_disk old)) (fold.bad_record 0)
-    missing_first none = if_told (λ (b : List ℕ). read_by fold b ≡ Err (fold.bad_record 0))
-        (g.told (opening_disk old)) (λ b told.
-        let told_new : g.told (opening_disk new) ≡ Some b = looks.told ∙ told in
+    pub missing_first : read_list old ≡ option_map (λ _. []) (g.contents (opening_disk old))
+        → AreRefused fold (g.contents (opening_disk old)) (fold.bad_record 0)
+    missing_first none = if_modelled (λ (b : List ℕ). read_by fold b ≡ Err (fold.bad_record 0))
+        (g.contents (opening_disk old)) (λ b contents.
+        let contents_new : g.contents (opening_disk new) ≡ Some b =
+        only_reads.contents ∙ contents in
         let empty : records_before b (next_place new) ≡ []
-        = of_list new b told_new (λ (l : List (List ℕ)). l
+        = of_list new b contents_new (λ (l : List (List ℕ)). l
         ≡ []) (subst (λ (o : Option (List (List ℕ))). IfSome o (λ l. l ≡ [])) (sym ended.list)
         (all_empty _ (read_list old) none)) in
-        read_none fold b at_gate (old.reading b told).begins
+        read_none fold b at_commit_byte (old.reading b contents).begins
         (subst (λ (l : List (List ℕ)). walk_of b ≡ record {
           records = l;
           end =
-              at_gate;
-        }) empty (walk_ends b told_new)))
+              at_commit_byte;
+        }) empty (walk_ends b contents_new)))
 
   -- ---- the journal's own refusals
 
   abbrev EndsSo : List ℕ → ℕ → FileEnd → E → Type 0
-  EndsSo b at end why = g.told (opening_disk old) ≡ Some b → walk_of b ≡ record {
+  EndsSo b at end why = g.contents (opening_disk old) ≡ Some b → walk_of b ≡ record {
     records =
         records_before b (next_place old);
     end = end;
@@ -193,21 +201,21 @@ module _ {D : Type 0} {g : Ghosts D} {S E : Type 0} (fold : Fold S E) (old new :
       → ((b : List ℕ) (at : ℕ) → EndsSo b at (at_cut at) (fold.not_read (CutShort at)))
       → (why : OpenError) → HasReason g (opening_disk old) (opening_disk new) (next_place old) why
       → IsOfRecord why
-      → IfSome (g.told (opening_disk old)) (λ b. IfSome (read_list old) (IsWalkTo why b))
+      → IfSome (g.contents (opening_disk old)) (λ b. IfSome (read_list old) (IsWalkTo why b))
       → IsCauseOf g fold (opening_disk old) (opening_disk new) why
   cause_by bad cut NotJournal reason kind walk = absurd kind
   cause_by bad cut (BadLength at) reason kind walk =
-      if_told (λ (b : List ℕ). read_by fold b ≡ Err (fold.not_read (BadLength at)))
-      (g.told (opening_disk old)) (λ b told.
-      bad b at told (of_list old b told (IsWalkTo (BadLength at) b)
-      (at_told (λ (bytes : List ℕ). IfSome (read_list old) (IsWalkTo (BadLength at) bytes))
-      (g.told (opening_disk old)) b told walk)))
+      if_modelled (λ (b : List ℕ). read_by fold b ≡ Err (fold.not_read (BadLength at)))
+      (g.contents (opening_disk old)) (λ b contents.
+      bad b at contents (of_list old b contents (IsWalkTo (BadLength at) b)
+      (at_contents (λ (bytes : List ℕ). IfSome (read_list old) (IsWalkTo (BadLength at) bytes))
+      (g.contents (opening_disk old)) b contents walk)))
   cause_by bad cut (CutShort at) reason kind walk =
-      if_told (λ (b : List ℕ). read_by fold b ≡ Err (fold.not_read (CutShort at)))
-      (g.told (opening_disk old)) (λ b told.
-      cut b at told (of_list old b told (IsWalkTo (CutShort at) b)
-      (at_told (λ (bytes : List ℕ). IfSome (read_list old) (IsWalkTo (CutShort at) bytes))
-      (g.told (opening_disk old)) b told walk)))
+      if_modelled (λ (b : List ℕ). read_by fold b ≡ Err (fold.not_read (CutShort at)))
+      (g.contents (opening_disk old)) (λ b contents.
+      cut b at contents (of_list old b contents (IsWalkTo (CutShort at) b)
+      (at_contents (λ (bytes : List ℕ). IfSome (read_list old) (IsWalkTo (CutShort at) bytes))
+      (g.contents (opening_disk old)) b contents walk)))
   cause_by bad cut Failed reason kind walk = reason
   cause_by bad cut Memory reason kind walk = tt
 
@@ -215,36 +223,38 @@ module _ {D : Type 0} {g : Ghosts D} {S E : Type 0} (fold : Fold S E) (old new :
       → HasStepped old new false (Some why)
       → IsCauseOf g fold (opening_disk old) (opening_disk new) why
   cause_next s why was step =
-      let log : (b : List ℕ) → g.told (opening_disk old) ≡ Some b
+      let log : (b : List ℕ) → g.contents (opening_disk old) ≡ Some b
       → state_behind fold (records_before b (next_place old)) ≡ Ok s
-      = λ b told. of_list old b told (λ (l : List (List ℕ)). state_behind fold l ≡ Ok s) was.made in
-      cause_by (λ b at told walk. read_ends fold b (records_before b (next_place old))
-      (at_bad_length at) s (old.reading b told).begins walk (log b told))
-      (λ b at told walk. read_ends fold b (records_before b (next_place old)) (at_cut at) s
-      (old.reading b told).begins walk (log b told))
+      = λ b contents. of_list old b contents (λ (l : List (List ℕ)). state_behind fold l ≡ Ok s)
+      was.made in
+      cause_by (λ b at contents walk. read_ends fold b (records_before b (next_place old))
+      (at_bad_length at) s (old.reading b contents).begins walk (log b contents))
+      (λ b at contents walk. read_ends fold b (records_before b (next_place old)) (at_cut at) s
+      (old.reading b contents).begins walk (log b contents))
       why (step.reason was.unrefused) (step.kind was.unrefused) (step.walk was.unrefused)
 
   pub cause_first : (why : OpenError)
-      → read_list old ≡ option_map (λ _. []) (g.told (opening_disk old)) → refusal old ≡ None
+      → read_list old ≡ option_map (λ _. []) (g.contents (opening_disk old)) → refusal old ≡ None
       → HasStepped old new false (Some why)
       → IsCauseOf g fold (opening_disk old) (opening_disk new) why
   cause_first why none unrefused step =
-      let empty : (b : List ℕ) → g.told (opening_disk old) ≡ Some b
+      let empty : (b : List ℕ) → g.contents (opening_disk old) ≡ Some b
       → records_before b (next_place old) ≡ []
-      = λ b told. of_list old b told (λ (l : List (List ℕ)). l
+      = λ b contents. of_list old b contents (λ (l : List (List ℕ)). l
       ≡ []) (all_empty _ (read_list old) none) in
-      let walked : (b : List ℕ) (end : FileEnd) → g.told (opening_disk old) ≡ Some b
+      let walked : (b : List ℕ) (end : FileEnd) → g.contents (opening_disk old) ≡ Some b
       → walk_of b ≡ record { records = records_before b (next_place old); end = end }
       → walk_of b ≡ record { records = []; end = end }
-      = λ b end told walk. subst (λ (l : List (List ℕ)). walk_of b ≡ record {
+      = λ b end contents walk. subst (λ (l : List (List ℕ)). walk_of b ≡ record {
         records = l;
         end =
             end;
-      }) (empty b told) walk in
-      cause_by (λ b at told walk. read_none fold b (at_bad_length at) (old.reading b told).begins
-      (walked b (at_bad_length at) told walk))
-      (λ b at told walk. read_none fold b (at_cut at) (old.reading b told).begins
-      (walked b (at_cut at) told walk))
+      }) (empty b contents) walk in
+      cause_by
+      (λ b at contents walk. read_none fold b (at_bad_length at) (old.reading b contents).begins
+      (walked b (at_bad_length at) contents walk))
+      (λ b at contents walk. read_none fold b (at_cut at) (old.reading b contents).begins
+      (walked b (at_cut at) contents walk))
       why (step.reason unrefused) (step.kind unrefused) (step.walk unrefused)
 
 module _ {D : Type 0} (g : Ghosts D) {S E : Type 0} (fold : Fold S E) where
@@ -254,25 +264,26 @@ module _ {D : Type 0} (g : Ghosts D) {S E : Type 0} (fold : Fold S E) where
   cause_begin old new NotJournal reason kind =
       if_some (λ (b : List ℕ). take 16 b ≢ header) (λ (b : List ℕ). read_by fold b
       ≡ Err (fold.not_read NotJournal))
-      (g.told old) (λ b other. read_other fold b other) reason
+      (g.contents old) (λ b other. read_other fold b other) reason
   cause_begin old new (BadLength at) reason kind = absurd kind
   cause_begin old new (CutShort at) reason kind = absurd kind
   cause_begin old new Failed reason kind = reason
   cause_begin old new Memory reason kind = tt
 
   -- a refusal behind calls that only look
-  pub refused_later : (old mid : D) (why : E) → Looks g old mid → AreRefused fold (g.told mid) why
-      → AreRefused fold (g.told old) why
-  refused_later old mid why looks are =
-      subst (λ (told : Option (List ℕ)). AreRefused fold told why) looks.told are
+  pub refused_later : (old mid : D) (why : E) → OnlyReads g old mid
+      → AreRefused fold (g.contents mid) why
+      → AreRefused fold (g.contents old) why
+  refused_later old mid why only_reads are =
+      subst (λ (contents : Option (List ℕ)). AreRefused fold contents why) only_reads.contents are
 
-  pub cause_later : (old mid new : D) (why : OpenError) → Looks g old mid
+  pub cause_later : (old mid new : D) (why : OpenError) → OnlyReads g old mid
       → IsCauseOf g fold mid new why → IsCauseOf g fold old new why
-  cause_later old mid new NotJournal looks cause =
-      refused_later old mid (fold.not_read NotJournal) looks cause
-  cause_later old mid new (BadLength at) looks cause =
-      refused_later old mid (fold.not_read (BadLength at)) looks cause
-  cause_later old mid new (CutShort at) looks cause =
-      refused_later old mid (fold.not_read (CutShort at)) looks cause
-  cause_later old mid new Failed looks cause = let a = looks.faults in grind arith
-  cause_later old mid new Memory looks cause = tt
+  cause_later old mid new NotJournal only_reads cause =
+      refused_later old mid (fold.not_read NotJournal) only_reads cause
+  cause_later old mid new (BadLength at) only_reads cause =
+      refused_later old mid (fold.not_read (BadLength at)) only_reads cause
+  cause_later old mid new (CutShort at) only_reads cause =
+      refused_later old mid (fold.not_read (CutShort at)) only_reads cause
+  cause_later old mid new Failed only_reads cause = let a = only_reads.faults in grind arith
+  cause_later old mid new Memory only_reads cause = tt

@@ -1,8 +1,8 @@
 -- Records that make a state, and more of them.
 use Rattle.std.proofs.Common.{◌≡◌, ℕ, ◌+◌, List, [], ◌∷◌, ◌++◌, length, Option, Some, None, Result}
 use Rattle.std.proofs.Common.{Ok, Err, ap, ◌∙◌, arith}
-use Rattle.byte_forms.specs.Readings.{◌>>=◌, some_or}
-use Rattle.byte_forms.proofs.Steps.{bind_ok, ok_is}
+use Rattle.byte_formats.specs.Readings.{◌>>=◌, some_or}
+use Rattle.byte_formats.proofs.Steps.{bind_ok, ok_is}
 use Rattle.journal_core.specs.Folds.{Fold, taken_from, state_behind}
 
 taken_more : {S E : Type 0} (fold : Fold S E) (k : ℕ) (s : S) (list rest : List (List ℕ)) (t : S)

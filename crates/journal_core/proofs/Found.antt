@@ -3,10 +3,10 @@ use Rattle.std.proofs.Common.{◌≡◌, ◌≢◌, ℕ, Bool, true, false, List
 use Rattle.std.proofs.Common.{Err, refl, ap, ◌∙◌}
 use Rattle.std.specs.Str.{bytes_eq}
 use Rattle.std.proofs.lemmas.Slice.Eq.{bytes_eq-Decides}
-use Rattle.byte_forms.specs.Readings.{◌>>=◌, lifted}
+use Rattle.byte_formats.specs.Readings.{◌>>=◌, lifted}
 use Rattle.journal_core.specs.Folds.{Fold, Found, state_behind, closing, tested, walked, read_by}
-use Rattle.journal_core.specs.Format.{header, behind, StandsFor}
-use Rattle.journal_core.specs.Walk.{FileEnd, walk_of, at_gate}
+use Rattle.journal_core.specs.Format.{header, behind, Represents}
+use Rattle.journal_core.specs.Walk.{FileEnd, walk_of, at_commit_byte}
 use Rattle.journal_core.specs.declared.error.OpenError.TheVariants.{NotJournal}
 use Rattle.journal_core.proofs.ReadOn.{header_length}
 use Rattle.journal_core.proofs.Walk.{walk_closed}
@@ -30,12 +30,12 @@ module _ {S E : Type 0} (fold : Fold S E) where
       ap (λ (r : Result S ℕ). lifted fold.bad_record r >>= λ (t : S). closing fold end (Ok t)) is
 
   -- a record that breaks the rules, whatever follows
-  tested_bad : (front : List (List ℕ)) (body : List ℕ) (rest : List (List ℕ)) (end : FileEnd)
-      (k : ℕ) → state_behind fold (front ++ body ∷ rest) ≡ Err k
-      → tested fold (front ++ body ∷ rest) end ≡ Err (fold.bad_record k)
+  tested_bad : (prefix : List (List ℕ)) (body : List ℕ) (rest : List (List ℕ)) (end : FileEnd)
+      (k : ℕ) → state_behind fold (prefix ++ body ∷ rest) ≡ Err k
+      → tested fold (prefix ++ body ∷ rest) end ≡ Err (fold.bad_record k)
   tested_bad [] body rest end k is = ap (λ (r : Result S ℕ). lifted fold.bad_record r >>= λ (t : S).
       closing fold end (Ok t)) is
-  tested_bad (first ∷ front) body rest end k is =
+  tested_bad (first ∷ prefix) body rest end k is =
       ap (λ (r : Result S ℕ). lifted fold.bad_record r >>= λ (t : S). closing fold end (Ok t)) is
 
   abbrev pub kept : List (List ℕ) → Result S E → Result (Found S) E
@@ -53,15 +53,15 @@ module _ {S E : Type 0} (fold : Fold S E) where
       → read_by fold bytes ≡ kept [] (closing fold end (Err (fold.bad_record 0)))
   read_none bytes end begins walk = read_walked bytes begins ∙ ap (walked fold) walk
 
-  pub read_bad : (bytes : List ℕ) (front : List (List ℕ)) (body : List ℕ) (rest : List (List ℕ))
+  pub read_bad : (bytes : List ℕ) (prefix : List (List ℕ)) (body : List ℕ) (rest : List (List ℕ))
       (k : ℕ) → take 16 bytes ≡ header
-      → (walk_of bytes).records ≡ front ++ body ∷ rest → state_behind fold (front ++ body ∷ rest)
+      → (walk_of bytes).records ≡ prefix ++ body ∷ rest → state_behind fold (prefix ++ body ∷ rest)
       ≡ Err k → read_by fold bytes ≡ Err (fold.bad_record k)
-  read_bad bytes front body rest k begins walk is =
+  read_bad bytes prefix body rest k begins walk is =
       let end = (walk_of bytes).end in
       read_walked bytes begins
       ∙ ap (λ (list : List (List ℕ)). kept list (tested fold list end)) walk
-      ∙ ap (kept (front ++ body ∷ rest)) (tested_bad front body rest end k is)
+      ∙ ap (kept (prefix ++ body ∷ rest)) (tested_bad prefix body rest end k is)
 
   pub read_other : (bytes : List ℕ) → take 16 bytes ≢ header
       → read_by fold bytes ≡ Err (fold.not_read NotJournal)
@@ -77,10 +77,10 @@ module _ {S E : Type 0} (fold : Fold S E) where
       fails false P is never = refl
 
   -- a file that stands for records of which a state is made
-  pub read_standing : (bytes : List ℕ) (list : List (List ℕ)) (s : S) → StandsFor bytes list
+  pub read_standing : (bytes : List ℕ) (list : List (List ℕ)) (s : S) → Represents bytes list
       → state_behind fold list ≡ Ok s
       → read_by fold bytes ≡ Ok (record { records = list; state = s })
   read_standing bytes list s stands is =
-      read_ends bytes list at_gate s stands.begins
+      read_ends bytes list at_commit_byte s stands.begins
       (walk_closed bytes list (behind 16 list) stands.holds refl (header_length bytes stands.begins)
       stands.ends) is

@@ -10,7 +10,7 @@ pub mod Places
 pub mod ReadOn
 pub mod Records
 pub mod Steps
-pub mod Told
+pub mod Modelled
 pub mod Walk
 pub mod Folds
 pub mod Found

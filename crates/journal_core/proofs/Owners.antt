@@ -1,7 +1,7 @@
 -- What an append leaves of the owner of a journal.
 use Rattle.std.proofs.Common.{◌≡◌, ◌↔◌, Bool, true, false, List, Option, Some, Result, Err, IsErrOf}
 use Rattle.std.proofs.Common.{IsTrue, refl}
-use Rattle.byte_forms.specs.Types.{Text}
+use Rattle.byte_formats.specs.Types.{Text}
 use Rattle.disk_core.specs.declared.disk.Disk.{Ghosts}
 use Rattle.journal_core.specs.Owners.{OwnerIsRefused, owner_over}
 use Rattle.journal_core.specs.Words.{AppendLeaves, is_broken}

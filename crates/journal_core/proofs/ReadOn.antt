@@ -4,9 +4,10 @@ use Rattle.std.proofs.Common.{take, ap, sym, ◌∙◌, subst, arith}
 use Rattle.std.proofs.lemmas.List.{length-take, length-drop}
 use Rattle.disk_core.specs.Disk.{part, Only, NoNew}
 use Rattle.journal_core.specs.Format.{header, IsRecordAt, AreRecordsAt, behind, IsClosedAt}
-use Rattle.journal_core.specs.Format.{StandsFor, size_at, records_of, records_before, IsBadLengthAt}
+use Rattle.journal_core.specs.Format.{Represents, size_at, records_of, records_before}
+use Rattle.journal_core.specs.Format.{IsBadLengthAt}
 use Rattle.journal_core.specs.Format.{IsCutShortAt}
-use Rattle.journal_core.specs.Settled.{IsSettled, IsReading}
+use Rattle.journal_core.specs.Durable.{IsDurable, IsReading}
 use Rattle.journal_core.proofs.Records.{records-append, behind-append, records_before-are}
 use Rattle.journal_core.proofs.Records.{records_of-stands, size_is, body_found}
 
@@ -74,7 +75,7 @@ read_same bytes before after place no_new is = record {
 -- at the closed gate
 pub read_all : (bytes : List ℕ) (images : List ℕ → Type 0) (place : ℕ)
     → IsReading bytes images place → IsClosedAt bytes place
-    → StandsFor bytes (records_before bytes place)
+    → Represents bytes (records_before bytes place)
 read_all bytes images place is ends = record {
   begins = is.begins;
   holds = is.holds;
@@ -82,12 +83,12 @@ read_all bytes images place is ends = record {
 }
 
 pub settled : (bytes : List ℕ) (images : List ℕ → Type 0) (place : ℕ) → IsReading bytes images place
-    → IsClosedAt bytes place → IsSettled bytes images (place + 1)
+    → IsClosedAt bytes place → IsDurable bytes images (place + 1)
 settled bytes images place is ends =
     let stands = read_all bytes images place is ends in
     let same : records_of bytes ≡ records_before bytes place = records_of-stands bytes _ stands in
     record {
-      stands = subst (λ (list : List (List ℕ)). StandsFor bytes list) (sym same) stands;
+      stands = subst (λ (list : List (List ℕ)). Represents bytes list) (sym same) stands;
       end_is = ap (λ (n : ℕ). n + 1) (is.place_is ∙ ap (behind 16) (sym same));
       only = is.only;
     }
@@ -99,7 +100,7 @@ pub sound_behind : (bytes : List ℕ) (place : ℕ) (read list : List (List ℕ)
     × IsRecordAt bytes (behind place read) body)
 sound_behind bytes place [] [] are all ends = inl ends
 sound_behind bytes place [] (next ∷ list) are all ends = inr (next, all.0)
-sound_behind bytes place (body ∷ read) [] are all ends = absurd (are.0.open_gate ends.shut)
+sound_behind bytes place (body ∷ read) [] are all ends = absurd (are.0.open_commit_byte ends.shut)
 sound_behind bytes place (body ∷ read) (next ∷ list) are all ends =
     let same : next ≡ body = sym (body_found bytes place next all.0)
     ∙ body_found bytes place body are.0 in
@@ -111,7 +112,7 @@ sound_behind bytes place (body ∷ read) (next ∷ list) are all ends =
 
 never_bad : (bytes : List ℕ) (place : ℕ) → IsClosedAt bytes place ⊎ ((body : List ℕ)
     × IsRecordAt bytes place body) → IsBadLengthAt bytes place → ⊥
-never_bad bytes place (inl ends) bad = bad.open_gate ends.shut
+never_bad bytes place (inl ends) bad = bad.open_commit_byte ends.shut
 never_bad bytes place (inr (body, is)) bad =
     let size : size_at bytes place ≡ length body = size_is bytes place body is in
     let some = is.some in
@@ -131,7 +132,7 @@ never_cut bytes place (inr (body, is)) (inr within) =
 
 -- A file that stands for records is refused nowhere.
 module _ (bytes : List ℕ) (images : List ℕ → Type 0) (place : ℕ) (is : IsReading bytes images place)
-    (list : List (List ℕ)) (stands : StandsFor bytes list) where
+    (list : List (List ℕ)) (stands : Represents bytes list) where
   sound_here : IsClosedAt bytes place ⊎ ((body : List ℕ) × IsRecordAt bytes place body)
   sound_here = subst (λ (n : ℕ). IsClosedAt bytes n ⊎ ((body : List ℕ) × IsRecordAt bytes n body))
       (sym is.place_is)

@@ -9,12 +9,12 @@ use Rattle.std.proofs.lemmas.Bool.{ne_eqb, lt-ltb, le-ltb}
 use Rattle.std.proofs.lemmas.Nat.{from_be_bytes-to_be_bytes_4}
 use Rattle.disk_core.specs.Disk.{part}
 use Rattle.journal_core.specs.Format.{header, IsRecordAt, AreRecordsAt, behind, IsClosedAt}
-use Rattle.journal_core.specs.Format.{StandsFor, size_at, body_at, records_from, records_of}
+use Rattle.journal_core.specs.Format.{Represents, size_at, body_at, records_from, records_of}
 use Rattle.journal_core.specs.Format.{records_to, records_before}
 
-part_front : (n place count : ℕ) (bytes : List ℕ) → place + count ≤ n
+part_of_prefix : (n place count : ℕ) (bytes : List ℕ) → place + count ≤ n
     → part place count bytes ≡ drop place (take (place + count) (take n bytes))
-part_front n place count bytes within =
+part_of_prefix n place count bytes within =
     sym (drop-take place count bytes) ∙ ap (drop place)
     (sym (take-take (place + count) n bytes within))
 
@@ -22,15 +22,15 @@ part_front n place count bytes within =
 pub part_kept : (n place count : ℕ) (old new : List ℕ) → take n new ≡ take n old → place + count ≤ n
     → part place count new ≡ part place count old
 part_kept n place count old new same within =
-    part_front n place count new within
-    ∙ ap (λ (front : List ℕ). drop place (take (place + count) front)) same
-    ∙ sym (part_front n place count old within)
+    part_of_prefix n place count new within
+    ∙ ap (λ (prefix : List ℕ). drop place (take (place + count) prefix)) same
+    ∙ sym (part_of_prefix n place count old within)
 
 -- a byte
 pub byte_kept : (n place : ℕ) (old new : List ℕ) → take n new ≡ take n old → place < n
     → slice_index new place ≡ slice_index old place
 byte_kept n place old new same within =
-    sym (get_or-take n new place 0 within) ∙ ap (λ (front : List ℕ). get_or front place 0) same
+    sym (get_or-take n new place 0 within) ∙ ap (λ (prefix : List ℕ). get_or prefix place 0) same
     ∙ get_or-take n old place 0 within
 
 -- a record
@@ -40,7 +40,8 @@ pub record_kept : (n place : ℕ) (body old new : List ℕ) → take n new ≡ t
 record_kept n place body old new same within is = record {
   some = is.some;
   few = is.few;
-  open_gate = λ shut. is.open_gate (sym (byte_kept n place old new same (omega arith)) ∙ shut);
+  open_commit_byte =
+      λ shut. is.open_commit_byte (sym (byte_kept n place old new same (omega arith)) ∙ shut);
   size = part_kept n (place + 1) 4 old new same (omega arith) ∙ is.size;
   body_is = part_kept n (place + 5) (length body) old new same within ∙ is.body_is;
 }
@@ -89,7 +90,7 @@ header_kept n old new same within is = part_kept n 0 16 old new same (omega arit
 -- the journal as a whole
 pub stands_kept : (n : ℕ) (records : List (List ℕ)) (old new : List ℕ) → take n new ≡ take n old
     → behind 16 records < n → n ≤ length new
-    → StandsFor old records → StandsFor new records
+    → Represents old records → Represents new records
 stands_kept n records old new same within there is = record {
   begins = header_kept n old new same (let later =
       behind_later 16 records in omega arith) is.begins;
@@ -117,9 +118,9 @@ pub body_found : (bytes : List ℕ) (place : ℕ) (body : List ℕ) → IsRecord
 body_found bytes place body is = ap (λ (n : ℕ). part (place + 5) n bytes)
     (size_is bytes place body is) ∙ is.body_is
 
-gate_open : (bytes : List ℕ) (place : ℕ) (body : List ℕ) → IsRecordAt bytes place body
+commit_byte_open : (bytes : List ℕ) (place : ℕ) (body : List ℕ) → IsRecordAt bytes place body
     → (slice_index bytes place == 0) ≡ false
-gate_open bytes place body is = ne_eqb (slice_index bytes place) 0 is.open_gate
+commit_byte_open bytes place body is = ne_eqb (slice_index bytes place) 0 is.open_commit_byte
 
 pub records_from-are : (most : ℕ) (bytes : List ℕ) (place : ℕ) (records : List (List ℕ))
     → AreRecordsAt bytes place records
@@ -132,13 +133,13 @@ records_from-are (suc most) bytes place (body ∷ bodies) are ends few =
     let next : records_from most bytes (place + 5 + length body) ≡ bodies
     = records_from-are most bytes (place + 5 + length body) bodies are.1 ends (omega arith) in
     rw (
-      gate_open bytes place body are.0,
+      commit_byte_open bytes place body are.0,
       body_found bytes place body are.0,
       size_is bytes place body are.0,
     ) (ap (λ (rest : List (List ℕ)). body ∷ rest) next)
 
 -- a file stands for one list at most
-pub records_of-stands : (bytes : List ℕ) (records : List (List ℕ)) → StandsFor bytes records
+pub records_of-stands : (bytes : List ℕ) (records : List (List ℕ)) → Represents bytes records
     → records_of bytes ≡ records
 records_of-stands bytes records is =
     records_from-are (length bytes) bytes 16 records is.holds is.ends
@@ -180,27 +181,27 @@ record_read bytes place count buffer opened size body some few there =
     record {
       some = omega arith;
       few = omega arith;
-      open_gate = opened;
+      open_commit_byte = opened;
       size = size ∙ ap (to_be_bytes w32) (sym whole);
       body_is = ap (λ (n : ℕ). part (place + 5) n bytes) whole ∙ sym body;
     }
 
 -- the body behind some of the records
-pub body_there : (bytes : List ℕ) (place : ℕ) (front : List (List ℕ)) (body : List ℕ)
+pub body_there : (bytes : List ℕ) (place : ℕ) (prefix : List (List ℕ)) (body : List ℕ)
     (back : List (List ℕ))
-    → AreRecordsAt bytes place (front ++ body ∷ back)
-    → part (behind place front + 5) (length body) bytes ≡ body
+    → AreRecordsAt bytes place (prefix ++ body ∷ back)
+    → part (behind place prefix + 5) (length body) bytes ≡ body
 body_there bytes place [] body back are = are.0.body_is
-body_there bytes place (first ∷ front) body back are =
-    body_there bytes (place + 5 + length first) front body back are.1
+body_there bytes place (first ∷ prefix) body back are =
+    body_there bytes (place + 5 + length first) prefix body back are.1
 
-pub length_there : (bytes : List ℕ) (place : ℕ) (front : List (List ℕ)) (body : List ℕ)
+pub length_there : (bytes : List ℕ) (place : ℕ) (prefix : List (List ℕ)) (body : List ℕ)
     (back : List (List ℕ))
-    → AreRecordsAt bytes place (front ++ body ∷ back) → part (behind place front + 1) 4 bytes
+    → AreRecordsAt bytes place (prefix ++ body ∷ back) → part (behind place prefix + 1) 4 bytes
     ≡ to_be_bytes w32 (length body)
 length_there bytes place [] body back are = are.0.size
-length_there bytes place (first ∷ front) body back are =
-    length_there bytes (place + 5 + length first) front body back are.1
+length_there bytes place (first ∷ prefix) body back are =
+    length_there bytes (place + 5 + length first) prefix body back are.1
 
 -- a part of it
 pub part_there : (bytes : List ℕ) (place from count : ℕ) (body : List ℕ)

@@ -8,21 +8,22 @@ use Rattle.std.proofs.lemmas.Bool.{eqb-true, eqb-false, ltb-true, ltb-false}
 use Rattle.std.proofs.lemmas.List.{length-take, length-drop}
 use Rattle.std.proofs.lemmas.Nat.{be_bytes_4}
 use Rattle.std.proofs.lemmas.Slice.Eq.{bytes_eq-Decides}
-use Rattle.byte_forms.specs.Places.{IsBytes}
-use Rattle.byte_forms.specs.Readings.{◌>>=◌, lifted}
-use Rattle.byte_forms.proofs.Steps.{bind_ok, ok_is, IsBytes-drop, IsBytes-take}
+use Rattle.byte_formats.specs.Places.{IsBytes}
+use Rattle.byte_formats.specs.Readings.{◌>>=◌, lifted}
+use Rattle.byte_formats.proofs.Steps.{bind_ok, ok_is, IsBytes-drop, IsBytes-take}
 use Rattle.disk_core.specs.Disk.{part}
 use Rattle.journal_core.specs.Folds.{Fold, Found, state_behind, closing, tested, walked, read_by}
 use Rattle.journal_core.specs.Format.{header, IsRecordAt, AreRecordsAt, behind, IsClosedAt}
-use Rattle.journal_core.specs.Format.{StandsFor, size_at, body_at}
-use Rattle.journal_core.specs.Walk.{FileEnd, at_gate, at_bad_length, at_cut, FileWalk, walk_from}
+use Rattle.journal_core.specs.Format.{Represents, size_at, body_at}
+use Rattle.journal_core.specs.Walk.{FileEnd, at_commit_byte, at_bad_length, at_cut, FileWalk}
+use Rattle.journal_core.specs.Walk.{walk_from}
 use Rattle.journal_core.specs.Walk.{walk_of}
 use Rattle.journal_core.specs.declared.error.OpenError.TheVariants.{NotJournal}
 
 -- a length that was read is spelled by its four bytes
-size_spelled : (bytes : List ℕ) (place : ℕ) → IsBytes bytes → place + 5 ≤ length bytes
+size_encoded : (bytes : List ℕ) (place : ℕ) → IsBytes bytes → place + 5 ≤ length bytes
     → to_be_bytes w32 (size_at bytes place) ≡ part (place + 1) 4 bytes
-size_spelled bytes place are there =
+size_encoded bytes place are there =
     let four : length (part (place + 1) 4 bytes) ≡ 4 =
     simp (length-take, length-drop) (omega arith) in
     be_bytes_4 (part (place + 1) 4 bytes) (size_at bytes place) four
@@ -41,22 +42,22 @@ record_here bytes place are opened some few within =
       record {
         some = omega arith;
         few = omega arith;
-        open_gate = opened;
-        size = sym (size_spelled bytes place are (omega arith)) ∙ ap (to_be_bytes w32) (sym size);
+        open_commit_byte = opened;
+        size = sym (size_encoded bytes place are (omega arith)) ∙ ap (to_be_bytes w32) (sym size);
         body_is = ap (λ (n : ℕ). part (place + 5) n bytes) size;
       },
     )
 
 abbrev Closes : FileWalk → List (List ℕ) → Type 0
-Closes walk list = (walk.records ≡ list) × (walk.end ≡ at_gate)
+Closes walk list = (walk.records ≡ list) × (walk.end ≡ at_commit_byte)
 
 abbrev Stand : List ℕ → ℕ → List (List ℕ) → Type 0
 Stand bytes place list = AreRecordsAt bytes place list × IsClosedAt bytes (behind place list)
 
-not_cut : (place : ℕ) → at_cut place ≡ at_gate → ⊥
+not_cut : (place : ℕ) → at_cut place ≡ at_commit_byte → ⊥
 not_cut place is = cc
 
-not_bad : (place : ℕ) → at_bad_length place ≡ at_gate → ⊥
+not_bad : (place : ℕ) → at_bad_length place ≡ at_commit_byte → ⊥
 not_bad place is = cc
 
 -- which way a test went
@@ -122,14 +123,14 @@ walk_stands (suc most) bytes place list are is = elim (went (nat_lt place (lengt
 module _ {S E : Type 0} (fold : Fold S E) where
   -- where a state was found behind the header, its records were tested and end at the closed gate
   closing_ok : {X : Type 0} (end : FileEnd) (r : Result X E) (x : X) → closing fold end r ≡ Ok x
-      → (end ≡ at_gate) × (r ≡ Ok x)
-  closing_ok {X} at_gate r x is = (refl, is)
+      → (end ≡ at_commit_byte) × (r ≡ Ok x)
+  closing_ok {X} at_commit_byte r x is = (refl, is)
   closing_ok {X} (at_bad_length place) r x is = cc
   closing_ok {X} (at_cut place) r x is = cc
 
   lifted_ok : (r : Result S ℕ) (end : FileEnd) (s : S)
       → (lifted fold.bad_record r >>= λ (t : S). closing fold end (Ok t)) ≡ Ok s
-      → (end ≡ at_gate) × (r ≡ Ok s)
+      → (end ≡ at_commit_byte) × (r ≡ Ok s)
   lifted_ok (Ok t) end s is =
       let closed = closing_ok end (Ok t) s is in
       let same : t ≡ s = ok_is E t s closed.1 in
@@ -137,7 +138,7 @@ module _ {S E : Type 0} (fold : Fold S E) where
   lifted_ok (Err k) end s is = cc
 
   tested_ok : (list : List (List ℕ)) (end : FileEnd) (s : S) → tested fold list end ≡ Ok s
-      → (end ≡ at_gate) × (state_behind fold list ≡ Ok s)
+      → (end ≡ at_commit_byte) × (state_behind fold list ≡ Ok s)
   tested_ok [] end s is =
       let closed = closing_ok end (Err (fold.bad_record 0)) s is in
       let wrong : Err (fold.bad_record 0) ≡ Ok s = closed.1 in cc
@@ -145,12 +146,12 @@ module _ {S E : Type 0} (fold : Fold S E) where
 
   pub found_stands : (bytes : List ℕ) (found : Found S) → IsBytes bytes
       → read_by fold bytes ≡ Ok found
-      → StandsFor bytes found.records × (state_behind fold found.records ≡ Ok found.state)
+      → Represents bytes found.records × (state_behind fold found.records ≡ Ok found.state)
   unfolding read_by walk_of
   found_stands bytes found are is = go (bytes_eq (take 16 bytes) header) refl is
     where
       behind_header : take 16 bytes ≡ header → walked fold (walk_of bytes) ≡ Ok found
-          → StandsFor bytes found.records × (state_behind fold found.records ≡ Ok found.state)
+          → Represents bytes found.records × (state_behind fold found.records ≡ Ok found.state)
       behind_header begins is =
           let walk = walk_of bytes in
           let step = bind_ok (tested fold walk.records walk.end) (λ (s : S). Ok (record {
@@ -162,12 +163,12 @@ module _ {S E : Type 0} (fold : Fold S E) where
           ok_is E _ _ step.2 in
           let state = tested_ok walk.records walk.end step.0 step.1 in
           let stand = walk_stands (length bytes) bytes 16 walk.records are (refl, state.0) in
-          let P : Found S → Type 0 = λ f. StandsFor bytes f.records
+          let P : Found S → Type 0 = λ f. Represents bytes f.records
           × (state_behind fold f.records ≡ Ok f.state) in
           subst P made (record { begins = begins; holds = stand.0; ends = stand.1 }, state.1)
 
       go : (b : Bool) → bytes_eq (take 16 bytes) header ≡ b
           → (if b then walked fold (walk_of bytes) else Err (fold.not_read NotJournal)) ≡ Ok found
-          → StandsFor bytes found.records × (state_behind fold found.records ≡ Ok found.state)
+          → Represents bytes found.records × (state_behind fold found.records ≡ Ok found.state)
       go true test is = behind_header ((bytes_eq-Decides (take 16 bytes) header).0 test) is
       go false test is = cc

@@ -5,8 +5,9 @@ use Rattle.std.proofs.Common.{ap, ◌∙◌, subst, arith}
 use Rattle.std.proofs.lemmas.Bool.{ne_eqb, lt-ltb, le-ltb, cases_lt}
 use Rattle.journal_core.specs.Format.{IsRecordAt, AreRecordsAt, behind, IsClosedAt, size_at}
 use Rattle.journal_core.specs.Format.{records_before, IsBadLengthAt, IsCutShortAt}
-use Rattle.journal_core.specs.Settled.{IsReading}
-use Rattle.journal_core.specs.Walk.{FileEnd, FileWalk, at_gate, at_bad_length, at_cut, ends_here}
+use Rattle.journal_core.specs.Durable.{IsReading}
+use Rattle.journal_core.specs.Walk.{FileEnd, FileWalk, at_commit_byte, at_bad_length, at_cut}
+use Rattle.journal_core.specs.Walk.{ends_here}
 use Rattle.journal_core.specs.Walk.{with_record, walk_from, walk_of}
 use Rattle.journal_core.proofs.Records.{size_is, body_found, behind_far}
 use Rattle.journal_core.proofs.ReadOn.{header_length, record_within, are_within}
@@ -23,7 +24,7 @@ walk_record most bytes place body is =
     let size : size_at bytes place ≡ length body = size_is bytes place body is in
     let inside : nat_lt place (length bytes) ≡ true = lt-ltb place (length bytes) (omega arith) in
     let opened : (slice_index bytes place == 0) ≡ false =
-    ne_eqb (slice_index bytes place) 0 is.open_gate in
+    ne_eqb (slice_index bytes place) 0 is.open_commit_byte in
     let head : nat_lt (length bytes) (place + 5) ≡ false =
     le-ltb (length bytes) (place + 5) (omega arith) in
     let above : (length body == 0) ≡ false =
@@ -60,9 +61,9 @@ module _ (bytes : List ℕ) (read : List (List ℕ)) (place : ℕ) (are : AreRec
   pub walk_closed : IsClosedAt bytes place → walk_of bytes ≡ record {
     records =
         read;
-    end = at_gate;
+    end = at_commit_byte;
   }
-  walk_closed is = ends_with at_gate (λ left.
+  walk_closed is = ends_with at_commit_byte (λ left.
       let inside : nat_lt place (length bytes) ≡ true = lt-ltb place (length bytes) is.there in
       rw (inside, is.shut) refl)
 
@@ -75,7 +76,7 @@ module _ (bytes : List ℕ) (read : List (List ℕ)) (place : ℕ) (are : AreRec
       let there = is.there in
       let inside : nat_lt place (length bytes) ≡ true = lt-ltb place (length bytes) (omega arith) in
       let opened : (slice_index bytes place == 0) ≡ false =
-      ne_eqb (slice_index bytes place) 0 is.open_gate in
+      ne_eqb (slice_index bytes place) 0 is.open_commit_byte in
       let head : nat_lt (length bytes) (place + 5) ≡ false =
       le-ltb (length bytes) (place + 5) (omega arith) in
       let bad : ((size_at bytes place == 0) || nat_lt 131072 (size_at bytes place)) ≡ true =
@@ -148,13 +149,13 @@ module _ (bytes : List ℕ) (read : List (List ℕ)) (place : ℕ) (are : AreRec
       ]
 
 -- the records of a walk begin with those that stand there
-walk_front : (most : ℕ) (bytes : List ℕ) (place : ℕ) (read : List (List ℕ))
+walk_prefix : (most : ℕ) (bytes : List ℕ) (place : ℕ) (read : List (List ℕ))
     → AreRecordsAt bytes place read → length read ≤ most
     → (rest : List (List ℕ)) × ((walk_from most bytes place).records ≡ read ++ rest)
-walk_front most bytes place [] are few = ((walk_from most bytes place).records, refl)
-walk_front zero bytes place (body ∷ read) are few = absurd (omega arith)
-walk_front (suc most) bytes place (body ∷ read) are few =
-    let later = walk_front most bytes (place + 5 + length body) read are.1 (omega arith) in (
+walk_prefix most bytes place [] are few = ((walk_from most bytes place).records, refl)
+walk_prefix zero bytes place (body ∷ read) are few = absurd (omega arith)
+walk_prefix (suc most) bytes place (body ∷ read) are few =
+    let later = walk_prefix most bytes (place + 5 + length body) read are.1 (omega arith) in (
       later.0,
       ap (λ (w : FileWalk). w.records) (walk_record most bytes place body are.0)
           ∙ ap (λ (list : List (List ℕ)). body ∷ list) later.1,
@@ -169,4 +170,4 @@ records_begin bytes images place is =
     let read = records_before bytes place in
     let far = behind_far 16 read in
     let within = are_within bytes 16 read is.holds (header_length bytes is.begins) in
-    walk_front (length bytes) bytes 16 read is.holds (omega arith)
+    walk_prefix (length bytes) bytes 16 read is.holds (omega arith)

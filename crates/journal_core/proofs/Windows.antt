@@ -12,7 +12,7 @@ pub held_byte : (window : Window) (bytes : List ℕ) (i place : ℕ) → Holds w
     → window.from + i ≡ place → place < window.to
     → slice_index window.buffer.items i ≡ slice_index bytes place
 held_byte window bytes i place holds at within =
-    byte_kept (window.to - window.from) i (drop window.from bytes) window.buffer.items holds.front
+    byte_kept (window.to - window.from) i (drop window.from bytes) window.buffer.items holds.prefix
     (omega arith)
     ∙ get_or-drop window.from bytes i 0 ∙ ap (λ (n : ℕ). get_or bytes n 0) at
 
@@ -22,5 +22,5 @@ pub held_part : (window : Window) (bytes : List ℕ) (i place count : ℕ) → H
     → part i count window.buffer.items ≡ part place count bytes
 held_part window bytes i place count holds at within =
     part_kept (window.to - window.from) i count (drop window.from bytes) window.buffer.items
-    holds.front (omega arith)
+    holds.prefix (omega arith)
     ∙ ap (take count) (drop-drop i window.from bytes ∙ ap (λ (n : ℕ). drop n bytes) at)

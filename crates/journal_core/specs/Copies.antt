@@ -2,9 +2,9 @@
 use Rattle.std.specs.Prelude.{◌≡◌, ℕ, ◌++◌, List, length, Result, Ok, Err}
 use Rattle.std.specs.List.{flat_map}
 use Rattle.std.specs.Int.{w32, to_be_bytes}
-use Rattle.byte_forms.specs.Types.{Text}
+use Rattle.byte_formats.specs.Types.{Text}
 use Rattle.mtc_io.specs.Counts.{Rose}
-use Rattle.disk_core.specs.Moments.{Looks}
+use Rattle.disk_core.specs.Moments.{OnlyReads}
 use Rattle.disk_core.specs.declared.disk.Disk.{Ghosts}
 use Rattle.journal_core.specs.Words.{disk_of, end_of, is_broken, records}
 use Rattle.journal_core.specs.declared.error.CopyError.{CopyError}
@@ -28,8 +28,8 @@ HasCopyCause disk sink read written (Err Write) = (read ≡ disk) × Rose sink w
 
 module _ {D : Type 0} {g : Ghosts D} where
   -- the disk of a journal was only looked at, and the journal is as it was
-  pub record IsLookedOn (old new : Journal D g) : Type 0 where
+  pub record IsOnlyRead (old new : Journal D g) : Type 0 where
     pub list : records new ≡ records old
     pub end : end_of new ≡ end_of old
     pub broken : is_broken new ≡ is_broken old
-    pub looks : Looks g (disk_of old) (disk_of new)
+    pub only_reads : OnlyReads g (disk_of old) (disk_of new)

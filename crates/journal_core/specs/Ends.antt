@@ -2,25 +2,25 @@
 -- ended before is behind the gate of a record by now.
 use Rattle.std.specs.Prelude.{◌≡◌, ℕ, ◌+◌, ◌-◌, List, Option, option_map}
 use Rattle.std.proofs.Props.{props}
-use Rattle.byte_forms.specs.Types.{Text}
+use Rattle.byte_formats.specs.Types.{Text}
 use Rattle.disk_core.specs.declared.disk.Disk.{Ghosts}
 use Rattle.journal_core.specs.Format.{AreRecordsAt, behind, end_behind, records_before}
-use Rattle.journal_core.specs.Settled.{AreRecordsAt-prop}
+use Rattle.journal_core.specs.Durable.{AreRecordsAt-prop}
 use Rattle.journal_core.specs.Words.{disk_of, end_of}
 use Rattle.journal_core.specs.declared.journal.Journal.{Journal}
 
 -- the records before an end
-abbrev pub settled_of : ℕ → Text → List Text
-settled_of end bytes = records_before bytes (end - 1)
+abbrev pub durable_of : ℕ → Text → List Text
+durable_of end bytes = records_before bytes (end - 1)
 
 -- they stand in the bytes, and this is the end behind them
-pub record AreSettled (end : ℕ) (bytes : Text) : Type 0 where
-  pub there : AreRecordsAt bytes 16 (settled_of end bytes)
-  pub last : end ≡ end_behind (settled_of end bytes)
+pub record AreDurable (end : ℕ) (bytes : Text) : Type 0 where
+  pub there : AreRecordsAt bytes 16 (durable_of end bytes)
+  pub last : end ≡ end_behind (durable_of end bytes)
 
 -- it has one proof at most
-pub AreSettled-prop : (end : ℕ) (bytes : Text) → IsProp (AreSettled end bytes)
-AreSettled-prop end bytes = hlevel (props, AreRecordsAt-prop bytes 16 (settled_of end bytes))
+pub AreDurable-prop : (end : ℕ) (bytes : Text) → IsProp (AreDurable end bytes)
+AreDurable-prop end bytes = hlevel (props, AreRecordsAt-prop bytes 16 (durable_of end bytes))
 
 -- from one end to another stand these records
 abbrev pub StandBetween : Text → ℕ → ℕ → List Text → Type 0
@@ -29,6 +29,6 @@ StandBetween bytes from to list = AreRecordsAt bytes (from - 1) list
 
 -- The records before the end of a journal, in the bytes that its disk tells. An append that fails
 -- leaves the end where it was.
-abbrev pub settled_records : {D : Type 0} {g : Ghosts D} → Journal D g → Option (List Text)
-settled_records {D} {g} journal = option_map (settled_of (end_of journal))
-    (g.told (disk_of journal))
+abbrev pub durable_records : {D : Type 0} {g : Ghosts D} → Journal D g → Option (List Text)
+durable_records {D} {g} journal = option_map (durable_of (end_of journal))
+    (g.contents (disk_of journal))

@@ -3,12 +3,13 @@
 use Rattle.std.specs.Prelude.{◌≡◌, ℕ, ◌+◌, List, [], ◌∷◌, take, Option, IfSome, Result, Ok, Err}
 use Rattle.std.specs.Prelude.{if◌then◌else◌}
 use Rattle.std.specs.Str.{bytes_eq}
-use Rattle.byte_forms.specs.Types.{Text}
-use Rattle.byte_forms.specs.Readings.{◌>>=◌, lifted, some_or}
+use Rattle.byte_formats.specs.Types.{Text}
+use Rattle.byte_formats.specs.Readings.{◌>>=◌, lifted, some_or}
 use Rattle.mtc_io.specs.Counts.{Rose}
 use Rattle.disk_core.specs.declared.disk.Disk.{Ghosts}
 use Rattle.journal_core.specs.Format.{header}
-use Rattle.journal_core.specs.Walk.{FileEnd, at_gate, at_bad_length, at_cut, FileWalk, walk_of}
+use Rattle.journal_core.specs.Walk.{FileEnd, at_commit_byte, at_bad_length, at_cut, FileWalk}
+use Rattle.journal_core.specs.Walk.{walk_of}
 use Rattle.journal_core.specs.declared.error.OpenError.{OpenError}
 use Rattle.journal_core.specs.declared.error.OpenError.TheVariants.{NotJournal, BadLength, CutShort}
 use Rattle.journal_core.specs.declared.error.OpenError.TheVariants.{Failed, Memory}
@@ -43,7 +44,7 @@ state_behind fold (first ∷ bodies) =
 
 -- where the records end at the closed gate, this; else the file is no journal
 abbrev pub closing : {S E X : Type 0} → Fold S E → FileEnd → Result X E → Result X E
-closing fold at_gate found = found
+closing fold at_commit_byte found = found
 closing fold (at_bad_length place) found = Err (fold.not_read (BadLength place))
 closing fold (at_cut place) found = Err (fold.not_read (CutShort place))
 
@@ -68,15 +69,15 @@ read_by fold bytes =
 
 -- the bytes that were told are refused so
 abbrev pub AreRefused : {S E : Type 0} → Fold S E → Option Text → E → Type 0
-AreRefused fold told why = IfSome told (λ bytes. read_by fold bytes ≡ Err why)
+AreRefused fold contents why = IfSome contents (λ bytes. read_by fold bytes ≡ Err why)
 
 -- the cause of a file that is no journal, over the disk before the call and after it: the bytes, a
 -- fault, or want of memory
 abbrev pub IsCauseOf : {D S E : Type 0} → Ghosts D → Fold S E → D → D → OpenError → Type 0
-IsCauseOf g fold old new NotJournal = AreRefused fold (g.told old) (fold.not_read NotJournal)
+IsCauseOf g fold old new NotJournal = AreRefused fold (g.contents old) (fold.not_read NotJournal)
 IsCauseOf g fold old new (BadLength place) =
-    AreRefused fold (g.told old) (fold.not_read (BadLength place))
+    AreRefused fold (g.contents old) (fold.not_read (BadLength place))
 IsCauseOf g fold old new (CutShort place) =
-    AreRefused fold (g.told old) (fold.not_read (CutShort place))
+    AreRefused fold (g.contents old) (fold.not_read (CutShort place))
 IsCauseOf g fold old new Failed = Rose (g.faults old) (g.faults new)
 IsCauseOf g fold old new Memory = Unit {0}

@@ -4,7 +4,7 @@
 use Rattle.std.specs.Prelude.{◌≡◌, ◌≢◌, ◌⊎◌, ℕ, zero, suc, ◌+◌, ◌^◌, ◌<◌, ◌≤◌, ◌==◌, nat_lt}
 use Rattle.std.specs.Prelude.{if◌then◌else◌, List, [], ◌∷◌, ◌++◌, length, take, slice_index}
 use Rattle.std.specs.Int.{w32, to_be_bytes, from_be_bytes}
-use Rattle.byte_forms.specs.Types.{Text}
+use Rattle.byte_formats.specs.Types.{Text}
 use Rattle.disk_core.specs.Disk.{part}
 
 -- `mtc-journal/v1`, 10, 0
@@ -19,7 +19,7 @@ most_bytes = 2 ^ 31
 pub record IsRecordAt (bytes : Text) (place : ℕ) (body : Text) : Type 0 where
   pub some : 1 ≤ length body
   pub few : length body ≤ 131072
-  pub open_gate : slice_index bytes place ≢ 0
+  pub open_commit_byte : slice_index bytes place ≢ 0
   pub size : part (place + 1) 4 bytes ≡ to_be_bytes w32 (length body)
   pub body_is : part (place + 5) (length body) bytes ≡ body
 
@@ -46,15 +46,15 @@ pub record IsClosedAt (bytes : Text) (place : ℕ) : Type 0 where
 
 -- The bytes are a journal with these records: the header, the records and a closed gate. Anything
 -- may follow.
-pub record StandsFor (bytes : Text) (records : List Text) : Type 0 where
+pub record Represents (bytes : Text) (records : List Text) : Type 0 where
   pub begins : take 16 bytes ≡ header
   pub holds : AreRecordsAt bytes 16 records
   pub ends : IsClosedAt bytes (behind 16 records)
 
 -- the bytes are a journal with these records, or with these and one more
-abbrev pub StandsForEither : List Text → Text → Text → Type 0
-StandsForEither records body bytes = StandsFor bytes records
-    ⊎ StandsFor bytes (records ++ body ∷ [])
+abbrev pub RepresentsEither : List Text → Text → Text → Type 0
+RepresentsEither records body bytes = Represents bytes records
+    ⊎ Represents bytes (records ++ body ∷ [])
 
 -- the length of the body of the record at a place
 abbrev pub size_at : Text → ℕ → ℕ
@@ -90,7 +90,7 @@ records_before bytes place = records_to (length bytes) bytes 16 place
 -- What stands at a place where no record and no closed gate does. First: a length of 0 or above
 -- 131,072.
 pub record IsBadLengthAt (bytes : Text) (place : ℕ) : Type 0 where
-  pub open_gate : slice_index bytes place ≢ 0
+  pub open_commit_byte : slice_index bytes place ≢ 0
   pub there : place + 5 ≤ length bytes
   pub bad : (size_at bytes place ≡ 0) ⊎ (131072 < size_at bytes place)
 

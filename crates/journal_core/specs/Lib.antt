@@ -7,7 +7,7 @@ pub mod Opens
 pub mod Owners
 pub mod Packed
 pub mod Readings
-pub mod Settled
+pub mod Durable
 pub mod Starts
 pub mod Walk
 pub mod Windows

@@ -3,13 +3,13 @@ use Rattle.std.specs.Prelude.{◌≡◌, ◌≢◌, ℕ, ◌+◌, ◌-◌, ◌<�
 use Rattle.std.specs.Prelude.{◌++◌, length, take, Option, Some, None, option_map, IfSome, Result}
 use Rattle.std.specs.Prelude.{Ok, Err}
 use Rattle.std.specs.Borrow.{Bor}
-use Rattle.byte_forms.specs.Types.{Text}
+use Rattle.byte_formats.specs.Types.{Text}
 use Rattle.disk_core.specs.Disk.{part}
-use Rattle.disk_core.specs.Moments.{Looks}
+use Rattle.disk_core.specs.Moments.{OnlyReads}
 use Rattle.disk_core.specs.declared.disk.Disk.{Ghosts}
-use Rattle.journal_core.specs.Format.{header, StandsFor, records_before}
+use Rattle.journal_core.specs.Format.{header, Represents, records_before}
 use Rattle.journal_core.specs.Opens.{HasReason, IsOfRecord, IsWalkTo}
-use Rattle.journal_core.specs.Walk.{walk_of, at_gate}
+use Rattle.journal_core.specs.Walk.{walk_of, at_commit_byte}
 use Rattle.journal_core.specs.declared.error.OpenError.{OpenError}
 use Rattle.journal_core.specs.declared.error.OpenError.TheVariants.{Failed}
 use Rattle.journal_core.specs.declared.opening.Opening.{Opening}
@@ -21,7 +21,8 @@ module _ {D : Type 0} {g : Ghosts D} where
 
   -- the records that were read, where the disk tells its bytes
   abbrev pub read_list : Opening D g → Option (List Text)
-  read_list opening = option_map (λ bytes. records_before bytes opening.place) (g.told opening.disk)
+  read_list opening =
+      option_map (λ bytes. records_before bytes opening.place) (g.contents opening.disk)
 
   -- the place of the next gate
   abbrev pub next_place : Opening D g → ℕ
@@ -45,11 +46,11 @@ module _ {D : Type 0} {g : Ghosts D} where
 
   -- A file with the header is to be read from its first record on. All of it is on the disk.
   pub record HasBegun (old : D) (new : Opening D g) : Type 0 where
-    pub begins : IfSome (g.told old) (λ bytes. take 16 bytes ≡ header)
-    pub list : read_list new ≡ option_map (λ _. []) (g.told old)
+    pub begins : IfSome (g.contents old) (λ bytes. take 16 bytes ≡ header)
+    pub list : read_list new ≡ option_map (λ _. []) (g.contents old)
     pub place : next_place new ≡ 16
     pub goes_on : (is_ended new ≡ false) × (refusal new ≡ None)
-    pub looks : Looks g old (opening_disk new)
+    pub only_reads : OnlyReads g old (opening_disk new)
     pub fine : g.faults (opening_disk new) ≡ g.faults old
 
   -- one record more was read
@@ -67,10 +68,10 @@ module _ {D : Type 0} {g : Ghosts D} where
     pub ended : is_ended new ≡ true
     pub place : next_place new ≡ next_place old
     pub goes_on : refusal new ≡ None
-    pub stands : IfSome (g.told (opening_disk new))
-        (λ bytes. IfSome (read_list new) (StandsFor bytes))
-    pub walk : IfSome (g.told (opening_disk new)) (λ bytes. IfSome (read_list new)
-        (λ list. walk_of bytes ≡ record { records = list; end = at_gate }))
+    pub stands : IfSome (g.contents (opening_disk new))
+        (λ bytes. IfSome (read_list new) (Represents bytes))
+    pub walk : IfSome (g.contents (opening_disk new)) (λ bytes. IfSome (read_list new)
+        (λ list. walk_of bytes ≡ record { records = list; end = at_commit_byte }))
 
   -- the file is not read on, and this refusal is given again
   pub record HasRefused (old new : Opening D g) (why : OpenError) : Type 0 where
@@ -90,12 +91,12 @@ module _ {D : Type 0} {g : Ghosts D} where
         → IfSome why (HasReason g (opening_disk old) (opening_disk new) (next_place old))
     pub kind : refusal old ≡ None → IfSome why IsOfRecord
     pub whole : refusal old ≡ None
-        → IfSome why (λ e. IfSome (g.told (opening_disk old)) (λ bytes. (list : List Text)
-        → StandsFor bytes list → e ≡ Failed))
+        → IfSome why (λ e. IfSome (g.contents (opening_disk old)) (λ bytes. (list : List Text)
+        → Represents bytes list → e ≡ Failed))
     pub walk : refusal old ≡ None
-        → IfSome why (λ e. IfSome (g.told (opening_disk old))
+        → IfSome why (λ e. IfSome (g.contents (opening_disk old))
         (λ bytes. IfSome (read_list old) (IsWalkTo e bytes)))
-    pub looks : Looks g (opening_disk old) (opening_disk new)
+    pub only_reads : OnlyReads g (opening_disk old) (opening_disk new)
     pub fine : IfSome why (λ e. e ≢ Failed)
         → g.faults (opening_disk new) ≡ g.faults (opening_disk old)
 

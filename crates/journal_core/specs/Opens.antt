@@ -1,6 +1,6 @@
 -- Why a file is not read on.
 use Rattle.std.specs.Prelude.{◌≡◌, ◌≢◌, ℕ, List, take, IfSome}
-use Rattle.byte_forms.specs.Types.{Text}
+use Rattle.byte_formats.specs.Types.{Text}
 use Rattle.mtc_io.specs.Counts.{Rose}
 use Rattle.disk_core.specs.declared.disk.Disk.{Ghosts}
 use Rattle.journal_core.specs.Format.{header, IsBadLengthAt, IsCutShortAt}
@@ -11,11 +11,11 @@ use Rattle.journal_core.specs.declared.error.OpenError.TheVariants.{Failed, Memo
 
 -- the cause of a refusal at a place, over the disk before the call and after it
 abbrev pub HasReason : {D : Type 0} → Ghosts D → D → D → ℕ → OpenError → Type 0
-HasReason g old new place NotJournal = IfSome (g.told old) (λ bytes. take 16 bytes ≢ header)
+HasReason g old new place NotJournal = IfSome (g.contents old) (λ bytes. take 16 bytes ≢ header)
 HasReason g old new place (BadLength at) = (at ≡ place)
-    × IfSome (g.told old) (λ bytes. IsBadLengthAt bytes place)
+    × IfSome (g.contents old) (λ bytes. IsBadLengthAt bytes place)
 HasReason g old new place (CutShort at) = (at ≡ place)
-    × IfSome (g.told old) (λ bytes. IsCutShortAt bytes place)
+    × IfSome (g.contents old) (λ bytes. IsCutShortAt bytes place)
 HasReason g old new place Failed = Rose (g.faults old) (g.faults new)
 HasReason g old new place Memory = Unit {0}
 

@@ -2,12 +2,12 @@
 -- makes of it.
 use Rattle.std.specs.Prelude.{◌≡◌, ℕ, ◌+◌, ◌≤◌, Bool, true, false, List, [], ◌∷◌, ◌++◌, length}
 use Rattle.std.specs.Prelude.{Option, Some, None, option_map, IfSome, OnOk, Result, Ok, Err}
-use Rattle.byte_forms.specs.Types.{Text}
+use Rattle.byte_formats.specs.Types.{Text}
 use Rattle.mtc_io.specs.Counts.{Rose}
 use Rattle.disk_core.specs.Moments.{LeavesOnly}
 use Rattle.disk_core.specs.declared.disk.Disk.{Ghosts}
-use Rattle.journal_core.specs.Format.{StandsForEither}
-use Rattle.journal_core.specs.Words.{AllStandFor, disk_of, end_of, is_broken}
+use Rattle.journal_core.specs.Format.{RepresentsEither}
+use Rattle.journal_core.specs.Words.{AllRepresent, disk_of, end_of, is_broken}
 use Rattle.journal_core.specs.declared.error.AppendError.{AppendError}
 use Rattle.journal_core.specs.declared.error.AppendError.TheVariants.{Broken, Failed, Full}
 use Rattle.journal_core.specs.declared.journal.Journal.{Journal}
@@ -82,9 +82,9 @@ module _ {D S : Type 0} where
       (body : Text) (next : S) (old new : Owner D S) (result : Result X E) : Type 0 where
     pub leaves : OwnerLeaves g of_journal body next old new result
     pub kept : OnOk result (IfSome old.records
-        (λ list. AllStandFor g new.disk (list ++ body ∷ [])))
+        (λ list. AllRepresent g new.disk (list ++ body ∷ [])))
     pub count : g.faults old.disk ≤ g.faults new.disk
     pub any_moment : old.broken ≡ false → IfSome old.records
-        (λ list. LeavesOnly g old.disk new.disk (StandsForEither list body))
+        (λ list. LeavesOnly g old.disk new.disk (RepresentsEither list body))
     pub afterwards : old.broken ≡ false → IfSome old.records
-        (λ list. (c : Text) → g.may_leave new.disk c → StandsForEither list body c)
+        (λ list. (c : Text) → g.may_leave new.disk c → RepresentsEither list body c)

@@ -1,5 +1,5 @@
 -- What a first record that is packed shows.
-use Rattle.byte_forms.specs.Types.{Text}
+use Rattle.byte_formats.specs.Types.{Text}
 use Rattle.disk_core.specs.Disk.{part}
 use Rattle.journal_core.specs.declared.first_record.FirstRecord.{FirstRecord}
 

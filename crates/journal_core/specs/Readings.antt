@@ -1,7 +1,7 @@
 -- A file that is read by a fold, record by record.
 use Rattle.std.specs.Prelude.{◌≡◌, true, false, None, IfSome, Ok}
 use Rattle.disk_core.specs.declared.disk.Disk.{Ghosts}
-use Rattle.journal_core.specs.Format.{StandsFor}
+use Rattle.journal_core.specs.Format.{Represents}
 use Rattle.journal_core.specs.Folds.{Fold, state_behind, read_by}
 use Rattle.journal_core.specs.Openings.{opening_disk, read_list, is_ended, refusal}
 use Rattle.journal_core.specs.declared.opening.Opening.{Opening}
@@ -17,7 +17,7 @@ module _ {D : Type 0} {g : Ghosts D} {S E : Type 0} where
   pub record HasFound (fold : Fold S E) (state : S) (opening : Opening D g) : Type 0 where
     pub ended : is_ended opening ≡ true
     pub made : IfSome (read_list opening) (λ list. state_behind fold list ≡ Ok state)
-    pub found : IfSome (g.told (opening_disk opening)) (λ bytes. IfSome (read_list opening)
+    pub found : IfSome (g.contents (opening_disk opening)) (λ bytes. IfSome (read_list opening)
         (λ list. read_by fold bytes ≡ Ok (record { records = list; state = state })))
-    pub stands : IfSome (g.told (opening_disk opening))
-        (λ bytes. IfSome (read_list opening) (StandsFor bytes))
+    pub stands : IfSome (g.contents (opening_disk opening))
+        (λ bytes. IfSome (read_list opening) (Represents bytes))

@@ -2,12 +2,12 @@
 -- how it ends.
 use Rattle.std.specs.Prelude.{ℕ, zero, suc, ◌+◌, ◌==◌, ◌||◌, nat_lt, if◌then◌else◌, List, [], ◌∷◌}
 use Rattle.std.specs.Prelude.{length, slice_index}
-use Rattle.byte_forms.specs.Types.{Text}
+use Rattle.byte_formats.specs.Types.{Text}
 use Rattle.journal_core.specs.Format.{size_at, body_at}
 
 -- at a closed gate; at a place where an open record has a bad length; where the file ends too early
 pub data FileEnd : Type 0 where
-  at_gate : FileEnd
+  at_commit_byte : FileEnd
   at_bad_length : ℕ → FileEnd
   at_cut : ℕ → FileEnd
 
@@ -29,7 +29,7 @@ abbrev pub walk_from : ℕ → Text → ℕ → FileWalk
 walk_from zero bytes place = ends_here (at_cut place)
 walk_from (suc most) bytes place =
     if nat_lt place (length bytes)
-    then (if slice_index bytes place == 0 then ends_here at_gate
+    then (if slice_index bytes place == 0 then ends_here at_commit_byte
     else (if nat_lt (length bytes) (place + 5) then ends_here (at_cut place)
     else (if (size_at bytes place == 0) || nat_lt 131072 (size_at bytes place)
     then ends_here (at_bad_length place)

@@ -2,41 +2,41 @@
 use Rattle.std.specs.Prelude.{◌≡◌, ℕ, ◌+◌, ◌-◌, ◌≤◌, Bool, true, false, List, [], ◌∷◌, ◌++◌, length}
 use Rattle.std.specs.Prelude.{Option, option_map, IfSome, Result, Ok, Err}
 use Rattle.std.specs.Int.{w32, to_be_bytes}
-use Rattle.byte_forms.specs.Types.{Text}
+use Rattle.byte_formats.specs.Types.{Text}
 use Rattle.mtc_io.specs.Counts.{Rose}
 use Rattle.disk_core.specs.Disk.{overwritten, part}
 use Rattle.disk_core.specs.declared.disk.Disk.{Ghosts}
-use Rattle.journal_core.specs.Format.{end_behind, StandsFor, records_of, record_bytes}
+use Rattle.journal_core.specs.Format.{end_behind, Represents, records_of, record_bytes}
 use Rattle.journal_core.specs.declared.error.AppendError.{AppendError}
 use Rattle.journal_core.specs.declared.error.AppendError.TheVariants.{Failed, Broken, Full}
 use Rattle.journal_core.specs.declared.journal.Journal.{Journal}
 
 -- each image that a crash now may leave stands for these records
-abbrev pub AllStandFor : {D : Type 0} → Ghosts D → D → List Text → Type 0
-AllStandFor g disk list = (c : Text) → g.may_leave disk c → StandsFor c list
+abbrev pub AllRepresent : {D : Type 0} → Ghosts D → D → List Text → Type 0
+AllRepresent g disk list = (c : Text) → g.may_leave disk c → Represents c list
 
 -- Where the range that was read lies within a body of these records, from so many of its bytes on,
 -- this is that part of the body. The body behind some of the records begins four bytes behind their
 -- end.
 abbrev pub HoldsBody : ℕ → Text → List Text → Type 0
 HoldsBody place read list =
-    (front : List Text) (body : Text) (back : List Text) (from : ℕ)
-    → list ≡ front ++ body ∷ back
-    → place ≡ end_behind front + 4 + from → from + length read ≤ length body
+    (prefix : List Text) (body : Text) (back : List Text) (from : ℕ)
+    → list ≡ prefix ++ body ∷ back
+    → place ≡ end_behind prefix + 4 + from → from + length read ≤ length body
     → read ≡ part from (length read) body
 
 -- Where the four bytes before a body were read, these are its length.
 abbrev pub HoldsLength : ℕ → Text → List Text → Type 0
-HoldsLength place read list = (front : List Text) (body : Text) (back : List Text)
-    → list ≡ front ++ body ∷ back
-    → place ≡ end_behind front → length read ≡ 4 → read ≡ to_be_bytes w32 (length body)
+HoldsLength place read list = (prefix : List Text) (body : Text) (back : List Text)
+    → list ≡ prefix ++ body ∷ back
+    → place ≡ end_behind prefix → length read ≡ 4 → read ≡ to_be_bytes w32 (length body)
 
 -- Where the length of the body behind some of these records stands at a place, the number is this
 -- length.
 abbrev pub HasSize : ℕ → ℕ → List Text → Type 0
-HasSize place size list = (front : List Text) (body : Text) (back : List Text)
-    → list ≡ front ++ body ∷ back
-    → place ≡ end_behind front → (size ≡ length body) × (length body ≤ 131072)
+HasSize place size list = (prefix : List Text) (body : Text) (back : List Text)
+    → list ≡ prefix ++ body ∷ back
+    → place ≡ end_behind prefix → (size ≡ length body) × (length body ≤ 131072)
 
 module _ {D : Type 0} {g : Ghosts D} where
   abbrev pub disk_of : Journal D g → D
@@ -52,7 +52,7 @@ module _ {D : Type 0} {g : Ghosts D} where
 
   -- the records, where the disk tells its bytes
   abbrev pub records : Journal D g → Option (List Text)
-  records journal = option_map records_of (g.told journal.disk)
+  records journal = option_map records_of (g.contents journal.disk)
 
   -- no call of the disk
   pub record IsUntouched (old new : Journal D g) : Type 0 where
@@ -72,11 +72,11 @@ module _ {D : Type 0} {g : Ghosts D} where
     pub end : new.end ≡ old.end + 5 + length body
     pub was_sound : old.broken ≡ false
     pub sound : new.broken ≡ false
-    pub all : IfSome (g.told new.disk) (λ bytes. AllStandFor g new.disk (records_of bytes))
+    pub all : IfSome (g.contents new.disk) (λ bytes. AllRepresent g new.disk (records_of bytes))
     pub fine : g.faults new.disk ≡ g.faults old.disk
     -- the file is as it was, with the record written over it from the closed gate on
-    pub written : g.told new.disk
-        ≡ option_map (overwritten (old.end - 1) (record_bytes body)) (g.told old.disk)
+    pub written : g.contents new.disk
+        ≡ option_map (overwritten (old.end - 1) (record_bytes body)) (g.contents old.disk)
 
   -- what an append leaves, by its answer
   abbrev pub AppendLeaves : Text → Journal D g → Journal D g → Result (Unit {0}) AppendError

@@ -4,9 +4,9 @@ ghost use Rattle.std.specs.Prelude.{◌≡◌, ◌≤◌, ◌<◌, ◌+◌, ◌^
 ghost use Rattle.std.specs.Io.KnownBytes.{Appends};
 ghost use Rattle.mtc_io.specs.Counts.{HasCause};
 ghost use Rattle.mtc_io.specs.Streams.{AppendsPrefix};
-ghost use Rattle.byte_forms.specs.Types.{Text};
+ghost use Rattle.byte_formats.specs.Types.{Text};
 ghost use Rattle.disk_core.specs.Disk.{part};
-ghost use Rattle.journal_core.specs.Copies.{HasCopyCause, IsLookedOn, sized, sized_text};
+ghost use Rattle.journal_core.specs.Copies.{HasCopyCause, IsOnlyRead, sized, sized_text};
 ghost use Rattle.journal_core.specs.Ends.{StandBetween};
 ghost use Rattle.journal_core.specs.Format.{AreRecordsAt, IsRecordAt, behind, end_behind};
 ghost use Rattle.journal_core.specs.Words.{disk_of, end_of};
@@ -28,11 +28,11 @@ fn copy_piece<D: Disk, O: Sink>(
 ) -> Result<(), CopyError>
     requires few { length ≤ 4096 }
     requires within { place + length ≤ end_of journal.old }
-    ensures ok { OnOk result (IfSome (D.told (disk_of journal.old))
+    ensures ok { OnOk result (IfSome (D.contents (disk_of journal.old))
         (λ bytes. Appends (O.taken out.old) (O.taken out.new) (part place length bytes))) }
-    ensures prefix { IfSome (D.told (disk_of journal.old))
+    ensures prefix { IfSome (D.contents (disk_of journal.old))
         (λ bytes. AppendsPrefix (O.taken out.old) (O.taken out.new) (part place length bytes)) }
-    ensures kept { IsLookedOn journal.old journal.new }
+    ensures kept { IsOnlyRead journal.old journal.new }
     ensures cause { HasCopyCause (D.faults (disk_of journal.old)) (O.faults out.old)
         (D.faults (disk_of journal.new)) (O.faults out.new) result }
 {
@@ -57,11 +57,11 @@ fn copy<D: Disk, O: Sink>(
 ) -> Result<(), CopyError>
     requires far { end_of journal.old < 2 ^ 64 }
     requires within { place + count ≤ end_of journal.old }
-    ensures ok { OnOk result (IfSome (D.told (disk_of journal.old))
+    ensures ok { OnOk result (IfSome (D.contents (disk_of journal.old))
         (λ bytes. Appends (O.taken out.old) (O.taken out.new) (part place count bytes))) }
-    ensures prefix { IfSome (D.told (disk_of journal.old))
+    ensures prefix { IfSome (D.contents (disk_of journal.old))
         (λ bytes. AppendsPrefix (O.taken out.old) (O.taken out.new) (part place count bytes)) }
-    ensures kept { IsLookedOn journal.old journal.new }
+    ensures kept { IsOnlyRead journal.old journal.new }
     ensures cause { HasCopyCause (D.faults (disk_of journal.old)) (O.faults out.old)
         (D.faults (disk_of journal.new)) (O.faults out.new) result }
 {
@@ -75,50 +75,54 @@ fn copy<D: Disk, O: Sink>(
 }
 
 // The length of the body behind a gate. A disk may tell any; it is no more than there can be.
-fn body_size<D: Disk>(journal: &mut Journal<D>, gate: u64) -> Result<u64, Failed>
-    requires { gate + 6 ≤ end_of journal.old }
-    ensures within { IfOk result (λ size. gate + 6 + size ≤ end_of journal.old) }
-    ensures size { IfOk result (λ size. IfSome (D.told (disk_of journal.old)) (λ bytes.
-        (body : Text) → IsRecordAt bytes gate body → gate + 6 + length body ≤ end_of journal.old
+fn body_size<D: Disk>(journal: &mut Journal<D>, commit_byte: u64) -> Result<u64, Failed>
+    requires { commit_byte + 6 ≤ end_of journal.old }
+    ensures within { IfOk result (λ size. commit_byte + 6 + size ≤ end_of journal.old) }
+    ensures size { IfOk result (λ size. IfSome (D.contents (disk_of journal.old)) (λ bytes.
+        (body : Text) → IsRecordAt bytes commit_byte body
+        → commit_byte + 6 + length body ≤ end_of journal.old
         → size ≡ length body)) }
-    ensures kept { IsLookedOn journal.old journal.new }
+    ensures kept { IsOnlyRead journal.old journal.new }
     ensures cause { HasCause (D.faults (disk_of journal.old)) (D.faults (disk_of journal.new))
         result }
 {
     let mut size = [0; 4];
-    let most = journal.end() - gate - 6;
-    journal.read(gate + 1, &mut size)?;
+    let most = journal.end() - commit_byte - 6;
+    journal.read(commit_byte + 1, &mut size)?;
     Ok((u32::from_be_bytes(size) as u64).min(most))
 }
 
 // Writes the record behind a gate, with its length, and answers the place of the next gate.
 fn copy_record<D: Disk, O: Sink>(
     journal: &mut Journal<D>,
-    gate: u64,
+    commit_byte: u64,
     out: &mut O,
 ) -> Result<u64, CopyError>
     requires far { end_of journal.old < 2 ^ 64 }
-    requires within { gate + 6 ≤ end_of journal.old }
-    ensures within { IfOk result (λ next. (gate < next) × (next + 1 ≤ end_of journal.old)) }
-    ensures next { IfOk result (λ next. IfSome (D.told (disk_of journal.old)) (λ bytes.
-        (body : Text) → IsRecordAt bytes gate body → gate + 6 + length body ≤ end_of journal.old
-        → next ≡ gate + 5 + length body)) }
-    ensures ok { OnOk result (IfSome (D.told (disk_of journal.old)) (λ bytes.
-        (body : Text) → IsRecordAt bytes gate body → gate + 6 + length body ≤ end_of journal.old
+    requires within { commit_byte + 6 ≤ end_of journal.old }
+    ensures within { IfOk result (λ next. (commit_byte < next) × (next + 1 ≤ end_of journal.old)) }
+    ensures next { IfOk result (λ next. IfSome (D.contents (disk_of journal.old)) (λ bytes.
+        (body : Text) → IsRecordAt bytes commit_byte body
+        → commit_byte + 6 + length body ≤ end_of journal.old
+        → next ≡ commit_byte + 5 + length body)) }
+    ensures ok { OnOk result (IfSome (D.contents (disk_of journal.old)) (λ bytes.
+        (body : Text) → IsRecordAt bytes commit_byte body
+        → commit_byte + 6 + length body ≤ end_of journal.old
         → Appends (O.taken out.old) (O.taken out.new) (sized body))) }
-    ensures prefix { IfSome (D.told (disk_of journal.old)) (λ bytes.
-        (body : Text) → IsRecordAt bytes gate body → gate + 6 + length body ≤ end_of journal.old
+    ensures prefix { IfSome (D.contents (disk_of journal.old)) (λ bytes.
+        (body : Text) → IsRecordAt bytes commit_byte body
+        → commit_byte + 6 + length body ≤ end_of journal.old
         → AppendsPrefix (O.taken out.old) (O.taken out.new) (sized body)) }
-    ensures kept { IsLookedOn journal.old journal.new }
+    ensures kept { IsOnlyRead journal.old journal.new }
     ensures cause { HasCopyCause (D.faults (disk_of journal.old)) (O.faults out.old)
         (D.faults (disk_of journal.new)) (O.faults out.new) result }
 {
-    let size = match body_size(journal, gate) {
+    let size = match body_size(journal, commit_byte) {
         Ok(size) => size,
         Err(Failed) => return Err(CopyError::Read),
     };
-    copy(journal, gate + 1, 4 + size, out)?;
-    Ok(gate + 5 + size)
+    copy(journal, commit_byte + 1, 4 + size, out)?;
+    Ok(commit_byte + 5 + size)
 }
 
 // Writes the records from a gate on, each with its length, up to the end of the journal.
@@ -128,22 +132,22 @@ fn copy_records<D: Disk, O: Sink>(
     out: &mut O,
 ) -> Result<(), CopyError>
     requires { first + 1 ≤ end_of journal.old }
-    ensures ok { OnOk result (IfSome (D.told (disk_of journal.old)) (λ bytes.
+    ensures ok { OnOk result (IfSome (D.contents (disk_of journal.old)) (λ bytes.
         (bodies : List Text) → AreRecordsAt bytes first bodies
         → end_of journal.old ≡ behind first bodies + 1
         → Appends (O.taken out.old) (O.taken out.new) (sized_text bodies))) }
-    ensures prefix { IfSome (D.told (disk_of journal.old)) (λ bytes.
+    ensures prefix { IfSome (D.contents (disk_of journal.old)) (λ bytes.
         (bodies : List Text) → AreRecordsAt bytes first bodies
         → end_of journal.old ≡ behind first bodies + 1
         → AppendsPrefix (O.taken out.old) (O.taken out.new) (sized_text bodies)) }
-    ensures kept { IsLookedOn journal.old journal.new }
+    ensures kept { IsOnlyRead journal.old journal.new }
     ensures cause { HasCopyCause (D.faults (disk_of journal.old)) (O.faults out.old)
         (D.faults (disk_of journal.new)) (O.faults out.new) result }
 {
     let end = journal.end();
-    let mut gate = first;
-    while end - gate >= 6 {
-        gate = copy_record(journal, gate, out)?;
+    let mut commit_byte = first;
+    while end - commit_byte >= 6 {
+        commit_byte = copy_record(journal, commit_byte, out)?;
     }
     Ok(())
 }
@@ -160,13 +164,13 @@ pub fn copy_behind<D: Disk, O: Sink>(
 ) -> Result<(), CopyError>
     requires begun { end_behind [] ≤ from }
     requires within { from ≤ end_of journal.old }
-    ensures ok { OnOk result (IfSome (D.told (disk_of journal.old)) (λ bytes.
+    ensures ok { OnOk result (IfSome (D.contents (disk_of journal.old)) (λ bytes.
         (bodies : List Text) → StandBetween bytes from (end_of journal.old) bodies
         → Appends (O.taken out.old) (O.taken out.new) (sized_text bodies))) }
-    ensures prefix { IfSome (D.told (disk_of journal.old)) (λ bytes.
+    ensures prefix { IfSome (D.contents (disk_of journal.old)) (λ bytes.
         (bodies : List Text) → StandBetween bytes from (end_of journal.old) bodies
         → AppendsPrefix (O.taken out.old) (O.taken out.new) (sized_text bodies)) }
-    ensures kept { IsLookedOn journal.old journal.new }
+    ensures kept { IsOnlyRead journal.old journal.new }
     ensures cause { HasCopyCause (D.faults (disk_of journal.old)) (O.faults out.old)
         (D.faults (disk_of journal.new)) (O.faults out.new) result }
 {

@@ -4,7 +4,7 @@ ghost use Rattle.std.specs.Prelude.{◌≡◌, ◌≢◌, ◌≤◌, ◌+◌, []
 ghost use Rattle.std.specs.Prelude.{IfSome, IfOk, IfErr, OnOk};
 ghost use Rattle.mtc_io.specs.Counts.{HasCause};
 ghost use Rattle.disk_core.specs.Disk.{overwritten, part, Only};
-ghost use Rattle.disk_core.specs.Moments.{Looks};
+ghost use Rattle.disk_core.specs.Moments.{OnlyReads};
 ghost use Rattle.journal_core.specs.Format.{new_file_of};
 ghost use Rattle.journal_core.specs.Starts.{HasStarted, IsNotStarted};
 
@@ -21,7 +21,7 @@ use std::alloc::Global;
 pub struct FirstRecord {
     buffer: Vec<u8>,
     size: usize,
-    ghost room: { length buffer.items ≡ 131094 },
+    ghost capacity: { length buffer.items ≡ 131094 },
     ghost some: { 1 ≤ size },
     ghost few: { size ≤ 131072 },
     ghost packed: { take (22 + size) buffer.items ≡ new_file_of (part 21 size buffer.items) },
@@ -31,11 +31,12 @@ pub struct FirstRecord {
 fn write_first<D: Disk>(disk: &mut D, bytes: &[u8]) -> Result<(), Failed>
     requires some { 22 ≤ length bytes.now }
     requires few { length bytes.now ≤ 131094 }
-    ensures written { OnOk result (D.told disk.new ≡ option_map
-        (λ b. overwritten 16 (1 ∷ []) (overwritten 0 bytes.now b)) (D.told disk.old)) }
-    ensures durable { OnOk result (IfSome (D.told disk.new) (λ b. Only b (D.may_leave disk.new))) }
+    ensures written { OnOk result (D.contents disk.new ≡ option_map
+        (λ b. overwritten 16 (1 ∷ []) (overwritten 0 bytes.now b)) (D.contents disk.old)) }
+    ensures durable { OnOk result
+        (IfSome (D.contents disk.new) (λ b. Only b (D.may_leave disk.new))) }
     ensures known { OnOk result (length bytes.now ≤ D.known disk.new) }
-    ensures told { is_some (D.told disk.new) ≡ is_some (D.told disk.old) }
+    ensures contents { is_some (D.contents disk.new) ≡ is_some (D.contents disk.old) }
     ensures cause { HasCause (D.faults disk.old) (D.faults disk.new) result }
 {
     write_synced(disk, 0, bytes)?;
@@ -69,8 +70,8 @@ impl FirstRecord {
         ensures ok { IfOk result (HasStarted (first_body self) disk) }
         ensures err { IfErr result (λ e. IsNotStarted D.Disk disk e.disk e.why) }
         ensures never { IfErr result (λ e. e.why ≢ StartError.Memory) }
-        ensures spared { IfErr result (λ e. IfSome (D.told disk)
-            (λ b. b ≢ [] → Looks D.Disk disk e.disk)) }
+        ensures spared { IfErr result (λ e. IfSome (D.contents disk)
+            (λ b. b ≢ [] → OnlyReads D.Disk disk e.disk)) }
     {
         let length = match look_len(&mut disk) {
             Ok(length) => length,
@@ -106,8 +107,8 @@ pub fn start<D: Disk>(
     requires few { length first.now ≤ 131072 }
     ensures ok { IfOk result (HasStarted first.now disk) }
     ensures err { IfErr result (λ e. IsNotStarted D.Disk disk e.disk e.why) }
-    ensures spared { IfErr result (λ e. IfSome (D.told disk)
-        (λ b. b ≢ [] → Looks D.Disk disk e.disk)) }
+    ensures spared { IfErr result (λ e. IfSome (D.contents disk)
+        (λ b. b ≢ [] → OnlyReads D.Disk disk e.disk)) }
 {
     match FirstRecord::pack(alloc, first) {
         Ok(packed) => packed.start(disk),

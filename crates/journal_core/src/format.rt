@@ -26,7 +26,7 @@ pub(crate) fn buffer(alloc: Global) -> Result<Vec<u8>, Memory>
 fn put(buffer: &mut Vec<u8>, at: usize, piece: &[u8])
     requires { at + length piece.now ≤ length buffer.old.items }
     ensures length { length buffer.new.items ≡ length buffer.old.items }
-    ensures front { take (at + length piece.now)
+    ensures prefix { take (at + length piece.now)
         buffer.new.items ≡ take at buffer.old.items ++ piece.now }
 {
     buffer[at..at + piece.len()].copy_from_slice(piece);
@@ -35,7 +35,7 @@ fn put(buffer: &mut Vec<u8>, at: usize, piece: &[u8])
 /// What an append writes behind the closed gate: the length of the body, the body and the next
 /// gate, closed.
 pub(crate) fn pack(buffer: &mut Vec<u8>, body: &[u8])
-    requires room { 5 + length body.now ≤ length buffer.old.items }
+    requires capacity { 5 + length body.now ≤ length buffer.old.items }
     requires few { length body.now ≤ 131072 }
     ensures length { length buffer.new.items ≡ length buffer.old.items }
     ensures tail { take (5 + length body.now) buffer.new.items ≡ tail_of body.now }
@@ -47,7 +47,7 @@ pub(crate) fn pack(buffer: &mut Vec<u8>, body: &[u8])
 
 /// What the first write of a new file holds: the header, a closed gate and what an append writes.
 pub(crate) fn pack_first(buffer: &mut Vec<u8>, body: &[u8])
-    requires room { 22 + length body.now ≤ length buffer.old.items }
+    requires capacity { 22 + length body.now ≤ length buffer.old.items }
     requires few { length body.now ≤ 131072 }
     ensures length { length buffer.new.items ≡ length buffer.old.items }
     ensures first { take (22 + length body.now) buffer.new.items ≡ new_file_of body.now }

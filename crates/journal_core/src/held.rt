@@ -3,7 +3,7 @@
 ghost use Rattle.std.specs.Prelude.{◌≡◌, ◌≤◌, ◌+◌, length, take, IfSome, IfOk, OnOk};
 ghost use Rattle.mtc_io.specs.Counts.{HasCause};
 ghost use Rattle.disk_core.specs.Disk.{part};
-ghost use Rattle.disk_core.specs.Moments.{Looks};
+ghost use Rattle.disk_core.specs.Moments.{OnlyReads};
 ghost use Rattle.journal_core.specs.Windows.{Holds};
 
 use crate::format::LONGEST_WRITE;
@@ -12,18 +12,18 @@ use disk_core::{Disk, look_at};
 use mtc_io::Failed;
 
 // Bytes from a place on, into the front of the buffer.
-fn read_front<D: Disk>(
+fn read_prefix<D: Disk>(
     disk: &mut D,
     place: u64,
     count: usize,
     buffer: &mut [u8],
 ) -> Result<(), Failed>
     requires there { place + count ≤ D.known disk.old }
-    requires room { count ≤ length buffer.old }
-    ensures read { OnOk result (IfSome (D.told disk.old)
+    requires capacity { count ≤ length buffer.old }
+    ensures read { OnOk result (IfSome (D.contents disk.old)
         (λ b. take count buffer.new ≡ part place count b)) }
     ensures known { D.known disk.new ≡ D.known disk.old }
-    ensures looks { Looks D.Disk disk.old disk.new }
+    ensures only_reads { OnlyReads D.Disk disk.old disk.new }
     ensures cause { HasCause (D.faults disk.old) (D.faults disk.new) result }
 {
     look_at(disk, place, &mut buffer[..count])?;
@@ -42,12 +42,12 @@ pub(crate) fn hold<D: Disk>(
     requires there { size ≤ D.known disk.old }
     requires within { place + count ≤ size }
     requires few { count ≤ 131094 }
-    requires holds { IfSome (D.told disk.old) (Holds window.old) }
+    requires holds { IfSome (D.contents disk.old) (Holds window.old) }
     ensures at { IfOk result (λ i. window.new.from + i ≡ place) }
     ensures all { OnOk result (place + count ≤ window.new.to) }
-    ensures holds { IfSome (D.told disk.new) (Holds window.new) }
+    ensures holds { IfSome (D.contents disk.new) (Holds window.new) }
     ensures known { D.known disk.new ≡ D.known disk.old }
-    ensures looks { Looks D.Disk disk.old disk.new }
+    ensures only_reads { OnlyReads D.Disk disk.old disk.new }
     ensures cause { HasCause (D.faults disk.old) (D.faults disk.new) result }
 {
     if window.from <= place && place + count as u64 <= window.to {
@@ -56,7 +56,7 @@ pub(crate) fn hold<D: Disk>(
     let length = (size - place).min(LONGEST_WRITE as u64) as usize;
     window.from = place;
     window.to = place;
-    read_front(disk, place, length, &mut window.buffer)?;
+    read_prefix(disk, place, length, &mut window.buffer)?;
     window.to = place + length as u64;
     Ok(0)
 }

@@ -3,13 +3,13 @@
 ghost use Rattle.std.specs.Prelude.{◌≡◌, ◌↔◌, ◌≤◌, ◌<◌, ◌+◌, min, max, [], ◌∷◌, length, true};
 ghost use Rattle.std.specs.Prelude.{false, is_some, Some, IsTrue, IsErrOf, IfSome, IfOk, OnOk};
 ghost use Rattle.std.proofs.Props.{props};
-ghost use Rattle.byte_forms.specs.Types.{Text};
+ghost use Rattle.byte_formats.specs.Types.{Text};
 ghost use Rattle.mtc_io.specs.Counts.{HasCause};
 ghost use Rattle.disk_core.specs.Disk.{part};
-ghost use Rattle.disk_core.specs.Moments.{LeavesOnly, Looks};
-ghost use Rattle.journal_core.specs.Format.{end_behind, most_bytes, StandsFor, StandsForEither};
+ghost use Rattle.disk_core.specs.Moments.{LeavesOnly, OnlyReads};
+ghost use Rattle.journal_core.specs.Format.{end_behind, most_bytes, Represents, RepresentsEither};
 ghost use Rattle.journal_core.specs.Format.{records_of};
-ghost use Rattle.journal_core.specs.Settled.{IsSettled, IsSettled-prop, StandsFor-records-prop};
+ghost use Rattle.journal_core.specs.Durable.{IsDurable, IsDurable-prop, Represents-records-prop};
 
 use crate::error::AppendError;
 use crate::format::pack;
@@ -26,13 +26,13 @@ pub struct Journal<D: Disk> {
     pub(crate) end: u64,
     pub(crate) broken: bool,
     pub(crate) buffer: Vec<u8>,
-    ghost room: { length buffer.items ≡ 131094 },
+    ghost capacity: { length buffer.items ≡ 131094 },
     ghost there: { end ≤ D.Disk.known disk },
     ghost begun: { 17 ≤ end },
-    ghost stands: { (b : Text) → D.Disk.told disk ≡ Some b
-        → StandsFor b (records_of b) } by { Prim.hlevel (props, StandsFor-records-prop) },
-    ghost settled: { broken ≡ false → (b : Text) → D.Disk.told disk ≡ Some b
-        → IsSettled b (D.Disk.may_leave disk) end } by { Prim.hlevel (props, IsSettled-prop) },
+    ghost stands: { (b : Text) → D.Disk.contents disk ≡ Some b
+        → Represents b (records_of b) } by { Prim.hlevel (props, Represents-records-prop) },
+    ghost settled: { broken ≡ false → (b : Text) → D.Disk.contents disk ≡ Some b
+        → IsDurable b (D.Disk.may_leave disk) end } by { Prim.hlevel (props, IsDurable-prop) },
 }
 
 // A drop in one step: a derived one is proved field by field wherever a value is let go.
@@ -65,19 +65,19 @@ impl<D: Disk> Journal<D> {
         ensures broken { IsErrOf result AppendError.Broken ↔ IsTrue (is_broken self.old) }
         ensures full { IsErrOf result AppendError.Full ↔ (is_broken self.old ≡ false)
             × (most_bytes < end_of self.old + 5 + length body.now) }
-        ensures told { is_some (records self.new) ≡ is_some (records self.old) }
+        ensures contents { is_some (records self.new) ≡ is_some (records self.old) }
         ensures count { D.faults (disk_of self.old) ≤ D.faults (disk_of self.new) }
         ensures reach { D.known (disk_of self.new)
             ≤ max (end_of self.old + 5 + length body.now) (D.known (disk_of self.old)) }
         ensures as_read { is_broken self.old ≡ false
-            → IfSome (records self.old) (λ list. IfSome (D.told (disk_of self.new))
-            (StandsForEither list body.now)) }
+            → IfSome (records self.old) (λ list. IfSome (D.contents (disk_of self.new))
+            (RepresentsEither list body.now)) }
         ensures afterwards { is_broken self.old ≡ false
             → IfSome (records self.old) (λ list. (c : Text) → D.may_leave (disk_of self.new) c
-            → StandsForEither list body.now c) }
+            → RepresentsEither list body.now c) }
         ensures any_moment { is_broken self.old ≡ false
             → IfSome (records self.old) (λ list. LeavesOnly D.Disk (disk_of self.old)
-            (disk_of self.new) (StandsForEither list body.now)) }
+            (disk_of self.new) (RepresentsEither list body.now)) }
     {
         self.put(body)
     }
@@ -88,14 +88,14 @@ impl<D: Disk> Journal<D> {
     /// behind the end of the one before. So it does also where an append has failed.
     pub fn read(&mut self, place: u64, out: &mut [u8]) -> Result<(), Failed>
         requires { place + length out.old ≤ end_of self.old }
-        ensures read { OnOk result (IfSome (D.told (disk_of self.old))
+        ensures read { OnOk result (IfSome (D.contents (disk_of self.old))
             (λ bytes. out.new ≡ part place (length out.old) bytes)) }
         ensures body { OnOk result (IfSome (records self.old) (HoldsBody place out.new)) }
         ensures length { OnOk result (IfSome (records self.old) (HoldsLength place out.new)) }
         ensures records { records self.new ≡ records self.old }
         ensures end { end_of self.new ≡ end_of self.old }
         ensures broken { is_broken self.new ≡ is_broken self.old }
-        ensures looks { Looks D.Disk (disk_of self.old) (disk_of self.new) }
+        ensures only_reads { OnlyReads D.Disk (disk_of self.old) (disk_of self.new) }
         ensures cause { HasCause (D.faults (disk_of self.old)) (D.faults (disk_of self.new))
             result }
     {
@@ -111,7 +111,7 @@ impl<D: Disk> Journal<D> {
         ensures records { records self.new ≡ records self.old }
         ensures end { end_of self.new ≡ end_of self.old }
         ensures broken { is_broken self.new ≡ is_broken self.old }
-        ensures looks { Looks D.Disk (disk_of self.old) (disk_of self.new) }
+        ensures only_reads { OnlyReads D.Disk (disk_of self.old) (disk_of self.new) }
         ensures cause { HasCause (D.faults (disk_of self.old)) (D.faults (disk_of self.new))
             result }
     {
@@ -158,10 +158,10 @@ impl<D: Disk> Journal<D> {
         ensures broken { IsErrOf result AppendError.Broken ↔ IsTrue (is_broken self.old) }
         ensures full { IsErrOf result AppendError.Full ↔ (is_broken self.old ≡ false)
             × (most_bytes < end_of self.old + 5 + length body.now) }
-        ensures told { is_some (records self.new) ≡ is_some (records self.old) }
+        ensures contents { is_some (records self.new) ≡ is_some (records self.old) }
         ensures any_moment { is_broken self.old ≡ false
             → IfSome (records self.old) (λ list. LeavesOnly D.Disk (disk_of self.old)
-            (disk_of self.new) (StandsForEither list body.now)) }
+            (disk_of self.new) (RepresentsEither list body.now)) }
         ensures count { D.faults (disk_of self.old) ≤ D.faults (disk_of self.new) }
         ensures reach { D.known (disk_of self.new)
             ≤ max (end_of self.old + 5 + length body.now) (D.known (disk_of self.old)) }

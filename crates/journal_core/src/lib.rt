@@ -18,7 +18,7 @@ mod first_record;
 mod format;
 mod held;
 mod journal;
-mod laws;
+pub mod laws;
 mod opening;
 mod record;
 mod window;
@@ -28,8 +28,4 @@ pub use error::{AppendError, CopyError, OpenError, Refused, StartError};
 pub use first_record::{FirstRecord, start};
 pub use format::{HEADER, LONGEST_WRITE, MAX_BODY};
 pub use journal::Journal;
-pub use laws::{
-    a_file_stands_for_one_list_at_most, files_are_read_by_their_records,
-    images_are_read_by_their_records, records_stay_that_are_written_again, writes_have_a_longest,
-};
 pub use opening::Opening;

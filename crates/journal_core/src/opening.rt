@@ -3,15 +3,15 @@
 ghost use Rattle.std.specs.Prelude.{◌≡◌, ◌≢◌, ◌+◌, ◌<◌, ◌≤◌, List, length, take, true, false};
 ghost use Rattle.std.specs.Prelude.{MatchBool, MatchOption, Some, None, IfSome, IfOk, IfErr, OnOk};
 ghost use Rattle.std.proofs.Props.{props};
-ghost use Rattle.byte_forms.specs.Types.{Text};
+ghost use Rattle.byte_formats.specs.Types.{Text};
 ghost use Rattle.mtc_io.specs.Counts.{HasCause};
 ghost use Rattle.disk_core.specs.Disk.{Only};
-ghost use Rattle.disk_core.specs.Moments.{Looks};
-ghost use Rattle.journal_core.specs.Format.{header, end_behind, IsClosedAt, StandsFor};
+ghost use Rattle.disk_core.specs.Moments.{OnlyReads};
+ghost use Rattle.journal_core.specs.Format.{header, end_behind, IsClosedAt, Represents};
 ghost use Rattle.journal_core.specs.Format.{records_before};
 ghost use Rattle.journal_core.specs.Opens.{HasReason, IsOfHeader};
 ghost use Rattle.journal_core.specs.Windows.{Holds, Holds-prop};
-ghost use Rattle.journal_core.specs.Settled.{IsReading, IsReading-prop, IsClosedAt-prop};
+ghost use Rattle.journal_core.specs.Durable.{IsReading, IsReading-prop, IsClosedAt-prop};
 
 use crate::error::{OpenError, Refused, hand_back};
 use crate::format::{HEADER, buffer};
@@ -34,28 +34,28 @@ pub struct Opening<D: Disk> {
     refused: Option<OpenError>,
     window: Window,
     ghost inside: { body.start + body.size ≤ 131094 },
-    ghost held: { (b : Text) → D.Disk.told disk ≡ Some b
+    ghost held: { (b : Text) → D.Disk.contents disk ≡ Some b
         → Holds window b } by { Prim.hlevel (props, Holds-prop) },
     ghost known: { size ≤ D.Disk.known disk },
     ghost begun: { 16 ≤ place },
     ghost few: { count < place },
     ghost within: { ended ≡ true → place < size },
-    ghost exact: { (b : Text) → D.Disk.told disk ≡ Some b → size ≡ length b },
-    ghost reading: { (b : Text) → D.Disk.told disk ≡ Some b
+    ghost exact: { (b : Text) → D.Disk.contents disk ≡ Some b → size ≡ length b },
+    ghost reading: { (b : Text) → D.Disk.contents disk ≡ Some b
         → IsReading b (D.Disk.may_leave disk) place } by { Prim.hlevel (props, IsReading-prop) },
-    ghost counted: { (b : Text) → D.Disk.told disk ≡ Some b
+    ghost counted: { (b : Text) → D.Disk.contents disk ≡ Some b
         → count ≡ length (records_before b place) },
-    ghost closed: { ended ≡ true → (b : Text) → D.Disk.told disk ≡ Some b
+    ghost closed: { ended ≡ true → (b : Text) → D.Disk.contents disk ≡ Some b
         → IsClosedAt b place } by { Prim.hlevel (props, IsClosedAt-prop) },
 }
 
 // The header stands where it is to stand.
 fn read_header<D: Disk>(disk: &mut D) -> Result<bool, Failed>
     requires { 16 ≤ D.known disk.old }
-    ensures header { IfOk result (λ is. IfSome (D.told disk.old)
+    ensures header { IfOk result (λ is. IfSome (D.contents disk.old)
         (λ b. MatchBool is (take 16 b ≡ header) (take 16 b ≢ header))) }
     ensures known { D.known disk.new ≡ D.known disk.old }
-    ensures looks { Looks D.Disk disk.old disk.new }
+    ensures only_reads { OnlyReads D.Disk disk.old disk.new }
     ensures cause { HasCause (D.faults disk.old) (D.faults disk.new) result }
 {
     let mut first = [0; 16];
@@ -65,11 +65,12 @@ fn read_header<D: Disk>(disk: &mut D) -> Result<bool, Failed>
 
 // The length of a file that begins with the header. All of it is on the disk then.
 fn measure<D: Disk>(disk: &mut D) -> Result<Option<u64>, Failed>
-    ensures header { IfOk result (λ r. IfSome (D.told disk.old)
+    ensures header { IfOk result (λ r. IfSome (D.contents disk.old)
         (λ b. MatchOption r (take 16 b ≢ header) (λ n. (take 16 b ≡ header) × (n ≡ length b)))) }
     ensures known { IfOk result (λ r. IfSome r (λ n. (16 ≤ n) × (n ≤ D.known disk.new))) }
-    ensures durable { OnOk result (IfSome (D.told disk.new) (λ b. Only b (D.may_leave disk.new))) }
-    ensures looks { Looks D.Disk disk.old disk.new }
+    ensures durable { OnOk result
+        (IfSome (D.contents disk.new) (λ b. Only b (D.may_leave disk.new))) }
+    ensures only_reads { OnlyReads D.Disk disk.old disk.new }
     ensures cause { HasCause (D.faults disk.old) (D.faults disk.new) result }
 {
     settle(disk)?;
@@ -88,7 +89,7 @@ impl<D: Disk> Opening<D> {
     ghost use Rattle.journal_core.specs.contracts.opening.Opening.{the_row};
     ghost use Rattle.std.specs.Borrow.{sem};
     ghost use Rattle.std.specs.Io.BufRead.{Rests};
-    ghost use Rattle.journal_core.specs.Words.{AllStandFor, disk_of, end_of, is_broken, records};
+    ghost use Rattle.journal_core.specs.Words.{AllRepresent, disk_of, end_of, is_broken, records};
 
     /// Takes a file to read it as a journal. It syncs first, so that what is read is on the disk.
     ///
@@ -98,10 +99,10 @@ impl<D: Disk> Opening<D> {
         ensures ok { IfOk result (HasBegun disk) }
         ensures reason { IfErr result (λ e. HasReason D.Disk disk e.disk 0 e.why) }
         ensures kind { IfErr result (λ e. IsOfHeader e.why) }
-        ensures whole { IfErr result (λ e. IfSome (D.told disk)
-            (λ bytes. (list : List Text) → StandsFor bytes list
+        ensures whole { IfErr result (λ e. IfSome (D.contents disk)
+            (λ bytes. (list : List Text) → Represents bytes list
             → e.why ≢ OpenError.NotJournal)) }
-        ensures looks { IfErr result (λ e. Looks D.Disk disk e.disk) }
+        ensures only_reads { IfErr result (λ e. OnlyReads D.Disk disk e.disk) }
         ensures fine { IfErr result (λ e. e.why ≢ OpenError.Failed
             → D.faults e.disk ≡ D.faults disk) }
     {
@@ -165,7 +166,7 @@ impl<D: Disk> Opening<D> {
         ensures disk { disk_of result ≡ opening_disk self }
         ensures sound { is_broken result ≡ false }
         ensures place { end_of result ≡ next_place self + 1 }
-        ensures all { IfSome (records result) (AllStandFor D.Disk (disk_of result)) }
+        ensures all { IfSome (records result) (AllRepresent D.Disk (disk_of result)) }
         ensures end { IfSome (records result) (λ list. end_of result ≡ end_behind list) }
     {
         Journal {

@@ -5,7 +5,7 @@ ghost use Rattle.std.specs.Prelude.{IfErr, MatchOption, MatchResult};
 ghost use Rattle.std.specs.Int.{w32, to_be_bytes};
 ghost use Rattle.mtc_io.specs.Counts.{HasCause};
 ghost use Rattle.disk_core.specs.Disk.{part};
-ghost use Rattle.disk_core.specs.Moments.{Looks};
+ghost use Rattle.disk_core.specs.Moments.{OnlyReads};
 ghost use Rattle.journal_core.specs.Format.{IsRecordAt, IsClosedAt};
 ghost use Rattle.journal_core.specs.Opens.{HasReason, IsOfRecord};
 ghost use Rattle.journal_core.specs.Windows.{Holds};
@@ -24,7 +24,7 @@ pub(crate) struct Body {
     pub(crate) size: usize,
 }
 
-fn read_gate<D: Disk>(
+fn read_commit_byte<D: Disk>(
     disk: &mut D,
     size: u64,
     window: &mut Window,
@@ -32,17 +32,17 @@ fn read_gate<D: Disk>(
 ) -> Result<u8, Failed>
     requires there { size ≤ D.known disk.old }
     requires within { place < size }
-    requires holds { IfSome (D.told disk.old) (Holds window.old) }
-    requires exact { IfSome (D.told disk.old) (λ b. size ≡ length b) }
-    ensures gate { IfOk result (λ gate. IfSome (D.told disk.old)
-        (λ b. gate ≡ slice_index b place)) }
-    ensures holds { IfSome (D.told disk.new) (Holds window.new) }
+    requires holds { IfSome (D.contents disk.old) (Holds window.old) }
+    requires exact { IfSome (D.contents disk.old) (λ b. size ≡ length b) }
+    ensures commit_byte { IfOk result (λ commit_byte. IfSome (D.contents disk.old)
+        (λ b. commit_byte ≡ slice_index b place)) }
+    ensures holds { IfSome (D.contents disk.new) (Holds window.new) }
     ensures known { D.known disk.new ≡ D.known disk.old }
-    ensures looks { Looks D.Disk disk.old disk.new }
+    ensures only_reads { OnlyReads D.Disk disk.old disk.new }
     ensures cause { HasCause (D.faults disk.old) (D.faults disk.new) result }
 {
-    let gate = hold(disk, size, window, place, 1)?;
-    Ok(window.buffer[gate])
+    let commit_byte = hold(disk, size, window, place, 1)?;
+    Ok(window.buffer[commit_byte])
 }
 
 /// The number that four bytes spell, the highest first.
@@ -62,17 +62,17 @@ fn read_size<D: Disk>(
 ) -> Result<u32, Failed>
     requires there { size ≤ D.known disk.old }
     requires within { place + 5 ≤ size }
-    requires holds { IfSome (D.told disk.old) (Holds window.old) }
-    requires exact { IfSome (D.told disk.old) (λ b. size ≡ length b) }
-    ensures size { IfOk result (λ n. IfSome (D.told disk.old)
+    requires holds { IfSome (D.contents disk.old) (Holds window.old) }
+    requires exact { IfSome (D.contents disk.old) (λ b. size ≡ length b) }
+    ensures size { IfOk result (λ n. IfSome (D.contents disk.old)
         (λ b. part (place + 1) 4 b ≡ to_be_bytes w32 n)) }
-    ensures holds { IfSome (D.told disk.new) (Holds window.new) }
+    ensures holds { IfSome (D.contents disk.new) (Holds window.new) }
     ensures known { D.known disk.new ≡ D.known disk.old }
-    ensures looks { Looks D.Disk disk.old disk.new }
+    ensures only_reads { OnlyReads D.Disk disk.old disk.new }
     ensures cause { HasCause (D.faults disk.old) (D.faults disk.new) result }
 {
-    let gate = hold(disk, size, window, place, 5)?;
-    Ok(number(&window.buffer[gate + 1..gate + 5]))
+    let commit_byte = hold(disk, size, window, place, 5)?;
+    Ok(number(&window.buffer[commit_byte + 1..commit_byte + 5]))
 }
 
 // The body behind an open gate.
@@ -83,11 +83,11 @@ fn read_body<D: Disk>(
     place: u64,
 ) -> Result<Body, OpenError>
     requires there { size ≤ D.known disk.old }
-    requires exact { IfSome (D.told disk.old) (λ b. size ≡ length b) }
-    requires open_gate { IfSome (D.told disk.old) (λ b. slice_index b place ≢ 0) }
+    requires exact { IfSome (D.contents disk.old) (λ b. size ≡ length b) }
+    requires open_commit_byte { IfSome (D.contents disk.old) (λ b. slice_index b place ≢ 0) }
     requires within { place < size }
-    requires holds { IfSome (D.told disk.old) (Holds window.old) }
-    ensures body { IfOk result (λ body. IfSome (D.told disk.old)
+    requires holds { IfSome (D.contents disk.old) (Holds window.old) }
+    ensures body { IfOk result (λ body. IfSome (D.contents disk.old)
         (λ b. IsRecordAt b place (part body.start body.size window.new.buffer.items))) }
     ensures some { IfOk result (λ body. 1 ≤ body.size) }
     ensures few { IfOk result (λ body. body.size ≤ 131072) }
@@ -97,9 +97,9 @@ fn read_body<D: Disk>(
     ensures kind { IfErr result IsOfRecord }
     ensures fine { MatchResult result (λ _. D.faults disk.new ≡ D.faults disk.old)
         (λ why. why ≢ OpenError.Failed → D.faults disk.new ≡ D.faults disk.old) }
-    ensures holds { IfSome (D.told disk.new) (Holds window.new) }
+    ensures holds { IfSome (D.contents disk.new) (Holds window.new) }
     ensures known { D.known disk.new ≡ D.known disk.old }
-    ensures looks { Looks D.Disk disk.old disk.new }
+    ensures only_reads { OnlyReads D.Disk disk.old disk.new }
 {
     if size - place < 5 {
         return Err(OpenError::CutShort(place));
@@ -111,9 +111,9 @@ fn read_body<D: Disk>(
     if size - place - 5 < length as u64 {
         return Err(OpenError::CutShort(place));
     }
-    let gate = hold(disk, size, window, place, length + 5)?;
+    let commit_byte = hold(disk, size, window, place, length + 5)?;
     Ok(Body {
-        start: gate + 5,
+        start: commit_byte + 5,
         size: length,
     })
 }
@@ -126,11 +126,11 @@ pub(crate) fn read_record<D: Disk>(
     place: u64,
 ) -> Result<Option<Body>, OpenError>
     requires there { size ≤ D.known disk.old }
-    requires exact { IfSome (D.told disk.old) (λ b. size ≡ length b) }
-    requires holds { IfSome (D.told disk.old) (Holds window.old) }
+    requires exact { IfSome (D.contents disk.old) (λ b. size ≡ length b) }
+    requires holds { IfSome (D.contents disk.old) (Holds window.old) }
     ensures found { IfOk result (λ r. MatchOption r
-        (IfSome (D.told disk.old) (λ b. IsClosedAt b place))
-        (λ body. IfSome (D.told disk.old)
+        (IfSome (D.contents disk.old) (λ b. IsClosedAt b place))
+        (λ body. IfSome (D.contents disk.old)
         (λ b. IsRecordAt b place (part body.start body.size window.new.buffer.items)))) }
     ensures within { IfOk result (λ r. MatchOption r (place < size)
         (λ body. (1 ≤ body.size) × (body.size ≤ 131072) × (place + 5 + body.size ≤ size)
@@ -139,14 +139,14 @@ pub(crate) fn read_record<D: Disk>(
     ensures kind { IfErr result IsOfRecord }
     ensures fine { MatchResult result (λ _. D.faults disk.new ≡ D.faults disk.old)
         (λ why. why ≢ OpenError.Failed → D.faults disk.new ≡ D.faults disk.old) }
-    ensures holds { IfSome (D.told disk.new) (Holds window.new) }
+    ensures holds { IfSome (D.contents disk.new) (Holds window.new) }
     ensures known { D.known disk.new ≡ D.known disk.old }
-    ensures looks { Looks D.Disk disk.old disk.new }
+    ensures only_reads { OnlyReads D.Disk disk.old disk.new }
 {
     if place >= size {
         return Err(OpenError::CutShort(place));
     }
-    if read_gate(disk, size, window, place)? == 0 {
+    if read_commit_byte(disk, size, window, place)? == 0 {
         return Ok(None);
     }
     let body = read_body(disk, size, window, place)?;

@@ -1,7 +1,7 @@
 //! The part of a file that is in memory while it is read.
 
 ghost use Rattle.std.specs.Prelude.{◌≡◌, ◌≤◌, ◌+◌, length};
-ghost use Rattle.byte_forms.specs.Types.{Text};
+ghost use Rattle.byte_formats.specs.Types.{Text};
 
 /// The bytes of a file from one place to another, in the front of a buffer.
 #[derive(Drop)]
@@ -9,7 +9,7 @@ pub(crate) struct Window {
     pub(crate) buffer: Vec<u8>,
     pub(crate) from: u64,
     pub(crate) to: u64,
-    ghost room: { length buffer.items ≡ 131094 },
+    ghost capacity: { length buffer.items ≡ 131094 },
     ghost ordered: { from ≤ to },
     ghost fits: { to ≤ from + 131094 },
 }

@@ -8,9 +8,9 @@ use Rattle.std.proofs.lemmas.Bool.{cases_lt, eq-eqb, le-ltb, lt-ltb, ltb-false, 
 use Rattle.std.proofs.lemmas.Bool.{or_parts}
 use Rattle.std.proofs.lemmas.Bool.Decides.{nat_tests}
 use Rattle.std.proofs.lemmas.List.{nil_from_length}
-use Rattle.byte_forms.specs.Types.{Text}
-use Rattle.byte_forms.specs.Readings.{◌>>=◌, some_or}
-use Rattle.byte_forms.proofs.Steps.{bind_ok, guard_ok, ok_is, pass_ok, some_or_ok}
+use Rattle.byte_formats.specs.Types.{Text}
+use Rattle.byte_formats.specs.Readings.{◌>>=◌, some_or}
+use Rattle.byte_formats.proofs.Steps.{bind_ok, guard_ok, ok_is, pass_ok, some_or_ok}
 use Rattle.landmarks.specs.Landmarks.{IsAllowed, IsLandmarks, LandmarkList, active_count}
 use Rattle.landmarks.specs.Texts.{ListHead, cut_at, head_line, head_of, line, line_at, list_of}
 use Rattle.landmarks.specs.Texts.{list_text, number_line, size_line, size_lines, sizes_of}
@@ -77,7 +77,7 @@ not_zero : (number size : ℕ) → (number == 0) && not (size == 0) ≡ false �
 not_zero number size test is_zero = grind (arith, nat_tests)
 
 record IsSize (number before : ℕ) (text : Text) (size : ℕ) (rest : Text) : Type 0 where
-  spelled : text ≡ line size ++ rest
+  encoded : text ≡ line size ++ rest
   below : size < before
   small : size < 2 ^ 63
   zero : number ≡ 0 → size ≡ 0
@@ -95,7 +95,7 @@ size_read n number before text size rest e =
     let known = number_read n text s.0.0 s.0.1 s.1 in
     let P : ℕ × Text → Type 0 = λ x. IsSize number before text x.0 x.1 in
     subst P (ok_is ListError s.0 (size, rest) p.1) (record {
-      spelled = known.0;
+      encoded = known.0;
       below = ltb-true _ _ p.0;
       small = known.1;
       zero = not_zero number s.0.0 g.0;
@@ -105,7 +105,7 @@ size_read n number before text size rest e =
 pub record AreRead (count number before : ℕ) (text : Text) (sizes : List ℕ) (rest : Text)
     : Type 0 where
   pub long : length sizes ≡ count
-  pub spelled : text ≡ flat_map line sizes ++ rest
+  pub encoded : text ≡ flat_map line sizes ++ rest
   pub fits : AreSizes number before sizes
 
 pub sizes_read : (count n number before : ℕ) (text : Text) (sizes : List ℕ) (rest : Text)
@@ -116,7 +116,7 @@ sizes_read zero n number before text sizes rest few e =
     let P : List ℕ × Text → Type 0 = λ x. AreRead 0 number before text x.0 x.1 in
     subst P (ok_is ListError ([], text) (sizes, rest) e) (record {
       long = refl;
-      spelled = refl;
+      encoded = refl;
       fits = no_sizes number before;
     })
 sizes_read (suc count) n number before text sizes rest few e =
@@ -135,8 +135,8 @@ sizes_read (suc count) n number before text sizes rest few e =
     let P : List ℕ × Text → Type 0 = λ x. AreRead (suc count) number before text x.0 x.1 in
     subst P (ok_is ListError (size ∷ more.0.0, more.0.1) (sizes, rest) more.2) (record {
       long = ap suc others.long;
-      spelled = known.spelled
-          ∙ (ap (λ t. line size ++ t) others.spelled
+      encoded = known.encoded
+          ∙ (ap (λ t. line size ++ t) others.encoded
           ∙ sym (append_assoc (line size) (flat_map line more.0.0) more.0.1));
       fits = one_more number before size more.0.0 known.below known.small known.zero
           (omega arith) others.fits;
@@ -209,7 +209,7 @@ sizes_again (size ∷ sizes) n number before rest fits =
 
 -- what line 0 says, as it is written
 pub record IsHead (text : Text) (head : ListHead) : Type 0 where
-  pub spelled : text ≡ decimal head.last ++ (0x20 ∷ line head.active ++ head.rest)
+  pub encoded : text ≡ decimal head.last ++ (0x20 ∷ line head.active ++ head.rest)
   pub last : head.last < 2 ^ 63
 
 grouped : (last active rest : Text)
@@ -247,7 +247,7 @@ head_read text head e =
     spaced.1) in
     let P : ListHead → Type 0 = IsHead text in
     subst P (ok_is ListError _ head second.2) (record {
-      spelled = whole
+      encoded = whole
           ∙ (ap (λ t. t ++ (0x0A ∷ cut.1)) (parts
           ∙ (ap (λ t. t ++ (0x20 ∷ words.1)) (sym last.0)
           ∙ ap (λ t. decimal first.0 ++ (0x20 ∷ t)) (sym active.0)))
@@ -280,8 +280,8 @@ allowed_read most text head e =
 pub landmarks_read : (most : ℕ) (text : Text) (head : ListHead) (sizes : List ℕ) (rest : Text)
     → head_of most text ≡ Ok head → sizes_of head ≡ Ok (sizes, rest)
     → IsLandmarks (record { last = head.last; sizes = sizes })
-landmarks_read most text head sizes rest front more =
-    let first = allowed_read most text head front in
+landmarks_read most text head sizes rest prefix more =
+    let first = allowed_read most text head prefix in
     let numbered = first.numbered in
     let read = sizes_read (head.active + 1) 1 head.last (2 ^ 63) head.rest sizes rest (omega arith)
     more in
@@ -327,8 +327,8 @@ list_read text most log_size l e =
     let P : LandmarkList → Type 0 = λ x.
     (text ≡ list_text x) × (IsLandmarks x × IsAllowed most log_size x) in
     subst P (ok_is ListError (record { last = head.last; sizes = sizes }) l within.1) (
-      first.known.spelled
-          ∙ (ap (λ t. decimal head.last ++ (0x20 ∷ line head.active ++ t)) (read.spelled
+      first.known.encoded
+          ∙ (ap (λ t. decimal head.last ++ (0x20 ∷ line head.active ++ t)) (read.encoded
           ∙ (ap (λ t. flat_map line sizes ++ t) none ∙ append-nil (flat_map line sizes)))
           ∙ ap (λ k. decimal head.last ++ (0x20 ∷ line k ++ flat_map line sizes)) count),
       (
@@ -342,11 +342,11 @@ head_again : (last active : ℕ) (rest : Text) → last < 2 ^ 63 → active < 2 
     ≡ Ok (record { last = last; active = active; rest = rest })
 unfolding head_line
 head_again last active rest small few =
-    let front : Text = decimal last ++ (0x20 ∷ decimal active) in
-    let cut : cut_at 0x0A (decimal last ++ (0x20 ∷ line active ++ rest)) ≡ Some (front, rest) =
+    let prefix : Text = decimal last ++ (0x20 ∷ decimal active) in
+    let cut : cut_at 0x0A (decimal last ++ (0x20 ∷ line active ++ rest)) ≡ Some (prefix, rest) =
     ap (cut_at 0x0A) (sym (grouped (decimal last) (decimal active) rest))
-    ∙ cut_again 0x0A front rest (head_lacks last active small few) in
-    let words : cut_at 0x20 front ≡ Some (decimal last, decimal active) =
+    ∙ cut_again 0x0A prefix rest (head_lacks last active small few) in
+    let words : cut_at 0x20 prefix ≡ Some (decimal last, decimal active) =
     cut_again 0x20 (decimal last) (decimal active)
     (decimal_lacks 0x20 last (omega arith) small) in
     rw (cut, words, decimal_is_number last small, decimal_is_number active few) refl

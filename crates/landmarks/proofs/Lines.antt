@@ -13,9 +13,9 @@ use Rattle.std.proofs.lemmas.List.{take_rest}
 use Rattle.std.proofs.lemmas.List.Quantifiers.{position-Some}
 use Rattle.std.proofs.lemmas.List.Sums.{position_or_len_is}
 use Rattle.std.proofs.lemmas.Str.Parse.{digit_at, numerals_by_value, tells_digits}
-use Rattle.byte_forms.specs.Types.{Text}
-use Rattle.byte_forms.specs.Readings.{◌>>=◌, some_or}
-use Rattle.byte_forms.proofs.Steps.{bind_ok, ok_is, some_or_ok}
+use Rattle.byte_formats.specs.Types.{Text}
+use Rattle.byte_formats.specs.Readings.{◌>>=◌, some_or}
+use Rattle.byte_formats.proofs.Steps.{bind_ok, ok_is, some_or_ok}
 use Rattle.tls_wire.specs.Decimal.{number_of}
 use Rattle.tls_wire.proofs.Decimals.{decimal_is_number, number_is_decimal}
 use Rattle.landmarks.specs.Texts.{cut_at, line, line_at, number_line}
@@ -63,7 +63,7 @@ number_read n text m rest e =
     second.1) in
     let text_is : text ≡ line second.0 ++ cut.1 =
     cut_parts 0x0A text cut (some_or_ok (BadLine n) (cut_at 0x0A text) cut first.1)
-    ∙ ap (λ front. front ++ (0x0A ∷ cut.1)) (sym known.0)
+    ∙ ap (λ prefix. prefix ++ (0x0A ∷ cut.1)) (sym known.0)
     ∙ sym (append_assoc (decimal second.0) (0x0A ∷ []) cut.1) in
     let P : ℕ × Text → Type 0 = λ x. (text ≡ line x.0 ++ x.1) × (x.0 < 2 ^ 63) in
     subst P (ok_is ListError (second.0, cut.1) (m, rest) second.2) (text_is, known.1)
@@ -81,24 +81,24 @@ decimal_lacks mark n low small i here =
     let digit = digit_at (decimal n) i all here in
     omega (arith, digit)
 
-pub cut_again : (mark : ℕ) (front rest : Text) → Lacks mark front
-    → cut_at mark (front ++ (mark ∷ rest)) ≡ Some (front, rest)
-cut_again mark front rest lacks =
-    let text : Text = front ++ (mark ∷ rest) in
-    let long = length-append front (mark ∷ rest) in
-    let here : length front < length text = omega arith in
-    let place : position_or_len (λ byte. byte == mark) text ≡ length front =
-    position_or_len_is (λ byte. byte == mark) text (length front) 0 (omega arith)
+pub cut_again : (mark : ℕ) (prefix rest : Text) → Lacks mark prefix
+    → cut_at mark (prefix ++ (mark ∷ rest)) ≡ Some (prefix, rest)
+cut_again mark prefix rest lacks =
+    let text : Text = prefix ++ (mark ∷ rest) in
+    let long = length-append prefix (mark ∷ rest) in
+    let here : length prefix < length text = omega arith in
+    let place : position_or_len (λ byte. byte == mark) text ≡ length prefix =
+    position_or_len_is (λ byte. byte == mark) text (length prefix) 0 (omega arith)
     (λ k before. ne_eqb (get_or text k 0) mark (λ same. lacks k before
-    (sym (get_or_append_left front (mark ∷ rest) 0 k before) ∙ same)))
-    (λ within. eq-eqb _ _ (get_or_at front mark rest 0 (length front) refl)) in
-    let one : length (front ++ (mark ∷ [])) ≡ length front + 1 = length_push front mark in
-    let behind : drop (length front + 1) text ≡ rest =
-    ap (drop (length front + 1)) (sym (append_assoc front (mark ∷ []) rest))
-    ∙ drop_at (front ++ (mark ∷ [])) rest (length front + 1) one in
-    let before : take (length front) text ≡ front =
-    take_at front (mark ∷ rest) (length front) refl in
-    rw (place, lt-ltb (length front) (length text) here, before, behind) refl
+    (sym (get_or_append_left prefix (mark ∷ rest) 0 k before) ∙ same)))
+    (λ within. eq-eqb _ _ (get_or_at prefix mark rest 0 (length prefix) refl)) in
+    let one : length (prefix ++ (mark ∷ [])) ≡ length prefix + 1 = length_push prefix mark in
+    let behind : drop (length prefix + 1) text ≡ rest =
+    ap (drop (length prefix + 1)) (sym (append_assoc prefix (mark ∷ []) rest))
+    ∙ drop_at (prefix ++ (mark ∷ [])) rest (length prefix + 1) one in
+    let before : take (length prefix) text ≡ prefix =
+    take_at prefix (mark ∷ rest) (length prefix) refl in
+    rw (place, lt-ltb (length prefix) (length text) here, before, behind) refl
 
 pub number_again : (n m : ℕ) (rest : Text) → m < 2 ^ 63
     → number_line n (line m ++ rest) ≡ Ok (m, rest)
@@ -115,9 +115,9 @@ pub head_lacks : (last active : ℕ) → last < 2 ^ 63 → active < 2 ^ 63
     → Lacks 0x0A (decimal last ++ (0x20 ∷ decimal active))
 head_lacks last active small few i here =
     ⊎_elim
-    (λ (front : i < length (decimal last)).
-    let same = get_or_append_left (decimal last) (0x20 ∷ decimal active) 0 i front in
-    let other = decimal_lacks 0x0A last (omega arith) small i front in λ e. other (sym same ∙ e))
+    (λ (prefix : i < length (decimal last)).
+    let same = get_or_append_left (decimal last) (0x20 ∷ decimal active) 0 i prefix in
+    let other = decimal_lacks 0x0A last (omega arith) small i prefix in λ e. other (sym same ∙ e))
     (λ (back : length (decimal last) ≤ i).
     let same = get_or-append_right (decimal last) (0x20 ∷ decimal active) (length (decimal last)) i
     0 refl back in

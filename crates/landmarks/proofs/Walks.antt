@@ -1,8 +1,8 @@
 -- Reading the sizes one after another.
 use Rattle.std.proofs.Common.{◌≡◌, ℕ, suc, ◌+◌, ◌-◌, List, [], ◌∷◌, ◌++◌, Result, Ok, Err}
 use Rattle.std.proofs.Common.{refl, ap, ◌∙◌, sym, append-nil, append_assoc}
-use Rattle.byte_forms.specs.Types.{Text}
-use Rattle.byte_forms.specs.Readings.{◌>>=◌}
+use Rattle.byte_formats.specs.Types.{Text}
+use Rattle.byte_formats.specs.Readings.{◌>>=◌}
 use Rattle.landmarks.specs.Texts.{size_line, size_lines}
 use Rattle.landmarks.specs.declared.error.ListError.{ListError}
 

@@ -4,8 +4,8 @@ use Rattle.std.specs.Prelude.{ℕ, zero, suc, ◌+◌, ◌-◌, ◌^◌, ◌==�
 use Rattle.std.specs.Prelude.{[], ◌∷◌, ◌++◌, length, take, drop, slice_index, decimal, flat_map}
 use Rattle.std.specs.Prelude.{Option, option_map, Result, Ok, Err, if◌then◌else◌}
 use Rattle.std.specs.List.{position}
-use Rattle.byte_forms.specs.Types.{Text}
-use Rattle.byte_forms.specs.Readings.{◌>>=◌, some_or}
+use Rattle.byte_formats.specs.Types.{Text}
+use Rattle.byte_formats.specs.Readings.{◌>>=◌, some_or}
 use Rattle.tls_wire.specs.Decimal.{number_of}
 use Rattle.landmarks.specs.Landmarks.{LandmarkList, active_count}
 use Rattle.landmarks.specs.declared.error.ListError.{ListError}

@@ -6,7 +6,7 @@
 
 mod covers;
 mod error;
-mod laws;
+pub mod laws;
 mod limits;
 mod list;
 mod reading;
@@ -14,7 +14,6 @@ mod writing;
 
 pub use covers::{active, covering, subtrees};
 pub use error::ListError;
-pub use laws::{landmarks_have_their_sizes, lists_are_read_as_written};
 pub use limits::{MOST_ACTIVE, MOST_ENTRIES};
 pub use list::{Landmarks, of_marks};
 pub use reading::read_list;

@@ -3,10 +3,10 @@
 ghost use Rattle.std.specs.Prelude.{◌≡◌, ◌≢◌, ◌+◌, ◌^◌, ◌<◌, ◌≤◌, [], ◌∷◌, ◌++◌, ◌==◌, length, Ok};
 ghost use Rattle.std.specs.Prelude.{Err, IfOk, IfErr, IfSome, OnOk, option_map};
 ghost use Rattle.std.specs.List.{position};
-ghost use Rattle.byte_forms.specs.Readings.{Answers, Gives};
+ghost use Rattle.byte_formats.specs.Readings.{Answers, Gives};
 ghost use Rattle.landmarks.specs.Texts.{cut_at, head_line, head_of, line_at, list_of, number_line};
 ghost use Rattle.landmarks.specs.Texts.{size_line, sizes_of};
-ghost use Rattle.landmarks.specs.declared.error.ListError.TheVariants.{Memory as NoRoom};
+ghost use Rattle.landmarks.specs.declared.error.ListError.TheVariants.{Memory as NoCapacity};
 ghost use Rattle.landmarks.specs.Views.{list_head};
 
 use crate::error::ListError;
@@ -111,7 +111,7 @@ fn read_sizes<'a>(head: Head<'a>, sizes: &mut Vec<u64>) -> Result<&'a [u8], List
     requires numbered { head.active ≤ head.last }
     ensures ok { IfOk result (λ rest.
         sizes_of (list_head head.entry) ≡ Ok (sizes.new.items, rest.now)) }
-    ensures err { IfErr result (λ e. e ≢ NoRoom → sizes_of (list_head head.entry) ≡ Err e) }
+    ensures err { IfErr result (λ e. e ≢ NoCapacity → sizes_of (list_head head.entry) ≡ Err e) }
 {
     let mut rest = head.rest;
     let mut before = 1 << 63;
@@ -142,7 +142,7 @@ pub fn read_list(
     max_active: u32,
     log_size: u64,
 ) -> Result<Landmarks, ListError>
-    ensures { Answers NoRoom (list_of text.now max_active log_size) result }
+    ensures { Answers NoCapacity (list_of text.now max_active log_size) result }
 {
     let head = allowed_head(text, max_active)?;
     let mut sizes = Vec::new(alloc);

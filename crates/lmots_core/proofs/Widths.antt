@@ -1,6 +1,6 @@
 -- What the four widths have in common.
 use Rattle.std.proofs.Common.{◌≡◌, ℕ, ◌*◌, ◌/◌, ◌%◌, ◌^◌, ◌<◌, ◌≤◌, arith}
-use Rattle.byte_forms.specs.Types.{Text}
+use Rattle.byte_formats.specs.Types.{Text}
 use Rattle.lmots_core.specs.Ots.{checksum, checksum_sum}
 use Rattle.lmots_core.specs.Parameters.{chains, shift, steps, width}
 use Rattle.lmots_core.specs.declared.parameters.OtsType.{OtsType}

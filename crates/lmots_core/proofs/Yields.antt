@@ -8,7 +8,7 @@ use Rattle.std.proofs.lemmas.List.{take_all, take_at, drop_at, drop-drop, take-a
 use Rattle.std.proofs.lemmas.List.{drop-append-le}
 use Rattle.std.proofs.lemmas.Nat.{from_be_bytes-to_be_bytes_4}
 use Rattle.std.specs.Int.{w32, to_be_bytes}
-use Rattle.byte_forms.specs.Types.{Text}
+use Rattle.byte_formats.specs.Types.{Text}
 use Rattle.sha2.proofs.Facts256.{length-sha256}
 use Rattle.lmots_core.specs.declared.parameters.OtsType.{OtsType}
 use Rattle.lmots_core.specs.declared.parameters.OtsType.TheVariants.{W1, W2, W4, W8}
@@ -61,13 +61,13 @@ concatenated-part f (suc n) i size below =
           (take_all 32 (f n) (omega (arith, size n)))
       | inr differ ↦
           let earlier : i < n = omega arith in
-          let front = drop-append-le (32 * i) (concatenated f n) (f n) (omega (arith, all)) in
+          let prefix = drop-append-le (32 * i) (concatenated f n) (f n) (omega (arith, all)) in
           let within = take-append-le 32 (drop (32 * i) (concatenated f n)) (f n) (omega (
             arith,
             all,
             length-drop (32 * i) (concatenated f n),
           )) in
-          rw (front, within) (concatenated-part f n i size earlier)
+          rw (prefix, within) (concatenated-part f n i size earlier)
     ]
 
 -- pieces that agree make the same whole

@@ -1,7 +1,7 @@
 -- Byte strings, cut and joined as RFC 8554 does (3.1).
 use Rattle.std.specs.Prelude.{ℕ, zero, suc, [], ◌++◌, take, drop}
 use Rattle.std.specs.Int.{w32, from_be_bytes}
-use Rattle.byte_forms.specs.Types.{Text}
+use Rattle.byte_formats.specs.Types.{Text}
 
 -- The 32 bytes of s from place i on: a hash, or a seed.
 abbrev pub value_at : Text → ℕ → Text

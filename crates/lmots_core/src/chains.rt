@@ -20,7 +20,7 @@ pub struct Chain {
 
 impl Model for Chain {
     ghost use Rattle.std.specs.Prelude.{take};
-    ghost use Rattle.byte_forms.specs.Types.{Text};
+    ghost use Rattle.byte_formats.specs.Types.{Text};
 
     // What stays: the first 22 bytes.
     ghost Value = { Text };

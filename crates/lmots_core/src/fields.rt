@@ -27,7 +27,7 @@ pub fn read_32(bytes: &[u8], at: usize) -> [u8; 32]
 /// Writes a piece at place `at`. What stands before it and behind it stays.
 pub fn put(out: &mut [u8], at: usize, piece: &[u8])
     requires { at + length piece.now ≤ length out.old }
-    ensures front { take (at + length piece.now) out.new ≡ take at out.old ++ piece.now }
+    ensures prefix { take (at + length piece.now) out.new ≡ take at out.old ++ piece.now }
     ensures rest { drop (at + length piece.now) out.new ≡ drop (at + length piece.now) out.old }
 {
     out[at..at + piece.len()].copy_from_slice(piece);

@@ -1,13 +1,13 @@
 //! What follows of every one-time key.
 
 ghost use Rattle.std.specs.Prelude.{ℕ};
-ghost use Rattle.byte_forms.specs.Types.{Text};
+ghost use Rattle.byte_formats.specs.Types.{Text};
 ghost use Rattle.lmots_core.specs.Ots.{SignatureYieldsKey};
 
 use crate::parameters::OtsType;
 
 /// A law: whatever the secret, a signature leads back to the public key of the key that made it.
-pub fn signature_yields_key()
+pub fn law_signature_yields_key()
     ensures { (t : OtsType) (id seed message : Text) (q : ℕ)
         → SignatureYieldsKey t id q seed message }
 {}

@@ -17,7 +17,7 @@ pub struct SigBuf {
 
 impl Model for SigBuf {
     ghost use Rattle.std.specs.Prelude.{take, ◌≤◌};
-    ghost use Rattle.byte_forms.specs.Types.{Text};
+    ghost use Rattle.byte_formats.specs.Types.{Text};
 
     ghost Value = { Text };
 

@@ -7,7 +7,7 @@ use Rattle.std.proofs.lemmas.Bool.{le-ltb, lt-ltb}
 use Rattle.std.proofs.lemmas.Nat.{from_be_bytes-to_be_bytes_4}
 use Rattle.std.proofs.lemmas.Slice.Eq.{bytes_eq-Decides}
 use Rattle.std.specs.Int.{w32, to_be_bytes}
-use Rattle.byte_forms.specs.Types.{Text}
+use Rattle.byte_formats.specs.Types.{Text}
 use Rattle.lmots_core.specs.declared.parameters.OtsType.{OtsType}
 use Rattle.lmots_core.specs.Parameters.{signature_length, typecode, type_of_code}
 use Rattle.lmots_core.specs.Strings.{value_at, concatenated, u32_at}
@@ -85,8 +85,8 @@ unfolding lms_public
 lms_public-root k size =
     let types = to_be_bytes w32 (lms_code k.lms) ++ to_be_bytes w32 (typecode k.ots) in
     let root = tree_value k (height k.lms) 1 in
-    let front : length (types ++ k.id) ≡ 24 = omega (arith, length-append types k.id, size) in
-    rw (drop_at (types ++ k.id) root 24 front)
+    let prefix : length (types ++ k.id) ≡ 24 = omega (arith, length-append types k.id, size) in
+    rw (drop_at (types ++ k.id) root 24 prefix)
     (take_all 32 root (omega (arith, length-tree_value k (height k.lms) 1)))
 
 pub key_types-lms_public : (k : PrivateKey) → length k.id ≡ 16
@@ -146,7 +146,7 @@ lms_signature-lms : (k : PrivateKey) (q : ℕ) (message rest : Text)
 unfolding lms_signature
 lms_signature-lms k q message rest =
     let once = signature k.ots k.id q k.seed message in
-    let front : length (to_be_bytes w32 q ++ once) ≡ 4 + signature_length k.ots =
+    let prefix : length (to_be_bytes w32 q ++ once) ≡ 4 + signature_length k.ots =
     omega (
       arith,
       length-append (to_be_bytes w32 q) once,
@@ -155,7 +155,7 @@ lms_signature-lms k q message rest =
     let path = concatenated (path_node k q) (height k.lms) in
     rw append_assoc (word_part (to_be_bytes w32 q ++ once) (path ++ rest)
     (4 + signature_length k.ots) (lms_code k.lms)
-    front (lms_code_small k.lms))
+    prefix (lms_code_small k.lms))
 
 lms_signature-once : (k : PrivateKey) (q : ℕ) (message : Text)
     → take (signature_length k.ots) (drop 4 (lms_signature k q message))

@@ -1,6 +1,6 @@
 -- What a tree keeps of its nodes.
 use Rattle.std.specs.Prelude.{◌≡◌, ℕ, ◌-◌, ◌*◌, ◌^◌, ◌<◌, ◌≤◌, List, [], length, slice_index_or}
-use Rattle.byte_forms.specs.Types.{Hash}
+use Rattle.byte_formats.specs.Types.{Hash}
 use Rattle.lms_core.specs.declared.private_key.PrivateKey.{PrivateKey}
 use Rattle.lms_core.specs.Heights.{IsSigningHeight, height}
 use Rattle.lms_core.specs.Trees.{tree_value}

@@ -3,7 +3,7 @@
 use Rattle.std.specs.Prelude.{◌≡◌, ℕ, ◌+◌, ◌^◌, ◌==◌, ◌&&◌, if◌then◌else◌, Bool, false, nat_lt, not}
 use Rattle.std.specs.Prelude.{length, take, drop, Option, Some, None, Result, Ok, Err}
 use Rattle.std.specs.Str.{bytes_eq}
-use Rattle.byte_forms.specs.Types.{Hash, Text}
+use Rattle.byte_formats.specs.Types.{Hash, Text}
 use Rattle.lmots_core.specs.declared.parameters.OtsType.{OtsType}
 use Rattle.lmots_core.specs.Parameters.{signature_length, typecode, type_of_code}
 use Rattle.lmots_core.specs.Strings.{value_at, u32_at}
@@ -31,22 +31,22 @@ key_types key =
 
 -- ---- signatures
 
-abbrev pub front_after : OtsType → Option LmsType → Text → Option (LmsType × OtsType)
-front_after t None s = None
-front_after t (Some l) s =
+abbrev pub prefix_after : OtsType → Option LmsType → Text → Option (LmsType × OtsType)
+prefix_after t None s = None
+prefix_after t (Some l) s =
     if nat_lt (length s) (lms_signature_length l t) then None else Some (l, t)
 
-abbrev pub front_with : Option OtsType → Text → Option (LmsType × OtsType)
-front_with None s = None
-front_with (Some t) s =
+abbrev pub prefix_with : Option OtsType → Text → Option (LmsType × OtsType)
+prefix_with None s = None
+prefix_with (Some t) s =
     if nat_lt (length s) (8 + signature_length t) then None
-    else front_after t (lms_type_of_code (u32_at s (4 + signature_length t))) s
+    else prefix_after t (lms_type_of_code (u32_at s (4 + signature_length t))) s
 
 -- The types of the signature that the bytes begin with: the one-time typecode stands at place 4,
 -- that of the tree behind the one-time signature. None where the bytes begin with no whole
 -- signature.
 unfoldable pub front_types : Text → Option (LmsType × OtsType)
-front_types s = if nat_lt (length s) 8 then None else front_with (type_of_code (u32_at s 4)) s
+front_types s = if nat_lt (length s) 8 then None else prefix_with (type_of_code (u32_at s 4)) s
 
 -- The root that a signature leads to from the candidate key of its leaf.
 abbrev pub root_of_key : LmsType → OtsType → Text → Text → Hash → Hash

@@ -1,7 +1,7 @@
 //! What a signature is answered.
 
 ghost use Rattle.std.specs.Prelude.{◌≡◌, ◌+◌, ◌*◌, ◌<◌, ◌≤◌, ◌^◌, length, take, drop};
-ghost use Rattle.byte_forms.specs.Refusals.{answer_of};
+ghost use Rattle.byte_formats.specs.Refusals.{answer_of};
 ghost use Rattle.lmots_core.specs.Strings.{u32_at};
 ghost use Rattle.lms_core.specs.Heights.{height, lms_signature_length};
 ghost use Rattle.lms_core.specs.Refusals.{check_refusal, key_types, level_refusal, lms_refusal};
@@ -11,7 +11,7 @@ use crate::climbing::climb;
 use crate::heights::LmsType;
 use crate::nodes::leaf_node;
 use crate::refusals::SigError;
-use crate::whole::front;
+use crate::whole::prefix;
 use lmots_core::{OtsType, candidate, read_32, read_u32};
 
 /// The bytes of a public key (RFC 8554, section 5.3): two typecodes, the identifier and the root.
@@ -131,7 +131,7 @@ pub fn check(key: &[u8], message: &[u8], signature: &[u8]) -> Result<(), SigErro
     requires { length key.now ≡ 56 }
     ensures { result ≡ answer_of (check_refusal key.now message.now signature.now) }
 {
-    match front(signature) {
+    match prefix(signature) {
         None => Err(SigError::BadLength),
         Some((lms, ots)) => {
             if lms.signature_len(ots) == signature.len() {

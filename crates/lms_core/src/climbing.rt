@@ -15,7 +15,7 @@ use lmots_core::{SigBuf, read_32};
 pub fn put_path(key: &PrivateKey, nodes: &[[u8; 32]], q: u32, out: &mut SigBuf)
     requires held { HoldsNodes key.now nodes.now }
     requires index { q < 2 ^ height key.now.lms }
-    requires room { length out.old + 32 * height key.now.lms ≤ 17748 }
+    requires capacity { length out.old + 32 * height key.now.lms ≤ 17748 }
     ensures bytes { out.new ≡ out.old ++ concatenated (path_node key.now q) (height key.now.lms) }
     ensures size { length out.new ≡ length out.old + 32 * height key.now.lms }
 {

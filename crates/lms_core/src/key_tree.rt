@@ -96,7 +96,8 @@ impl Tree {
     #[tactic(auto, unfolding(crate::specs::Trees::lms_signature))]
     pub fn sign(&self, q: u32, message: &[u8], out: &mut SigBuf)
         requires index { q < 2 ^ height self.now.lms }
-        requires room { length out.old + lms_signature_length self.now.lms self.now.ots ≤ 17748 }
+        requires capacity { length out.old + lms_signature_length self.now.lms self.now.ots
+            ≤ 17748 }
         ensures bytes { out.new ≡ out.old ++ lms_signature self.now q message.now }
         ensures size { length out.new
             ≡ length out.old + lms_signature_length self.now.lms self.now.ots }

@@ -16,7 +16,7 @@ pub struct Secret {
 }
 
 impl Model for Secret {
-    ghost use Rattle.byte_forms.specs.Types.{Text};
+    ghost use Rattle.byte_formats.specs.Types.{Text};
 
     ghost Value = { Text };
 

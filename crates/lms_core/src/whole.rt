@@ -2,15 +2,15 @@
 
 ghost use Rattle.std.specs.Prelude.{◌≡◌, ◌≤◌, length, IfSome, Some};
 ghost use Rattle.lms_core.specs.Heights.{lms_signature_length};
-ghost use Rattle.lms_core.specs.Refusals.{front_types, front_with};
+ghost use Rattle.lms_core.specs.Refusals.{front_types, prefix_with};
 
 use crate::heights::LmsType;
 use lmots_core::{OtsType, read_u32};
 
 // The types of the signature that the bytes begin with, where its one-time type is this one.
-fn front_with(ots: OtsType, bytes: &[u8]) -> Option<(LmsType, OtsType)>
+fn prefix_with(ots: OtsType, bytes: &[u8]) -> Option<(LmsType, OtsType)>
     requires { 8 ≤ length bytes.now }
-    ensures types { result ≡ front_with (Some ots) bytes.now }
+    ensures types { result ≡ prefix_with (Some ots) bytes.now }
     ensures within { IfSome result (λ k. lms_signature_length k.0 k.1 ≤ length bytes.now) }
 {
     if bytes.len() < 8 + ots.signature_len() {
@@ -31,7 +31,7 @@ fn front_with(ots: OtsType, bytes: &[u8]) -> Option<(LmsType, OtsType)>
 /// The types of the signature that the bytes begin with, by its own typecodes; `None` where they
 /// begin with no whole signature. What stands behind it is not looked at.
 #[tactic(auto, unfolding(crate::specs::Refusals::front_types))]
-pub fn front(bytes: &[u8]) -> Option<(LmsType, OtsType)>
+pub fn prefix(bytes: &[u8]) -> Option<(LmsType, OtsType)>
     ensures types { result ≡ front_types bytes.now }
     ensures within { IfSome result (λ k. lms_signature_length k.0 k.1 ≤ length bytes.now) }
 {
@@ -40,6 +40,6 @@ pub fn front(bytes: &[u8]) -> Option<(LmsType, OtsType)>
     }
     match OtsType::from_typecode(read_u32(bytes, 4)) {
         None => None,
-        Some(ots) => front_with(ots, bytes),
+        Some(ots) => prefix_with(ots, bytes),
     }
 }

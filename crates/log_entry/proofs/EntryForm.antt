@@ -4,13 +4,13 @@ use Rattle.std.proofs.Common.{None, Result, Ok, Err, IfOk, refl, sym, ap, subst,
 use Rattle.std.proofs.Common.{arith, inl, inr, lit<, eqb-true, eq-eqb}
 use Rattle.std.specs.Prelude.{◌==◌, if◌then◌else◌}
 use Rattle.std.proofs.lemmas.List.{nil_from_length}
-use Rattle.byte_forms.specs.Types.{Text}
-use Rattle.byte_forms.specs.Places.{At, IsBytes, at}
-use Rattle.byte_forms.specs.Readings.{◌>>=◌, lifted, both_at, mapped_at, Gives}
-use Rattle.byte_forms.specs.Forms.{IsForm, Anything, Nothing, OtherThan, itself, both, FitsBoth}
-use Rattle.byte_forms.proofs.Steps.{bind_ok, chosen, pass_ok, ok_is, lifted_ok, IsBytes-rest}
-use Rattle.byte_forms.proofs.Forms.{said_form, spelled_form, ended_form, both_form, mapped_form}
-use Rattle.byte_forms.proofs.Forms.{tested_form, lifted_form}
+use Rattle.byte_formats.specs.Types.{Text}
+use Rattle.byte_formats.specs.Places.{At, IsBytes, at}
+use Rattle.byte_formats.specs.Readings.{◌>>=◌, lifted, both_at, mapped_at, Gives}
+use Rattle.byte_formats.specs.Forms.{IsForm, Anything, Nothing, OtherThan, itself, both, FitsBoth}
+use Rattle.byte_formats.proofs.Steps.{bind_ok, chosen, pass_ok, ok_is, lifted_ok, IsBytes-rest}
+use Rattle.byte_formats.proofs.Forms.{said_form, encoded_form, ended_form, both_form, mapped_form}
+use Rattle.byte_formats.proofs.Forms.{tested_form, lifted_form}
 use Rattle.der_core.specs.Elements.{element}
 use Rattle.der_core.specs.Reading.{end_at}
 use Rattle.der_core.specs.Fields.{der, contents_at}
@@ -48,7 +48,7 @@ unfolding key_hash_at
 key_hash_form =
     let Short : Text → Type 0 = λ contents. length contents < 2 ^ 24 in
     let Fits : Text → Type 0 = λ hash. Short hash × (has_hash_length hash ≡ true) in
-    spelled_form (element 0x04) key_hash_text IsHash Anything key_hash_at hash_is
+    encoded_form (element 0x04) key_hash_text IsHash Anything key_hash_at hash_is
     (said_form (element 0x04) Fits IsHash Anything Anything key_hash_at
     (λ hash f. eqb-true (length hash) 32 f.1) (λ hash e. (omega arith, eq-eqb (length hash) 32 e))
     (λ rest q. q)

@@ -3,8 +3,8 @@ use Rattle.std.proofs.Common.{◌≡◌, true, length, Option, Some, None, Resul
 use Rattle.std.proofs.Common.{◌∙◌}
 use Rattle.std.proofs.lemmas.Bool.{and_parts}
 use Rattle.std.proofs.lemmas.Slice.Eq.{bytes_eq-Decides}
-use Rattle.byte_forms.specs.Types.{Text, HashFunction}
-use Rattle.byte_forms.specs.Places.{IsBytes}
+use Rattle.byte_formats.specs.Types.{Text, HashFunction}
+use Rattle.byte_formats.specs.Places.{IsBytes}
 use Rattle.cert_time.specs.Times.{validity_element}
 use Rattle.cert_fields.specs.Certificate.{Parts}
 use Rattle.cert_fields.specs.Keys.{is_public_key}
@@ -35,7 +35,7 @@ matches_only h entry spki some other e =
     record {
       parts = p.0;
       fits = known.1;
-      spelled = known.0;
+      encoded = known.0;
       key = public_key_only spki other two.1;
       hash = p.2;
     }
@@ -44,7 +44,7 @@ pub matches_again : (h : HashFunction) (entry spki : Text) → Matches h entry s
     → matches h entry spki ≡ true
 unfolding matches
 matches_again h entry spki m =
-    let found : entry_in entry ≡ Ok (Some m.parts) = ap entry_in m.spelled
+    let found : entry_in entry ≡ Ok (Some m.parts) = ap entry_in m.encoded
     ∙ entries_again (Some m.parts) m.fits in
     let held : holds (h spki) (entry_in entry) ≡ true = ap (holds (h spki)) found
     ∙ (bytes_eq-Decides m.parts.key_hash (h spki)).1 m.hash in
@@ -56,7 +56,7 @@ written_matches h p spki f key same =
     matches_again h (tbs_text p) spki (record {
       parts = p;
       fits = f;
-      spelled = refl;
+      encoded = refl;
       key =
           key;
       hash = same;
@@ -94,17 +94,17 @@ made_tbs : (h : HashFunction) (t : TbsParts) (p : Parts) → IsTbs t → IsCerti
     → IsMadeOf h t p → tbs_with p (h p.spki) ≡ t
 made_tbs h t p f q m =
     let der : p.validity_der ≡ t.validity_der =
-    q.validity.spelled ∙ (ap validity_element m.validity ∙ sym f.validity.spelled) in
+    q.validity.encoded ∙ (ap validity_element m.validity ∙ sym f.validity.encoded) in
     rw (m.issuer, m.validity, der, m.subject, m.key, m.extensions) refl
 
-pub made_spelled : (h : HashFunction) (t : TbsParts) (p : Parts) → IsTbs t → IsCertificate p
+pub made_encoded : (h : HashFunction) (t : TbsParts) (p : Parts) → IsTbs t → IsCertificate p
     → IsMadeOf h t p → entry_of h p ≡ tbs_text t
 unfolding entry_of
-made_spelled h t p f q m = ap tbs_text (made_tbs h t p f q m)
+made_encoded h t p f q m = ap tbs_text (made_tbs h t p f q m)
 
 pub made_read : (h : HashFunction) (entry : Text) (t : TbsParts) (p : Parts) → IsBytes entry
     → entry_in entry ≡ Ok (Some t)
     → IsCertificate p → IsMadeOf h t p → entry_of h p ≡ entry
 made_read h entry t p bytes e q m =
     let known = entries_only entry (Some t) bytes e in
-    made_spelled h t p known.1 q m ∙ sym known.0
+    made_encoded h t p known.1 q m ∙ sym known.0

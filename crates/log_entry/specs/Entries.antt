@@ -1,9 +1,9 @@
 -- Entries: how their parts are spelled, one behind the other, and what the parts are, apart from
 -- any reader.
 use Rattle.std.specs.Prelude.{◌≡◌, ◌⊎◌, [], ◌∷◌, ◌++◌, length, Option, Some, None}
-use Rattle.byte_forms.specs.Types.{Text, Hash}
+use Rattle.byte_formats.specs.Types.{Text, Hash}
 use Rattle.cert_time.specs.Calendar.{Period}
-use Rattle.cert_fields.specs.Spelling.{version}
+use Rattle.cert_fields.specs.Encoding.{version}
 use Rattle.cert_fields.specs.Grammar.{IsName, IsValidity, IsExtensionsField}
 
 -- The parts of an entry of type 1. Issuer, validity, subject and extensions are whole elements; the

@@ -1,6 +1,6 @@
 -- The entry from which a certificate was made.
 use Rattle.std.specs.Prelude.{◌≡◌}
-use Rattle.byte_forms.specs.Types.{Text, Hash, HashFunction}
+use Rattle.byte_formats.specs.Types.{Text, Hash, HashFunction}
 use Rattle.cert_fields.specs.Certificate.{Parts}
 use Rattle.log_entry.specs.Entries.{TbsParts, tbs_text}
 

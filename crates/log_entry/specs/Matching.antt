@@ -1,7 +1,7 @@
 -- Whether a key is the one of an entry.
 use Rattle.std.specs.Prelude.{◌≡◌, ◌&&◌, Bool, false, Option, Some, None, Result, Ok, Err}
 use Rattle.std.specs.Str.{bytes_eq}
-use Rattle.byte_forms.specs.Types.{Text, Hash, HashFunction}
+use Rattle.byte_formats.specs.Types.{Text, Hash, HashFunction}
 use Rattle.cert_fields.specs.Keys.{is_public_key}
 use Rattle.cert_fields.specs.Grammar.{IsPublicKey}
 use Rattle.log_entry.specs.Entries.{TbsParts, tbs_text, IsTbs}
@@ -24,6 +24,6 @@ matches h entry spki = holds (h spki) (entry_in entry) && is_public_key spki
 pub record Matches (h : HashFunction) (entry spki : Text) : Type 0 where
   pub parts : TbsParts
   pub fits : IsTbs parts
-  pub spelled : entry ≡ tbs_text parts
+  pub encoded : entry ≡ tbs_text parts
   pub key : IsPublicKey spki
   pub hash : parts.key_hash ≡ h spki

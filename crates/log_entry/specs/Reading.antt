@@ -1,10 +1,10 @@
 -- Reading an entry, with its faults in their order.
 use Rattle.std.specs.Prelude.{ℕ, ◌+◌, ◌*◌, ◌==◌, Bool, [], ◌∷◌, length, Option, Some, None, Result}
 use Rattle.std.specs.Prelude.{Ok, Err, if◌then◌else◌}
-use Rattle.byte_forms.specs.Types.{Text, Hash}
-use Rattle.byte_forms.specs.Places.{At, at}
-use Rattle.byte_forms.specs.Readings.{Reading, ◌>>=◌, lifted, lifted_at, both_at, mapped_at}
-use Rattle.byte_forms.specs.Readings.{tested_at}
+use Rattle.byte_formats.specs.Types.{Text, Hash}
+use Rattle.byte_formats.specs.Places.{At, at}
+use Rattle.byte_formats.specs.Readings.{Reading, ◌>>=◌, lifted, lifted_at, both_at, mapped_at}
+use Rattle.byte_formats.specs.Readings.{tested_at}
 use Rattle.der_core.specs.Reading.{end_at}
 use Rattle.der_core.specs.Fields.{der, contents_at}
 use Rattle.der_core.specs.declared.fault.CertError.{CertError}

@@ -12,7 +12,7 @@
 mod entry;
 mod fault;
 mod hashing;
-mod laws;
+pub mod laws;
 mod matching;
 mod reading;
 mod writing;
@@ -20,10 +20,6 @@ mod writing;
 pub use entry::{Entry, EntryParts, TbsEntry};
 pub use fault::EntryError;
 pub use hashing::{entry_hash, key_hash};
-pub use laws::{
-    entries_are_of_their_certificates, entries_are_read_as_spelled, entries_have_one_spelling,
-    entries_of_certificates, written_entries_match_their_keys,
-};
 pub use matching::{is_key_of_tbs, key_matches};
 pub use reading::read_entry;
 pub use writing::{entry_of, write_entry};

@@ -1,8 +1,8 @@
 //! Reading an entry.
 
 ghost use Rattle.std.specs.Prelude.{◌≡◌, ◌≤◌, length, IfOk, Ok, Option};
-ghost use Rattle.byte_forms.specs.Places.{at};
-ghost use Rattle.byte_forms.specs.Readings.{Gives, Moves};
+ghost use Rattle.byte_formats.specs.Places.{at};
+ghost use Rattle.byte_formats.specs.Readings.{Gives, Moves};
 ghost use Rattle.log_entry.specs.Entries.{TbsParts, entry_text, IsEntry};
 ghost use Rattle.log_entry.specs.Reading.{key_hash_at, body_of, entry_in};
 ghost use Rattle.log_entry.specs.Views.{tbs_parts, entry_parts};

@@ -2,7 +2,7 @@
 use Rattle.std.proofs.Common.{◌≡◌, ◌≤◌, ℕ, List, [], Option, Some, Result, Ok, Err, length}
 use Rattle.std.proofs.Common.{Bool, false, inl, inr, refl, sym, subst, ap, ◌∙◌, arith}
 use Rattle.std.proofs.lemmas.Grind.{common_steps}
-use Rattle.byte_forms.specs.Types.{HashFunction, Text}
+use Rattle.byte_formats.specs.Types.{HashFunction, Text}
 use Rattle.disk_core.specs.declared.disk.Disk.{Ghosts as Disks}
 use Rattle.journal_core.specs.declared.error.AppendError.TheVariants.{Broken}
 use Rattle.mtc_room.specs.declared.room.Room.{Ghosts as Rooms}
@@ -12,13 +12,13 @@ use Rattle.cosigner_core.specs.Refusals.{cosign_refused, subtree_refusal}
 use Rattle.cosigner_core.specs.Requests.{AdvanceParts, SubtreeParts}
 use Rattle.cosigner_core.specs.declared.error.CosignError.TheVariants.{Append}
 use Rattle.cosigner_core.specs.declared.fault.FormError.{FormError}
-use Rattle.mtc_answers.specs.Answers.{Ending, refused, replied, reason_text}
-use Rattle.mtc_answers.specs.Served.{GivesBack, HasDone}
-use Rattle.mtc_answers.specs.Steps.{Outcome, answers, with_bytes, with_form}
-use Rattle.mtc_answers.specs.declared.answer.Stopped.TheVariants.{BadForm}
-use Rattle.mtc_answers.proofs.Inputs.{bytes_read}
-use Rattle.mtc_answers.proofs.Made.{OnlyNow}
-use Rattle.mtc_answers.proofs.Served.{behind, stopped}
+use Rattle.mtc_command.specs.Answers.{Ending, refused, replied, reason_text}
+use Rattle.mtc_command.specs.Served.{ClosesAll, HasDone}
+use Rattle.mtc_command.specs.Steps.{Outcome, answers, with_bytes, with_form}
+use Rattle.mtc_command.specs.declared.answer.Stopped.TheVariants.{BadForm}
+use Rattle.mtc_command.proofs.Inputs.{bytes_read}
+use Rattle.mtc_command.proofs.Made.{OnlyNow}
+use Rattle.mtc_command.proofs.Served.{behind, stopped}
 use Rattle.mtc_cosigner.specs.CosignerOutcomes.{form_fault_text}
 
 module _ {F : Type 0} (read : Text → Result F FormError) (next : F → Outcome) (file : Text) where
@@ -41,8 +41,8 @@ module _ {F : Type 0} (read : Text → Result F FormError) (next : F → Outcome
   -- a file that is no request
   pub no_request : {R S D : Type 0} (rooms : Rooms R S D) (disks : Disks D)
       (files names : List Text) (old new : R) (bytes reason : Text) (why : FormError)
-      (ending : Ending) → GivesBack rooms old new [] → OnlyNow disks
-      → (rooms.tells old → (rooms.file old file ≡ Some bytes) × (length bytes ≤ 16777216))
+      (ending : Ending) → ClosesAll rooms old new [] → OnlyNow disks
+      → (rooms.is_modelled old → (rooms.file old file ≡ Some bytes) × (length bytes ≤ 16777216))
       → read bytes ≡ Err why → reason ≡ form_fault_text why
       → ending ≡ replied (refused BadForm (Some file) reason)
       → HasDone rooms disks ⊥ files names [] (asks (rooms.file old file)) old new ending

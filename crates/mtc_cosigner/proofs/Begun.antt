@@ -1,13 +1,13 @@
 -- A new cosigner.
 use Rattle.std.proofs.Common.{◌≡◌, ◌≤◌, ℕ, Option, Some, length, ap, ◌∙◌, sym, subst, arith}
 use Rattle.std.proofs.lemmas.Grind.{common_steps}
-use Rattle.byte_forms.specs.Types.{Text}
+use Rattle.byte_formats.specs.Types.{Text}
 use Rattle.lmots_core.specs.declared.parameters.OtsType.{OtsType}
 use Rattle.lms_core.specs.declared.heights.LmsType.{LmsType}
 use Rattle.cosigner_core.specs.Records.{cosigner_record}
 use Rattle.cosigner_core.specs.declared.settings.CosignerSettings.{CosignerSettings}
-use Rattle.mtc_answers.specs.Steps.{Files, Outcome, starts, with_fresh}
-use Rattle.mtc_answers.proofs.Inputs.{bytes_read}
+use Rattle.mtc_command.specs.Steps.{Files, Outcome, starts, with_fresh}
+use Rattle.mtc_command.proofs.Inputs.{bytes_read}
 use Rattle.mtc_cosigner.specs.InitOutcome.{init_cosigner_outcome, init_says}
 use Rattle.mtc_cosigner.specs.KeygenOutcome.{lms_type, ots_type, public_line, with_secret}
 

@@ -2,21 +2,21 @@
 use Rattle.std.proofs.Common.{◌≡◌, ◌≤◌, ℕ, List, Option, IfSome, Ok, Err, Some, inl, inr}
 use Rattle.std.proofs.Common.{refl, ap}
 use Rattle.std.proofs.lemmas.Option.{IfSome_then}
-use Rattle.byte_forms.specs.Types.{HashFunction, Text}
-use Rattle.disk_core.specs.Moments.{Looks}
+use Rattle.byte_formats.specs.Types.{HashFunction, Text}
+use Rattle.disk_core.specs.Moments.{OnlyReads}
 use Rattle.disk_core.specs.declared.disk.Disk.{Ghosts}
-use Rattle.journal_core.specs.Format.{StandsFor}
-use Rattle.journal_core.specs.Words.{AllStandFor}
+use Rattle.journal_core.specs.Format.{Represents}
+use Rattle.journal_core.specs.Words.{AllRepresent}
 use Rattle.journal_core.specs.declared.error.OpenError.TheVariants as open_error
 use Rattle.cosigner_core.specs.Folds.{CosignerState}
 use Rattle.cosigner_core.specs.Openings.{FoundCosigner, HasCosignerCause, cosigner_read}
 use Rattle.cosigner_core.specs.declared.error.CosignerOpenError.{CosignerOpenError}
 use Rattle.cosigner_core.specs.declared.error.CosignerOpenError.TheVariants.{Open}
-use Rattle.mtc_answers.specs.Answers.{no_memory, refused, replied, room_failed}
-use Rattle.mtc_answers.specs.Steps.{Outcome, answers, with_form}
-use Rattle.mtc_answers.specs.Works.{HasWorkedOn}
-use Rattle.mtc_answers.specs.declared.answer.Stopped.TheVariants.{BadForm}
-use Rattle.mtc_answers.proofs.Works.{not_opened}
+use Rattle.mtc_command.specs.Answers.{no_memory, refused, replied, room_failed}
+use Rattle.mtc_command.specs.Steps.{Outcome, answers, with_form}
+use Rattle.mtc_command.specs.Works.{HasWorkedOn}
+use Rattle.mtc_command.specs.declared.answer.Stopped.TheVariants.{BadForm}
+use Rattle.mtc_command.proofs.Works.{not_opened}
 use Rattle.mtc_cosigner.specs.Works.{cosigner_bytes_say, found_cosigner, cosigner_open_ending}
 use Rattle.mtc_cosigner.specs.Works.{cosigner_open_text}
 
@@ -24,29 +24,29 @@ use Rattle.mtc_cosigner.specs.Works.{cosigner_open_text}
 -- the device and each image of it stand for them.
 pub record IsFound {D : Type 0} (g : Ghosts D) (says : Text → Outcome) (next : List Text → Outcome)
     (old new : D) (records : Option (List Text)) : Type 0 where
-  pub told : IfSome (g.told old) (λ b. IfSome records (λ list. says b ≡ next list))
-  pub stands : IfSome (g.told new) (λ b. IfSome records (StandsFor b))
-  pub all : IfSome records (AllStandFor g new)
+  pub contents : IfSome (g.contents old) (λ b. IfSome records (λ list. says b ≡ next list))
+  pub stands : IfSome (g.contents new) (λ b. IfSome records (Represents b))
+  pub all : IfSome records (AllRepresent g new)
 
 module _ (h : HashFunction) (name : Text) (says : FoundCosigner → Outcome) where
   -- the outcome of the bytes is that of the cosigner that was found
-  pub found_says : (told : Option Text) (list : Option (List Text)) (state : CosignerState)
-      → IfSome told (λ b. IfSome list (λ l. cosigner_read h b ≡ Ok (found_cosigner state l)))
-      → IfSome told (λ b. IfSome list (λ l.
+  pub found_says : (contents : Option Text) (list : Option (List Text)) (state : CosignerState)
+      → IfSome contents (λ b. IfSome list (λ l. cosigner_read h b ≡ Ok (found_cosigner state l)))
+      → IfSome contents (λ b. IfSome list (λ l.
       cosigner_bytes_say h name says b ≡ says (found_cosigner state l)))
-  found_says told list state found = IfSome_then told found (λ b read. IfSome_then list read
+  found_says contents list state found = IfSome_then contents found (λ b read. IfSome_then list read
       (λ l is. ap (λ r. with_form cosigner_open_text name r says) is))
 
-  module _ {D : Type 0} (g : Ghosts D) (old new : D) (looks : Looks g old new) where
+  module _ {D : Type 0} (g : Ghosts D) (old new : D) (only_reads : OnlyReads g old new) where
     -- a file that is no cosigner's
     no_cosigner : (why : CosignerOpenError)
-        → IfSome (g.told old) (λ b. cosigner_read h b ≡ Err why)
+        → IfSome (g.contents old) (λ b. cosigner_read h b ≡ Err why)
         → HasWorkedOn g name (cosigner_bytes_say h name says) old new
         (replied (refused BadForm (Some name) (cosigner_open_text why)))
-    no_cosigner why is = not_opened g name (cosigner_bytes_say h name says) old new looks
+    no_cosigner why is = not_opened g name (cosigner_bytes_say h name says) old new only_reads
         (replied (refused BadForm (Some name) (cosigner_open_text why)))
-        (record { plain = λ e. absurd cc; later = looks.faults; fault = tt }) (inr (inl refl))
-        (IfSome_then (g.told old) is
+        (record { plain = λ e. absurd cc; later = only_reads.faults; fault = tt }) (inr (inl refl))
+        (IfSome_then (g.contents old) is
         (λ b read. ap (λ r. with_form cosigner_open_text name r says) read))
 
     -- a cosigner that wasn't opened
@@ -55,9 +55,9 @@ module _ (h : HashFunction) (name : Text) (says : FoundCosigner → Outcome) whe
         (cosigner_open_ending name why)
     refused_says (Open open_error.Failed) is = not_opened g name
         (cosigner_bytes_say h name says) old new
-        looks (room_failed name)
-        (record { plain = tt; later = looks.faults; fault = (is, inl refl) }) tt tt
+        only_reads (room_failed name)
+        (record { plain = tt; later = only_reads.faults; fault = (is, inl refl) }) tt tt
     refused_says (Open open_error.Memory) is = not_opened g name
         (cosigner_bytes_say h name says) old new
-        looks no_memory (record { plain = tt; later = looks.faults; fault = tt }) tt tt
+        only_reads no_memory (record { plain = tt; later = only_reads.faults; fault = tt }) tt tt
     refused_says why is = no_cosigner why is

@@ -3,11 +3,11 @@ use Rattle.std.proofs.Common.{◌≡◌, List, Bool, false, Option, None, Some, 
 use Rattle.std.proofs.Common.{IfSome, IsOk, Ok, Err, inl, refl, sym, subst, ap, ◌∙◌, ℕ, ◌++◌, []}
 use Rattle.std.proofs.Common.{◌∷◌}
 use Rattle.std.proofs.lemmas.Option.{IfSome_then}
-use Rattle.byte_forms.specs.Types.{HashFunction, Text}
+use Rattle.byte_formats.specs.Types.{HashFunction, Text}
 use Rattle.disk_core.specs.Moments.{LeavesOnly}
 use Rattle.disk_core.specs.declared.disk.Disk.{Ghosts}
-use Rattle.journal_core.specs.Format.{StandsForEither, end_behind}
-use Rattle.journal_core.specs.Words.{AllStandFor}
+use Rattle.journal_core.specs.Format.{RepresentsEither, end_behind}
+use Rattle.journal_core.specs.Words.{AllRepresent}
 use Rattle.journal_core.specs.declared.error.AppendError.TheVariants as append_error
 use Rattle.tree_core.specs.declared.hashing.TreeHash.{Ghosts as Hashes}
 use Rattle.cosigner_core.specs.Folds.{CosignerState, cosigner_of}
@@ -18,15 +18,15 @@ use Rattle.cosigner_core.specs.Words.{cosigner_disk, cosigner_end, cosigner_reco
 use Rattle.cosigner_core.specs.declared.cosigner.Cosigner.{Cosigner}
 use Rattle.cosigner_core.specs.declared.error.CosignError.{CosignError}
 use Rattle.cosigner_core.specs.declared.error.CosignError.TheVariants.{Append}
-use Rattle.mtc_answers.specs.Answers.{refused, replied, said, stopped_code}
-use Rattle.mtc_answers.specs.Steps.{Outcome}
-use Rattle.mtc_answers.specs.Valid.{AddsValid}
-use Rattle.mtc_answers.specs.Works.{journaled_by}
-use Rattle.mtc_answers.specs.declared.answer.Said.TheVariants.{Done}
-use Rattle.mtc_answers.specs.declared.answer.Stopped.{Stopped}
-use Rattle.mtc_answers.specs.declared.answer.Stopped.TheVariants.{NotAllowed}
-use Rattle.mtc_answers.specs.declared.answer.Stopped.TheVariants.{Beyond as OverLimit}
-use Rattle.mtc_answers.proofs.Works.{appended_on, failed_on, read_on, says_so}
+use Rattle.mtc_command.specs.Answers.{refused, replied, said, stopped_code}
+use Rattle.mtc_command.specs.Steps.{Outcome}
+use Rattle.mtc_command.specs.Valid.{AddsValid}
+use Rattle.mtc_command.specs.Works.{journaled_by}
+use Rattle.mtc_command.specs.declared.answer.Said.TheVariants.{Done}
+use Rattle.mtc_command.specs.declared.answer.Stopped.{Stopped}
+use Rattle.mtc_command.specs.declared.answer.Stopped.TheVariants.{NotAllowed}
+use Rattle.mtc_command.specs.declared.answer.Stopped.TheVariants.{Beyond as OverLimit}
+use Rattle.mtc_command.proofs.Works.{appended_on, failed_on, read_on, says_so}
 use Rattle.mtc_cosigner.specs.CosignerOutcomes.{step_ending, step_fault_text, step_stopped, stepped}
 use Rattle.mtc_cosigner.specs.Works.{HasWorkedOnCosigner, IsCosigner, IsReadyCosigner}
 use Rattle.mtc_cosigner.specs.Works.{StaysCosigner}

@@ -1,7 +1,7 @@
 -- The outcomes of `advance` and `cosign` over a cosigner that was found.
 use Rattle.std.specs.Prelude.{ℕ, false, ◌++◌, codes, Option, Some, None}
 use Rattle.std.specs.Fmt.{decimal}
-use Rattle.byte_forms.specs.Types.{HashFunction, Text}
+use Rattle.byte_formats.specs.Types.{HashFunction, Text}
 use Rattle.journal_core.specs.Format.{end_behind}
 use Rattle.journal_core.specs.declared.error.AppendError.TheVariants as append_error
 use Rattle.mtc_proof.specs.Proofs.{signature_text}
@@ -19,12 +19,12 @@ use Rattle.cosigner_core.specs.declared.error.CosignError.TheVariants.{Exhausted
 use Rattle.cosigner_core.specs.declared.fault.FormError.{FormError}
 use Rattle.cosigner_core.specs.declared.fault.FormError.TheVariants.{Short, HashLength}
 use Rattle.cosigner_core.specs.declared.fault.FormError.TheVariants.{Trailing, EmptyId}
-use Rattle.mtc_answers.specs.Answers.{Ending, replied, room_failed, refused}
-use Rattle.mtc_answers.specs.Steps.{Outcome, appends, says_on, stops_on}
-use Rattle.mtc_answers.specs.declared.answer.Said.TheVariants.{Done}
-use Rattle.mtc_answers.specs.declared.answer.Stopped.{Stopped}
-use Rattle.mtc_answers.specs.declared.answer.Stopped.TheVariants.{NotAllowed}
-use Rattle.mtc_answers.specs.declared.answer.Stopped.TheVariants.{Beyond as OverLimit}
+use Rattle.mtc_command.specs.Answers.{Ending, replied, room_failed, refused}
+use Rattle.mtc_command.specs.Steps.{Outcome, appends, says_on, stops_on}
+use Rattle.mtc_command.specs.declared.answer.Said.TheVariants.{Done}
+use Rattle.mtc_command.specs.declared.answer.Stopped.{Stopped}
+use Rattle.mtc_command.specs.declared.answer.Stopped.TheVariants.{NotAllowed}
+use Rattle.mtc_command.specs.declared.answer.Stopped.TheVariants.{Beyond as OverLimit}
 
 -- Why a file is no request.
 abbrev pub form_fault_text : FormError → Text

@@ -1,9 +1,9 @@
 -- The outcome of `init-cosigner S ID LOGID HEIGHT WIDTH SECRET`.
 use Rattle.std.specs.Prelude.{ℕ, Option}
-use Rattle.byte_forms.specs.Types.{Text}
+use Rattle.byte_formats.specs.Types.{Text}
 use Rattle.cosigner_core.specs.Records.{cosigner_record}
 use Rattle.cosigner_core.specs.declared.settings.CosignerSettings.{CosignerSettings}
-use Rattle.mtc_answers.specs.Steps.{Outcome, Files, starts, with_bytes, with_fresh}
+use Rattle.mtc_command.specs.Steps.{Outcome, Files, starts, with_bytes, with_fresh}
 use Rattle.mtc_cosigner.specs.KeygenOutcome.{lms_type, ots_type, public_line, with_secret}
 
 -- What a cosigner says of itself from its first record on.

@@ -1,7 +1,7 @@
 -- The outcome of `keygen HEIGHT WIDTH SECRET`.
 use Rattle.std.specs.Prelude.{ℕ, ◌==◌, nat_lt, ◌++◌, length, codes, if◌then◌else◌}
 use Rattle.std.specs.Fmt.{decimal}
-use Rattle.byte_forms.specs.Types.{Text}
+use Rattle.byte_formats.specs.Types.{Text}
 use Rattle.base64.specs.Engines.{standard}
 use Rattle.base64.specs.GeneralPurpose.{encode_of}
 use Rattle.lmots_core.specs.declared.parameters.OtsType.{OtsType}
@@ -10,9 +10,9 @@ use Rattle.lms_core.specs.declared.heights.LmsType.{LmsType}
 use Rattle.lms_core.specs.declared.heights.LmsType.TheVariants.{H5, H10}
 use Rattle.lms_core.specs.Trees.{private_key}
 use Rattle.hss_core.specs.Hss.{one_level_public}
-use Rattle.mtc_answers.specs.declared.answer.Said.TheVariants.{Done}
-use Rattle.mtc_answers.specs.declared.answer.Stopped.TheVariants.{BadForm}
-use Rattle.mtc_answers.specs.Steps.{Outcome, Files, says, stops_at, with_bytes}
+use Rattle.mtc_command.specs.declared.answer.Said.TheVariants.{Done}
+use Rattle.mtc_command.specs.declared.answer.Stopped.TheVariants.{BadForm}
+use Rattle.mtc_command.specs.Steps.{Outcome, Files, says, stops_at, with_bytes}
 
 -- The type of a tree by its height, 5 or 10, and of its one-time keys by their width, 1, 2, 4 or 8.
 abbrev pub lms_type : ℕ → LmsType

@@ -1,7 +1,7 @@
 -- What a file is that is opened as a cosigner's, and what a command has to reply over it.
 use Rattle.std.specs.Prelude.{◌≡◌, ◌++◌, false, codes, List, Option, Some, IfSome, IsOk}
 use Rattle.std.specs.Fmt.{decimal}
-use Rattle.byte_forms.specs.Types.{HashFunction, Text}
+use Rattle.byte_formats.specs.Types.{HashFunction, Text}
 use Rattle.disk_core.specs.declared.disk.Disk.{Ghosts}
 use Rattle.journal_core.specs.Format.{end_behind}
 use Rattle.journal_core.specs.declared.error.OpenError.TheVariants as open_error
@@ -15,11 +15,11 @@ use Rattle.cosigner_core.specs.Words.{cosigner_records, cosigner_state}
 use Rattle.cosigner_core.specs.declared.cosigner.Cosigner.{Cosigner}
 use Rattle.cosigner_core.specs.declared.error.CosignerOpenError.{CosignerOpenError}
 use Rattle.cosigner_core.specs.declared.error.CosignerOpenError.TheVariants.{BadRecord, Open}
-use Rattle.mtc_answers.specs.Answers.{Ending, replied, room_failed, no_memory, refused}
-use Rattle.mtc_answers.specs.Steps.{Outcome, Files, with_bytes, with_file, with_form}
-use Rattle.mtc_answers.specs.Valid.{WorksValidly}
-use Rattle.mtc_answers.specs.Works.{HasWorked as HasWorkedWith}
-use Rattle.mtc_answers.specs.declared.answer.Stopped.TheVariants.{BadForm}
+use Rattle.mtc_command.specs.Answers.{Ending, replied, room_failed, no_memory, refused}
+use Rattle.mtc_command.specs.Steps.{Outcome, Files, with_bytes, with_file, with_form}
+use Rattle.mtc_command.specs.Valid.{WorksValidly}
+use Rattle.mtc_command.specs.Works.{HasWorked as HasWorkedWith}
+use Rattle.mtc_command.specs.declared.answer.Stopped.TheVariants.{BadForm}
 use Rattle.mtc_cosigner.specs.CosignerOutcomes.{advance_says, cosign_says, export_says}
 use Rattle.mtc_cosigner.specs.CosignerOutcomes.{form_fault_text}
 use Rattle.mtc_cosigner.specs.declared.work.Work.{Work}

@@ -2,10 +2,10 @@
 //! back.
 
 ghost use Rattle.std.specs.Prelude.{◌≡◌, ◌<◌, ◌^◌, [], ◌∷◌};
-ghost use Rattle.mtc_answers.specs.Answers.{stop_ending, ending_of};
-ghost use Rattle.mtc_answers.specs.Served.{HasServed};
-ghost use Rattle.mtc_answers.specs.Valid.{KeepsValid, ServesValidly};
-ghost use Rattle.mtc_answers.specs.Works.{HasWorkedOn};
+ghost use Rattle.mtc_command.specs.Answers.{stop_ending, ending_of};
+ghost use Rattle.mtc_command.specs.Served.{HasServed};
+ghost use Rattle.mtc_command.specs.Valid.{KeepsValid, ServesValidly};
+ghost use Rattle.mtc_command.specs.Works.{HasWorkedOn};
 ghost use Rattle.mtc_cosigner.specs.Works.{IsCosigner, cosigner_bytes_say, cosigner_outcome};
 ghost use Rattle.mtc_cosigner.specs.Works.{cosigner_open_ending, cosigner_says};
 
@@ -13,7 +13,7 @@ use crate::work::{Work, carry_out};
 use cosigner_core::{Cosigner, CosignerOpenError};
 use disk_core::Disk;
 use journal_core::{OpenError, Refused};
-use mtc_answers::{Answer, Reason, Stop, Stopped, give_back, lend, refuse_file};
+use mtc_command::{Answer, Reason, Stop, Stopped, close, open_file, refuse_file};
 use mtc_room::Room;
 use std::alloc::Global;
 use tree_core::TreeHash;
@@ -70,7 +70,7 @@ pub fn on_cosigner<'a, H: TreeHash, R: Room>(
     journal: &'a str,
     work: &Work<'_>,
 ) -> Result<Answer, Stop<'a>>
-    requires { R.lent room.old < 2 ^ 32 }
+    requires { R.opened room.old < 2 ^ 32 }
     ensures serves { HasServed R.Room R.Dsk.Disk (journal.now ∷ []) journal.now
         (cosigner_outcome H.hash journal.now (R.file room.old journal.now)
         (cosigner_says H.hash work.now)) room.old room.new (ending_of result) }
@@ -78,8 +78,8 @@ pub fn on_cosigner<'a, H: TreeHash, R: Room>(
         (cosigner_outcome H.hash journal.now (R.file room.old journal.now)
         (cosigner_says H.hash work.now)) room.old room.new }
 {
-    let disk = lend(room, journal)?;
+    let disk = open_file(room, journal)?;
     let (disk, answer) = on_device::<H, R::Dsk>(alloc, disk, journal, work);
-    give_back(room, journal, disk);
+    close(room, journal, disk);
     answer
 }

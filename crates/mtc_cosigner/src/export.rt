@@ -1,10 +1,10 @@
 //! The command `export`: what others may know of a cosigner.
 
 ghost use Rattle.std.specs.Prelude.{◌≡◌, ◌<◌, ◌^◌, [], ◌∷◌, Some};
-ghost use Rattle.mtc_answers.specs.Answers.{ending_of};
+ghost use Rattle.mtc_command.specs.Answers.{ending_of};
 ghost use Rattle.mtc_cosigner.specs.CosignerOutcomes.{export_says};
-ghost use Rattle.mtc_answers.specs.Served.{HasServed};
-ghost use Rattle.mtc_answers.specs.Valid.{KeepsValid};
+ghost use Rattle.mtc_command.specs.Served.{HasServed};
+ghost use Rattle.mtc_command.specs.Valid.{KeepsValid};
 ghost use Rattle.mtc_cosigner.specs.Works.{HasWorkedOnCosigner, IsCosigner, IsReadyCosigner};
 ghost use Rattle.mtc_cosigner.specs.Works.{StaysCosigner, export_outcome};
 
@@ -12,7 +12,7 @@ use crate::cosigner_command::on_cosigner;
 use crate::work::Work;
 use cosigner_core::{Cosigner, ExportError};
 use disk_core::Disk;
-use mtc_answers::{Answer, Said, Stop};
+use mtc_command::{Answer, Said, Stop};
 use mtc_io::{Bytes, Failed, Memory, Sink};
 use mtc_room::Room;
 use std::alloc::Global;
@@ -82,7 +82,7 @@ pub fn export<'a, H: TreeHash, R: Room>(
     room: &mut R,
     journal: &'a str,
 ) -> Result<Answer, Stop<'a>>
-    requires { R.lent room.old < 2 ^ 32 }
+    requires { R.opened room.old < 2 ^ 32 }
     ensures serves { HasServed R.Room R.Dsk.Disk (journal.now ∷ []) journal.now
         (export_outcome H.hash journal.now (R.file room.old)) room.old room.new
         (ending_of result) }

@@ -1,20 +1,20 @@
 //! The command `init-cosigner`: a new cosigner.
 
 ghost use Rattle.std.specs.Prelude.{◌≡◌, ◌<◌, ◌^◌, true, [], ◌∷◌};
-ghost use Rattle.byte_forms.specs.Types.{HashFunction};
+ghost use Rattle.byte_formats.specs.Types.{HashFunction};
 ghost use Rattle.lms_core.specs.Heights.{IsSigningHeight};
 ghost use Rattle.mtc_words.specs.Commands.{is_height, is_width};
-ghost use Rattle.mtc_answers.specs.Answers.{ending_of};
-ghost use Rattle.mtc_answers.specs.Served.{HasServed};
-ghost use Rattle.mtc_answers.specs.Valid.{KeepsValid};
-ghost use Rattle.mtc_answers.specs.Works.{TellsNew};
+ghost use Rattle.mtc_command.specs.Answers.{ending_of};
+ghost use Rattle.mtc_command.specs.Served.{HasServed};
+ghost use Rattle.mtc_command.specs.Valid.{KeepsValid};
+ghost use Rattle.mtc_command.specs.Works.{ModelsNew};
 ghost use Rattle.mtc_cosigner.specs.InitOutcome.{init_cosigner_outcome, init_says};
 ghost use Rattle.mtc_cosigner.specs.Works.{IsCosigner};
 
 use crate::keygen::{chains_of_width, line_of_key, refuse_secret, tree_of_height};
 use cosigner_core::{CosignerSettings, pack};
 use hss_core::Secret;
-use mtc_answers::{Answer, INPUT_LIMIT, Stop, make_journal, read_input};
+use mtc_command::{Answer, INPUT_LIMIT, Stop, make_journal, read_input};
 use mtc_room::Room;
 use std::alloc::Global;
 use tls_wire::AnchorId;
@@ -28,7 +28,7 @@ fn init_with<'a, R: Room>(
     file: &'a str,
     secret: &[u8],
 ) -> Result<Answer, Stop<'a>>
-    requires lent { R.lent room.old < 2 ^ 32 }
+    requires opened { R.opened room.old < 2 ^ 32 }
     requires signs { IsSigningHeight settings.now.lms }
     ensures serves { HasServed R.Room R.Dsk.Disk (journal.now ∷ (file.now ∷ [])) journal.now
         (init_says journal.now settings.now file.now (R.file room.old journal.now) secret.now)
@@ -37,7 +37,7 @@ fn init_with<'a, R: Room>(
         → KeepsValid R.Room R.Dsk.Disk (IsCosigner h) (journal.now ∷ [])
         (init_says journal.now settings.now file.now (R.file room.old journal.now) secret.now)
         room.old room.new }
-    ensures begins { TellsNew R.Room R.Dsk.Disk journal.now room.old room.new (ending_of result) }
+    ensures begins { ModelsNew R.Room R.Dsk.Disk journal.now room.old room.new (ending_of result) }
 {
     match Secret::from_slice(secret) {
         Some(secret) => {
@@ -61,7 +61,7 @@ pub fn init_cosigner<'a, R: Room>(
     width: u64,
     file: &'a str,
 ) -> Result<Answer, Stop<'a>>
-    requires lent { R.lent room.old < 2 ^ 32 }
+    requires opened { R.opened room.old < 2 ^ 32 }
     requires height { is_height height ≡ true }
     requires width { is_width width ≡ true }
     ensures serves { HasServed R.Room R.Dsk.Disk (journal.now ∷ (file.now ∷ [])) journal.now
@@ -71,7 +71,7 @@ pub fn init_cosigner<'a, R: Room>(
         → KeepsValid R.Room R.Dsk.Disk (IsCosigner h) (journal.now ∷ [])
         (init_cosigner_outcome journal.now id log height width file.now (R.file room.old))
         room.old room.new }
-    ensures begins { TellsNew R.Room R.Dsk.Disk journal.now room.old room.new (ending_of result) }
+    ensures begins { ModelsNew R.Room R.Dsk.Disk journal.now room.old room.new (ending_of result) }
 {
     let settings = CosignerSettings {
         id,

@@ -9,13 +9,13 @@ ghost use Rattle.lms_core.specs.Heights.{IsSigningHeight};
 ghost use Rattle.mtc_words.specs.Commands.{is_height, is_width};
 ghost use Rattle.mtc_cosigner.specs.KeygenOutcome.{lms_type, ots_type, public_line, keygen_says};
 ghost use Rattle.mtc_cosigner.specs.KeygenOutcome.{keygen_outcome};
-ghost use Rattle.mtc_answers.specs.Answers.{ending_of, stop_ending, replied, refused};
-ghost use Rattle.mtc_answers.specs.Endings.{Replies};
-ghost use Rattle.mtc_answers.specs.Served.{HasAnswered};
+ghost use Rattle.mtc_command.specs.Answers.{ending_of, stop_ending, replied, refused};
+ghost use Rattle.mtc_command.specs.Endings.{Replies};
+ghost use Rattle.mtc_command.specs.Served.{HasAnswered};
 
 use base64::engine::general_purpose::STANDARD;
 use hss_core::{Key, LmsType, OtsType, SECRET_LEN, Secret};
-use mtc_answers::{Answer, INPUT_LIMIT, Reason, Said, Stop, Stopped, read_input, refuse_file};
+use mtc_command::{Answer, INPUT_LIMIT, Reason, Said, Stop, Stopped, read_input, refuse_file};
 use mtc_io::{Bytes, Memory};
 use mtc_room::Room;
 use std::alloc::{AllocError, Global};
@@ -108,7 +108,7 @@ pub fn keygen<'a, R: Room>(
     width: u64,
     file: &'a str,
 ) -> Result<Answer, Stop<'a>>
-    requires lent { R.lent room.old < 2 ^ 32 }
+    requires opened { R.opened room.old < 2 ^ 32 }
     requires height { is_height height ≡ true }
     requires width { is_width width ≡ true }
     ensures { HasAnswered R.Room R.Dsk.Disk (file.now ∷ [])

@@ -3,11 +3,11 @@
 ghost use Rattle.std.specs.Prelude.{◌≡◌, ◌≢◌, ◌<◌, ◌≤◌, ◌+◌, ◌++◌, ◌^◌, [], ◌∷◌, length, IfOk};
 ghost use Rattle.std.specs.Prelude.{vec_len, vec_capacity};
 ghost use Rattle.std.specs.Int.{w8, w16};
-ghost use Rattle.tls_wire.specs.Spelling.{vector};
+ghost use Rattle.tls_wire.specs.Encoding.{vector};
 ghost use Rattle.cosigner_core.specs.Views.{advance_parts, subtree_parts};
-ghost use Rattle.mtc_answers.specs.Answers.{stop_ending, ending_of, reason_text};
-ghost use Rattle.mtc_answers.specs.Served.{HasServed};
-ghost use Rattle.mtc_answers.specs.Valid.{KeepsValid};
+ghost use Rattle.mtc_command.specs.Answers.{stop_ending, ending_of, reason_text};
+ghost use Rattle.mtc_command.specs.Served.{HasServed};
+ghost use Rattle.mtc_command.specs.Valid.{KeepsValid};
 ghost use Rattle.mtc_cosigner.specs.CosignerOutcomes.{advance_says, advanced_text, cosign_says};
 ghost use Rattle.mtc_cosigner.specs.CosignerOutcomes.{form_fault_text, step_ending};
 ghost use Rattle.mtc_cosigner.specs.Works.{HasWorkedOnCosigner, IsCosigner, IsReadyCosigner};
@@ -21,7 +21,7 @@ use cosigner_core::{
 use disk_core::Disk;
 use hss_core::SigBuf;
 use journal_core::AppendError;
-use mtc_answers::{
+use mtc_command::{
     Answer, INPUT_LIMIT, Reason, Said, Stop, Stopped, read_input, refuse, refuse_file,
 };
 use mtc_io::{Bytes, Memory};
@@ -31,7 +31,7 @@ use tls_wire::AnchorId;
 use tree_core::TreeHash;
 
 // The room for a signature: a buffer holds no more.
-const ROOM: usize = 17_748;
+const CAPACITY: usize = 17_748;
 
 // Why a file is no request.
 fn reason_of(why: FormError) -> Reason
@@ -103,7 +103,7 @@ fn begun_with(alloc: Global, id: &AnchorId) -> Result<Vec<u8>, AllocError>
     ensures room { IfOk result (λ text. vec_len text + 2 + 17748 ≤ vec_capacity text) }
 {
     let id = id.as_bytes();
-    let mut text = Vec::with_capacity(alloc, 1 + id.len() + 2 + ROOM)?;
+    let mut text = Vec::with_capacity(alloc, 1 + id.len() + 2 + CAPACITY)?;
     text.push(id.len() as u8)?;
     text.extend_from_slice(id)?;
     Ok(text)
@@ -158,7 +158,7 @@ pub fn advance<'a, H: TreeHash, R: Room>(
     journal: &'a str,
     file: &'a str,
 ) -> Result<Answer, Stop<'a>>
-    requires { R.lent room.old < 2 ^ 32 }
+    requires { R.opened room.old < 2 ^ 32 }
     ensures serves { HasServed R.Room R.Dsk.Disk (journal.now ∷ (file.now ∷ [])) journal.now
         (advance_outcome H.hash journal.now file.now (R.file room.old))
         room.old room.new (ending_of result) }
@@ -180,7 +180,7 @@ pub fn cosign<'a, H: TreeHash, R: Room>(
     journal: &'a str,
     file: &'a str,
 ) -> Result<Answer, Stop<'a>>
-    requires { R.lent room.old < 2 ^ 32 }
+    requires { R.opened room.old < 2 ^ 32 }
     ensures serves { HasServed R.Room R.Dsk.Disk (journal.now ∷ (file.now ∷ [])) journal.now
         (cosign_outcome H.hash journal.now file.now (R.file room.old))
         room.old room.new (ending_of result) }

@@ -1,7 +1,7 @@
 //! The work of a command on a cosigner whose journal is open: its own refusals, its text, and at
 //! most one append, behind which nothing wants memory.
 
-ghost use Rattle.mtc_answers.specs.Answers.{ending_of};
+ghost use Rattle.mtc_command.specs.Answers.{ending_of};
 ghost use Rattle.mtc_cosigner.specs.Works.{HasWorkedOnCosigner, IsReadyCosigner, StaysCosigner};
 ghost use Rattle.mtc_cosigner.specs.Works.{cosigner_says};
 
@@ -9,7 +9,7 @@ use crate::export::export_on;
 use crate::requests::{advance_on, cosign_on};
 use cosigner_core::{AdvanceRequest, Cosigner, SubtreeRequest};
 use disk_core::Disk;
-use mtc_answers::{Answer, Stop};
+use mtc_command::{Answer, Stop};
 use std::alloc::Global;
 use tree_core::TreeHash;
 

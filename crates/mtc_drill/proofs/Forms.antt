@@ -3,9 +3,9 @@ use Rattle.std.proofs.Common.{◌≡◌, ◌≤◌, ◌+◌, ◌-◌, ◌||◌, 
 use Rattle.std.proofs.Common.{arith, sym, subst, true≢false}
 use Rattle.std.specs.Str.{bytes_eq}
 use Rattle.std.proofs.lemmas.Slice.Eq.{bytes_eq-Decides}
-use Rattle.fleet.specs.Counts.{IsCounted}
+use Rattle.drill_core.specs.Counts.{IsCounted}
 use Rattle.drill_nodes.specs.Rounds.{drill_of}
-use Rattle.fleet.specs.declared.made.Counts.{Counts}
+use Rattle.drill_core.specs.declared.made.Counts.{Counts}
 use Rattle.mtc_drill.specs.Summary.{counts_with, is_summary, is_summary_from, summary_text}
 
 one_holds : (a b : Bool) → a ≡ true → (a || b) ≡ true

@@ -1,12 +1,12 @@
 -- What `drill NUMBER` prints: eight lines.
 use Rattle.std.specs.Prelude.{ℕ, zero, suc, ◌+◌, ◌++◌, ◌||◌, Bool, [], length, codes, bytes_eq}
 use Rattle.std.specs.Fmt.{decimal}
-use Rattle.byte_forms.specs.Types.{Text}
+use Rattle.byte_formats.specs.Types.{Text}
 use Rattle.drill_nodes.specs.Rounds.{drill_of}
-use Rattle.fleet.specs.declared.made.Counts.{Counts}
-use Rattle.mtc_answers.specs.Steps.{Outcome}
-use Rattle.mtc_answers.specs.Wanted.{formed}
-use Rattle.mtc_answers.specs.declared.answer.Said.TheVariants.{Done}
+use Rattle.drill_core.specs.declared.made.Counts.{Counts}
+use Rattle.mtc_command.specs.Steps.{Outcome}
+use Rattle.mtc_command.specs.Wanted.{formed}
+use Rattle.mtc_command.specs.declared.answer.Said.TheVariants.{Done}
 
 -- A line of a name and a number.
 abbrev pub numbered_line : Text → ℕ → Text

@@ -1,13 +1,13 @@
 //! The summary of a drill.
 
 ghost use Rattle.std.specs.Prelude.{◌≡◌, ◌++◌, IfOk, OnOk, string_bytes};
-ghost use Rattle.fleet.specs.Counts.{IsCounted};
-ghost use Rattle.mtc_answers.specs.Answers.{ending_of};
-ghost use Rattle.mtc_answers.specs.Endings.{Replies};
+ghost use Rattle.drill_core.specs.Counts.{IsCounted};
+ghost use Rattle.mtc_command.specs.Answers.{ending_of};
+ghost use Rattle.mtc_command.specs.Endings.{Replies};
 ghost use Rattle.mtc_drill.specs.Summary.{drill_outcome, numbered_line, summary_text};
 
-use fleet::{Counts, fleet};
-use mtc_answers::{Answer, Said, Stop};
+use drill_core::{Counts, fleet};
+use mtc_command::{Answer, Said, Stop};
 use std::alloc::{AllocError, Global};
 use tree_core::TreeHash;
 

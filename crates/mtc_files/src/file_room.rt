@@ -2,7 +2,7 @@
 
 ghost use Rattle.std.specs.Prelude.{◌≡◌, ◌+◌, ◌≤◌, ◌<◌, ◌^◌, None, IfOk, IfErr};
 ghost use Rattle.mtc_io.specs.Counts.{Rose, with_count};
-ghost use Rattle.mtc_room.specs.Room.{Lending};
+ghost use Rattle.mtc_room.specs.Room.{Opens};
 ghost use Rattle.disk_core.specs.File.{file_faults, file_moment};
 
 use crate::held::Held;
@@ -20,7 +20,7 @@ use std::rt::Files;
 #[derive(Drop)]
 pub struct FileRoom<'a, R> {
     files: &'a R,
-    lent: u64,
+    opened: u64,
     faults: u64,
     cause: Cause,
 }
@@ -45,12 +45,12 @@ where
 {
     /// A room with nothing out, and no fault so far.
     pub fn new(files: &'a R) -> FileRoom<'a, R>
-        ensures lent { ⟦<FileRoom<'a, R> as Room>⟧.lent result ≡ 0 }
+        ensures opened { ⟦<FileRoom<'a, R> as Room>⟧.opened result ≡ 0 }
         ensures faults { ⟦<FileRoom<'a, R> as Room>⟧.faults result ≡ 0 }
     {
         FileRoom {
             files,
-            lent: 0,
+            opened: 0,
             faults: 0,
             cause: Cause::Failed,
         }
@@ -59,7 +59,7 @@ where
     // An error of the system that no answer of a room's stands for: a fault.
     fn fail(&mut self, why: &io::Error) -> RoomError
         ensures error { result ≡ RoomError.Failed }
-        ensures lent { self.new.lent ≡ self.old.lent }
+        ensures opened { self.new.opened ≡ self.old.opened }
         ensures later { self.old.faults ≤ self.new.faults }
         ensures fault { Rose self.old.faults self.new.faults }
         ensures counted { self.new.faults ≡ with_count self.old.faults 1 }
@@ -71,21 +71,21 @@ where
 
     // Takes an object back that counted so many faults. No lock is the cause of these.
     fn take_back(&mut self, faults: u64)
-        requires { 0 < self.old.lent }
-        ensures out { self.new.lent + 1 ≡ self.old.lent }
+        requires { 0 < self.old.opened }
+        ensures out { self.new.opened + 1 ≡ self.old.opened }
         ensures count { self.new.faults ≡ with_count self.old.faults faults }
     {
         if faults > 0 {
             self.cause = Cause::Failed;
         }
         self.faults = self.faults.saturating_add(faults);
-        self.lent -= 1;
+        self.opened -= 1;
     }
 
     // Lends a journal that this process holds, or counts the fault.
-    fn lend(&mut self, held: io::Result<R::File>) -> Result<FileDisk<R::File>, RoomError>
-        requires { self.old.lent < 2 ^ 32 }
-        ensures lending { Lending self.old.lent self.new.lent
+    fn open_file(&mut self, held: io::Result<R::File>) -> Result<FileDisk<R::File>, RoomError>
+        requires { self.old.opened < 2 ^ 32 }
+        ensures opens { Opens self.old.opened self.new.opened
             self.old.faults self.new.faults result }
         ensures failed { IfErr result (λ why. why ≡ RoomError.Failed) }
         ensures time { IfOk result (λ disk. file_moment disk ≡ 0) }
@@ -93,7 +93,7 @@ where
     {
         match held {
             Ok(file) => {
-                self.lent += 1;
+                self.opened += 1;
                 Ok(FileDisk::new(file))
             }
             Err(why) => Err(self.fail(&why)),
@@ -109,7 +109,7 @@ where
 
     type Dsk = FileDisk<R::File>;
 
-    ghost tells = { λ _. ⊥ };
+    ghost is_modelled = { λ _. ⊥ };
 
     ghost file = { λ _ _. None };
 
@@ -117,14 +117,14 @@ where
 
     ghost faults = { λ r. r.faults };
 
-    ghost lent = { λ r. r.lent };
+    ghost opened = { λ r. r.opened };
 
     ghost why = { λ r. r.cause };
 
     fn source(&mut self, name: &str) -> Result<StdSource<R::File>, RoomError> {
         match fs::open(self.files, name) {
             Ok(file) => {
-                self.lent += 1;
+                self.opened += 1;
                 Ok(StdSource::new(file))
             }
             Err(why) if is_absent(&why) => Err(RoomError::Absent),
@@ -136,7 +136,7 @@ where
         match open_to_write(self.files, name) {
             Ok(file) => {
                 let held = hold_journal(self.files, file, name);
-                self.lend(held)
+                self.open_file(held)
             }
             Err(why) if is_absent(&why) => Err(RoomError::Absent),
             Err(why) => Err(self.fail(&why)),
@@ -148,7 +148,7 @@ where
             Ok(file) => {
                 // A file that isn't held stays: its name may lead to another command's by now.
                 let held = hold_new(self.files, file, name);
-                self.lend(held)
+                self.open_file(held)
             }
             Err(why) if why.kind() == ErrorKind::AlreadyExists => Err(RoomError::Exists),
             Err(why) => Err(self.fail(&why)),
@@ -157,7 +157,7 @@ where
 
     fn scratch(&mut self, name: &str) -> Result<FileDisk<R::File>, Failed> {
         let held = hold_tiles(self.files, name);
-        match self.lend(held) {
+        match self.open_file(held) {
             Ok(disk) => Ok(disk),
             Err(_) => Err(Failed),
         }
@@ -175,5 +175,5 @@ where
         self.take_back(disk.faults());
     }
 
-    ghost told_file = { λ _ _ told. absurd told };
+    ghost modelled_file = { λ _ _ contents. absurd contents };
 }

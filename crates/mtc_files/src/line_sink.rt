@@ -50,7 +50,7 @@ impl<W: Write> Line<W> {
     }
 
     // Holds a byte as it is spelled.
-    fn spell(&mut self, byte: u8) -> io::Result<()> {
+    fn encode(&mut self, byte: u8) -> io::Result<()> {
         for part in [b'\\', b'x', digit(byte >> 4), digit(byte & 15)] {
             self.hold(part)?;
         }
@@ -62,14 +62,14 @@ impl<W: Write> Line<W> {
         let mut before = 0;
         for (place, byte) in piece.iter().enumerate() {
             if self.is_ended {
-                self.spell(b'\n')?;
+                self.encode(b'\n')?;
                 self.is_ended = false;
             }
             let behind = piece.get(place.saturating_add(1)).copied().unwrap_or(0);
             if *byte == b'\n' {
                 self.is_ended = true;
             } else if is_control(before, *byte, behind) {
-                self.spell(*byte)?;
+                self.encode(*byte)?;
             } else {
                 self.hold(*byte)?;
             }

@@ -7,7 +7,7 @@ use Rattle.std.proofs.Math.Nat.{min-le_right}
 use Rattle.std.proofs.Math.Seq.{take-add, take-append-add, take-length}
 use Rattle.std.proofs.lemmas.Grind.{flat_map-append}
 use Rattle.std.proofs.lemmas.List.{take_rest, take-append-le, take-append-drop, take_min, drop_more}
-use Rattle.byte_forms.specs.Types.{Text}
+use Rattle.byte_formats.specs.Types.{Text}
 use Rattle.mtc_io.specs.Streams.{AppendsPrefix, joined}
 
 -- the first n of a list, and then the first k of the rest, as a slice gives it
@@ -30,10 +30,10 @@ pub prefix_more : (a b c : Option Text) (xs ys zs : Text) → Appends a b xs
     → AppendsPrefix b c ys → AppendsPrefix a c (xs ++ (ys ++ zs))
 prefix_more a b c xs ys zs first second =
     let k = min second.0 (length ys) in
-    let front : take k (ys ++ zs) ≡ take second.0 ys =
+    let prefix : take k (ys ++ zs) ≡ take second.0 ys =
     take-append-le k ys zs (min-le_right second.0 (length ys)) ∙ take_min second.0 ys in
     let all : take (length xs + k) (xs ++ (ys ++ zs)) ≡ xs ++ take second.0 ys =
-    take-append-add xs (ys ++ zs) k ∙ ap (λ l. xs ++ l) front in
+    take-append-add xs (ys ++ zs) k ∙ ap (λ l. xs ++ l) prefix in
     (length xs + k, subst (Appends a c) (sym all) (Appends-trans a b c _ _ first second.1))
 
 -- pieces: those before one, that one, and the others

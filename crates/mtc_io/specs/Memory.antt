@@ -1,6 +1,6 @@
 -- What contracts see of the streams in memory.
 use Rattle.std.specs.Prelude.{ℕ, List}
-use Rattle.byte_forms.specs.Types.{Text}
+use Rattle.byte_formats.specs.Types.{Text}
 
 -- a source in memory: the bytes left, the number of calls so far, the numbers of the calls that
 -- fail, the faults so far

@@ -4,7 +4,7 @@ use Rattle.std.specs.Prelude.{ℕ, List, Option, take}
 use Rattle.std.specs.Borrow.{Bor}
 use Rattle.std.specs.List.{flat_map}
 use Rattle.std.specs.Io.KnownBytes.{Consumes, Appends}
-use Rattle.byte_forms.specs.Types.{Text}
+use Rattle.byte_formats.specs.Types.{Text}
 
 -- the bytes left lose some bytes from their front
 abbrev pub ConsumesSome : Option Text → Option Text → Type 0

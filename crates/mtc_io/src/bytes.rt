@@ -1,7 +1,7 @@
 //! A byte string that owns its memory.
 
 ghost use Rattle.std.specs.Prelude.{◌≡◌, [], ◌++◌, ◌==◌, length, take, IfOk, OnOk, OnErr};
-ghost use Rattle.byte_forms.specs.Types.{Text};
+ghost use Rattle.byte_formats.specs.Types.{Text};
 
 use crate::fault::Memory;
 use std::alloc::Global;

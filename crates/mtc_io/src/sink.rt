@@ -2,7 +2,7 @@
 
 ghost use Rattle.std.specs.Prelude.{ℕ, Option, ◌≤◌, ◌<◌, length, IfOk, OnOk};
 ghost use Rattle.std.specs.Io.KnownBytes.{WriteAppends, Appends};
-ghost use Rattle.byte_forms.specs.Types.{Text};
+ghost use Rattle.byte_formats.specs.Types.{Text};
 ghost use Rattle.mtc_io.specs.Counts.{HasCause};
 ghost use Rattle.mtc_io.specs.Streams.{AppendsPrefix, joined};
 

@@ -52,7 +52,7 @@ fn act<'a, R: Files<File = File>>(
     out: &mut StdSink<Stdout>,
     err: &mut LineSink<Stderr>,
 ) -> ExitCode
-    requires { ⟦<FileRoom<'a, R> as Room>⟧.lent room.old ≡ 0 }
+    requires { ⟦<FileRoom<'a, R> as Room>⟧.opened room.old ≡ 0 }
     ensures { HasRun ⟦<Sha as TreeHash>⟧.hash ⟦<FileRoom<'a, R> as Room>⟧
         ⟦<FileDisk<File> as Disk>⟧ ⟦<StdSink<Stdout> as Sink>⟧ ⟦<LineSink<Stderr> as Sink>⟧
         (map string_bytes words.now) room.old room.new out.old out.new err.old err.new

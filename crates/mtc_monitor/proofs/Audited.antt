@@ -2,11 +2,11 @@
 use Rattle.std.proofs.Common.{◌≡◌, ℕ, Bool, true, false, Option, None, Some, Result, Ok, Err}
 use Rattle.std.proofs.Common.{refl, sym, ap, subst}
 use Rattle.std.specs.Prelude.{IfOk}
-use Rattle.byte_forms.specs.Types.{Hash, HashFunction, Text}
-use Rattle.mtc_answers.specs.Answers.{Reply, said}
-use Rattle.mtc_answers.specs.Wanted.{Wanted, Meets}
-use Rattle.mtc_answers.specs.declared.answer.Answer.{Answer}
-use Rattle.mtc_answers.specs.declared.answer.Said.TheVariants.{Done, Against, Collided}
+use Rattle.byte_formats.specs.Types.{Hash, HashFunction, Text}
+use Rattle.mtc_command.specs.Answers.{Reply, said}
+use Rattle.mtc_command.specs.Wanted.{Wanted, Meets}
+use Rattle.mtc_command.specs.declared.answer.Answer.{Answer}
+use Rattle.mtc_command.specs.declared.answer.Said.TheVariants.{Done, Against, Collided}
 use Rattle.collide.specs.Extraction.{IsCollision}
 use Rattle.world_core.specs.Audit.{AuditCase, IsAudit, firsts_of}
 use Rattle.world_core.specs.Audit.{seconds_of}
@@ -71,8 +71,8 @@ module _ (h : HashFunction) (x : AuditCase) where
       pair _ _ _ one other is.list is.supported is.settles.0 is.settles.1
 
 -- an answer that says this reply, if there is one
-pub told_meets : {E : Type 0} (wanted : Wanted) (reply : Reply) (r : Result Answer E)
+pub modelled_meets : {E : Type 0} (wanted : Wanted) (reply : Reply) (r : Result Answer E)
     → Meets wanted reply → IfOk r (λ a. said a.status a.text ≡ reply)
     → IfOk r (λ a. Meets wanted (said a.status a.text))
-told_meets wanted reply (Ok a) meets is = subst (Meets wanted) (sym is) meets
-told_meets wanted reply (Err e) meets is = tt
+modelled_meets wanted reply (Ok a) meets is = subst (Meets wanted) (sym is) meets
+modelled_meets wanted reply (Err e) meets is = tt

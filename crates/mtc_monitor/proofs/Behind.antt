@@ -2,14 +2,14 @@
 use Rattle.std.proofs.Common.{◌≡◌, ◌≤◌, ℕ, List, [], ◌∷◌, length, Option, Some, ap, sym, subst, ◌∙◌}
 use Rattle.disk_core.specs.declared.disk.Disk.{Ghosts as Disks}
 use Rattle.mtc_room.specs.declared.room.Room.{Ghosts as Rooms}
-use Rattle.byte_forms.specs.Types.{HashFunction, Text}
-use Rattle.mtc_answers.specs.Answers.{Ending}
-use Rattle.mtc_answers.specs.Served.{GivesBack, HasAnswered}
-use Rattle.mtc_answers.specs.Steps.{Outcome, with_bytes}
-use Rattle.mtc_answers.specs.Endings.{Replies}
-use Rattle.mtc_answers.proofs.Inputs.{behind_file, bytes_read}
-use Rattle.mtc_answers.proofs.Made.{OnlyNow}
-use Rattle.mtc_answers.proofs.Served.{answered}
+use Rattle.byte_formats.specs.Types.{HashFunction, Text}
+use Rattle.mtc_command.specs.Answers.{Ending}
+use Rattle.mtc_command.specs.Served.{ClosesAll, HasAnswered}
+use Rattle.mtc_command.specs.Steps.{Outcome, with_bytes}
+use Rattle.mtc_command.specs.Endings.{Replies}
+use Rattle.mtc_command.proofs.Inputs.{behind_file, bytes_read}
+use Rattle.mtc_command.proofs.Made.{OnlyNow}
+use Rattle.mtc_command.proofs.Served.{answered}
 use Rattle.mtc_monitor.specs.AuditOutcome.{InputFile, audit_store_says}
 
 module _ (h : HashFunction) (moment : ℕ) (cert store entries export : Text) where
@@ -53,10 +53,10 @@ module _ (h : HashFunction) (moment : ℕ) (cert store entries export : Text) wh
       replies)))
 
   module _ {R S D : Type 0} (rooms : Rooms R S D) (disks : Disks D) (old mid new : R)
-      (ending : Ending) (back : GivesBack rooms old mid []) where
+      (ending : Ending) (back : ClosesAll rooms old mid []) where
     abbrev Was : ℕ → Text → Text → Type 0
     Was limit name bytes =
-        rooms.tells old → (rooms.file old name ≡ Some bytes) × (length bytes ≤ limit)
+        rooms.is_modelled old → (rooms.file old name ≡ Some bytes) × (length bytes ≤ limit)
 
     abbrev Ends : Outcome → R → Type 0
     Ends wanted from = HasAnswered rooms disks names wanted from new ending
@@ -96,9 +96,9 @@ module _ (h : HashFunction) (moment : ℕ) (cert store entries export : Text) wh
 
   -- the last file was read, and the answer given
   module _ {R S D : Type 0} (rooms : Rooms R S D) (disks : Disks D) (old new : R)
-      (ending : Ending) (back : GivesBack rooms old new []) (only_now : OnlyNow disks) where
+      (ending : Ending) (back : ClosesAll rooms old new []) (only_now : OnlyNow disks) where
     pub behind_export : (fc fs fe fx : InputFile) (c s e x : Text)
-        → (rooms.tells old → (rooms.file old export ≡ Some x) × (length x ≤ 1073741824))
+        → (rooms.is_modelled old → (rooms.file old export ≡ Some x) × (length x ≤ 1073741824))
         → fc ≡ record { name = cert; text = c } → fs ≡ record { name = store; text = s }
         → fe ≡ record { name = entries; text = e } → fx ≡ record { name = export; text = x }
         → Replies (audit_store_says h fc fs moment fe fx).answer ending

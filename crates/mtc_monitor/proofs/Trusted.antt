@@ -6,7 +6,7 @@ use Rattle.std.specs.List.{concat, range_with_len}
 use Rattle.std.proofs.lemmas.List.{append-nil}
 use Rattle.std.proofs.lemmas.List.Folds.{concat-append}
 use Rattle.std.proofs.lemmas.List.FromFn.{map-range_with_len_more}
-use Rattle.byte_forms.specs.Types.{HashFunction, Text}
+use Rattle.byte_formats.specs.Types.{HashFunction, Text}
 use Rattle.landmarks.specs.Landmarks.{IsActive, IsLandmarks, LandmarkList, active_of, landmark_size}
 use Rattle.tree_core.specs.Cover.{CoversInterval}
 use Rattle.tree_core.specs.declared.spans.Cover.{Cover}

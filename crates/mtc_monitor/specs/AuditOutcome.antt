@@ -3,8 +3,8 @@
 use Rattle.std.specs.Prelude.{ℕ, Bool, true, false, pos, ℤ, [], ◌++◌, codes, Option, None}
 use Rattle.std.specs.Prelude.{Some, Result, Ok, Err}
 use Rattle.std.specs.Fmt.{decimal}
-use Rattle.byte_forms.specs.Types.{Hash, HashFunction, Text}
-use Rattle.byte_forms.specs.Readings.{◌>>=◌, lifted}
+use Rattle.byte_formats.specs.Types.{Hash, HashFunction, Text}
+use Rattle.byte_formats.specs.Readings.{◌>>=◌, lifted}
 use Rattle.cert_fields.specs.Certificate.{Parts, parts_of}
 use Rattle.cosigner_core.specs.ExportReading.{export_in}
 use Rattle.cosigner_core.specs.declared.lists.Export.{Export}
@@ -21,9 +21,9 @@ use Rattle.policy_core.specs.declared.refusal.Refusal.TheVariants.{Grammar, Proo
 use Rattle.policy_core.specs.declared.store.Store.{Store}
 use Rattle.world_core.specs.Audit.{AuditCase, firsts_of, foreign_of, has_own, is_supported}
 use Rattle.world_core.specs.Audit.{seconds_of}
-use Rattle.mtc_answers.specs.Steps.{Outcome, Files, says, with_bytes, with_form}
-use Rattle.mtc_answers.specs.Wanted.{pair_of}
-use Rattle.mtc_answers.specs.declared.answer.Said.TheVariants.{Done, Against, Collided}
+use Rattle.mtc_command.specs.Steps.{Outcome, Files, says, with_bytes, with_form}
+use Rattle.mtc_command.specs.Wanted.{pair_of}
+use Rattle.mtc_command.specs.declared.answer.Said.TheVariants.{Done, Against, Collided}
 use Rattle.mtc_reads.specs.Reasons.{store_fault_text}
 use Rattle.mtc_reads.specs.VerifyOutcome.{verdict_says}
 use Rattle.mtc_monitor.specs.Reasons.{export_fault_text, items_fault_text}

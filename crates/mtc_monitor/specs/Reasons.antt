@@ -1,7 +1,7 @@
 -- The reasons why files of entries, of landmarks and of exports are refused.
 use Rattle.std.specs.Prelude.{◌++◌, codes}
 use Rattle.std.specs.Fmt.{decimal}
-use Rattle.byte_forms.specs.Types.{Text}
+use Rattle.byte_formats.specs.Types.{Text}
 use Rattle.cosigner_core.specs.declared.error.ReadExportError.{ReadExportError}
 use Rattle.cosigner_core.specs.declared.error.ReadExportError.TheVariants as export_error
 use Rattle.entry_list.specs.declared.error.ItemsError.{ItemsError}

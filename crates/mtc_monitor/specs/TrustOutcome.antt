@@ -3,7 +3,7 @@
 use Rattle.std.specs.Prelude.{ℕ, List, [], ◌++◌, length, map, codes, Option, None, Some}
 use Rattle.std.specs.Fmt.{decimal}
 use Rattle.std.specs.List.{concat, range_with_len}
-use Rattle.byte_forms.specs.Types.{HashFunction, Text}
+use Rattle.byte_formats.specs.Types.{HashFunction, Text}
 use Rattle.hex.specs.Hex.{encode_lower}
 use Rattle.entry_list.specs.Reading.{items_in}
 use Rattle.landmarks.specs.Landmarks.{LandmarkList, active_count, active_of, subtrees_of}
@@ -12,8 +12,8 @@ use Rattle.tree_core.specs.Path.{part_of}
 use Rattle.tree_core.specs.Tree.{tree_hash}
 use Rattle.tree_core.specs.declared.spans.Cover.{Cover}
 use Rattle.tree_core.specs.declared.spans.Span.{Span}
-use Rattle.mtc_answers.specs.declared.answer.Said.TheVariants.{Done}
-use Rattle.mtc_answers.specs.Steps.{Outcome, Files, says, with_bytes, with_form}
+use Rattle.mtc_command.specs.declared.answer.Said.TheVariants.{Done}
+use Rattle.mtc_command.specs.Steps.{Outcome, Files, says, with_bytes, with_form}
 use Rattle.mtc_monitor.specs.Reasons.{items_fault_text, list_fault_text}
 
 -- ---- what is trusted, where the log has these entries

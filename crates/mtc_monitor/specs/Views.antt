@@ -1,7 +1,7 @@
 -- What contracts see of the code's values, and what is told of them.
 use Rattle.cert_fields.specs.Views.{parts}
-use Rattle.mtc_answers.specs.Answers.{Reply, said}
-use Rattle.mtc_answers.specs.declared.answer.Said.TheVariants.{Done, Against, Collided}
+use Rattle.mtc_command.specs.Answers.{Reply, said}
+use Rattle.mtc_command.specs.declared.answer.Said.TheVariants.{Done, Against, Collided}
 use Rattle.mtc_proof.specs.Views.{proof_parts}
 use Rattle.world_core.specs.declared.answer.Audit.{Audit}
 use Rattle.world_core.specs.declared.answer.Audit.TheVariants.{Foreign, Pair, Stands, Unrecorded}

@@ -2,14 +2,14 @@
 //! the export of a cosigner.
 
 ghost use Rattle.std.specs.Prelude.{◌≡◌, ◌<◌, ◌^◌, true, [], ◌∷◌, IfOk, IfSome, option_map};
-ghost use Rattle.byte_forms.specs.Readings.{Answers, Gives};
+ghost use Rattle.byte_formats.specs.Readings.{Answers, Gives};
 ghost use Rattle.cert_fields.specs.Views.{parts};
 ghost use Rattle.cosigner_core.specs.ExportReading.{export_in};
-ghost use Rattle.cosigner_core.specs.declared.error.ReadExportError.TheVariants.{Memory as NoRoom};
+ghost use Rattle.cosigner_core.specs.declared.error.ReadExportError.TheVariants.{Memory as NoCapacity};
 ghost use Rattle.mtc_words.specs.Commands.{is_time};
-ghost use Rattle.mtc_answers.specs.Answers.{ending_of};
-ghost use Rattle.mtc_answers.specs.Endings.{Replies};
-ghost use Rattle.mtc_answers.specs.Served.{HasAnswered};
+ghost use Rattle.mtc_command.specs.Answers.{ending_of};
+ghost use Rattle.mtc_command.specs.Endings.{Replies};
+ghost use Rattle.mtc_command.specs.Served.{HasAnswered};
 ghost use Rattle.mtc_proof.specs.Views.{proof_parts};
 ghost use Rattle.world_core.specs.Audit.{WasJudged};
 ghost use Rattle.world_core.specs.Walk.{AreSteps};
@@ -24,7 +24,7 @@ use crate::reasons::{export_reason, items_reason};
 use cert_fields::parse;
 use cosigner_core::{Export, ReadExportError, read_export};
 use entry_list::{Items, ItemsError, read_items};
-use mtc_answers::{Answer, INPUT_LIMIT, LIST_LIMIT, Stop, Stopped, read_input, refuse_file};
+use mtc_command::{Answer, INPUT_LIMIT, LIST_LIMIT, Stop, Stopped, read_input, refuse_file};
 use mtc_io::Bytes;
 use mtc_proof::read_proof;
 use mtc_reads::store_reason;
@@ -57,7 +57,7 @@ fn accepted_in<'b, H: TreeHash>(
 
 // Reads the export. Its steps are those of a cosigner.
 fn kept_in<H: TreeHash>(alloc: Global, bytes: &[u8]) -> Result<Option<Export>, ReadExportError>
-    ensures exact { Answers NoRoom (export_in H.hash bytes.now) result }
+    ensures exact { Answers NoCapacity (export_in H.hash bytes.now) result }
     ensures allowed { IfOk result (λ kept. IfSome kept (λ e. AreSteps H.hash e.steps)) }
 {
     read_export::<H>(alloc, bytes)
@@ -165,7 +165,7 @@ pub fn audit<'a, H: TreeHash, R: Room>(
     entries: &'a str,
     export: &'a str,
 ) -> Result<Answer, Stop<'a>>
-    requires lent { R.lent room.old < 2 ^ 32 }
+    requires opened { R.opened room.old < 2 ^ 32 }
     requires time { is_time now ≡ true }
     ensures { HasAnswered R.Room R.Dsk.Disk
         (cert.now ∷ store.now ∷ entries.now ∷ export.now ∷ [])

@@ -2,8 +2,8 @@
 
 ghost use Rattle.std.specs.Prelude.{◌≡◌, IfOk, IfSome, option_map};
 ghost use Rattle.cert_fields.specs.Views.{parts};
-ghost use Rattle.mtc_answers.specs.Answers.{said};
-ghost use Rattle.mtc_answers.specs.Wanted.{Meets};
+ghost use Rattle.mtc_command.specs.Answers.{said};
+ghost use Rattle.mtc_command.specs.Wanted.{Meets};
 ghost use Rattle.mtc_proof.specs.Views.{proof_parts};
 ghost use Rattle.world_core.specs.Audit.{WasJudged};
 ghost use Rattle.world_core.specs.Walk.{AreSteps};
@@ -13,7 +13,7 @@ ghost use Rattle.mtc_monitor.specs.Views.{accepted_parts, audit_reply};
 use crate::accepted::AcceptedCert;
 use cosigner_core::Export;
 use entry_list::Items;
-use mtc_answers::{Answer, Said};
+use mtc_command::{Answer, Said};
 use mtc_io::Memory;
 use policy_core::Store;
 use std::alloc::Global;

@@ -1,13 +1,13 @@
 //! The reasons why files of entries, of landmarks and of exports are refused.
 
 ghost use Rattle.std.specs.Prelude.{◌≡◌};
-ghost use Rattle.mtc_answers.specs.Answers.{reason_text};
+ghost use Rattle.mtc_command.specs.Answers.{reason_text};
 ghost use Rattle.mtc_monitor.specs.Reasons.{export_fault_text, items_fault_text, list_fault_text};
 
 use cosigner_core::ReadExportError;
 use entry_list::ItemsError;
 use landmarks::ListError;
-use mtc_answers::Reason;
+use mtc_command::Reason;
 
 // Why a file is no list of entries.
 pub fn items_reason(why: ItemsError) -> Reason

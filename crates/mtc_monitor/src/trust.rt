@@ -3,16 +3,16 @@
 
 ghost use Rattle.std.specs.Prelude.{◌≡◌, ◌<◌, ◌^◌, true, [], ◌∷◌};
 ghost use Rattle.mtc_words.specs.Commands.{is_active};
-ghost use Rattle.mtc_answers.specs.Answers.{ending_of};
-ghost use Rattle.mtc_answers.specs.Endings.{Replies};
-ghost use Rattle.mtc_answers.specs.Served.{HasAnswered};
+ghost use Rattle.mtc_command.specs.Answers.{ending_of};
+ghost use Rattle.mtc_command.specs.Endings.{Replies};
+ghost use Rattle.mtc_command.specs.Served.{HasAnswered};
 ghost use Rattle.mtc_monitor.specs.TrustOutcome.{list_says, trust_outcome, trust_says};
 
 use crate::reasons::{items_reason, list_reason};
 use crate::tables::tables;
 use entry_list::{Items, ItemsError, read_items};
 use landmarks::{ListError, read_list};
-use mtc_answers::{Answer, INPUT_LIMIT, LIST_LIMIT, Said, Stop, Stopped, read_input, refuse_file};
+use mtc_command::{Answer, INPUT_LIMIT, LIST_LIMIT, Said, Stop, Stopped, read_input, refuse_file};
 use mtc_room::Room;
 use std::alloc::Global;
 use tree_core::TreeHash;
@@ -66,7 +66,7 @@ pub fn trust_landmarks<'a, H: TreeHash, R: Room>(
     max_active: u64,
     entries: &'a str,
 ) -> Result<Answer, Stop<'a>>
-    requires lent { R.lent room.old < 2 ^ 32 }
+    requires opened { R.opened room.old < 2 ^ 32 }
     requires active { is_active max_active ≡ true }
     ensures { HasAnswered R.Room R.Dsk.Disk (list.now ∷ entries.now ∷ [])
         (trust_outcome H.hash list.now max_active entries.now (R.file room.old))

@@ -6,17 +6,17 @@ use Rattle.std.specs.Prelude.{if◌then◌else◌, ◌==◌, OnOk, IsOk}
 use Rattle.std.specs.List.{flat_map, AllByRecursion}
 use Rattle.std.specs.Int.{w8, w16, w64}
 use Rattle.std.proofs.lemmas.List.{length-append, nil_from_length}
-use Rattle.byte_forms.specs.Types.{Hash, Text}
-use Rattle.byte_forms.specs.Places.{At, IsBytes, at, has_bytes}
-use Rattle.byte_forms.specs.Readings.{◌>>=◌, discarded, both_at, mapped_at, tested_at, Gives}
-use Rattle.byte_forms.specs.Lists.{up_to_end}
-use Rattle.byte_forms.specs.Forms.{IsForm, Anything, Nothing, both, FitsBoth}
-use Rattle.byte_forms.proofs.Steps.{bind_ok, pass_ok, ok_is, IsBytes-back, discarded_ok}
-use Rattle.byte_forms.proofs.Steps.{has_bytes-some, some-has_bytes}
-use Rattle.byte_forms.proofs.Forms.{said_form, both_form, mapped_form, tested_form, lifted_form}
-use Rattle.byte_forms.proofs.Lists.{many_form, up_to_end_drains}
+use Rattle.byte_formats.specs.Types.{Hash, Text}
+use Rattle.byte_formats.specs.Places.{At, IsBytes, at, has_bytes}
+use Rattle.byte_formats.specs.Readings.{◌>>=◌, discarded, both_at, mapped_at, tested_at, Gives}
+use Rattle.byte_formats.specs.Lists.{up_to_end}
+use Rattle.byte_formats.specs.Forms.{IsForm, Anything, Nothing, both, FitsBoth}
+use Rattle.byte_formats.proofs.Steps.{bind_ok, pass_ok, ok_is, IsBytes-back, discarded_ok}
+use Rattle.byte_formats.proofs.Steps.{has_bytes-some, some-has_bytes}
+use Rattle.byte_formats.proofs.Forms.{said_form, both_form, mapped_form, tested_form, lifted_form}
+use Rattle.byte_formats.proofs.Lists.{many_form, up_to_end_drains}
 use Rattle.tls_wire.specs.Reading.{number_at, vector_at, hashes_at}
-use Rattle.tls_wire.specs.Spelling.{number, vector, hashes, AreHashes}
+use Rattle.tls_wire.specs.Encoding.{number, vector, hashes, AreHashes}
 use Rattle.tls_wire.proofs.Numbers.{wide8, wide16, word_form}
 use Rattle.tls_wire.proofs.Vectors.{vector_form}
 use Rattle.tls_wire.proofs.Hashes.{hashes_form}
@@ -107,7 +107,7 @@ checked_only a done h e =
     record {
       list = t.0;
       each = known.1;
-      spelled = known.0.parts ∙ (ap (λ (c : Text). flat_map signature_text t.0 ++ c) none
+      encoded = known.0.parts ∙ (ap (λ (c : Text). flat_map signature_text t.0 ++ c) none
           ∙ append-nil (flat_map signature_text t.0));
     }
 
@@ -115,7 +115,7 @@ pub checked_again : (place : ℕ) (bytes : Text) → AreSignatures bytes
     → checked_signatures (record { place = place; rest = bytes }) ≡ Ok tt
 checked_again place bytes f =
     let text : Text = flat_map signature_text f.list in
-    let same : bytes ≡ text ++ [] = f.spelled ∙ sym (append-nil text) in
+    let same : bytes ≡ text ++ [] = f.encoded ∙ sym (append-nil text) in
     let step = list_form.again f.list place [] f.each refl in
     ap (λ (c : Text). checked_signatures (record { place = place; rest = c })) same ∙ rw step refl
 
@@ -166,11 +166,11 @@ parts_form =
     to_proof from_proof (λ x f. refl) (λ p f. refl) four_form
 
 -- All before the signatures.
-abbrev front : ProofParts → Text
-front p = number w64 p.start ++ (number w64 p.end
+abbrev prefix : ProofParts → Text
+prefix p = number w64 p.start ++ (number w64 p.end
     ++ (hashes p.path ++ number w16 (length p.signatures)))
 
-regrouped : (p : ProofParts) → proof_text p ≡ front p ++ p.signatures
+regrouped : (p : ProofParts) → proof_text p ≡ prefix p ++ p.signatures
 regrouped p = simp append_assoc
 
 proof_to : (p : ProofParts) → AreFour (from_proof p) → AreSignatures p.signatures → IsProof p
@@ -196,13 +196,13 @@ proofs_only bytes p h e =
     let g = pass_ok (length s.0.1.rest == 0) (Ok q) Trailing p t.2 in
     let known = parts_form.takes (at bytes 0) q s.0.1 h s.1 in
     let none : s.0.1.rest ≡ [] = nil_from_length s.0.1.rest (eqb-true (length s.0.1.rest) 0 g.0) in
-    let spelled : bytes ≡ proof_text q = known.0.parts ∙ (ap (λ (c : Text). proof_text q ++ c) none
+    let encoded : bytes ≡ proof_text q = known.0.parts ∙ (ap (λ (c : Text). proof_text q ++ c) none
     ∙ append-nil (proof_text q)) in
     let inner : IsBytes q.signatures =
-    IsBytes-back (front q) q.signatures (subst IsBytes (spelled ∙ regrouped q) h) in
+    IsBytes-back (prefix q) q.signatures (subst IsBytes (encoded ∙ regrouped q) h) in
     let list = checked_only (inside_list s.0) t.0 inner t.1 in
     let P : ProofParts → Type 0 = λ v. (bytes ≡ proof_text v) × IsProof v in
-    subst P (ok_is ProofError q p g.1) (spelled, proof_to q known.1 list)
+    subst P (ok_is ProofError q p g.1) (encoded, proof_to q known.1 list)
 
 pub proofs_again : (p : ProofParts) → IsProof p → proof_in (proof_text p) ≡ Ok p
 unfolding proof_in

@@ -2,10 +2,10 @@
 use Rattle.std.proofs.Common.{◌≡◌, ℕ, ◌^◌, ◌<◌, ◌++◌, length, ap, ◌∙◌}
 use Rattle.std.specs.Int.{w8, w64}
 use Rattle.std.proofs.lemmas.List.{append_cancel_left}
-use Rattle.byte_forms.specs.Types.{Hash, Text}
-use Rattle.byte_forms.proofs.Forms.{one_form}
+use Rattle.byte_formats.specs.Types.{Hash, Text}
+use Rattle.byte_formats.proofs.Forms.{one_form}
 use Rattle.tls_wire.specs.Reading.{number_at, vector_at}
-use Rattle.tls_wire.specs.Spelling.{number, vector}
+use Rattle.tls_wire.specs.Encoding.{number, vector}
 use Rattle.tls_wire.proofs.Numbers.{wide8, word_form}
 use Rattle.tls_wire.proofs.Vectors.{vector_form}
 use Rattle.mtc_proof.specs.Inputs.{InputParts, IsInput, input_label, input_text}

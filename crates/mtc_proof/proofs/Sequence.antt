@@ -5,11 +5,11 @@ use Rattle.std.specs.Prelude.{if◌then◌else◌}
 use Rattle.std.specs.List.{flat_map, AllByRecursion}
 use Rattle.std.specs.Int.{w8, w16}
 use Rattle.std.proofs.lemmas.List.{length-append}
-use Rattle.byte_forms.specs.Types.{Text}
-use Rattle.byte_forms.specs.Places.{At, at, has_bytes}
-use Rattle.byte_forms.specs.Readings.{◌>>=◌, both_at}
-use Rattle.byte_forms.specs.Lists.{value_then}
-use Rattle.byte_forms.proofs.Steps.{bind_ok, lifted_ok, pass_ok, ok_is}
+use Rattle.byte_formats.specs.Types.{Text}
+use Rattle.byte_formats.specs.Places.{At, at, has_bytes}
+use Rattle.byte_formats.specs.Readings.{◌>>=◌, both_at}
+use Rattle.byte_formats.specs.Lists.{value_then}
+use Rattle.byte_formats.proofs.Steps.{bind_ok, lifted_ok, pass_ok, ok_is}
 use Rattle.tls_wire.specs.Reading.{vector_at}
 use Rattle.mtc_proof.specs.Proofs.{SigParts, signature_text, IsMtcSignature}
 use Rattle.mtc_proof.specs.Reading.{of_short, text_at, id_at, to_signature, mtc_signature_at}

@@ -2,8 +2,8 @@
 -- MTCSubtreeSignatureInput).
 use Rattle.std.specs.Prelude.{◌≡◌, ℕ, ◌^◌, ◌<◌, [], ◌∷◌, ◌++◌, length}
 use Rattle.std.specs.Int.{w8, w64}
-use Rattle.byte_forms.specs.Types.{Hash, Text}
-use Rattle.tls_wire.specs.Spelling.{number, vector}
+use Rattle.byte_formats.specs.Types.{Hash, Text}
+use Rattle.tls_wire.specs.Encoding.{number, vector}
 
 -- The subtree of a log, its hash, and the cosigner that signs it.
 pub record InputParts : Type 0 where

@@ -1,10 +1,10 @@
 -- Proofs and their signatures: how their parts are spelled (the draft on Merkle Tree Certificates,
 -- where it defines MTCProof and MTCSignature, in the presentation language of RFC 8446, section 3).
 use Rattle.std.specs.Prelude.{◌≡◌, ℕ, ◌^◌, ◌<◌, List, ◌++◌, length}
-use Rattle.byte_forms.specs.Types.{Hash, Text}
+use Rattle.byte_formats.specs.Types.{Hash, Text}
 use Rattle.std.specs.List.{flat_map, AllByRecursion}
 use Rattle.std.specs.Int.{w8, w16, w64}
-use Rattle.tls_wire.specs.Spelling.{number, vector, hashes, AreHashes}
+use Rattle.tls_wire.specs.Encoding.{number, vector, hashes, AreHashes}
 
 -- A signature: the id of the cosigner, and what it signed with.
 pub record SigParts : Type 0 where
@@ -25,7 +25,7 @@ pub record IsMtcSignature (s : SigParts) : Type 0 where
 pub record AreSignatures (bytes : Text) : Type 0 where
   pub list : List SigParts
   pub each : AllByRecursion IsMtcSignature list
-  pub spelled : bytes ≡ flat_map signature_text list
+  pub encoded : bytes ≡ flat_map signature_text list
 
 -- The parts of a proof: the interval, the path, and the bytes of the signatures.
 pub record ProofParts : Type 0 where

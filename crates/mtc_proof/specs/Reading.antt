@@ -2,11 +2,11 @@
 use Rattle.std.specs.Prelude.{ℕ, zero, suc, ◌-◌, ◌==◌, List, [], length, Result, Ok, Err}
 use Rattle.std.specs.Prelude.{if◌then◌else◌}
 use Rattle.std.specs.Int.{Width, w8, w16, w64}
-use Rattle.byte_forms.specs.Types.{Hash, Text}
-use Rattle.byte_forms.specs.Places.{At, at, has_bytes}
-use Rattle.byte_forms.specs.Readings.{Reading, ◌>>=◌, lifted_at, discarded, both_at, mapped_at}
-use Rattle.byte_forms.specs.Readings.{tested_at}
-use Rattle.byte_forms.specs.Lists.{up_to_end, value_then}
+use Rattle.byte_formats.specs.Types.{Hash, Text}
+use Rattle.byte_formats.specs.Places.{At, at, has_bytes}
+use Rattle.byte_formats.specs.Readings.{Reading, ◌>>=◌, lifted_at, discarded, both_at, mapped_at}
+use Rattle.byte_formats.specs.Readings.{tested_at}
+use Rattle.byte_formats.specs.Lists.{up_to_end, value_then}
 use Rattle.tls_wire.specs.Reading.{number_at, vector_at, hashes_at}
 use Rattle.tls_wire.specs.declared.cursor.HashesError.{HashesError}
 use Rattle.tls_wire.specs.declared.cursor.HashesError.TheVariants.{Short as NotFitting}

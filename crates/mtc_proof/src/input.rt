@@ -2,7 +2,7 @@
 
 ghost use Rattle.std.specs.Prelude.{◌≡◌, ◌+◌, ◌<◌, ◌≤◌, ◌^◌, [], ◌++◌, length};
 ghost use Rattle.std.specs.Int.{w8};
-ghost use Rattle.tls_wire.specs.Spelling.{vector};
+ghost use Rattle.tls_wire.specs.Encoding.{vector};
 ghost use Rattle.mtc_proof.specs.Inputs.{signed_text};
 
 use std::marker::Model;
@@ -23,7 +23,7 @@ pub struct InputBuf {
 
 impl Model for InputBuf {
     ghost use Rattle.std.specs.Prelude.{take, ◌≤◌};
-    ghost use Rattle.byte_forms.specs.Types.{Text};
+    ghost use Rattle.byte_formats.specs.Types.{Text};
 
     ghost Value = { Text };
 
@@ -69,7 +69,7 @@ impl InputBuf {
     // Puts an id behind a length of one byte behind the bytes.
     fn put_id(&mut self, id: &[u8])
         requires short { length id.now < 2 ^ 8 }
-        requires room { length self.old + 1 + length id.now ≤ 576 }
+        requires capacity { length self.old + 1 + length id.now ≤ 576 }
         ensures text { self.new ≡ self.old ++ vector w8 id.now }
         ensures size { length self.new ≡ length self.old + 1 + length id.now }
     {

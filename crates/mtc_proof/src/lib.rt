@@ -8,7 +8,7 @@
 mod fault;
 mod found;
 mod input;
-mod laws;
+pub mod laws;
 mod list;
 mod proof;
 mod reading;
@@ -17,10 +17,6 @@ mod writing;
 pub use fault::ProofError;
 pub use found::Signatures;
 pub use input::{InputBuf, signature_input};
-pub use laws::{
-    proofs_are_read_as_spelled, signature_inputs_have_one_meaning, signatures_are_found,
-    signatures_are_read_as_spelled,
-};
 pub use list::{check_signatures, signatures};
 pub use proof::{Proof, SigRef};
 pub use reading::read_proof;

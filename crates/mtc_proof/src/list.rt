@@ -1,9 +1,9 @@
 //! Lists of signatures.
 
 ghost use Rattle.std.specs.Prelude.{◌≡◌, ◌<◌, length, Ok, Err, OnOk, IfErr, IsOk};
-ghost use Rattle.byte_forms.specs.Places.{at};
-ghost use Rattle.byte_forms.specs.Readings.{Moves, Gives, discarded};
-ghost use Rattle.byte_forms.specs.Lists.{up_to_end};
+ghost use Rattle.byte_formats.specs.Places.{at};
+ghost use Rattle.byte_formats.specs.Readings.{Moves, Gives, discarded};
+ghost use Rattle.byte_formats.specs.Lists.{up_to_end};
 ghost use Rattle.mtc_proof.specs.Proofs.{AreSignatures};
 ghost use Rattle.mtc_proof.specs.Reading.{mtc_signature_at, checked_signatures, signatures_left};
 ghost use Rattle.mtc_proof.specs.Views.{sig_parts};

@@ -2,7 +2,7 @@
 
 ghost use Rattle.std.specs.Prelude.{◌≡◌, ◌+◌, length, Ok, IfOk};
 ghost use Rattle.std.specs.Int.{w16};
-ghost use Rattle.byte_forms.specs.Readings.{Moves, Gives, Reads};
+ghost use Rattle.byte_formats.specs.Readings.{Moves, Gives, Reads};
 ghost use Rattle.tls_wire.specs.Reading.{vector_at};
 ghost use Rattle.mtc_proof.specs.Proofs.{ProofParts, proof_text, IsProof};
 ghost use Rattle.mtc_proof.specs.Reading.{inside_list, proof_parts_at, proof_in};

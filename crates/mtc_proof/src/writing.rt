@@ -1,7 +1,7 @@
 //! Writing a proof.
 
 ghost use Rattle.std.specs.Prelude.{◌≡◌, ◌++◌, ◌<◌, ◌≤◌, ◌^◌, length, Ok, IfOk, OnOk};
-ghost use Rattle.tls_wire.specs.Spelling.{AreHashes, hashes};
+ghost use Rattle.tls_wire.specs.Encoding.{AreHashes, hashes};
 ghost use Rattle.mtc_proof.specs.Proofs.{AreSignatures, proof_text};
 ghost use Rattle.mtc_proof.specs.Reading.{proof_in};
 

@@ -1,10 +1,10 @@
 -- The outcome of `member FILE`.
 use Rattle.std.specs.Prelude.{ℕ, ◌++◌, codes, Bool, true, false, Result, Ok, Err}
 use Rattle.std.specs.Fmt.{decimal}
-use Rattle.byte_forms.specs.Types.{HashFunction, Text}
+use Rattle.byte_formats.specs.Types.{HashFunction, Text}
 use Rattle.tree_core.specs.declared.error.EvalError.{EvalError}
-use Rattle.mtc_answers.specs.declared.answer.Said.TheVariants.{Done}
-use Rattle.mtc_answers.specs.Steps.{Outcome, Files, says, with_bytes, with_form}
+use Rattle.mtc_command.specs.declared.answer.Said.TheVariants.{Done}
+use Rattle.mtc_command.specs.Steps.{Outcome, Files, says, with_bytes, with_form}
 use Rattle.mtc_reads.specs.Member.{member_file, member_judgement}
 use Rattle.mtc_reads.specs.Reasons.{hashes_fault_text, shape_text, judged_against}
 

@@ -2,7 +2,7 @@
 -- name behind it.
 use Rattle.std.specs.Prelude.{ℕ, List, ◌++◌, codes}
 use Rattle.std.specs.Fmt.{decimal}
-use Rattle.byte_forms.specs.Types.{Text}
+use Rattle.byte_formats.specs.Types.{Text}
 use Rattle.der_core.specs.declared.fault.DerError.{DerError}
 use Rattle.der_core.specs.declared.fault.DerError.TheVariants.{Truncated, LongForm, HighTag}
 use Rattle.der_core.specs.declared.fault.DerError.TheVariants.{WrongTag, BadInteger, BadBool}
@@ -32,8 +32,8 @@ use Rattle.policy_core.specs.declared.refusal.Refusal.TheVariants.{NotYet, Expir
 use Rattle.policy_core.specs.declared.refusal.Refusal.TheVariants.{Revoked, ProofGrammar}
 use Rattle.policy_core.specs.declared.refusal.Refusal.TheVariants.{ProofShape, LandmarkDiffers}
 use Rattle.policy_core.specs.declared.refusal.Refusal.TheVariants.{TooFewCosigners}
-use Rattle.mtc_answers.specs.declared.answer.Said.TheVariants.{Against}
-use Rattle.mtc_answers.specs.Steps.{Outcome, says}
+use Rattle.mtc_command.specs.declared.answer.Said.TheVariants.{Against}
+use Rattle.mtc_command.specs.Steps.{Outcome, says}
 
 -- A fault of an element, with the element's offset.
 abbrev pub der_fault_text : DerError → Text

@@ -4,8 +4,8 @@ use Rattle.std.specs.Prelude.{None, Result, Ok, Err, bytes_eq, if◌then◌else�
 use Rattle.std.specs.Fmt.{decimal}
 use Rattle.std.specs.List.{list_all, flat_map}
 use Rattle.hex.specs.Hex.{encode_lower}
-use Rattle.byte_forms.specs.Places.{at}
-use Rattle.byte_forms.specs.Types.{Text}
+use Rattle.byte_formats.specs.Places.{at}
+use Rattle.byte_formats.specs.Types.{Text}
 use Rattle.tls_wire.specs.Anchors.{anchor_of, text_of as text_of_id}
 use Rattle.tls_wire.specs.declared.fault.AnchorBytesError.{AnchorBytesError}
 use Rattle.mtc_proof.specs.Proofs.{SigParts, ProofParts}
@@ -16,9 +16,9 @@ use Rattle.cert_time.specs.Texts.{moment_text}
 use Rattle.cert_fields.specs.Certificate.{Parts, parts_of}
 use Rattle.cert_fields.specs.Extensions.{dns_names_in}
 use Rattle.cert_names.specs.LogNames.{log_in}
-use Rattle.mtc_answers.specs.declared.answer.Said.TheVariants.{Done}
+use Rattle.mtc_command.specs.declared.answer.Said.TheVariants.{Done}
 use Rattle.mtc_reads.specs.Reasons.{cert_fault_text}
-use Rattle.mtc_answers.specs.Steps.{Outcome, Files, says, with_bytes, with_form}
+use Rattle.mtc_command.specs.Steps.{Outcome, Files, says, with_bytes, with_form}
 
 -- The log id that an issuer name holds, or `other`.
 abbrev pub issuer_text : Option Text → Text

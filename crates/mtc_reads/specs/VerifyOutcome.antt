@@ -1,15 +1,15 @@
 -- The outcome of `verify CERT STORE NOW`.
 use Rattle.std.specs.Prelude.{ℕ, ◌++◌, codes, Result, Ok, Err, pos}
 use Rattle.std.specs.Fmt.{decimal}
-use Rattle.byte_forms.specs.Types.{HashFunction, Text}
+use Rattle.byte_formats.specs.Types.{HashFunction, Text}
 use Rattle.policy_core.specs.Files.{store_of}
 use Rattle.policy_core.specs.declared.answer.Accepted.{Accepted}
 use Rattle.policy_core.specs.declared.refusal.Refusal.{Refusal}
 use Rattle.policy_core.specs.declared.refusal.Refusal.TheVariants.{Grammar, ProofGrammar}
 use Rattle.policy_core.specs.Judgement.{judgement}
-use Rattle.mtc_answers.specs.declared.answer.Said.TheVariants.{Done}
-use Rattle.mtc_answers.specs.declared.answer.Stopped.TheVariants.{BadForm}
-use Rattle.mtc_answers.specs.Steps.{Outcome, Files, says, stops_at, with_bytes, with_form}
+use Rattle.mtc_command.specs.declared.answer.Said.TheVariants.{Done}
+use Rattle.mtc_command.specs.declared.answer.Stopped.TheVariants.{BadForm}
+use Rattle.mtc_command.specs.Steps.{Outcome, Files, says, stops_at, with_bytes, with_form}
 use Rattle.mtc_reads.specs.Reasons.{cert_fault_text, proof_fault_text, store_fault_text}
 use Rattle.mtc_reads.specs.Reasons.{refusal_text, judged_against}
 

@@ -1,9 +1,9 @@
 //! The command `member`: the inclusion path of a file, evaluated.
 
 ghost use Rattle.std.specs.Prelude.{◌≡◌, ◌<◌, ◌^◌, [], ◌∷◌};
-ghost use Rattle.mtc_answers.specs.Answers.{ending_of};
-ghost use Rattle.mtc_answers.specs.Endings.{Replies};
-ghost use Rattle.mtc_answers.specs.Served.{HasAnswered};
+ghost use Rattle.mtc_command.specs.Answers.{ending_of};
+ghost use Rattle.mtc_command.specs.Endings.{Replies};
+ghost use Rattle.mtc_command.specs.Served.{HasAnswered};
 ghost use Rattle.mtc_reads.specs.Member.{member_judgement, member_view};
 ghost use Rattle.mtc_reads.specs.MemberOutcome.{judgement_says, member_says, member_outcome};
 
@@ -12,7 +12,7 @@ mod file;
 use crate::reasons::{hashes_reason, shape_name};
 use crate::replies::{against, done};
 use file::{MemberFile, read_member};
-use mtc_answers::{Answer, INPUT_LIMIT, Reason, Stop, Stopped, read_input, refuse_file};
+use mtc_command::{Answer, INPUT_LIMIT, Reason, Stop, Stopped, read_input, refuse_file};
 use mtc_room::Room;
 use std::alloc::Global;
 use tree_core::{EvalError, TreeHash, evaluate, leaf};
@@ -60,7 +60,7 @@ pub fn member<'a, H: TreeHash, R: Room>(
     room: &mut R,
     file: &'a str,
 ) -> Result<Answer, Stop<'a>>
-    requires { R.lent room.old < 2 ^ 32 }
+    requires { R.opened room.old < 2 ^ 32 }
     ensures { HasAnswered R.Room R.Dsk.Disk (file.now ∷ [])
         (member_outcome H.hash file.now (R.file room.old)) room.old room.new (ending_of result) }
 {

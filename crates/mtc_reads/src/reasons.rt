@@ -1,13 +1,13 @@
 //! The reasons of faults and of judgements against.
 
 ghost use Rattle.std.specs.Prelude.{◌≡◌};
-ghost use Rattle.mtc_answers.specs.Answers.{reason_text};
+ghost use Rattle.mtc_command.specs.Answers.{reason_text};
 ghost use Rattle.mtc_reads.specs.Reasons.{der_fault_text, cert_fault_text, hashes_fault_text};
 ghost use Rattle.mtc_reads.specs.Reasons.{proof_fault_text, key_text, store_fault_text, shape_text};
 ghost use Rattle.mtc_reads.specs.Reasons.{refusal_text};
 
 use der_core::{CertError, DerError};
-use mtc_answers::Reason;
+use mtc_command::Reason;
 use mtc_proof::ProofError;
 use policy_core::{Key, Refusal, StoreError};
 use tls_wire::HashesError;

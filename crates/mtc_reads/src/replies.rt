@@ -1,11 +1,11 @@
 //! What goes to standard output.
 
 ghost use Rattle.std.specs.Prelude.{◌≡◌, string_bytes};
-ghost use Rattle.mtc_answers.specs.Answers.{reason_text, ending_of};
-ghost use Rattle.mtc_answers.specs.Endings.{Replies};
+ghost use Rattle.mtc_command.specs.Answers.{reason_text, ending_of};
+ghost use Rattle.mtc_command.specs.Endings.{Replies};
 ghost use Rattle.mtc_reads.specs.Reasons.{judged_against};
 
-use mtc_answers::{Answer, More, Reason, Said, Stop};
+use mtc_command::{Answer, More, Reason, Said, Stop};
 use mtc_io::Bytes;
 use std::alloc::Global;
 

@@ -7,9 +7,9 @@ ghost use Rattle.cert_fields.specs.Views.{parts};
 ghost use Rattle.tls_wire.specs.Anchors.{anchor_of};
 ghost use Rattle.mtc_proof.specs.Views.{proof_parts, sig_parts};
 ghost use Rattle.mtc_io.specs.Streams.{joined};
-ghost use Rattle.mtc_answers.specs.Answers.{ending_of};
-ghost use Rattle.mtc_answers.specs.Endings.{Replies};
-ghost use Rattle.mtc_answers.specs.Served.{HasAnswered};
+ghost use Rattle.mtc_command.specs.Answers.{ending_of};
+ghost use Rattle.mtc_command.specs.Endings.{Replies};
+ghost use Rattle.mtc_command.specs.Served.{HasAnswered};
 ghost use Rattle.mtc_reads.specs.ShowOutcome.{issuer_text, subject_text, is_graphic, name_line};
 ghost use Rattle.mtc_reads.specs.ShowOutcome.{fields_text, cosigner_text, signature_line};
 ghost use Rattle.mtc_reads.specs.ShowOutcome.{interval_text, proof_section, show_text, show_says};
@@ -20,7 +20,7 @@ use cert_fields::{Cert, DnsNames, MTC_PROOF, dns_names, parse};
 use cert_names::log_of;
 use cert_time::seconds_to_text;
 use der_core::tags::SEQUENCE;
-use mtc_answers::{Answer, INPUT_LIMIT, Said, Stop, Stopped, read_input, refuse_file};
+use mtc_command::{Answer, INPUT_LIMIT, Said, Stop, Stopped, read_input, refuse_file};
 use mtc_io::{Bytes, Memory};
 use mtc_proof::{Proof, SigRef, Signatures, read_proof, signatures};
 use mtc_room::Room;
@@ -204,7 +204,7 @@ fn answer_of<'a>(alloc: Global, file: &'a str, bytes: &[u8]) -> Result<Answer, S
 
 /// The command `show CERT`.
 pub fn show<'a, R: Room>(alloc: Global, room: &mut R, file: &'a str) -> Result<Answer, Stop<'a>>
-    requires { R.lent room.old < 2 ^ 32 }
+    requires { R.opened room.old < 2 ^ 32 }
     ensures { HasAnswered R.Room R.Dsk.Disk (file.now ∷ [])
         (show_outcome file.now (R.file room.old)) room.old room.new (ending_of result) }
 {

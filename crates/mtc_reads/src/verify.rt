@@ -2,14 +2,14 @@
 
 ghost use Rattle.std.specs.Prelude.{◌≡◌, ◌<◌, ◌^◌, true, [], ◌∷◌};
 ghost use Rattle.mtc_words.specs.Commands.{is_time};
-ghost use Rattle.mtc_answers.specs.Answers.{ending_of};
-ghost use Rattle.mtc_answers.specs.Endings.{Replies};
-ghost use Rattle.mtc_answers.specs.Served.{HasAnswered};
+ghost use Rattle.mtc_command.specs.Answers.{ending_of};
+ghost use Rattle.mtc_command.specs.Endings.{Replies};
+ghost use Rattle.mtc_command.specs.Served.{HasAnswered};
 ghost use Rattle.mtc_reads.specs.VerifyOutcome.{verdict_says, verify_says, verify_outcome};
 
 use crate::reasons::{refusal_reason, store_reason};
 use crate::replies::{against, done};
-use mtc_answers::{Answer, INPUT_LIMIT, Stop, Stopped, read_input, refuse_file};
+use mtc_command::{Answer, INPUT_LIMIT, Stop, Stopped, read_input, refuse_file};
 use mtc_room::Room;
 use policy_core::{Accepted, Refusal, Store, StoreError};
 use relying_party::judge;
@@ -61,7 +61,7 @@ pub fn verify<'a, H: TreeHash, R: Room>(
     store: &'a str,
     now: u64,
 ) -> Result<Answer, Stop<'a>>
-    requires lent { R.lent room.old < 2 ^ 32 }
+    requires opened { R.opened room.old < 2 ^ 32 }
     requires time { is_time now ≡ true }
     ensures { HasAnswered R.Room R.Dsk.Disk (cert.now ∷ store.now ∷ [])
         (verify_outcome H.hash cert.now store.now now (R.file room.old))

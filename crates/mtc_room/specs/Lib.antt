@@ -1,4 +1,4 @@
 pub mod Memory
 pub mod Room
 pub mod MemoryLaws
-pub mod Lent
+pub mod Opened

@@ -1,7 +1,7 @@
 -- What contracts see of a room in memory.
 use Rattle.std.specs.Prelude.{ℕ, List, Option, option_map, Result, Ok, Err}
 use Rattle.std.specs.BTreeMap.{get_by_text}
-use Rattle.byte_forms.specs.Types.{Text}
+use Rattle.byte_formats.specs.Types.{Text}
 use Rattle.disk_core.specs.Memory.{bytes_of, failing_of}
 use Rattle.disk_core.specs.declared.memory.mem_disk.MemDisk.{MemDisk}
 use Rattle.mtc_io.specs.Counts.{with_count}
@@ -19,7 +19,7 @@ pub record FileState : Type 0 where
 pub record RoomState : Type 0 where
   pub file : Text → Option FileState
   pub fresh_failing : List ℕ
-  pub lent : ℕ
+  pub opened : ℕ
   pub faults : ℕ
   pub starved : ℕ
 
@@ -36,7 +36,7 @@ abbrev pub state : MemRoom → RoomState
 state room = record {
   file = λ name. option_map file_of (disk_in room name);
   fresh_failing = room.fresh_failing.items;
-  lent = room.lent;
+  opened = room.opened;
   faults = room.faults;
   starved = room.starved;
 }
@@ -48,7 +48,7 @@ bytes_in room name = option_map bytes_of (disk_in room name)
 -- a count of faults after a call that lends: the room in memory fails for want of memory alone, and
 -- counts that once
 abbrev pub count_after : {T : Type 0} → ℕ → Result T RoomError → ℕ
-count_after count (Ok lent) = count
+count_after count (Ok opened) = count
 count_after count (Err Absent) = count
 count_after count (Err Exists) = count
 count_after count (Err Failed) = with_count count 1

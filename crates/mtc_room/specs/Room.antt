@@ -2,16 +2,16 @@
 -- names to devices.
 use Rattle.std.specs.Prelude.{◌≡◌, ◌≢◌, ℕ, ◌+◌, ◌≤◌, Option, None, Some, Result, is_ok}
 use Rattle.std.specs.Prelude.{IsSome, IsErrOf, OnOk, if◌then◌else◌}
-use Rattle.byte_forms.specs.Types.{Text}
+use Rattle.byte_formats.specs.Types.{Text}
 use Rattle.mtc_io.specs.Counts.{Rose, HasCause}
 use Rattle.mtc_room.specs.declared.error.RoomError.{RoomError}
 use Rattle.mtc_room.specs.declared.error.RoomError.TheVariants.{Absent, Exists, Failed}
 
 -- A call that lends: on Ok one object more is out. `Failed` comes only with a fault, and Ok and the
 -- other refusals without one.
-pub record Lending {T : Type 0} (lent lent' faults faults' : ℕ)
+pub record Opens {T : Type 0} (opened opened' faults faults' : ℕ)
     (result : Result T RoomError) : Type 0 where
-  pub out : lent' ≡ (if is_ok result then lent + 1 else lent)
+  pub out : opened' ≡ (if is_ok result then opened + 1 else opened)
   pub later : faults ≤ faults'
   pub fine : OnOk result (faults' ≡ faults)
   pub failed : IsErrOf result Failed → Rose faults faults'
@@ -20,9 +20,9 @@ pub record Lending {T : Type 0} (lent lent' faults faults' : ℕ)
 
 -- A call that lends, and is refused for a fault alone: on Ok one object more is out, and no fault
 -- is counted.
-pub record LendsOrFails {T E : Type 0} (lent lent' faults faults' : ℕ)
+pub record OpensOrFails {T E : Type 0} (opened opened' faults faults' : ℕ)
     (result : Result T E) : Type 0 where
-  pub out : lent' ≡ (if is_ok result then lent + 1 else lent)
+  pub out : opened' ≡ (if is_ok result then opened + 1 else opened)
   pub cause : HasCause faults faults' result
 
 -- the file of this name, and its device, are as they were
@@ -43,11 +43,11 @@ OthersStay file file' device device' but
     = (name : Text) → name ≢ but → Stays file file' device device' name
 
 -- there is a file, and what was lent tells its bytes
-pub record LendsBytes (file lent : Option Text) : Type 0 where
+pub record OpensBytes (file opened : Option Text) : Type 0 where
   pub there : IsSome file
-  pub same : lent ≡ file
+  pub same : opened ≡ file
 
 -- a name has a file exactly where it has a device, and that tells the file's bytes
-abbrev pub TellsFile : {D : Type 0} → (D → Option Text) → Option Text → Option D → Type 0
-TellsFile told file None = file ≡ None
-TellsFile told file (Some d) = (told d ≡ file) × IsSome file
+abbrev pub ModelsFile : {D : Type 0} → (D → Option Text) → Option Text → Option D → Type 0
+ModelsFile contents file None = file ≡ None
+ModelsFile contents file (Some d) = (contents d ≡ file) × IsSome file

@@ -3,7 +3,7 @@
 ghost use Rattle.std.specs.Prelude.{◌≡◌, ◌≢◌, ⊤, ◌+◌, ◌<◌, ◌^◌, [], Option, Result, Ok, Some, None};
 ghost use Rattle.std.specs.Prelude.{IfOk, OnOk, OnErr, IsErrOf, IsSome, IfErr, IsErr, length};
 ghost use Rattle.std.specs.Option.{option_copied, IsSomeAnd};
-ghost use Rattle.byte_forms.specs.Types.{Text};
+ghost use Rattle.byte_formats.specs.Types.{Text};
 ghost use Rattle.mtc_io.specs.Counts.{with_count};
 ghost use Rattle.disk_core.specs.Same.{SameDevice};
 ghost use Rattle.disk_core.specs.Memory.{bytes_of, calls_of, failing_of, made_of, faults_of};
@@ -25,7 +25,7 @@ pub struct MemRoom {
     alloc: Global,
     files: BTreeMap<String, MemDisk>,
     fresh_failing: Vec<u64>,
-    lent: u64,
+    opened: u64,
     faults: u64,
     starved: u64,
 }
@@ -37,7 +37,7 @@ impl Drop for MemRoom {
             alloc: _,
             files: _,
             fresh_failing: _,
-            lent: _,
+            opened: _,
             faults: _,
             starved: _,
         } = self;
@@ -60,14 +60,14 @@ fn source_of(alloc: Global, disk: &MemDisk) -> Result<MemSource, Memory>
 
 impl MemRoom {
     ghost use Rattle.mtc_room.specs.Memory.{state, bytes_in, disk_in, count_after};
-    ghost use Rattle.mtc_room.specs.Lent.{IsLentAs, IsFreshWith};
-    ghost use Rattle.mtc_room.specs.Room.{Lending};
+    ghost use Rattle.mtc_room.specs.Opened.{IsOpenedAs, IsFreshWith};
+    ghost use Rattle.mtc_room.specs.Room.{Opens};
 
     /// A room without a file. It takes no memory.
     pub fn new(alloc: Global) -> MemRoom
         ensures empty { (name : Text) → (state result).file name ≡ None }
         ensures fresh_failing { (state result).fresh_failing ≡ [] }
-        ensures lent { (state result).lent ≡ 0 }
+        ensures opened { (state result).opened ≡ 0 }
         ensures faults { (state result).faults ≡ 0 }
         ensures starved { (state result).starved ≡ 0 }
     {
@@ -75,7 +75,7 @@ impl MemRoom {
             alloc,
             files: BTreeMap::new(alloc),
             fresh_failing: Vec::new(alloc),
-            lent: 0,
+            opened: 0,
             faults: 0,
             starved: 0,
         }
@@ -99,7 +99,7 @@ impl MemRoom {
         ensures err { OnErr result ((other : Text)
             → disk_in self.new other ≡ disk_in self.old other) }
         ensures fresh_failing { (state self.new).fresh_failing ≡ (state self.old).fresh_failing }
-        ensures lent { (state self.new).lent ≡ (state self.old).lent }
+        ensures opened { (state self.new).opened ≡ (state self.old).opened }
         ensures faults { (state self.new).faults ≡ (state self.old).faults }
         ensures starved { (state self.new).starved ≡ (state self.old).starved }
     {
@@ -127,9 +127,9 @@ impl MemRoom {
     }
 
     // Counts the loan of what was made, or the want of memory.
-    fn lend_out<T>(&mut self, made: Result<T, Memory>) -> Result<T, RoomError>
-        requires { self.old.lent < 2 ^ 32 }
-        ensures lending { Lending self.old.lent self.new.lent
+    fn open_one<T>(&mut self, made: Result<T, Memory>) -> Result<T, RoomError>
+        requires { self.old.opened < 2 ^ 32 }
+        ensures opens { Opens self.old.opened self.new.opened
             self.old.faults self.new.faults result }
         ensures ok { IfOk result (λ it. made ≡ Ok it) }
         ensures err { IfErr result (λ why. (why ≡ RoomError.Failed) × IsErr made) }
@@ -139,9 +139,9 @@ impl MemRoom {
         ensures starved { self.new.starved ≡ count_after self.old.starved result }
     {
         match made {
-            Ok(lent) => {
-                self.lent += 1;
-                Ok(lent)
+            Ok(opened) => {
+                self.opened += 1;
+                Ok(opened)
             }
             Err(Memory) => {
                 self.faults = self.faults.saturating_add(1);
@@ -163,16 +163,16 @@ impl MemRoom {
         ensures failing { IfOk result (λ d. failing_of d ≡ self.old.fresh_failing.items) }
         ensures first { IfOk result (λ d. (made_of d ≡ 0) × (faults_of d ≡ 0)) }
         ensures fresh_failing { self.new.fresh_failing ≡ self.old.fresh_failing }
-        ensures lent { self.new.lent ≡ self.old.lent }
+        ensures opened { self.new.opened ≡ self.old.opened }
         ensures faults { self.new.faults ≡ self.old.faults }
         ensures starved { self.new.starved ≡ self.old.starved }
     {
         let name = String::from_str(self.alloc, name)?;
         let failing = Vec::from_slice(self.alloc, &self.fresh_failing)?;
         let disk = MemDisk::new(self.alloc, failing);
-        let lent = disk.lend()?;
+        let opened = disk.lend()?;
         self.files.insert(name, disk)?;
-        Ok(lent)
+        Ok(opened)
     }
 
     // A copy of the file's device to lend, or of that of an empty file, which is made.
@@ -182,13 +182,13 @@ impl MemRoom {
         ensures err { OnErr result (disk_in self.new name.now ≡ disk_in self.old name.now) }
         ensures kept { IsSome (disk_in self.old name.now)
             → disk_in self.new name.now ≡ disk_in self.old name.now }
-        ensures found { IfOk result (λ d. IsSomeAnd (disk_in self.new name.now) (IsLentAs d)) }
+        ensures found { IfOk result (λ d. IsSomeAnd (disk_in self.new name.now) (IsOpenedAs d)) }
         ensures made { OnOk result (disk_in self.old name.now ≡ None
             → IsSomeAnd (disk_in self.new name.now)
             (IsFreshWith self.old.fresh_failing.items)) }
         ensures first { IfOk result (λ d. faults_of d ≡ 0) }
         ensures fresh_failing { self.new.fresh_failing ≡ self.old.fresh_failing }
-        ensures lent { self.new.lent ≡ self.old.lent }
+        ensures opened { self.new.opened ≡ self.old.opened }
         ensures faults { self.new.faults ≡ self.old.faults }
         ensures starved { self.new.starved ≡ self.old.starved }
     {
@@ -201,16 +201,16 @@ impl MemRoom {
 
 impl Room for MemRoom {
     ghost use Rattle.mtc_room.specs.Memory.{state, bytes_in, disk_in, count_after};
-    ghost use Rattle.mtc_room.specs.MemoryLaws.{told_in};
-    ghost use Rattle.mtc_room.specs.Room.{Lending, LendsOrFails, Stays, AllStay, OthersStay};
-    ghost use Rattle.mtc_room.specs.Room.{LendsBytes};
+    ghost use Rattle.mtc_room.specs.MemoryLaws.{modelled_in};
+    ghost use Rattle.mtc_room.specs.Room.{Opens, OpensOrFails, Stays, AllStay, OthersStay};
+    ghost use Rattle.mtc_room.specs.Room.{OpensBytes};
     ghost use Rattle.mtc_room.specs.declared.cause.Cause.TheVariants.{Failed};
 
     type Src = MemSource;
 
     type Dsk = MemDisk;
 
-    ghost tells = { λ _. ⊤ };
+    ghost is_modelled = { λ _. ⊤ };
 
     ghost file = { bytes_in };
 
@@ -218,21 +218,21 @@ impl Room for MemRoom {
 
     ghost faults = { λ r. (state r).faults };
 
-    ghost lent = { λ r. (state r).lent };
+    ghost opened = { λ r. (state r).opened };
 
     ghost why = { λ _. Failed };
 
-    ghost told_file = { λ m name _. told_in (disk_in m name) };
+    ghost modelled_file = { λ m name _. modelled_in (disk_in m name) };
 
     fn source(&mut self, name: &str) -> Result<MemSource, RoomError>
-        requires { (state self.old).lent < 2 ^ 32 }
-        ensures lending { Lending (state self.old).lent (state self.new).lent
+        requires { (state self.old).opened < 2 ^ 32 }
+        ensures opens { Opens (state self.old).opened (state self.new).opened
             (state self.old).faults (state self.new).faults result }
         ensures stay { AllStay (bytes_in self.old) (bytes_in self.new)
             (disk_in self.old) (disk_in self.new) }
-        ensures tells { ⊤ → ⊤ }
+        ensures is_modelled { ⊤ → ⊤ }
         ensures bytes { IfOk result (λ s. ⊤
-            → LendsBytes (bytes_in self.old name.now) (Some s.left)) }
+            → OpensBytes (bytes_in self.old name.now) (Some s.left)) }
         ensures begins { IfOk result (λ s. s.faults ≡ 0) }
         ensures absent { IsErrOf result RoomError.Absent → ⊤ → bytes_in self.old name.now ≡ None }
         ensures never { IsErrOf result RoomError.Exists → ⊥ }
@@ -247,18 +247,18 @@ impl Room for MemRoom {
             return Err(RoomError::Absent);
         };
         let source = source_of(self.alloc, disk);
-        self.lend_out(source)
+        self.open_one(source)
     }
 
     fn disk(&mut self, name: &str) -> Result<MemDisk, RoomError>
-        requires { (state self.old).lent < 2 ^ 32 }
-        ensures lending { Lending (state self.old).lent (state self.new).lent
+        requires { (state self.old).opened < 2 ^ 32 }
+        ensures opens { Opens (state self.old).opened (state self.new).opened
             (state self.old).faults (state self.new).faults result }
         ensures stay { AllStay (bytes_in self.old) (bytes_in self.new)
             (disk_in self.old) (disk_in self.new) }
-        ensures tells { ⊤ → ⊤ }
+        ensures is_modelled { ⊤ → ⊤ }
         ensures bytes { IfOk result (λ d. ⊤
-            → LendsBytes (bytes_in self.old name.now) (Some (bytes_of d))) }
+            → OpensBytes (bytes_in self.old name.now) (Some (bytes_of d))) }
         ensures device { IfOk result (λ d. ⊤
             → IsSomeAnd (disk_in self.old name.now) (λ e. SameDevice ⟦<MemDisk as Disk>⟧ e d)) }
         ensures begins { IfOk result (λ d. faults_of d ≡ 0) }
@@ -274,18 +274,18 @@ impl Room for MemRoom {
             return Err(RoomError::Absent);
         };
         let copy = disk.lend();
-        self.lend_out(copy)
+        self.open_one(copy)
     }
 
     fn fresh(&mut self, name: &str) -> Result<MemDisk, RoomError>
-        requires { (state self.old).lent < 2 ^ 32 }
-        ensures lending { Lending (state self.old).lent (state self.new).lent
+        requires { (state self.old).opened < 2 ^ 32 }
+        ensures opens { Opens (state self.old).opened (state self.new).opened
             (state self.old).faults (state self.new).faults result }
         ensures others { OthersStay (bytes_in self.old) (bytes_in self.new)
             (disk_in self.old) (disk_in self.new) name.now }
         ensures err { OnErr result (Stays (bytes_in self.old) (bytes_in self.new)
             (disk_in self.old) (disk_in self.new) name.now) }
-        ensures tells { ⊤ → ⊤ }
+        ensures is_modelled { ⊤ → ⊤ }
         ensures was_absent { OnOk result (⊤ → bytes_in self.old name.now ≡ None) }
         ensures no_device { OnOk result (⊤ → disk_in self.old name.now ≡ None) }
         ensures empty { IfOk result (λ d. ⊤ → (bytes_in self.new name.now ≡ Some [])
@@ -309,27 +309,27 @@ impl Room for MemRoom {
             return Err(RoomError::Exists);
         }
         match self.make(name) {
-            Ok(disk) => self.lend_out(Ok(disk)),
-            Err(why) => self.lend_out(Err(why)),
+            Ok(disk) => self.open_one(Ok(disk)),
+            Err(why) => self.open_one(Err(why)),
         }
     }
 
     fn scratch(&mut self, name: &str) -> Result<MemDisk, Failed>
-        requires { (state self.old).lent < 2 ^ 32 }
-        ensures lending { LendsOrFails (state self.old).lent (state self.new).lent
+        requires { (state self.old).opened < 2 ^ 32 }
+        ensures opens { OpensOrFails (state self.old).opened (state self.new).opened
             (state self.old).faults (state self.new).faults result }
         ensures others { OthersStay (bytes_in self.old) (bytes_in self.new)
             (disk_in self.old) (disk_in self.new) name.now }
         ensures err { OnErr result (Stays (bytes_in self.old) (bytes_in self.new)
             (disk_in self.old) (disk_in self.new) name.now) }
-        ensures tells { ⊤ → ⊤ }
+        ensures is_modelled { ⊤ → ⊤ }
         ensures kept { ⊤ → IsSome (bytes_in self.old name.now)
             → Stays (bytes_in self.old) (bytes_in self.new)
             (disk_in self.old) (disk_in self.new) name.now }
         ensures made { OnOk result (⊤ → bytes_in self.old name.now ≡ None
             → bytes_in self.new name.now ≡ Some []) }
         ensures bytes { IfOk result (λ d. ⊤
-            → LendsBytes (bytes_in self.new name.now) (Some (bytes_of d))) }
+            → OpensBytes (bytes_in self.new name.now) (Some (bytes_of d))) }
         ensures device { IfOk result (λ d. ⊤
             → IsSomeAnd (disk_in self.new name.now) (λ e. SameDevice ⟦<MemDisk as Disk>⟧ e d)) }
         ensures only { IfOk result (λ d. ⊤ → bytes_in self.old name.now ≡ None
@@ -348,7 +348,7 @@ impl Room for MemRoom {
             ≡ with_count (state self.old).starved 1) }
     {
         let made = self.find_or_make(name);
-        match self.lend_out(made) {
+        match self.open_one(made) {
             Ok(disk) => Ok(disk),
             Err(_) => Err(Failed),
         }
@@ -360,29 +360,29 @@ impl Room for MemRoom {
     }
 
     fn done(&mut self, source: MemSource)
-        requires { 0 < (state self.old).lent }
-        ensures out { (state self.new).lent + 1 ≡ (state self.old).lent }
+        requires { 0 < (state self.old).opened }
+        ensures out { (state self.new).opened + 1 ≡ (state self.old).opened }
         ensures count { (state self.new).faults ≡ with_count (state self.old).faults source.faults }
         ensures stay { AllStay (bytes_in self.old) (bytes_in self.new)
             (disk_in self.old) (disk_in self.new) }
-        ensures tells { ⊤ → ⊤ }
+        ensures is_modelled { ⊤ → ⊤ }
         ensures fresh_failing { (state self.new).fresh_failing ≡ (state self.old).fresh_failing }
         ensures starved { (state self.new).starved ≡ (state self.old).starved }
     {
         self.faults = self.faults.saturating_add(source.faults());
-        self.lent -= 1;
+        self.opened -= 1;
     }
 
     fn keep(&mut self, name: &str, disk: MemDisk)
-        requires { 0 < (state self.old).lent }
-        ensures out { (state self.new).lent + 1 ≡ (state self.old).lent }
+        requires { 0 < (state self.old).opened }
+        ensures out { (state self.new).opened + 1 ≡ (state self.old).opened }
         ensures count { (state self.new).faults
             ≡ with_count (state self.old).faults (faults_of disk) }
         ensures others { OthersStay (bytes_in self.old) (bytes_in self.new)
             (disk_in self.old) (disk_in self.new) name.now }
-        ensures tells { ⊤ → ⊤ }
+        ensures is_modelled { ⊤ → ⊤ }
         ensures bytes { ⊤ → IsSome (bytes_in self.old name.now)
-            → LendsBytes (bytes_in self.new name.now) (Some (bytes_of disk)) }
+            → OpensBytes (bytes_in self.new name.now) (Some (bytes_of disk)) }
         ensures device { ⊤ → IsSome (bytes_in self.old name.now)
             → IsSomeAnd (disk_in self.new name.now) (λ e. SameDevice ⟦<MemDisk as Disk>⟧ disk e) }
         ensures kept { IsSome (bytes_in self.old name.now) → disk_in self.new name.now ≡ Some disk }
@@ -393,7 +393,7 @@ impl Room for MemRoom {
     {
         self.faults = self.faults.saturating_add(disk.faults());
         self.starved = self.starved.saturating_add(disk.starved());
-        self.lent -= 1;
+        self.opened -= 1;
         if let Some(file) = self.files.get_mut(name) {
             *file = disk;
         }

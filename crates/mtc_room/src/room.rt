@@ -3,7 +3,7 @@
 ghost use Rattle.std.specs.Prelude.{◌≡◌, ℕ, ◌+◌, ◌<◌, ◌^◌, [], Option, None, Some, IsSome, IfOk};
 ghost use Rattle.std.specs.Prelude.{OnOk, OnErr, IsErrOf};
 ghost use Rattle.std.specs.Option.{IsSomeAnd};
-ghost use Rattle.byte_forms.specs.Types.{Text};
+ghost use Rattle.byte_formats.specs.Types.{Text};
 
 use crate::{Cause, RoomError};
 use disk_core::Disk;
@@ -13,8 +13,8 @@ use mtc_io::{Failed, Source};
 pub trait Room {
     ghost use Rattle.mtc_io.specs.Counts.{with_count};
     ghost use Rattle.disk_core.specs.Same.{SameDevice};
-    ghost use Rattle.mtc_room.specs.Room.{Lending, LendsOrFails, Stays, AllStay, OthersStay};
-    ghost use Rattle.mtc_room.specs.Room.{LendsBytes, TellsFile};
+    ghost use Rattle.mtc_room.specs.Room.{Opens, OpensOrFails, Stays, AllStay, OthersStay};
+    ghost use Rattle.mtc_room.specs.Room.{OpensBytes, ModelsFile};
     ghost use Rattle.mtc_room.specs.declared.cause.Cause.{Cause};
 
     /// What gives a file's bytes.
@@ -24,7 +24,7 @@ pub trait Room {
     type Dsk: Disk;
 
     /// The room tells its files. A room of real files doesn't.
-    ghost tells: { Self → Type 0 };
+    ghost is_modelled: { Self → Type 0 };
 
     /// The bytes of each name's file, or none where there is no such file. It says nothing where
     /// the room doesn't tell its files.
@@ -37,7 +37,7 @@ pub trait Room {
     ghost faults: { Self → ℕ };
 
     /// How many lent objects are out.
-    ghost lent: { Self → ℕ };
+    ghost opened: { Self → ℕ };
 
     /// What it says of its last fault.
     ghost why: { Self → Cause };
@@ -46,15 +46,15 @@ pub trait Room {
     /// `Failed` only with a fault of the room; `Exists` never comes. The lent source has no fault
     /// so far, and gives the file's bytes.
     fn source(&mut self, name: &str) -> Result<Self::Src, RoomError>
-        requires { lent self.old < 2 ^ 32 }
-        ensures lending { Lending (lent self.old) (lent self.new)
+        requires { opened self.old < 2 ^ 32 }
+        ensures opens { Opens (opened self.old) (opened self.new)
             (faults self.old) (faults self.new) result }
         ensures stay { AllStay (file self.old) (file self.new) (device self.old) (device self.new) }
-        ensures tells { tells self.old → tells self.new }
-        ensures bytes { IfOk result (λ s. tells self.old
-            → LendsBytes (file self.old name.now) (Self.Src.left s)) }
+        ensures is_modelled { is_modelled self.old → is_modelled self.new }
+        ensures bytes { IfOk result (λ s. is_modelled self.old
+            → OpensBytes (file self.old name.now) (Self.Src.left s)) }
         ensures begins { IfOk result (λ s. Self.Src.faults s ≡ 0) }
-        ensures absent { IsErrOf result RoomError.Absent → tells self.old
+        ensures absent { IsErrOf result RoomError.Absent → is_modelled self.old
             → file self.old name.now ≡ None }
         ensures never { IsErrOf result RoomError.Exists → ⊥ };
 
@@ -62,17 +62,17 @@ pub trait Room {
     /// device has no fault so far, reads as the file does, and leaves after a crash what the file's
     /// device leaves.
     fn disk(&mut self, name: &str) -> Result<Self::Dsk, RoomError>
-        requires { lent self.old < 2 ^ 32 }
-        ensures lending { Lending (lent self.old) (lent self.new)
+        requires { opened self.old < 2 ^ 32 }
+        ensures opens { Opens (opened self.old) (opened self.new)
             (faults self.old) (faults self.new) result }
         ensures stay { AllStay (file self.old) (file self.new) (device self.old) (device self.new) }
-        ensures tells { tells self.old → tells self.new }
-        ensures bytes { IfOk result (λ d. tells self.old
-            → LendsBytes (file self.old name.now) (Self.Dsk.told d)) }
-        ensures device { IfOk result (λ d. tells self.old
+        ensures is_modelled { is_modelled self.old → is_modelled self.new }
+        ensures bytes { IfOk result (λ d. is_modelled self.old
+            → OpensBytes (file self.old name.now) (Self.Dsk.contents d)) }
+        ensures device { IfOk result (λ d. is_modelled self.old
             → IsSomeAnd (device self.old name.now) (λ e. SameDevice Self.Dsk.Disk e d)) }
         ensures begins { IfOk result (λ d. Self.Dsk.faults d ≡ 0) }
-        ensures absent { IsErrOf result RoomError.Absent → tells self.old
+        ensures absent { IsErrOf result RoomError.Absent → is_modelled self.old
             → file self.old name.now ≡ None }
         ensures never { IsErrOf result RoomError.Exists → ⊥ };
 
@@ -81,25 +81,25 @@ pub trait Room {
     /// fault of the room; `Absent` never comes. A refusal makes no file in a room that tells its
     /// files.
     fn fresh(&mut self, name: &str) -> Result<Self::Dsk, RoomError>
-        requires { lent self.old < 2 ^ 32 }
-        ensures lending { Lending (lent self.old) (lent self.new)
+        requires { opened self.old < 2 ^ 32 }
+        ensures opens { Opens (opened self.old) (opened self.new)
             (faults self.old) (faults self.new) result }
         ensures others { OthersStay (file self.old) (file self.new)
             (device self.old) (device self.new) name.now }
         ensures err { OnErr result (Stays (file self.old) (file self.new)
             (device self.old) (device self.new) name.now) }
-        ensures tells { tells self.old → tells self.new }
-        ensures was_absent { OnOk result (tells self.old → file self.old name.now ≡ None) }
-        ensures no_device { OnOk result (tells self.old → device self.old name.now ≡ None) }
-        ensures empty { IfOk result (λ d. tells self.old
-            → (file self.new name.now ≡ Some []) × (Self.Dsk.told d ≡ Some [])) }
-        ensures device { IfOk result (λ d. tells self.old
+        ensures is_modelled { is_modelled self.old → is_modelled self.new }
+        ensures was_absent { OnOk result (is_modelled self.old → file self.old name.now ≡ None) }
+        ensures no_device { OnOk result (is_modelled self.old → device self.old name.now ≡ None) }
+        ensures empty { IfOk result (λ d. is_modelled self.old
+            → (file self.new name.now ≡ Some []) × (Self.Dsk.contents d ≡ Some [])) }
+        ensures device { IfOk result (λ d. is_modelled self.old
             → IsSomeAnd (device self.new name.now) (λ e. SameDevice Self.Dsk.Disk e d)) }
-        ensures only { IfOk result (λ d. tells self.old
+        ensures only { IfOk result (λ d. is_modelled self.old
             → (c : Text) → Self.Dsk.may_leave d c → c ≡ []) }
         ensures time { IfOk result (λ d. Self.Dsk.moment d ≡ 0) }
         ensures begins { IfOk result (λ d. Self.Dsk.faults d ≡ 0) }
-        ensures exists { IsErrOf result RoomError.Exists → tells self.old
+        ensures exists { IsErrOf result RoomError.Exists → is_modelled self.old
             → IsSome (file self.old name.now) }
         ensures never { IsErrOf result RoomError.Absent → ⊥ };
 
@@ -108,25 +108,25 @@ pub trait Room {
     /// `Failed` comes only with a fault of the room, and makes no file in a room that tells its
     /// files.
     fn scratch(&mut self, name: &str) -> Result<Self::Dsk, Failed>
-        requires { lent self.old < 2 ^ 32 }
-        ensures lending { LendsOrFails (lent self.old) (lent self.new)
+        requires { opened self.old < 2 ^ 32 }
+        ensures opens { OpensOrFails (opened self.old) (opened self.new)
             (faults self.old) (faults self.new) result }
         ensures others { OthersStay (file self.old) (file self.new)
             (device self.old) (device self.new) name.now }
         ensures err { OnErr result (Stays (file self.old) (file self.new)
             (device self.old) (device self.new) name.now) }
-        ensures tells { tells self.old → tells self.new }
-        ensures kept { tells self.old → IsSome (file self.old name.now)
+        ensures is_modelled { is_modelled self.old → is_modelled self.new }
+        ensures kept { is_modelled self.old → IsSome (file self.old name.now)
             → Stays (file self.old) (file self.new) (device self.old) (device self.new) name.now }
-        ensures made { OnOk result (tells self.old → file self.old name.now ≡ None
+        ensures made { OnOk result (is_modelled self.old → file self.old name.now ≡ None
             → file self.new name.now ≡ Some []) }
-        ensures bytes { IfOk result (λ d. tells self.old
-            → LendsBytes (file self.new name.now) (Self.Dsk.told d)) }
-        ensures device { IfOk result (λ d. tells self.old
+        ensures bytes { IfOk result (λ d. is_modelled self.old
+            → OpensBytes (file self.new name.now) (Self.Dsk.contents d)) }
+        ensures device { IfOk result (λ d. is_modelled self.old
             → IsSomeAnd (device self.new name.now) (λ e. SameDevice Self.Dsk.Disk e d)) }
-        ensures only { IfOk result (λ d. tells self.old → file self.old name.now ≡ None
+        ensures only { IfOk result (λ d. is_modelled self.old → file self.old name.now ≡ None
             → (c : Text) → Self.Dsk.may_leave d c → c ≡ []) }
-        ensures time { IfOk result (λ d. tells self.old → file self.old name.now ≡ None
+        ensures time { IfOk result (λ d. is_modelled self.old → file self.old name.now ≡ None
             → Self.Dsk.moment d ≡ 0) }
         ensures begins { IfOk result (λ d. Self.Dsk.faults d ≡ 0) };
 
@@ -136,29 +136,29 @@ pub trait Room {
 
     /// Takes a source back, and adds its faults to its own.
     fn done(&mut self, source: Self::Src)
-        requires { 0 < lent self.old }
-        ensures out { lent self.new + 1 ≡ lent self.old }
+        requires { 0 < opened self.old }
+        ensures out { opened self.new + 1 ≡ opened self.old }
         ensures count { faults self.new ≡ with_count (faults self.old) (Self.Src.faults source) }
         ensures stay { AllStay (file self.old) (file self.new) (device self.old) (device self.new) }
-        ensures tells { tells self.old → tells self.new };
+        ensures is_modelled { is_modelled self.old → is_modelled self.new };
 
     /// Takes a device back, puts it in the place of that file's, and adds its faults to its own.
     /// Where the name has no file, none is made.
     fn keep(&mut self, name: &str, disk: Self::Dsk)
-        requires { 0 < lent self.old }
-        ensures out { lent self.new + 1 ≡ lent self.old }
+        requires { 0 < opened self.old }
+        ensures out { opened self.new + 1 ≡ opened self.old }
         ensures count { faults self.new ≡ with_count (faults self.old) (Self.Dsk.faults disk) }
         ensures others { OthersStay (file self.old) (file self.new)
             (device self.old) (device self.new) name.now }
-        ensures tells { tells self.old → tells self.new }
-        ensures none { tells self.old → file self.old name.now ≡ None
+        ensures is_modelled { is_modelled self.old → is_modelled self.new }
+        ensures none { is_modelled self.old → file self.old name.now ≡ None
             → file self.new name.now ≡ None }
-        ensures bytes { tells self.old → IsSome (file self.old name.now)
-            → LendsBytes (file self.new name.now) (Self.Dsk.told disk) }
-        ensures device { tells self.old → IsSome (file self.old name.now)
+        ensures bytes { is_modelled self.old → IsSome (file self.old name.now)
+            → OpensBytes (file self.new name.now) (Self.Dsk.contents disk) }
+        ensures device { is_modelled self.old → IsSome (file self.old name.now)
             → IsSomeAnd (device self.new name.now) (λ e. SameDevice Self.Dsk.Disk disk e) };
 
     /// Where the room tells its files, each has a device, and that tells the same bytes.
-    ghost told_file: { (m : Self) (name : Text) → tells m
-        → TellsFile Self.Dsk.told (file m name) (device m name) };
+    ghost modelled_file: { (m : Self) (name : Text) → is_modelled m
+        → ModelsFile Self.Dsk.contents (file m name) (device m name) };
 }

@@ -12,12 +12,12 @@ use Rattle.std.proofs.lemmas.List.{append_cancel_left}
 use Rattle.std.specs.Io.KnownBytes.{Appends}
 use Rattle.std.specs.Prelude.{Contains, if◌then◌else◌}
 use Rattle.std.specs.Str.{bytes_eq}
-use Rattle.byte_forms.specs.Places.{IsBytes}
-use Rattle.byte_forms.specs.Types.{HashFunction}
-use Rattle.byte_forms.proofs.Steps.{ok_is}
+use Rattle.byte_formats.specs.Places.{IsBytes}
+use Rattle.byte_formats.specs.Types.{HashFunction}
+use Rattle.byte_formats.proofs.Steps.{ok_is}
 use Rattle.disk_core.specs.declared.disk.Disk.{Ghosts as Disks}
 use Rattle.mtc_io.specs.declared.sink.Sink.{Ghosts as Sinks}
-use Rattle.mtc_room.specs.Room.{TellsFile}
+use Rattle.mtc_room.specs.Room.{ModelsFile}
 use Rattle.mtc_room.specs.declared.room.Room.{Ghosts as Rooms}
 use Rattle.mtc_words.specs.Commands.{CommandValue}
 use Rattle.mtc_words.specs.declared.error.WordError.{WordError}
@@ -34,11 +34,11 @@ use Rattle.node_history.specs.declared.start.NodeStart.TheVariants.{Cosigner}
 use Rattle.node_history.proofs.Steps.{some_is}
 use Rattle.world_core.specs.Audit.{AuditCase, has_own, is_counted, is_counted_as, is_recorded}
 use Rattle.world_core.specs.Audit.{is_recorded_by, is_sign_of, is_supported, some_place}
-use Rattle.mtc_answers.specs.Answers.{Reply, said, refused, out_of, status_of}
-use Rattle.mtc_answers.specs.Steps.{Files, Outcome, with_form}
-use Rattle.mtc_answers.specs.Wanted.{Meets}
-use Rattle.mtc_answers.proofs.Inputs.{bytes_read}
-use Rattle.mtc_answers.proofs.Made.{OnlyNow, ReadsImage}
+use Rattle.mtc_command.specs.Answers.{Reply, said, refused, out_of, status_of}
+use Rattle.mtc_command.specs.Steps.{Files, Outcome, with_form}
+use Rattle.mtc_command.specs.Wanted.{Meets}
+use Rattle.mtc_command.proofs.Inputs.{bytes_read}
+use Rattle.mtc_command.proofs.Made.{OnlyNow, ReadsImage}
 use Rattle.mtc_monitor.specs.AuditOutcome.{InputFile, audit_by, audit_outcome, audit_says}
 use Rattle.mtc_monitor.specs.AuditOutcome.{audit_cert_says, audit_export_says, audit_items_say}
 use Rattle.mtc_monitor.specs.AuditOutcome.{audit_accepted_says, audit_store_says, with_input}
@@ -165,20 +165,20 @@ printed_text (Some xs) (Some ys) before kept text was is prints =
 
 module _ {R S D O E : Type 0} (h : HashFunction) (rooms : Rooms R S D) (disks : Disks D)
     (outs : Sinks O) (errs : Sinks E) (image : ReadsImage disks) (only : OnlyNow disks)
-    (told : (room : R) (name : List ℕ) → rooms.tells room
-    → TellsFile disks.told (rooms.file room name) (rooms.device room name))
-    (bytes : (d : D) (b : List ℕ) → disks.told d ≡ Some b → IsBytes b) where
+    (contents : (room : R) (name : List ℕ) → rooms.is_modelled room
+    → ModelsFile disks.contents (rooms.file room name) (rooms.device room name))
+    (bytes : (d : D) (b : List ℕ) → disks.contents d ≡ Some b → IsBytes b) where
   signed : (x : AuditCase) (kept_text : List ℕ) → export_in h kept_text ≡ Ok x.kept
       → IsSignedInCourse h rooms disks outs errs x kept_text → is_supported x ≡ true
   signed x kept_text read by =
-      let e = exports_hold h rooms disks outs errs image only told bytes by.name
+      let e = exports_hold h rooms disks outs errs image only contents bytes by.name
       (Cosigner by.settings by.public) by.first by.begins by.old by.links by.begun by.course
       by.settings by.public refl by.turn by.turned by.spoken (inl by.done) in
       let same = printed_text (outs.taken by.turn.out) (outs.taken by.turn.out_after) by.before
-      kept_text e.text by.told by.printed (e.printed.whole by.done) in
+      kept_text e.text by.contents by.printed (e.printed.whole by.done) in
       let kept : x.kept ≡ Some e.export = ok_is ReadExportError x.kept (Some e.export)
       (sym read ∙ ap (export_in h) same ∙ e.read) in
-      let there = e.signed by.first by.front by.more by.body
+      let there = e.signed by.first by.prefix by.more by.body
       (Sign by.index x.accepted.start x.accepted.end x.accepted.hash by.proof) by.held by.signs in
       ap (λ (b : By). is_recorded_by x.store x.accepted b x.kept) by.by
       ∙ ap (is_recorded_by x.store x.accepted (Cosigners by.set)) kept
@@ -210,7 +210,8 @@ module _ {R S D O E : Type 0} (h : HashFunction) (rooms : Rooms R S D) (disks : 
   by_reply x turn false has (refused why file reason) meets code text = absurd meets
 
   pub audits_stand : AuditsStand h rooms disks outs errs
-  audits_stand old turn cert store moment entries kept x tells run spoken is own_list backed not5
+  audits_stand old turn cert store moment entries kept x is_modelled run spoken is own_list backed
+      not5
       not6 not8 =
       let a = run.answered not5 not8 in
       let asked = ap (λ (q : Result CommandValue WordError). (facts h q).outcome (rooms.file old))
@@ -219,5 +220,5 @@ module _ {R S D O E : Type 0} (h : HashFunction) (rooms : Rooms R S D) (disks : 
       ∙ ap (λ (b : Bool). audit_by h x None b (has_own h x.items x.accepted x.cert))
       (supported x is.kept_text is.kept_read backed) in
       by_reply x turn (has_own h x.items x.accepted x.cert) refl a.reply
-      (subst (λ (w : Outcome). Meets w.answer a.reply) asked (a.is (inl tells))) (a.code not6)
+      (subst (λ (w : Outcome). Meets w.answer a.reply) asked (a.is (inl is_modelled))) (a.code not6)
       (a.text not6)

@@ -1,7 +1,7 @@
 -- A journal is never a file beside another one.
 use Rattle.std.proofs.Common.{◌≡◌, inl, inr, ℕ, false, List, ◌++◌, Result, Ok, Err, refl, subst}
 use Rattle.std.specs.Prelude.{IfSome}
-use Rattle.byte_forms.specs.Types.{HashFunction}
+use Rattle.byte_formats.specs.Types.{HashFunction}
 use Rattle.mtc_words.specs.Commands.{CommandValue, member, show, verify, init_log, keygen}
 use Rattle.mtc_words.specs.Commands.{init_cosigner, advance, cosign, export, trust_landmarks}
 use Rattle.mtc_words.specs.Commands.{audit, drill, journal_of}
@@ -9,9 +9,9 @@ use Rattle.mtc_words.specs.Names.{is_tiles_name}
 use Rattle.mtc_words.specs.Words.{command_of}
 use Rattle.mtc_words.specs.declared.error.WordError.{WordError}
 use Rattle.mtc_words.proofs.Journals.{journals_have_own_names, no_tiles_name}
-use Rattle.mtc_answers.specs.Made.{Journaled}
-use Rattle.mtc_answers.specs.Served.{IsOther, done_with}
-use Rattle.mtc_answers.proofs.Served.{other_both}
+use Rattle.mtc_command.specs.Made.{Journaled}
+use Rattle.mtc_command.specs.Served.{IsOther, done_with}
+use Rattle.mtc_command.proofs.Served.{other_both}
 use Rattle.mtc_top.specs.Courses.{AreAmong}
 use Rattle.mtc_top.specs.Facts.{facts, facts_of}
 

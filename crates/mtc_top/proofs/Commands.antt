@@ -1,6 +1,6 @@
 -- The rules of a command are those of a log or of a cosigner.
 use Rattle.std.proofs.Common.{inl, inr, ℕ, List, Result, Ok, Err}
-use Rattle.byte_forms.specs.Types.{HashFunction}
+use Rattle.byte_formats.specs.Types.{HashFunction}
 use Rattle.mtc_words.specs.declared.error.WordError.{WordError}
 use Rattle.mtc_words.specs.Commands.{CommandValue, member, show, verify, keygen, init_cosigner}
 use Rattle.mtc_words.specs.Commands.{advance, cosign, export, trust_landmarks, audit, drill}

@@ -2,16 +2,16 @@
 use Rattle.std.proofs.Common.{◌≡◌, ◌⊎◌, inl, inr, ℕ, List, [], ◌∷◌, ◌++◌}
 use Rattle.std.proofs.Common.{Option, Some, refl, sym, subst, ap, ◌∙◌, append_assoc, length, IfSome}
 use Rattle.std.proofs.lemmas.List.{append-nil}
-use Rattle.byte_forms.specs.Types.{HashFunction}
+use Rattle.byte_formats.specs.Types.{HashFunction}
 use Rattle.disk_core.specs.declared.disk.Disk.{Ghosts as Disks}
 use Rattle.mtc_io.specs.declared.sink.Sink.{Ghosts as Sinks}
-use Rattle.mtc_room.specs.Room.{TellsFile}
+use Rattle.mtc_room.specs.Room.{ModelsFile}
 use Rattle.mtc_room.specs.declared.room.Room.{Ghosts as Rooms}
 use Rattle.mtc_words.specs.Words.{command_of}
-use Rattle.mtc_answers.specs.Made.{Journaled, appended, images_at, images_since, moment_at}
-use Rattle.mtc_answers.specs.Served.{IsOther}
-use Rattle.mtc_answers.proofs.Made.{OnlyNow, ReadsImage}
-use Rattle.node_history.specs.Laws.{AreAtMost, Begins, HasGrown, LeadsTo, handed_bodies}
+use Rattle.mtc_command.specs.Made.{Journaled, appended, images_at, images_since, moment_at}
+use Rattle.mtc_command.specs.Served.{IsOther}
+use Rattle.mtc_command.proofs.Made.{OnlyNow, ReadsImage}
+use Rattle.node_history.specs.Laws.{AreAtMost, Begins, HasGrown, LeadsTo, released_bodies}
 use Rattle.node_history.specs.Nodes.{HistoryState}
 use Rattle.node_history.specs.Rules.{StartsWith, may_follow}
 use Rattle.node_history.specs.declared.start.NodeStart.{NodeStart}
@@ -20,8 +20,8 @@ use Rattle.node_history.proofs.Sound.{began_so, grown}
 use Rattle.node_history.proofs.Steps.{some_is}
 use Rattle.mtc_top.specs.Courses.{Turn, Link, ran, stops, cut, died, writes, HasTurned, DidWith}
 use Rattle.mtc_top.specs.Courses.{images_in, images_from, HasStopped, HasWritten, IsCourse}
-use Rattle.mtc_top.specs.Courses.{HasDied, HasHeld, WasHeld, HandsOut, IsHeard, WentOut, WentOutBy}
-use Rattle.mtc_top.specs.Nodes.{AllStandForNode, End, EndsWell, MayEnd, StandsForNode, begun}
+use Rattle.mtc_top.specs.Courses.{HasDied, HasHeld, WasHeld, Releases, IsHeard, WentOut, WentOutBy}
+use Rattle.mtc_top.specs.Nodes.{AllRepresentParty, End, EndsWell, MayEnd, RepresentsParty, begun}
 use Rattle.mtc_top.specs.Nodes.{end_state, has_handed, has_settled, same, steps_of, stopped}
 use Rattle.mtc_top.specs.Facts.{facts}
 use Rattle.mtc_top.specs.Run.{journals}
@@ -35,8 +35,8 @@ use Rattle.mtc_top.proofs.Turns.{find_name, now_of, steps_with}
 
 module _ {R S D O E : Type 0} (h : HashFunction) (rooms : Rooms R S D) (disks : Disks D)
     (outs : Sinks O) (errs : Sinks E) (image : ReadsImage disks) (only : OnlyNow disks)
-    (told : (room : R) (name : List ℕ) → rooms.tells room
-    → TellsFile disks.told (rooms.file room name) (rooms.device room name)) where
+    (contents : (room : R) (name : List ℕ) → rooms.is_modelled room
+    → ModelsFile disks.contents (rooms.file room name) (rooms.device room name)) where
   abbrev Turned : R → Turn R O E → Type 0
   Turned = HasTurned h rooms disks outs errs
 
@@ -54,9 +54,9 @@ module _ {R S D O E : Type 0} (h : HashFunction) (rooms : Rooms R S D) (disks : 
       -- the steps lead to a state for which each image stands
       pub record IsAt (steps : List NodeStep) (s : HistoryState) (room : R) : Type 0 where
         pub own : IsOwn name
-        pub tells : rooms.tells room
+        pub is_modelled : rooms.is_modelled room
         pub leads : LeadsTo (may_follow h) (start ∷ []) steps 0 s
-        pub stands : AllStandForNode s first (Images room name)
+        pub stands : AllRepresentParty s first (Images room name)
 
       -- so do more of them
       pub record IsLater (steps : List NodeStep) (room : R) : Type 0 where
@@ -69,12 +69,12 @@ module _ {R S D O E : Type 0} (h : HashFunction) (rooms : Rooms R S D) (disks : 
         pub more : List NodeStep
         pub state : HistoryState
         pub leads : LeadsTo (may_follow h) (start ∷ []) (steps ++ more) 0 state
-        pub stands : StandsForNode state first c
-        pub handed : handed_bodies state ≡ handed_bodies s
+        pub stands : RepresentsParty state first c
+        pub handed : released_bodies state ≡ released_bodies s
 
-      few_handed : (steps : List NodeStep) (s : HistoryState) (room : R) → IsAt steps s room
+      few_released : (steps : List NodeStep) (s : HistoryState) (room : R) → IsAt steps s room
           → AreAtMost (length s.settled) s.handed
-      few_handed steps s room at =
+      few_released steps s room at =
           (sound (may_follow h) (alone h) (start ∷ []) steps 0 s at.leads).there
 
       pub start_of : (steps : List NodeStep) (s : HistoryState) (room : R) → IsAt steps s room
@@ -102,7 +102,7 @@ module _ {R S D O E : Type 0} (h : HashFunction) (rooms : Rooms R S D) (disks : 
         state = s;
         at = record {
           own = at.own;
-          tells = at.tells;
+          is_modelled = at.is_modelled;
           leads = leads_same steps s at.leads;
           stands = at.stands;
         };
@@ -129,12 +129,12 @@ module _ {R S D O E : Type 0} (h : HashFunction) (rooms : Rooms R S D) (disks : 
 
       -- where the device stays
       still : (steps : List NodeStep) (s : HistoryState) (old new : R) → IsAt steps s old
-          → rooms.tells new → rooms.device new name ≡ rooms.device old name → IsAt steps s new
-      still steps s old new at tells disk = record {
+          → rooms.is_modelled new → rooms.device new name ≡ rooms.device old name → IsAt steps s new
+      still steps s old new at is_modelled disk = record {
         own = at.own;
-        tells = tells;
+        is_modelled = is_modelled;
         leads = at.leads;
-        stands = subst (λ (x : Option D). AllStandForNode s first (images_at disks x)) (sym disk)
+        stands = subst (λ (x : Option D). AllRepresentParty s first (images_at disks x)) (sym disk)
             at.stands;
       }
 
@@ -144,7 +144,8 @@ module _ {R S D O E : Type 0} (h : HashFunction) (rooms : Rooms R S D) (disks : 
           → EndsWell h did turn.status (IsHeard outs turn) s first (Images turn.room name) (Between
           old turn.room name)
       by_end steps s old turn did at run among =
-          (steps_with h rooms disks outs errs image only told old turn name did run at.tells
+          (steps_with h rooms disks outs errs image only contents old turn name did run
+          at.is_modelled
           among).ends s first at.stands
 
       abbrev end_later : (steps : List NodeStep) (s : HistoryState) (old : R) (turn : Turn R O E)
@@ -157,7 +158,7 @@ module _ {R S D O E : Type 0} (h : HashFunction) (rooms : Rooms R S D) (disks : 
             state = end_state e.end s;
             at = record {
               own = at.own;
-              tells = run.back.tells at.tells;
+              is_modelled = run.back.is_modelled at.is_modelled;
               leads = e.goes_on (starts_of steps s old at) (start ∷ []) steps 0 at.leads;
               stands = e.stands;
             };
@@ -182,19 +183,20 @@ module _ {R S D O E : Type 0} (h : HashFunction) (rooms : Rooms R S D) (disks : 
         pub later : IsLater steps turn.room
         pub out : List (List ℕ)
         pub went : WentOutBy h rooms disks outs errs name old turn out
-        pub handed : handed_bodies later.state ≡ handed_bodies s ++ out
+        pub handed : released_bodies later.state ≡ released_bodies s ++ out
 
       abbrev NoneOut : R → Turn R O E → Type 0
       NoneOut old turn = (list : List (List ℕ)) (body : List ℕ)
-          → HandsOut h rooms disks outs errs name old turn list body → ⊥
+          → Releases h rooms disks outs errs name old turn list body → ⊥
 
       -- nothing is handed out, or the record that this journal got
-      abbrev IsTold : R → Turn R O E → Journaled → Type 0
-      IsTold old turn did = NoneOut old turn ⊎ ((list : List (List ℕ)) × ((body : List ℕ)
+      abbrev IsReported : R → Turn R O E → Journaled → Type 0
+      IsReported old turn did = NoneOut old turn ⊎ ((list : List (List ℕ)) × ((body : List ℕ)
           × ((did ≡ appended list body) × IsHeard outs turn)))
 
       went_by : (old : R) (turn : Turn R O E) (did : Journaled) (e : End)
-          → Did old turn name did → MayEnd did turn.status (IsHeard outs turn) e → IsTold old turn
+          → Did old turn name did → MayEnd did turn.status (IsHeard outs turn) e
+          → IsReported old turn
           did
           → WentOutBy h rooms disks outs errs name old turn (out_by e)
       went_by old turn did same among may why = elim why [
@@ -226,14 +228,14 @@ module _ {R S D O E : Type 0} (h : HashFunction) (rooms : Rooms R S D) (disks : 
 
       goes_with : (steps : List NodeStep) (s : HistoryState) (old : R) (turn : Turn R O E)
           (did : Journaled) → IsAt steps s old → Turned old turn → Did old turn name did
-          → IsTold old turn did → RunGoes steps s old turn
+          → IsReported old turn did → RunGoes steps s old turn
       goes_with steps s old turn did at run among why =
           let e = by_end steps s old turn did at run among in
           record {
             later = end_later steps s old turn did at run among;
             out = out_by e.end;
             went = went_by old turn did e.end among e.may why;
-            handed = end_hands s (few_handed steps s old at) e.end;
+            handed = end_hands s (few_released steps s old at) e.end;
           }
 
       goes_idle : (steps : List NodeStep) (s : HistoryState) (old : R) (turn : Turn R O E)
@@ -241,7 +243,7 @@ module _ {R S D O E : Type 0} (h : HashFunction) (rooms : Rooms R S D) (disks : 
           → IsOther (facts h (command_of turn.words)).journals name → RunGoes steps s old turn
       goes_idle steps s old turn at run other = record {
         later = later_same steps s turn.room (still steps s old turn.room at
-            (run.back.tells at.tells) (idle_device old turn at.own run other));
+            (run.back.is_modelled at.is_modelled) (idle_device old turn at.own run other));
         out = [];
         went = inr (
           refl,
@@ -250,7 +252,7 @@ module _ {R S D O E : Type 0} (h : HashFunction) (rooms : Rooms R S D) (disks : 
               ((facts h (command_of turn.words)).outcome (rooms.file old)).journals name
               (appended list body) other hands.0,
         );
-        handed = sym (append-nil (handed_bodies s));
+        handed = sym (append-nil (released_bodies s));
       }
 
       run_goes : (steps : List NodeStep) (s : HistoryState) (old : R) (turn : Turn R O E)
@@ -294,7 +296,7 @@ module _ {R S D O E : Type 0} (h : HashFunction) (rooms : Rooms R S D) (disks : 
               state = end_state moment.end s;
               leads = moment.goes_on (starts_of steps s old at) (start ∷ []) steps 0 at.leads;
               stands = moment.stands;
-              handed = moment_hands s (few_handed steps s old at) found.0 moment.end moment.may;
+              handed = moment_hands s (few_released steps s old at) found.0 moment.end moment.may;
             })
       ]
 
@@ -303,16 +305,16 @@ module _ {R S D O E : Type 0} (h : HashFunction) (rooms : Rooms R S D) (disks : 
           → HasStopped h rooms disks outs errs (Images old) old new → IsAt steps s new
       stop_stands steps s old new at stop = record {
         own = at.own;
-        tells = stop.tells at.tells;
+        is_modelled = stop.is_modelled at.is_modelled;
         leads = at.leads;
-        stands = λ c is. subst (StandsForNode s first) (sym (stop.only name c is))
+        stands = λ c is. subst (RepresentsParty s first) (sym (stop.only name c is))
             (at.stands (stop.image name) (stop.may name));
       }
 
       -- no record more is handed out
       record CutGoes (steps : List NodeStep) (s : HistoryState) (room : R) : Type 0 where
         pub later : IsLater steps room
-        pub handed : handed_bodies later.state ≡ handed_bodies s
+        pub handed : released_bodies later.state ≡ released_bodies s
 
       cut_goes : (steps : List NodeStep) (s : HistoryState) (old new : R) (turn : Turn R O E)
           → IsAt steps s old → Turned old turn
@@ -326,9 +328,9 @@ module _ {R S D O E : Type 0} (h : HashFunction) (rooms : Rooms R S D) (disks : 
               state = may.state;
               at = record {
                 own = at.own;
-                tells = stop.tells (run.back.tells at.tells);
+                is_modelled = stop.is_modelled (run.back.is_modelled at.is_modelled);
                 leads = may.leads;
-                stands = λ c is. subst (StandsForNode may.state first) (sym (stop.only name c is))
+                stands = λ c is. subst (RepresentsParty may.state first) (sym (stop.only name c is))
                     may.stands;
               };
             };
@@ -346,12 +348,14 @@ module _ {R S D O E : Type 0} (h : HashFunction) (rooms : Rooms R S D) (disks : 
             (j.outcome (rooms.file old)).journals name did other among)
             (none_beside h (command_of turn.words) name at.own) in
             record {
-              later = later_same steps s new (still steps s old new at (killed.tells at.tells)
+              later = later_same steps s new
+                  (still steps s old new at (killed.is_modelled at.is_modelled)
                   stays.disk);
               handed = refl;
             })
         | inr found ↦
-            (let e = died_ends h rooms disks outs errs image told name old new turn found.0 at.tells
+            (let e = died_ends h rooms disks outs errs image contents name old new turn found.0
+            at.is_modelled
             found.1 killed s first at.stands in
             record {
               later = record {
@@ -359,12 +363,12 @@ module _ {R S D O E : Type 0} (h : HashFunction) (rooms : Rooms R S D) (disks : 
                 state = end_state e.end s;
                 at = record {
                   own = at.own;
-                  tells = killed.tells at.tells;
+                  is_modelled = killed.is_modelled at.is_modelled;
                   leads = e.goes_on (starts_of steps s old at) (start ∷ []) steps 0 at.leads;
                   stands = e.stands;
                 };
               };
-              handed = died_hands s (few_handed steps s old at) found.0 e.end e.may;
+              handed = died_hands s (few_released steps s old at) found.0 e.end e.may;
             })
       ]
 
@@ -372,7 +376,7 @@ module _ {R S D O E : Type 0} (h : HashFunction) (rooms : Rooms R S D) (disks : 
       written_stands : (steps : List NodeStep) (s : HistoryState) (old new : R) → IsAt steps s old
           → HasWritten h rooms disks outs errs name old new → IsAt steps s new
       written_stands steps s old new at wrote =
-          still steps s old new at (wrote.tells at.tells) wrote.stays.disk
+          still steps s old new at (wrote.is_modelled at.is_modelled) wrote.stays.disk
 
       -- ---- a course
       pub record Goes (steps : List NodeStep) (s : HistoryState) (old new : R)
@@ -380,7 +384,7 @@ module _ {R S D O E : Type 0} (h : HashFunction) (rooms : Rooms R S D) (disks : 
         pub later : IsLater steps new
         pub out : List (List ℕ)
         pub went : WentOut h rooms disks outs errs name old links out
-        pub handed : handed_bodies later.state ≡ handed_bodies s ++ out
+        pub handed : released_bodies later.state ≡ released_bodies s ++ out
 
       pub course_goes : (steps : List NodeStep) (s : HistoryState) (old new : R)
           (links : List (Link R O E)) → IsAt steps s old
@@ -389,7 +393,7 @@ module _ {R S D O E : Type 0} (h : HashFunction) (rooms : Rooms R S D) (disks : 
         later = later_same steps s new (subst (IsAt steps s) (sym course) at);
         out = [];
         went = refl;
-        handed = sym (append-nil (handed_bodies s));
+        handed = sym (append-nil (released_bodies s));
       }
       course_goes steps s old new (ran turn ∷ links) at course =
           let mid = run_goes steps s old turn at course.0 in
@@ -400,7 +404,7 @@ module _ {R S D O E : Type 0} (h : HashFunction) (rooms : Rooms R S D) (disks : 
             out = mid.out ++ rest.out;
             went = (mid.out, (rest.out, (refl, mid.went, rest.went)));
             handed = rest.handed ∙ ap (λ (l : List (List ℕ)). l ++ rest.out) mid.handed
-                ∙ append_assoc (handed_bodies s) mid.out rest.out;
+                ∙ append_assoc (released_bodies s) mid.out rest.out;
           }
       course_goes steps s old new (stops room ∷ links) at course =
           let rest = course_goes steps s room new links (stop_stands steps s old room at course.0)
@@ -432,19 +436,19 @@ module _ {R S D O E : Type 0} (h : HashFunction) (rooms : Rooms R S D) (disks : 
           }
 
       -- what a run held stands in front at the end
-      pub record Fronts (steps : List NodeStep) (room : R) (list : List (List ℕ)) : Type 0 where
+      pub record Prefixes (steps : List NodeStep) (room : R) (list : List (List ℕ)) : Type 0 where
         pub later : IsLater steps room
-        pub front : Begins list (first ∷ later.state.settled)
+        pub prefix : Begins list (first ∷ later.state.settled)
 
-      pub fronts_on : (steps more : List NodeStep) (room : R) (list : List (List ℕ))
-          → Fronts (steps ++ more) room list → Fronts steps room list
-      fronts_on steps more room list fronts =
-          record { later = later_on steps more room fronts.later; front = fronts.front }
+      pub prefixes_on : (steps more : List NodeStep) (room : R) (list : List (List ℕ))
+          → Prefixes (steps ++ more) room list → Prefixes steps room list
+      prefixes_on steps more room list prefixes =
+          record { later = later_on steps more room prefixes.later; prefix = prefixes.prefix }
 
       held_here : (steps : List NodeStep) (s : HistoryState) (old new : R) (turn : Turn R O E)
           (links : List (Link R O E)) (list : List (List ℕ)) → IsAt steps s old
           → Turned old turn → IsCourse h rooms disks outs errs name turn.room links new
-          → HasHeld h rooms disks outs errs name old turn list → Fronts steps new list
+          → HasHeld h rooms disks outs errs name old turn list → Prefixes steps new list
       held_here steps s old new turn links list at run course held =
           let mid = end_later steps s old turn held.did at run held.among in
           let last =
@@ -453,9 +457,9 @@ module _ {R S D O E : Type 0} (h : HashFunction) (rooms : Rooms R S D) (disks : 
           let e = by_end steps s old turn held.did at run held.among in
           let is : list ≡ first ∷ mid.state.settled
           = if_held (end_state e.end s) held.held (e.holds held.no_failure held.no_want) in
-          fronts_on steps mid.more new list (record {
+          prefixes_on steps mid.more new list (record {
             later = last;
-            front = (
+            prefix = (
               grew.settled.0,
               ap (λ (l : List (List ℕ)). l ++ grew.settled.0) is
                   ∙ ap (λ (l : List (List ℕ)). first ∷ l) grew.settled.1,
@@ -470,13 +474,13 @@ module _ {R S D O E : Type 0} (h : HashFunction) (rooms : Rooms R S D) (disks : 
       pub course_held : (steps : List NodeStep) (s : HistoryState) (old new : R)
           (links : List (Link R O E)) (list : List (List ℕ)) → IsAt steps s old
           → IsCourse h rooms disks outs errs name old links new
-          → WasHeld h rooms disks outs errs name old links list → Fronts steps new list
+          → WasHeld h rooms disks outs errs name old links list → Prefixes steps new list
       course_held steps s old new [] list at course was = absurd was
       course_held steps s old new (ran turn ∷ links) list at course was = elim was [
         | inl here ↦ held_here steps s old new turn links list at course.0 course.1 here
         | inr there ↦
             (let mid = (run_goes steps s old turn at course.0).later in
-            fronts_on steps mid.more new list (course_held (steps ++ mid.more) mid.state turn.room
+            prefixes_on steps mid.more new list (course_held (steps ++ mid.more) mid.state turn.room
             new links list mid.at course.1 there))
       ]
       course_held steps s old new (stops room ∷ links) list at course was =
@@ -487,9 +491,9 @@ module _ {R S D O E : Type 0} (h : HashFunction) (rooms : Rooms R S D) (disks : 
           course.1 was
       course_held steps s old new (cut turn room ∷ links) list at course was =
           let mid = (cut_goes steps s old room turn at course.0.0 course.0.1).later in
-          fronts_on steps mid.more new list (course_held (steps ++ mid.more) mid.state room new
+          prefixes_on steps mid.more new list (course_held (steps ++ mid.more) mid.state room new
           links list mid.at course.1 was)
       course_held steps s old new (died turn room ∷ links) list at course was =
           let mid = (died_goes steps s old room turn at course.0).later in
-          fronts_on steps mid.more new list (course_held (steps ++ mid.more) mid.state room new
+          prefixes_on steps mid.more new list (course_held (steps ++ mid.more) mid.state room new
           links list mid.at course.1 was)

@@ -4,12 +4,12 @@ use Rattle.std.proofs.Common.{None, Some, Result, Ok, codes, refl, sym, subst, a
 use Rattle.std.proofs.Common.{append_assoc}
 use Rattle.std.proofs.lemmas.Option.{option_and_then_some}
 use Rattle.std.specs.Prelude.{Contains, option_map}
-use Rattle.byte_forms.specs.Places.{IsBytes}
-use Rattle.byte_forms.specs.Types.{HashFunction}
+use Rattle.byte_formats.specs.Places.{IsBytes}
+use Rattle.byte_formats.specs.Types.{HashFunction}
 use Rattle.disk_core.specs.declared.disk.Disk.{Ghosts as Disks}
 use Rattle.journal_core.proofs.Standing.{found_stands}
 use Rattle.mtc_io.specs.declared.sink.Sink.{Ghosts as Sinks}
-use Rattle.mtc_room.specs.Room.{TellsFile}
+use Rattle.mtc_room.specs.Room.{ModelsFile}
 use Rattle.mtc_room.specs.declared.room.Room.{Ghosts as Rooms}
 use Rattle.mtc_words.specs.Commands.{CommandValue, export}
 use Rattle.mtc_words.specs.Words.{command_of}
@@ -25,10 +25,10 @@ use Rattle.cosigner_core.specs.declared.error.CosignerOpenError.{CosignerOpenErr
 use Rattle.cosigner_core.specs.declared.settings.CosignerSettings.{CosignerSettings}
 use Rattle.cosigner_core.specs.declared.step.Step.{Step}
 use Rattle.cosigner_core.proofs.ExportAgain.{export_again}
-use Rattle.mtc_answers.specs.Steps.{Files, Outcome, stops_at, with_file, with_form}
-use Rattle.mtc_answers.specs.Wanted.{Meets}
-use Rattle.mtc_answers.specs.declared.answer.Stopped.TheVariants.{Missing}
-use Rattle.mtc_answers.proofs.Made.{OnlyNow, ReadsImage}
+use Rattle.mtc_command.specs.Steps.{Files, Outcome, stops_at, with_file, with_form}
+use Rattle.mtc_command.specs.Wanted.{Meets}
+use Rattle.mtc_command.specs.declared.answer.Stopped.TheVariants.{Missing}
+use Rattle.mtc_command.proofs.Made.{OnlyNow, ReadsImage}
 use Rattle.mtc_cosigner.specs.CosignerOutcomes.{export_says}
 use Rattle.mtc_cosigner.specs.Works.{cosigner_bytes_say, export_outcome, cosigner_open_text}
 use Rattle.node_history.specs.Rules.{IsReadAs, StartsWith}
@@ -41,9 +41,9 @@ use Rattle.mtc_top.specs.Courses.{Link, Turn, HasTurned, IsCourse, IsBegun, IsHe
 use Rattle.mtc_top.specs.ExportLaws.{ExportsHoldTheSteps, HasExported}
 use Rattle.mtc_top.specs.Facts.{facts}
 use Rattle.mtc_top.specs.Run.{Answered}
-use Rattle.mtc_top.proofs.Recovered.{held_front, last, read_again}
-use Rattle.mtc_top.proofs.Turns.{file_bytes, heard_run, not_refused, printed_so, told_file}
-use Rattle.mtc_top.proofs.Turns.{told_image}
+use Rattle.mtc_top.proofs.Recovered.{held_prefix, last, read_again}
+use Rattle.mtc_top.proofs.Turns.{file_bytes, heard_run, not_refused, printed_so, modelled_file}
+use Rattle.mtc_top.proofs.Turns.{contents_image}
 
 -- ---- the steps of records
 
@@ -51,8 +51,8 @@ contains_more : (x y : Step) (xs : List Step) → Contains xs y → Contains (x 
 contains_more x y xs there = (suc there.0, omega (arith, there.1), there.2)
 
 -- a record among others is read as one of their steps
-step_there : (front : List (List ℕ)) (body : List ℕ) (rest : List (List ℕ)) (steps : List Step)
-    (step : Step) → steps_in (front ++ body ∷ rest) ≡ Some steps → step_in body ≡ Some step
+step_there : (prefix : List (List ℕ)) (body : List ℕ) (rest : List (List ℕ)) (steps : List Step)
+    (step : Step) → steps_in (prefix ++ body ∷ rest) ≡ Some steps → step_in body ≡ Some step
     → Contains steps step
 unfolding steps_in
 step_there [] body rest steps step is read =
@@ -62,18 +62,19 @@ step_there [] body rest steps step is read =
     let same : x ≡ step = some_is x step (sym found ∙ read) in
     subst (λ (l : List Step). Contains l step) (ap (λ (y : Step). y ∷ tail.0) (sym same) ∙ tail.2)
     (0, omega arith, refl))
-step_there (z ∷ front) body rest steps step is read =
-    option_and_then_some (λ x. option_map (λ xs. x ∷ xs) (steps_in (front ++ body ∷ rest)))
+step_there (z ∷ prefix) body rest steps step is read =
+    option_and_then_some (λ x. option_map (λ xs. x ∷ xs) (steps_in (prefix ++ body ∷ rest)))
     (step_in z) steps is (λ x found more.
-    let tail = map_some (λ (xs : List Step). x ∷ xs) (steps_in (front ++ body ∷ rest)) steps more in
+    let tail =
+    map_some (λ (xs : List Step). x ∷ xs) (steps_in (prefix ++ body ∷ rest)) steps more in
     subst (λ (l : List Step). Contains l step) tail.2
-    (contains_more x step tail.0 (step_there front body rest tail.0 step tail.1 read)))
+    (contains_more x step tail.0 (step_there prefix body rest tail.0 step tail.1 read)))
 
-behind_first : (first : List ℕ) (front more : List (List ℕ)) (body : List ℕ)
-    (rest list : List (List ℕ)) → (first ∷ (front ++ body ∷ more)) ++ rest ≡ list
-    → drop 1 list ≡ front ++ body ∷ (more ++ rest)
-behind_first first front more body rest list is =
-    ap (λ (l : List (List ℕ)). drop 1 l) (sym is) ∙ append_assoc front (body ∷ more) rest
+behind_first : (first : List ℕ) (prefix more : List (List ℕ)) (body : List ℕ)
+    (rest list : List (List ℕ)) → (first ∷ (prefix ++ body ∷ more)) ++ rest ≡ list
+    → drop 1 list ≡ prefix ++ body ∷ (more ++ rest)
+behind_first first prefix more body rest list is =
+    ap (λ (l : List (List ℕ)). drop 1 l) (sym is) ∙ append_assoc prefix (body ∷ more) rest
 
 -- ---- what is asked for
 
@@ -108,9 +109,9 @@ read_cosigner h start settings public bytes list is read =
 
 module _ {R S D O E : Type 0} (h : HashFunction) (rooms : Rooms R S D) (disks : Disks D)
     (outs : Sinks O) (errs : Sinks E) (image : ReadsImage disks) (only : OnlyNow disks)
-    (told : (room : R) (name : List ℕ) → rooms.tells room
-    → TellsFile disks.told (rooms.file room name) (rooms.device room name))
-    (bytes : (d : D) (b : List ℕ) → disks.told d ≡ Some b → IsBytes b) where
+    (contents : (room : R) (name : List ℕ) → rooms.is_modelled room
+    → ModelsFile disks.contents (rooms.file room name) (rooms.device room name))
+    (bytes : (d : D) (b : List ℕ) → disks.contents d ≡ Some b → IsBytes b) where
   module _ (name : List ℕ) (start : NodeStart) (first : List ℕ) (begins new : R)
       (links : List (Link R O E))
       (begun : IsBegun h rooms disks outs errs name start first begins links)
@@ -119,7 +120,7 @@ module _ {R S D O E : Type 0} (h : HashFunction) (rooms : Rooms R S D) (disks : 
       (public : List ℕ) (is : start ≡ Cosigner settings public) (turn : Turn R O E)
       (run : HasTurned h rooms disks outs errs new turn)
       (spoken : command_of turn.words ≡ Ok (export name)) (heard : IsHeard outs turn)
-      (tells : rooms.tells new) where
+      (is_modelled : rooms.is_modelled new) where
     -- the reply is the one that is asked for
     abbrev heard_so : Answered h rooms disks outs errs turn.words new turn.room turn.out
         turn.out_after turn.err turn.err_after turn.status
@@ -130,7 +131,7 @@ module _ {R S D O E : Type 0} (h : HashFunction) (rooms : Rooms R S D) (disks : 
     replied wanted asked =
         subst (λ (w : Outcome). Meets w.answer heard_so.reply)
         (spoken_export h (command_of turn.words) name (rooms.file new) spoken ∙ asked)
-        (heard_so.is (inl tells))
+        (heard_so.is (inl is_modelled))
 
     exported : (file : Option (List ℕ)) → rooms.file new name ≡ file
         → HasExported h rooms disks outs errs settings public name begins links new turn
@@ -139,19 +140,20 @@ module _ {R S D O E : Type 0} (h : HashFunction) (rooms : Rooms R S D) (disks : 
         (codes "Absent") (replied (stops_at Missing name (codes "Absent"))
         (asked_absent h name (rooms.file new) none)))
     exported (Some c) there =
-        let node = read_again h rooms disks outs errs image only told bytes name start first begins
+        let node =
+        read_again h rooms disks outs errs image only contents bytes name start first begins
         new
         links begun course c (inr there) in
         let opened = read_cosigner h start settings public c node.records is node.read in
-        let tells_file = told new name tells in
-        let are = file_bytes disks (rooms.file new name) (rooms.device new name) c bytes tells_file
+        let models_file = contents new name is_modelled in
+        let are = file_bytes disks (rooms.file new name) (rooms.device new name) c bytes models_file
         there in
         let found : FoundCosigner = record { records = node.records; state = opened.0 } in
         let stands = found_stands (cosigner_fold h) c found are opened.1 in
         let again = export_again h c node.records opened.0 are stands.0 stands.1 in
-        let own = of_first h settings public first node.of_node.others opened.0
+        let own = of_first h settings public first node.of_party.others opened.0
         (subst (λ (n : NodeStart). StartsWith n first) is begun.starts)
-        (subst (λ (l : List (List ℕ)). cosigner_of h l ≡ Ok opened.0) node.of_node.is stands.1) in
+        (subst (λ (l : List (List ℕ)). cosigner_of h l ≡ Ok opened.0) node.of_party.is stands.1) in
         let meets = replied (export_says found)
         (asked_there h name (rooms.file new) c found there opened.1) in
         let text = export_text opened.0 node.records in
@@ -159,8 +161,9 @@ module _ {R S D O E : Type 0} (h : HashFunction) (rooms : Rooms R S D) (disks : 
         = (
           c,
           (
-            told_image disks (rooms.device new name) c image
-                (told_file disks (rooms.file new name) (rooms.device new name) tells_file ∙ there),
+            contents_image disks (rooms.device new name) c image
+                (modelled_file disks (rooms.file new name) (rooms.device new name) models_file
+                ∙ there),
             stands.0,
           ),
         ) in
@@ -180,14 +183,15 @@ module _ {R S D O E : Type 0} (h : HashFunction) (rooms : Rooms R S D) (disks : 
           progress = progress_of opened.0;
           allowed = again.3;
           steps = again.1;
-          signed = λ record0 front more body step held says.
-              let front_is = held_front h rooms disks outs errs image only told bytes name start
+          signed = λ record0 prefix more body step held says.
+              let prefix_is =
+              held_prefix h rooms disks outs errs image only contents bytes name start
               first
-              begins new links begun course (record0 ∷ (front ++ body ∷ more)) node.records held
+              begins new links begun course (record0 ∷ (prefix ++ body ∷ more)) node.records held
               recovered in
-              step_there front body (more ++ front_is.0) again.0 step
+              step_there prefix body (more ++ prefix_is.0) again.0 step
               (subst (λ (l : List (List ℕ)). steps_in l ≡ Some again.0)
-              (behind_first record0 front more body front_is.0 node.records front_is.1) again.1)
+              (behind_first record0 prefix more body prefix_is.0 node.records prefix_is.1) again.1)
               says;
         }
 
@@ -196,5 +200,6 @@ module _ {R S D O E : Type 0} (h : HashFunction) (rooms : Rooms R S D) (disks : 
       heard =
       exported name start first begins new links begun course settings public is turn run spoken
       heard
-      (last h rooms disks outs errs image only told bytes name start first begins new links begun
-      course).at.tells (rooms.file new name) refl
+      (last h rooms disks outs errs image only contents bytes name start first begins new links
+      begun
+      course).at.is_modelled (rooms.file new name) refl

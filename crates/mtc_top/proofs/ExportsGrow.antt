@@ -1,17 +1,17 @@
 -- A run of `export` behind a course, beside one in the course.
 use Rattle.std.proofs.Common.{◌≡◌, ℕ, List, ◌++◌, Some, Ok, sym, subst, ap, ◌∙◌}
-use Rattle.byte_forms.specs.Places.{IsBytes}
-use Rattle.byte_forms.specs.Types.{HashFunction}
+use Rattle.byte_formats.specs.Places.{IsBytes}
+use Rattle.byte_formats.specs.Types.{HashFunction}
 use Rattle.disk_core.specs.declared.disk.Disk.{Ghosts as Disks}
 use Rattle.mtc_io.specs.declared.sink.Sink.{Ghosts as Sinks}
-use Rattle.mtc_room.specs.Room.{TellsFile}
+use Rattle.mtc_room.specs.Room.{ModelsFile}
 use Rattle.mtc_room.specs.declared.room.Room.{Ghosts as Rooms}
 use Rattle.mtc_words.specs.Commands.{export}
 use Rattle.mtc_words.specs.Words.{command_of}
 use Rattle.cosigner_core.specs.Exports.{export_text, records_text}
 use Rattle.cosigner_core.specs.Folds.{cosigner_of}
 use Rattle.cosigner_core.specs.declared.settings.CosignerSettings.{CosignerSettings}
-use Rattle.mtc_answers.proofs.Made.{OnlyNow, ReadsImage}
+use Rattle.mtc_command.proofs.Made.{OnlyNow, ReadsImage}
 use Rattle.node_history.specs.Laws.{Begins}
 use Rattle.node_history.proofs.Cosigners.{export_grows}
 use Rattle.mtc_top.specs.Courses.{Link, Turn, HasHeld, HasPrinted, HasTurned}
@@ -19,42 +19,43 @@ use Rattle.mtc_top.specs.Courses.{IsHeard}
 use Rattle.mtc_top.specs.ExportLaws.{ExportsOnlyGrow, HasExported, HasMoreThan}
 use Rattle.mtc_top.specs.PrintLaws.{OfHeard}
 use Rattle.mtc_top.proofs.Exports.{exports_hold}
-use Rattle.mtc_top.proofs.Recovered.{held_front}
+use Rattle.mtc_top.proofs.Recovered.{held_prefix}
 use Rattle.mtc_top.proofs.Secrets.{says_so}
 use Rattle.mtc_top.proofs.Turns.{each_held, heard_read}
 
 module _ {R S D O E : Type 0} (h : HashFunction) (rooms : Rooms R S D) (disks : Disks D)
     (outs : Sinks O) (errs : Sinks E) (image : ReadsImage disks) (only : OnlyNow disks)
-    (told : (room : R) (name : List ℕ) → rooms.tells room
-    → TellsFile disks.told (rooms.file room name) (rooms.device room name))
-    (bytes : (d : D) (b : List ℕ) → disks.told d ≡ Some b → IsBytes b) where
+    (contents : (room : R) (name : List ℕ) → rooms.is_modelled room
+    → ModelsFile disks.contents (rooms.file room name) (rooms.device room name))
+    (bytes : (d : D) (b : List ℕ) → disks.contents d ≡ Some b → IsBytes b) where
   module _ (name : List ℕ) (begins new : R) (links : List (Link R O E))
       (settings : CosignerSettings) (public : List ℕ) (turn : Turn R O E)
       (now : HasExported h rooms disks outs errs settings public name begins links new turn) where
     -- the earlier run read a front of the records
-    has_more : (old : R) (earlier : Turn R O E) → rooms.tells old
+    has_more : (old : R) (earlier : Turn R O E) → rooms.is_modelled old
         → HasTurned h rooms disks outs errs old earlier → IsHeard outs earlier
         → command_of earlier.words ≡ Ok (export name)
         → ((list : List (List ℕ)) → HasHeld h rooms disks outs errs name old earlier list
         → Begins list now.list) → HasMoreThan h rooms disks outs errs name old earlier turn
-    has_more old earlier tells run heard spoken fronts =
-        let said = says_so h rooms disks outs errs image only told bytes old earlier tells run heard
+    has_more old earlier is_modelled run heard spoken prefixes =
+        let said = says_so h rooms disks outs errs image only contents bytes old earlier is_modelled
+        run heard
         (export name) spoken in
         let list = said.0 in
         let state = said.1.0 in
-        let front = fronts list
+        let prefix = prefixes list
         (heard_read h rooms disks outs errs old earlier run heard name list said.1.1.1) in
-        let grows = export_grows h list front.0 state now.state said.1.1.0
-        (subst (λ (l : List (List ℕ)). cosigner_of h l ≡ Ok now.state) (sym front.1) now.state_is)
+        let grows = export_grows h list prefix.0 state now.state said.1.1.0
+        (subst (λ (l : List (List ℕ)). cosigner_of h l ≡ Ok now.state) (sym prefix.1) now.state_is)
         in
-        let same : now.text ≡ export_text state list ++ records_text front.0
-        = now.text_is ∙ (ap (export_text now.state) (sym front.1) ∙ sym grows) in
+        let same : now.text ≡ export_text state list ++ records_text prefix.0
+        = now.text_is ∙ (ap (export_text now.state) (sym prefix.1) ∙ sym grows) in
         record {
           list = list;
           read = said.1.1.1;
           state = state;
           state_is = said.1.1.0;
-          more = records_text front.0;
+          more = records_text prefix.0;
           before = said.1.1.2;
           now = subst (HasPrinted outs turn) same now.printed;
         }
@@ -62,13 +63,16 @@ module _ {R S D O E : Type 0} (h : HashFunction) (rooms : Rooms R S D) (disks : 
   pub exports_grow : ExportsOnlyGrow h rooms disks outs errs
   exports_grow name start first begins new links begun course settings public is turn run spoken
       heard =
-      let now = exports_hold h rooms disks outs errs image only told bytes name start first begins
+      let now =
+      exports_hold h rooms disks outs errs image only contents bytes name start first begins
       new links begun course settings public is turn run spoken heard in
-      each_held h rooms disks outs errs image only told name (λ list. Begins list now.list)
+      each_held h rooms disks outs errs image only contents name (λ list. Begins list now.list)
       (OfHeard h rooms disks outs errs (export name) (λ old earlier.
-      HasMoreThan h rooms disks outs errs name old earlier turn)) begins new links begun.tells
-      course (λ list held. held_front h rooms disks outs errs image only told bytes name start first
+      HasMoreThan h rooms disks outs errs name old earlier turn)) begins new links begun.is_modelled
+      course (λ list held. held_prefix h rooms disks outs errs image only contents bytes name start
+      first
       begins new links begun course list now.list held now.recovered)
-      (λ old earlier tells ran fronts said heard'.
-      has_more name begins new links settings public turn now old earlier tells ran heard' said
-      fronts)
+      (λ old earlier is_modelled ran prefixes said heard'.
+      has_more name begins new links settings public turn now old earlier is_modelled ran heard'
+      said
+      prefixes)

@@ -4,14 +4,14 @@ use Rattle.std.proofs.Common.{length, Option, None, Some, Result, Ok, Err, codes
 use Rattle.std.proofs.Common.{ap, ◌∙◌, arith, not}
 use Rattle.std.specs.Fmt.{decimal}
 use Rattle.std.specs.Prelude.{if◌then◌else◌, nat_le, nat_lt}
-use Rattle.byte_forms.specs.Places.{IsBytes}
-use Rattle.byte_forms.specs.Types.{HashFunction}
+use Rattle.byte_formats.specs.Places.{IsBytes}
+use Rattle.byte_formats.specs.Types.{HashFunction}
 use Rattle.disk_core.specs.declared.disk.Disk.{Ghosts as Disks}
-use Rattle.journal_core.specs.Format.{StandsFor, end_behind}
+use Rattle.journal_core.specs.Format.{Represents, end_behind}
 use Rattle.journal_core.proofs.Found.{read_standing}
 use Rattle.journal_core.proofs.Standing.{found_stands}
 use Rattle.mtc_io.specs.declared.sink.Sink.{Ghosts as Sinks}
-use Rattle.mtc_room.specs.Room.{TellsFile}
+use Rattle.mtc_room.specs.Room.{ModelsFile}
 use Rattle.mtc_room.specs.declared.room.Room.{Ghosts as Rooms}
 use Rattle.mtc_words.specs.Commands.{CommandValue, advance, cert, checkpoint, consist, cosign}
 use Rattle.mtc_words.specs.Commands.{entries, export, init_cosigner, init_log, issue, landmark}
@@ -39,44 +39,48 @@ use Rattle.issuance_log.specs.Records.{settings_record}
 use Rattle.issuance_log.specs.Refusals.{add_refusal, mark_refusal, tile_refusal}
 use Rattle.issuance_log.specs.declared.error.LogError.{LogError}
 use Rattle.issuance_log.specs.declared.error.LogError.TheVariants as log_error
-use Rattle.mtc_answers.specs.Answers.{Reply, bad_tile_text, err_of, refused, said, status_of}
-use Rattle.mtc_answers.specs.Answers.{tiles_name}
-use Rattle.mtc_answers.specs.Endings.{IsNamed}
-use Rattle.mtc_answers.specs.Lines.{line_of}
-use Rattle.mtc_answers.specs.Steps.{Files, Outcome, held_in, starts, stops_at, with_bytes}
-use Rattle.mtc_answers.specs.Steps.{with_form, with_fresh}
-use Rattle.mtc_answers.specs.Wanted.{Meets}
-use Rattle.mtc_answers.specs.declared.answer.Said.TheVariants.{Done}
-use Rattle.mtc_answers.specs.declared.answer.Stopped.TheVariants.{BadForm, Beyond, Missing}
+use Rattle.mtc_command.specs.Answers.{Reply, bad_tile_text, err_of, refused, said, status_of}
+use Rattle.mtc_command.specs.Answers.{tiles_name}
+use Rattle.mtc_command.specs.Endings.{IsNamed}
+use Rattle.mtc_command.specs.Lines.{line_of}
+use Rattle.mtc_command.specs.Steps.{Files, Outcome, held_in, starts, stops_at, with_bytes}
+use Rattle.mtc_command.specs.Steps.{with_form, with_fresh}
+use Rattle.mtc_command.specs.Wanted.{Meets}
+use Rattle.mtc_command.specs.declared.answer.Said.TheVariants.{Done}
+use Rattle.mtc_command.specs.declared.answer.Stopped.TheVariants.{BadForm, Beyond, Missing}
 use Rattle.tree_core.specs.Subtree.{is_subtree}
-use Rattle.mtc_answers.proofs.Made.{OnlyNow, ReadsImage}
+use Rattle.mtc_command.proofs.Made.{OnlyNow, ReadsImage}
 use Rattle.mtc_cosigner.specs.CosignerOutcomes.{advance_says, cosign_says, export_says}
 use Rattle.mtc_cosigner.specs.CosignerOutcomes.{form_fault_text, stepped}
 use Rattle.mtc_cosigner.specs.InitOutcome.{cosigner_settings_of, init_says}
 use Rattle.mtc_cosigner.specs.KeygenOutcome.{public_line, with_secret}
 use Rattle.mtc_cosigner.specs.Works.{IsCosigner, advance_outcome, cosign_outcome, export_outcome}
 use Rattle.mtc_cosigner.specs.Works.{cosigner_outcome, cosigner_open_text}
-use Rattle.mtc_logs.specs.BadTiles.{first_bad}
-use Rattle.mtc_logs.specs.CertOutcome.{cert_refused, cert_replies, cert_reply, certificate_in}
-use Rattle.mtc_logs.specs.CertOutcome.{light_reply, light_text, signatures_fault_text}
-use Rattle.mtc_logs.specs.CertOutcome.{signatures_in}
-use Rattle.mtc_logs.specs.IssueOutcome.{issued, request_fault_text}
-use Rattle.mtc_logs.specs.LandmarkOutcomes.{landmarks_reply, mark_refused, marked}
-use Rattle.mtc_logs.specs.LogOutcomes.{beyond, checkpoint_reply, entries_reply, items_of}
-use Rattle.mtc_logs.specs.LogOutcomes.{init_log_outcome, log_line, log_settings_of, not_allowed}
-use Rattle.mtc_logs.specs.RequestOutcomes.{advance_by_log, consist_reply, subtree_of, subtree_reply}
-use Rattle.mtc_logs.specs.TileOutcome.{tiled_by, tiles_refused}
-use Rattle.mtc_logs.specs.Works.{IsLog, log_outcome, log_open_text, log_says, tested_says}
-use Rattle.mtc_logs.specs.Works.{unless_missing}
-use Rattle.mtc_logs.specs.declared.work.Work.{Work}
-use Rattle.mtc_logs.specs.declared.work.Work.TheVariants.{Cert, Checkpoint, Consist, Entries, Issue}
-use Rattle.mtc_logs.specs.declared.work.Work.TheVariants.{Landmark, Landmarks, LightCert, Subtree}
-use Rattle.mtc_logs.specs.declared.work.Work.TheVariants.{Tile}
+use Rattle.mtc_authority.specs.BadTiles.{first_bad}
+use Rattle.mtc_authority.specs.CertOutcome.{cert_refused, cert_replies, cert_reply, certificate_in}
+use Rattle.mtc_authority.specs.CertOutcome.{light_reply, light_text, signatures_fault_text}
+use Rattle.mtc_authority.specs.CertOutcome.{signatures_in}
+use Rattle.mtc_authority.specs.IssueOutcome.{issued, request_fault_text}
+use Rattle.mtc_authority.specs.LandmarkOutcomes.{landmarks_reply, mark_refused, marked}
+use Rattle.mtc_authority.specs.LogOutcomes.{beyond, checkpoint_reply, entries_reply, items_of}
+use Rattle.mtc_authority.specs.LogOutcomes.{init_log_outcome, log_line, log_settings_of}
+use Rattle.mtc_authority.specs.LogOutcomes.{not_allowed}
+use Rattle.mtc_authority.specs.RequestOutcomes.{advance_by_log, consist_reply, subtree_of}
+use Rattle.mtc_authority.specs.RequestOutcomes.{subtree_reply}
+use Rattle.mtc_authority.specs.TileOutcome.{tiled_by, tiles_refused}
+use Rattle.mtc_authority.specs.Works.{IsLog, log_outcome, log_open_text, log_says, tested_says}
+use Rattle.mtc_authority.specs.Works.{unless_missing}
+use Rattle.mtc_authority.specs.declared.work.Work.{Work}
+use Rattle.mtc_authority.specs.declared.work.Work.TheVariants.{Cert, Checkpoint, Consist, Entries}
+use Rattle.mtc_authority.specs.declared.work.Work.TheVariants.{Issue}
+use Rattle.mtc_authority.specs.declared.work.Work.TheVariants.{Landmark, Landmarks, LightCert}
+use Rattle.mtc_authority.specs.declared.work.Work.TheVariants.{Subtree}
+use Rattle.mtc_authority.specs.declared.work.Work.TheVariants.{Tile}
 use Rattle.node_history.specs.Rules.{IsReadAs}
 use Rattle.node_history.specs.declared.start.NodeStart.{NodeStart}
 use Rattle.node_history.specs.declared.start.NodeStart.TheVariants.{Cosigner, Log}
 use Rattle.mtc_top.specs.Concluded.{Reports}
-use Rattle.mtc_top.specs.CourseLaws.{AreOfNode}
+use Rattle.mtc_top.specs.CourseLaws.{AreOfParty}
 use Rattle.mtc_top.specs.Courses.{Turn, HasTurned}
 use Rattle.mtc_top.specs.Facts.{facts, facts_of}
 use Rattle.mtc_top.specs.StatusLaws.{IsAboutInput, LacksTile, MisreadFilesAreInputs, WorksOn}
@@ -220,8 +224,8 @@ module _ (h : HashFunction) where
       × (A file reason × (reply ≡ refused BadForm (Some file) reason)))
 
   -- an input, or a tile that isn't there
-  abbrev Told : Files → List ℕ → List (List ℕ) → List ℕ → List ℕ → Type 0
-  Told files name inputs file reason =
+  abbrev Reported : Files → List ℕ → List (List ℕ) → List ℕ → List ℕ → Type 0
+  Reported files name inputs file reason =
       IsNamed inputs file ⊎ LacksTile h files name file reason
 
   none_only : (A : List ℕ → List ℕ → Type 0) (o : Outcome) → NeverTwo o → OnlyAbout A o
@@ -268,16 +272,16 @@ module _ (h : HashFunction) where
 
   only_log : (files : Files) (inputs : List (List ℕ)) (name : List ℕ) (o tiles : Option (List ℕ))
       (work : Work) → files name ≡ o → files (tiles_name name) ≡ tiles → LogsRead o
-      → OnlyAbout (Told files name inputs) (log_outcome h name o tiles work)
+      → OnlyAbout (Reported files name inputs) (log_outcome h name o tiles work)
   unfolding log_outcome
   only_log files inputs name None tiles work there beside reads =
-      none_only (Told files name inputs)
+      none_only (Reported files name inputs)
       (stops_at Missing name (codes "Absent")) (λ reply. exact_two _ reply seven_two)
   only_log files inputs name (Some c) tiles work there beside reads =
       let found = reads c refl in
-      subst (λ r. OnlyAbout (Told files name inputs) (with_form log_open_text name r
+      subst (λ r. OnlyAbout (Reported files name inputs) (with_form log_open_text name r
       (tested_says h name work (held_in tiles)))) (sym found.1)
-      (only_tiles (Told files name inputs) name (first_bad h found.0.state (held_in tiles))
+      (only_tiles (Reported files name inputs) name (first_bad h found.0.state (held_in tiles))
       (log_says h work found.0) (work_two work found.0) (λ bad is. inr (record {
         bytes = c;
         found = found.0;
@@ -318,16 +322,16 @@ module _ (h : HashFunction) where
       (only_either A (nat_lt 48 (length secret)) file (codes "Trailing") next among rest)
 
   abbrev Only : Files → List ℕ → CommandValue → Type 0
-  Only files name command = OnlyAbout (Told files name (facts_of h command).inputs)
+  Only files name command = OnlyAbout (Reported files name (facts_of h command).inputs)
       ((facts_of h command).outcome files)
 
   -- ---- each command, over a file that stands for the records of a node
 
   module _ (start : NodeStart) (first name : List ℕ) (files : Files)
       (stands : (c : List ℕ) → files name ≡ Some c
-      → (list : List (List ℕ)) × (StandsFor c list × AreOfNode h start first list)) where
+      → (list : List (List ℕ)) × (Represents c list × AreOfParty h start first list)) where
     abbrev AreOf : (List (List ℕ) → Type 0) → Type 0
-    AreOf Valid = (list : List (List ℕ)) → AreOfNode h start first list → Valid list
+    AreOf Valid = (list : List (List ℕ)) → AreOfParty h start first list → Valid list
 
     logs : AreOf (IsLog h) → LogsRead (files name)
     logs kind c is =
@@ -346,13 +350,13 @@ module _ (h : HashFunction) where
         )
 
     abbrev By : List (List ℕ) → List ℕ → List ℕ → Type 0
-    By inputs = Told files name inputs
+    By inputs = Reported files name inputs
 
     of_log : (inputs : List (List ℕ)) (journal : List ℕ) (work : Work)
         → journal ∷ [] ≡ name ∷ [] → AreOf (IsLog h) → OnlyAbout (By inputs)
         (log_outcome h journal (files journal) (files (tiles_name journal)) work)
     of_log inputs journal work same kind =
-        subst (λ (n : List ℕ). OnlyAbout (Told files n inputs)
+        subst (λ (n : List ℕ). OnlyAbout (Reported files n inputs)
         (log_outcome h journal (files journal) (files (tiles_name journal)) work))
         (one_is journal name same)
         (only_log files inputs journal (files journal) (files (tiles_name journal)) work refl refl
@@ -433,7 +437,7 @@ module _ (h : HashFunction) where
   -- ---- a file that is read as a node's
 
   stands_of : (start : NodeStart) (c : List ℕ) (list : List (List ℕ)) → IsBytes c
-      → IsReadAs h start c list → StandsFor c list
+      → IsReadAs h start c list → Represents c list
   stands_of (Log settings) c list are read =
       (found_stands (log_fold h) c (record { records = list; state = read.0 }) are read.1).0
   stands_of (Cosigner settings public) c list are read =
@@ -441,9 +445,9 @@ module _ (h : HashFunction) where
 
 module _ {R S D O E : Type 0} (h : HashFunction) (rooms : Rooms R S D) (disks : Disks D)
     (outs : Sinks O) (errs : Sinks E) (image : ReadsImage disks) (only : OnlyNow disks)
-    (told : (room : R) (name : List ℕ) → rooms.tells room
-    → TellsFile disks.told (rooms.file room name) (rooms.device room name))
-    (bytes : (d : D) (b : List ℕ) → disks.told d ≡ Some b → IsBytes b) where
+    (contents : (room : R) (name : List ℕ) → rooms.is_modelled room
+    → ModelsFile disks.contents (rooms.file room name) (rooms.device room name))
+    (bytes : (d : D) (b : List ℕ) → disks.contents d ≡ Some b → IsBytes b) where
   -- the line of a refusal
   refused_line : (turn : Turn R O E) (reply : Reply) (file reason : List ℕ)
       → reply ≡ refused BadForm (Some file) reason
@@ -454,16 +458,17 @@ module _ {R S D O E : Type 0} (h : HashFunction) (rooms : Rooms R S D) (disks : 
       (err_of (known_word turn.words) r)) is line
 
   about_input : (name : List ℕ) (room : R) (command : CommandValue) (turn : Turn R O E)
-      → rooms.tells room
+      → rooms.is_modelled room
       → HasTurned h rooms disks outs errs room turn → command_of turn.words ≡ Ok command
       → turn.status ≡ 2 → Only h (rooms.file room) name command
       → IsAboutInput h rooms disks outs errs name command room turn
-  about_input name room command turn tells run spoken two fits =
+  about_input name room command turn is_modelled run spoken two fits =
       let a = run.answered (λ five. omega (arith, two, five)) (λ eight. omega (arith, two, eight))
       in
       let not6 : turn.status ≢ 6 = λ six. omega (arith, two, six) in
       let meets = subst (λ (r : Result CommandValue WordError).
-      Meets ((facts h r).outcome (rooms.file room)).answer a.reply) spoken (a.is (inl tells)) in
+      Meets ((facts h r).outcome (rooms.file room)).answer a.reply) spoken (a.is (inl is_modelled))
+      in
       let found = fits a.reply meets (sym (a.code not6) ∙ two) in
       record {
         file = found.0;
@@ -477,12 +482,14 @@ module _ {R S D O E : Type 0} (h : HashFunction) (rooms : Rooms R S D) (disks : 
 
   pub misread_inputs : MisreadFilesAreInputs h rooms disks outs errs
   misread_inputs name start first begins new links begun course command turn on run spoken two =
-      let end = last h rooms disks outs errs image only told bytes name start first begins new links
+      let end = last h rooms disks outs errs image only contents bytes name start first begins new
+      links
       begun course in
-      about_input name new command turn end.at.tells run spoken two
+      about_input name new command turn end.at.is_modelled run spoken two
       (only_inputs h start first name (rooms.file new) (λ c is.
-      let node = read_again h rooms disks outs errs image only told bytes name start first begins
+      let node =
+      read_again h rooms disks outs errs image only contents bytes name start first begins
       new links begun course c (inr is) in
       let are = file_bytes disks (rooms.file new name) (rooms.device new name) c bytes
-      (told new name end.at.tells) is in
-      (node.records, (stands_of h start c node.records are node.read, node.of_node))) command on)
+      (contents new name end.at.is_modelled) is in
+      (node.records, (stands_of h start c node.records are node.read, node.of_party))) command on)

@@ -4,18 +4,18 @@ use Rattle.std.proofs.Common.{length, Option, None, Some, IfSome, refl, sym, sub
 use Rattle.std.proofs.Common.{rules, append_assoc, take}
 use Rattle.std.proofs.lemmas.Bool.Decides.{eqb_tells, leb_tells}
 use Rattle.std.proofs.lemmas.List.{append-nil}
-use Rattle.byte_forms.specs.Types.{HashFunction}
+use Rattle.byte_formats.specs.Types.{HashFunction}
 use Rattle.disk_core.specs.declared.disk.Disk.{Ghosts}
-use Rattle.mtc_room.specs.Room.{TellsFile}
-use Rattle.journal_core.specs.Format.{StandsFor, StandsForEither, header}
+use Rattle.mtc_room.specs.Room.{ModelsFile}
+use Rattle.journal_core.specs.Format.{Represents, RepresentsEither, header}
 use Rattle.journal_core.proofs.Records.{records_of-stands}
-use Rattle.mtc_answers.specs.Answers.{IsEarly}
-use Rattle.mtc_answers.specs.Made.{Journaled, untouched, reads, appended, started, Images}
-use Rattle.mtc_answers.specs.Made.{images_at, IsOnOld, Kept, WasRead, HasMade, MayHaveMade}
-use Rattle.mtc_answers.specs.Valid.{AddsValid}
-use Rattle.mtc_answers.proofs.Made.{ReadsImage}
+use Rattle.mtc_command.specs.Answers.{IsEarly}
+use Rattle.mtc_command.specs.Made.{Journaled, untouched, reads, appended, started, Images}
+use Rattle.mtc_command.specs.Made.{images_at, IsOnOld, Kept, WasRead, HasMade, MayHaveMade}
+use Rattle.mtc_command.specs.Valid.{AddsValid}
+use Rattle.mtc_command.proofs.Made.{ReadsImage}
 use Rattle.node_history.specs.Histories.{if_allowed}
-use Rattle.node_history.specs.Laws.{IsSoundNode, LeadsTo}
+use Rattle.node_history.specs.Laws.{IsSoundParty, LeadsTo}
 use Rattle.node_history.specs.Nodes.{HistoryState, begin, settle, stop, with_pending}
 use Rattle.node_history.specs.Rules.{AreRecords, StartsWith, may_follow}
 use Rattle.node_history.specs.declared.start.NodeStart.{NodeStart}
@@ -24,9 +24,9 @@ use Rattle.node_history.specs.declared.step.NodeStep.TheVariants.{Begin, Settle,
 use Rattle.node_history.proofs.Agreement.{agree, alone}
 use Rattle.node_history.proofs.GoesOn.{goes_on}
 use Rattle.node_history.proofs.Sound.{sound}
-use Rattle.mtc_top.specs.Nodes.{StandsForNode, AllStandForNode, same, end_state, steps_of}
-use Rattle.mtc_top.specs.Nodes.{stopped, begun, has_settled, has_handed, IsRecord, NotHanded}
-use Rattle.mtc_top.specs.Nodes.{GoesOn, IsNodeMoment, TookSome, EndsWell, records_left}
+use Rattle.mtc_top.specs.Nodes.{RepresentsParty, AllRepresentParty, same, end_state, steps_of}
+use Rattle.mtc_top.specs.Nodes.{stopped, begun, has_settled, has_handed, IsRecord, NotReleased}
+use Rattle.mtc_top.specs.Nodes.{GoesOn, IsPartyMoment, TookSome, EndsWell, records_left}
 
 -- ---- the steps of an end are those of a history
 
@@ -88,16 +88,16 @@ record Stopped (n : HistoryState) (first : List ℕ) (list : List (List ℕ)) : 
   pub is : list ≡ first ∷ (stop kept n).settled
 
 -- a list, or it with one more record, is that of a node with a pending record behind a stop
-either_node : (n : HistoryState) (first : List ℕ) (list : List (List ℕ)) (body c : List ℕ)
-    (s : Stopped n first list) → StandsForEither list body c
-    → StandsForNode (begin body (stop s.kept n)) first c
-either_node n first list body c s either = elim either [
-  | inl old ↦ inl (subst (StandsFor c) s.is old)
-  | inr new ↦ inr (subst (λ l. StandsFor c (l ++ body ∷ [])) s.is new)
+either_party : (n : HistoryState) (first : List ℕ) (list : List (List ℕ)) (body c : List ℕ)
+    (s : Stopped n first list) → RepresentsEither list body c
+    → RepresentsParty (begin body (stop s.kept n)) first c
+either_party n first list body c s either = elim either [
+  | inl old ↦ inl (subst (Represents c) s.is old)
+  | inr new ↦ inr (subst (λ l. Represents c (l ++ body ∷ [])) s.is new)
 ]
 
 -- of what was read the records are known
-pub one_list : (c : List ℕ) (xs ys : List (List ℕ)) → StandsFor c xs → StandsFor c ys → xs ≡ ys
+pub one_list : (c : List ℕ) (xs ys : List (List ℕ)) → Represents c xs → Represents c ys → xs ≡ ys
 one_list c xs ys one two = sym (records_of-stands c xs one) ∙ records_of-stands c ys two
 
 pub tail_is : (x y : List ℕ) (xs ys : List (List ℕ)) → x ∷ xs ≡ y ∷ ys → xs ≡ ys
@@ -112,8 +112,8 @@ valid_pending h start list (Some body) is more = more
 
 -- what an image of a node stands for is valid
 pub valid_image : (h : HashFunction) (n : HistoryState) (first c : List ℕ)
-    (bodies : List (List ℕ)) → IsSoundNode (may_follow h) n → StandsForNode n first c
-    → StandsFor c (first ∷ bodies) → may_follow h n.start bodies ≡ true
+    (bodies : List (List ℕ)) → IsSoundParty (may_follow h) n → RepresentsParty n first c
+    → Represents c (first ∷ bodies) → may_follow h n.start bodies ≡ true
 valid_image h n first c bodies is of stands = elim of [
   | inl settled ↦ subst (λ (l : List (List ℕ)). may_follow h n.start l ≡ true)
       (tail_is first first n.settled bodies
@@ -126,7 +126,7 @@ valid_image h n first c bodies is of stands = elim of [
 
 -- each image before stands for the node
 module _ (h : HashFunction) (status : ℕ) (heard : Type 0) (n : HistoryState) (first : List ℕ)
-    (before now since : Images) (all : AllStandForNode n first before) where
+    (before now since : Images) (all : AllRepresentParty n first before) where
   stop_of : (list : List (List ℕ)) → WasRead before list → Stopped n first list
   stop_of list was =
       let is : list ≡ _ = sym (records_of-stands was.bytes list was.stands) in
@@ -138,16 +138,16 @@ module _ (h : HashFunction) (status : ℕ) (heard : Type 0) (n : HistoryState) (
   -- the record that is added is valid: by the rules, or since it is the pending one
   allowed : (list : List (List ℕ)) (body c : List ℕ) (s : Stopped n first list)
       → Kept before now since ⊎ AreRecords h (list ++ body ∷ []) → now c
-      → StandsFor c (list ++ body ∷ []) → Allows h n first s.kept body
+      → Represents c (list ++ body ∷ []) → Allows h n first s.kept body
   allowed list body c s valid is stands begins starts steps place leads = elim valid [
     | inl kept ↦ valid_image h n first c ((stop s.kept n).settled ++ body ∷ [])
         (sound (may_follow h) (alone h) starts steps place n leads) (all c (kept.now_is c is))
-        (subst (λ (l : List (List ℕ)). StandsFor c (l ++ body ∷ [])) s.is stands)
+        (subst (λ (l : List (List ℕ)). Represents c (l ++ body ∷ [])) s.is stands)
     | inr records ↦ agree h n.start first ((stop s.kept n).settled ++ body ∷ []) begins
         (subst (λ (l : List (List ℕ)). AreRecords h (l ++ body ∷ [])) s.is records)
   ]
 
-  past : (did : Journaled) (c : List ℕ) → before c → IsNodeMoment h did n first c
+  past : (did : Journaled) (c : List ℕ) → before c → IsPartyMoment h did n first c
   past did c is = record {
     end = same;
     may = tt;
@@ -155,20 +155,20 @@ module _ (h : HashFunction) (status : ℕ) (heard : Type 0) (n : HistoryState) (
     stands = all c is;
   }
 
-  since_node : (did : Journaled) (list : List (List ℕ)) (body c : List ℕ) → IsRecord did body
+  since_party : (did : Journaled) (list : List (List ℕ)) (body c : List ℕ) → IsRecord did body
       → (s : Stopped n first list) → Allows h n first s.kept body
-      → before c ⊎ StandsForEither list body c → IsNodeMoment h did n first c
-  since_node did list body c is s allows either = elim either [
+      → before c ⊎ RepresentsEither list body c → IsPartyMoment h did n first c
+  since_party did list body c is s allows either = elim either [
     | inl was ↦ past did c was
     | inr new ↦ record {
       end = begun s.kept body;
       may = is;
       goes_on = begin_on h n first s.kept body allows;
-      stands = either_node n first list body c s new;
+      stands = either_party n first list body c s new;
     }
   ]
 
-  stays : (did : Journaled) → IsEarly status → NotHanded did heard → Kept before now since
+  stays : (did : Journaled) → IsEarly status → NotReleased did heard → Kept before now since
       → (status ≢ 5 → status ≢ 8 → IfSome (records_left did) (λ list. list ≡ first ∷ n.settled))
       → EndsWell h did status heard n first now since
   stays did early not kept holds = record {
@@ -210,8 +210,8 @@ module _ (h : HashFunction) (status : ℕ) (heard : Type 0) (n : HistoryState) (
             end = begun s.kept body;
             may = ((list, refl), is, none);
             goes_on = begin_on h n first s.kept body allows;
-            stands = λ c at. either_node n first list body c s (may.now_is c at);
-            each = λ c at. since_node (appended list body) list body c (list, refl) s allows
+            stands = λ c at. either_party n first list body c s (may.now_is c at);
+            each = λ c at. since_party (appended list body) list body c (list, refl) s allows
                 (may.since_is c at);
             holds = λ not5. absurd (not5 is);
           })
@@ -228,12 +228,12 @@ module _ (h : HashFunction) (status : ℕ) (heard : Type 0) (n : HistoryState) (
       let s = stop_of list made.read in
       let allows : Allows h n first s.kept body
       = allowed list body some.0 s valid some.1 (made.now_is some.0 some.1) in
-      let each : (c : List ℕ) → since c → IsNodeMoment h (appended list body) n first c
-      = λ c is. since_node (appended list body) list body c (list, refl) s allows
+      let each : (c : List ℕ) → since c → IsPartyMoment h (appended list body) n first c
+      = λ c is. since_party (appended list body) list body c (list, refl) s allows
       (made.since_is c is) in
       let stands : (c : List ℕ) → now c
-      → StandsFor c (first ∷ ((stop s.kept n).settled ++ body ∷ []))
-      = λ c is. subst (λ l. StandsFor c (l ++ body ∷ [])) s.is (made.now_is c is) in
+      → Represents c (first ∷ ((stop s.kept n).settled ++ body ∷ []))
+      = λ c is. subst (λ l. Represents c (l ++ body ∷ [])) s.is (made.now_is c is) in
       let holds : list ++ body ∷ [] ≡ first ∷ ((stop s.kept n).settled ++ body ∷ [])
       = ap (λ (l : List (List ℕ)). l ++ body ∷ []) s.is in
       elim dec [
@@ -267,7 +267,7 @@ module _ (h : HashFunction) (status : ℕ) (heard : Type 0) (n : HistoryState) (
         end = stopped s.kept;
         may = λ body is. absurd (grind (rules, is.1));
         goes_on = stop_on h n first s.kept;
-        stands = λ c is. inl (subst (StandsFor c) s.is (made.now_is c is));
+        stands = λ c is. inl (subst (Represents c) s.is (made.now_is c is));
         each = λ c is. past (reads list) c (made.since_is c is);
         holds = λ not5 not8. s.is;
       }
@@ -319,38 +319,40 @@ heard_dec status old new = either_dec (zero_dec status)
 
 -- what the room tells of a file stands for what all images stand for
 pub file_stands : {D : Type 0} (g : Ghosts D) (n : HistoryState) (first : List ℕ)
-    (file : Option (List ℕ)) (x : Option D) → ReadsImage g → TellsFile g.told file x
-    → AllStandForNode n first (images_at g x) → IfSome file (StandsForNode n first)
-file_stands g n first None x image tells all = tt
-file_stands g n first (Some b) None image tells all = absurd (grind (rules, tells))
-file_stands g n first (Some b) (Some d) image tells all = all b (image d b tells.0)
+    (file : Option (List ℕ)) (x : Option D) → ReadsImage g → ModelsFile g.contents file x
+    → AllRepresentParty n first (images_at g x) → IfSome file (RepresentsParty n first)
+file_stands g n first None x image is_modelled all = tt
+file_stands g n first (Some b) None image is_modelled all = absurd (grind (rules, is_modelled))
+file_stands g n first (Some b) (Some d) image is_modelled all = all b (image d b is_modelled.0)
 
 -- a file has an image
 pub some_image : {D : Type 0} (g : Ghosts D) (file : Option (List ℕ)) (x : Option D)
-    → ReadsImage g → TellsFile g.told file x → (c : List ℕ) × images_at g x c
-some_image g file None image tells = ([], refl)
-some_image g None (Some d) image tells = absurd (grind (rules, tells))
-some_image g (Some b) (Some d) image tells = (b, image d b tells.0)
+    → ReadsImage g → ModelsFile g.contents file x → (c : List ℕ) × images_at g x c
+some_image g file None image is_modelled = ([], refl)
+some_image g None (Some d) image is_modelled = absurd (grind (rules, is_modelled))
+some_image g (Some b) (Some d) image is_modelled = (b, image d b is_modelled.0)
 
 no_header : [] ≡ header → ⊥
 no_header is = absurd cc
 
 -- where there is no file, none of its images is a journal
 pub no_file_stands : {D : Type 0} (g : Ghosts D) (file : Option (List ℕ)) (x : Option D)
-    (c : List ℕ) (list : List (List ℕ)) → TellsFile g.told file x → file ≡ None
-    → images_at g x c → StandsFor c list → ⊥
-no_file_stands g file None c list tells none is stands =
+    (c : List ℕ) (list : List (List ℕ)) → ModelsFile g.contents file x → file ≡ None
+    → images_at g x c → Represents c list → ⊥
+no_file_stands g file None c list is_modelled none is stands =
     no_header (subst (λ (b : List ℕ). take 16 b ≡ header) is stands.begins)
-no_file_stands g None (Some d) c list tells none is stands = absurd (grind (rules, tells))
-no_file_stands g (Some b) (Some d) c list tells none is stands = absurd cc
+no_file_stands g None (Some d) c list is_modelled none is stands =
+    absurd (grind (rules, is_modelled))
+no_file_stands g (Some b) (Some d) c list is_modelled none is stands = absurd cc
 
 -- and so none is a node's
 pub none_stands : {D : Type 0} (g : Ghosts D) (n : HistoryState) (first : List ℕ)
-    (file : Option (List ℕ)) (x : Option D) → ReadsImage g → TellsFile g.told file x
-    → AllStandForNode n first (images_at g x) → file ≡ None → ⊥
-none_stands g n first file x image tells all none =
-    let c = some_image g file x image tells in elim (all c.0 c.1) [
-      | inl is ↦ no_file_stands g file x c.0 (first ∷ n.settled) tells none c.1 is
-      | inr is ↦ no_file_stands g file x c.0 (first ∷ with_pending n.settled n.pending) tells none
+    (file : Option (List ℕ)) (x : Option D) → ReadsImage g → ModelsFile g.contents file x
+    → AllRepresentParty n first (images_at g x) → file ≡ None → ⊥
+none_stands g n first file x image is_modelled all none =
+    let c = some_image g file x image is_modelled in elim (all c.0 c.1) [
+      | inl is ↦ no_file_stands g file x c.0 (first ∷ n.settled) is_modelled none c.1 is
+      | inr is ↦ no_file_stands g file x c.0 (first ∷ with_pending n.settled n.pending) is_modelled
+          none
           c.1 is
     ]

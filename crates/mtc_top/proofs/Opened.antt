@@ -4,9 +4,9 @@ use Rattle.std.proofs.Common.{subst, length, nat_lt, codes, Option, None, Some, 
 use Rattle.std.proofs.Common.{IsOk}
 use Rattle.std.specs.Fmt.{decimal}
 use Rattle.std.specs.Prelude.{if◌then◌else◌}
-use Rattle.byte_forms.specs.Places.{IsBytes}
-use Rattle.byte_forms.specs.Types.{HashFunction}
-use Rattle.journal_core.specs.Format.{StandsFor, end_behind}
+use Rattle.byte_formats.specs.Places.{IsBytes}
+use Rattle.byte_formats.specs.Types.{HashFunction}
+use Rattle.journal_core.specs.Format.{Represents, end_behind}
 use Rattle.journal_core.proofs.Standing.{found_stands}
 use Rattle.mtc_words.specs.declared.error.WordError.{WordError}
 use Rattle.mtc_words.specs.Commands.{CommandValue, init_log, issue, checkpoint, entries, consist}
@@ -24,13 +24,13 @@ use Rattle.issuance_log.specs.Folds.{log_fold, view_in}
 use Rattle.issuance_log.specs.Openings.{FoundLog, log_read}
 use Rattle.issuance_log.specs.Records.{settings_record}
 use Rattle.issuance_log.specs.declared.error.LogError.{LogError}
-use Rattle.mtc_answers.specs.Answers.{tiles_name}
-use Rattle.mtc_answers.specs.Made.{IsOnOld, Journaled, untouched, reads, appended, started}
-use Rattle.mtc_answers.specs.Served.{OfEach, done_with}
-use Rattle.mtc_answers.specs.Steps.{Files, Outcome, with_bytes, with_file, with_form, with_fresh}
-use Rattle.mtc_answers.specs.Steps.{held_in, starts, stops_at}
-use Rattle.mtc_answers.specs.Works.{journaled_by}
-use Rattle.mtc_answers.specs.declared.answer.Stopped.TheVariants.{BadForm, Beyond}
+use Rattle.mtc_command.specs.Answers.{tiles_name}
+use Rattle.mtc_command.specs.Made.{IsOnOld, Journaled, untouched, reads, appended, started}
+use Rattle.mtc_command.specs.Served.{OfEach, done_with}
+use Rattle.mtc_command.specs.Steps.{Files, Outcome, with_bytes, with_file, with_form, with_fresh}
+use Rattle.mtc_command.specs.Steps.{held_in, starts, stops_at}
+use Rattle.mtc_command.specs.Works.{journaled_by}
+use Rattle.mtc_command.specs.declared.answer.Stopped.TheVariants.{BadForm, Beyond}
 use Rattle.mtc_cosigner.specs.CosignerOutcomes.{advance_says, advanced_text, cosign_says}
 use Rattle.mtc_cosigner.specs.CosignerOutcomes.{cosigned_text, export_says, form_fault_text}
 use Rattle.mtc_cosigner.specs.CosignerOutcomes.{stepped}
@@ -39,20 +39,21 @@ use Rattle.mtc_cosigner.specs.KeygenOutcome.{public_line, with_secret}
 use Rattle.mtc_cosigner.specs.Works.{IsCosigner, advance_outcome, cosign_outcome}
 use Rattle.mtc_cosigner.specs.Works.{cosigner_bytes_say, cosigner_open_text, cosigner_outcome}
 use Rattle.mtc_cosigner.specs.Works.{export_outcome}
-use Rattle.mtc_logs.specs.BadTiles.{first_bad}
-use Rattle.mtc_logs.specs.CertCommand.{cert_outcome, signed_says}
-use Rattle.mtc_logs.specs.CertOutcome.{signatures_fault_text, signatures_in}
-use Rattle.mtc_logs.specs.IssueCommand.{issue_outcome, request_says}
-use Rattle.mtc_logs.specs.IssueOutcome.{issued, request_fault_text}
-use Rattle.mtc_logs.specs.LandmarkOutcomes.{marked}
-use Rattle.mtc_logs.specs.LogOutcomes.{log_line, log_settings_of}
-use Rattle.mtc_logs.specs.TileOutcome.{tiled_by}
-use Rattle.mtc_logs.specs.Works.{IsLog, log_bytes_say, log_open_text, log_outcome, log_says}
-use Rattle.mtc_logs.specs.Works.{tested_says, unless_missing}
-use Rattle.mtc_logs.specs.declared.work.Work.{Work}
-use Rattle.mtc_logs.specs.declared.work.Work.TheVariants.{Checkpoint, Entries, Issue, Consist}
-use Rattle.mtc_logs.specs.declared.work.Work.TheVariants.{Subtree, Landmark, Landmarks, LightCert}
-use Rattle.mtc_logs.specs.declared.work.Work.TheVariants.{Cert, Tile}
+use Rattle.mtc_authority.specs.BadTiles.{first_bad}
+use Rattle.mtc_authority.specs.CertCommand.{cert_outcome, signed_says}
+use Rattle.mtc_authority.specs.CertOutcome.{signatures_fault_text, signatures_in}
+use Rattle.mtc_authority.specs.IssueCommand.{issue_outcome, request_says}
+use Rattle.mtc_authority.specs.IssueOutcome.{issued, request_fault_text}
+use Rattle.mtc_authority.specs.LandmarkOutcomes.{marked}
+use Rattle.mtc_authority.specs.LogOutcomes.{log_line, log_settings_of}
+use Rattle.mtc_authority.specs.TileOutcome.{tiled_by}
+use Rattle.mtc_authority.specs.Works.{IsLog, log_bytes_say, log_open_text, log_outcome, log_says}
+use Rattle.mtc_authority.specs.Works.{tested_says, unless_missing}
+use Rattle.mtc_authority.specs.declared.work.Work.{Work}
+use Rattle.mtc_authority.specs.declared.work.Work.TheVariants.{Checkpoint, Entries, Issue, Consist}
+use Rattle.mtc_authority.specs.declared.work.Work.TheVariants.{Subtree, Landmark, Landmarks}
+use Rattle.mtc_authority.specs.declared.work.Work.TheVariants.{LightCert}
+use Rattle.mtc_authority.specs.declared.work.Work.TheVariants.{Cert, Tile}
 use Rattle.mtc_top.specs.Facts.{facts, facts_of}
 
 -- the file is a journal of these records, which keep to the rules
@@ -60,7 +61,7 @@ pub record IsFound (Valid : List (List ℕ) → Type 0) (file : Option (List ℕ
     (list : List (List ℕ)) : Type 0 where
   pub bytes : List ℕ
   pub there : file ≡ Some bytes
-  pub stands : StandsFor bytes list
+  pub stands : Represents bytes list
   pub valid : Valid list
 
 -- so are the records that are found

@@ -6,7 +6,7 @@ use Rattle.std.proofs.Common.{true≢false}
 use Rattle.std.proofs.lemmas.Slice.Eq.{bytes_eq-Decides}
 use Rattle.std.specs.Option.{IsSomeAnd}
 use Rattle.std.specs.Str.{bytes_eq}
-use Rattle.byte_forms.specs.Types.{HashFunction}
+use Rattle.byte_formats.specs.Types.{HashFunction}
 use Rattle.disk_core.specs.Memory.{IsFresh, failing_of, first_of, images_of}
 use Rattle.disk_core.specs.contracts.memory.mem_disk.MemDiskDisk.TheImpl.{ghosts}
 use Rattle.disk_core.specs.Replay.{IsImage, run, settled}
@@ -15,7 +15,7 @@ use Rattle.disk_core.specs.declared.memory.call.Made.{Made}
 use Rattle.disk_core.specs.declared.memory.mem_disk.MemDisk.{MemDisk}
 use Rattle.mtc_io.specs.declared.sink.Sink.{Ghosts as Sinks}
 use Rattle.mtc_room.specs.declared.room.Room.{Ghosts as Rooms}
-use Rattle.mtc_answers.specs.Made.{images_at}
+use Rattle.mtc_command.specs.Made.{images_at}
 use Rattle.mtc_top.specs.Stops.{StopsLeaving}
 
 pub fresh_left : (left c : List ℕ) (d : MemDisk) → IsFresh left d → images_of d c → c ≡ left
@@ -61,7 +61,7 @@ module _ {D : Type 0} (g : Disks D) (May : List ℕ → List ℕ → Type 0)
 
 module _ {R S D O E : Type 0} (h : HashFunction) (rooms : Rooms R S D) (disks : Disks D)
     (outs : Sinks O) (errs : Sinks E) (May : List ℕ → List ℕ → Type 0) (old new : R)
-    (name left : List ℕ) (tells : rooms.tells old → rooms.tells new)
+    (name left : List ℕ) (is_modelled : rooms.is_modelled old → rooms.is_modelled new)
     (one : (c : List ℕ) → images_at disks (rooms.device new name) c → c ≡ left)
     (others : (other : List ℕ) → other ≢ name
     → rooms.device new other ≡ rooms.device old other) where
@@ -70,7 +70,7 @@ module _ {R S D O E : Type 0} (h : HashFunction) (rooms : Rooms R S D) (disks : 
       let at = left_at disks May (rooms.device old) (rooms.device new) name left may one others
       settle in (
         record {
-          tells = tells;
+          is_modelled = is_modelled;
           image = λ n. (at n).image;
           may = λ n. (at n).was;
           only = λ n is. (at n).only is;

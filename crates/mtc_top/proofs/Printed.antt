@@ -3,13 +3,13 @@ use Rattle.std.proofs.Common.{◌≡◌, ◌≤◌, inl, ℕ, true, false, Bool,
 use Rattle.std.proofs.Common.{length, Option, None, Some, Result, Ok, Err, codes, refl, sym, subst}
 use Rattle.std.proofs.Common.{ap, ◌∙◌, ltb-false}
 use Rattle.std.specs.Prelude.{if◌then◌else◌, nat_lt}
-use Rattle.byte_forms.specs.Places.{IsBytes}
-use Rattle.byte_forms.specs.Types.{HashFunction}
+use Rattle.byte_formats.specs.Places.{IsBytes}
+use Rattle.byte_formats.specs.Types.{HashFunction}
 use Rattle.disk_core.specs.declared.disk.Disk.{Ghosts as Disks}
 use Rattle.journal_core.specs.Format.{end_behind}
 use Rattle.journal_core.proofs.Standing.{found_stands}
 use Rattle.mtc_io.specs.declared.sink.Sink.{Ghosts as Sinks}
-use Rattle.mtc_room.specs.Room.{TellsFile}
+use Rattle.mtc_room.specs.Room.{ModelsFile}
 use Rattle.mtc_room.specs.declared.room.Room.{Ghosts as Rooms}
 use Rattle.mtc_words.specs.Commands.{CommandValue, cosign, issue}
 use Rattle.mtc_words.specs.Words.{command_of}
@@ -29,22 +29,22 @@ use Rattle.issuance_log.specs.Folds.{log_fold, view_in}
 use Rattle.issuance_log.specs.Openings.{FoundLog, log_read}
 use Rattle.issuance_log.specs.Refusals.{add_refusal}
 use Rattle.issuance_log.specs.declared.error.LogError.{LogError}
-use Rattle.mtc_answers.specs.Answers.{Reply, bad_tile_text, refused, said, tiles_name}
-use Rattle.mtc_answers.specs.declared.answer.Said.TheVariants.{Done}
-use Rattle.mtc_answers.specs.Made.{Journaled, appended}
-use Rattle.mtc_answers.specs.Served.{Journals, done_with}
-use Rattle.mtc_answers.specs.Steps.{Outcome, appends, held_in, stops_at, with_bytes, with_file}
-use Rattle.mtc_answers.specs.Steps.{with_form}
-use Rattle.mtc_answers.specs.Wanted.{Meets, exactly}
-use Rattle.mtc_answers.specs.declared.answer.Stopped.{Stopped}
-use Rattle.mtc_answers.specs.declared.answer.Stopped.TheVariants.{BadForm, Beyond, Missing}
+use Rattle.mtc_command.specs.Answers.{Reply, bad_tile_text, refused, said, tiles_name}
+use Rattle.mtc_command.specs.declared.answer.Said.TheVariants.{Done}
+use Rattle.mtc_command.specs.Made.{Journaled, appended}
+use Rattle.mtc_command.specs.Served.{Journals, done_with}
+use Rattle.mtc_command.specs.Steps.{Outcome, appends, held_in, stops_at, with_bytes, with_file}
+use Rattle.mtc_command.specs.Steps.{with_form}
+use Rattle.mtc_command.specs.Wanted.{Meets, exactly}
+use Rattle.mtc_command.specs.declared.answer.Stopped.{Stopped}
+use Rattle.mtc_command.specs.declared.answer.Stopped.TheVariants.{BadForm, Beyond, Missing}
 use Rattle.mtc_cosigner.specs.CosignerOutcomes.{cosigned_text, form_fault_text}
 use Rattle.mtc_cosigner.specs.CosignerOutcomes.{stepped}
 use Rattle.mtc_cosigner.specs.Works.{cosign_outcome, cosigner_open_text}
-use Rattle.mtc_logs.specs.BadTiles.{first_bad}
-use Rattle.mtc_logs.specs.IssueCommand.{issue_outcome}
-use Rattle.mtc_logs.specs.IssueOutcome.{issued, issued_text, request_fault_text}
-use Rattle.mtc_logs.specs.Works.{log_open_text, log_outcome, log_says, unless_missing}
+use Rattle.mtc_authority.specs.BadTiles.{first_bad}
+use Rattle.mtc_authority.specs.IssueCommand.{issue_outcome}
+use Rattle.mtc_authority.specs.IssueOutcome.{issued, issued_text, request_fault_text}
+use Rattle.mtc_authority.specs.Works.{log_open_text, log_outcome, log_says, unless_missing}
 use Rattle.node_history.proofs.Cosigners.{number_added, sign_read}
 use Rattle.node_history.proofs.Entries.{item_read}
 use Rattle.mtc_top.specs.Courses.{Turn, HasTurned, DidWith, AreAmong, HasPrinted, IsHeard}
@@ -56,9 +56,9 @@ use Rattle.mtc_top.proofs.Turns.{file_bytes, heard_run, not_refused, printed_so}
 
 module _ {R S D O E : Type 0} (h : HashFunction) (rooms : Rooms R S D) (disks : Disks D)
     (outs : Sinks O) (errs : Sinks E)
-    (told : (room : R) (name : List ℕ) → rooms.tells room
-    → TellsFile disks.told (rooms.file room name) (rooms.device room name))
-    (bytes : (d : D) (b : List ℕ) → disks.told d ≡ Some b → IsBytes b) where
+    (contents : (room : R) (name : List ℕ) → rooms.is_modelled room
+    → ModelsFile disks.contents (rooms.file room name) (rooms.device room name))
+    (bytes : (d : D) (b : List ℕ) → disks.contents d ≡ Some b → IsBytes b) where
   module _ (names : List (List ℕ)) (old : R) (turn : Turn R O E)
       (run : HasTurned h rooms disks outs errs old turn) (heard : IsHeard outs turn) where
     abbrev reply : Reply
@@ -70,13 +70,14 @@ module _ {R S D O E : Type 0} (h : HashFunction) (rooms : Rooms R S D) (disks : 
       pub journals_are : journals h rooms disks outs errs turn.words old turn.room turn.out
           turn.out_after turn.err turn.err_after ≡ done_with names wanted.journals
 
-    pub done_so : (command : CommandValue) → rooms.tells old → command_of turn.words ≡ Ok command
+    pub done_so : (command : CommandValue) → rooms.is_modelled old
+        → command_of turn.words ≡ Ok command
         → (facts_of h command).journals ≡ names
         → HasDone ((facts_of h command).outcome (rooms.file old))
-    done_so command tells spoken_so named = record {
+    done_so command is_modelled spoken_so named = record {
       meets = subst (λ (r : Result CommandValue WordError).
           Meets ((facts h r).outcome (rooms.file old)).answer reply) spoken_so
-          ((heard_run h rooms disks outs errs old turn run heard).is (inl tells));
+          ((heard_run h rooms disks outs errs old turn run heard).is (inl is_modelled));
       journals_are = ap (λ (r : Result CommandValue WordError).
           done_with (facts h r).journals ((facts h r).outcome (rooms.file old)).journals)
           spoken_so
@@ -155,11 +156,11 @@ module _ {R S D O E : Type 0} (h : HashFunction) (rooms : Rooms R S D) (disks : 
     stepped_so found body text (Some why) done =
         absurd (none_stopped (name ∷ []) old turn run heard _ _ _ _ done)
 
-    cosigned_so : (request : List ℕ) → rooms.tells old
+    cosigned_so : (request : List ℕ) → rooms.is_modelled old
         → Done' (cosign_outcome h name request (rooms.file old))
         → HasCosigned h rooms disks outs errs name request old turn
     unfolding cosign_outcome
-    cosigned_so request tells done =
+    cosigned_so request is_modelled done =
         let file = past_bytes (name ∷ []) old turn run heard 16777216 request (rooms.file old
         request) _ done in
         let form = past_form (name ∷ []) old turn run heard form_fault_text request (subtree_in
@@ -169,10 +170,10 @@ module _ {R S D O E : Type 0} (h : HashFunction) (rooms : Rooms R S D) (disks : 
         let found = past_form (name ∷ []) old turn run heard cosigner_open_text name (cosigner_read
         h journal.0) _ journal.2 in
         let are = file_bytes disks (rooms.file old name) (rooms.device old name) journal.0 bytes
-        (told old name tells) journal.1 in
+        (contents old name is_modelled) journal.1 in
         let stands = found_stands (cosigner_fold h) journal.0 found.0 are found.1 in
         let asked = file_bytes disks (rooms.file old request) (rooms.device old request) file.0
-        bytes (told old request tells) file.1 in
+        bytes (contents old request is_modelled) file.1 in
         let r : SubtreeParts = form.0 in
         let state = found.0.state in
         let body = sign_record state.key.next r.start r.end r.hash r.proof in
@@ -206,11 +207,11 @@ module _ {R S D O E : Type 0} (h : HashFunction) (rooms : Rooms R S D) (disks : 
     issued_so r found (Some why) done =
         absurd (none_stopped (name ∷ []) old turn run heard _ _ _ _ done)
 
-    of_request : (request : List ℕ) → rooms.tells old
+    of_request : (request : List ℕ) → rooms.is_modelled old
         → Done' (issue_outcome h name request (rooms.file old))
         → HasIssued h rooms disks outs errs name request old turn
     unfolding log_outcome log_says
-    of_request request tells done =
+    of_request request is_modelled done =
         let file = past_bytes (name ∷ []) old turn run heard 16777216 request (rooms.file old
         request) _ done in
         let form = past_form (name ∷ []) old turn run heard request_fault_text request (request_of
@@ -220,7 +221,7 @@ module _ {R S D O E : Type 0} (h : HashFunction) (rooms : Rooms R S D) (disks : 
         let found = past_form (name ∷ []) old turn run heard log_open_text name (log_read h
         journal.0) _ journal.2 in
         let are = file_bytes disks (rooms.file old name) (rooms.device old name) journal.0 bytes
-        (told old name tells) journal.1 in
+        (contents old name is_modelled) journal.1 in
         let stands = found_stands (log_fold h) journal.0 found.0 are found.1 in
         let state = found.0.state in
         let entry = issued_entry h state.settings form.0 in
@@ -244,11 +245,11 @@ module _ {R S D O E : Type 0} (h : HashFunction) (rooms : Rooms R S D) (disks : 
         }
 
   pub signatures_printed : SignaturesArePrinted h rooms disks outs errs
-  signatures_printed name request old turn tells run spoken_so heard =
-      cosigned_so name old turn run heard request tells
-      (done_so (name ∷ []) old turn run heard (cosign name request) tells spoken_so refl)
+  signatures_printed name request old turn is_modelled run spoken_so heard =
+      cosigned_so name old turn run heard request is_modelled
+      (done_so (name ∷ []) old turn run heard (cosign name request) is_modelled spoken_so refl)
 
   pub indices_printed : IndicesArePrinted h rooms disks outs errs
-  indices_printed name request old turn tells run spoken_so heard =
-      of_request name old turn run heard request tells
-      (done_so (name ∷ []) old turn run heard (issue name request) tells spoken_so refl)
+  indices_printed name request old turn is_modelled run spoken_so heard =
+      of_request name old turn run heard request is_modelled
+      (done_so (name ∷ []) old turn run heard (issue name request) is_modelled spoken_so refl)

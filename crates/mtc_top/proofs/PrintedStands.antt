@@ -1,47 +1,49 @@
 -- What becomes of the records behind what went out in a course.
 use Rattle.std.proofs.Common.{◌≡◌, ℕ, List, [], ◌∷◌, ◌++◌, Some}
-use Rattle.byte_forms.specs.Places.{IsBytes}
-use Rattle.byte_forms.specs.Types.{HashFunction}
+use Rattle.byte_formats.specs.Places.{IsBytes}
+use Rattle.byte_formats.specs.Types.{HashFunction}
 use Rattle.disk_core.specs.declared.disk.Disk.{Ghosts as Disks}
 use Rattle.mtc_io.specs.declared.sink.Sink.{Ghosts as Sinks}
-use Rattle.mtc_room.specs.Room.{TellsFile}
+use Rattle.mtc_room.specs.Room.{ModelsFile}
 use Rattle.mtc_room.specs.declared.room.Room.{Ghosts as Rooms}
 use Rattle.mtc_words.specs.Commands.{cosign, issue}
 use Rattle.authority_core.specs.Issues.{issued_entry}
-use Rattle.mtc_answers.proofs.Made.{OnlyNow, ReadsImage}
+use Rattle.mtc_command.proofs.Made.{OnlyNow, ReadsImage}
 use Rattle.node_history.specs.Laws.{Begins}
 use Rattle.mtc_top.specs.Courses.{WasHeld}
 use Rattle.mtc_top.specs.PrintLaws.{HasCosigned, IsInLog, IssuedEntriesStand, OfHeard}
 use Rattle.mtc_top.specs.PrintLaws.{SignaturesStand}
 use Rattle.mtc_top.proofs.Printed.{indices_printed, signatures_printed}
-use Rattle.mtc_top.proofs.Recovered.{added_stand, held_front, image_list}
+use Rattle.mtc_top.proofs.Recovered.{added_stand, held_prefix, image_list}
 use Rattle.mtc_top.proofs.Turns.{each_held, heard_held}
 
 module _ {R S D O E : Type 0} (h : HashFunction) (rooms : Rooms R S D) (disks : Disks D)
     (outs : Sinks O) (errs : Sinks E) (image : ReadsImage disks) (only : OnlyNow disks)
-    (told : (room : R) (name : List ℕ) → rooms.tells room
-    → TellsFile disks.told (rooms.file room name) (rooms.device room name))
-    (bytes : (d : D) (b : List ℕ) → disks.told d ≡ Some b → IsBytes b) where
+    (contents : (room : R) (name : List ℕ) → rooms.is_modelled room
+    → ModelsFile disks.contents (rooms.file room name) (rooms.device room name))
+    (bytes : (d : D) (b : List ℕ) → disks.contents d ≡ Some b → IsBytes b) where
   pub signatures_stand : SignaturesStand h rooms disks outs errs
   signatures_stand name start first begins new links begun course file c at =
-      let stands = image_list h rooms disks outs errs image only told bytes name start first begins
+      let stands =
+      image_list h rooms disks outs errs image only contents bytes name start first begins
       new links begun course c at in
       let found = stands.0 in (
         found,
         (
           stands.1,
-          each_held h rooms disks outs errs image only told name (λ list. Begins list found)
+          each_held h rooms disks outs errs image only contents name (λ list. Begins list found)
               (OfHeard h rooms disks outs errs (cosign name file) (λ old turn.
               (signed : HasCosigned h rooms disks outs errs name file old turn)
               × Begins (signed.list ++ signed.body ∷ []) found)) begins new links
-              begun.tells course
-              (λ list held. held_front h rooms disks outs errs image only told bytes name start
+              begun.is_modelled course
+              (λ list held. held_prefix h rooms disks outs errs image only contents bytes name start
               first begins new links begun course list found held (c, (at, stands.1)))
-              (λ old turn tells run fronts spoken heard.
-              let s = signatures_printed h rooms disks outs errs told bytes name file old turn tells
+              (λ old turn is_modelled run prefixes spoken heard.
+              let s = signatures_printed h rooms disks outs errs contents bytes name file old turn
+              is_modelled
               run spoken heard in (
                 s,
-                fronts (s.list ++ s.body ∷ []) (heard_held h rooms disks outs errs old turn run
+                prefixes (s.list ++ s.body ∷ []) (heard_held h rooms disks outs errs old turn run
                     heard name s.list s.body s.did),
               )),
         ),
@@ -49,15 +51,17 @@ module _ {R S D O E : Type 0} (h : HashFunction) (rooms : Rooms R S D) (disks : 
 
   pub issued_stand : IssuedEntriesStand h rooms disks outs errs
   issued_stand name start first begins new links begun course settings file found is recovered =
-      each_held h rooms disks outs errs image only told name
+      each_held h rooms disks outs errs image only contents name
       (WasHeld h rooms disks outs errs name begins links)
       (OfHeard h rooms disks outs errs (issue name file) (λ old turn.
       IsInLog h rooms disks outs errs name file old turn found)) begins new links
-      begun.tells course (λ list held. held)
-      (λ old turn tells run held spoken heard.
-      let i = indices_printed h rooms disks outs errs told bytes name file old turn tells run
+      begun.is_modelled course (λ list held. held)
+      (λ old turn is_modelled run held spoken heard.
+      let i = indices_printed h rooms disks outs errs contents bytes name file old turn is_modelled
+      run
       spoken heard in
-      let log = added_stand h rooms disks outs errs image only told bytes name start first begins
+      let log =
+      added_stand h rooms disks outs errs image only contents bytes name start first begins
       new
       links begun course settings i.list found i.body (issued_entry h i.state.settings i.request)
       i.request.key i.state is (held (i.list ++ i.body ∷ [])

@@ -9,28 +9,28 @@ use Rattle.disk_core.specs.declared.disk.Disk.{Ghosts as Disks}
 use Rattle.mtc_io.specs.Counts.{Rose}
 use Rattle.mtc_io.specs.Streams.{AppendsPrefix}
 use Rattle.mtc_io.specs.declared.sink.Sink.{Ghosts as Sinks}
-use Rattle.mtc_room.specs.Room.{TellsFile}
+use Rattle.mtc_room.specs.Room.{ModelsFile}
 use Rattle.mtc_room.specs.declared.room.Room.{Ghosts as Rooms}
-use Rattle.journal_core.specs.Format.{StandsFor}
-use Rattle.mtc_answers.specs.Answers.{Reply, said, refused, IsEarly, status_of, out_of}
-use Rattle.mtc_answers.specs.Made.{Journaled, Images, Leaving, untouched, reads, appended, started}
-use Rattle.mtc_answers.specs.Made.{HasKept, HasMade, IsOnOld, Kept, MayHaveMade, Leaves}
-use Rattle.mtc_answers.specs.Made.{images_at, images_since, moment_at}
-use Rattle.mtc_answers.specs.Served.{Journals, OfEach}
-use Rattle.mtc_answers.specs.Valid.{AddsValid}
-use Rattle.mtc_answers.specs.declared.answer.Said.TheVariants.{Done, Against, Collided}
-use Rattle.mtc_answers.proofs.Made.{ReadsImage}
-use Rattle.mtc_answers.proofs.Served.{each_so, both_so}
-use Rattle.mtc_answers.specs.Lines.{line_of}
-use Rattle.mtc_top.specs.Concluded.{Prints, PrintsFront, Reports}
+use Rattle.journal_core.specs.Format.{Represents}
+use Rattle.mtc_command.specs.Answers.{Reply, said, refused, IsEarly, status_of, out_of}
+use Rattle.mtc_command.specs.Made.{Journaled, Images, Leaving, untouched, reads, appended, started}
+use Rattle.mtc_command.specs.Made.{HasKept, HasMade, IsOnOld, Kept, MayHaveMade, Leaves}
+use Rattle.mtc_command.specs.Made.{images_at, images_since, moment_at}
+use Rattle.mtc_command.specs.Served.{Journals, OfEach}
+use Rattle.mtc_command.specs.Valid.{AddsValid}
+use Rattle.mtc_command.specs.declared.answer.Said.TheVariants.{Done, Against, Collided}
+use Rattle.mtc_command.proofs.Made.{ReadsImage}
+use Rattle.mtc_command.proofs.Served.{each_so, both_so}
+use Rattle.mtc_command.specs.Lines.{line_of}
+use Rattle.mtc_top.specs.Concluded.{Prints, PrintsPrefix, Reports}
 use Rattle.mtc_words.specs.Words.{command_of, known_word}
-use Rattle.node_history.specs.Nodes.{HistoryState, fresh_node}
+use Rattle.node_history.specs.Nodes.{HistoryState, fresh_party}
 use Rattle.node_history.specs.Rules.{AreRecords}
 use Rattle.node_history.specs.declared.start.NodeStart.{NodeStart}
-use Rattle.mtc_top.specs.Nodes.{AllStandForNode, TookSome}
+use Rattle.mtc_top.specs.Nodes.{AllRepresentParty, TookSome}
 use Rattle.mtc_top.specs.Facts.{facts}
 use Rattle.mtc_top.specs.Run.{journals, Answered, HasRun}
-use Rattle.mtc_top.specs.RunLaws.{FrontsAreRuns, RunShows, RunSteps, is_heard}
+use Rattle.mtc_top.specs.RunLaws.{PrefixesAreRuns, RunShows, RunSteps, is_heard}
 use Rattle.mtc_top.proofs.Runs.{reply_code}
 use Rattle.mtc_top.proofs.Commands.{spoken_records}
 use Rattle.mtc_top.proofs.Nodes.{Heard, kept_ends, failed_ends, made_ends, heard_dec, file_stands}
@@ -43,15 +43,15 @@ took_none None new none took = took
 took_none (Some xs) None none took = took
 took_none (Some xs) (Some ys) none took = grind (rules, arith, none, took)
 
-pub front_none : (old new : Option (List ℕ)) → AppendsPrefix old new [] → TookSome old new → ⊥
-front_none old new front took =
-    took_none old new (subst (Appends old new) (take_all front.0 [] (omega arith)) front.1) took
+pub prefix_none : (old new : Option (List ℕ)) → AppendsPrefix old new [] → TookSome old new → ⊥
+prefix_none old new prefix took =
+    took_none old new (subst (Appends old new) (take_all prefix.0 [] (omega arith)) prefix.1) took
 
 -- a text of which a byte went out isn't empty
-front_some : (old new : Option (List ℕ)) (text : List ℕ) → AppendsPrefix old new text
+prefix_some : (old new : Option (List ℕ)) (text : List ℕ) → AppendsPrefix old new text
     → TookSome old new → 0 < length text
-front_some old new [] front took = absurd (front_none old new front took)
-front_some old new (x ∷ xs) front took = omega arith
+prefix_some old new [] prefix took = absurd (prefix_none old new prefix took)
+prefix_some old new (x ∷ xs) prefix took = omega arith
 
 -- a run with such a status that appended nothing isn't heard
 pub unheard : (status n : ℕ) (old new : Option (List ℕ)) → status ≡ n → 0 < n → n ≢ 6
@@ -68,16 +68,16 @@ take_both j k l = elim (leb_tells j k) [
 ]
 
 -- a front of what went out of a text is one of the text
-front_on : (old new failed : Option (List ℕ)) (text whole : List ℕ) → TookSome old new
+prefix_on : (old new failed : Option (List ℕ)) (text whole : List ℕ) → TookSome old new
     → Appends old new text → AppendsPrefix old new whole → AppendsPrefix old failed text
     → AppendsPrefix old failed whole
-front_on None new failed text whole took is of front = absurd took
-front_on (Some xs) None failed text whole took is of front = absurd took
-front_on (Some xs) (Some ys) failed text whole took is of front =
+prefix_on None new failed text whole took is of prefix = absurd took
+prefix_on (Some xs) None failed text whole took is of prefix = absurd took
+prefix_on (Some xs) (Some ys) failed text whole took is of prefix =
     let same : text ≡ take of.0 whole = append_cancel_left xs text (take of.0 whole)
     (sym is ∙ of.1) in
-    let both = take_both front.0 of.0 whole in
-    (both.0, subst (Appends (Some xs) failed) (ap (take front.0) same ∙ both.1) front.1)
+    let both = take_both prefix.0 of.0 whole in
+    (both.0, subst (Appends (Some xs) failed) (ap (take prefix.0) same ∙ both.1) prefix.1)
 
 -- a reply with another status than 0, 3 and 10 prints nothing
 silent_reply : (P : List ℕ → Type 0) (reply : Reply) (status : ℕ) → status ≡ status_of reply
@@ -98,13 +98,13 @@ adds_so P Q so (started body) is = so (body ∷ []) is
 -- each image holds the record that was added, or that a new journal begins with
 module _ (did : Journaled) (before now since : Images) (made : HasMade did before now since) where
   has_recorded : (list : List (List ℕ)) (body : List ℕ) → did ≡ appended list body → (c : List ℕ)
-      → now c → StandsFor c (list ++ body ∷ [])
+      → now c → Represents c (list ++ body ∷ [])
   has_recorded list body is =
       let added = subst (λ d. HasMade d before now since) is made in
       added.now_is
 
   has_begun : (body : List ℕ) → did ≡ started body → (start : NodeStart)
-      → AllStandForNode (fresh_node start) body now
+      → AllRepresentParty (fresh_party start) body now
   has_begun body is start =
       let new = subst (λ d. HasMade d before now since) is made in
       λ c at. inl (new c at)
@@ -174,21 +174,21 @@ module _ {R S D O E : Type 0} (h : List ℕ → List ℕ) (rooms : Rooms R S D) 
     not_early early = silent_none (λ z. omega (arith, z, early)) (λ z. omega (arith, z, early))
         (λ z. omega (arith, z, early)) (λ z. omega (arith, z, early))
 
-    front_is_run : (failed : O) (told : E) (text : List ℕ) → Prints outs out out' text
-        → PrintsFront outs out failed text → Rose (outs.faults out) (outs.faults failed)
-        → Reports errs err told (line_of (known_word words) None (codes "OutputFailed"))
-        → HasRun h rooms disks outs errs words old new out failed err told 6
-    front_is_run failed told text is front cause line = record {
+    prefix_is_run : (failed : O) (contents : E) (text : List ℕ) → Prints outs out out' text
+        → PrintsPrefix outs out failed text → Rose (outs.faults out) (outs.faults failed)
+        → Reports errs err contents (line_of (known_word words) None (codes "OutputFailed"))
+        → HasRun h rooms disks outs errs words old new out failed err contents 6
+    prefix_is_run failed contents text is prefix cause line = record {
       answered = λ not5 not8. record {
         reply = heard_all.reply;
         is = heard_all.is;
         made = heard_all.made;
         began = heard_all.began;
-        front = front_on _ _ _ _ _ some is heard_all.front front;
+        prefix = prefix_on _ _ _ _ _ some is heard_all.prefix prefix;
         code = λ not6. absurd (not6 refl);
         text = λ not6. absurd (not6 refl);
         line = λ not6. absurd (not6 refl);
-        some = λ six. front_some _ _ _ heard_all.front some;
+        some = λ six. prefix_some _ _ _ heard_all.prefix some;
         cause = λ six. cause;
         lost = λ six. line;
       };
@@ -197,18 +197,19 @@ module _ {R S D O E : Type 0} (h : List ℕ → List ℕ) (rooms : Rooms R S D) 
       only = λ one. absurd (omega (arith, one));
       first = λ bad not8. absurd (spoken_words bad);
       back = run.back;
-      looked = run.looked;
+      only_read = run.only_read;
       no_file = run.no_file;
-      early = λ tells. each_so _ _ (λ name did early is. absurd (not_early (early is)))
-          (journals h rooms disks outs errs words old new out out' err err') (run.early tells);
+      early = λ is_modelled. each_so _ _ (λ name did early is. absurd (not_early (early is)))
+          (journals h rooms disks outs errs words old new out out' err err')
+          (run.early is_modelled);
       valid = run.valid;
     }
 
-  abbrev pub TellsFiles : R → Type 0
-  TellsFiles room =
-      (name : List ℕ) → TellsFile disks.told (rooms.file room name) (rooms.device room name)
+  abbrev pub ModelsFiles : R → Type 0
+  ModelsFiles room =
+      (name : List ℕ) → ModelsFile disks.contents (rooms.file room name) (rooms.device room name)
 
-  module _ (image : ReadsImage disks) (was : TellsFiles old) (file : TellsFiles new) where
+  module _ (image : ReadsImage disks) (was : ModelsFiles old) (file : ModelsFiles new) where
     abbrev js : Journals
     js = journals h rooms disks outs errs words old new out out' err err'
 
@@ -237,15 +238,15 @@ module _ {R S D O E : Type 0} (h : List ℕ → List ℕ) (rooms : Rooms R S D) 
     Knows name did = (LeftBoth HasKept name did ⊎ AddsValid (AreRecords h) did)
         × IsNewAt (rooms.file old) name did
 
-    knows : rooms.tells old → OfEach Knows js
-    knows tells = both_so _ _ Knows (λ name did valid is_new. (
+    knows : rooms.is_modelled old → OfEach Knows js
+    knows is_modelled = both_so _ _ Knows (λ name did valid is_new. (
       elim valid [
         | inl kept ↦ inl kept.0
         | inr adds ↦ inr (adds_so (facts h (command_of words)).Valid (AreRecords h)
             (spoken_records h (command_of words)) did adds)
       ],
       is_new,
-    )) js (run.valid tells) (spoken_new h (command_of words) (rooms.file old))
+    )) js (run.valid is_modelled) (spoken_new h (command_of words) (rooms.file old))
 
     images_valid : (name : List ℕ) (did : Journaled) → Knows name did
         → Kept (before name) (after name) (between name) ⊎ AddsValid (AreRecords h) did
@@ -256,7 +257,7 @@ module _ {R S D O E : Type 0} (h : List ℕ → List ℕ) (rooms : Rooms R S D) 
 
     -- the journal of a node was there
     on_old : (name : List ℕ) (did : Journaled) → Knows name did → (n : HistoryState)
-        (first : List ℕ) → AllStandForNode n first (before name) → IsOnOld did
+        (first : List ℕ) → AllRepresentParty n first (before name) → IsOnOld did
     on_old name did known n first all = elim known.1 [
       | inl on ↦ on
       | inr none ↦ absurd (none_stands disks n first _ _ image (was name) all none)
@@ -298,28 +299,29 @@ module _ {R S D O E : Type 0} (h : List ℕ → List ℕ) (rooms : Rooms R S D) 
       begins = λ done. has_begun did _ _ _ made.0.images;
     }
 
-    answered_steps : rooms.tells old → OfEach (LeftBoth HasMade) js → OfEach Steps js
-    answered_steps tells made = both_so _ _ Steps made_steps js
-        (both_so _ _ MadeEarly (λ name did left early. (left, early)) js made (run.early tells))
-        (knows tells)
+    answered_steps : rooms.is_modelled old → OfEach (LeftBoth HasMade) js → OfEach Steps js
+    answered_steps is_modelled made = both_so _ _ Steps made_steps js
+        (both_so _ _ MadeEarly (λ name did left early. (left, early)) js made
+        (run.early is_modelled))
+        (knows is_modelled)
 
-    pub run_steps : rooms.tells old → OfEach Steps js
-    run_steps tells = elim (eqb_tells status 8) [
+    pub run_steps : rooms.is_modelled old → OfEach Steps js
+    run_steps is_modelled = elim (eqb_tells status 8) [
       | inl is8 ↦
           (let r = run.no_memory is8.1 in
-          each_so _ Steps (kept_steps is8.1 (λ any. not_wanting any is8.1)) js (r.made tells))
+          each_so _ Steps (kept_steps is8.1 (λ any. not_wanting any is8.1)) js (r.made is_modelled))
       | inr not8 ↦ elim (eqb_tells status 5) [
         | inl is5 ↦
             (let r = run.room_failed is5.1 in
             both_so _ _ Steps (failed_steps is5.1 (λ any. not_failed any is5.1)) js
-            (r.made tells) (knows tells))
-        | inr not5 ↦ answered_steps tells ((run.answered not5.1 not8.1).made tells)
+            (r.made is_modelled) (knows is_modelled))
+        | inr not5 ↦ answered_steps is_modelled ((run.answered not5.1 not8.1).made is_modelled)
       ]
     ]
 
-pub fronts_are_runs : {R S D O E : Type 0} (h : List ℕ → List ℕ) (rooms : Rooms R S D)
-    (disks : Disks D) (outs : Sinks O) (errs : Sinks E) → FrontsAreRuns h rooms disks outs errs
-fronts_are_runs {R} {S} {D} {O} {E} h rooms disks outs errs words old new out out' failed err err'
-    told status text run some is front cause line =
-    front_is_run h rooms disks outs errs words old new out out' err err' status run some failed
-    told text is front cause line
+pub prefixes_are_runs : {R S D O E : Type 0} (h : List ℕ → List ℕ) (rooms : Rooms R S D)
+    (disks : Disks D) (outs : Sinks O) (errs : Sinks E) → PrefixesAreRuns h rooms disks outs errs
+prefixes_are_runs {R} {S} {D} {O} {E} h rooms disks outs errs words old new out out' failed err err'
+    contents status text run some is prefix cause line =
+    prefix_is_run h rooms disks outs errs words old new out out' err err' status run some failed
+    contents text is prefix cause line

@@ -6,21 +6,21 @@ use Rattle.disk_core.specs.declared.disk.Disk.{Ghosts as Disks}
 use Rattle.mtc_io.specs.declared.sink.Sink.{Ghosts as Sinks}
 use Rattle.mtc_room.specs.declared.room.Room.{Ghosts as Rooms}
 use Rattle.mtc_words.specs.Words.{command_of, known_word}
-use Rattle.mtc_answers.specs.Answers.{Ending, Reply, replied, room_failed, no_memory, said, refused}
-use Rattle.mtc_answers.specs.Answers.{status_of, IsEarly}
-use Rattle.mtc_answers.specs.Made.{untouched, HasKept, IsOnOld}
-use Rattle.mtc_answers.specs.Served.{HasDone, LeavesEach, OfEach, IsUnmade, done_with}
-use Rattle.mtc_answers.specs.Steps.{Outcome}
-use Rattle.mtc_answers.specs.Valid.{KeepsValid}
-use Rattle.mtc_answers.specs.declared.answer.Said.{Said}
-use Rattle.mtc_answers.specs.declared.answer.Said.TheVariants.{Done, Against, Collided}
-use Rattle.mtc_answers.specs.declared.answer.Stopped.TheVariants.{BadWords, BadForm}
-use Rattle.mtc_answers.specs.declared.answer.Stopped.TheVariants.{NotAllowed}
-use Rattle.mtc_answers.specs.declared.answer.Stopped.TheVariants.{Missing, Beyond}
-use Rattle.mtc_answers.specs.Works.{TellsNew}
-use Rattle.mtc_answers.proofs.Served.{each_so, each_is}
+use Rattle.mtc_command.specs.Answers.{Ending, Reply, replied, room_failed, no_memory, said, refused}
+use Rattle.mtc_command.specs.Answers.{status_of, IsEarly}
+use Rattle.mtc_command.specs.Made.{untouched, HasKept, IsOnOld}
+use Rattle.mtc_command.specs.Served.{HasDone, LeavesEach, OfEach, IsUnmade, done_with}
+use Rattle.mtc_command.specs.Steps.{Outcome}
+use Rattle.mtc_command.specs.Valid.{KeepsValid}
+use Rattle.mtc_command.specs.declared.answer.Said.{Said}
+use Rattle.mtc_command.specs.declared.answer.Said.TheVariants.{Done, Against, Collided}
+use Rattle.mtc_command.specs.declared.answer.Stopped.TheVariants.{BadWords, BadForm}
+use Rattle.mtc_command.specs.declared.answer.Stopped.TheVariants.{NotAllowed}
+use Rattle.mtc_command.specs.declared.answer.Stopped.TheVariants.{Missing, Beyond}
+use Rattle.mtc_command.specs.Works.{ModelsNew}
+use Rattle.mtc_command.proofs.Served.{each_so, each_is}
 use Rattle.mtc_io.proofs.Streams.{prefix_whole}
-use Rattle.mtc_top.specs.Concluded.{Wrote, Lost, Told, Concludes, word_of}
+use Rattle.mtc_top.specs.Concluded.{Wrote, Lost, Reported, Concludes, word_of}
 use Rattle.mtc_top.specs.Facts.{Facts, facts}
 use Rattle.mtc_top.specs.Run.{HasRun}
 
@@ -75,35 +75,36 @@ module _ {R S D O E : Type 0} (h : List ℕ → List ℕ) (rooms : Rooms R S D) 
       asked.besides want old new
 
   abbrev New : Ending → Type 0
-  New ending = IfSome asked.makes (λ name. TellsNew rooms disks name old new ending)
+  New ending = IfSome asked.makes (λ name. ModelsNew rooms disks name old new ending)
 
   abbrev Valid : Type 0
   Valid = KeepsValid rooms disks asked.Valid asked.journals want old new
 
-  abbrev Looked : Type 0
-  Looked = rooms.tells old → LeavesEach rooms disks old new (done_with asked.looks []) HasKept
+  abbrev OnlyRead : Type 0
+  OnlyRead =
+      rooms.is_modelled old → LeavesEach rooms disks old new (done_with asked.only_reads []) HasKept
 
-  no_file : (ending : Ending) → Did ending → rooms.tells old
+  no_file : (ending : Ending) → Did ending → rooms.is_modelled old
       → OfEach (λ name did. IsOnOld did → IsUnmade rooms old new name)
       (done_with asked.journals want.journals)
-  no_file ending done tells = (done.made tells).no_file
+  no_file ending done is_modelled = (done.made is_modelled).no_file
 
   -- the reply went out
-  run_wrote : (reply : Reply) (status : ℕ) → Valid → Looked → New (replied reply)
+  run_wrote : (reply : Reply) (status : ℕ) → Valid → OnlyRead → New (replied reply)
       → Did (replied reply)
       → Wrote outs errs (known_word words) out out' err err' reply status → Run status
-  run_wrote reply status valid looked began done wrote =
+  run_wrote reply status valid only_read began done wrote =
       let code = reply_code reply in
       record {
         answered = λ not5 not8. record {
           reply = reply;
           is = λ where_. elim where_ [
-            | inl tells ↦ done.ends.reply tells
+            | inl is_modelled ↦ done.ends.reply is_modelled
             | inr bad ↦ (done.ends.words bad).0
           ];
-          made = λ tells. (done.made tells).left;
+          made = λ is_modelled. (done.made is_modelled).left;
           began = began;
-          front = prefix_whole _ _ _ wrote.text;
+          prefix = prefix_whole _ _ _ wrote.text;
           code = λ not6. wrote.code;
           text = λ not6. wrote.text;
           line = λ not6. wrote.line;
@@ -116,28 +117,28 @@ module _ {R S D O E : Type 0} (h : List ℕ → List ℕ) (rooms : Rooms R S D) 
         first = λ bad not8. wrote.code ∙ (done.ends.words bad).1;
         no_memory = λ is. absurd (code.not8 (sym wrote.code ∙ is));
         back = done.back;
-        looked = looked;
+        only_read = only_read;
         no_file = no_file (replied reply) done;
         valid = valid;
-        early = λ tells. subst (λ n. OfEach (λ name did. did ≡ untouched → IsEarly n)
+        early = λ is_modelled. subst (λ n. OfEach (λ name did. did ≡ untouched → IsEarly n)
             (done_with asked.journals want.journals)) (sym wrote.code)
-            (done.ends.early tells);
+            (done.ends.early is_modelled);
       }
 
   -- standard output failed
-  run_lost : (kind : Said) (text : List ℕ) (status : ℕ) → Valid → Looked
+  run_lost : (kind : Said) (text : List ℕ) (status : ℕ) → Valid → OnlyRead
       → New (replied (said kind text)) → Did (replied (said kind text))
       → Lost outs errs (known_word words) out out' err err' text status → Run status
-  run_lost kind text status valid looked began done lost = record {
+  run_lost kind text status valid only_read began done lost = record {
     answered = λ not5 not8. record {
       reply = said kind text;
       is = λ where_. elim where_ [
-        | inl tells ↦ done.ends.reply tells
+        | inl is_modelled ↦ done.ends.reply is_modelled
         | inr bad ↦ (done.ends.words bad).0
       ];
-      made = λ tells. (done.made tells).left;
+      made = λ is_modelled. (done.made is_modelled).left;
       began = began;
-      front = lost.front;
+      prefix = lost.prefix;
       code = λ not6. absurd (not6 lost.code);
       text = λ not6. absurd (not6 lost.code);
       line = λ not6. absurd (not6 lost.code);
@@ -150,80 +151,82 @@ module _ {R S D O E : Type 0} (h : List ℕ → List ℕ) (rooms : Rooms R S D) 
     first = λ bad not8. absurd ((said_late kind text).0 (done.ends.words bad).1);
     no_memory = λ is. absurd (omega (arith, lost.code, is));
     back = done.back;
-    looked = looked;
+    only_read = only_read;
     no_file = no_file (replied (said kind text)) done;
     valid = valid;
-    early = λ tells. each_so (λ name did. did ≡ untouched → IsEarly (status_of (said kind text)))
+    early =
+        λ is_modelled. each_so (λ name did. did ≡ untouched → IsEarly (status_of (said kind text)))
         (λ name did. did ≡ untouched → IsEarly status)
         (λ name did late of. absurd ((said_late kind text).1 (late of)))
         (done_with asked.journals want.journals)
-        (done.ends.early tells);
+        (done.ends.early is_modelled);
   }
 
   -- the room failed
-  run_failed : (file : List ℕ) (status : ℕ) → Valid → Looked → New (room_failed file)
+  run_failed : (file : List ℕ) (status : ℕ) → Valid → OnlyRead → New (room_failed file)
       → Did (room_failed file)
-      → Told outs errs (known_word words) out out' err err' 5 (Some file) (word_of (rooms.why new))
+      → Reported outs errs (known_word words) out out' err err' 5 (Some file)
+      (word_of (rooms.why new))
       status
       → Run status
-  run_failed file status valid looked began done told = record {
-    only = λ one. absurd (omega (arith, told.is, one));
+  run_failed file status valid only_read began done contents = record {
+    only = λ one. absurd (omega (arith, contents.is, one));
     first = λ bad not8. absurd (done.ends.words bad);
-    answered = λ not5 not8. absurd (not5 told.is);
+    answered = λ not5 not8. absurd (not5 contents.is);
     room_failed = λ is. record {
       cause = done.ends.fault.0;
-      text = told.nothing;
+      text = contents.nothing;
       file = file;
       began = began;
       named = done.ends.fault.1;
-      line = told.line;
-      made = λ tells. (done.made tells).left;
+      line = contents.line;
+      made = λ is_modelled. (done.made is_modelled).left;
     };
-    no_memory = λ is. absurd (omega (arith, told.is, is));
+    no_memory = λ is. absurd (omega (arith, contents.is, is));
     back = done.back;
-    looked = looked;
+    only_read = only_read;
     no_file = no_file (room_failed file) done;
     valid = valid;
-    early = λ tells. each_is (λ name did. did ≡ untouched → IsEarly status)
-        (λ name did of. inr (inr (inl told.is)))
+    early = λ is_modelled. each_is (λ name did. did ≡ untouched → IsEarly status)
+        (λ name did of. inr (inr (inl contents.is)))
         (done_with asked.journals want.journals);
   }
 
   -- memory was refused
-  run_starved : (status : ℕ) → Valid → Looked → New no_memory → Did no_memory
-      → Told outs errs (known_word words) out out' err err' 8 None (codes "Memory") status
+  run_starved : (status : ℕ) → Valid → OnlyRead → New no_memory → Did no_memory
+      → Reported outs errs (known_word words) out out' err err' 8 None (codes "Memory") status
       → Run status
-  run_starved status valid looked began done told = record {
-    only = λ one. absurd (omega (arith, told.is, one));
-    first = λ bad not8. absurd (not8 told.is);
-    answered = λ not5 not8. absurd (not8 told.is);
-    room_failed = λ is. absurd (omega (arith, told.is, is));
+  run_starved status valid only_read began done contents = record {
+    only = λ one. absurd (omega (arith, contents.is, one));
+    first = λ bad not8. absurd (not8 contents.is);
+    answered = λ not5 not8. absurd (not8 contents.is);
+    room_failed = λ is. absurd (omega (arith, contents.is, is));
     no_memory = λ is. record {
       began = began;
-      text = told.nothing;
-      line = told.line;
-      made = λ tells. (done.made tells).left;
-      unmade = λ tells. (done.made tells).unmade refl;
+      text = contents.nothing;
+      line = contents.line;
+      made = λ is_modelled. (done.made is_modelled).left;
+      unmade = λ is_modelled. (done.made is_modelled).unmade refl;
     };
     back = done.back;
-    looked = looked;
+    only_read = only_read;
     no_file = no_file no_memory done;
     valid = valid;
-    early = λ tells. each_is (λ name did. did ≡ untouched → IsEarly status)
-        (λ name did of. inr (inr (inr (inr (inl told.is)))))
+    early = λ is_modelled. each_is (λ name did. did ≡ untouched → IsEarly status)
+        (λ name did of. inr (inr (inr (inr (inl contents.is)))))
         (done_with asked.journals want.journals);
   }
 
-  pub has_run : (ending : Ending) (status : ℕ) → Did ending → Valid → Looked → New ending
+  pub has_run : (ending : Ending) (status : ℕ) → Did ending → Valid → OnlyRead → New ending
       → Concludes outs errs (known_word words) out out' err err' ending (rooms.why new) status
       → HasRun h rooms disks outs errs words old new out out' err err' status
-  has_run (replied (said kind text)) status done valid looked began ends = elim ends [
-    | inl wrote ↦ run_wrote (said kind text) status valid looked began done wrote
-    | inr lost ↦ run_lost kind text status valid looked began done lost
+  has_run (replied (said kind text)) status done valid only_read began ends = elim ends [
+    | inl wrote ↦ run_wrote (said kind text) status valid only_read began done wrote
+    | inr lost ↦ run_lost kind text status valid only_read began done lost
   ]
-  has_run (replied (refused why file reason)) status done valid looked began wrote =
-      run_wrote (refused why file reason) status valid looked began done wrote
-  has_run (room_failed file) status done valid looked began told =
-      run_failed file status valid looked began done told
-  has_run no_memory status done valid looked began told =
-      run_starved status valid looked began done told
+  has_run (replied (refused why file reason)) status done valid only_read began wrote =
+      run_wrote (refused why file reason) status valid only_read began done wrote
+  has_run (room_failed file) status done valid only_read began contents =
+      run_failed file status valid only_read began done contents
+  has_run no_memory status done valid only_read began contents =
+      run_starved status valid only_read began done contents

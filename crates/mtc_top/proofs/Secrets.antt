@@ -3,13 +3,13 @@ use Rattle.std.proofs.Common.{◌≡◌, inl, ℕ, true, false, Bool, List, [], 
 use Rattle.std.proofs.Common.{None, Some, Result, Ok, Err, codes, refl, sym, subst}
 use Rattle.std.specs.Fmt.{decimal}
 use Rattle.std.specs.Prelude.{if◌then◌else◌, nat_lt}
-use Rattle.byte_forms.specs.Places.{IsBytes}
-use Rattle.byte_forms.specs.Types.{HashFunction}
+use Rattle.byte_formats.specs.Places.{IsBytes}
+use Rattle.byte_formats.specs.Types.{HashFunction}
 use Rattle.disk_core.specs.declared.disk.Disk.{Ghosts as Disks}
 use Rattle.journal_core.specs.Format.{end_behind}
 use Rattle.journal_core.proofs.Standing.{found_stands}
 use Rattle.mtc_io.specs.declared.sink.Sink.{Ghosts as Sinks}
-use Rattle.mtc_room.specs.Room.{TellsFile}
+use Rattle.mtc_room.specs.Room.{ModelsFile}
 use Rattle.mtc_room.specs.declared.room.Room.{Ghosts as Rooms}
 use Rattle.mtc_words.specs.Commands.{CommandValue, member, show, verify, init_log, issue}
 use Rattle.mtc_words.specs.Commands.{checkpoint, entries, consist, subtree, keygen}
@@ -23,18 +23,18 @@ use Rattle.cosigner_core.specs.Openings.{cosigner_read}
 use Rattle.cosigner_core.specs.Reading.{advance_in}
 use Rattle.cosigner_core.specs.Records.{advance_record, cosigner_record}
 use Rattle.cosigner_core.specs.Refusals.{advance_refused}
-use Rattle.mtc_answers.specs.Made.{reads}
-use Rattle.mtc_answers.specs.Served.{Journals}
-use Rattle.mtc_answers.specs.Steps.{Outcome, says, says_on, starts, stops_at, with_fresh}
-use Rattle.mtc_answers.specs.Wanted.{Meets}
-use Rattle.mtc_answers.specs.declared.answer.Said.TheVariants.{Done}
-use Rattle.mtc_answers.specs.declared.answer.Stopped.TheVariants.{BadForm, BadWords, Missing}
-use Rattle.mtc_answers.proofs.Made.{OnlyNow, ReadsImage}
+use Rattle.mtc_command.specs.Made.{reads}
+use Rattle.mtc_command.specs.Served.{Journals}
+use Rattle.mtc_command.specs.Steps.{Outcome, says, says_on, starts, stops_at, with_fresh}
+use Rattle.mtc_command.specs.Wanted.{Meets}
+use Rattle.mtc_command.specs.declared.answer.Said.TheVariants.{Done}
+use Rattle.mtc_command.specs.declared.answer.Stopped.TheVariants.{BadForm, BadWords, Missing}
+use Rattle.mtc_command.proofs.Made.{OnlyNow, ReadsImage}
 use Rattle.mtc_cosigner.specs.CosignerOutcomes.{advanced_text, form_fault_text}
 use Rattle.mtc_cosigner.specs.InitOutcome.{cosigner_settings_of}
 use Rattle.mtc_cosigner.specs.KeygenOutcome.{lms_type, ots_type, public_line, with_secret}
 use Rattle.mtc_cosigner.specs.Works.{advance_outcome, cosigner_open_text, export_outcome}
-use Rattle.mtc_logs.specs.Works.{IsLog}
+use Rattle.mtc_authority.specs.Works.{IsLog}
 use Rattle.mtc_top.specs.Courses.{Turn, AreAmong, DidWith, HasHeld, HasPrinted, HasTurned, IsHeard}
 use Rattle.mtc_top.specs.Facts.{facts}
 use Rattle.mtc_top.specs.PrintLaws.{OnlyCosignSigns, Says}
@@ -45,17 +45,17 @@ use Rattle.mtc_top.proofs.Turns.{file_bytes, heard_run, held_rules, not_refused}
 
 module _ {R S D O E : Type 0} (h : HashFunction) (rooms : Rooms R S D) (disks : Disks D)
     (outs : Sinks O) (errs : Sinks E) (image : ReadsImage disks) (only : OnlyNow disks)
-    (told : (room : R) (name : List ℕ) → rooms.tells room
-    → TellsFile disks.told (rooms.file room name) (rooms.device room name))
-    (bytes : (d : D) (b : List ℕ) → disks.told d ≡ Some b → IsBytes b) where
+    (contents : (room : R) (name : List ℕ) → rooms.is_modelled room
+    → ModelsFile disks.contents (rooms.file room name) (rooms.device room name))
+    (bytes : (d : D) (b : List ℕ) → disks.contents d ≡ Some b → IsBytes b) where
   module _ (names : List (List ℕ)) (old : R) (turn : Turn R O E)
       (run : HasTurned h rooms disks outs errs old turn) (heard : IsHeard outs turn) where
     abbrev Did : Outcome → Type 0
-    Did = HasDone h rooms disks outs errs told bytes names old turn run heard
+    Did = HasDone h rooms disks outs errs contents bytes names old turn run heard
 
     past_either : (b : Bool) (file reason : List ℕ) (next : Outcome)
         → Did (if b then stops_at BadForm file reason else next) → Did next
-    past_either true file reason next done = absurd (none_stopped h rooms disks outs errs told
+    past_either true file reason next done = absurd (none_stopped h rooms disks outs errs contents
         bytes names old turn run heard BadForm (Some file) reason [] done)
     past_either false file reason next done = done
 
@@ -70,10 +70,10 @@ module _ {R S D O E : Type 0} (h : HashFunction) (rooms : Rooms R S D) (disks : 
     past_fresh : (file : List ℕ) (o : Option (List ℕ)) (next : Outcome)
         → Did (with_fresh file o next) → Did next
     past_fresh file None next done = done
-    past_fresh file (Some b) next done = absurd (none_stopped h rooms disks outs errs told
+    past_fresh file (Some b) next done = absurd (none_stopped h rooms disks outs errs contents
         bytes names old turn run heard Missing (Some file) (codes "Exists") [] done)
 
-  module _ (old : R) (turn : Turn R O E) (tells : rooms.tells old)
+  module _ (old : R) (turn : Turn R O E) (is_modelled : rooms.is_modelled old)
       (run : HasTurned h rooms disks outs errs old turn) (heard : IsHeard outs turn) where
     abbrev Speaks : CommandValue → Type 0
     Speaks command = command_of turn.words ≡ Ok command
@@ -82,19 +82,21 @@ module _ {R S D O E : Type 0} (h : HashFunction) (rooms : Rooms R S D) (disks : 
         → Says h rooms disks outs errs (advance name file) old turn
     unfolding advance_outcome
     advanced name file spoken =
-        let done = done_so h rooms disks outs errs told bytes (name ∷ []) old turn run heard
-        (advance name file) tells spoken refl in
-        let input = past_bytes h rooms disks outs errs told bytes (name ∷ []) old turn run heard
+        let done = done_so h rooms disks outs errs contents bytes (name ∷ []) old turn run heard
+        (advance name file) is_modelled spoken refl in
+        let input = past_bytes h rooms disks outs errs contents bytes (name ∷ []) old turn run heard
         16777216 file (rooms.file old file) _ done in
-        let form = past_form h rooms disks outs errs told bytes (name ∷ []) old turn run heard
+        let form = past_form h rooms disks outs errs contents bytes (name ∷ []) old turn run heard
         form_fault_text file (advance_in input.0) _ input.3 in
-        let journal = past_file h rooms disks outs errs told bytes (name ∷ []) old turn run heard
+        let journal =
+        past_file h rooms disks outs errs contents bytes (name ∷ []) old turn run heard
         name (rooms.file old name) _ form.2 in
-        let found = past_form h rooms disks outs errs told bytes (name ∷ []) old turn run heard
+        let found = past_form h rooms disks outs errs contents bytes (name ∷ []) old turn run heard
         cosigner_open_text name (cosigner_read h journal.0) _ journal.2 in
         let r = form.0 in
         let state = found.0.state in
-        let added = stepped_so h rooms disks outs errs told bytes name old turn run heard found.0
+        let added =
+        stepped_so h rooms disks outs errs contents bytes name old turn run heard found.0
         (advance_record r.size r.root r.proof) (advanced_text r.size)
         (advance_refused h state false (end_behind found.0.records) r) found.2 in (
           input.0,
@@ -108,7 +110,7 @@ module _ {R S D O E : Type 0} (h : HashFunction) (rooms : Rooms R S D) (disks : 
     read_so name list text done = (
       subst (λ (js : Journals). AreAmong js name (reads list)) (sym done.journals_are)
           (inl (refl, refl)),
-      said_so h rooms disks outs errs told bytes (name ∷ []) old turn run heard text
+      said_so h rooms disks outs errs contents bytes (name ∷ []) old turn run heard text
           (reads list ∷ []) done,
     )
 
@@ -116,14 +118,15 @@ module _ {R S D O E : Type 0} (h : HashFunction) (rooms : Rooms R S D) (disks : 
         → Says h rooms disks outs errs (export name) old turn
     unfolding export_outcome
     exported name spoken =
-        let done = done_so h rooms disks outs errs told bytes (name ∷ []) old turn run heard
-        (export name) tells spoken refl in
-        let journal = past_file h rooms disks outs errs told bytes (name ∷ []) old turn run heard
+        let done = done_so h rooms disks outs errs contents bytes (name ∷ []) old turn run heard
+        (export name) is_modelled spoken refl in
+        let journal =
+        past_file h rooms disks outs errs contents bytes (name ∷ []) old turn run heard
         name (rooms.file old name) _ done in
-        let found = past_form h rooms disks outs errs told bytes (name ∷ []) old turn run heard
+        let found = past_form h rooms disks outs errs contents bytes (name ∷ []) old turn run heard
         cosigner_open_text name (cosigner_read h journal.0) _ journal.2 in
         let are = file_bytes disks (rooms.file old name) (rooms.device old name) journal.0 bytes
-        (told old name tells) journal.1 in
+        (contents old name is_modelled) journal.1 in
         let stands = found_stands (cosigner_fold h) journal.0 found.0 are found.1 in
         let read = read_so name found.0.records (export_text found.0.state found.0.records) found.2
         in (found.0.records, (found.0.state, (stands.1, read.0, read.1)))
@@ -132,9 +135,9 @@ module _ {R S D O E : Type 0} (h : HashFunction) (rooms : Rooms R S D) (disks : 
         → Speaks (init_cosigner name id log height width file)
         → Says h rooms disks outs errs (init_cosigner name id log height width file) old turn
     begun name id log height width file spoken =
-        let done = done_so h rooms disks outs errs told bytes (name ∷ []) old turn run heard
-        (init_cosigner name id log height width file) tells spoken refl in
-        let input = past_bytes h rooms disks outs errs told bytes (name ∷ []) old turn run heard
+        let done = done_so h rooms disks outs errs contents bytes (name ∷ []) old turn run heard
+        (init_cosigner name id log height width file) is_modelled spoken refl in
+        let input = past_bytes h rooms disks outs errs contents bytes (name ∷ []) old turn run heard
         16777216 file (rooms.file old file) _ done in
         let s = cosigner_settings_of id log height width in
         let line = public_line s.lms s.ots input.0 in
@@ -146,23 +149,24 @@ module _ {R S D O E : Type 0} (h : HashFunction) (rooms : Rooms R S D) (disks : 
           input.0,
           (
             record { there = input.1; few = input.2 },
-            said_so h rooms disks outs errs told bytes (name ∷ []) old turn run heard line _ last,
+            said_so h rooms disks outs errs contents bytes (name ∷ []) old turn run heard line _
+                last,
           ),
         )
 
     made_key : (height width : ℕ) (file : List ℕ) → Speaks (keygen height width file)
         → Says h rooms disks outs errs (keygen height width file) old turn
     made_key height width file spoken =
-        let done = done_so h rooms disks outs errs told bytes [] old turn run heard
-        (keygen height width file) tells spoken refl in
-        let input = past_bytes h rooms disks outs errs told bytes [] old turn run heard
+        let done = done_so h rooms disks outs errs contents bytes [] old turn run heard
+        (keygen height width file) is_modelled spoken refl in
+        let input = past_bytes h rooms disks outs errs contents bytes [] old turn run heard
         16777216 file (rooms.file old file) _ done in
         let line = public_line (lms_type height) (ots_type width) input.0 in
         let last = past_secret [] old turn run heard file input.0 (says Done line) input.3 in (
           input.0,
           (
             record { there = input.1; few = input.2 },
-            said_so h rooms disks outs errs told bytes [] old turn run heard line _ last,
+            said_so h rooms disks outs errs contents bytes [] old turn run heard line _ last,
           ),
         )
 
@@ -173,13 +177,15 @@ module _ {R S D O E : Type 0} (h : HashFunction) (rooms : Rooms R S D) (disks : 
         → HasHeld h rooms disks outs errs name old turn list → IsLog h list
     logs command spoken are name list held =
         are list (subst (λ (r : Result CommandValue WordError). (facts h r).Valid list) spoken
-        (held_rules h rooms disks outs errs image only told bytes name old turn list tells run
+        (held_rules h rooms disks outs errs image only contents bytes name old turn list is_modelled
+        run
         held))
 
     pub says_so : (command : CommandValue) → Speaks command
         → Says h rooms disks outs errs command old turn
     says_so (cosign name file) spoken =
-        signatures_printed h rooms disks outs errs told bytes name file old turn tells run spoken
+        signatures_printed h rooms disks outs errs contents bytes name file old turn is_modelled run
+        spoken
         heard
     says_so (advance name file) spoken = advanced name file spoken
     says_so (export name) spoken = exported name spoken
@@ -223,9 +229,9 @@ module _ {R S D O E : Type 0} (h : HashFunction) (rooms : Rooms R S D) (disks : 
         absurd (not_refused h rooms disks outs errs old turn run heard BadWords None
         (word_fault_text why) (subst (λ (r : Result CommandValue WordError).
         Meets ((facts h r).outcome (rooms.file old)).answer run_so.reply) is
-        (run_so.is (inl tells))))
+        (run_so.is (inl is_modelled))))
 
   pub only_cosign : OnlyCosignSigns h rooms disks outs errs
-  only_cosign old turn tells run heard =
-      let has = has_command old turn tells run heard (command_of turn.words) refl in
-      (has.0, (has.1, says_so old turn tells run heard has.0 has.1))
+  only_cosign old turn is_modelled run heard =
+      let has = has_command old turn is_modelled run heard (command_of turn.words) refl in
+      (has.0, (has.1, says_so old turn is_modelled run heard has.0 has.1))

@@ -2,18 +2,18 @@
 use Rattle.std.proofs.Common.{◌≡◌, ℕ, zero, suc, ◌+◌, List, [], ◌∷◌, ◌++◌, map, Option, None, Some}
 use Rattle.std.proofs.Common.{Ok, refl, sym, subst, ap, ◌∙◌, option_map, option_and_then, slice_get}
 use Rattle.std.specs.Prelude.{slice_set}
-use Rattle.byte_forms.specs.Readings.{◌>>=◌, some_or}
-use Rattle.byte_forms.specs.Places.{IsBytes}
-use Rattle.byte_forms.specs.Types.{HashFunction}
-use Rattle.byte_forms.proofs.Steps.{ok_is}
+use Rattle.byte_formats.specs.Readings.{◌>>=◌, some_or}
+use Rattle.byte_formats.specs.Places.{IsBytes}
+use Rattle.byte_formats.specs.Types.{HashFunction}
+use Rattle.byte_formats.proofs.Steps.{ok_is}
 use Rattle.disk_core.specs.declared.disk.Disk.{Ghosts as Disks}
 use Rattle.mtc_io.specs.declared.sink.Sink.{Ghosts as Sinks}
-use Rattle.mtc_room.specs.Room.{TellsFile}
+use Rattle.mtc_room.specs.Room.{ModelsFile}
 use Rattle.mtc_room.specs.declared.room.Room.{Ghosts as Rooms}
-use Rattle.mtc_answers.proofs.Made.{OnlyNow, ReadsImage}
+use Rattle.mtc_command.proofs.Made.{OnlyNow, ReadsImage}
 use Rattle.node_history.specs.Histories.{Valid, moved, states_after, states_from}
-use Rattle.node_history.specs.Nodes.{HistoryState, fresh_node}
-use Rattle.node_history.specs.Nodes.{node_of_step}
+use Rattle.node_history.specs.Nodes.{HistoryState, fresh_party}
+use Rattle.node_history.specs.Nodes.{party_of_step}
 use Rattle.node_history.specs.Rules.{may_follow}
 use Rattle.node_history.specs.declared.step.NodeStep.{NodeStep}
 use Rattle.node_history.specs.declared.step.NodeStep.TheVariants.{Begin, Settle, Hand, Stop}
@@ -136,7 +136,7 @@ module _ (valid : Valid) where
       (x, sym (none_is k (x ∷ []) ends is), none k (x ∷ others))
   with_others k x others ends (step ∷ steps) is =
       let first = first_step valid k (x ∷ []) step steps ends is in
-      let only = only_moved x others (λ s. moved valid s step) (node_of_step step) first.0 first.1
+      let only = only_moved x others (λ s. moved valid s step) (party_of_step step) first.0 first.1
       in
       let rest = with_others (k + 1) only.0 others ends steps
       (subst (λ (l : List HistoryState). states_from valid (k + 1) l steps ≡ Ok ends) only.1
@@ -149,9 +149,9 @@ module _ (valid : Valid) where
 
 module _ {R S D O E : Type 0} (h : HashFunction) (rooms : Rooms R S D) (disks : Disks D)
     (outs : Sinks O) (errs : Sinks E) (image : ReadsImage disks) (only : OnlyNow disks)
-    (told : (room : R) (name : List ℕ) → rooms.tells room
-    → TellsFile disks.told (rooms.file room name) (rooms.device room name))
-    (bytes : (d : D) (b : List ℕ) → disks.told d ≡ Some b → IsBytes b) where
+    (contents : (room : R) (name : List ℕ) → rooms.is_modelled room
+    → ModelsFile disks.contents (rooms.file room name) (rooms.device room name))
+    (bytes : (d : D) (b : List ℕ) → disks.contents d ≡ Some b → IsBytes b) where
   abbrev Journal : R → Type 0
   Journal = IsJournalOf h rooms disks outs errs
 
@@ -161,10 +161,11 @@ module _ {R S D O E : Type 0} (h : HashFunction) (rooms : Rooms R S D) (disks : 
       record { steps = []; states = []; allowed = none (may_follow h) 0 []; each = tt }
   one_history room (j ∷ js) =
       let rest = one_history room js in
-      let own = reached h rooms disks outs errs image only told bytes j.name j.start j.first j.old
+      let own =
+      reached h rooms disks outs errs image only contents bytes j.name j.start j.first j.old
       room j.links j.begun j.course in
-      let others = map fresh_node (map (λ (i : Journal room). i.start) js) in
-      let wide = with_others (may_follow h) 0 (fresh_node j.start) others own.leads.states
+      let others = map fresh_party (map (λ (i : Journal room). i.start) js) in
+      let wide = with_others (may_follow h) 0 (fresh_party j.start) others own.leads.states
       own.steps own.leads.allowed in
       let state_is : wide.0 ≡ own.state
       = some_is wide.0 own.state (ap (λ (l : List HistoryState). slice_get l 0) (sym wide.1)
@@ -172,7 +173,7 @@ module _ {R S D O E : Type 0} (h : HashFunction) (rooms : Rooms R S D) (disks : 
       record {
         steps = own.steps ++ map later rest.steps;
         states = own.state ∷ rest.states;
-        allowed = goes_behind (may_follow h) 0 (fresh_node j.start ∷ others) (own.state ∷ others)
+        allowed = goes_behind (may_follow h) 0 (fresh_party j.start ∷ others) (own.state ∷ others)
             (own.state ∷ rest.states) own.steps (map later rest.steps)
             (wide.2 ∙ ap (λ (s : HistoryState). Ok (s ∷ others)) state_is)
             (with_first (may_follow h) 0 own.state others rest.states rest.steps rest.allowed);

@@ -5,38 +5,38 @@ use Rattle.std.proofs.Common.{true≢false, length, length-append}
 use Rattle.std.proofs.lemmas.Bool.Decides.{eqb_tells}
 use Rattle.std.proofs.lemmas.Slice.Eq.{bytes_eq-Decides}
 use Rattle.std.specs.Str.{bytes_eq}
-use Rattle.byte_forms.specs.Places.{IsBytes}
-use Rattle.byte_forms.specs.Types.{HashFunction}
+use Rattle.byte_formats.specs.Places.{IsBytes}
+use Rattle.byte_formats.specs.Types.{HashFunction}
 use Rattle.disk_core.specs.declared.disk.Disk.{Ghosts as Disks}
 use Rattle.mtc_io.specs.declared.sink.Sink.{Ghosts as Sinks}
-use Rattle.journal_core.specs.Format.{StandsFor}
-use Rattle.mtc_room.specs.Room.{TellsFile}
+use Rattle.journal_core.specs.Format.{Represents}
+use Rattle.mtc_room.specs.Room.{ModelsFile}
 use Rattle.mtc_room.specs.declared.room.Room.{Ghosts as Rooms}
 use Rattle.mtc_words.specs.Words.{command_of}
-use Rattle.mtc_answers.specs.Answers.{Reply, out_of, refused, said, status_of, stopped_code}
-use Rattle.mtc_answers.specs.declared.answer.Said.TheVariants.{Done}
-use Rattle.mtc_answers.specs.declared.answer.Stopped.{Stopped}
-use Rattle.mtc_answers.specs.declared.answer.Stopped.TheVariants.{BadWords}
-use Rattle.mtc_answers.specs.Made.{Journaled, appended, reads, started, images_at, images_since}
-use Rattle.mtc_answers.specs.Made.{moment_at}
-use Rattle.mtc_answers.specs.Served.{Journals, IsOther, OfEach, done_with, first_journaled}
-use Rattle.mtc_answers.specs.Served.{rest_journaled}
-use Rattle.mtc_answers.specs.Made.{HasMade, Leaves, told_at, untouched}
-use Rattle.mtc_answers.specs.Valid.{LeavesValid}
-use Rattle.mtc_answers.proofs.Made.{OnlyNow, ReadsImage}
+use Rattle.mtc_command.specs.Answers.{Reply, out_of, refused, said, status_of, stopped_code}
+use Rattle.mtc_command.specs.declared.answer.Said.TheVariants.{Done}
+use Rattle.mtc_command.specs.declared.answer.Stopped.{Stopped}
+use Rattle.mtc_command.specs.declared.answer.Stopped.TheVariants.{BadWords}
+use Rattle.mtc_command.specs.Made.{Journaled, appended, reads, started, images_at, images_since}
+use Rattle.mtc_command.specs.Made.{moment_at}
+use Rattle.mtc_command.specs.Served.{Journals, IsOther, OfEach, done_with, first_journaled}
+use Rattle.mtc_command.specs.Served.{rest_journaled}
+use Rattle.mtc_command.specs.Made.{HasMade, Leaves, device_contents, untouched}
+use Rattle.mtc_command.specs.Valid.{LeavesValid}
+use Rattle.mtc_command.proofs.Made.{OnlyNow, ReadsImage}
 use Rattle.node_history.proofs.Chains.{no_some}
 use Rattle.node_history.proofs.Steps.{some_is}
 use Rattle.mtc_top.specs.Courses.{Turn, Link, ran, stops, cut, died, writes, AreAmong, HasTurned}
-use Rattle.mtc_top.specs.Concluded.{Prints, PrintsFront}
+use Rattle.mtc_top.specs.Concluded.{Prints, PrintsPrefix}
 use Rattle.mtc_top.specs.Courses.{images_in, images_from, IsCourse, HasHeld, HasPrinted, IsHeard}
-use Rattle.mtc_top.specs.Courses.{DidWith, OfEachTurn, WasHeld, HandsOut, WasHandedOut}
+use Rattle.mtc_top.specs.Courses.{DidWith, OfEachTurn, WasHeld, Releases, WasReleased}
 use Rattle.mtc_top.specs.Run.{Answered, journals}
 use Rattle.mtc_top.specs.RunLaws.{RunSteps}
 use Rattle.mtc_top.specs.Facts.{facts}
 use Rattle.mtc_top.specs.Nodes.{records_left}
 use Rattle.mtc_top.proofs.Nodes.{no_file_stands, one_list, some_image}
 use Rattle.mtc_top.proofs.Opened.{Finds, IsFound, IsNewAt, spoken_finds, spoken_new}
-use Rattle.mtc_top.proofs.RunLaws.{front_none, run_steps, unheard}
+use Rattle.mtc_top.proofs.RunLaws.{prefix_none, run_steps, unheard}
 
 -- ---- the journals of a run
 
@@ -105,8 +105,8 @@ module _ {R S D O E : Type 0} (h : HashFunction) (rooms : Rooms R S D) (disks : 
       | inl is6 ↦ inr is6.1
       | inr not6 ↦ inl (heard_run.code not6.1 ∙ ap status_of is)
     ];
-    front = subst (λ (r : Reply). PrintsFront outs turn.out turn.out_after (out_of r)) is
-        heard_run.front;
+    prefix = subst (λ (r : Reply). PrintsPrefix outs turn.out turn.out_after (out_of r)) is
+        heard_run.prefix;
     whole = λ zero_. subst (λ (r : Reply). Prints outs turn.out turn.out_after (out_of r)) is
         (heard_run.text (λ six. omega (arith, zero_, six)));
   }
@@ -118,8 +118,8 @@ module _ {R S D O E : Type 0} (h : HashFunction) (rooms : Rooms R S D) (disks : 
     | inl zero_ ↦ no_stop why (ap status_of (sym is)
         ∙ sym (heard_run.code (λ six. omega (arith, zero_, six))) ∙ zero_)
     | inr any ↦ elim any [
-      | inl took ↦ front_none _ _ (subst (λ (r : Reply).
-          PrintsFront outs turn.out turn.out_after (out_of r)) is heard_run.front) took
+      | inl took ↦ prefix_none _ _ (subst (λ (r : Reply).
+          PrintsPrefix outs turn.out turn.out_after (out_of r)) is heard_run.prefix) took
       | inr lost ↦
           (let empty : 0 < 0
           = subst (λ (r : Reply). 0 < length (out_of r)) is (heard_run.some lost.0) in
@@ -154,36 +154,36 @@ module _ {R S D O E : Type 0} (h : HashFunction) (rooms : Rooms R S D) (disks : 
 -- what is left of a journal that a run found or made
 left_stands : (did : Journaled) (list : List (List ℕ)) (before now since : List ℕ → Type 0)
     → records_left did ≡ Some list → HasMade did before now since → (c : List ℕ) → now c
-    → StandsFor c list
+    → Represents c list
 left_stands untouched list before now since is made c at = no_some list is
 left_stands (reads found) list before now since is made c at =
-    subst (StandsFor c) (some_is found list is) (made.now_is c at)
+    subst (Represents c) (some_is found list is) (made.now_is c at)
 left_stands (appended found body) list before now since is made c at =
-    subst (StandsFor c) (some_is (found ++ body ∷ []) list is) (made.now_is c at)
+    subst (Represents c) (some_is (found ++ body ∷ []) list is) (made.now_is c at)
 left_stands (started body) list before now since is made c at =
-    subst (StandsFor c) (some_is (body ∷ []) list is) (made c at)
+    subst (Represents c) (some_is (body ∷ []) list is) (made c at)
 
 -- what a device tells is an image, and what the room tells of the file
-pub told_image : {D : Type 0} (g : Disks D) (x : Option D) (c : List ℕ) → ReadsImage g
-    → told_at g x ≡ Some c → images_at g x c
-told_image g None c image is = no_some c is
-told_image g (Some d) c image is = image d c is
+pub contents_image : {D : Type 0} (g : Disks D) (x : Option D) (c : List ℕ) → ReadsImage g
+    → device_contents g x ≡ Some c → images_at g x c
+contents_image g None c image is = no_some c is
+contents_image g (Some d) c image is = image d c is
 
-pub told_file : {D : Type 0} (g : Disks D) (file : Option (List ℕ)) (x : Option D)
-    → TellsFile g.told file x → told_at g x ≡ file
-told_file g file None tells = sym tells
-told_file g file (Some d) tells = tells.0
+pub modelled_file : {D : Type 0} (g : Disks D) (file : Option (List ℕ)) (x : Option D)
+    → ModelsFile g.contents file x → device_contents g x ≡ file
+modelled_file g file None is_modelled = sym is_modelled
+modelled_file g file (Some d) is_modelled = is_modelled.0
 
 pub file_bytes : {D : Type 0} (g : Disks D) (file : Option (List ℕ)) (x : Option D) (c : List ℕ)
-    → ((d : D) (b : List ℕ) → g.told d ≡ Some b → IsBytes b) → TellsFile g.told file x
+    → ((d : D) (b : List ℕ) → g.contents d ≡ Some b → IsBytes b) → ModelsFile g.contents file x
     → file ≡ Some c → IsBytes c
-file_bytes g file None c bytes tells is = absurd cc
-file_bytes g file (Some d) c bytes tells is = bytes d c (tells.0 ∙ is)
+file_bytes g file None c bytes is_modelled is = absurd cc
+file_bytes g file (Some d) c bytes is_modelled is = bytes d c (is_modelled.0 ∙ is)
 
 module _ {R S D O E : Type 0} (h : HashFunction) (rooms : Rooms R S D) (disks : Disks D)
     (outs : Sinks O) (errs : Sinks E) (image : ReadsImage disks) (only : OnlyNow disks)
-    (told : (room : R) (name : List ℕ) → rooms.tells room
-    → TellsFile disks.told (rooms.file room name) (rooms.device room name)) where
+    (contents : (room : R) (name : List ℕ) → rooms.is_modelled room
+    → ModelsFile disks.contents (rooms.file room name) (rooms.device room name)) where
   abbrev Turned : R → Turn R O E → Type 0
   Turned = HasTurned h rooms disks outs errs
 
@@ -198,24 +198,24 @@ module _ {R S D O E : Type 0} (h : HashFunction) (rooms : Rooms R S D) (disks : 
 
   -- a run is steps of each of its journals
   pub steps_with : (old : R) (turn : Turn R O E) (name : List ℕ) (did : Journaled) → Turned old turn
-      → rooms.tells old → Did old turn name did
+      → rooms.is_modelled old → Did old turn name did
       → RunSteps h rooms disks outs errs turn.words old turn.room turn.out turn.out_after
       turn.err turn.err_after turn.status name did
-  steps_with old turn name did run tells among =
+  steps_with old turn name did run is_modelled among =
       of_each (RunSteps h rooms disks outs errs turn.words old turn.room turn.out turn.out_after
       turn.err turn.err_after turn.status)
       (journals h rooms disks outs errs turn.words old turn.room turn.out turn.out_after
       turn.err turn.err_after) name did
       (run_steps h rooms disks outs errs turn.words old turn.room turn.out turn.out_after
-      turn.err turn.err_after turn.status run image (λ n. told old n tells)
-      (λ n. told turn.room n (run.back.tells tells)) tells) among
+      turn.err turn.err_after turn.status run image (λ n. contents old n is_modelled)
+      (λ n. contents turn.room n (run.back.is_modelled is_modelled)) is_modelled) among
 
   -- the records that a run found or made are all that is left of the journal
   pub held_stands : (old : R) (turn : Turn R O E) (name : List ℕ) (list : List (List ℕ))
-      → Turned old turn → rooms.tells old → HasHeld h rooms disks outs errs name old turn list
-      → (c : List ℕ) → Images turn.room name c → StandsFor c list
-  held_stands old turn name list run tells held =
-      let made = (run.answered held.no_failure held.no_want).made tells in
+      → Turned old turn → rooms.is_modelled old → HasHeld h rooms disks outs errs name old turn list
+      → (c : List ℕ) → Images turn.room name c → Represents c list
+  held_stands old turn name list run is_modelled held =
+      let made = (run.answered held.no_failure held.no_want).made is_modelled in
       left_stands held.did list _ _ _ held.held
       (of_each (λ n d. Leaves disks (HasMade d) (rooms.device old n) (rooms.device turn.room n))
       (journals h rooms disks outs errs turn.words old turn.room turn.out turn.out_after
@@ -228,43 +228,48 @@ module _ {R S D O E : Type 0} (h : HashFunction) (rooms : Rooms R S D) (disks : 
   abbrev Rules : Turn R O E → List (List ℕ) → Type 0
   Rules turn = (facts h (command_of turn.words)).Valid
 
-  module _ (bytes : (d : D) (b : List ℕ) → disks.told d ≡ Some b → IsBytes b) where
+  module _ (bytes : (d : D) (b : List ℕ) → disks.contents d ≡ Some b → IsBytes b) where
     -- what the files of a room are to a run
-    pub found_at : (name : List ℕ) (old : R) (turn : Turn R O E) (did : Journaled) → rooms.tells old
+    pub found_at : (name : List ℕ) (old : R) (turn : Turn R O E) (did : Journaled)
+        → rooms.is_modelled old
         → Did old turn name did
         → Finds (Rules turn) (rooms.file old name) did
-    found_at name old turn did tells among =
+    found_at name old turn did is_modelled among =
         of_each (λ n d. Finds (Rules turn) (rooms.file old n) d)
         (journals h rooms disks outs errs turn.words old turn.room turn.out turn.out_after
         turn.err turn.err_after) name did
         (spoken_finds h (rooms.file old) (λ n c is. file_bytes disks (rooms.file old n)
-        (rooms.device old n) c bytes (told old n tells) is) (command_of turn.words)) among
+        (rooms.device old n) c bytes (contents old n is_modelled) is) (command_of turn.words)) among
 
     -- the records keep to the rules of the command
     pub held_rules : (name : List ℕ) (old : R) (turn : Turn R O E) (list : List (List ℕ))
-        → rooms.tells old → Turned old turn → HasHeld h rooms disks outs errs name old turn list
+        → rooms.is_modelled old → Turned old turn
+        → HasHeld h rooms disks outs errs name old turn list
         → (facts h (command_of turn.words)).Valid list
-    held_rules name old turn list tells run held =
-        by_did held.did held.held held.among (found_at name old turn held.did tells held.among)
+    held_rules name old turn list is_modelled run held =
+        by_did held.did held.held held.among
+        (found_at name old turn held.did is_modelled held.among)
         (of_each (LeavesValid rooms disks (Rules turn) old turn.room)
-        (Js old turn) name held.did (run.valid tells) held.among)
+        (Js old turn) name held.did (run.valid is_modelled) held.among)
         (of_each (IsNewAt (rooms.file old)) (Js old turn) name held.did
         (spoken_new h (command_of turn.words) (rooms.file old)) held.among)
       where
-        stands : (c : List ℕ) → Images turn.room name c → StandsFor c list
-        stands = held_stands old turn name list run tells held
+        stands : (c : List ℕ) → Images turn.room name c → Represents c list
+        stands = held_stands old turn name list run is_modelled held
 
         -- the journal would stand for the records without the new one
-        same_told : (found : List (List ℕ)) (body : List ℕ) → found ++ body ∷ [] ≡ list
+        same_contents : (found : List (List ℕ)) (body : List ℕ) → found ++ body ∷ [] ≡ list
             → IsFound (Rules turn) (rooms.file old name) found
-            → told_at disks (rooms.device turn.room name) ≡ told_at disks (rooms.device old name)
+            → device_contents disks (rooms.device turn.room name)
+            ≡ device_contents disks (rooms.device old name)
             → ⊥
-        same_told found body is was same =
-            let still = told_image disks (rooms.device turn.room name) was.bytes image (same
-            ∙ told_file disks (rooms.file old name) (rooms.device old name) (told old name tells)
+        same_contents found body is was same =
+            let still = contents_image disks (rooms.device turn.room name) was.bytes image (same
+            ∙ modelled_file disks (rooms.file old name) (rooms.device old name)
+            (contents old name is_modelled)
             ∙ was.there) in
             let both = one_list was.bytes found (found ++ body ∷ []) was.stands
-            (subst (StandsFor was.bytes) (sym is) (stands was.bytes still)) in
+            (subst (Represents was.bytes) (sym is) (stands was.bytes still)) in
             omega (arith, ap length both, length-append found (body ∷ []))
 
         by_did : (did : Journaled) → records_left did ≡ Some list → Did old turn name did
@@ -275,7 +280,7 @@ module _ {R S D O E : Type 0} (h : HashFunction) (rooms : Rooms R S D) (disks : 
         by_did (reads found) is among finds valid is_new =
             subst (Rules turn) (some_is found list is) finds.valid
         by_did (appended found body) is among finds valid is_new = elim valid [
-          | inl kept ↦ absurd (same_told found body (some_is _ list is) finds kept.1)
+          | inl kept ↦ absurd (same_contents found body (some_is _ list is) finds kept.1)
           | inr adds ↦ subst (Rules turn) (some_is _ list is) adds
         ]
         by_did (started body) is among finds valid is_new = elim valid [
@@ -283,27 +288,28 @@ module _ {R S D O E : Type 0} (h : HashFunction) (rooms : Rooms R S D) (disks : 
             | inl on ↦ absurd on
             | inr none ↦
                 (let c = some_image disks (rooms.file turn.room name) (rooms.device turn.room name)
-                image (told turn.room name (run.back.tells tells)) in
+                image (contents turn.room name (run.back.is_modelled is_modelled)) in
                 absurd (no_file_stands disks (rooms.file old name) (rooms.device old name) c.0 list
-                (told old name tells) none (kept.0.images.now_is c.0 c.1) (stands c.0 c.1)))
+                (contents old name is_modelled) none (kept.0.images.now_is c.0 c.1)
+                (stands c.0 c.1)))
           ]
           | inr adds ↦ subst (Rules turn) (some_is _ list is) adds
         ]
 
   -- a run that was heard neither failed nor wanted memory
-  handed_held : (name : List ℕ) (old : R) (turn : Turn R O E) (list : List (List ℕ))
-      (body : List ℕ) → Turned old turn → HandsOut h rooms disks outs errs name old turn list body
+  released_held : (name : List ℕ) (old : R) (turn : Turn R O E) (list : List (List ℕ))
+      (body : List ℕ) → Turned old turn → Releases h rooms disks outs errs name old turn list body
       → HasHeld h rooms disks outs errs name old turn (list ++ body ∷ [])
-  handed_held name old turn list body run hands =
+  released_held name old turn list body run hands =
       heard_held h rooms disks outs errs old turn run hands.1 name list body hands.0
 
   pub all_held : (name : List ℕ) (old new : R) (links : List (Link R O E))
       (list : List (List ℕ)) (body : List ℕ) → IsCourse h rooms disks outs errs name old links new
-      → WasHandedOut h rooms disks outs errs name old links list body
+      → WasReleased h rooms disks outs errs name old links list body
       → WasHeld h rooms disks outs errs name old links (list ++ body ∷ [])
   all_held name old new [] list body course was = absurd was
   all_held name old new (ran turn ∷ links) list body course was = elim was [
-    | inl hands ↦ inl (handed_held name old turn list body course.0 hands)
+    | inl hands ↦ inl (released_held name old turn list body course.0 hands)
     | inr later ↦ inr (all_held name turn.room new links list body course.1 later)
   ]
   all_held name old new (stops room ∷ links) list body course was =
@@ -317,25 +323,26 @@ module _ {R S D O E : Type 0} (h : HashFunction) (rooms : Rooms R S D) (disks : 
 
   -- what holds of each run of a course, and of the records that it held
   pub each_held : (name : List ℕ) (Held : List (List ℕ) → Type 0) (P : R → Turn R O E → Type 0)
-      (old new : R) (links : List (Link R O E)) → rooms.tells old
+      (old new : R) (links : List (Link R O E)) → rooms.is_modelled old
       → IsCourse h rooms disks outs errs name old links new
       → ((list : List (List ℕ)) → WasHeld h rooms disks outs errs name old links list → Held list)
-      → ((room : R) (turn : Turn R O E) → rooms.tells room → Turned room turn
+      → ((room : R) (turn : Turn R O E) → rooms.is_modelled room → Turned room turn
       → ((list : List (List ℕ)) → HasHeld h rooms disks outs errs name room turn list → Held list)
       → P room turn)
       → OfEachTurn h rooms disks outs errs P old links
-  each_held name Held P old new [] tells course held each = tt
-  each_held name Held P old new (ran turn ∷ links) tells course held each = (
-    each old turn tells course.0 (λ list is. held list (inl is)),
-    each_held name Held P turn.room new links (course.0.back.tells tells) course.1
+  each_held name Held P old new [] is_modelled course held each = tt
+  each_held name Held P old new (ran turn ∷ links) is_modelled course held each = (
+    each old turn is_modelled course.0 (λ list is. held list (inl is)),
+    each_held name Held P turn.room new links (course.0.back.is_modelled is_modelled) course.1
         (λ list is. held list (inr is)) each,
   )
-  each_held name Held P old new (stops room ∷ links) tells course held each =
-      each_held name Held P room new links (course.0.tells tells) course.1 held each
-  each_held name Held P old new (cut turn room ∷ links) tells course held each =
-      each_held name Held P room new links (course.0.1.tells (course.0.0.back.tells tells))
+  each_held name Held P old new (stops room ∷ links) is_modelled course held each =
+      each_held name Held P room new links (course.0.is_modelled is_modelled) course.1 held each
+  each_held name Held P old new (cut turn room ∷ links) is_modelled course held each =
+      each_held name Held P room new links
+      (course.0.1.is_modelled (course.0.0.back.is_modelled is_modelled))
       course.1 held each
-  each_held name Held P old new (died turn room ∷ links) tells course held each =
-      each_held name Held P room new links (course.0.tells tells) course.1 held each
-  each_held name Held P old new (writes room ∷ links) tells course held each =
-      each_held name Held P room new links (course.0.tells tells) course.1 held each
+  each_held name Held P old new (died turn room ∷ links) is_modelled course held each =
+      each_held name Held P room new links (course.0.is_modelled is_modelled) course.1 held each
+  each_held name Held P old new (writes room ∷ links) is_modelled course held each =
+      each_held name Held P room new links (course.0.is_modelled is_modelled) course.1 held each

@@ -5,13 +5,13 @@ use Rattle.std.proofs.Common.{true≢false}
 use Rattle.std.proofs.lemmas.List.{append-nil}
 use Rattle.std.proofs.lemmas.Slice.Eq.{bytes_eq-Decides}
 use Rattle.std.specs.Str.{bytes_eq}
-use Rattle.mtc_answers.specs.Made.{Journaled, untouched, reads, appended, started}
-use Rattle.mtc_answers.specs.Served.{IsOther, Journals, done_with, rest_journaled}
-use Rattle.node_history.specs.Laws.{AreAtMost, Begins, handed_bodies}
+use Rattle.mtc_command.specs.Made.{Journaled, untouched, reads, appended, started}
+use Rattle.mtc_command.specs.Served.{IsOther, Journals, done_with, rest_journaled}
+use Rattle.node_history.specs.Laws.{AreAtMost, Begins, released_bodies}
 use Rattle.node_history.specs.Nodes.{HistoryState, stop, with_pending}
-use Rattle.node_history.proofs.Handed.{one_handed, same_handed}
+use Rattle.node_history.proofs.Handed.{one_released, same_released}
 use Rattle.mtc_top.specs.Courses.{AreAmong}
-use Rattle.mtc_top.specs.Nodes.{End, IsUnsettled, begun, end_state, has_handed, has_settled, same}
+use Rattle.mtc_top.specs.Nodes.{End, IsNotDurable, begun, end_state, has_handed, has_settled, same}
 use Rattle.mtc_top.specs.Nodes.{stopped}
 
 -- the records that an end hands out
@@ -19,40 +19,40 @@ abbrev pub out_by : End → List (List ℕ)
 out_by (has_handed kept body) = body ∷ []
 out_by other = []
 
-pending_front : (list : List (List ℕ)) (p : Option (List ℕ)) → Begins list (with_pending list p)
-pending_front list None = ([], append-nil list)
-pending_front list (Some body) = (body ∷ [], refl)
+pending_prefix : (list : List (List ℕ)) (p : Option (List ℕ)) → Begins list (with_pending list p)
+pending_prefix list None = ([], append-nil list)
+pending_prefix list (Some body) = (body ∷ [], refl)
 
-stop_front : (kept : Bool) (s : HistoryState) → Begins s.settled (stop kept s).settled
-stop_front true s = pending_front s.settled s.pending
-stop_front false s = ([], append-nil s.settled)
+stop_prefix : (kept : Bool) (s : HistoryState) → Begins s.settled (stop kept s).settled
+stop_prefix true s = pending_prefix s.settled s.pending
+stop_prefix false s = ([], append-nil s.settled)
 
 module _ (s : HistoryState) (few : AreAtMost (length s.settled) s.handed) where
-  settled_front : (kept : Bool) (body : List ℕ)
+  settled_prefix : (kept : Bool) (body : List ℕ)
       → Begins s.settled ((stop kept s).settled ++ body ∷ [])
-  settled_front kept body =
-      let front = stop_front kept s in (
-        front.0 ++ body ∷ [],
-        sym (append_assoc s.settled front.0 (body ∷ []))
-            ∙ ap (λ (l : List (List ℕ)). l ++ body ∷ []) front.1,
+  settled_prefix kept body =
+      let prefix = stop_prefix kept s in (
+        prefix.0 ++ body ∷ [],
+        sym (append_assoc s.settled prefix.0 (body ∷ []))
+            ∙ ap (λ (l : List (List ℕ)). l ++ body ∷ []) prefix.1,
       )
 
-  pub end_hands : (e : End) → handed_bodies (end_state e s) ≡ handed_bodies s ++ out_by e
-  end_hands same = sym (append-nil (handed_bodies s))
-  end_hands (stopped kept) = same_handed s (stop kept s).settled few (stop_front kept s)
-      ∙ sym (append-nil (handed_bodies s))
-  end_hands (begun kept body) = same_handed s (stop kept s).settled few (stop_front kept s)
-      ∙ sym (append-nil (handed_bodies s))
-  end_hands (has_settled kept body) = same_handed s ((stop kept s).settled ++ body ∷ []) few
-      (settled_front kept body) ∙ sym (append-nil (handed_bodies s))
+  pub end_hands : (e : End) → released_bodies (end_state e s) ≡ released_bodies s ++ out_by e
+  end_hands same = sym (append-nil (released_bodies s))
+  end_hands (stopped kept) = same_released s (stop kept s).settled few (stop_prefix kept s)
+      ∙ sym (append-nil (released_bodies s))
+  end_hands (begun kept body) = same_released s (stop kept s).settled few (stop_prefix kept s)
+      ∙ sym (append-nil (released_bodies s))
+  end_hands (has_settled kept body) = same_released s ((stop kept s).settled ++ body ∷ []) few
+      (settled_prefix kept body) ∙ sym (append-nil (released_bodies s))
   end_hands (has_handed kept body) =
-      one_handed s (stop kept s).settled body few (stop_front kept s)
+      one_released s (stop kept s).settled body few (stop_prefix kept s)
 
-  pub moment_hands : (did : Journaled) (e : End) → IsUnsettled did e
-      → handed_bodies (end_state e s) ≡ handed_bodies s
+  pub moment_hands : (did : Journaled) (e : End) → IsNotDurable did e
+      → released_bodies (end_state e s) ≡ released_bodies s
   moment_hands did same is = refl
   moment_hands did (begun kept body) is =
-      same_handed s (stop kept s).settled few (stop_front kept s)
+      same_released s (stop kept s).settled few (stop_prefix kept s)
   moment_hands did other is = absurd is
 
 -- ---- whether a run added a record to the journal of a name

@@ -2,7 +2,7 @@
 -- record a run of a course of a cosigner's journal held.
 use Rattle.std.specs.Prelude.{◌≡◌, ◌≢◌, ◌⊎◌, ℕ, ◌≤◌, true, pos, List, ◌∷◌, ◌++◌, length, None}
 use Rattle.std.specs.Prelude.{Some, Ok, slice_get}
-use Rattle.byte_forms.specs.Types.{HashFunction, Text}
+use Rattle.byte_formats.specs.Types.{HashFunction, Text}
 use Rattle.disk_core.specs.declared.disk.Disk.{Ghosts as Disks}
 use Rattle.mtc_io.specs.declared.sink.Sink.{Ghosts as Sinks}
 use Rattle.mtc_room.specs.declared.room.Room.{Ghosts as Rooms}
@@ -22,9 +22,9 @@ use Rattle.policy_core.specs.declared.store.Store.{Store}
 use Rattle.node_history.specs.declared.start.NodeStart.TheVariants.{Cosigner}
 use Rattle.world_core.specs.Audit.{AuditCase, HasInterval, HasOwn, firsts_of, foreign_of, has_own}
 use Rattle.world_core.specs.Audit.{seconds_of}
-use Rattle.world_core.specs.Walk.{HasFront, held_by}
-use Rattle.mtc_answers.specs.Steps.{Files}
-use Rattle.mtc_answers.specs.Wanted.{IsPair}
+use Rattle.world_core.specs.Walk.{HasPrefix, held_by}
+use Rattle.mtc_command.specs.Steps.{Files}
+use Rattle.mtc_command.specs.Wanted.{IsPair}
 use Rattle.mtc_monitor.specs.AuditOutcome.{collision_text, accepted_in, stands_text}
 use Rattle.mtc_top.specs.Concluded.{Prints}
 use Rattle.mtc_top.specs.Courses.{Link, Turn, HasTurned, IsBegun, IsCourse, WasHeld}
@@ -79,10 +79,10 @@ module _ {R S D O E : Type 0} (h : HashFunction) (rooms : Rooms R S D) (disks : 
     pub old : R
     pub course : IsCourse h rooms disks outs errs name begins links old
     -- a record that a run of it found or added
-    pub front : List Text
+    pub prefix : List Text
     pub more : List Text
     pub body : Text
-    pub held : WasHeld h rooms disks outs errs name begins links (first ∷ (front ++ body ∷ more))
+    pub held : WasHeld h rooms disks outs errs name begins links (first ∷ (prefix ++ body ∷ more))
     pub index : ℕ
     pub proof : List Text
     pub signs : step_in body
@@ -93,7 +93,7 @@ module _ {R S D O E : Type 0} (h : HashFunction) (rooms : Rooms R S D) (disks : 
     pub spoken : command_of turn.words ≡ Ok (export name)
     pub done : turn.status ≡ 0
     pub before : Text
-    pub told : outs.taken turn.out ≡ Some before
+    pub contents : outs.taken turn.out ≡ Some before
     pub printed : outs.taken turn.out_after ≡ Some (before ++ kept_text)
     -- The cosigner is one of those that the store counted, and of its log.
     pub set : ℕ
@@ -114,13 +114,13 @@ module _ {R S D O E : Type 0} (h : HashFunction) (rooms : Rooms R S D) (disks : 
   -- signature does, and the list begins with the entries of the last checkpoint that was kept.
   abbrev pub AuditsSettle : Type 0
   AuditsSettle = (old : R) (turn : Turn R O E) (cert store : Text) (moment : ℕ)
-      (entries kept : Text) (x : AuditCase) → rooms.tells old
+      (entries kept : Text) (x : AuditCase) → rooms.is_modelled old
       → HasTurned h rooms disks outs errs old turn
       → command_of turn.words ≡ Ok (audit cert store moment entries kept)
       → (is : IsAuditOf h (rooms.file old) cert store moment entries kept x)
       → ((x.accepted.by ≡ Landmark) × HasInterval h x.items x.accepted)
       ⊎ (IsSignedInCourse x is.kept_text × ((export : Export)
-      × ((x.kept ≡ Some export) × HasFront h x.items.entries (held_by h export.steps))))
+      × ((x.kept ≡ Some export) × HasPrefix h x.items.entries (held_by h export.steps))))
       → turn.status ≢ 5 → turn.status ≢ 6 → turn.status ≢ 8 → StandsOrCollides x turn
 
   -- The same by the words of `audit`, and the first of the two strings is one of the list's, the
@@ -136,7 +136,7 @@ module _ {R S D O E : Type 0} (h : HashFunction) (rooms : Rooms R S D) (disks : 
   -- that is wanted.
   abbrev pub AuditsStand : Type 0
   AuditsStand = (old : R) (turn : Turn R O E) (cert store : Text) (moment : ℕ)
-      (entries kept : Text) (x : AuditCase) → rooms.tells old
+      (entries kept : Text) (x : AuditCase) → rooms.is_modelled old
       → HasTurned h rooms disks outs errs old turn
       → command_of turn.words ≡ Ok (audit cert store moment entries kept)
       → (is : IsAuditOf h (rooms.file old) cert store moment entries kept x)

@@ -1,22 +1,22 @@
 -- What goes out where a command ends, and its status.
 use Rattle.std.specs.Prelude.{◌≡◌, ◌⊎◌, ℕ, ◌<◌, [], length, Option, None, Some, codes}
 use Rattle.std.specs.Io.KnownBytes.{Appends}
-use Rattle.byte_forms.specs.Types.{Text}
+use Rattle.byte_formats.specs.Types.{Text}
 use Rattle.mtc_io.specs.Counts.{Rose}
 use Rattle.mtc_io.specs.Streams.{AppendsPrefix}
 use Rattle.mtc_io.specs.declared.sink.Sink.{Ghosts as Sinks}
 use Rattle.mtc_room.specs.declared.cause.Cause.{Cause}
 use Rattle.mtc_room.specs.declared.cause.Cause.TheVariants.{Locked, Failed}
-use Rattle.mtc_answers.specs.Answers.{Ending, Reply, replied, room_failed, no_memory, said, refused}
-use Rattle.mtc_answers.specs.Answers.{status_of, out_of, err_of}
-use Rattle.mtc_answers.specs.Lines.{line_of, WritesLine}
+use Rattle.mtc_command.specs.Answers.{Ending, Reply, replied, room_failed, no_memory, said, refused}
+use Rattle.mtc_command.specs.Answers.{status_of, out_of, err_of}
+use Rattle.mtc_command.specs.Lines.{line_of, WritesLine}
 
 -- This went to standard output; a front of it did.
 abbrev pub Prints : {O : Type 0} → Sinks O → O → O → Text → Type 0
 Prints outs out out' text = Appends (outs.taken out) (outs.taken out') text
 
-abbrev pub PrintsFront : {O : Type 0} → Sinks O → O → O → Text → Type 0
-PrintsFront outs out out' text = AppendsPrefix (outs.taken out) (outs.taken out') text
+abbrev pub PrintsPrefix : {O : Type 0} → Sinks O → O → O → Text → Type 0
+PrintsPrefix outs out out' text = AppendsPrefix (outs.taken out) (outs.taken out') text
 
 -- This line went to standard error, or a front of it where that failed.
 abbrev pub Reports : {E : Type 0} → Sinks E → E → E → Text → Type 0
@@ -41,11 +41,11 @@ module _ {O E : Type 0} (outs : Sinks O) (errs : Sinks E) (command : Text)
     pub code : status ≡ 6
     pub some : 0 < length text
     pub cause : Rose (outs.faults out) (outs.faults out')
-    pub front : PrintsFront outs out out' text
+    pub prefix : PrintsPrefix outs out out' text
     pub line : Reports errs err err' (line_of command None (codes "OutputFailed"))
 
   -- There is no reply.
-  pub record Told (code : ℕ) (file : Option Text) (reason : Text) (status : ℕ) : Type 0 where
+  pub record Reported (code : ℕ) (file : Option Text) (reason : Text) (status : ℕ) : Type 0 where
     pub is : status ≡ code
     pub nothing : Prints outs out out' []
     pub line : Reports errs err err' (line_of command file reason)
@@ -56,5 +56,5 @@ module _ {O E : Type 0} (outs : Sinks O) (errs : Sinks E) (command : Text)
       Wrote (said kind text) status ⊎ Lost text status
   Concludes (replied (refused why file reason)) cause status =
       Wrote (refused why file reason) status
-  Concludes (room_failed file) cause status = Told 5 (Some file) (word_of cause) status
-  Concludes no_memory cause status = Told 8 None (codes "Memory") status
+  Concludes (room_failed file) cause status = Reported 5 (Some file) (word_of cause) status
+  Concludes no_memory cause status = Reported 8 None (codes "Memory") status

@@ -1,8 +1,8 @@
 -- What holds of each course of a journal, from the run on that made or opened it.
 use Rattle.std.specs.Prelude.{◌≡◌, ◌⊎◌, ℕ, true, List, [], ◌∷◌, ◌++◌, length, Some, Ok}
-use Rattle.byte_forms.specs.Types.{HashFunction, Text}
+use Rattle.byte_formats.specs.Types.{HashFunction, Text}
 use Rattle.disk_core.specs.declared.disk.Disk.{Ghosts as Disks}
-use Rattle.journal_core.specs.Format.{StandsFor}
+use Rattle.journal_core.specs.Format.{Represents}
 use Rattle.mtc_io.specs.declared.sink.Sink.{Ghosts as Sinks}
 use Rattle.mtc_room.specs.declared.room.Room.{Ghosts as Rooms}
 use Rattle.cosigner_core.specs.Counts.{AreCounted, indices_of}
@@ -15,19 +15,19 @@ use Rattle.node_history.specs.Rules.{IsReadAs, StartsWith, may_follow}
 use Rattle.node_history.specs.declared.start.NodeStart.{NodeStart}
 use Rattle.node_history.specs.declared.start.NodeStart.TheVariants.{Log, Cosigner}
 use Rattle.mtc_top.specs.Courses.{Link, IsBegun, IsCourse, IsReached, IsRecovered, HasHeld, WasHeld}
-use Rattle.mtc_top.specs.Courses.{HasTurned, Turn, WasHandedOut, images_in}
+use Rattle.mtc_top.specs.Courses.{HasTurned, Turn, WasReleased, images_in}
 
 -- These records begin with the first one of the node's journal, and the others may stand behind it.
-pub record AreOfNode (h : HashFunction) (start : NodeStart) (first : Text)
+pub record AreOfParty (h : HashFunction) (start : NodeStart) (first : Text)
     (list : List Text) : Type 0 where
   pub others : List Text
   pub is : list ≡ first ∷ others
   pub valid : may_follow h start others ≡ true
 
 -- A file is read as the log or the cosigner that has these records, which are the node's.
-pub record IsReadAsNode (h : HashFunction) (start : NodeStart) (first c : Text) : Type 0 where
+pub record IsReadAsParty (h : HashFunction) (start : NodeStart) (first c : Text) : Type 0 where
   pub records : List Text
-  pub of_node : AreOfNode h start first records
+  pub of_party : AreOfParty h start first records
   pub read : IsReadAs h start c records
 
 -- The record adds this number to those of the one-time keys that these records have used.
@@ -53,7 +53,7 @@ module _ {R S D O E : Type 0} (h : HashFunction) (rooms : Rooms R S D) (disks : 
   abbrev pub JournalsAreRead : Type 0
   JournalsAreRead = OfCourses (λ name start first old links new.
       (c : Text) → images_in h rooms disks outs errs new name c ⊎ (rooms.file new name ≡ Some c)
-      → IsReadAsNode h start first c)
+      → IsReadAsParty h start first c)
 
   -- The i-th Sign record of a cosigner, counted from 0, has the number i, so no number stands
   -- twice.
@@ -78,21 +78,21 @@ module _ {R S D O E : Type 0} (h : HashFunction) (rooms : Rooms R S D) (disks : 
   RecoveredListsGrow = OfCourses (λ name start first old links new. (list : List Text) (c : Text)
       → WasHeld h rooms disks outs errs name old links list
       → images_in h rooms disks outs errs new name c
-      → (found : List Text) × (StandsFor c found × Begins list found))
+      → (found : List Text) × (Represents c found × Begins list found))
 
   -- A run that handed a record out held it, as the last one behind those that were there.
-  abbrev pub HandedOutWasHeld : Type 0
-  HandedOutWasHeld = OfCourses (λ name start first old links new. (list : List Text) (body : Text)
-      → WasHandedOut h rooms disks outs errs name old links list body
+  abbrev pub ReleasedWasHeld : Type 0
+  ReleasedWasHeld = OfCourses (λ name start first old links new. (list : List Text) (body : Text)
+      → WasReleased h rooms disks outs errs name old links list body
       → WasHeld h rooms disks outs errs name old links (list ++ body ∷ []))
 
   -- So where a record was handed out, each image stands for records that begin with those that were
   -- there and that one.
-  abbrev pub HandedOutStand : Type 0
-  HandedOutStand = OfCourses (λ name start first old links new. (list : List Text) (body c : Text)
-      → WasHandedOut h rooms disks outs errs name old links list body
+  abbrev pub ReleasedStand : Type 0
+  ReleasedStand = OfCourses (λ name start first old links new. (list : List Text) (body c : Text)
+      → WasReleased h rooms disks outs errs name old links list body
       → images_in h rooms disks outs errs new name c
-      → (found : List Text) × (StandsFor c found × Begins (list ++ body ∷ []) found))
+      → (found : List Text) × (Represents c found × Begins (list ++ body ∷ []) found))
 
   -- Each entry that a log had where a run found or made its records has its index in each log that
   -- may be recovered behind it, and so has its key.
@@ -116,9 +116,9 @@ module _ {R S D O E : Type 0} (h : HashFunction) (rooms : Rooms R S D) (disks : 
       × HasItemAt (length s.entries) entry key log))
 
   -- Each journal that a run made or opened is that of a node, as the laws of courses suppose.
-  abbrev pub JournalsAreOfNodes : Type 0
-  JournalsAreOfNodes = (name : Text) (old : R) (turn : Turn R O E) (list : List Text)
-      → rooms.tells old → HasTurned h rooms disks outs errs old turn
+  abbrev pub JournalsAreOfParties : Type 0
+  JournalsAreOfParties = (name : Text) (old : R) (turn : Turn R O E) (list : List Text)
+      → rooms.is_modelled old → HasTurned h rooms disks outs errs old turn
       → HasHeld h rooms disks outs errs name old turn list
       → (start : NodeStart) × ((first : Text)
-      × (StartsWith start first × AreOfNode h start first list))
+      × (StartsWith start first × AreOfParty h start first list))

@@ -2,24 +2,24 @@
 -- runs and in the middle of one, with programs that are killed, and with other files that change
 -- between runs.
 use Rattle.std.specs.Prelude.{◌≡◌, ◌≢◌, ◌⊎◌, ℕ, List, [], ◌∷◌, ◌++◌, None, Some}
-use Rattle.byte_forms.specs.Types.{HashFunction, Text}
+use Rattle.byte_formats.specs.Types.{HashFunction, Text}
 use Rattle.disk_core.specs.declared.disk.Disk.{Ghosts as Disks}
-use Rattle.journal_core.specs.Format.{StandsFor}
+use Rattle.journal_core.specs.Format.{Represents}
 use Rattle.mtc_io.specs.declared.sink.Sink.{Ghosts as Sinks}
 use Rattle.mtc_room.specs.Room.{Stays}
 use Rattle.mtc_room.specs.declared.room.Room.{Ghosts as Rooms}
 use Rattle.mtc_words.specs.Words.{command_of}
-use Rattle.mtc_answers.specs.Made.{Journaled, Leaves, MayHaveMade, appended, images_at}
-use Rattle.mtc_answers.specs.Made.{images_since, moment_at}
-use Rattle.mtc_answers.specs.Served.{IsOther, Journals}
-use Rattle.mtc_answers.specs.Valid.{LeavesValid}
-use Rattle.node_history.specs.Laws.{LeadsTo, handed_bodies}
+use Rattle.mtc_command.specs.Made.{Journaled, Leaves, MayHaveMade, appended, images_at}
+use Rattle.mtc_command.specs.Made.{images_since, moment_at}
+use Rattle.mtc_command.specs.Served.{IsOther, Journals}
+use Rattle.mtc_command.specs.Valid.{LeavesValid}
+use Rattle.node_history.specs.Laws.{LeadsTo, released_bodies}
 use Rattle.node_history.specs.Nodes.{HistoryState}
 use Rattle.node_history.specs.Rules.{StartsWith, may_follow}
 use Rattle.node_history.specs.declared.start.NodeStart.{NodeStart}
 use Rattle.node_history.specs.declared.step.NodeStep.{NodeStep}
-use Rattle.mtc_top.specs.Concluded.{Prints, PrintsFront}
-use Rattle.mtc_top.specs.Nodes.{AllStandForNode, TookSome, records_left}
+use Rattle.mtc_top.specs.Concluded.{Prints, PrintsPrefix}
+use Rattle.mtc_top.specs.Nodes.{AllRepresentParty, TookSome, records_left}
 use Rattle.mtc_top.specs.Facts.{facts}
 use Rattle.mtc_top.specs.Run.{HasRun, journals}
 
@@ -67,7 +67,7 @@ module _ {R O E : Type 0} (outs : Sinks O) (turn : Turn R O E) where
   -- output failed.
   pub record HasPrinted (text : Text) : Type 0 where
     pub ends : (turn.status ≡ 0) ⊎ (turn.status ≡ 6)
-    pub front : PrintsFront outs turn.out turn.out_after text
+    pub prefix : PrintsPrefix outs turn.out turn.out_after text
     pub whole : turn.status ≡ 0 → Prints outs turn.out turn.out_after text
 
 module _ {R S D O E : Type 0} (h : HashFunction) (rooms : Rooms R S D) (disks : Disks D)
@@ -93,7 +93,7 @@ module _ {R S D O E : Type 0} (h : HashFunction) (rooms : Rooms R S D) (disks : 
 
   -- A stop leaves of each file one of those that it may leave, and no other from then on.
   pub record HasStopped (May : Text → Text → Type 0) (old new : R) : Type 0 where
-    pub tells : rooms.tells old → rooms.tells new
+    pub is_modelled : rooms.is_modelled old → rooms.is_modelled new
     pub image : Text → Text
     pub may : (name : Text) → May name (image name)
     pub only : (name c : Text) → images_in new name c → c ≡ image name
@@ -101,7 +101,7 @@ module _ {R S D O E : Type 0} (h : HashFunction) (rooms : Rooms R S D) (disks : 
   -- The program died in the middle of the run. Of the journal it has left what a run leaves of
   -- which the room failed; or the run doesn't work on it, nor beside another one, and it stays.
   pub record HasDied (name : Text) (old : R) (turn : Turn R O E) (new : R) : Type 0 where
-    pub tells : rooms.tells old → rooms.tells new
+    pub is_modelled : rooms.is_modelled old → rooms.is_modelled new
     pub left : (did : Journaled) → DidWith old turn name did
         → Leaves disks (MayHaveMade did) (rooms.device old name) (rooms.device new name)
         × LeavesValid rooms disks (facts h (command_of turn.words)).Valid old new name did
@@ -111,7 +111,7 @@ module _ {R S D O E : Type 0} (h : HashFunction) (rooms : Rooms R S D) (disks : 
 
   -- Files were written, but not that of this name.
   pub record HasWritten (name : Text) (old new : R) : Type 0 where
-    pub tells : rooms.tells old → rooms.tells new
+    pub is_modelled : rooms.is_modelled old → rooms.is_modelled new
     pub stays : Stays (rooms.file old) (rooms.file new) (rooms.device old) (rooms.device new) name
 
   -- The links lead from one room to the other: a course of the journal of this name.
@@ -143,7 +143,7 @@ module _ {R S D O E : Type 0} (h : HashFunction) (rooms : Rooms R S D) (disks : 
   -- begins.
   pub record IsBegun (name : Text) (start : NodeStart) (first : Text) (old : R)
       (links : List (Link R O E)) : Type 0 where
-    pub tells : rooms.tells old
+    pub is_modelled : rooms.is_modelled old
     pub turn : Turn R O E
     pub later : List (Link R O E)
     pub are : links ≡ ran turn ∷ later
@@ -162,7 +162,7 @@ module _ {R S D O E : Type 0} (h : HashFunction) (rooms : Rooms R S D) (disks : 
 
   -- With these records the journal may be recovered: a crash may leave a file that stands for them.
   abbrev pub IsRecovered : Text → R → List Text → Type 0
-  IsRecovered name room list = (c : Text) × (images_in room name c × StandsFor c list)
+  IsRecovered name room list = (c : Text) × (images_in room name c × Represents c list)
 
   -- A run of the course opened or made the journal so.
   abbrev pub WasHeld : Text → R → List (Link R O E) → List Text → Type 0
@@ -176,15 +176,15 @@ module _ {R S D O E : Type 0} (h : HashFunction) (rooms : Rooms R S D) (disks : 
 
   -- The run added this record behind those, and it did its work or a byte may have gone out: the
   -- record is handed out.
-  abbrev pub HandsOut : Text → R → Turn R O E → List Text → Text → Type 0
-  HandsOut name old turn list body = DidWith old turn name (appended list body) × IsHeard outs turn
+  abbrev pub Releases : Text → R → Turn R O E → List Text → Text → Type 0
+  Releases name old turn list body = DidWith old turn name (appended list body) × IsHeard outs turn
 
   -- These records are handed out in a run: one that it added, or none.
   abbrev pub WentOutBy : Text → R → Turn R O E → List Text → Type 0
   WentOutBy name old turn bodies = ((list : List Text) × ((body : Text)
-      × ((bodies ≡ body ∷ []) × HandsOut name old turn list body)))
+      × ((bodies ≡ body ∷ []) × Releases name old turn list body)))
       ⊎ ((bodies ≡ [])
-      × ((list : List Text) (body : Text) → HandsOut name old turn list body → ⊥))
+      × ((list : List Text) (body : Text) → Releases name old turn list body → ⊥))
 
   -- So they did in the runs of a course, in this order.
   abbrev pub WentOut : Text → R → List (Link R O E) → List Text → Type 0
@@ -204,15 +204,15 @@ module _ {R S D O E : Type 0} (h : HashFunction) (rooms : Rooms R S D) (disks : 
     pub steps : List NodeStep
     pub state : HistoryState
     pub leads : LeadsTo (may_follow h) (start ∷ []) steps 0 state
-    pub stands : AllStandForNode state first (images_in room name)
-    pub handed : WentOut name old links (handed_bodies state)
+    pub stands : AllRepresentParty state first (images_in room name)
+    pub handed : WentOut name old links (released_bodies state)
 
   -- A run of the course handed the record out.
-  abbrev pub WasHandedOut : Text → R → List (Link R O E) → List Text → Text → Type 0
-  WasHandedOut name old [] list body = ⊥
-  WasHandedOut name old (ran turn ∷ links) list body =
-      HandsOut name old turn list body ⊎ WasHandedOut name turn.room links list body
-  WasHandedOut name old (stops new ∷ links) list body = WasHandedOut name new links list body
-  WasHandedOut name old (cut turn new ∷ links) list body = WasHandedOut name new links list body
-  WasHandedOut name old (died turn new ∷ links) list body = WasHandedOut name new links list body
-  WasHandedOut name old (writes new ∷ links) list body = WasHandedOut name new links list body
+  abbrev pub WasReleased : Text → R → List (Link R O E) → List Text → Text → Type 0
+  WasReleased name old [] list body = ⊥
+  WasReleased name old (ran turn ∷ links) list body =
+      Releases name old turn list body ⊎ WasReleased name turn.room links list body
+  WasReleased name old (stops new ∷ links) list body = WasReleased name new links list body
+  WasReleased name old (cut turn new ∷ links) list body = WasReleased name new links list body
+  WasReleased name old (died turn new ∷ links) list body = WasReleased name new links list body
+  WasReleased name old (writes new ∷ links) list body = WasReleased name new links list body

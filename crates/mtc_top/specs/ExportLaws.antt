@@ -1,6 +1,6 @@
 -- What a run of `export` prints behind a course.
 use Rattle.std.specs.Prelude.{◌≡◌, List, ◌∷◌, ◌++◌, drop, Some, Ok, Contains}
-use Rattle.byte_forms.specs.Types.{HashFunction, Text}
+use Rattle.byte_formats.specs.Types.{HashFunction, Text}
 use Rattle.disk_core.specs.declared.disk.Disk.{Ghosts as Disks}
 use Rattle.mtc_io.specs.declared.sink.Sink.{Ghosts as Sinks}
 use Rattle.mtc_room.specs.declared.room.Room.{Ghosts as Rooms}
@@ -15,7 +15,7 @@ use Rattle.cosigner_core.specs.declared.lists.Export.{Export}
 use Rattle.cosigner_core.specs.declared.progress.Progress.{Progress}
 use Rattle.cosigner_core.specs.declared.settings.CosignerSettings.{CosignerSettings}
 use Rattle.cosigner_core.specs.declared.step.Step.{Step}
-use Rattle.mtc_answers.specs.Made.{reads}
+use Rattle.mtc_command.specs.Made.{reads}
 use Rattle.node_history.specs.declared.start.NodeStart.TheVariants.{Cosigner}
 use Rattle.mtc_top.specs.CourseLaws.{OfCourses}
 use Rattle.mtc_top.specs.Courses.{DidWith, Link, Turn, HasPrinted, HasTurned, IsHeard, IsRecovered}
@@ -44,8 +44,8 @@ module _ {R S D O E : Type 0} (h : HashFunction) (rooms : Rooms R S D) (disks : 
     pub progress : Progress
     pub allowed : export_progress h export ≡ Some progress
     pub steps : steps_in (drop 1 list) ≡ Some export.steps
-    pub signed : (first : Text) (front more : List Text) (body : Text) (step : Step)
-        → WasHeld h rooms disks outs errs name begun links (first ∷ (front ++ body ∷ more))
+    pub signed : (first : Text) (prefix more : List Text) (body : Text) (step : Step)
+        → WasHeld h rooms disks outs errs name begun links (first ∷ (prefix ++ body ∷ more))
         → step_in body ≡ Some step → Contains export.steps step
 
   -- So it is of each run of `export` behind a course of a cosigner's journal that did its work, or

@@ -1,25 +1,26 @@
 -- What is to be known of each command: one line for each. Each command's own outcome stands in a
--- file of its own, in mtc_reads, mtc_logs, mtc_cosigner, mtc_monitor or mtc_drill.
+-- file of its own, in mtc_reads, mtc_authority, mtc_cosigner, mtc_monitor or mtc_drill.
 use Rattle.std.specs.Prelude.{List, [], ◌∷◌, Option, None, Some, Result, Ok, Err}
-use Rattle.byte_forms.specs.Types.{HashFunction, Text}
+use Rattle.byte_formats.specs.Types.{HashFunction, Text}
 use Rattle.mtc_words.specs.declared.error.WordError.{WordError}
 use Rattle.mtc_words.specs.Commands.{CommandValue, member, show, verify, init_log, issue}
 use Rattle.mtc_words.specs.Commands.{checkpoint, entries, consist, subtree, keygen}
 use Rattle.mtc_words.specs.Commands.{init_cosigner, advance, cosign, export, landmark, landmarks}
 use Rattle.mtc_words.specs.Commands.{light_cert, trust_landmarks, cert, audit, drill, tile}
-use Rattle.mtc_answers.specs.Answers.{tiles_name}
-use Rattle.mtc_answers.specs.Steps.{Files, Outcome, stops}
-use Rattle.mtc_answers.specs.declared.answer.Stopped.TheVariants.{BadWords}
+use Rattle.mtc_command.specs.Answers.{tiles_name}
+use Rattle.mtc_command.specs.Steps.{Files, Outcome, stops}
+use Rattle.mtc_command.specs.declared.answer.Stopped.TheVariants.{BadWords}
 use Rattle.mtc_cosigner.specs.InitOutcome.{init_cosigner_outcome}
 use Rattle.mtc_cosigner.specs.KeygenOutcome.{keygen_outcome}
 use Rattle.mtc_cosigner.specs.Works.{IsCosigner, advance_outcome, cosign_outcome, export_outcome}
 use Rattle.mtc_drill.specs.Summary.{drill_outcome}
-use Rattle.mtc_logs.specs.CertCommand.{cert_outcome}
-use Rattle.mtc_logs.specs.IssueCommand.{issue_outcome}
-use Rattle.mtc_logs.specs.LogOutcomes.{init_log_outcome}
-use Rattle.mtc_logs.specs.Works.{IsLog, log_outcome}
-use Rattle.mtc_logs.specs.declared.work.Work.TheVariants.{Checkpoint, Entries, Consist, Subtree}
-use Rattle.mtc_logs.specs.declared.work.Work.TheVariants.{Landmark, Landmarks, LightCert, Tile}
+use Rattle.mtc_authority.specs.CertCommand.{cert_outcome}
+use Rattle.mtc_authority.specs.IssueCommand.{issue_outcome}
+use Rattle.mtc_authority.specs.LogOutcomes.{init_log_outcome}
+use Rattle.mtc_authority.specs.Works.{IsLog, log_outcome}
+use Rattle.mtc_authority.specs.declared.work.Work.TheVariants.{Checkpoint, Entries, Consist}
+use Rattle.mtc_authority.specs.declared.work.Work.TheVariants.{Subtree}
+use Rattle.mtc_authority.specs.declared.work.Work.TheVariants.{Landmark, Landmarks, LightCert, Tile}
 use Rattle.mtc_monitor.specs.AuditOutcome.{audit_outcome}
 use Rattle.mtc_monitor.specs.TrustOutcome.{trust_outcome}
 use Rattle.mtc_reads.specs.MemberOutcome.{member_outcome}
@@ -35,7 +36,7 @@ use Rattle.mtc_top.specs.WordsOutcome.{word_fault_text}
 pub record Facts : Type 1 where
   pub journals : List Text
   pub besides : List Text
-  pub looks : List Text
+  pub only_reads : List Text
   pub makes : Option Text
   pub inputs : List Text
   pub Valid : List Text → Type 0
@@ -46,7 +47,7 @@ abbrev pub reads_files : List Text → (Files → Outcome) → Facts
 reads_files inputs outcome = record {
   journals = [];
   besides = [];
-  looks = [];
+  only_reads = [];
   makes = None;
   inputs = inputs;
   Valid = λ list. ⊥;
@@ -59,7 +60,7 @@ abbrev pub on_journal : (List Text → Type 0) → Text → Option Text → List
 on_journal Valid journal makes inputs outcome = record {
   journals = journal ∷ [];
   besides = [];
-  looks = [];
+  only_reads = [];
   makes = makes;
   inputs = inputs;
   Valid = Valid;
@@ -68,10 +69,10 @@ on_journal Valid journal makes inputs outcome = record {
 
 -- A command on the log of a journal that is there, with the file of its tiles.
 abbrev pub on_log : HashFunction → Text → List Text → List Text → (Files → Outcome) → Facts
-on_log h journal looks inputs outcome = record {
+on_log h journal only_reads inputs outcome = record {
   journals = journal ∷ [];
   besides = tiles_name journal ∷ [];
-  looks = looks;
+  only_reads = only_reads;
   makes = None;
   inputs = inputs;
   Valid = IsLog h;

@@ -2,10 +2,10 @@
 -- it was.
 use Rattle.std.specs.Prelude.{◌≡◌, ◌≢◌, ◌⊎◌, ℕ, ◌<◌, Bool, List, [], ◌∷◌, ◌++◌, length, Option}
 use Rattle.std.specs.Prelude.{None, Some, IfSome}
-use Rattle.byte_forms.specs.Types.{HashFunction, Text}
-use Rattle.journal_core.specs.Format.{StandsFor}
-use Rattle.mtc_answers.specs.Answers.{IsEarly}
-use Rattle.mtc_answers.specs.Made.{Images, Journaled, untouched, reads, appended, started}
+use Rattle.byte_formats.specs.Types.{HashFunction, Text}
+use Rattle.journal_core.specs.Format.{Represents}
+use Rattle.mtc_command.specs.Answers.{IsEarly}
+use Rattle.mtc_command.specs.Made.{Images, Journaled, untouched, reads, appended, started}
 use Rattle.node_history.specs.Laws.{LeadsTo}
 use Rattle.node_history.specs.Nodes.{HistoryState, begin, hand, settle, stop, with_pending}
 use Rattle.node_history.specs.Rules.{StartsWith, may_follow}
@@ -14,12 +14,12 @@ use Rattle.node_history.specs.declared.step.NodeStep.{NodeStep}
 use Rattle.node_history.specs.declared.step.NodeStep.TheVariants.{Begin, Settle, Hand, Stop}
 
 -- The bytes stand for this first record and the settled ones, or for these and the pending one.
-abbrev pub StandsForNode : HistoryState → Text → Text → Type 0
-StandsForNode n first c = StandsFor c (first ∷ n.settled)
-    ⊎ StandsFor c (first ∷ with_pending n.settled n.pending)
+abbrev pub RepresentsParty : HistoryState → Text → Text → Type 0
+RepresentsParty n first c = Represents c (first ∷ n.settled)
+    ⊎ Represents c (first ∷ with_pending n.settled n.pending)
 
-abbrev pub AllStandForNode : HistoryState → Text → Images → Type 0
-AllStandForNode n first images = (c : Text) → images c → StandsForNode n first c
+abbrev pub AllRepresentParty : HistoryState → Text → Images → Type 0
+AllRepresentParty n first images = (c : Text) → images c → RepresentsParty n first c
 
 -- How a command may end: without a step, with a stop, and then with a record begun, settled and
 -- handed out.
@@ -60,14 +60,14 @@ abbrev pub IsRecord : Journaled → Text → Type 0
 IsRecord did body = (list : List Text) × (did ≡ appended list body)
 
 -- No record was added, or the command wasn't heard.
-abbrev pub NotHanded : Journaled → Type 0 → Type 0
-NotHanded did heard = (body : Text) → IsRecord did body → heard → ⊥
+abbrev pub NotReleased : Journaled → Type 0 → Type 0
+NotReleased did heard = (body : Text) → IsRecord did body → heard → ⊥
 
 -- The ends that a status allows. A record is handed out exactly where the command was heard: it did
 -- its work, or a byte of it may have gone out.
 abbrev pub MayEnd : Journaled → ℕ → Type 0 → End → Type 0
-MayEnd did status heard same = IsEarly status × NotHanded did heard
-MayEnd did status heard (stopped kept) = NotHanded did heard
+MayEnd did status heard same = IsEarly status × NotReleased did heard
+MayEnd did status heard (stopped kept) = NotReleased did heard
 MayEnd did status heard (begun kept body) = IsRecord did body × (status ≡ 5) × (heard → ⊥)
 MayEnd did status heard (has_settled kept body) = IsRecord did body × (heard → ⊥)
 MayEnd did status heard (has_handed kept body) = IsRecord did body × heard
@@ -80,21 +80,21 @@ records_left (appended list body) = Some (list ++ body ∷ [])
 records_left (started body) = Some (body ∷ [])
 
 -- The end in the middle of a command: its record isn't settled yet.
-abbrev pub IsUnsettled : Journaled → End → Type 0
-IsUnsettled did same = Unit {0}
-IsUnsettled did (stopped kept) = ⊥
-IsUnsettled did (begun kept body) = IsRecord did body
-IsUnsettled did (has_settled kept body) = ⊥
-IsUnsettled did (has_handed kept body) = ⊥
+abbrev pub IsNotDurable : Journaled → End → Type 0
+IsNotDurable did same = Unit {0}
+IsNotDurable did (stopped kept) = ⊥
+IsNotDurable did (begun kept body) = IsRecord did body
+IsNotDurable did (has_settled kept body) = ⊥
+IsNotDurable did (has_handed kept body) = ⊥
 
 -- What a crash may leave at a moment of the command stands for the state before, or for one with
 -- the command's record begun behind a stop.
-pub record IsNodeMoment (h : HashFunction) (did : Journaled) (n : HistoryState)
+pub record IsPartyMoment (h : HashFunction) (did : Journaled) (n : HistoryState)
     (first c : Text) : Type 0 where
   pub end : End
-  pub may : IsUnsettled did end
+  pub may : IsNotDurable did end
   pub goes_on : GoesOn h n first end
-  pub stands : StandsForNode (end_state end n) first c
+  pub stands : RepresentsParty (end_state end n) first c
 
 -- A byte went out, where the sink tells.
 abbrev pub TookSome : Option Text → Option Text → Type 0
@@ -109,8 +109,8 @@ pub record EndsWell (h : HashFunction) (did : Journaled) (status : ℕ) (heard :
   pub end : End
   pub may : MayEnd did status heard end
   pub goes_on : GoesOn h n first end
-  pub stands : AllStandForNode (end_state end n) first now
-  pub each : (c : Text) → since c → IsNodeMoment h did n first c
+  pub stands : AllRepresentParty (end_state end n) first now
+  pub each : (c : Text) → since c → IsPartyMoment h did n first c
   -- Where it answered, what it opened has the node's records.
   pub holds : status ≢ 5 → status ≢ 8
       → IfSome (records_left did) (λ list. list ≡ first ∷ (end_state end n).settled)

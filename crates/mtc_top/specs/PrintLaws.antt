@@ -1,9 +1,9 @@
 -- What goes out of `issue` and `cosign`, beside the request that they read and the record that they
 -- add, and what becomes of that record.
 use Rattle.std.specs.Prelude.{◌≡◌, List, [], ◌∷◌, ◌++◌, length, Some, Ok}
-use Rattle.byte_forms.specs.Types.{HashFunction, Text}
+use Rattle.byte_formats.specs.Types.{HashFunction, Text}
 use Rattle.disk_core.specs.declared.disk.Disk.{Ghosts as Disks}
-use Rattle.journal_core.specs.Format.{StandsFor}
+use Rattle.journal_core.specs.Format.{Represents}
 use Rattle.mtc_io.specs.declared.sink.Sink.{Ghosts as Sinks}
 use Rattle.mtc_room.specs.declared.room.Room.{Ghosts as Rooms}
 use Rattle.mtc_words.specs.Commands.{CommandValue, advance, cosign, export, init_cosigner, issue}
@@ -21,11 +21,11 @@ use Rattle.cosigner_core.specs.declared.step.Step.TheVariants.{Sign}
 use Rattle.issuance_log.specs.Folds.{LogState, log_of}
 use Rattle.issuance_log.specs.Records.{item_in}
 use Rattle.issuance_log.specs.Settings.{Settings}
-use Rattle.mtc_answers.specs.Made.{appended, reads}
+use Rattle.mtc_command.specs.Made.{appended, reads}
 use Rattle.mtc_cosigner.specs.CosignerOutcomes.{advanced_text, cosigned_text}
 use Rattle.mtc_cosigner.specs.KeygenOutcome.{lms_type, ots_type, public_line}
-use Rattle.mtc_logs.specs.IssueOutcome.{issued_text}
-use Rattle.mtc_logs.specs.Works.{IsLog}
+use Rattle.mtc_authority.specs.IssueOutcome.{issued_text}
+use Rattle.mtc_authority.specs.Works.{IsLog}
 use Rattle.node_history.specs.Laws.{Begins, HasItemAt}
 use Rattle.node_history.specs.declared.start.NodeStart.TheVariants.{Log}
 use Rattle.mtc_top.specs.AuditLaws.{HoldsText}
@@ -97,7 +97,7 @@ module _ {R S D O E : Type 0} (h : HashFunction) (rooms : Rooms R S D) (disks : 
   OfHeard command P old turn = command_of turn.words ≡ Ok command → IsHeard outs turn → P old turn
 
   abbrev pub OfEachRun : (R → Turn R O E → Type 0) → Type 0
-  OfEachRun P = (old : R) (turn : Turn R O E) → rooms.tells old
+  OfEachRun P = (old : R) (turn : Turn R O E) → rooms.is_modelled old
       → HasTurned h rooms disks outs errs old turn → P old turn
 
   abbrev pub IndicesArePrinted : Type 0
@@ -112,7 +112,7 @@ module _ {R S D O E : Type 0} (h : HashFunction) (rooms : Rooms R S D) (disks : 
   -- of it. Of the commands that open a cosigner's journal, or are given a secret file as such, only
   -- `cosign` says a signature by it.
   abbrev pub OnlyCosignSigns : Type 0
-  OnlyCosignSigns = (old : R) (turn : Turn R O E) → rooms.tells old
+  OnlyCosignSigns = (old : R) (turn : Turn R O E) → rooms.is_modelled old
       → HasTurned h rooms disks outs errs old turn → IsHeard outs turn
       → (command : CommandValue) × ((command_of turn.words ≡ Ok command) × Says command old turn)
 
@@ -138,7 +138,7 @@ module _ {R S D O E : Type 0} (h : HashFunction) (rooms : Rooms R S D) (disks : 
   abbrev pub SignaturesStand : Type 0
   SignaturesStand = OfCourses h rooms disks outs errs (λ name start first old links new.
       (file c : Text) → images_in h rooms disks outs errs new name c
-      → (found : List Text) × (StandsFor c found
+      → (found : List Text) × (Represents c found
       × OfEachTurn h rooms disks outs errs (OfHeard (cosign name file) (λ old turn.
       (signed : HasCosigned name file old turn)
       × Begins (signed.list ++ signed.body ∷ []) found)) old links))

@@ -1,17 +1,17 @@
 -- All journals of a room at once: what became of them is one history.
 use Rattle.std.specs.Prelude.{◌≡◌, List, [], ◌∷◌, map, Ok}
-use Rattle.byte_forms.specs.Types.{HashFunction, Text}
+use Rattle.byte_formats.specs.Types.{HashFunction, Text}
 use Rattle.disk_core.specs.declared.disk.Disk.{Ghosts as Disks}
 use Rattle.mtc_io.specs.declared.sink.Sink.{Ghosts as Sinks}
 use Rattle.mtc_room.specs.declared.room.Room.{Ghosts as Rooms}
 use Rattle.node_history.specs.Histories.{history_of}
-use Rattle.node_history.specs.Laws.{handed_bodies}
+use Rattle.node_history.specs.Laws.{released_bodies}
 use Rattle.node_history.specs.Nodes.{HistoryState}
 use Rattle.node_history.specs.Rules.{may_follow}
 use Rattle.node_history.specs.declared.start.NodeStart.{NodeStart}
 use Rattle.node_history.specs.declared.step.NodeStep.{NodeStep}
 use Rattle.mtc_top.specs.Courses.{Link, IsBegun, IsCourse, WentOut, images_in}
-use Rattle.mtc_top.specs.Nodes.{AllStandForNode}
+use Rattle.mtc_top.specs.Nodes.{AllRepresentParty}
 
 module _ {R S D O E : Type 0} (h : HashFunction) (rooms : Rooms R S D) (disks : Disks D)
     (outs : Sinks O) (errs : Sinks E) (room : R) where
@@ -27,10 +27,10 @@ module _ {R S D O E : Type 0} (h : HashFunction) (rooms : Rooms R S D) (disks : 
 
   -- Each image of the journal stands for the state, which handed out what went out.
   pub record StandsSo (journal : IsJournalOf) (state : HistoryState) : Type 0 where
-    pub stands : AllStandForNode state journal.first
+    pub stands : AllRepresentParty state journal.first
         (images_in h rooms disks outs errs room journal.name)
     pub handed : WentOut h rooms disks outs errs journal.name journal.old journal.links
-        (handed_bodies state)
+        (released_bodies state)
 
   -- So it is of each journal and its state.
   abbrev pub EachStandsSo : List IsJournalOf → List HistoryState → Type 0

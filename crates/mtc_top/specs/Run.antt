@@ -1,23 +1,23 @@
 -- What a run of the program did, by these words, over a room and two sinks, each before and after.
 use Rattle.std.specs.Prelude.{◌≡◌, ◌≢◌, ◌⊎◌, ℕ, ◌<◌, List, [], ◌++◌, length, None, Some, codes}
 use Rattle.std.specs.Prelude.{IfSome, IsErr}
-use Rattle.byte_forms.specs.Types.{HashFunction, Text}
+use Rattle.byte_formats.specs.Types.{HashFunction, Text}
 use Rattle.disk_core.specs.declared.disk.Disk.{Ghosts as Disks}
 use Rattle.mtc_io.specs.Counts.{Rose}
 use Rattle.mtc_io.specs.declared.sink.Sink.{Ghosts as Sinks}
 use Rattle.mtc_room.specs.declared.room.Room.{Ghosts as Rooms}
 use Rattle.mtc_words.specs.Words.{command_of, known_word}
-use Rattle.mtc_answers.specs.Answers.{Ending, Reply, replied, room_failed, no_memory}
-use Rattle.mtc_answers.specs.Answers.{status_of, out_of, err_of, IsEarly}
-use Rattle.mtc_answers.specs.Endings.{IsNamed}
-use Rattle.mtc_answers.specs.Lines.{line_of}
-use Rattle.mtc_answers.specs.Made.{Journaled, Leaving, untouched, IsOnOld, HasKept, HasMade}
-use Rattle.mtc_answers.specs.Made.{MayHaveMade}
-use Rattle.mtc_answers.specs.Served.{Journals, OfEach, LeavesEach, done_with, GivesBack, IsUnmade}
-use Rattle.mtc_answers.specs.Valid.{KeepsValid}
-use Rattle.mtc_answers.specs.Wanted.{Meets}
-use Rattle.mtc_answers.specs.Works.{TellsNew}
-use Rattle.mtc_top.specs.Concluded.{Prints, PrintsFront, Reports, word_of}
+use Rattle.mtc_command.specs.Answers.{Ending, Reply, replied, room_failed, no_memory}
+use Rattle.mtc_command.specs.Answers.{status_of, out_of, err_of, IsEarly}
+use Rattle.mtc_command.specs.Endings.{IsNamed}
+use Rattle.mtc_command.specs.Lines.{line_of}
+use Rattle.mtc_command.specs.Made.{Journaled, Leaving, untouched, IsOnOld, HasKept, HasMade}
+use Rattle.mtc_command.specs.Made.{MayHaveMade}
+use Rattle.mtc_command.specs.Served.{Journals, OfEach, LeavesEach, done_with, ClosesAll, IsUnmade}
+use Rattle.mtc_command.specs.Valid.{KeepsValid}
+use Rattle.mtc_command.specs.Wanted.{Meets}
+use Rattle.mtc_command.specs.Works.{ModelsNew}
+use Rattle.mtc_top.specs.Concluded.{Prints, PrintsPrefix, Reports, word_of}
 use Rattle.mtc_top.specs.Facts.{Facts, facts}
 
 module _ {R S D O E : Type 0} (h : HashFunction) (rooms : Rooms R S D) (disks : Disks D)
@@ -32,16 +32,16 @@ module _ {R S D O E : Type 0} (h : HashFunction) (rooms : Rooms R S D) (disks : 
 
   -- The reply is asked for, where the room tells its files or where the words are no command.
   abbrev pub IsAsked : Reply → Type 0
-  IsAsked reply = rooms.tells old ⊎ IsErr (command_of words)
+  IsAsked reply = rooms.is_modelled old ⊎ IsErr (command_of words)
       → Meets (asked.outcome (rooms.file old)).answer reply
 
   -- Each of its journals has left this.
   abbrev pub Left : (Journaled → Leaving) → Type 0
-  Left How = rooms.tells old → LeavesEach rooms disks old new journals How
+  Left How = rooms.is_modelled old → LeavesEach rooms disks old new journals How
 
   -- Of a command that makes a journal, over any room: how it ended is what came of that.
   abbrev pub Began : Ending → Type 0
-  Began ending = IfSome asked.makes (λ name. TellsNew rooms disks name old new ending)
+  Began ending = IfSome asked.makes (λ name. ModelsNew rooms disks name old new ending)
 
   -- It answered: there is one reply, the one asked for, and it did with its journals what was
   -- asked. The status, the text and the line are the reply's; or standard output failed at a text
@@ -51,7 +51,7 @@ module _ {R S D O E : Type 0} (h : HashFunction) (rooms : Rooms R S D) (disks : 
     pub is : IsAsked reply
     pub made : Left HasMade
     pub began : Began (replied reply)
-    pub front : PrintsFront outs out out' (out_of reply)
+    pub prefix : PrintsPrefix outs out out' (out_of reply)
     pub code : status ≢ 6 → status ≡ status_of reply
     pub text : status ≢ 6 → Prints outs out out' (out_of reply)
     pub line : status ≢ 6 → Reports errs err err' (err_of (known_word words) reply)
@@ -79,7 +79,7 @@ module _ {R S D O E : Type 0} (h : HashFunction) (rooms : Rooms R S D) (disks : 
     pub line : Reports errs err err' (line_of (known_word words) None (codes "Memory"))
     pub made : Left HasKept
     pub began : Began no_memory
-    pub unmade : rooms.tells old → OfEach (λ name did. IsUnmade rooms old new name) journals
+    pub unmade : rooms.is_modelled old → OfEach (λ name did. IsUnmade rooms old new name) journals
 
   -- A run with this status.
   pub record HasRun (status : ℕ) : Type 0 where
@@ -90,15 +90,16 @@ module _ {R S D O E : Type 0} (h : HashFunction) (rooms : Rooms R S D) (disks : 
     pub only : status ≡ 1 → IsErr (command_of words)
     pub first : IsErr (command_of words) → status ≢ 8 → status ≡ 1
     -- What was lent is given back, and no file changes but the journals and those beside them.
-    pub back : GivesBack rooms old new (asked.besides ++ asked.journals)
+    pub back : ClosesAll rooms old new (asked.besides ++ asked.journals)
     -- Nothing new is left of a file that is only looked at.
-    pub looked : rooms.tells old
-        → LeavesEach rooms disks old new (done_with asked.looks []) HasKept
+    pub only_read : rooms.is_modelled old
+        → LeavesEach rooms disks old new (done_with asked.only_reads []) HasKept
     -- No journal is made but a new one.
-    pub no_file : rooms.tells old
+    pub no_file : rooms.is_modelled old
         → OfEach (λ name did. IsOnOld did → IsUnmade rooms old new name) journals
     -- A journal that isn't opened goes with a status that may come before.
-    pub early : rooms.tells old → OfEach (λ name did. did ≡ untouched → IsEarly status) journals
+    pub early : rooms.is_modelled old
+        → OfEach (λ name did. did ≡ untouched → IsEarly status) journals
     -- A new record makes a log or a cosigner with those before it; or nothing new is left of the
     -- journal, and it reads as before.
     pub valid : KeepsValid rooms disks asked.Valid asked.journals (asked.outcome (rooms.file old))

@@ -1,20 +1,20 @@
 -- What follows of each run, and how it ends as steps of the nodes whose journals it works on.
 use Rattle.std.specs.Prelude.{◌≡◌, ◌≢◌, ◌≤◌, ◌⊎◌, ℕ, List, [], ◌∷◌, ◌++◌, None, codes, IfSome}
-use Rattle.byte_forms.specs.Types.{HashFunction, Text}
+use Rattle.byte_formats.specs.Types.{HashFunction, Text}
 use Rattle.disk_core.specs.declared.disk.Disk.{Ghosts as Disks}
-use Rattle.journal_core.specs.Format.{StandsFor}
+use Rattle.journal_core.specs.Format.{Represents}
 use Rattle.mtc_io.specs.Counts.{Rose}
 use Rattle.mtc_io.specs.declared.sink.Sink.{Ghosts as Sinks}
 use Rattle.mtc_room.specs.declared.room.Room.{Ghosts as Rooms}
 use Rattle.mtc_words.specs.Words.{known_word}
-use Rattle.mtc_answers.specs.Lines.{line_of}
-use Rattle.mtc_answers.specs.Made.{Journaled, appended, started, Images, images_at}
-use Rattle.mtc_answers.specs.Made.{images_since, moment_at}
-use Rattle.mtc_answers.specs.Served.{OfEach}
-use Rattle.mtc_top.specs.Concluded.{Prints, PrintsFront, Reports}
-use Rattle.node_history.specs.Nodes.{HistoryState, fresh_node}
+use Rattle.mtc_command.specs.Lines.{line_of}
+use Rattle.mtc_command.specs.Made.{Journaled, appended, started, Images, images_at}
+use Rattle.mtc_command.specs.Made.{images_since, moment_at}
+use Rattle.mtc_command.specs.Served.{OfEach}
+use Rattle.mtc_top.specs.Concluded.{Prints, PrintsPrefix, Reports}
+use Rattle.node_history.specs.Nodes.{HistoryState, fresh_party}
 use Rattle.node_history.specs.declared.start.NodeStart.{NodeStart}
-use Rattle.mtc_top.specs.Nodes.{StandsForNode, AllStandForNode, EndsWell, TookSome}
+use Rattle.mtc_top.specs.Nodes.{RepresentsParty, AllRepresentParty, EndsWell, TookSome}
 use Rattle.mtc_top.specs.Run.{journals, Answered, HasRun}
 
 module _ {R S D O E : Type 0} (h : HashFunction) (rooms : Rooms R S D) (disks : Disks D)
@@ -59,20 +59,20 @@ module _ {R S D O E : Type 0} (h : HashFunction) (rooms : Rooms R S D) (disks : 
   pub record RunSteps (status : ℕ) (name : Text) (did : Journaled) : Type 0 where
     -- It ends in one of five ways, for each state and first record for which all images stood
     -- before.
-    pub ends : (n : HistoryState) (first : Text) → AllStandForNode n first (images_before name)
+    pub ends : (n : HistoryState) (first : Text) → AllRepresentParty n first (images_before name)
         → EndsWell h did status (is_heard status) n first (images_after name)
         (images_between name)
     -- What the room tells of the file stands for each state for which all images stand.
-    pub as_read : (n : HistoryState) (first : Text) → AllStandForNode n first (images_after name)
-        → IfSome (rooms.file new name) (StandsForNode n first)
+    pub as_read : (n : HistoryState) (first : Text) → AllRepresentParty n first (images_after name)
+        → IfSome (rooms.file new name) (RepresentsParty n first)
     -- Time goes on.
     pub later : moment_at disks (rooms.device old name) ≤ moment_at disks (rooms.device new name)
     -- Where it did its work or a byte may have gone out, each image holds the record.
     pub recorded : (list : List Text) (body : Text) → did ≡ appended list body
-        → is_heard status → (c : Text) → images_after name c → StandsFor c (list ++ body ∷ [])
+        → is_heard status → (c : Text) → images_after name c → Represents c (list ++ body ∷ [])
     -- A new journal that was made is that of a node that has begun with this record, and no more.
     pub begins : (status ≡ 0) ⊎ (status ≡ 6) → (body : Text) → did ≡ started body
-        → (start : NodeStart) → AllStandForNode (fresh_node start) body (images_after name)
+        → (start : NodeStart) → AllRepresentParty (fresh_party start) body (images_after name)
 
 module _ {R S D O E : Type 0} (h : HashFunction) (rooms : Rooms R S D) (disks : Disks D)
     (outs : Sinks O) (errs : Sinks E) where
@@ -85,17 +85,18 @@ module _ {R S D O E : Type 0} (h : HashFunction) (rooms : Rooms R S D) (disks : 
   -- And of each journal that a run works on, where the room tells its files.
   abbrev pub RunsAreSteps : Type 0
   RunsAreSteps = (words : List Text) (old new : R) (out out' : O) (err err' : E) (status : ℕ)
-      → HasRun h rooms disks outs errs words old new out out' err err' status → rooms.tells old
+      → HasRun h rooms disks outs errs words old new out out' err err' status
+      → rooms.is_modelled old
       → OfEach (RunSteps h rooms disks outs errs words old new out out' err err' status)
       (journals h rooms disks outs errs words old new out out' err err')
 
   -- A run of which a byte went out might have had a standard output that failed there: where only a
   -- front of what it wrote came through, it is a run with status 6, which leaves the same room.
-  abbrev pub FrontsAreRuns : Type 0
-  FrontsAreRuns = (words : List Text) (old new : R) (out out' failed : O) (err err' told : E)
+  abbrev pub PrefixesAreRuns : Type 0
+  PrefixesAreRuns = (words : List Text) (old new : R) (out out' failed : O) (err err' contents : E)
       (status : ℕ) (text : Text)
       → HasRun h rooms disks outs errs words old new out out' err err' status
       → TookSome (outs.taken out) (outs.taken out') → Prints outs out out' text
-      → PrintsFront outs out failed text → Rose (outs.faults out) (outs.faults failed)
-      → Reports errs err told (line_of (known_word words) None (codes "OutputFailed"))
-      → HasRun h rooms disks outs errs words old new out failed err told 6
+      → PrintsPrefix outs out failed text → Rose (outs.faults out) (outs.faults failed)
+      → Reports errs err contents (line_of (known_word words) None (codes "OutputFailed"))
+      → HasRun h rooms disks outs errs words old new out failed err contents 6

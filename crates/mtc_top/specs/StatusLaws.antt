@@ -1,22 +1,22 @@
 -- Status 2 behind a course: it is never about the journal.
 use Rattle.std.specs.Prelude.{◌≡◌, ◌⊎◌, ℕ, List, [], ◌∷◌, Some, Ok}
-use Rattle.byte_forms.specs.Types.{HashFunction, Text}
+use Rattle.byte_formats.specs.Types.{HashFunction, Text}
 use Rattle.disk_core.specs.declared.disk.Disk.{Ghosts as Disks}
 use Rattle.mtc_io.specs.declared.sink.Sink.{Ghosts as Sinks}
 use Rattle.mtc_room.specs.declared.room.Room.{Ghosts as Rooms}
 use Rattle.mtc_words.specs.Commands.{CommandValue}
 use Rattle.mtc_words.specs.Words.{command_of, known_word}
 use Rattle.issuance_log.specs.Openings.{FoundLog, log_read}
-use Rattle.mtc_answers.specs.Answers.{bad_tile_text, refused, tiles_name}
-use Rattle.mtc_answers.specs.Endings.{IsNamed}
-use Rattle.mtc_answers.specs.Lines.{line_of}
-use Rattle.mtc_answers.specs.Steps.{Files, held_in}
-use Rattle.mtc_answers.specs.Wanted.{Meets}
-use Rattle.mtc_answers.specs.declared.answer.Stopped.TheVariants.{BadForm}
-use Rattle.mtc_logs.specs.BadTiles.{first_bad}
+use Rattle.mtc_command.specs.Answers.{bad_tile_text, refused, tiles_name}
+use Rattle.mtc_command.specs.Endings.{IsNamed}
+use Rattle.mtc_command.specs.Lines.{line_of}
+use Rattle.mtc_command.specs.Steps.{Files, held_in}
+use Rattle.mtc_command.specs.Wanted.{Meets}
+use Rattle.mtc_command.specs.declared.answer.Stopped.TheVariants.{BadForm}
+use Rattle.mtc_authority.specs.BadTiles.{first_bad}
 use Rattle.node_history.specs.declared.start.NodeStart.{NodeStart}
 use Rattle.mtc_top.specs.Concluded.{Reports}
-use Rattle.mtc_top.specs.CourseLaws.{AreOfNode, OfCourses}
+use Rattle.mtc_top.specs.CourseLaws.{AreOfParty, OfCourses}
 use Rattle.mtc_top.specs.Courses.{Turn, HasTurned}
 use Rattle.mtc_top.specs.Facts.{facts_of}
 
@@ -25,7 +25,7 @@ use Rattle.mtc_top.specs.Facts.{facts_of}
 pub record WorksOn (h : HashFunction) (start : NodeStart) (first name : Text)
     (command : CommandValue) : Type 0 where
   pub works : (facts_of h command).journals ≡ name ∷ []
-  pub kind : (list : List Text) → AreOfNode h start first list → (facts_of h command).Valid list
+  pub kind : (list : List Text) → AreOfParty h start first list → (facts_of h command).Valid list
 
 -- The file is that of the tiles of this journal's log, and the reason names the first of the tiles
 -- of the log's last size that it hasn't.

@@ -1,6 +1,6 @@
 -- Stops that leave these bytes of one file.
 use Rattle.std.specs.Prelude.{◌≡◌, ◌≢◌}
-use Rattle.byte_forms.specs.Types.{HashFunction, Text}
+use Rattle.byte_formats.specs.Types.{HashFunction, Text}
 use Rattle.disk_core.specs.declared.disk.Disk.{Ghosts as Disks}
 use Rattle.mtc_io.specs.declared.sink.Sink.{Ghosts as Sinks}
 use Rattle.mtc_room.specs.declared.room.Room.{Ghosts as Rooms}
@@ -9,13 +9,13 @@ use Rattle.mtc_top.specs.Courses.{HasStopped, images_in}
 module _ {R S D O E : Type 0} (h : HashFunction) (rooms : Rooms R S D) (disks : Disks D)
     (outs : Sinks O) (errs : Sinks E) (May : Text → Text → Type 0) (name : Text) where
   -- Each file but this one has one image, which is one that may be left of it.
-  abbrev pub OthersAreSettled : R → Type 0
-  OthersAreSettled room = (other : Text) → other ≢ name → (c : Text) × (May other c
+  abbrev pub OthersAreDurable : R → Type 0
+  OthersAreDurable room = (other : Text) → other ≢ name → (c : Text) × (May other c
       × ((d : Text) → images_in h rooms disks outs errs room other d → d ≡ c))
 
   -- Where these bytes may be left of this file, and the others are settled, the machine has
   -- stopped, and of this file it has left them.
   abbrev pub StopsLeaving : Text → R → R → Type 0
-  StopsLeaving left old new = May name left → OthersAreSettled old
+  StopsLeaving left old new = May name left → OthersAreDurable old
       → HasStopped h rooms disks outs errs May old new
       × ((c : Text) → images_in h rooms disks outs errs new name c → c ≡ left)

@@ -1,7 +1,7 @@
 -- What is answered where the words are no command.
 use Rattle.std.specs.Prelude.{◌++◌, codes}
 use Rattle.std.specs.Fmt.{decimal}
-use Rattle.byte_forms.specs.Types.{Text}
+use Rattle.byte_formats.specs.Types.{Text}
 use Rattle.mtc_words.specs.declared.error.WordError.{WordError}
 use Rattle.mtc_words.specs.declared.error.WordError.TheVariants.{NoCommand, UnknownCommand, BadWord}
 use Rattle.mtc_words.specs.declared.error.WordError.TheVariants.{WrongCount, TilesName, BadNumber}

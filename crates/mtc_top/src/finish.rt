@@ -2,13 +2,13 @@
 
 ghost use Rattle.std.specs.Prelude.{◌≡◌, ◌⊎◌, ◌++◌, Some, codes, option_map};
 ghost use Rattle.mtc_io.specs.Counts.{Rose};
-ghost use Rattle.mtc_answers.specs.Answers.{said, said_code, stopped_code, ending_of, more_text};
-ghost use Rattle.mtc_answers.specs.Answers.{reason_text, tiles_name};
-ghost use Rattle.mtc_answers.specs.Lines.{line_of, of_command, WritesLine};
+ghost use Rattle.mtc_command.specs.Answers.{said, said_code, stopped_code, ending_of, more_text};
+ghost use Rattle.mtc_command.specs.Answers.{reason_text, tiles_name};
+ghost use Rattle.mtc_command.specs.Lines.{line_of, of_command, WritesLine};
 ghost use Rattle.mtc_top.specs.Concluded.{Wrote, Lost, Concludes, word_of};
 
 use itoa::Buffer;
-use mtc_answers::{Answer, More, Reason, Said, Stop, Stopped};
+use mtc_command::{Answer, More, Reason, Said, Stop, Stopped};
 use mtc_io::{Failed, Sink, write_all, write_pieces};
 use mtc_room::Cause;
 

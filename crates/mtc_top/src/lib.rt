@@ -8,18 +8,11 @@
 #![tactic(auto)]
 
 mod finish;
-mod laws;
+pub mod laws;
 mod refused_words;
 mod stopping;
 mod top;
 
-pub use laws::{
-    audits_stand, courses_are_histories, courses_make_one_history, entries_keep_their_places,
-    exports_hold_what_went_out, exports_only_grow, journals_are_of_nodes, misread_files_are_inputs,
-    no_journal_is_refused, no_one_time_key_signs_twice, printed_texts_are_of_their_records,
-    printed_texts_stand, recovered_lists_only_grow, runs_are_steps, runs_may_lose_their_text,
-    the_whole_promise, what_was_handed_out_stands,
-};
 pub use mtc_room::{MemRoom, Room, RoomError};
 pub use stopping::stop_leaving;
 pub use top::run;

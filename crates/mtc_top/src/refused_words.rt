@@ -1,10 +1,10 @@
 //! The refusal of words that are no command.
 
 ghost use Rattle.std.specs.Prelude.{◌≡◌};
-ghost use Rattle.mtc_answers.specs.Answers.{reason_text};
+ghost use Rattle.mtc_command.specs.Answers.{reason_text};
 ghost use Rattle.mtc_top.specs.WordsOutcome.{word_fault_text};
 
-use mtc_answers::Reason;
+use mtc_command::Reason;
 use mtc_words::WordError;
 
 // A fault of the words, with its numbers.

@@ -2,7 +2,7 @@
 
 ghost use Rattle.std.specs.Prelude.{◌≡◌, OnErr, OnOk};
 ghost use Rattle.std.specs.Option.{IsSomeAnd};
-ghost use Rattle.byte_forms.specs.Types.{Text};
+ghost use Rattle.byte_formats.specs.Types.{Text};
 ghost use Rattle.disk_core.specs.Memory.{IsFresh, failing_of};
 ghost use Rattle.mtc_room.specs.Memory.{disk_in};
 ghost use Rattle.mtc_room.specs.declared.memory.MemRoom.{MemRoom};
@@ -39,7 +39,7 @@ pub fn stop_leaving<H: TreeHash, O: Sink, E: Sink>(
         (λ d. IsFresh left d × (failing_of d ≡ failing.items))) }
     ensures err { OnErr result ((other : Text)
         → disk_in room.new other ≡ disk_in room.old other) }
-    ensures lent { ⟦<MemRoom as Room>⟧.lent room.new ≡ ⟦<MemRoom as Room>⟧.lent room.old }
+    ensures opened { ⟦<MemRoom as Room>⟧.opened room.new ≡ ⟦<MemRoom as Room>⟧.opened room.old }
 {
     room.place(name, left, failing)?;
     Ok(())

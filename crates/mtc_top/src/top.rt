@@ -4,27 +4,27 @@ ghost use Rattle.std.specs.Prelude.{◌≡◌, ◌<◌, ◌^◌, ◌+◌, [], �
 ghost use Rattle.std.specs.Prelude.{IsErr};
 ghost use Rattle.mtc_words.specs.Commands.{command_value, IsInRange};
 ghost use Rattle.mtc_words.specs.Words.{command_of};
-ghost use Rattle.mtc_answers.specs.Answers.{ending_of};
-ghost use Rattle.mtc_answers.specs.Made.{HasKept};
-ghost use Rattle.mtc_answers.specs.Served.{HasDone, LeavesEach, done_with};
-ghost use Rattle.mtc_answers.specs.Valid.{KeepsValid};
-ghost use Rattle.mtc_answers.specs.Works.{TellsNew};
+ghost use Rattle.mtc_command.specs.Answers.{ending_of};
+ghost use Rattle.mtc_command.specs.Made.{HasKept};
+ghost use Rattle.mtc_command.specs.Served.{HasDone, LeavesEach, done_with};
+ghost use Rattle.mtc_command.specs.Valid.{KeepsValid};
+ghost use Rattle.mtc_command.specs.Works.{ModelsNew};
 ghost use Rattle.mtc_top.specs.Facts.{facts, facts_of};
 ghost use Rattle.mtc_top.specs.Run.{HasRun};
 
 use crate::finish::conclude;
 use crate::refused_words::word_reason;
-use mtc_answers::{Answer, Stop, Stopped, refuse};
+use mtc_authority::cert::cert;
+use mtc_authority::init_log::init_log;
+use mtc_authority::issue::issue;
+use mtc_authority::{Work, on_log};
+use mtc_command::{Answer, Stop, Stopped, refuse};
 use mtc_cosigner::export::export;
 use mtc_cosigner::init_cosigner::init_cosigner;
 use mtc_cosigner::keygen::keygen;
 use mtc_cosigner::requests::{advance, cosign};
 use mtc_drill::drill;
 use mtc_io::Sink;
-use mtc_logs::cert::cert;
-use mtc_logs::init_log::init_log;
-use mtc_logs::issue::issue;
-use mtc_logs::{Work, on_log};
 use mtc_monitor::audit::audit;
 use mtc_monitor::trust::trust_landmarks as trust;
 use mtc_reads::member::member;
@@ -41,7 +41,7 @@ fn perform<'a, H: TreeHash, R: Room>(
     room: &mut R,
     command: Command<'a>,
 ) -> Result<Answer, Stop<'a>>
-    requires lent { R.lent room.old + 1 < 2 ^ 32 }
+    requires opened { R.opened room.old + 1 < 2 ^ 32 }
     requires range { IsInRange (command_value command) }
     ensures done { let asked = facts_of H.hash (command_value command.entry) in
         HasDone R.Room R.Dsk.Disk ⊥ (asked.journals ++ (asked.besides ++ asked.inputs))
@@ -51,9 +51,9 @@ fn perform<'a, H: TreeHash, R: Room>(
         KeepsValid R.Room R.Dsk.Disk asked.Valid asked.journals
         (asked.outcome (R.file room.old)) room.old room.new }
     ensures began { IfSome (facts_of H.hash (command_value command.entry)).makes (λ name.
-        TellsNew R.Room R.Dsk.Disk name room.old room.new (ending_of result)) }
-    ensures looked { R.tells room.old → LeavesEach R.Room R.Dsk.Disk room.old room.new
-        (done_with (facts_of H.hash (command_value command.entry)).looks []) HasKept }
+        ModelsNew R.Room R.Dsk.Disk name room.old room.new (ending_of result)) }
+    ensures only_read { R.is_modelled room.old → LeavesEach R.Room R.Dsk.Disk room.old room.new
+        (done_with (facts_of H.hash (command_value command.entry)).only_reads []) HasKept }
 {
     match command {
         Command::Member(file) => member::<H, R>(alloc, room, file),
@@ -95,7 +95,7 @@ fn answer<'a, H: TreeHash, R: Room>(
     words: &'a [String],
     room: &mut R,
 ) -> Result<Answer, Stop<'a>>
-    requires { R.lent room.old + 1 < 2 ^ 32 }
+    requires { R.opened room.old + 1 < 2 ^ 32 }
     ensures done { let said = command_of (map string_bytes words.now) in
         let asked = facts H.hash said in
         HasDone R.Room R.Dsk.Disk (IsErr said)
@@ -105,9 +105,9 @@ fn answer<'a, H: TreeHash, R: Room>(
         KeepsValid R.Room R.Dsk.Disk asked.Valid asked.journals
         (asked.outcome (R.file room.old)) room.old room.new }
     ensures began { IfSome (facts H.hash (command_of (map string_bytes words.now))).makes (λ name.
-        TellsNew R.Room R.Dsk.Disk name room.old room.new (ending_of result)) }
-    ensures looked { R.tells room.old → LeavesEach R.Room R.Dsk.Disk room.old room.new
-        (done_with (facts H.hash (command_of (map string_bytes words.now))).looks []) HasKept }
+        ModelsNew R.Room R.Dsk.Disk name room.old room.new (ending_of result)) }
+    ensures only_read { R.is_modelled room.old → LeavesEach R.Room R.Dsk.Disk room.old room.new
+        (done_with (facts H.hash (command_of (map string_bytes words.now))).only_reads []) HasKept }
 {
     match read_words(alloc, words) {
         Ok(command) => perform::<H, R>(alloc, room, command),
@@ -131,7 +131,7 @@ fn answer<'a, H: TreeHash, R: Room>(
 /// with its judgement), the journal, the log's tiles, and the command's own. A fault of `err`
 /// changes no status.
 ///
-/// What follows of each run, and how it ends as steps of a node, is [`crate::runs_are_steps`].
+/// What follows of each run, and how it ends as steps of a node, is [`crate::law_runs_are_steps`].
 pub fn run<H: TreeHash, R: Room, O: Sink, E: Sink>(
     alloc: Global,
     words: &[String],
@@ -139,7 +139,7 @@ pub fn run<H: TreeHash, R: Room, O: Sink, E: Sink>(
     out: &mut O,
     err: &mut E,
 ) -> u8
-    requires { R.lent room.old ≡ 0 }
+    requires { R.opened room.old ≡ 0 }
     ensures { HasRun H.hash R.Room R.Dsk.Disk O.Sink E.Sink (map string_bytes words.now)
         room.old room.new out.old out.new err.old err.new result }
 {

@@ -4,9 +4,9 @@ use Rattle.std.proofs.Common.{Result, Ok, Err, IfSome, codes, if◌then◌else�
 use Rattle.std.proofs.Common.{subst, nat_eq, true≢false}
 use Rattle.std.proofs.lemmas.Bool.Decides.{Decides-eqb}
 use Rattle.std.proofs.lemmas.Slice.Eq.{ends_is}
-use Rattle.byte_forms.specs.Types.{Text}
-use Rattle.byte_forms.specs.Readings.{◌>>=◌}
-use Rattle.byte_forms.proofs.Steps.{bind_ok}
+use Rattle.byte_formats.specs.Types.{Text}
+use Rattle.byte_formats.specs.Readings.{◌>>=◌}
+use Rattle.byte_formats.proofs.Steps.{bind_ok}
 use Rattle.mtc_words.specs.declared.error.WordError.{WordError}
 use Rattle.mtc_words.specs.declared.error.WordError.TheVariants.{TilesName}
 use Rattle.mtc_words.specs.declared.name.Name.{Name}

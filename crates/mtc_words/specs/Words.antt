@@ -2,8 +2,8 @@
 -- command.
 use Rattle.std.specs.Prelude.{ℕ, ◌+◌, ◌==◌, Bool, true, List, [], ◌∷◌, length, Option, Some, None}
 use Rattle.std.specs.Prelude.{Result, Ok, Err, ◌&&◌, slice_index_or, is_some, if◌then◌else◌}
-use Rattle.byte_forms.specs.Types.{Text}
-use Rattle.byte_forms.specs.Readings.{◌>>=◌, blamed}
+use Rattle.byte_formats.specs.Types.{Text}
+use Rattle.byte_formats.specs.Readings.{◌>>=◌, blamed}
 use Rattle.tls_wire.specs.Anchors.{anchor_text}
 use Rattle.tls_wire.specs.Decimal.{number_of}
 use Rattle.mtc_words.specs.declared.error.WordError.{WordError}

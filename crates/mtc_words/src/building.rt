@@ -1,7 +1,7 @@
 //! The command of a name, from the words behind it.
 
 ghost use Rattle.std.specs.Prelude.{◌≡◌, ◌<◌, ◌+◌, length, map, string_bytes, IfOk};
-ghost use Rattle.byte_forms.specs.Readings.{Answers};
+ghost use Rattle.byte_formats.specs.Readings.{Answers};
 ghost use Rattle.tls_wire.specs.Decimal.{number_of};
 ghost use Rattle.mtc_words.specs.Commands.{command_value, said, is_height, is_width, is_time};
 ghost use Rattle.mtc_words.specs.Commands.{is_active, is_limit, is_any, IsInRange};

@@ -1,7 +1,7 @@
 //! The command that words name and describe.
 
 ghost use Rattle.std.specs.Prelude.{◌≡◌, length, map, string_bytes, IfNone, IfOk};
-ghost use Rattle.byte_forms.specs.Readings.{Answers};
+ghost use Rattle.byte_formats.specs.Readings.{Answers};
 ghost use Rattle.mtc_words.specs.Commands.{command_value, said, IsInRange};
 ghost use Rattle.mtc_words.specs.Names.{is_tiles_name};
 ghost use Rattle.mtc_words.specs.Words.{is_bad_word, bad_word, journal_fault, word_fault};

@@ -4,15 +4,15 @@ use Rattle.std.proofs.Common.{◌++◌, Option, Some, None, IfSome, Result, Ok, 
 use Rattle.std.proofs.Common.{sym, ◌∙◌, subst, option_and_then, arith}
 use Rattle.std.proofs.lemmas.Bool.{eqb-true}
 use Rattle.std.specs.Prelude.{if◌then◌else◌, IsOk}
-use Rattle.byte_forms.specs.Types.{HashFunction, Text}
-use Rattle.byte_forms.specs.Places.{At, at}
-use Rattle.byte_forms.proofs.Steps.{ok_is}
+use Rattle.byte_formats.specs.Types.{HashFunction, Text}
+use Rattle.byte_formats.specs.Places.{At, at}
+use Rattle.byte_formats.proofs.Steps.{ok_is}
 use Rattle.tls_wire.specs.Reading.{number_at}
 use Rattle.tls_wire.specs.declared.cursor.Short.{Short}
 use Rattle.std.specs.Int.{w8}
-use Rattle.byte_forms.specs.Readings.{whole_of}
+use Rattle.byte_formats.specs.Readings.{whole_of}
 use Rattle.journal_core.specs.Folds.{taken_from}
-use Rattle.journal_core.specs.Format.{StandsFor}
+use Rattle.journal_core.specs.Format.{Represents}
 use Rattle.journal_core.proofs.Found.{read_standing}
 use Rattle.issuance_log.specs.Folds.{LogState, log_fold, log_of}
 use Rattle.issuance_log.specs.Records.{settings_at, settings_in, log_settings_with, tagged}
@@ -26,7 +26,7 @@ use Rattle.cosigner_core.specs.declared.settings.CosignerSettings.{CosignerSetti
 use Rattle.cosigner_core.proofs.Behind as cosigners
 use Rattle.hss_core.specs.Hss.{one_level_public}
 use Rattle.lms_core.specs.Trees.{private_key}
-use Rattle.node_history.specs.Laws.{IsSoundNode}
+use Rattle.node_history.specs.Laws.{IsSoundParty}
 use Rattle.node_history.specs.Nodes.{HistoryState}
 use Rattle.node_history.specs.Rules.{AreRecords, IsReadAs, StartsWith, may_follow}
 use Rattle.node_history.specs.declared.start.NodeStart.{NodeStart}
@@ -144,7 +144,7 @@ agree h (Cosigner settings public) first bodies starts (inr is) =
 
 pub read : (h : HashFunction) (start : NodeStart) (first : Text) (bodies : List Text)
     (bytes : Text) → StartsWith start first → may_follow h start bodies ≡ true
-    → StandsFor bytes (first ∷ bodies) → IsReadAs h start bytes (first ∷ bodies)
+    → Represents bytes (first ∷ bodies) → IsReadAs h start bytes (first ∷ bodies)
 read h (Log settings) first bodies bytes starts may stands =
     let made = made_log h (log_of h (first ∷ bodies))
     (ap (λ (r : Result LogState ℕ). is_ok r) (logs.begins_so h first settings bodies starts)
@@ -174,7 +174,7 @@ of_pending h start settings public list (Some body) is may =
     of_valid h start settings public (list ++ body ∷ []) is may
 
 pub once_used : (h : HashFunction) (s : HistoryState) (settings : CosignerSettings)
-    (public : Text) → IsSoundNode (may_follow h) s → s.start ≡ Cosigner settings public
+    (public : Text) → IsSoundParty (may_follow h) s → s.start ≡ Cosigner settings public
     → AreCounted s.settled × IfSome s.pending (λ body. AreCounted (s.settled ++ body ∷ []))
 once_used h s settings public sound is = (
   of_valid h s.start settings public s.settled is sound.settled,

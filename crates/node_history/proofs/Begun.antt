@@ -5,10 +5,10 @@ use Rattle.std.proofs.Common.{arith, zero, suc}
 use Rattle.std.proofs.lemmas.List.Elements.{Contains-append_cases, Contains-append_left}
 use Rattle.std.proofs.lemmas.List.Elements.{Contains-push}
 use Rattle.std.specs.Prelude.{is_some, slice_index_or, Contains}
-use Rattle.byte_forms.specs.Types.{Text}
+use Rattle.byte_formats.specs.Types.{Text}
 use Rattle.node_history.specs.Histories.{Valid, may_begin, moved}
 use Rattle.node_history.specs.Laws.{WereBegun}
-use Rattle.node_history.specs.Nodes.{HistoryState, begin, fresh_node, hand, node_of_step, settle}
+use Rattle.node_history.specs.Nodes.{HistoryState, begin, fresh_party, hand, party_of_step, settle}
 use Rattle.node_history.specs.Nodes.{stop, with_pending}
 use Rattle.node_history.specs.declared.start.NodeStart.{NodeStart}
 use Rattle.node_history.specs.declared.step.NodeStep.{NodeStep}
@@ -67,8 +67,8 @@ stopped_now steps place true s was = record {
 stopped_now steps place false s was = record { settled = was.settled; pending = tt }
 
 pub begun_moves : (valid : Valid) (done : List NodeStep) (step : NodeStep) (s t : HistoryState)
-    → WereBegun done (node_of_step step) s → moved valid s step ≡ Some t
-    → WereBegun (done ++ step ∷ []) (node_of_step step) t
+    → WereBegun done (party_of_step step) s → moved valid s step ≡ Some t
+    → WereBegun (done ++ step ∷ []) (party_of_step step) t
 begun_moves valid done (Begin node body) s t was is =
     let here = begun_stays done (Begin node body) node s was in
     subst (WereBegun (done ++ Begin node body ∷ []) node)
@@ -87,7 +87,7 @@ begun_moves valid done (Stop node kept) s t was is =
     (stopped_now (done ++ Stop node kept ∷ []) node kept s
     (begun_stays done (Stop node kept) node s was))
 
-pub begun_fresh : (place : ℕ) (start : NodeStart) → WereBegun [] place (fresh_node start)
+pub begun_fresh : (place : ℕ) (start : NodeStart) → WereBegun [] place (fresh_party start)
 begun_fresh place start = record {
   settled = λ body there. absurd (omega (arith, there.1));
   pending = tt;

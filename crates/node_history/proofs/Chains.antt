@@ -6,11 +6,11 @@ use Rattle.std.proofs.lemmas.List.{append-nil}
 use Rattle.std.proofs.lemmas.Option.{slice_get-get_or, slice_get_within, slice_get-map}
 use Rattle.std.proofs.Math.ListN.{set, length-set}
 use Rattle.std.specs.Prelude.{slice_set}
-use Rattle.byte_forms.specs.Readings.{some_or}
-use Rattle.byte_forms.proofs.Steps.{bind_ok, ok_is, some_or_ok}
+use Rattle.byte_formats.specs.Readings.{some_or}
+use Rattle.byte_formats.proofs.Steps.{bind_ok, ok_is, some_or_ok}
 use Rattle.node_history.specs.Histories.{Valid, moved, states_after, states_from}
 use Rattle.node_history.specs.Laws.{LeadsTo}
-use Rattle.node_history.specs.Nodes.{HistoryState, fresh_node, node_of_step}
+use Rattle.node_history.specs.Nodes.{HistoryState, fresh_party, party_of_step}
 use Rattle.node_history.specs.declared.start.NodeStart.{NodeStart}
 use Rattle.node_history.specs.declared.step.NodeStep.{NodeStep}
 use Rattle.node_history.proofs.Steps.{some_is}
@@ -44,18 +44,18 @@ module _ (valid : Valid) where
   record HasStepped (states : List HistoryState) (step : NodeStep)
       (next : List HistoryState) : Type 0 where
     pub old : HistoryState
-    pub was : slice_get states (node_of_step step) ≡ Some old
+    pub was : slice_get states (party_of_step step) ≡ Some old
     pub new : HistoryState
     pub moves : moved valid old step ≡ Some new
-    pub all : slice_set states (node_of_step step) new ≡ next
+    pub all : slice_set states (party_of_step step) new ≡ next
 
   stepped : (states : List HistoryState) (step : NodeStep) (next : List HistoryState)
       → states_after valid states step ≡ Some next → HasStepped states step next
   stepped states step next is =
       let found = and_then_some (λ (s : HistoryState). option_map
-      (slice_set states (node_of_step step)) (moved valid s step))
-      (slice_get states (node_of_step step)) next is in
-      let made = map_some (slice_set states (node_of_step step)) (moved valid found.0 step) next
+      (slice_set states (party_of_step step)) (moved valid s step))
+      (slice_get states (party_of_step step)) next is in
+      let made = map_some (slice_set states (party_of_step step)) (moved valid found.0 step) next
       found.2 in
       record { old = found.0; was = found.1; new = made.0; moves = made.1; all = made.2 }
 
@@ -86,15 +86,15 @@ module _ (valid : Valid) where
       let taken = stepped states step first.0 first.1 in
       as_many (k + 1) first.0 steps ends first.2
       ∙ sym (ap (λ (l : List HistoryState). length l) taken.all)
-      ∙ length-set states (node_of_step step) taken.new
+      ∙ length-set states (party_of_step step) taken.new
 
   -- What each step keeps. It may speak of the steps so far.
   module _ (P : List NodeStep → ℕ → HistoryState → Type 0)
       (stays : (done : List NodeStep) (step : NodeStep) (place : ℕ) (s : HistoryState)
       → P done place s → P (done ++ step ∷ []) place s)
       (moves : (done : List NodeStep) (step : NodeStep) (s t : HistoryState)
-      → P done (node_of_step step) s → moved valid s step ≡ Some t
-      → P (done ++ step ∷ []) (node_of_step step) t) where
+      → P done (party_of_step step) s → moved valid s step ≡ Some t
+      → P (done ++ step ∷ []) (party_of_step step) t) where
     abbrev Holds : List NodeStep → List HistoryState → Type 0
     Holds done states = (place : ℕ) (s : HistoryState) → slice_get states place ≡ Some s
         → P done place s
@@ -103,11 +103,11 @@ module _ (valid : Valid) where
         (next : List HistoryState) → Holds done states → HasStepped states step next
         → Holds (done ++ step ∷ []) next
     holds_after done states step next all taken place s there =
-        elim (at_set states (node_of_step step) place taken.new s
+        elim (at_set states (party_of_step step) place taken.new s
         (ap (λ (l : List HistoryState). slice_get l place) taken.all ∙ there)) [
           | inl p ↦ subst (λ (x : ℕ). P (done ++ step ∷ []) x s) (sym p.0)
-              (subst (P (done ++ step ∷ []) (node_of_step step)) p.1
-              (moves done step taken.old taken.new (all (node_of_step step) taken.old taken.was)
+              (subst (P (done ++ step ∷ []) (party_of_step step)) p.1
+              (moves done step taken.old taken.new (all (party_of_step step) taken.old taken.was)
               taken.moves))
           | inr p ↦ stays done step place s (all place s p)
         ]
@@ -127,11 +127,11 @@ module _ (valid : Valid) where
     -- so of each state to which a history leads
     pub holds_of : (starts : List NodeStart) (steps : List NodeStep) (place : ℕ)
         (s : HistoryState) → ((place : ℕ) (start : NodeStart) → slice_get starts place ≡ Some start
-        → P [] place (fresh_node start)) → LeadsTo valid starts steps place s → P steps place s
+        → P [] place (fresh_party start)) → LeadsTo valid starts steps place s → P steps place s
     holds_of starts steps place s begins leads =
-        holds_on 0 [] (map fresh_node starts) steps leads.states (λ place s there.
-        let found = map_some fresh_node (slice_get starts place) s
-        (sym (slice_get-map fresh_node starts place) ∙ there) in
+        holds_on 0 [] (map fresh_party starts) steps leads.states (λ place s there.
+        let found = map_some fresh_party (slice_get starts place) s
+        (sym (slice_get-map fresh_party starts place) ∙ there) in
         subst (P [] place) found.2 (begins place found.0 found.1)) leads.allowed place s leads.there
 
   -- a history behind a history

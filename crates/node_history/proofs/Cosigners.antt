@@ -7,20 +7,20 @@ use Rattle.std.proofs.lemmas.Grind.{flat_map-append}
 use Rattle.std.specs.Int.{w32}
 use Rattle.std.specs.Prelude.{if◌then◌else◌}
 use Rattle.std.specs.Str.{bytes_eq}
-use Rattle.byte_forms.specs.Readings.{◌>>=◌, some_or}
-use Rattle.byte_forms.specs.Types.{HashFunction, Text}
-use Rattle.byte_forms.proofs.Steps.{bind_ok, ok_is, some_or_ok}
+use Rattle.byte_formats.specs.Readings.{◌>>=◌, some_or}
+use Rattle.byte_formats.specs.Types.{HashFunction, Text}
+use Rattle.byte_formats.proofs.Steps.{bind_ok, ok_is, some_or_ok}
 use Rattle.hss_core.specs.Hss.{one_level_public}
 use Rattle.journal_core.specs.Folds.{state_behind, taken_from}
 use Rattle.journal_core.proofs.Folds.{state_more}
 use Rattle.lms_core.specs.Heights.{height}
 use Rattle.lms_core.specs.declared.heights.LmsType.{LmsType}
 use Rattle.lms_core.specs.declared.heights.LmsType.TheVariants.{H5, H10, H15, H20, H25}
-use Rattle.tls_wire.specs.Spelling.{vector}
+use Rattle.tls_wire.specs.Encoding.{vector}
 use Rattle.tree_core.specs.Subtree.{is_subtree}
 use Rattle.cosigner_core.specs.Checkpoints.{has_subtree}
 use Rattle.cosigner_core.specs.Counts.{index_before, indices_in, indices_of}
-use Rattle.cosigner_core.specs.Exports.{export_text, front_text, records_text}
+use Rattle.cosigner_core.specs.Exports.{export_text, prefix_text, records_text}
 use Rattle.cosigner_core.specs.Folds.{CosignerState, after_step, begun_cosigner, cosigner_fold}
 use Rattle.cosigner_core.specs.Folds.{cosigner_of}
 use Rattle.cosigner_core.specs.Folds.{key_count, new_cosigner, next_state, progress_of}
@@ -37,7 +37,7 @@ use Rattle.cosigner_core.specs.declared.step.Step.{Step}
 use Rattle.cosigner_core.specs.declared.step.Step.TheVariants.{Advance, Sign}
 use Rattle.cosigner_core.specs.declared.settings.CosignerSettings.{CosignerSettings}
 use Rattle.cosigner_core.proofs.FirstRecords.{then_some}
-use Rattle.cosigner_core.proofs.Spelled.{step_again}
+use Rattle.cosigner_core.proofs.Encoded.{step_again}
 use Rattle.cosigner_core.proofs.Tagged.{some_value, when_some}
 use Rattle.node_history.specs.Rules.{StartsWith}
 use Rattle.node_history.specs.declared.start.NodeStart.TheVariants.{Cosigner}
@@ -88,12 +88,12 @@ of_first h settings public first bodies s begins is =
 
 -- ---- the exports of a list and of a longer one
 
-same_front : (id own log own_log key own_key : Text) → id ≡ own → log ≡ own_log → key ≡ own_key
-    → front_text own own_log own_key ≡ front_text id log key
-same_front id own log own_log key own_key one two three =
-    ap (λ (x : Text). front_text x own_log own_key) (sym one)
-    ∙ (ap (λ (x : Text). front_text id x own_key) (sym two)
-    ∙ ap (λ (x : Text). front_text id log x) (sym three))
+same_prefix : (id own log own_log key own_key : Text) → id ≡ own → log ≡ own_log → key ≡ own_key
+    → prefix_text own own_log own_key ≡ prefix_text id log key
+same_prefix id own log own_log key own_key one two three =
+    ap (λ (x : Text). prefix_text x own_log own_key) (sym one)
+    ∙ (ap (λ (x : Text). prefix_text id x own_key) (sym two)
+    ∙ ap (λ (x : Text). prefix_text id log x) (sym three))
 
 none_made : (k : ℕ) (s : CosignerState) → Err k ≡ Ok s → ⊥
 none_made k s is = cc
@@ -107,12 +107,12 @@ export_grows h [] more s t is whole = absurd (none_made 0 s is)
 export_grows h (first ∷ bodies) more s t is whole =
     let same = same_cosigner h (length (first ∷ bodies)) s t more
     (sym (state_more (cosigner_fold h) (first ∷ bodies) more s is) ∙ whole) in
-    append_assoc (front_text s.id s.log (one_level_public s.key.key)) (records_text bodies)
+    append_assoc (prefix_text s.id s.log (one_level_public s.key.key)) (records_text bodies)
     (records_text more)
-    ∙ (ap (λ (x : Text). front_text s.id s.log (one_level_public s.key.key) ++ x)
+    ∙ (ap (λ (x : Text). prefix_text s.id s.log (one_level_public s.key.key) ++ x)
     (sym (flat_map-append (vector w32) bodies more))
     ∙ ap (λ (x : Text). x ++ records_text (bodies ++ more))
-    (same_front t.id s.id t.log s.log (one_level_public t.key.key) (one_level_public s.key.key)
+    (same_prefix t.id s.id t.log s.log (one_level_public t.key.key) (one_level_public s.key.key)
     same.0 same.1 (ap one_level_public same.2)))
 
 -- ---- a Sign that is added

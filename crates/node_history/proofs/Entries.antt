@@ -5,14 +5,14 @@ use Rattle.std.proofs.lemmas.Bool.{ltb-false}
 use Rattle.std.proofs.lemmas.List.{append-nil}
 use Rattle.std.specs.Int.{w16}
 use Rattle.std.specs.Prelude.{if◌then◌else◌}
-use Rattle.byte_forms.specs.Types.{Text}
+use Rattle.byte_formats.specs.Types.{Text}
 use Rattle.issuance_log.specs.Folds.{LogView}
 use Rattle.issuance_log.specs.Records.{entry_at, entry_record, item_in}
 use Rattle.issuance_log.specs.Refusals.{add_refusal, append_refusal}
 use Rattle.issuance_log.specs.Settings.{most_item}
 use Rattle.issuance_log.specs.declared.error.LogError.TheVariants.{Append, Full, TooLarge}
 use Rattle.tls_wire.specs.Reading.{vector_at}
-use Rattle.tls_wire.specs.Spelling.{vector}
+use Rattle.tls_wire.specs.Encoding.{vector}
 use Rattle.tls_wire.proofs.Numbers.{wide16}
 use Rattle.tls_wire.proofs.Vectors.{vector_form}
 use Rattle.cosigner_core.proofs.Tagged.{tag_again}

@@ -4,11 +4,11 @@ use Rattle.std.proofs.Common.{Some, Ok, refl, ap, ◌∙◌, option_map, option_
 use Rattle.std.proofs.Common.{slice_get}
 use Rattle.std.proofs.lemmas.Option.{slice_get-map}
 use Rattle.std.specs.Prelude.{slice_set}
-use Rattle.byte_forms.specs.Readings.{◌>>=◌, some_or}
-use Rattle.byte_forms.proofs.Steps.{ok_is}
+use Rattle.byte_formats.specs.Readings.{◌>>=◌, some_or}
+use Rattle.byte_formats.proofs.Steps.{ok_is}
 use Rattle.node_history.specs.Histories.{Valid, moved, states_after, states_from}
 use Rattle.node_history.specs.Laws.{LeadsTo}
-use Rattle.node_history.specs.Nodes.{HistoryState, fresh_node, node_of_step}
+use Rattle.node_history.specs.Nodes.{HistoryState, fresh_party, party_of_step}
 use Rattle.node_history.specs.declared.start.NodeStart.{NodeStart}
 use Rattle.node_history.specs.declared.step.NodeStep.{NodeStep}
 use Rattle.node_history.proofs.Chains.{first_step, no_some}
@@ -41,7 +41,7 @@ module _ (valid : Valid) where
 
   pub goes_on : (starts : List NodeStart) (steps : List NodeStep) (place : ℕ)
       (s t : HistoryState) (step : NodeStep) → LeadsTo valid starts steps place s
-      → node_of_step step ≡ place → moved valid s step ≡ Some t
+      → party_of_step step ≡ place → moved valid s step ≡ Some t
       → LeadsTo valid starts (steps ++ step ∷ []) place t
   goes_on starts steps place s t step leads here moves =
       let next = slice_set leads.states place t in
@@ -53,16 +53,16 @@ module _ (valid : Valid) where
       ∙ ap (option_map (slice_set leads.states place)) moves in
       record {
         states = next;
-        allowed = one_more 0 (map fresh_node starts) steps step leads.states next leads.allowed
+        allowed = one_more 0 (map fresh_party starts) steps step leads.states next leads.allowed
             stepped;
         there = set_there leads.states place s t leads.there;
       }
 
   pub begins_fresh : (starts : List NodeStart) (place : ℕ) (start : NodeStart)
-      → slice_get starts place ≡ Some start → LeadsTo valid starts [] place (fresh_node start)
+      → slice_get starts place ≡ Some start → LeadsTo valid starts [] place (fresh_party start)
   unfolding states_from
   begins_fresh starts place start there = record {
-    states = map fresh_node starts;
+    states = map fresh_party starts;
     allowed = refl;
-    there = slice_get-map fresh_node starts place ∙ ap (option_map fresh_node) there;
+    there = slice_get-map fresh_party starts place ∙ ap (option_map fresh_party) there;
   }

@@ -3,8 +3,8 @@ use Rattle.std.proofs.Common.{◌≡◌, ℕ, ◌+◌, List, [], ◌∷◌, ◌+
 use Rattle.std.proofs.Common.{Option, Some, None, Ok, refl, ap, sym, ◌∙◌, subst, append_assoc}
 use Rattle.std.proofs.Common.{slice_get}
 use Rattle.std.proofs.lemmas.List.{append-nil, length-append}
-use Rattle.byte_forms.specs.Types.{HashFunction, Text}
-use Rattle.byte_forms.proofs.Steps.{bind_ok, ok_is, some_or_ok}
+use Rattle.byte_formats.specs.Types.{HashFunction, Text}
+use Rattle.byte_formats.proofs.Steps.{bind_ok, ok_is, some_or_ok}
 use Rattle.journal_core.specs.Folds.{taken_from}
 use Rattle.journal_core.proofs.Folds.{state_more}
 use Rattle.issuance_log.specs.Folds.{LogState, log_fold, log_of, new_log, next_log, takes_entry}
@@ -12,7 +12,7 @@ use Rattle.issuance_log.specs.Folds.{takes_landmark, takes_tiles, view_in, with_
 use Rattle.issuance_log.specs.Folds.{with_tiles}
 use Rattle.issuance_log.specs.Records.{item_in, mark_in, tiled_in}
 use Rattle.issuance_log.proofs.Behind.{only_begins}
-use Rattle.issuance_log.proofs.Spelled.{changed_log}
+use Rattle.issuance_log.proofs.Encoded.{changed_log}
 use Rattle.node_history.specs.Laws.{Begins, HasItemAt, KeepsItems}
 use Rattle.node_history.proofs.Chains.{no_some}
 use Rattle.node_history.proofs.Steps.{begins_on, some_is, when}
@@ -132,9 +132,9 @@ first_taken h k s t body bodies is =
 -- the item behind a list
 at_end : (xs : List Text) (x : Text) (ys : List Text) → Begins (xs ++ x ∷ []) ys
     → slice_get ys (length xs) ≡ Some x
-at_end [] x ys front = ap (λ (l : List Text). slice_get l 0) (sym front.1)
-at_end (z ∷ xs) x [] front = absurd (let is = front.1 in cc)
-at_end (z ∷ xs) x (y ∷ ys) front = at_end xs x ys (front.0, (let is = front.1 in cc))
+at_end [] x ys prefix = ap (λ (l : List Text). slice_get l 0) (sym prefix.1)
+at_end (z ∷ xs) x [] prefix = absurd (let is = prefix.1 in cc)
+at_end (z ∷ xs) x (y ∷ ys) prefix = at_end xs x ys (prefix.0, (let is = prefix.1 in cc))
 
 pub item_added : (h : HashFunction) (list : List Text) (body : Text) (more : List Text)
     (entry key : Text) (s t : LogState) → log_of h list ≡ Ok s → item_in body ≡ Some (entry, key)

@@ -1,7 +1,7 @@
 -- Two Sign records of one journal with one number are one record.
 use Rattle.std.proofs.Common.{◌≡◌, ℕ, suc, ◌+◌, ◌≤◌, List, [], ◌∷◌, ◌++◌, Option, None, Some}
 use Rattle.std.proofs.Common.{refl, ap, sym, subst, ◌∙◌, arith, append_assoc, slice_get}
-use Rattle.byte_forms.specs.Types.{Text}
+use Rattle.byte_formats.specs.Types.{Text}
 use Rattle.cosigner_core.specs.Counts.{index_before, indices_in, indices_of}
 use Rattle.cosigner_core.specs.Records.{step_in}
 use Rattle.cosigner_core.specs.declared.step.Step.{Step}
@@ -39,37 +39,37 @@ at_sign (Some (Sign index start end hash proof)) k number rest is all = (
   λ i next found. omega (arith, all (suc i) next found),
 )
 
-at_least : (front : List Text) (body : Text) (back : List Text) (k number : ℕ)
-    → CountFrom k (indices_in (front ++ body ∷ back)) → IsSignOf (step_in body) number
+at_least : (prefix : List Text) (body : Text) (back : List Text) (k number : ℕ)
+    → CountFrom k (indices_in (prefix ++ body ∷ back)) → IsSignOf (step_in body) number
     → k ≤ number
 unfolding indices_in
 at_least [] body back k number all is =
     omega (arith, (at_sign (step_in body) k number (indices_in back) is all).0)
-at_least (x ∷ front) body back k number all is =
-    let next = behind_one (step_in x) k (indices_in (front ++ body ∷ back)) all in
-    omega (arith, next.1.0, at_least front body back next.0 number next.1.1 is)
+at_least (x ∷ prefix) body back k number all is =
+    let next = behind_one (step_in x) k (indices_in (prefix ++ body ∷ back)) all in
+    omega (arith, next.1.0, at_least prefix body back next.0 number next.1.1 is)
 
-one_of : (front front' : List Text) (body body' : Text) (back back' : List Text) (k number : ℕ)
-    → front ++ body ∷ back ≡ front' ++ body' ∷ back'
-    → CountFrom k (indices_in (front ++ body ∷ back)) → IsSignOf (step_in body) number
+one_of : (prefix prefix' : List Text) (body body' : Text) (back back' : List Text) (k number : ℕ)
+    → prefix ++ body ∷ back ≡ prefix' ++ body' ∷ back'
+    → CountFrom k (indices_in (prefix ++ body ∷ back)) → IsSignOf (step_in body) number
     → IsSignOf (step_in body') number → body ≡ body'
 unfolding indices_in
 one_of [] [] body body' back back' k number same all is is' = cc
-one_of [] (x ∷ front') body body' back back' k number same all is is' =
+one_of [] (x ∷ prefix') body body' back back' k number same all is is' =
     let first = at_sign (step_in body) k number (indices_in back) is all in
-    let rest : back ≡ front' ++ body' ∷ back' = cc in
+    let rest : back ≡ prefix' ++ body' ∷ back' = cc in
     let behind = subst (λ (l : List Text). CountFrom (k + 1) (indices_in l)) rest first.1 in
-    absurd (omega (arith, first.0, at_least front' body' back' (k + 1) number behind is'))
-one_of (x ∷ front) [] body body' back back' k number same all is is' =
+    absurd (omega (arith, first.0, at_least prefix' body' back' (k + 1) number behind is'))
+one_of (x ∷ prefix) [] body body' back back' k number same all is is' =
     let head : x ≡ body' = cc in
-    let rest : front ++ body ∷ back ≡ back' = cc in
-    let first = at_sign (step_in x) k number (indices_in (front ++ body ∷ back))
+    let rest : prefix ++ body ∷ back ≡ back' = cc in
+    let first = at_sign (step_in x) k number (indices_in (prefix ++ body ∷ back))
     (subst (λ (b : Text). IsSignOf (step_in b) number) (sym head) is') all in
-    absurd (omega (arith, first.0, at_least front body back (k + 1) number first.1 is))
-one_of (x ∷ front) (y ∷ front') body body' back back' k number same all is is' =
-    let rest : front ++ body ∷ back ≡ front' ++ body' ∷ back' = cc in
-    let next = behind_one (step_in x) k (indices_in (front ++ body ∷ back)) all in
-    one_of front front' body body' back back' next.0 number rest next.1.1 is is'
+    absurd (omega (arith, first.0, at_least prefix body back (k + 1) number first.1 is))
+one_of (x ∷ prefix) (y ∷ prefix') body body' back back' k number same all is is' =
+    let rest : prefix ++ body ∷ back ≡ prefix' ++ body' ∷ back' = cc in
+    let next = behind_one (step_in x) k (indices_in (prefix ++ body ∷ back)) all in
+    one_of prefix prefix' body body' back back' next.0 number rest next.1.1 is is'
 
 -- a record that adds this number to those of a list is a Sign with it
 strip : (step : Option Step) (xs ys : List ℕ) (number : ℕ)
@@ -79,24 +79,24 @@ strip (Some (Advance size root proof)) xs ys number is = is
 strip (Some (Sign index start end hash proof)) xs ys number is =
     tail_is index xs (ys ++ number ∷ []) is
 
-adds_sign : (front : List Text) (body : Text) (number : ℕ)
-    → indices_in (front ++ body ∷ []) ≡ indices_in front ++ number ∷ []
+adds_sign : (prefix : List Text) (body : Text) (number : ℕ)
+    → indices_in (prefix ++ body ∷ []) ≡ indices_in prefix ++ number ∷ []
     → IsSignOf (step_in body) number
 unfolding indices_in
 adds_sign [] body number is = is
-adds_sign (x ∷ front) body number is =
-    adds_sign front body number
-    (strip (step_in x) (indices_in (front ++ body ∷ [])) (indices_in front) number is)
+adds_sign (x ∷ prefix) body number is =
+    adds_sign prefix body number
+    (strip (step_in x) (indices_in (prefix ++ body ∷ [])) (indices_in prefix) number is)
 
 -- and so it is not the first record of a journal
 adds_behind : (list : List Text) (body : Text) (number : ℕ)
     → indices_of (list ++ body ∷ []) ≡ indices_of list ++ number ∷ []
-    → (first : Text) × ((front : List Text) × ((list ≡ first ∷ front)
+    → (first : Text) × ((prefix : List Text) × ((list ≡ first ∷ prefix)
     × IsSignOf (step_in body) number))
 unfolding indices_of indices_in
 adds_behind [] body number is = absurd cc
-adds_behind (first ∷ front) body number is =
-    (first, (front, (refl, adds_sign front body number is)))
+adds_behind (first ∷ prefix) body number is =
+    (first, (prefix, (refl, adds_sign prefix body number is)))
 
 -- Where two records are added behind fronts of a journal whose numbers count up, and both add one
 -- number, they are one record.
@@ -116,11 +116,11 @@ one_record first bodies list list' body body' rest rest' number counted here her
     (subst (λ (l : List Text). CountFrom 0 (indices_in l)) (sym one)
     (λ i index found. omega (arith, counted i index found))) a.1.1.1 b.1.1.1
   where
-    behind_first : (f : Text) (front list : List Text) (body : Text) (rest : List Text)
-        → list ≡ f ∷ front → (list ++ body ∷ []) ++ rest ≡ first ∷ bodies
-        → front ++ body ∷ rest ≡ bodies
-    behind_first f front list body rest same here =
-        let all : f ∷ ((front ++ body ∷ []) ++ rest) ≡ first ∷ bodies
+    behind_first : (f : Text) (prefix list : List Text) (body : Text) (rest : List Text)
+        → list ≡ f ∷ prefix → (list ++ body ∷ []) ++ rest ≡ first ∷ bodies
+        → prefix ++ body ∷ rest ≡ bodies
+    behind_first f prefix list body rest same here =
+        let all : f ∷ ((prefix ++ body ∷ []) ++ rest) ≡ first ∷ bodies
         = ap (λ (l : List Text). (l ++ body ∷ []) ++ rest) (sym same) ∙ here in
-        let behind : (front ++ body ∷ []) ++ rest ≡ bodies = cc in
-        sym (append_assoc front (body ∷ []) rest) ∙ behind
+        let behind : (prefix ++ body ∷ []) ++ rest ≡ bodies = cc in
+        sym (append_assoc prefix (body ∷ []) rest) ∙ behind

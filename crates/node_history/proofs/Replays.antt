@@ -3,7 +3,7 @@ use Rattle.std.proofs.Common.{◌≡◌, ℕ, ◌+◌, ◌<◌, ◌≤◌, Bool,
 use Rattle.std.proofs.Common.{get_or, Option, Some, None, Result, Ok, Err, ap, sym, ◌∙◌}
 use Rattle.std.proofs.Common.{add-one, drop-cons}
 use Rattle.std.proofs.lemmas.List.{drop_all}
-use Rattle.byte_forms.specs.Readings.{◌>>=◌, some_or}
+use Rattle.byte_formats.specs.Readings.{◌>>=◌, some_or}
 use Rattle.node_history.specs.Histories.{Valid, states_after, states_from}
 use Rattle.node_history.specs.Nodes.{HistoryState}
 use Rattle.node_history.specs.Results.{HasMoved}

@@ -4,11 +4,11 @@ use Rattle.std.proofs.Common.{get_or, map, Some, Ok, refl, ap, sym, ◌∙◌, s
 use Rattle.std.proofs.Common.{slice_get}
 use Rattle.std.proofs.lemmas.Option.{slice_get-get_or}
 use Rattle.std.specs.Prelude.{Contains, slice_index_or}
-use Rattle.byte_forms.specs.Types.{Text}
+use Rattle.byte_formats.specs.Types.{Text}
 use Rattle.node_history.specs.Histories.{Valid, history_of}
-use Rattle.node_history.specs.Laws.{AreAtMost, HasGrown, IsOfSettled, IsSoundNode, LeadsTo}
+use Rattle.node_history.specs.Laws.{AreAtMost, HasGrown, IsOfDurable, IsSoundParty, LeadsTo}
 use Rattle.node_history.specs.Laws.{RisesFrom, WereBegun}
-use Rattle.node_history.specs.Nodes.{HistoryState, fresh_node}
+use Rattle.node_history.specs.Nodes.{HistoryState, fresh_party}
 use Rattle.node_history.specs.declared.start.NodeStart.{NodeStart}
 use Rattle.node_history.specs.declared.step.NodeStep.{NodeStep}
 use Rattle.node_history.proofs.Begun.{begun_fresh, begun_moves, begun_stays}
@@ -19,9 +19,9 @@ use Rattle.node_history.proofs.Steps.{some_is}
 module _ (valid : Valid) where
   pub sound : ((start : NodeStart) → valid start [] ≡ true) → (starts : List NodeStart)
       (steps : List NodeStep) (place : ℕ) (s : HistoryState)
-      → LeadsTo valid starts steps place s → IsSoundNode valid s
+      → LeadsTo valid starts steps place s → IsSoundParty valid s
   sound base starts steps place s leads =
-      holds_of valid (λ done place. IsSoundNode valid) (λ done step place s was. was)
+      holds_of valid (λ done place. IsSoundParty valid) (λ done step place s was. was)
       (λ done step s t was moves. moved_sound valid s t step was moves) starts steps place s
       (λ place start there. fresh_sound valid start (base start)) leads
 
@@ -46,7 +46,7 @@ module _ (valid : Valid) where
       → history_of valid starts (earlier ++ later) ≡ Ok news
       → (new : HistoryState) × ((slice_get news place ≡ Some new) × HasGrown old new)
   grown starts earlier later place old news leads whole =
-      let rest = between valid 0 (map fresh_node starts) earlier later leads.states news
+      let rest = between valid 0 (map fresh_party starts) earlier later leads.states news
       leads.allowed whole in
       let there = still_there valid rest.0 leads.states later news place old rest.1 leads.there in
       let grew = holds_on valid (λ done x s. (was : HistoryState)
@@ -85,12 +85,12 @@ contains_at list i within = (i, within, there list i within)
     there (x ∷ xs) (suc i) within = there xs i (omega arith)
 
 pub handed_out : (valid : Valid) (steps : List NodeStep) (place : ℕ) (s : HistoryState)
-    → IsSoundNode valid s → WereBegun steps place s → (number : ℕ) → Contains s.handed number
-    → IsOfSettled steps place s number
+    → IsSoundParty valid s → WereBegun steps place s → (number : ℕ) → Contains s.handed number
+    → IsOfDurable steps place s number
 handed_out valid steps place s sound begun number found =
     of_number number (number_in (length s.settled) number s.handed sound.rise sound.there found)
   where
-    of_number : (n : ℕ) → (0 < n) × (n ≤ length s.settled) → IsOfSettled steps place s n
+    of_number : (n : ℕ) → (0 < n) × (n ≤ length s.settled) → IsOfDurable steps place s n
     of_number zero within = absurd (let some = within.0 in omega arith)
     of_number (suc i) within =
         let few = within.1 in

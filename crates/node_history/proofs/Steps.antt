@@ -5,10 +5,10 @@ use Rattle.std.proofs.Common.{refl, ap, sym, ◌∙◌, subst, arith, append_ass
 use Rattle.std.proofs.lemmas.List.{append-nil}
 use Rattle.std.specs.Prelude.{if◌then◌else◌, is_some}
 use Rattle.std.proofs.lemmas.Bool.{and_parts}
-use Rattle.byte_forms.specs.Types.{Text}
+use Rattle.byte_formats.specs.Types.{Text}
 use Rattle.node_history.specs.Histories.{Valid, may_begin, moved}
-use Rattle.node_history.specs.Laws.{AreAtMost, Begins, HasGrown, IsSoundNode, RisesFrom}
-use Rattle.node_history.specs.Nodes.{HistoryState, begin, fresh_node, hand, settle, stop}
+use Rattle.node_history.specs.Laws.{AreAtMost, Begins, HasGrown, IsSoundParty, RisesFrom}
+use Rattle.node_history.specs.Nodes.{HistoryState, begin, fresh_party, hand, settle, stop}
 use Rattle.node_history.specs.Nodes.{with_pending}
 use Rattle.node_history.specs.declared.start.NodeStart.{NodeStart}
 use Rattle.node_history.specs.declared.step.NodeStep.{NodeStep}
@@ -76,8 +76,8 @@ module _ (valid : Valid) where
   valid_with start list None is more = is
   valid_with start list (Some body) is more = more
 
-  begin_sound : (s : HistoryState) (body : Text) → IsSoundNode valid s
-      → may_begin valid s body ≡ true → IsSoundNode valid (begin body s)
+  begin_sound : (s : HistoryState) (body : Text) → IsSoundParty valid s
+      → may_begin valid s body ≡ true → IsSoundParty valid (begin body s)
   begin_sound s body was is = record {
     settled = was.settled;
     pending = (and_parts (not (is_some s.pending)) (valid s.start (s.settled ++ body ∷ [])) is).1;
@@ -87,8 +87,8 @@ module _ (valid : Valid) where
     may = was.may;
   }
 
-  settle_sound : (s : HistoryState) → IsSoundNode valid s → is_some s.pending ≡ true
-      → IsSoundNode valid (settle s)
+  settle_sound : (s : HistoryState) → IsSoundParty valid s → is_some s.pending ≡ true
+      → IsSoundParty valid (settle s)
   settle_sound s was is = record {
     settled = valid_with s.start s.settled s.pending was.settled was.pending;
     pending = tt;
@@ -100,11 +100,11 @@ module _ (valid : Valid) where
         (omega (arith, one_more s.settled s.pending is)) was.there;
   }
 
-  hand_sound : (s : HistoryState) → IsSoundNode valid s → s.may_hand ≡ true
-      → IsSoundNode valid (hand s)
+  hand_sound : (s : HistoryState) → IsSoundParty valid s → s.may_hand ≡ true
+      → IsSoundParty valid (hand s)
   hand_sound s was is = at_last (length s.settled) refl (was.some is)
     where
-      at_last : (n : ℕ) → length s.settled ≡ n → 0 < length s.settled → IsSoundNode valid (hand s)
+      at_last : (n : ℕ) → length s.settled ≡ n → 0 < length s.settled → IsSoundParty valid (hand s)
       at_last zero same some = absurd (omega arith)
       at_last (suc before) same some =
           let last : before + 1 ≡ length s.settled = omega arith in record {
@@ -118,8 +118,8 @@ module _ (valid : Valid) where
             may = λ wrong. no_true wrong;
           }
 
-  stop_sound : (kept : Bool) (s : HistoryState) → IsSoundNode valid s
-      → IsSoundNode valid (stop kept s)
+  stop_sound : (kept : Bool) (s : HistoryState) → IsSoundParty valid s
+      → IsSoundParty valid (stop kept s)
   stop_sound true s was = record {
     settled = valid_with s.start s.settled s.pending was.settled was.pending;
     pending = tt;
@@ -138,22 +138,22 @@ module _ (valid : Valid) where
     may = λ wrong. no_true wrong;
   }
 
-  pub moved_sound : (s t : HistoryState) (step : NodeStep) → IsSoundNode valid s
-      → moved valid s step ≡ Some t → IsSoundNode valid t
+  pub moved_sound : (s t : HistoryState) (step : NodeStep) → IsSoundParty valid s
+      → moved valid s step ≡ Some t → IsSoundParty valid t
   moved_sound s t (Begin node body) was is =
       let went = when (may_begin valid s body) (begin body s) t is in
-      subst (IsSoundNode valid) went.1 (begin_sound s body was went.0)
+      subst (IsSoundParty valid) went.1 (begin_sound s body was went.0)
   moved_sound s t (Settle node) was is =
       let went = when (is_some s.pending) (settle s) t is in
-      subst (IsSoundNode valid) went.1 (settle_sound s was went.0)
+      subst (IsSoundParty valid) went.1 (settle_sound s was went.0)
   moved_sound s t (Hand node) was is =
       let went = when s.may_hand (hand s) t is in
-      subst (IsSoundNode valid) went.1 (hand_sound s was went.0)
+      subst (IsSoundParty valid) went.1 (hand_sound s was went.0)
   moved_sound s t (Stop node kept) was is =
-      subst (IsSoundNode valid) (some_is (stop kept s) t is) (stop_sound kept s was)
+      subst (IsSoundParty valid) (some_is (stop kept s) t is) (stop_sound kept s was)
 
   pub fresh_sound : (start : NodeStart) → valid start [] ≡ true
-      → IsSoundNode valid (fresh_node start)
+      → IsSoundParty valid (fresh_party start)
   fresh_sound start is = record {
     settled = is;
     pending = tt;

@@ -2,10 +2,10 @@
 use Rattle.std.specs.Prelude.{ℕ, ◌+◌, ◌&&◌, not, is_some, Bool, List, [], ◌∷◌, ◌++◌, map}
 use Rattle.std.specs.Prelude.{slice_get, slice_set, Option, Some, None, option_and_then}
 use Rattle.std.specs.Prelude.{option_map, Result, Ok, if◌then◌else◌}
-use Rattle.byte_forms.specs.Types.{Text}
-use Rattle.byte_forms.specs.Readings.{◌>>=◌, some_or}
-use Rattle.node_history.specs.Nodes.{HistoryState, fresh_node, begin, settle, hand, stop}
-use Rattle.node_history.specs.Nodes.{node_of_step}
+use Rattle.byte_formats.specs.Types.{Text}
+use Rattle.byte_formats.specs.Readings.{◌>>=◌, some_or}
+use Rattle.node_history.specs.Nodes.{HistoryState, fresh_party, begin, settle, hand, stop}
+use Rattle.node_history.specs.Nodes.{party_of_step}
 use Rattle.node_history.specs.declared.start.NodeStart.{NodeStart}
 use Rattle.node_history.specs.declared.step.NodeStep.{NodeStep}
 use Rattle.node_history.specs.declared.step.NodeStep.TheVariants.{Begin, Settle, Hand, Stop}
@@ -32,8 +32,8 @@ moved valid s (Stop node kept) = Some (stop kept s)
 -- All nodes behind a step of one of them, which has to be there. The others stay.
 abbrev pub states_after : Valid → List HistoryState → NodeStep → Option (List HistoryState)
 states_after valid states step =
-    option_and_then (λ s. option_map (slice_set states (node_of_step step)) (moved valid s step))
-    (slice_get states (node_of_step step))
+    option_and_then (λ s. option_map (slice_set states (party_of_step step)) (moved valid s step))
+    (slice_get states (party_of_step step))
 
 -- The states behind steps, the first of which has number k; or the number of the first one that is
 -- not allowed.
@@ -47,4 +47,4 @@ states_from valid k states (step ∷ steps) =
 -- The states behind all steps of nodes that begin so, or the number of the first step that is not
 -- allowed.
 abbrev pub history_of : Valid → List NodeStart → List NodeStep → Result (List HistoryState) ℕ
-history_of valid starts steps = states_from valid 0 (map fresh_node starts) steps
+history_of valid starts steps = states_from valid 0 (map fresh_party starts) steps

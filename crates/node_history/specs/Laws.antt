@@ -1,7 +1,7 @@
 -- What holds in every history.
 use Rattle.std.specs.Prelude.{◌≡◌, ℕ, ◌+◌, ◌<◌, ◌≤◌, true, List, [], ◌∷◌, ◌++◌, length, slice_get}
 use Rattle.std.specs.Prelude.{slice_index_or, map, Some, IfSome, Contains, Ok}
-use Rattle.byte_forms.specs.Types.{Text}
+use Rattle.byte_formats.specs.Types.{Text}
 use Rattle.issuance_log.specs.Folds.{LogState}
 use Rattle.node_history.specs.Histories.{Valid, history_of}
 use Rattle.node_history.specs.Nodes.{HistoryState}
@@ -26,7 +26,7 @@ Begins {T} xs ys = (rest : List T) × (xs ++ rest ≡ ys)
 -- The records of a node are valid, with the pending one and without it. The numbers that were
 -- handed out rise strictly, and are those of settled records; where the last settled record may be
 -- handed out, it was not yet.
-pub record IsSoundNode (valid : Valid) (s : HistoryState) : Type 0 where
+pub record IsSoundParty (valid : Valid) (s : HistoryState) : Type 0 where
   pub settled : valid s.start s.settled ≡ true
   pub pending : IfSome s.pending (λ body. valid s.start (s.settled ++ body ∷ []) ≡ true)
   pub rise : RisesFrom 0 s.handed
@@ -48,7 +48,7 @@ pub record WereBegun (steps : List NodeStep) (place : ℕ) (s : HistoryState) : 
 
 -- A number that was handed out is that of a settled record, which a step of the node began: record
 -- 0 is the first one of its journal, and the settled ones follow it.
-pub record IsOfSettled (steps : List NodeStep) (place : ℕ) (s : HistoryState)
+pub record IsOfDurable (steps : List NodeStep) (place : ℕ) (s : HistoryState)
     (number : ℕ) : Type 0 where
   pub before : ℕ
   pub is : number ≡ before + 1
@@ -61,8 +61,8 @@ abbrev pub body_in : List Text → ℕ → Text
 body_in settled number = slice_index_or ([] ∷ settled) number []
 
 -- The bodies of the records that were handed out, in their order.
-abbrev pub handed_bodies : HistoryState → List Text
-handed_bodies s = map (body_in s.settled) s.handed
+abbrev pub released_bodies : HistoryState → List Text
+released_bodies s = map (body_in s.settled) s.handed
 
 -- These steps of nodes that begin so are allowed, and leave the node with this place so.
 pub record LeadsTo (valid : Valid) (starts : List NodeStart) (steps : List NodeStep) (place : ℕ)

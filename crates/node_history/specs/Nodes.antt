@@ -1,7 +1,7 @@
 -- A node and its steps: a log or a cosigner with its journal, and what becomes of its records.
 use Rattle.std.specs.Prelude.{ℕ, Bool, true, false, List, [], ◌∷◌, ◌++◌, length, Option, Some}
 use Rattle.std.specs.Prelude.{None, if◌then◌else◌}
-use Rattle.byte_forms.specs.Types.{Text}
+use Rattle.byte_formats.specs.Types.{Text}
 use Rattle.node_history.specs.declared.start.NodeStart.{NodeStart}
 use Rattle.node_history.specs.declared.step.NodeStep.{NodeStep}
 use Rattle.node_history.specs.declared.step.NodeStep.TheVariants.{Begin, Settle, Hand, Stop}
@@ -17,8 +17,8 @@ pub record HistoryState : Type 0 where
   pub may_hand : Bool
 
 -- it has begun, and no more
-abbrev pub fresh_node : NodeStart → HistoryState
-fresh_node start =
+abbrev pub fresh_party : NodeStart → HistoryState
+fresh_party start =
     record { start = start; settled = []; pending = None; handed = []; may_hand = false }
 
 abbrev pub with_pending : List Text → Option Text → List Text
@@ -66,8 +66,8 @@ stop kept s = record {
 }
 
 -- the node that takes a step
-abbrev pub node_of_step : NodeStep → ℕ
-node_of_step (Begin node body) = node
-node_of_step (Settle node) = node
-node_of_step (Hand node) = node
-node_of_step (Stop node kept) = node
+abbrev pub party_of_step : NodeStep → ℕ
+party_of_step (Begin node body) = node
+party_of_step (Settle node) = node
+party_of_step (Hand node) = node
+party_of_step (Stop node kept) = node

@@ -1,6 +1,6 @@
 -- The rules of the records of logs and cosigners, by what begins them.
 use Rattle.std.specs.Prelude.{◌≡◌, ◌⊎◌, ◌^◌, Bool, List, Some, Ok, IsOk}
-use Rattle.byte_forms.specs.Types.{Text, HashFunction}
+use Rattle.byte_formats.specs.Types.{Text, HashFunction}
 use Rattle.cosigner_core.specs.Folds.{CosignerState, cosigner_of}
 use Rattle.cosigner_core.specs.Openings.{cosigner_read}
 use Rattle.cosigner_core.specs.Progress.{may_follow_cosigner}

@@ -2,16 +2,16 @@
 
 ghost use Rattle.std.specs.Prelude.{◌≡◌, ℕ, true, List, [], ◌∷◌, ◌++◌, length, slice_get, Some};
 ghost use Rattle.std.specs.Prelude.{IfSome, Contains, Ok};
-ghost use Rattle.byte_forms.specs.Types.{HashFunction, Text};
+ghost use Rattle.byte_formats.specs.Types.{HashFunction, Text};
 ghost use Rattle.cosigner_core.specs.Counts.{AreCounted};
 ghost use Rattle.cosigner_core.specs.declared.settings.CosignerSettings.{CosignerSettings};
-ghost use Rattle.journal_core.specs.Format.{StandsFor};
+ghost use Rattle.journal_core.specs.Format.{Represents};
 ghost use Rattle.issuance_log.specs.Folds.{LogState, log_of};
 ghost use Rattle.issuance_log.specs.Records.{item_in};
 ghost use Rattle.node_history.specs.Histories.{history_of, moved};
-ghost use Rattle.node_history.specs.Laws.{HasGrown, HasItemAt, IsOfSettled, IsSoundNode};
+ghost use Rattle.node_history.specs.Laws.{HasGrown, HasItemAt, IsOfDurable, IsSoundParty};
 ghost use Rattle.node_history.specs.Laws.{KeepsItems, LeadsTo, WereBegun};
-ghost use Rattle.node_history.specs.Nodes.{HistoryState, fresh_node, node_of_step};
+ghost use Rattle.node_history.specs.Nodes.{HistoryState, fresh_party, party_of_step};
 ghost use Rattle.node_history.specs.Rules.{AreRecords, IsReadAs, StartsWith, may_follow as valid};
 ghost use Rattle.node_history.specs.declared.start.NodeStart.{NodeStart};
 ghost use Rattle.node_history.specs.declared.start.NodeStart.TheVariants.{Cosigner};
@@ -20,19 +20,19 @@ ghost use Rattle.node_history.specs.declared.step.NodeStep.{NodeStep};
 /// In each state to which a history leads, the records of a node are valid with the pending one and
 /// without it; each body is one that a step of the node began; and the numbers that were handed out
 /// rise strictly, each that of a settled record of a body that was begun.
-pub fn histories_keep_to_the_rules()
+pub fn law_histories_keep_to_the_rules()
     ensures sound { (h : HashFunction) (starts : List NodeStart) (steps : List NodeStep) (place : ℕ)
-        (s : HistoryState) → LeadsTo (valid h) starts steps place s → IsSoundNode (valid h) s }
+        (s : HistoryState) → LeadsTo (valid h) starts steps place s → IsSoundParty (valid h) s }
     ensures begun { (h : HashFunction) (starts : List NodeStart) (steps : List NodeStep) (place : ℕ)
         (s : HistoryState) → LeadsTo (valid h) starts steps place s → WereBegun steps place s }
     ensures handed { (h : HashFunction) (starts : List NodeStart) (steps : List NodeStep)
         (place : ℕ) (s : HistoryState) → LeadsTo (valid h) starts steps place s
-        → (number : ℕ) → Contains s.handed number → IsOfSettled steps place s number }
+        → (number : ℕ) → Contains s.handed number → IsOfDurable steps place s number }
 {}
 
 /// What is settled at an earlier moment is a front of what is settled at each later one, and so are
 /// the numbers that were handed out. A node is as it began.
-pub fn states_only_grow()
+pub fn law_states_only_grow()
     ensures grown { (h : HashFunction) (starts : List NodeStart) (earlier later : List NodeStep)
         (place : ℕ) (old : HistoryState) (news : List HistoryState)
         → LeadsTo (valid h) starts earlier place old
@@ -44,19 +44,19 @@ pub fn states_only_grow()
 {}
 
 /// A history begins with nodes that have begun, and goes on by each step that is allowed.
-pub fn histories_go_on()
+pub fn law_histories_go_on()
     ensures begins { (h : HashFunction) (starts : List NodeStart) (place : ℕ) (start : NodeStart)
         → slice_get starts place ≡ Some start
-        → LeadsTo (valid h) starts [] place (fresh_node start) }
+        → LeadsTo (valid h) starts [] place (fresh_party start) }
     ensures on { (h : HashFunction) (starts : List NodeStart) (steps : List NodeStep) (place : ℕ)
         (s t : HistoryState) (step : NodeStep) → LeadsTo (valid h) starts steps place s
-        → node_of_step step ≡ place → moved (valid h) s step ≡ Some t
+        → party_of_step step ≡ place → moved (valid h) s step ≡ Some t
         → LeadsTo (valid h) starts (steps ++ step ∷ []) place t }
 {}
 
 /// In no history two records of a cosigner have the number of the same one-time key, the pending
 /// record among them: the i-th Sign record, counted from 0, has the number i.
-pub fn one_time_keys_are_used_once()
+pub fn law_one_time_keys_are_used_once()
     ensures { (h : HashFunction) (starts : List NodeStart) (steps : List NodeStep) (place : ℕ)
         (s : HistoryState) (settings : CosignerSettings) (public : Text)
         → LeadsTo (valid h) starts steps place s → s.start ≡ Cosigner settings public
@@ -66,7 +66,7 @@ pub fn one_time_keys_are_used_once()
 /// Bodies may stand behind the first record of a node's journal exactly where a history may begin
 /// them, and each file that stands for such records is opened with them. Each journal of a log or a
 /// cosigner is that of a node.
-pub fn journals_and_histories_agree()
+pub fn law_journals_and_histories_agree()
     ensures start { (h : HashFunction) (first : Text) (bodies : List Text)
         → AreRecords h (first ∷ bodies) → (start : NodeStart) × StartsWith start first }
     ensures alone { (h : HashFunction) (start : NodeStart) → valid h start [] ≡ true }
@@ -76,12 +76,12 @@ pub fn journals_and_histories_agree()
         → StartsWith start first → valid h start bodies ≡ true → AreRecords h (first ∷ bodies) }
     ensures read { (h : HashFunction) (start : NodeStart) (first : Text) (bodies : List Text)
         (bytes : Text) → StartsWith start first → valid h start bodies ≡ true
-        → StandsFor bytes (first ∷ bodies) → IsReadAs h start bytes (first ∷ bodies) }
+        → Represents bytes (first ∷ bodies) → IsReadAs h start bytes (first ∷ bodies) }
 {}
 
 /// The entries of a log and their keys keep their places, whatever records come behind its own.
 /// The item of a record is the next one behind those of the records before it.
-pub fn logs_keep_their_items()
+pub fn law_logs_keep_their_items()
     ensures added { (h : HashFunction) (list : List Text) (body : Text) (more : List Text)
         (entry key : Text) (s t : LogState) → log_of h list ≡ Ok s
         → item_in body ≡ Some (entry, key) → log_of h ((list ++ body ∷ []) ++ more) ≡ Ok t

@@ -12,7 +12,7 @@
 #![tactic(auto)]
 
 mod error;
-mod laws;
+pub mod laws;
 mod moves;
 mod replay;
 mod rules;
@@ -21,10 +21,6 @@ mod state;
 mod step;
 
 pub use error::HistoryError;
-pub use laws::{
-    histories_go_on, histories_keep_to_the_rules, journals_and_histories_agree,
-    logs_keep_their_items, one_time_keys_are_used_once, states_only_grow,
-};
 pub use replay::history;
 pub use start::NodeStart;
 pub use state::NodeState;

@@ -2,7 +2,7 @@
 
 ghost use Rattle.std.specs.Prelude.{◌≡◌, map, IfOk};
 ghost use Rattle.node_history.specs.Histories.{history_of, states_after};
-ghost use Rattle.node_history.specs.Nodes.{fresh_node, node_of_step};
+ghost use Rattle.node_history.specs.Nodes.{fresh_party, party_of_step};
 ghost use Rattle.node_history.specs.Results.{AnswersHistory, HasMoved};
 ghost use Rattle.node_history.specs.Rules.{may_follow as valid};
 
@@ -17,7 +17,7 @@ use tree_core::TreeHash;
 
 // The node that takes a step.
 fn node_of(step: &NodeStep) -> u32
-    ensures { result ≡ node_of_step step.now }
+    ensures { result ≡ party_of_step step.now }
 {
     match step {
         NodeStep::Begin { node, body: _ } => *node,
@@ -28,8 +28,8 @@ fn node_of(step: &NodeStep) -> u32
 }
 
 // All nodes as they begin.
-fn fresh_nodes(alloc: Global, starts: &[NodeStart]) -> Result<Vec<NodeState>, Memory>
-    ensures { IfOk result (λ states. states.items ≡ map fresh_node starts.now) }
+fn fresh_parties(alloc: Global, starts: &[NodeStart]) -> Result<Vec<NodeState>, Memory>
+    ensures { IfOk result (λ states. states.items ≡ map fresh_party starts.now) }
 {
     let mut states = Vec::new(alloc);
     for start in starts {
@@ -66,7 +66,7 @@ pub fn history<H: TreeHash>(
     ensures { AnswersHistory (λ states. states.items)
         (history_of (valid H.hash) starts.now steps.now) result }
 {
-    let mut states = fresh_nodes(alloc, starts)?;
+    let mut states = fresh_parties(alloc, starts)?;
     let mut number = 0;
     for step in steps {
         if !take_next::<H>(alloc, &mut states, step)? {

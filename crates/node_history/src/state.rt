@@ -1,7 +1,7 @@
 //! The state of a node.
 
 ghost use Rattle.std.specs.Prelude.{◌≡◌};
-ghost use Rattle.node_history.specs.Nodes.{fresh_node};
+ghost use Rattle.node_history.specs.Nodes.{fresh_party};
 
 use crate::start::NodeStart;
 use mtc_io::Bytes;
@@ -40,7 +40,7 @@ impl Model for NodeState {
 impl NodeState {
     /// A node that has begun, and no more.
     pub(crate) fn fresh(alloc: Global, start: NodeStart) -> NodeState
-        ensures { result ≡ fresh_node start }
+        ensures { result ≡ fresh_party start }
     {
         NodeState {
             start,

@@ -7,7 +7,7 @@ use Rattle.std.specs.Int.Signed.{lt_z_no, lt_z_yes, clash_ℤ}
 use Rattle.std.specs.List.{list_any, AllByRecursion}
 use Rattle.std.specs.Str.{bytes_eq}
 use Rattle.std.proofs.lemmas.Slice.Eq.{bytes_eq-Decides}
-use Rattle.byte_forms.proofs.Steps.{guard_ok}
+use Rattle.byte_formats.proofs.Steps.{guard_ok}
 use Rattle.cert_fields.specs.Certificate.{Parts}
 use Rattle.cert_fields.specs.Extensions.{has_unknown_critical}
 use Rattle.cert_fields.specs.Given.{mtc_proof}

@@ -1,8 +1,8 @@
 -- The first fault of two fields of a store file is that of the store.
 use Rattle.std.proofs.Common.{◌≡◌, List, Result, Ok, Err, refl}
 use Rattle.std.specs.Prelude.{codes}
-use Rattle.byte_forms.specs.Readings.{◌>>=◌}
-use Rattle.byte_forms.specs.Types.{Text}
+use Rattle.byte_formats.specs.Readings.{◌>>=◌}
+use Rattle.byte_formats.specs.Types.{Text}
 use Rattle.cert_names.specs.LogNames.{name_with}
 use Rattle.tls_wire.specs.Anchors.{text_of}
 use Rattle.toml.specs.Data.{Members, get_member}

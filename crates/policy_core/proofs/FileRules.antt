@@ -6,8 +6,8 @@ use Rattle.std.proofs.lemmas.Bool.Decides.{nat_tests}
 use Rattle.std.specs.List.{AllByRecursion, IsDistinct, position, position_or_len}
 use Rattle.std.specs.Option.{option_and_then}
 use Rattle.std.specs.Prelude.{codes, option_map}
-use Rattle.byte_forms.specs.Readings.{◌>>=◌}
-use Rattle.byte_forms.proofs.Steps.{bind_ok, ok_is, some_or_ok}
+use Rattle.byte_formats.specs.Readings.{◌>>=◌}
+use Rattle.byte_formats.proofs.Steps.{bind_ok, ok_is, some_or_ok}
 use Rattle.std.specs.Str.{bytes_eq}
 use Rattle.toml.specs.Data.{Data, Items, no_items, item, Members, as_array, get_member}
 use Rattle.toml_fields.specs.Codes.{number_data}

@@ -3,7 +3,7 @@ use Rattle.std.proofs.Common.{◌≡◌, ℕ, ◌+◌, ◌<◌, List, [], ◌∷
 use Rattle.std.proofs.Common.{Result, Ok, Err, Option, Some, None, refl, sym, ap, ◌∙◌, append_assoc}
 use Rattle.std.proofs.Common.{add-one, drop-cons, length-append, arith}
 use Rattle.std.specs.Prelude.{option_map}
-use Rattle.byte_forms.specs.Readings.{◌>>=◌}
+use Rattle.byte_formats.specs.Readings.{◌>>=◌}
 use Rattle.toml.specs.Data.{Data, item}
 use Rattle.toml.specs.View.{items_view, view}
 use Rattle.toml.specs.declared.value.Value.{Value}

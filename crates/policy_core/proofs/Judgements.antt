@@ -5,12 +5,13 @@ use Rattle.std.specs.Prelude.{ℤ, if◌then◌else◌}
 use Rattle.std.specs.List.{find, list_any}
 use Rattle.std.specs.Str.{bytes_eq}
 use Rattle.std.proofs.lemmas.Slice.Eq.{bytes_eq-Decides}
-use Rattle.byte_forms.specs.Places.{IsBytes}
-use Rattle.byte_forms.specs.Readings.{◌>>=◌, lifted}
-use Rattle.byte_forms.proofs.Steps.{bind_ok, lifted_ok, pass_ok, ok_is, IsBytes-rest, IsBytes-back}
+use Rattle.byte_formats.specs.Places.{IsBytes}
+use Rattle.byte_formats.specs.Readings.{◌>>=◌, lifted}
+use Rattle.byte_formats.proofs.Steps.{bind_ok, lifted_ok, pass_ok, ok_is, IsBytes-rest}
+use Rattle.byte_formats.proofs.Steps.{IsBytes-back}
 use Rattle.der_core.specs.Elements.{length_octets, element}
 use Rattle.cert_fields.specs.Certificate.{Parts, parts_of}
-use Rattle.cert_fields.specs.Spelling.{tbs_fields, certificate_fields, certificate}
+use Rattle.cert_fields.specs.Encoding.{tbs_fields, certificate_fields, certificate}
 use Rattle.cert_fields.specs.Grammar.{IsCertificate}
 use Rattle.cert_fields.proofs.CertificateForm.{parts_only, parts_again}
 use Rattle.tree_core.specs.Evaluation.{evaluation}
@@ -165,7 +166,7 @@ accepted_only h bytes store now a ok e =
     record {
       parts = c;
       fits = cert.1;
-      spelled = cert.0;
+      encoded = cert.0;
       algorithm = admission.algorithm;
       issuer = admission.issuer;
       begun = admission.begun;
@@ -174,7 +175,7 @@ accepted_only h bytes store now a ok e =
       not_revoked = admission.not_revoked;
       proof = p;
       proof_fits = proof.1;
-      proof_spelled = proof.0;
+      proof_encoded = proof.0;
       evaluates = value ∙ ap (λ (b : List ℕ). Ok b) hash;
       by = subst By hash end.by;
       known = end.known ∙ ap (λ (b : List ℕ). accepted a.by c.serial p b) hash;
@@ -187,7 +188,7 @@ unfolding judged judgement
 accepted_again h bytes store now a valid f =
     let c : Parts = f.parts in
     let p : ProofParts = f.proof in
-    let one : parts_of bytes ≡ Ok c = ap parts_of f.spelled ∙ parts_again c f.fits in
+    let one : parts_of bytes ≡ Ok c = ap parts_of f.encoded ∙ parts_again c f.fits in
     let two : admitted store now c ≡ Ok tt = admitted_again store now c (record {
       algorithm = f.algorithm;
       issuer = f.issuer;
@@ -196,7 +197,7 @@ accepted_again h bytes store now a valid f =
       extensions = f.extensions;
       not_revoked = f.not_revoked;
     }) in
-    let three : proof_in c.proof ≡ Ok p = ap proof_in f.proof_spelled
+    let three : proof_in c.proof ≡ Ok p = ap proof_in f.proof_encoded
     ∙ proofs_again p f.proof_fits in
     let last = decided_again store c.serial p a.hash a.by valid f.by in
     rw (one, two, three, f.evaluates, last) (ap (λ (x : Accepted). Ok x) (sym f.known))
@@ -241,13 +242,13 @@ pub accepted_so : (h : List ℕ → List ℕ) (bytes : List ℕ) (store : Store)
     → HoldsNoOther store p.start p.end hash
     → Trusts store p.start p.end hash ⊎ IsSatisfied store p hash
     → judgement h bytes store now ≡ Ok (accepted (accepted_by store p hash) c.serial p hash)
-accepted_so h bytes store now c p hash valid fits spelled asked proof_fits proof_spelled value
+accepted_so h bytes store now c p hash valid fits encoded asked proof_fits proof_encoded value
     other by =
     accepted_again h bytes store now (accepted (accepted_by store p hash) c.serial p hash) valid
     (record {
       parts = c;
       fits = fits;
-      spelled = spelled;
+      encoded = encoded;
       algorithm = asked.algorithm;
       issuer = asked.issuer;
       begun = asked.begun;
@@ -256,7 +257,7 @@ accepted_so h bytes store now c p hash valid fits spelled asked proof_fits proof
       not_revoked = asked.not_revoked;
       proof = p;
       proof_fits = proof_fits;
-      proof_spelled = proof_spelled;
+      proof_encoded = proof_encoded;
       evaluates = value;
       by = by_accepted store p hash other by;
       known = refl;

@@ -11,7 +11,7 @@ use Rattle.std.proofs.lemmas.Slice.Eq.{bytes_eq-Decides}
 use Rattle.std.specs.Int.{bit_at}
 use Rattle.std.specs.List.{AllByRecursion, Contains, flat_map, list_any}
 use Rattle.std.specs.Prelude.{if◌then◌else◌}
-use Rattle.byte_forms.specs.Types.{Hash, Text}
+use Rattle.byte_formats.specs.Types.{Hash, Text}
 use Rattle.hss_core.specs.Hss.{Verifies}
 use Rattle.mtc_proof.specs.Inputs.{signed_text}
 use Rattle.mtc_proof.specs.Proofs.{ProofParts, SigParts, signature_text, IsMtcSignature}
@@ -125,12 +125,12 @@ none_unnamed store p hash place (inr e) =
         let lt : place < length store.cosigners = grind (arith, nat_tests, below) in
         set_has store p hash place k lt ∙ rw e refl
 
-pub signed_as_spelled : (log : Text) (p : ProofParts) (hash : Hash) (k : Known)
+pub signed_as_encoded : (log : Text) (p : ProofParts) (hash : Hash) (k : Known)
     (xs : List SigParts) → AllByRecursion IsMtcSignature xs
     → p.signatures ≡ flat_map signature_text xs
     → has_signed log p hash k
     ≡ list_any (is_signature_of k (signed_text k.id log p.start p.end hash)) xs
-signed_as_spelled log p hash k xs each spelled = rw (spelled, signatures_found xs each) refl
+signed_as_encoded log p hash k xs each encoded = rw (encoded, signatures_found xs each) refl
 
 one_signed : (k : Known) (text signature : Text) → Verifies k.key text signature
     → is_signature_of k text (record { cosigner = k.id; signature = signature }) ≡ true
@@ -144,7 +144,7 @@ pub signed_counts : (store : Store) (p : ProofParts) (hash : Hash) (place : ℕ)
     → Contains xs (record { cosigner = k.id; signature = signature })
     → Verifies k.key (signed_text k.id store.log p.start p.end hash) signature
     → is_in_set (counted store p hash) place ≡ true
-signed_counts store p hash place k xs signature there named each spelled among verifies =
+signed_counts store p hash place k xs signature there named each encoded among verifies =
     let one : SigParts = record { cosigner = k.id; signature = signature } in
     let text : Text = signed_text k.id store.log p.start p.end hash in
     let test : SigParts → Bool = is_signature_of k text in
@@ -153,7 +153,7 @@ signed_counts store p hash place k xs signature there named each spelled among v
     ap (λ (s : SigParts). test s) among.2 ∙ passes in
     let some : list_any test xs ≡ true = list_any_at test xs among.0 one among.1 here in
     let signed : has_signed store.log p hash k ≡ true =
-    signed_as_spelled store.log p hash k xs each spelled ∙ some in
+    signed_as_encoded store.log p hash k xs each encoded ∙ some in
     let below : place < length store.cosigners = slice_get_within store.cosigners place k there in
     let same : get_or store.cosigners place k ≡ k =
     get_or_from_slice_get store.cosigners place k k there in

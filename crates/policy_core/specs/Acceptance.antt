@@ -2,12 +2,12 @@
 use Rattle.std.specs.Prelude.{◌≡◌, ◌⊎◌, ◌<◌, ◌≤◌, ℕ, true, false, ℤ, ◌≤ℤ◌, List, [], ◌∷◌}
 use Rattle.std.specs.Prelude.{length, Ok, if◌then◌else◌}
 use Rattle.std.specs.List.{AllByRecursion, count_by, list_any}
-use Rattle.byte_forms.specs.Types.{Text, Hash, HashFunction}
+use Rattle.byte_formats.specs.Types.{Text, Hash, HashFunction}
 use Rattle.cert_fields.specs.Certificate.{Parts}
 use Rattle.cert_fields.specs.Extensions.{has_unknown_critical}
 use Rattle.cert_fields.specs.Given.{mtc_proof}
 use Rattle.cert_fields.specs.Grammar.{IsCertificate}
-use Rattle.cert_fields.specs.Spelling.{certificate}
+use Rattle.cert_fields.specs.Encoding.{certificate}
 use Rattle.tree_core.specs.Evaluation.{evaluation}
 use Rattle.tree_core.specs.Tree.{leaf_hash}
 use Rattle.log_entry.specs.EntryOf.{entry_of}
@@ -72,7 +72,7 @@ pub record IsAccepted (h : HashFunction) (bytes : Text) (store : Store) (now : �
     : Type 0 where
   pub parts : Parts
   pub fits : IsCertificate parts
-  pub spelled : bytes ≡ certificate parts
+  pub encoded : bytes ≡ certificate parts
   pub algorithm : parts.algorithm ≡ mtc_proof
   pub issuer : parts.issuer ≡ store.name
   pub begun : parts.validity.not_before ≤ℤ now
@@ -81,7 +81,7 @@ pub record IsAccepted (h : HashFunction) (bytes : Text) (store : Store) (now : �
   pub not_revoked : AllByRecursion (λ range. is_in parts.serial range ≡ false) store.revoked
   pub proof : ProofParts
   pub proof_fits : IsProof proof
-  pub proof_spelled : parts.proof ≡ proof_text proof
+  pub proof_encoded : parts.proof ≡ proof_text proof
   pub evaluates :
       evaluation h (leaf_hash h (entry_of h parts)) parts.serial proof.start proof.end proof.path
       ≡ Ok a.hash

@@ -4,8 +4,8 @@ use Rattle.std.specs.Prelude.{codes, Option, Some, None, Result, Ok, if◌then�
 use Rattle.std.specs.List.{position}
 use Rattle.std.specs.Option.{option_and_then}
 use Rattle.std.specs.Str.{bytes_eq}
-use Rattle.byte_forms.specs.Types.{Text}
-use Rattle.byte_forms.specs.Readings.{◌>>=◌}
+use Rattle.byte_formats.specs.Types.{Text}
+use Rattle.byte_formats.specs.Readings.{◌>>=◌}
 use Rattle.hss_core.specs.Hss.{hss_key_types}
 use Rattle.toml.specs.Data.{Data, Items, no_items, item, as_array, get_member}
 use Rattle.toml_fields.specs.Codes.{bytes_data, number_data}

@@ -2,8 +2,8 @@
 use Rattle.std.specs.Prelude.{List, [], ◌∷◌, Option, Some, None, Result, Ok, Err, if◌then◌else◌}
 use Rattle.std.specs.Option.{option_and_then}
 use Rattle.std.specs.Result.{result_ok}
-use Rattle.byte_forms.specs.Types.{Text}
-use Rattle.byte_forms.specs.Readings.{◌>>=◌, some_or}
+use Rattle.byte_formats.specs.Types.{Text}
+use Rattle.byte_formats.specs.Readings.{◌>>=◌, some_or}
 use Rattle.tls_wire.specs.Anchors.{anchor_text}
 use Rattle.toml.specs.Data.{Data, Items, no_items, item, Members, as_array, as_str, as_table}
 use Rattle.toml_fields.specs.Tree.{has_only}

@@ -4,8 +4,8 @@ use Rattle.std.specs.Prelude.{ℕ, ◌&&◌, ◌==◌, Bool, not, nat_lt, nat_le
 use Rattle.std.specs.Prelude.{Some, None, Result, Ok, Err, if◌then◌else◌}
 use Rattle.std.specs.List.{list_any, find}
 use Rattle.std.specs.Str.{bytes_eq}
-use Rattle.byte_forms.specs.Types.{Text, Hash, HashFunction}
-use Rattle.byte_forms.specs.Readings.{◌>>=◌, lifted}
+use Rattle.byte_formats.specs.Types.{Text, Hash, HashFunction}
+use Rattle.byte_formats.specs.Readings.{◌>>=◌, lifted}
 use Rattle.cert_fields.specs.Certificate.{Parts, parts_of}
 use Rattle.cert_fields.specs.Extensions.{has_unknown_critical}
 use Rattle.cert_fields.specs.Given.{mtc_proof}

@@ -1,7 +1,7 @@
 //! The cosigners of a store file.
 
 ghost use Rattle.std.specs.Prelude.{◌≡◌, ◌≢◌, ◌<◌, ◌≤◌, length, codes, Ok, Err, IfOk, IfErr};
-ghost use Rattle.byte_forms.specs.Readings.{Answers};
+ghost use Rattle.byte_formats.specs.Readings.{Answers};
 ghost use Rattle.toml.specs.Data.{get_member};
 ghost use Rattle.toml.specs.View.{items_view, table_view, view};
 ghost use Rattle.policy_core.specs.declared.error.StoreError.{StoreError};

@@ -1,7 +1,7 @@
 //! The tables of a store file, and their fields.
 
 ghost use Rattle.std.specs.Prelude.{◌≡◌, ◌≢◌, map, codes, Result, Ok, Err, IfOk, IfErr};
-ghost use Rattle.byte_forms.specs.Readings.{Answers, Gives};
+ghost use Rattle.byte_formats.specs.Readings.{Answers, Gives};
 ghost use Rattle.toml.specs.Data.{Data, get_member};
 ghost use Rattle.toml.specs.View.{items_view, table_view, view};
 ghost use Rattle.toml_fields.specs.Codes.{hash_data, number_data};

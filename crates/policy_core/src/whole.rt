@@ -1,7 +1,7 @@
 //! What a store has to be as a whole.
 
 ghost use Rattle.std.specs.Prelude.{◌≡◌, ◌≢◌, length, Ok, Err, IfOk, IfErr};
-ghost use Rattle.byte_forms.specs.Readings.{Answers};
+ghost use Rattle.byte_formats.specs.Readings.{Answers};
 ghost use Rattle.std.specs.List.{AllByRecursion, list_any};
 ghost use Rattle.policy_core.specs.declared.error.StoreError.{StoreError};
 ghost use Rattle.policy_core.specs.Files.{are_inhabited, are_subtrees, checked_store};

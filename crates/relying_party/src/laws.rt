@@ -3,8 +3,8 @@
 ghost use Rattle.std.specs.Prelude.{◌≡◌, ◌⊎◌, ℕ, ◌<◌, ◌≤◌, true, false, ℤ, List, length, slice_get};
 ghost use Rattle.std.specs.Prelude.{slice_index_or, Some, Ok};
 ghost use Rattle.std.specs.List.{AllByRecursion, Contains, flat_map, list_any};
-ghost use Rattle.byte_forms.specs.Places.{IsBytes};
-ghost use Rattle.byte_forms.specs.Types.{Hash, HashFunction, Text};
+ghost use Rattle.byte_formats.specs.Places.{IsBytes};
+ghost use Rattle.byte_formats.specs.Types.{Hash, HashFunction, Text};
 ghost use Rattle.hss_core.specs.Hss.{Verifies};
 ghost use Rattle.mtc_proof.specs.Inputs.{signed_text};
 ghost use Rattle.mtc_proof.specs.Proofs.{IsMtcSignature, ProofParts, SigParts, signature_text};
@@ -24,7 +24,7 @@ ghost use Rattle.policy_core.specs.Judgement.{judgement};
 /// trusts none, one for which enough cosigners count; for every hash function. So a store that
 /// trusts no other hash for the interval has a way to accept this one where it trusts it or its
 /// rules are met.
-pub fn accepted_certificates()
+pub fn law_accepted_certificates()
     ensures only { (h : HashFunction) (bytes : Text) (store : Store) (now : ℤ) (a : Accepted)
         → IsBytes bytes → judgement h bytes store now ≡ Ok a → IsAccepted h bytes store now a }
     ensures again { (h : HashFunction) (bytes : Text) (store : Store) (now : ℤ) (a : Accepted)
@@ -40,7 +40,7 @@ pub fn accepted_certificates()
 /// place and the proof has a signature of it. It has no other place: none behind the cosigners, and
 /// none that no rule names. Where the signatures of the proof spell a list, it has one of a
 /// cosigner exactly where one of the list has the cosigner's id and verifies under its key.
-pub fn counted_cosigners()
+pub fn law_counted_cosigners()
     ensures set { (store : Store) (p : ProofParts) (hash : Hash) (place : ℕ) (k : Known)
         → place < length store.cosigners
         → is_in_set (counted store p hash) place
@@ -57,7 +57,7 @@ pub fn counted_cosigners()
 /// A cosigner of the store whom some rule names counts where a signature in the proof has its id
 /// and verifies, under its key, what it signs of the proof's interval in the store's log. So what a
 /// cosigner answers counts for each store that has its id and public key.
-pub fn cosignatures_count()
+pub fn law_cosignatures_count()
     ensures { (store : Store) (p : ProofParts) (hash : Hash) (place : ℕ) (k : Known)
         (xs : List SigParts) (signature : Text)
         → slice_get store.cosigners place ≡ Some k → is_named store.rules place ≡ true

@@ -11,9 +11,8 @@
 mod admission;
 mod counting;
 mod judging;
-mod laws;
+pub mod laws;
 mod rules;
 mod trust;
 
 pub use judging::judge;
-pub use laws::{accepted_certificates, cosignatures_count, counted_cosigners};

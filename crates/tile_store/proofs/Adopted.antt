@@ -9,7 +9,7 @@ use Rattle.std.proofs.Math.Seq.{drop-cons, take-suc}
 use Rattle.std.proofs.lemmas.Bool.{cases_lt}
 use Rattle.std.proofs.lemmas.List.{length-drop, length-take, take-append-drop}
 use Rattle.std.proofs.lemmas.Nat.{le-div}
-use Rattle.byte_forms.proofs.Digits.{power_pos}
+use Rattle.byte_formats.proofs.Digits.{power_pos}
 use Rattle.disk_core.specs.Disk.{part}
 use Rattle.disk_core.specs.declared.disk.Disk.{Ghosts}
 use Rattle.frame_pool.specs.Frames.{PoolState}
@@ -78,22 +78,23 @@ stands h leaves b level place tile = record {
 }
 
 -- what is said of the bytes and of the leaves, where both are told
-pub both-told : {B : Type 0} (told : Option (List ℕ)) (f : List ℕ → B)
-    (Q : List ℕ → B → Type 0) → ((b : List ℕ) → told ≡ Some b → Q b (f b))
-    → IfSome told (λ bytes. IfSome (option_map f told) (λ leaves. Q bytes leaves))
-both-told None f Q holds = tt
-both-told (Some b) f Q holds = holds b refl
+pub both-contents : {B : Type 0} (contents : Option (List ℕ)) (f : List ℕ → B)
+    (Q : List ℕ → B → Type 0) → ((b : List ℕ) → contents ≡ Some b → Q b (f b))
+    → IfSome contents (λ bytes. IfSome (option_map f contents) (λ leaves. Q bytes leaves))
+both-contents None f Q holds = tt
+both-contents (Some b) f Q holds = holds b refl
 
-pub these-told : {B : Type 0} (told : Option (List ℕ)) (f : List ℕ → B)
-    (Q : List ℕ → B → Type 0) (b : List ℕ) → told ≡ Some b
-    → IfSome told (λ bytes. IfSome (option_map f told) (λ leaves. Q bytes leaves)) → Q b (f b)
-these-told told f Q b is holds =
+pub these-contents : {B : Type 0} (contents : Option (List ℕ)) (f : List ℕ → B)
+    (Q : List ℕ → B → Type 0) (b : List ℕ) → contents ≡ Some b
+    → IfSome contents (λ bytes. IfSome (option_map f contents) (λ leaves. Q bytes leaves))
+    → Q b (f b)
+these-contents contents f Q b is holds =
     subst (λ t. IfSome t (λ bytes. IfSome (option_map f t) (λ leaves. Q bytes leaves))) is holds
 
-pub told-each : {B : Type 0} (old new : Option (List ℕ)) (f k : List ℕ → B) → new ≡ old
+pub contents-each : {B : Type 0} (old new : Option (List ℕ)) (f k : List ℕ → B) → new ≡ old
     → ((b : List ℕ) → new ≡ Some b → k b ≡ f b) → option_map k new ≡ option_map f old
-told-each old None f k same each = ap (option_map f) same
-told-each old (Some b) f k same each = ap Some (each b refl) ∙ ap (option_map f) same
+contents-each old None f k same each = ap (option_map f) same
+contents-each old (Some b) f k same each = ap Some (each b refl) ∙ ap (option_map f) same
 
 pub on-ok-map : {A E : Type 0} {P Q : Type 0} (r : Result A E) → OnOk r P → (P → Q) → OnOk r Q
 on-ok-map (Ok x) p from = from p
@@ -109,12 +110,12 @@ module _ {T : Type 0} (g : Ghosts T) where
   pub stand-in : (h : List ℕ → List ℕ) (rows : RowsState) (adopted size : ℕ) (disk : T)
       (pool : PoolState) (b : List ℕ) (leaves : List (List ℕ)) → size < 2 ^ 32
       → HaveMatched g h rows (tiles_in adopted) (tiles_in size) disk pool
-      → g.told disk ≡ Some b → FramesHold b pool → AreRowsOf h leaves rows.rows
+      → g.contents disk ≡ Some b → FramesHold b pool → AreRowsOf h leaves rows.rows
       → (level place : ℕ) → IsNewTile adopted size level place → StandsIn h leaves b level place
-  stand-in h rows adopted size disk pool b leaves few matched told frames are level place new =
+  stand-in h rows adopted size disk pool b leaves few matched contents frames are level place new =
       let is = between adopted size level place few new in
       stands h leaves b level place
-      (matched b told frames leaves are level place is.0 is.1.0 is.1.1)
+      (matched b contents frames leaves are level place is.0 is.1.0 is.1.1)
 
 -- why the tiles of a size are not adopted
 pub cause-from : {H T : Type 0} {hashes : Hashes H} {g : Ghosts T}
@@ -125,11 +126,11 @@ pub cause-from : {H T : Type 0} {hashes : Hashes H} {g : Ghosts T}
 cause-from old disk size Failed few reason = reason
 cause-from {hashes = hashes} {g = g} old disk size (BadTile level place) few reason = (
   reason.0,
-  both-told (g.told old.disk) (leaves_with old.adopted old.rows)
+  both-contents (g.contents old.disk) (leaves_with old.adopted old.rows)
       (λ bytes leaves. IsFirstBad hashes.hash leaves bytes old.adopted size level place)
-      (λ b told.
+      (λ b contents.
       let is = reason.1 in
-      let sound = old.told b told in
+      let sound = old.contents b contents in
       let h = hashes.hash in
       let leaves = leaves_with old.adopted old.rows b in
       record {
@@ -140,11 +141,11 @@ cause-from {hashes = hashes} {g = g} old disk size (BadTile level place) few rea
             let there = standing.there in omega arith)
             (λ (other : IsTile h (leaves_with old.adopted old.rows b) level place
             (part (tile_at level place) 8192 b) → ⊥). other standing.tile)
-            (is.other b told sound.frames leaves sound.stands);
+            (is.other b contents sound.frames leaves sound.stands);
         first = λ l p tile earlier.
             let at = between old.adopted size l p few tile in
             stands h leaves b l p
-            (is.before b told sound.frames leaves sound.stands l p at.0 at.1.0 earlier);
+            (is.before b contents sound.frames leaves sound.stands l p at.0 at.1.0 earlier);
       }),
 )
 
@@ -255,18 +256,18 @@ module _ {H T : Type 0} {hashes : Hashes H} {g : Ghosts T} where
 
   -- once the new tiles were found, those of the size are in the file
   pub found-tiles : (old mid : Tiles H T hashes g) (size : ℕ) (b : List ℕ) → TilesStay old mid
-      → IfSome (g.told old.disk) (λ bytes. IfSome (tiles_leaves old) (λ leaves.
+      → IfSome (g.contents old.disk) (λ bytes. IfSome (tiles_leaves old) (λ leaves.
       (level place : ℕ) → IsNewTile old.adopted size level place
       → StandsIn hashes.hash leaves bytes level place))
-      → g.told mid.disk ≡ Some b
+      → g.contents mid.disk ≡ Some b
       → HoldsTiles hashes.hash (leaves_with mid.adopted mid.rows b) size b
-  found-tiles old mid size b stays found told =
+  found-tiles old mid size b stays found contents =
       let h = hashes.hash in
-      let sound = mid.told b told in
-      let new = these-told (g.told old.disk) (leaves_with old.adopted old.rows)
+      let sound = mid.contents b contents in
+      let new = these-contents (g.contents old.disk) (leaves_with old.adopted old.rows)
       (λ bytes leaves. (level place : ℕ) → IsNewTile old.adopted size level place
       → StandsIn hashes.hash leaves bytes level place)
-      b (sym stays.looks.told ∙ told) found in
+      b (sym stays.only_reads.contents ∙ contents) found in
       tiles-adopted h (leaves_with mid.adopted mid.rows b) mid.adopted mid.stored size b
       mid.written sound.tiles
       (λ level place fresh.

@@ -5,17 +5,17 @@ use Rattle.std.proofs.lemmas.List.{drop-drop, drop-take, length-drop, length-tak
 use Rattle.disk_core.specs.Disk.{part}
 use Rattle.tile_store.specs.Contents.{hash_in}
 
-pub part-take : (place count front : ℕ) (bytes : List ℕ) → place + count ≤ front
-    → part place count (take front bytes) ≡ part place count bytes
-part-take place count front bytes within =
-    let size : front ≡ place + (front - place) = omega arith in
+pub part-take : (place count prefix : ℕ) (bytes : List ℕ) → place + count ≤ prefix
+    → part place count (take prefix bytes) ≡ part place count bytes
+part-take place count prefix bytes within =
+    let size : prefix ≡ place + (prefix - place) = omega arith in
     ap (λ n. take count (drop place (take n bytes))) size
-    ∙ ap (take count) (drop-take place (front - place) bytes)
-    ∙ take-take count (front - place) (drop place bytes) (omega arith)
+    ∙ ap (take count) (drop-take place (prefix - place) bytes)
+    ∙ take-take count (prefix - place) (drop place bytes) (omega arith)
 
-pub part-drop : (place count front : ℕ) (bytes : List ℕ)
-    → part place count (drop front bytes) ≡ part (front + place) count bytes
-part-drop place count front bytes = ap (take count) (drop-drop place front bytes)
+pub part-drop : (place count prefix : ℕ) (bytes : List ℕ)
+    → part place count (drop prefix bytes) ≡ part (prefix + place) count bytes
+part-drop place count prefix bytes = ap (take count) (drop-drop place prefix bytes)
 
 -- a part of a part
 pub part-part : (place count inner width : ℕ) (bytes : List ℕ) → inner + width ≤ count
@@ -31,11 +31,11 @@ length-part place count bytes within =
     omega arith
 
 -- bytes with the same front have the same parts there
-pub part-front : (place count front : ℕ) (a b : List ℕ) → place + count ≤ front
-    → take front a ≡ take front b → part place count a ≡ part place count b
-part-front place count front a b within same =
-    sym (part-take place count front a within) ∙ ap (part place count) same
-    ∙ part-take place count front b within
+pub part-prefix : (place count prefix : ℕ) (a b : List ℕ) → place + count ≤ prefix
+    → take prefix a ≡ take prefix b → part place count a ≡ part place count b
+part-prefix place count prefix a b within same =
+    sym (part-take place count prefix a within) ∙ ap (part place count) same
+    ∙ part-take place count prefix b within
 
 -- the hashes of the first bytes, and those behind so many hashes
 pub hash-left : (i half : ℕ) (bytes : List ℕ) → i + 1 ≤ half

@@ -9,9 +9,9 @@ use Rattle.std.proofs.Math.ListN.{length-set}
 use Rattle.std.proofs.Math.Seq.{take-add}
 use Rattle.std.proofs.lemmas.Bool.{cases_lt}
 use Rattle.std.proofs.lemmas.List.{take_all}
-use Rattle.disk_core.proofs.Moments.{looked_on}
+use Rattle.disk_core.proofs.Moments.{only_read_on}
 use Rattle.disk_core.specs.Disk.{part}
-use Rattle.disk_core.specs.Moments.{Looks}
+use Rattle.disk_core.specs.Moments.{OnlyReads}
 use Rattle.disk_core.specs.declared.disk.Disk.{Ghosts}
 use Rattle.frame_pool.specs.Frames.{HoldsKey, IsUnheld, PoolState, released}
 use Rattle.frame_pool.specs.Sound.{IsSoundPool}
@@ -27,16 +27,16 @@ use Rattle.tile_store.specs.Contents.{IsTile, hash_in}
 use Rattle.tile_store.specs.Frames.{FramesHold, HasNoPins}
 use Rattle.tile_store.specs.Layout.{tile_at, tile_number}
 use Rattle.tree_cache.specs.Rows.{RowsState}
-use Rattle.byte_forms.specs.Types.{HashFunction}
+use Rattle.byte_formats.specs.Types.{HashFunction}
 
 -- bytes with the same hashes are the same
-same-front : (a b : List ℕ) (n : ℕ) → ((i : ℕ) → i < n → hash_in i a ≡ hash_in i b)
+same-prefix : (a b : List ℕ) (n : ℕ) → ((i : ℕ) → i < n → hash_in i a ≡ hash_in i b)
     → take (32 * n) a ≡ take (32 * n) b
-same-front a b zero same = refl
-same-front a b (suc n) same =
+same-prefix a b zero same = refl
+same-prefix a b (suc n) same =
     let more : 32 * suc n ≡ 32 * n + 32 = omega arith in
     ap (λ k. take k a) more ∙ take-add (32 * n) 32 a
-    ∙ ap (λ x. x ++ hash_in n a) (same-front a b n (λ i inside. same i (omega arith)))
+    ∙ ap (λ x. x ++ hash_in n a) (same-prefix a b n (λ i inside. same i (omega arith)))
     ∙ ap (λ x. take (32 * n) b ++ x) (same n (omega arith))
     ∙ sym (take-add (32 * n) 32 b) ∙ sym (ap (λ k. take k b) more)
 
@@ -46,7 +46,7 @@ same-tile h leaves level place a b one two =
     let first = one.size in
     let second = two.size in
     sym (take_all (32 * 256) a (omega arith))
-    ∙ same-front a b 256 (λ i inside. one.hashes i inside ∙ sym (two.hashes i inside))
+    ∙ same-prefix a b 256 (λ i inside. one.hashes i inside ∙ sym (two.hashes i inside))
     ∙ take_all (32 * 256) b (omega arith)
 
 -- one tile more was found
@@ -71,11 +71,11 @@ matched-more h leaves from number l p b low is tile sofar level place less behin
 
 module _ {T : Type 0} (g : Ghosts T) where
   -- no tile was read
-  pub compared-looked : (old new : T) (pool : PoolState) → Looks g old new → HasNoPins pool
+  pub compared-only_read : (old new : T) (pool : PoolState) → OnlyReads g old new → HasNoPins pool
       → HaveCompared g old new pool pool
-  compared-looked old new pool looks free = record {
-    looks = looks;
-    frames = λ b told holds. holds;
+  compared-only_read old new pool only_reads free = record {
+    only_reads = only_reads;
+    frames = λ b contents holds. holds;
     keys = λ slot key holds. holds;
     free = free;
     count = refl;
@@ -83,18 +83,18 @@ module _ {T : Type 0} (g : Ghosts T) where
 
   -- a tile was read into a frame, which is empty again
   pub compared-one : (old new : T) (before mid : PoolState) (slot : ℕ) (key : TileKey)
-      → Looks g old new
-      → ((b : List ℕ) → g.told old ≡ Some b → FramesHold b before → FramesHold b mid)
+      → OnlyReads g old new
+      → ((b : List ℕ) → g.contents old ≡ Some b → FramesHold b before → FramesHold b mid)
       → ((s : ℕ) (k : TileKey) → HoldsKey mid s k → (k ≡ key) ⊎ HoldsKey before s k)
       → HasNoPins mid → length mid.keys ≡ length before.keys → IsSoundPool mid
       → HoldsKey mid slot key → HaveCompared g old new before (released mid slot)
-  compared-one old new before mid slot key looks frames keys free count sound held =
+  compared-one old new before mid slot key only_reads frames keys free count sound held =
       let set = length-set mid.keys slot None in
       record {
-        looks = looks;
-        frames = λ b told holds s k was.
+        only_reads = only_reads;
+        frames = λ b contents holds s k was.
             let is = holds-released mid slot s k held.there was in
-            frames b told holds s k is.1;
+            frames b contents holds s k is.1;
         keys = λ s k was.
             let is = holds-released mid slot s k held.there was in
             ⊎_elim
@@ -111,9 +111,10 @@ module _ {T : Type 0} (g : Ghosts T) where
   pub compared-on : (old mid new : T) (a b c : PoolState) → HaveCompared g old mid a b
       → HaveCompared g mid new b c → HaveCompared g old new a c
   compared-on old mid new a b c first second = record {
-    looks = looked_on g old mid new first.looks second.looks;
-    frames = λ bytes told holds.
-        second.frames bytes (first.looks.told ∙ told) (first.frames bytes told holds);
+    only_reads = only_read_on g old mid new first.only_reads second.only_reads;
+    frames = λ bytes contents holds.
+        second.frames bytes (first.only_reads.contents ∙ contents)
+        (first.frames bytes contents holds);
     keys = λ slot key holds. first.keys slot key (second.keys slot key holds);
     free = second.free;
     count = second.count ∙ first.count;
@@ -134,12 +135,12 @@ module _ {T : Type 0} (g : Ghosts T) where
     pub matched : HaveMatched g h rows from number old before
 
   pub found-none : (h : List ℕ → List ℕ) (rows : RowsState) (from : ℕ) (old : T)
-      (pool : PoolState) → Looks g old old → HasNoPins pool
+      (pool : PoolState) → OnlyReads g old old → HasNoPins pool
       → HaveFound h rows from from old old pool pool
-  found-none h rows from old pool looks free = record {
-    compared = compared-looked old old pool looks free;
+  found-none h rows from old pool only_reads free = record {
+    compared = compared-only_read old old pool only_reads free;
     faults = refl;
-    matched = λ b told frames leaves are level place low behind below.
+    matched = λ b contents frames leaves are level place low behind below.
         let no : ⊥ = omega arith in absurd no;
   }
 
@@ -153,11 +154,11 @@ module _ {T : Type 0} (g : Ghosts T) where
   found-more h rows from number l p old mid new a b c low is sofar step fine tile = record {
     compared = compared-on old mid new a b c sofar.compared step;
     faults = fine ∙ sofar.faults;
-    matched = λ bytes told frames leaves are.
+    matched = λ bytes contents frames leaves are.
         matched-more h leaves from number l p bytes low is
-        (tile bytes (sofar.compared.looks.told ∙ told)
-        (sofar.compared.frames bytes told frames) leaves are)
-        (sofar.matched bytes told frames leaves are);
+        (tile bytes (sofar.compared.only_reads.contents ∙ contents)
+        (sofar.compared.frames bytes contents frames) leaves are)
+        (sofar.matched bytes contents frames leaves are);
   }
 
   -- the first tile that has other hashes
@@ -171,66 +172,66 @@ module _ {T : Type 0} (g : Ghosts T) where
     low = low;
     behind = omega arith;
     below = omega arith;
-    before = λ bytes told frames leaves are level place lower behind below.
-        sofar.matched bytes told frames leaves are level place lower behind (omega arith);
-    other = λ bytes told frames leaves are.
-        inr (other bytes (sofar.compared.looks.told ∙ told)
-        (sofar.compared.frames bytes told frames) leaves are);
+    before = λ bytes contents frames leaves are level place lower behind below.
+        sofar.matched bytes contents frames leaves are level place lower behind (omega arith);
+    other = λ bytes contents frames leaves are.
+        inr (other bytes (sofar.compared.only_reads.contents ∙ contents)
+        (sofar.compared.frames bytes contents frames) leaves are);
   }
 
   -- behind a look
-  pub looked-compared : (old mid new : T) (before after : PoolState) → Looks g old mid
+  pub only_read-compared : (old mid new : T) (before after : PoolState) → OnlyReads g old mid
       → HaveCompared g mid new before after → HaveCompared g old new before after
-  looked-compared old mid new before after looks compared = record {
-    looks = looked_on g old mid new looks compared.looks;
-    frames = λ b told. compared.frames b (looks.told ∙ told);
+  only_read-compared old mid new before after only_reads compared = record {
+    only_reads = only_read_on g old mid new only_reads compared.only_reads;
+    frames = λ b contents. compared.frames b (only_reads.contents ∙ contents);
     keys = compared.keys;
     free = compared.free;
     count = compared.count;
   }
 
-  other-looked : (h : List ℕ → List ℕ) (rows : RowsState) (from near to l p : ℕ) (old mid : T)
-      (pool : PoolState) → Looks g old mid → near ≤ to
+  other-only_read : (h : List ℕ → List ℕ) (rows : RowsState) (from near to l p : ℕ) (old mid : T)
+      (pool : PoolState) → OnlyReads g old mid → near ≤ to
       → IsFirstOther g h rows from near mid pool l p → IsFirstOther g h rows from to old pool l p
-  other-looked h rows from near to l p old mid pool looks within is =
+  other-only_read h rows from near to l p old mid pool only_reads within is =
       let below = is.below in
       record {
         low = is.low;
         behind = is.behind;
         below = omega arith;
-        before = λ b told. is.before b (looks.told ∙ told);
-        other = λ b told. is.other b (looks.told ∙ told);
+        before = λ b contents. is.before b (only_reads.contents ∙ contents);
+        other = λ b contents. is.other b (only_reads.contents ∙ contents);
       }
 
-  pub reason-looked : (h : List ℕ → List ℕ) (rows : RowsState) (from near to : ℕ)
-      (old mid new : T) (pool : PoolState) (e : TileError) → Looks g old mid
+  pub reason-only_read : (h : List ℕ → List ℕ) (rows : RowsState) (from near to : ℕ)
+      (old mid new : T) (pool : PoolState) (e : TileError) → OnlyReads g old mid
       → g.faults mid ≡ g.faults old → near ≤ to
       → HasTileReason g h rows from near mid new pool e
       → HasTileReason g h rows from to old new pool e
-  reason-looked h rows from near to old mid new pool Failed looks fine within reason =
+  reason-only_read h rows from near to old mid new pool Failed only_reads fine within reason =
       subst (λ n. Rose n (g.faults new)) fine reason
-  reason-looked h rows from near to old mid new pool (BadTile level place) looks fine within
+  reason-only_read h rows from near to old mid new pool (BadTile level place) only_reads fine within
       reason = (
         reason.0 ∙ fine,
-        other-looked h rows from near to level place old mid pool looks within reason.1,
+        other-only_read h rows from near to level place old mid pool only_reads within reason.1,
       )
 
   -- the first tile that ends past the end of the file
   pub first-short : (h : List ℕ → List ℕ) (rows : RowsState) (from to length_is whole l p : ℕ)
-      (old mid : T) (pool : PoolState) → Looks g old mid
-      → IfSome (g.told old) (λ b. length_is ≡ length b) → whole ≡ length_is / 8192
+      (old mid : T) (pool : PoolState) → OnlyReads g old mid
+      → IfSome (g.contents old) (λ b. length_is ≡ length b) → whole ≡ length_is / 8192
       → whole < to → from < to → l ≤ 2 → tile_number l p ≡ max whole from
       → HaveMatched g h rows from whole mid pool → IsFirstOther g h rows from to old pool l p
-  first-short h rows from to length_is whole l p old mid pool looks long is short order low
+  first-short h rows from to length_is whole l p old mid pool only_reads long is short order low
       number matched = record {
         low = low;
         behind = omega arith;
         below = omega arith;
-        before = λ b told frames leaves are level place lower behind below.
-            matched b (looks.told ∙ told) frames leaves are level place lower behind
+        before = λ b contents frames leaves are level place lower behind below.
+            matched b (only_reads.contents ∙ contents) frames leaves are level place lower behind
             (omega arith);
-        other = λ b told frames leaves are.
+        other = λ b contents frames leaves are.
             let size : length_is ≡ length b =
-            subst (λ t. IfSome t (λ bytes. length_is ≡ length bytes)) told long in
+            subst (λ t. IfSome t (λ bytes. length_is ≡ length bytes)) contents long in
             inl (omega arith);
       }

@@ -7,7 +7,7 @@ use Rattle.std.specs.Prelude.{Option, option_map}
 use Rattle.std.proofs.Math.Nat.{lt_of_not-le, mul-le-mul_right, pow-succ', zero-div}
 use Rattle.std.proofs.lemmas.List.{drop-append-le, get_or_past, length-drop}
 use Rattle.std.proofs.lemmas.List.{take-append-le}
-use Rattle.byte_forms.proofs.Digits.{power_pos}
+use Rattle.byte_formats.proofs.Digits.{power_pos}
 use Rattle.disk_core.specs.Disk.{part}
 use Rattle.frame_pool.specs.Frames.{HoldsKey, PoolState, key_at}
 use Rattle.frame_pool.specs.Sound.{IsSoundPool}
@@ -117,11 +117,11 @@ sound-roomier h adopted stored old new pool b grown is =
     }
 
 -- what is said where the device tells its bytes
-pub told-same : {B C : Type 0} (told : Option (List ℕ)) (f : List ℕ → C) (k : B → C)
-    (before : List ℕ → B) → ((b : List ℕ) → told ≡ Some b → f b ≡ k (before b))
-    → option_map f told ≡ option_map k (option_map before told)
-told-same None f k before same = refl
-told-same (Some b) f k before same = ap Some (same b refl)
+pub contents-same : {B C : Type 0} (contents : Option (List ℕ)) (f : List ℕ → C) (k : B → C)
+    (before : List ℕ → B) → ((b : List ℕ) → contents ≡ Some b → f b ≡ k (before b))
+    → option_map f contents ≡ option_map k (option_map before contents)
+contents-same None f k before same = refl
+contents-same (Some b) f k before same = ap Some (same b refl)
 
 -- a store that is new
 pub gone-none : (rows : List RowState) (level : ℕ) → rows ≡ []

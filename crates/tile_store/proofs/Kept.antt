@@ -9,33 +9,33 @@ use Rattle.std.proofs.lemmas.List.{length-drop, length-take, take_min}
 use Rattle.disk_core.specs.Disk.{part}
 use Rattle.frame_pool.specs.Frames.{HoldsKey, PoolState}
 use Rattle.frame_pool.specs.declared.key.TileKey.{TileKey}
-use Rattle.tile_store.proofs.Bytes.{part-front}
+use Rattle.tile_store.proofs.Bytes.{part-prefix}
 use Rattle.tile_store.proofs.Numbers.{full-low, full-more, full-number, full-there, number-full}
 use Rattle.tile_store.specs.Contents.{HoldsTiles, IsTile, stored_leaves}
 use Rattle.tile_store.specs.Layout.{IsFull, tile_at, tiles_end, tiles_in}
 use Rattle.tile_store.specs.Sound.{IsSoundOver, leaves_with}
-use Rattle.tile_store.specs.Writing.{HoldsFirst, KeepsFront}
+use Rattle.tile_store.specs.Writing.{HoldsFirst, KeepsPrefix}
 use Rattle.tree_cache.specs.Rows.{AreRowsOf, RowsState, first_row}
 
 -- a bytes' front that is all there stays
-pub whole-front : (place : ℕ) (old new : List ℕ) → place ≤ length old → KeepsFront place old new
+pub whole-prefix : (place : ℕ) (old new : List ℕ) → place ≤ length old → KeepsPrefix place old new
     → take place new ≡ take place old
-whole-front place old new within keeps =
+whole-prefix place old new within keeps =
     let all : min place (length old) ≡ place = omega arith in
-    ap (λ n. take n new) (sym all) ∙ keeps.front
+    ap (λ n. take n new) (sym all) ∙ keeps.prefix
 
 -- leaves whose tiles lie in the same front
-leaves-front : (n front : ℕ) (a b : List ℕ)
-    → ((k : ℕ) → k < n → tile_at 0 (k / 256) + 8192 ≤ front) → take front a ≡ take front b
+leaves-prefix : (n prefix : ℕ) (a b : List ℕ)
+    → ((k : ℕ) → k < n → tile_at 0 (k / 256) + 8192 ≤ prefix) → take prefix a ≡ take prefix b
     → stored_leaves n a ≡ stored_leaves n b
 unfolding stored_leaves
-leaves-front zero front a b within same = refl
-leaves-front (suc n) front a b within same =
+leaves-prefix zero prefix a b within same = refl
+leaves-prefix (suc n) prefix a b within same =
     let here = within n (omega arith) in
     ap (λ l. l ++ part (tile_at 0 (n / 256) + 32 * (n % 256)) 32 a ∷ [])
-    (leaves-front n front a b (λ k below. within k (omega arith)) same)
+    (leaves-prefix n prefix a b (λ k below. within k (omega arith)) same)
     ∙ ap (λ x. stored_leaves n b ++ x ∷ [])
-    (part-front (tile_at 0 (n / 256) + 32 * (n % 256)) 32 front a b (omega arith) same)
+    (part-prefix (tile_at 0 (n / 256) + 32 * (n % 256)) 32 prefix a b (omega arith) same)
 
 -- the tiles of the adopted leaves
 leaf-tile : (adopted stored k : ℕ) → adopted % 256 ≡ 0 → adopted ≤ stored → k < adopted
@@ -46,26 +46,26 @@ leaf-tile adopted stored k whole within below =
 
 pub leaves-behind : (adopted stored : ℕ) (rows : RowsState) (b after : List ℕ)
     → adopted % 256 ≡ 0 → adopted ≤ stored → tiles_end stored ≤ length b
-    → KeepsFront (tiles_end stored) b after
+    → KeepsPrefix (tiles_end stored) b after
     → leaves_with adopted rows after ≡ leaves_with adopted rows b
 leaves-behind adopted stored rows b after whole within there keeps =
     ap (λ l. l ++ first_row rows.rows)
-    (leaves-front adopted (tiles_end stored) after b
+    (leaves-prefix adopted (tiles_end stored) after b
     (λ k below. leaf-tile adopted stored k whole within below)
-    (whole-front (tiles_end stored) b after there keeps))
+    (whole-prefix (tiles_end stored) b after there keeps))
 
 tile-behind : (stored : ℕ) (b after : List ℕ) (level place : ℕ) → stored < 2 ^ 32
-    → tiles_end stored ≤ length b → KeepsFront (tiles_end stored) b after
+    → tiles_end stored ≤ length b → KeepsPrefix (tiles_end stored) b after
     → IsFull stored level place
     → part (tile_at level place) 8192 b ≡ part (tile_at level place) 8192 after
 tile-behind stored b after level place few there keeps full =
-    part-front (tile_at level place) 8192 (tiles_end stored) b after
+    part-prefix (tile_at level place) 8192 (tiles_end stored) b after
     (full-there stored stored (tiles_end stored) level place few (omega arith) (omega arith) full)
-    (sym (whole-front (tiles_end stored) b after there keeps))
+    (sym (whole-prefix (tiles_end stored) b after there keeps))
 
 -- The tiles of a size stay where the front up to their end does.
 pub tiles-kept : (h : List ℕ → List ℕ) (leaves : List (List ℕ)) (size : ℕ) (b after : List ℕ)
-    → size < 2 ^ 32 → KeepsFront (tiles_end size) b after → HoldsTiles h leaves size b
+    → size < 2 ^ 32 → KeepsPrefix (tiles_end size) b after → HoldsTiles h leaves size b
     → HoldsTiles h leaves size after
 tiles-kept h leaves size b after few keeps holds level place full =
     let tile = holds level place full in
@@ -77,12 +77,12 @@ tiles-kept h leaves size b after few keeps holds level place full =
     let whole = tile.size in
     let there : begin + 8192 ≤ length b = grind (arith, cut, rest, whole) in
     subst (λ (x : List ℕ). IsTile h leaves level place x)
-    (part-front begin 8192 (min (tiles_end size) (length b)) b after (omega arith)
-    (take_min (tiles_end size) b ∙ sym keeps.front)) tile
+    (part-prefix begin 8192 (min (tiles_end size) (length b)) b after (omega arith)
+    (take_min (tiles_end size) b ∙ sym keeps.prefix)) tile
 
 pub sound-behind : (h : List ℕ → List ℕ) (adopted stored : ℕ) (rows : RowsState)
     (pool : PoolState) (b after : List ℕ) → adopted % 256 ≡ 0 → adopted ≤ stored
-    → stored < 2 ^ 32 → tiles_end stored ≤ length b → KeepsFront (tiles_end stored) b after
+    → stored < 2 ^ 32 → tiles_end stored ≤ length b → KeepsPrefix (tiles_end stored) b after
     → ((slot : ℕ) (key : TileKey) → HoldsKey pool slot key → IsFull adopted key.level key.place)
     → IsSoundOver h adopted stored rows pool b → IsSoundOver h adopted stored rows pool after
 sound-behind h adopted stored rows pool b after whole within few there keeps keys is =
@@ -115,19 +115,19 @@ tiles-of h leaves size b few within first = λ level place full.
     (full-more size (length leaves) level place within full)
 
 -- bytes are told where some were before
-pub told-before : (old new : Option (List ℕ)) (after : List ℕ) → is_some new ≡ is_some old
+pub contents-before : (old new : Option (List ℕ)) (after : List ℕ) → is_some new ≡ is_some old
     → new ≡ Some after → (b : List ℕ) × (old ≡ Some b)
-told-before None new after same is = let no : ⊥ = cc (ap is_some is) in absurd no
-told-before (Some b) new after same is = (b, refl)
+contents-before None new after same is = let no : ⊥ = cc (ap is_some is) in absurd no
+contents-before (Some b) new after same is = (b, refl)
 
-pub told-both : {B : Type 0} (old new : Option (List ℕ)) (f : List ℕ → B)
+pub contents-both : {B : Type 0} (old new : Option (List ℕ)) (f : List ℕ → B)
     → is_some new ≡ is_some old
     → ((b after : List ℕ) → old ≡ Some b → new ≡ Some after → f after ≡ f b)
     → option_map f new ≡ option_map f old
-told-both None None f same each = refl
-told-both None (Some after) f same each = let no : ⊥ = cc in absurd no
-told-both (Some b) None f same each = let no : ⊥ = cc in absurd no
-told-both (Some b) (Some after) f same each = ap Some (each b after refl refl)
+contents-both None None f same each = refl
+contents-both None (Some after) f same each = let no : ⊥ = cc in absurd no
+contents-both (Some b) None f same each = let no : ⊥ = cc in absurd no
+contents-both (Some b) (Some after) f same each = ap Some (each b after refl refl)
 
 -- what is said of an Ok
 pub on-ok : {A E : Type 0} {P : Type 0} (r : Result A E) → P → OnOk r P
@@ -157,6 +157,6 @@ sound-stored h adopted stored size most rows pool b is new old = record {
 }
 
 -- what is said of the leaves where bytes are told
-pub when-these : {B : Type 0} (told : Option (List ℕ)) (f : List ℕ → B) (P : B → Type 0)
-    (b : List ℕ) → told ≡ Some b → IfSome (option_map f told) P → P (f b)
-when-these told f P b is holds = subst (λ t. IfSome (option_map f t) P) is holds
+pub when-these : {B : Type 0} (contents : Option (List ℕ)) (f : List ℕ → B) (P : B → Type 0)
+    (b : List ℕ) → contents ≡ Some b → IfSome (option_map f contents) P → P (f b)
+when-these contents f P b is holds = subst (λ t. IfSome (option_map f t) P) is holds

@@ -5,7 +5,7 @@ pub mod NodeValues
 pub mod Loads
 pub mod Grown
 pub mod Flats
-pub mod Fronts
+pub mod Prefixes
 pub mod Steps
 pub mod Kept
 pub mod Compared

@@ -56,10 +56,11 @@ frames-loaded b pool mid slot key bytes is framed read inside old =
     (frame-claimed b pool slot key bytes there read inside old)
 
 -- what was read of a device that tells its bytes
-pub read-tile : (told : Option (List ℕ)) (b out : List ℕ) (place size at : ℕ) → told ≡ Some b
-    → IfSome told (λ bytes. out ≡ part place size bytes) → place ≡ at → size ≡ 8192
+pub read-tile : (contents : Option (List ℕ)) (b out : List ℕ) (place size at : ℕ)
+    → contents ≡ Some b
+    → IfSome contents (λ bytes. out ≡ part place size bytes) → place ≡ at → size ≡ 8192
     → out ≡ part at 8192 b
-read-tile told b out place size at is read here whole =
+read-tile contents b out place size at is read here whole =
     subst (λ t. IfSome t (λ bytes. out ≡ part place size bytes)) is read
     ∙ ap (λ p. part p size b) here ∙ ap (λ n. part at n b) whole
 

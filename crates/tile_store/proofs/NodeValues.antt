@@ -102,7 +102,7 @@ frame-tile h adopted stored rows pool b key slot level place frame leaves sound 
     (sound.tiles level place full))
 
 -- said where the device tells its bytes
-pub when-told : {B : Type 0} (told : Option (List ℕ)) (f : List ℕ → B) (P : B → Type 0)
-    → ((b : List ℕ) → told ≡ Some b → P (f b)) → IfSome (option_map f told) P
-when-told None f P holds = tt
-when-told (Some b) f P holds = holds b refl
+pub when-contents : {B : Type 0} (contents : Option (List ℕ)) (f : List ℕ → B) (P : B → Type 0)
+    → ((b : List ℕ) → contents ≡ Some b → P (f b)) → IfSome (option_map f contents) P
+when-contents None f P holds = tt
+when-contents (Some b) f P holds = holds b refl

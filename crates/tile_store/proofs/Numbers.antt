@@ -3,7 +3,7 @@ use Rattle.std.proofs.Common.{◌≡◌, ℕ, zero, suc, ◌+◌, ◌-◌, ◌*�
 use Rattle.std.proofs.Common.{ap, arith}
 use Rattle.std.proofs.Math.Nat.{div-mul-le_self, lt_of_not-le, mul-le-mul_left, mul-le-mul_right}
 use Rattle.std.proofs.Math.Nat.{pow-le-pow_right, pow-succ'}
-use Rattle.byte_forms.proofs.Digits.{power_pos}
+use Rattle.byte_formats.proofs.Digits.{power_pos}
 use Rattle.tree_cache.proofs.Forgets.{bytes-of}
 use Rattle.tree_cache.specs.Tiled.{gone_of}
 use Rattle.tile_store.specs.Layout.{IsFull, tile_at, tile_number, tiles_end, tiles_in}

@@ -9,26 +9,26 @@ use Rattle.std.proofs.lemmas.Bool.{cases_lt}
 use Rattle.std.proofs.lemmas.List.{length-take}
 use Rattle.disk_core.proofs.Moments.{joined, left_now, started, weaker}
 use Rattle.disk_core.specs.Disk.{Only, overwritten, part}
-use Rattle.disk_core.specs.Moments.{LeavesOnly, Looks}
+use Rattle.disk_core.specs.Moments.{LeavesOnly, OnlyReads}
 use Rattle.disk_core.specs.declared.disk.Disk.{Ghosts}
-use Rattle.tile_store.proofs.Bytes.{part-front}
-use Rattle.tile_store.proofs.Fronts.{behind-now, front-less, front-on}
+use Rattle.tile_store.proofs.Bytes.{part-prefix}
+use Rattle.tile_store.proofs.Prefixes.{behind-now, prefix-less, prefix-on}
 use Rattle.tile_store.proofs.Numbers.{same-number}
 use Rattle.tile_store.specs.Contents.{IsTile}
 use Rattle.tile_store.specs.Layout.{tile_at, tile_number}
-use Rattle.tile_store.specs.Writing.{HoldsFirst, IsImageBehind, IsTileWritten, KeepsFront}
+use Rattle.tile_store.specs.Writing.{HoldsFirst, IsImageBehind, IsTileWritten, KeepsPrefix}
 use Rattle.tile_store.specs.Writing.{TilesAreWritten, WritesBehind}
 use Rattle.tree_cache.specs.Rows.{RowState, RowsState}
-use Rattle.byte_forms.specs.Types.{HashFunction, Text}
+use Rattle.byte_formats.specs.Types.{HashFunction, Text}
 
 -- bytes that were written at a place, and those before it
 over-is : (place : ℕ) (piece old : List ℕ) → overwritten place piece old
     ≡ take place old ++ (piece ++ drop (place + length piece) old)
 over-is place piece old = append_assoc (take place old) piece (drop (place + length piece) old)
 
-over-front : (place : ℕ) (piece old : List ℕ) → place ≤ length old
+over-prefix : (place : ℕ) (piece old : List ℕ) → place ≤ length old
     → take place (overwritten place piece old) ≡ take place old
-over-front place piece old within =
+over-prefix place piece old within =
     let size : length (take place old) ≡ place = length-take place old ∙ omega arith in
     ap (take place) (over-is place piece old)
     ∙ ap (λ n. take n (take place old ++ (piece ++ drop (place + length piece) old))) (sym size)
@@ -54,9 +54,9 @@ holds-more h leaves number l p tile before low is within tile_is first = λ leve
     ⊎_elim
     (λ (earlier : tile_number level place < number).
     subst (IsTile h leaves level place)
-    (part-front (tile_at level place) 8192 (tile_at l p) before
+    (part-prefix (tile_at level place) 8192 (tile_at l p) before
     (overwritten (tile_at l p) tile before) (omega arith)
-    (sym (over-front (tile_at l p) tile before within)))
+    (sym (over-prefix (tile_at l p) tile before within)))
     (first level place less earlier full))
     (λ (same : tile_number level place ≡ number).
     let one = same-number l p level place low less (is ∙ sym same) in
@@ -96,12 +96,12 @@ module _ {T : Type 0} (g : Ghosts T) where
     behind = record {
       any_moment = started g disk (IsImageBehind g disk (8192 * from)) only_now
           (behind-now g disk (8192 * from));
-      told = refl;
+      contents = refl;
       known = omega arith;
     };
     written = record {
       known = omega arith;
-      holds = λ before after told_old told_now leaves are first.
+      holds = λ before after contents_old contents_now leaves are first.
           let same : before ≡ after = cc in
           subst (HoldsFirst h leaves from) same first;
     };
@@ -117,8 +117,8 @@ module _ {T : Type 0} (g : Ghosts T) where
       record {
         before = first.before;
         left = first.left;
-        keeps = front-on low first.before is.before image first.keeps
-            (front-less low high is.before image within is.keeps);
+        keeps = prefix-on low first.before is.before image first.keeps
+            (prefix-less low high is.before image within is.keeps);
       }
 
   moments-on : (old mid new : T) (low high : ℕ)
@@ -137,56 +137,58 @@ module _ {T : Type 0} (g : Ghosts T) where
       → ((t : ℕ) (c : List ℕ) → t ≤ g.moment mid → g.may_leave mid c → g.left_since mid t c)
       → 8192 * from ≤ at → WritesBehind g (8192 * from) old mid
       → LeavesOnly g mid new (IsImageBehind g mid at)
-      → is_some (g.told new) ≡ is_some (g.told mid) → g.known mid ≤ g.known new
+      → is_some (g.contents new) ≡ is_some (g.contents mid) → g.known mid ≤ g.known new
       → WritesBehind g (8192 * from) old new
-  behind-put old mid new from at counts_now order sofar moments told known =
+  behind-put old mid new from at counts_now order sofar moments contents known =
       let before = sofar.known in
       record {
         any_moment = moments-on old mid new (8192 * from) at counts_now order sofar.any_moment
             moments;
-        told = told ∙ sofar.told;
+        contents = contents ∙ sofar.contents;
         known = omega arith;
       }
 
   pub put-on : (h : List ℕ → List ℕ) (rows : RowsState) (from to number l p : ℕ)
       (old mid new : T)
       → ((t : ℕ) (c : List ℕ) → t ≤ g.moment mid → g.may_leave mid c → g.left_since mid t c)
-      → ((b : List ℕ) → g.told mid ≡ Some b → g.known mid ≤ length b)
+      → ((b : List ℕ) → g.contents mid ≡ Some b → g.known mid ≤ length b)
       → from ≤ number → number < to → l ≤ 2 → tile_number l p ≡ number
       → HavePut h rows.rows from to number old mid
       → LeavesOnly g mid new (IsImageBehind g mid (tile_at l p))
-      → is_some (g.told new) ≡ is_some (g.told mid)
+      → is_some (g.contents new) ≡ is_some (g.contents mid)
       → g.known new ≡ max (tile_at l p + 8192) (g.known mid) → g.faults new ≡ g.faults mid
-      → IsTileWritten h rows l p (g.told mid) (g.told new)
+      → IsTileWritten h rows l p (g.contents mid) (g.contents new)
       → HavePut h rows.rows from to (number + 1) old new
-  put-on h rows from to number l p old mid new counts_now there order less low is sofar moments told
+  put-on h rows from to number l p old mid new counts_now there order less low is sofar moments
+      contents
       known faults written =
       let sofar_known = sofar.written.known in
       record {
         most = omega arith;
         behind = behind-put old mid new from (tile_at l p) counts_now (omega arith) sofar.behind
-            moments told (omega arith);
+            moments contents (omega arith);
         written = record {
           known = omega arith;
-          holds = λ first after told_old told_new leaves are held.
-              let at = mapped-some (overwritten (tile_at l p) written.tile) (g.told mid) after
-              (sym told_new ∙ written.told) in
+          holds = λ first after contents_old contents_new leaves are held.
+              let at = mapped-some (overwritten (tile_at l p) written.tile) (g.contents mid) after
+              (sym contents_new ∙ written.contents) in
               let within = there at.0 at.1.0 in
               subst (HoldsFirst h leaves (number + 1)) (sym at.1.1)
               (holds-more h leaves number l p written.tile at.0 low is (omega arith)
               (written.is leaves are)
-              (sofar.written.holds first at.0 told_old at.1.0 leaves are held));
+              (sofar.written.holds first at.0 contents_old at.1.0 leaves are held));
         };
         faults = faults ∙ sofar.faults;
       }
 
   -- a look writes nothing, so it may stand before writing and behind it
-  pub looks-behind : (old new : T) (place : ℕ) → Looks g old new → WritesBehind g place old new
-  looks-behind old new place looks = record {
+  pub only_reads-behind : (old new : T) (place : ℕ) → OnlyReads g old new
+      → WritesBehind g place old new
+  only_reads-behind old new place only_reads = record {
     any_moment = weaker g old new (g.may_leave old) (IsImageBehind g old place)
-        (behind-now g old place) looks.moments;
-    told = ap is_some looks.told;
-    known = looks.known;
+        (behind-now g old place) only_reads.moments;
+    contents = ap is_some only_reads.contents;
+    known = only_reads.known;
   }
 
   pub writes-on : (old mid new : T) (place : ℕ)
@@ -199,20 +201,21 @@ module _ {T : Type 0} (g : Ghosts T) where
       record {
         any_moment = moments-on old mid new place place counts_now (omega arith)
             first.any_moment second.any_moment;
-        told = second.told ∙ first.told;
+        contents = second.contents ∙ first.contents;
         known = omega arith;
       }
 
   -- over certain bytes, those that are told after writing have the same front
-  pub front-told : (old new : T) (place : ℕ) (before after : List ℕ)
+  pub prefix-contents : (old new : T) (place : ℕ) (before after : List ℕ)
       → ((t : ℕ) (c : List ℕ) → t ≤ g.moment new → g.may_leave new c → g.left_since new t c)
-      → ((b : List ℕ) → g.told new ≡ Some b → g.may_leave new b)
-      → IfSome (g.told old) (λ b. Only b (g.may_leave old)) → g.told old ≡ Some before
-      → g.told new ≡ Some after → LeavesOnly g old new (IsImageBehind g old place)
-      → KeepsFront place before after
-  front-told old new place before after counts_now reads certain told_old told_new moments =
+      → ((b : List ℕ) → g.contents new ≡ Some b → g.may_leave new b)
+      → IfSome (g.contents old) (λ b. Only b (g.may_leave old)) → g.contents old ≡ Some before
+      → g.contents new ≡ Some after → LeavesOnly g old new (IsImageBehind g old place)
+      → KeepsPrefix place before after
+  prefix-contents old new place before after counts_now reads certain contents_old contents_new
+      moments =
       let is = left_now g old new (IsImageBehind g old place) counts_now moments after
-      (reads after told_new) in
+      (reads after contents_new) in
       let only : Only before (g.may_leave old) =
-      subst (λ t. IfSome t (λ b. Only b (g.may_leave old))) told_old certain in
-      subst (λ b. KeepsFront place b after) (only is.before is.left) is.keeps
+      subst (λ t. IfSome t (λ b. Only b (g.may_leave old))) contents_old certain in
+      subst (λ b. KeepsPrefix place b after) (only is.before is.left) is.keeps

@@ -1,6 +1,6 @@
 -- Why tiles are not adopted.
 use Rattle.std.specs.Prelude.{◌≡◌, ℕ, ◌+◌, ◌≤◌, ◌<◌, List, length, IfSome}
-use Rattle.byte_forms.specs.Types.{Hash, HashFunction, Text}
+use Rattle.byte_formats.specs.Types.{Hash, HashFunction, Text}
 use Rattle.disk_core.specs.Disk.{part}
 use Rattle.disk_core.specs.declared.disk.Disk.{Ghosts}
 use Rattle.mtc_io.specs.Counts.{Rose}
@@ -37,5 +37,5 @@ module _ {H T : Type 0} {hashes : Hashes H} {g : Ghosts T} where
   HasCauseOf old disk size Failed = Rose (g.faults (tiles_disk old)) (g.faults disk)
   HasCauseOf old disk size (BadTile level place) =
       (g.faults disk ≡ g.faults (tiles_disk old))
-      × IfSome (g.told (tiles_disk old)) (λ bytes. IfSome (tiles_leaves old) (λ leaves.
+      × IfSome (g.contents (tiles_disk old)) (λ bytes. IfSome (tiles_leaves old) (λ leaves.
       IsFirstBad hashes.hash leaves bytes (tiles_adopted old) size level place))

@@ -1,8 +1,8 @@
 -- What reading tiles back finds.
 use Rattle.std.specs.Prelude.{◌≡◌, ℕ, ◌+◌, ◌≤◌, ◌<◌, ◌⊎◌, List, length, Some}
-use Rattle.byte_forms.specs.Types.{Hash, HashFunction, Text}
+use Rattle.byte_formats.specs.Types.{Hash, HashFunction, Text}
 use Rattle.disk_core.specs.Disk.{part}
-use Rattle.disk_core.specs.Moments.{Looks}
+use Rattle.disk_core.specs.Moments.{OnlyReads}
 use Rattle.disk_core.specs.declared.disk.Disk.{Ghosts}
 use Rattle.frame_pool.specs.Frames.{HoldsKey, PoolState}
 use Rattle.frame_pool.specs.declared.key.TileKey.{TileKey}
@@ -24,8 +24,8 @@ HoldsBetween h leaves from to bytes = (level place : ℕ) → level ≤ 2
 -- holds another tile than before, and none is pinned.
 pub record HaveCompared {T : Type 0} (g : Ghosts T) (old new : T) (before after : PoolState)
     : Type 0 where
-  pub looks : Looks g old new
-  pub frames : (b : Text) → g.told old ≡ Some b → FramesHold b before → FramesHold b after
+  pub only_reads : OnlyReads g old new
+  pub frames : (b : Text) → g.contents old ≡ Some b → FramesHold b before → FramesHold b after
   pub keys : (slot : ℕ) (key : TileKey) → HoldsKey after slot key → HoldsKey before slot key
   pub free : HasNoPins after
   pub count : length after.keys ≡ length before.keys
@@ -34,7 +34,7 @@ pub record HaveCompared {T : Type 0} (g : Ghosts T) (old new : T) (before after 
 -- the frames have what is there.
 abbrev pub OverEach : {T : Type 0} → Ghosts T → HashFunction → RowsState → T → PoolState
     → (Text → List Hash → Type 0) → Type 0
-OverEach g h rows disk pool P = (b : Text) → g.told disk ≡ Some b → FramesHold b pool
+OverEach g h rows disk pool P = (b : Text) → g.contents disk ≡ Some b → FramesHold b pool
     → (leaves : List Hash) → AreRowsOf h leaves rows.rows → P b leaves
 
 -- The tiles of these numbers are in the file.

@@ -1,6 +1,6 @@
 -- What the frames of the pool hold.
 use Rattle.std.specs.Prelude.{◌≡◌, ℕ, false}
-use Rattle.byte_forms.specs.Types.{Text}
+use Rattle.byte_formats.specs.Types.{Text}
 use Rattle.disk_core.specs.Disk.{part}
 use Rattle.frame_pool.specs.Frames.{HoldsKey, PoolState, frame_at, pinned_at}
 use Rattle.frame_pool.specs.declared.key.TileKey.{TileKey}

@@ -1,6 +1,6 @@
 -- The nodes inside a tile: its 256 hashes, the 128 above them, and so on up to the one above all.
 use Rattle.std.specs.Prelude.{◌≡◌, ℕ, ◌+◌, ◌*◌, ◌^◌, ◌<◌, ◌≤◌, List, [], length, slice_index_or}
-use Rattle.byte_forms.specs.Types.{Hash, HashFunction, Text}
+use Rattle.byte_formats.specs.Types.{Hash, HashFunction, Text}
 use Rattle.tile_store.specs.Contents.{hash_in}
 use Rattle.tree_core.specs.Path.{part_of}
 use Rattle.tree_core.specs.Tree.{pair_hash, root_of}

@@ -1,7 +1,7 @@
 -- What holds of every store of tiles.
 use Rattle.std.proofs.Common.{◌≡◌, ℕ, List, length, Option, Some, None, option_map, IfSome, refl}
 use Rattle.std.proofs.Common.{◌∙◌}
-use Rattle.disk_core.proofs.Moments.{looked_on, no_look}
+use Rattle.disk_core.proofs.Moments.{only_read_on, nothing_read}
 use Rattle.disk_core.specs.declared.disk.Disk.{Ghosts}
 use Rattle.frame_pool.specs.Frames.{PoolState}
 use Rattle.tile_store.specs.Sound.{IsSoundOver, leaves_with}
@@ -13,9 +13,9 @@ use Rattle.tree_core.specs.declared.hashing.TreeHash.{Ghosts as Hashes}
 
 -- where the device tells its bytes, there are as many leaf hashes as leaves
 counted-when : (h : List ℕ → List ℕ) (adopted stored : ℕ) (rows : RowsState) (pool : PoolState)
-    (told : Option (List ℕ))
-    → ((b : List ℕ) → told ≡ Some b → IsSoundOver h adopted stored rows pool b)
-    → IfSome (option_map (leaves_with adopted rows) told)
+    (contents : Option (List ℕ))
+    → ((b : List ℕ) → contents ≡ Some b → IsSoundOver h adopted stored rows pool b)
+    → IfSome (option_map (leaves_with adopted rows) contents)
     (λ list. count_of rows.rows ≡ length list)
 counted-when h adopted stored rows pool None sound = tt
 counted-when h adopted stored rows pool (Some b) sound =
@@ -27,13 +27,13 @@ module _ {H T : Type 0} {hashes : Hashes H} {g : Ghosts T} where
       → IfSome (tiles_leaves tiles) (λ list. tiles_count tiles ≡ length list)
   counted-tiles tiles =
       counted-when hashes.hash tiles.adopted tiles.stored tiles.rows tiles.pool
-      (g.told tiles.disk) tiles.told
+      (g.contents tiles.disk) tiles.contents
 
   pub stay-same : (tiles : Tiles H T hashes g)
       → ((c : List ℕ) → g.left_since tiles.disk (g.moment tiles.disk) c
       → g.may_leave tiles.disk c) → TilesStay tiles tiles
   stay-same tiles only_now = record {
-    looks = no_look g tiles.disk only_now;
+    only_reads = nothing_read g tiles.disk only_now;
     rows = refl;
     adopted = refl;
     stored = refl;
@@ -42,7 +42,7 @@ module _ {H T : Type 0} {hashes : Hashes H} {g : Ghosts T} where
   pub stay-on : (old mid new : Tiles H T hashes g) → TilesStay old mid → TilesStay mid new
       → TilesStay old new
   stay-on old mid new first second = record {
-    looks = looked_on g old.disk mid.disk new.disk first.looks second.looks;
+    only_reads = only_read_on g old.disk mid.disk new.disk first.only_reads second.only_reads;
     rows = second.rows ∙ first.rows;
     adopted = second.adopted ∙ first.adopted;
     stored = second.stored ∙ first.stored;

@@ -1,7 +1,7 @@
 -- What a store keeps of its file, its rows and its frames.
 use Rattle.std.specs.Prelude.{ℕ, List, [], ◌∷◌, ◌++◌}
 use Rattle.std.proofs.Props.{props}
-use Rattle.byte_forms.specs.Types.{Hash, HashFunction, Text}
+use Rattle.byte_formats.specs.Types.{Hash, HashFunction, Text}
 use Rattle.frame_pool.specs.Frames.{PoolState}
 use Rattle.tile_store.specs.Contents.{HoldsTiles, IsTile, stored_leaves}
 use Rattle.tile_store.specs.Frames.{FramesHold}

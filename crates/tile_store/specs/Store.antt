@@ -1,7 +1,7 @@
 -- What a store of tiles shows.
 use Rattle.std.specs.Prelude.{◌≡◌, ℕ, List, Option, option_map}
-use Rattle.byte_forms.specs.Types.{Hash}
-use Rattle.disk_core.specs.Moments.{Looks}
+use Rattle.byte_formats.specs.Types.{Hash}
+use Rattle.disk_core.specs.Moments.{OnlyReads}
 use Rattle.disk_core.specs.declared.disk.Disk.{Ghosts}
 use Rattle.frame_pool.specs.Frames.{PoolState}
 use Rattle.tile_store.specs.Frames.{IsHeld}
@@ -35,7 +35,7 @@ module _ {H T : Type 0} {hashes : Hashes H} {g : Ghosts T} where
 
   -- the leaf hashes, where the device tells its bytes
   abbrev pub tiles_leaves : Tiles H T hashes g → Option (List Hash)
-  tiles_leaves tiles = option_map (leaves_with tiles.adopted tiles.rows) (g.told tiles.disk)
+  tiles_leaves tiles = option_map (leaves_with tiles.adopted tiles.rows) (g.contents tiles.disk)
 
   -- a node is in memory, or a frame holds its tile
   abbrev pub IsAtHand : Tiles H T hashes g → ℕ → ℕ → Type 0
@@ -46,7 +46,7 @@ module _ {H T : Type 0} {hashes : Hashes H} {g : Ghosts T} where
   -- The device was only looked at, and all but it, the frames and the nodes that are kept of their
   -- tiles is as it was.
   pub record TilesStay (old new : Tiles H T hashes g) : Type 0 where
-    pub looks : Looks g old.disk new.disk
+    pub only_reads : OnlyReads g old.disk new.disk
     pub rows : new.rows ≡ old.rows
     pub adopted : new.adopted ≡ old.adopted
     pub stored : new.stored ≡ old.stored

@@ -1,7 +1,7 @@
 -- What writing tiles leaves of a file.
 use Rattle.std.specs.Prelude.{◌≡◌, ℕ, ◌*◌, ◌^◌, ◌≤◌, ◌<◌, min, max, List, length, take, Option}
 use Rattle.std.specs.Prelude.{Some, is_some, option_map}
-use Rattle.byte_forms.specs.Types.{Hash, HashFunction, Text}
+use Rattle.byte_formats.specs.Types.{Hash, HashFunction, Text}
 use Rattle.disk_core.specs.Disk.{overwritten, part}
 use Rattle.disk_core.specs.Moments.{LeavesOnly}
 use Rattle.disk_core.specs.declared.disk.Disk.{Ghosts}
@@ -11,21 +11,21 @@ use Rattle.tree_cache.specs.Rows.{AreRowsOf, RowState, RowsState, count_of, gone
 use Rattle.tree_cache.specs.Tiled.{gone_of}
 
 -- The bytes before a place stay, and the file gets no shorter.
-pub record KeepsFront (place : ℕ) (old new : Text) : Type 0 where
+pub record KeepsPrefix (place : ℕ) (old new : Text) : Type 0 where
   pub no_shorter : length old ≤ length new
-  pub front : take (min place (length old)) new ≡ take place old
+  pub prefix : take (min place (length old)) new ≡ take place old
 
 -- An image from before, but for what lies behind a place.
 pub record IsImageBehind {T : Type 0} (g : Ghosts T) (old : T) (place : ℕ) (image : Text)
     : Type 0 where
   pub before : Text
   pub left : g.may_leave old before
-  pub keeps : KeepsFront place before image
+  pub keeps : KeepsPrefix place before image
 
 -- What writing from a place on leaves of a disk, at any moment and also where a call fails.
 pub record WritesBehind {T : Type 0} (g : Ghosts T) (place : ℕ) (old new : T) : Type 0 where
   pub any_moment : LeavesOnly g old new (IsImageBehind g old place)
-  pub told : is_some (g.told new) ≡ is_some (g.told old)
+  pub contents : is_some (g.contents new) ≡ is_some (g.contents old)
   pub known : g.known old ≤ g.known new
 
 -- The rows fill the tiles of the numbers from one on up to another, and none of their nodes is
@@ -41,7 +41,7 @@ pub record HaveTiles (rows : List RowState) (from to : ℕ) : Type 0 where
 pub record IsTileWritten (h : HashFunction) (rows : RowsState) (level place : ℕ)
     (old new : Option Text) : Type 0 where
   pub tile : Text
-  pub told : new ≡ option_map (overwritten (tile_at level place) tile) old
+  pub contents : new ≡ option_map (overwritten (tile_at level place) tile) old
   pub is : (leaves : List Hash) → AreRowsOf h leaves rows.rows → IsTile h leaves level place tile
 
 -- Of the tiles that these leaves fill, those of the first so many numbers are in the file.
@@ -55,6 +55,6 @@ HoldsFirst h leaves count bytes = (level place : ℕ) → level ≤ 2
 pub record TilesAreWritten {T : Type 0} (g : Ghosts T) (h : HashFunction) (rows : List RowState)
     (from to : ℕ) (old new : T) : Type 0 where
   pub known : g.known new ≡ max (8192 * to) (g.known old)
-  pub holds : (before after : Text) → g.told old ≡ Some before → g.told new ≡ Some after
+  pub holds : (before after : Text) → g.contents old ≡ Some before → g.contents new ≡ Some after
       → (leaves : List Hash) → AreRowsOf h leaves rows → HoldsFirst h leaves from before
       → HoldsFirst h leaves to after

@@ -57,7 +57,7 @@ fn matches<H: TreeHash, T: Disk>(
 {
     let slot = load(disk, pool, key)?;
     let same = pool.frame(slot) == tile_bytes(rows, key);
-    pool.sound();
+    pool.law_sound();
     pool.release(slot);
     Ok(same)
 }

@@ -2,8 +2,8 @@
 
 ghost use Rattle.std.specs.Prelude.{◌≡◌, ℕ, ◌+◌, ◌-◌, ◌*◌, ◌%◌, ◌^◌, ◌<◌, ◌≤◌, ◌⊎◌, List, length};
 ghost use Rattle.std.specs.Prelude.{Some, IfOk, IsOk, OnOk, OnErr};
-ghost use Rattle.byte_forms.specs.Types.{Hash, Text};
-ghost use Rattle.disk_core.specs.Moments.{Looks};
+ghost use Rattle.byte_formats.specs.Types.{Hash, Text};
+ghost use Rattle.disk_core.specs.Moments.{OnlyReads};
 ghost use Rattle.frame_pool.specs.Frames.{HoldsKey, IsUnheld};
 ghost use Rattle.frame_pool.specs.declared.key.TileKey.{TileKey as Key};
 ghost use Rattle.mtc_io.specs.Counts.{HasCause, Rose};
@@ -36,7 +36,7 @@ pub(crate) fn load<T: Disk>(disk: &mut T, pool: &mut Pool, key: TileKey) -> Resu
     ensures still { (IsUnheld pool.old key → ⊥) → disk.new ≡ disk.old }
     ensures same { (IsUnheld pool.old key → ⊥) → pool.new ≡ pool.old }
     ensures sure { (IsUnheld pool.old key → ⊥) → IsOk result }
-    ensures frames { (b : Text) → T.told disk.old ≡ Some b → FramesHold b pool.old
+    ensures frames { (b : Text) → T.contents disk.old ≡ Some b → FramesHold b pool.old
         → FramesHold b pool.new }
     ensures keys { (slot : ℕ) (k : Key) → HoldsKey pool.new slot k
         → (k ≡ key) ⊎ HoldsKey pool.old slot k }
@@ -44,7 +44,7 @@ pub(crate) fn load<T: Disk>(disk: &mut T, pool: &mut Pool, key: TileKey) -> Resu
         → HoldsKey pool.old slot k) }
     ensures free { HasNoPins pool.new }
     ensures count { length pool.new.keys ≡ length pool.old.keys }
-    ensures looks { Looks T.Disk disk.old disk.new }
+    ensures only_reads { OnlyReads T.Disk disk.old disk.new }
     ensures cause { HasCause (T.faults disk.old) (T.faults disk.new) result }
 {
     if let Some(slot) = pool.find(key) {

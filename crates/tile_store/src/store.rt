@@ -4,8 +4,8 @@ ghost use Rattle.std.specs.Prelude.{◌≡◌, ◌↔◌, ℕ, ◌+◌, ◌*◌,
 ghost use Rattle.std.specs.Prelude.{length, Some, option_map, IsSome, IfSome, IfOk, IfErr, IsOk};
 ghost use Rattle.std.specs.Prelude.{OnOk, OnErr};
 ghost use Rattle.std.proofs.Props.{props};
-ghost use Rattle.byte_forms.specs.Types.{Text};
-ghost use Rattle.disk_core.specs.Moments.{LeavesOnly, Looks};
+ghost use Rattle.byte_formats.specs.Types.{Text};
+ghost use Rattle.disk_core.specs.Moments.{LeavesOnly, OnlyReads};
 ghost use Rattle.frame_pool.specs.Frames.{HoldsKey, IsUnheld};
 ghost use Rattle.frame_pool.specs.declared.key.TileKey.{TileKey as Key};
 ghost use Rattle.mtc_io.specs.Counts.{HasCause, Rose};
@@ -55,7 +55,8 @@ pub struct Tiles<H: TreeHash, T: Disk> {
     ghost free: { HasNoPins pool },
     ghost keys: { (slot : ℕ) (key : Key) → HoldsKey pool slot key
         → IsFull adopted key.level key.place },
-    ghost told: { (b : Text) → T.Disk.told disk ≡ Some b → IsSoundOver H.TreeHash.hash adopted
+    ghost contents: { (b : Text) → T.Disk.contents disk ≡ Some b
+        → IsSoundOver H.TreeHash.hash adopted
         stored rows pool b } by { Prim.hlevel (props, IsSoundOver-prop) },
 }
 
@@ -83,7 +84,7 @@ impl<H: TreeHash, T: Disk> Tiles<H, T> {
     ghost use Rattle.tile_store.specs.Store.{tiles_disk, tiles_leaves, tiles_pool, tiles_spare};
     ghost use Rattle.tile_store.specs.Store.{tiles_stored};
     ghost use Rattle.tile_store.specs.Writing.{IsImageBehind};
-    ghost use Rattle.tree_proofs.specs.Told.{IsRootOf};
+    ghost use Rattle.tree_proofs.specs.Modelled.{IsRootOf};
 
     /// No leaves, over a device and a pool whose frames hold no tile. It takes no memory.
     pub fn new(alloc: Global, disk: T, pool: Pool) -> Tiles<H, T>
@@ -95,7 +96,7 @@ impl<H: TreeHash, T: Disk> Tiles<H, T> {
         ensures stored { tiles_stored result ≡ 0 }
         ensures leaves { IfSome (tiles_leaves result) (λ leaves. leaves ≡ []) }
     {
-        pool.sound();
+        pool.law_sound();
         Tiles {
             disk,
             pool,
@@ -280,12 +281,12 @@ impl<H: TreeHash, T: Disk> Tiles<H, T> {
         requires within { size ≤ tiles_count self.old }
         ensures list { tiles_leaves self.new ≡ tiles_leaves self.old }
         ensures count { tiles_count self.new ≡ tiles_count self.old }
-        ensures looks { Looks T.Disk (tiles_disk self.old) (tiles_disk self.new) }
+        ensures only_reads { OnlyReads T.Disk (tiles_disk self.old) (tiles_disk self.new) }
         ensures adopted { OnOk result (tiles_adopted self.new
             ≡ max size (tiles_adopted self.old)) }
         ensures stored { OnOk result (tiles_stored self.new
             ≡ max size (tiles_stored self.old)) }
-        ensures stands { OnOk result (IfSome (T.told (tiles_disk self.old)) (λ bytes.
+        ensures stands { OnOk result (IfSome (T.contents (tiles_disk self.old)) (λ bytes.
             IfSome (tiles_leaves self.old) (λ leaves. (level place : ℕ)
             → IsNewTile (tiles_adopted self.old) size level place
             → StandsIn H.hash leaves bytes level place))) }
@@ -311,7 +312,7 @@ impl<H: TreeHash, T: Disk> Tiles<H, T> {
         requires within { size ≤ tiles_count self.old }
         requires above { tiles_adopted self.old < size }
         ensures stays { TilesStay self.old self.new }
-        ensures stands { OnOk result (IfSome (T.told (tiles_disk self.old)) (λ bytes.
+        ensures stands { OnOk result (IfSome (T.contents (tiles_disk self.old)) (λ bytes.
             IfSome (tiles_leaves self.old) (λ leaves. (level place : ℕ)
             → IsNewTile (tiles_adopted self.old) size level place
             → StandsIn H.hash leaves bytes level place))) }

@@ -2,13 +2,13 @@
 
 ghost use Rattle.std.specs.Prelude.{◌≡◌, ℕ, ◌+◌, ◌*◌, ◌^◌, ◌<◌, ◌≤◌, max, List, [], length};
 ghost use Rattle.std.specs.Prelude.{slice_index_or, Some, is_some, IfSome, OnOk, OnErr};
-ghost use Rattle.byte_forms.specs.Types.{Hash, HashFunction, Text};
+ghost use Rattle.byte_formats.specs.Types.{Hash, HashFunction, Text};
 ghost use Rattle.disk_core.specs.Disk.{Only};
 ghost use Rattle.disk_core.specs.Moments.{LeavesOnly};
 ghost use Rattle.mtc_io.specs.Counts.{HasCause};
 ghost use Rattle.tile_store.specs.Contents.{IsTile, hash_in};
 ghost use Rattle.tile_store.specs.Layout.{IsFull, tile_at};
-ghost use Rattle.tile_store.specs.Writing.{HaveTiles, IsImageBehind, IsTileWritten, KeepsFront};
+ghost use Rattle.tile_store.specs.Writing.{HaveTiles, IsImageBehind, IsTileWritten, KeepsPrefix};
 ghost use Rattle.tile_store.specs.Writing.{TilesAreWritten, WritesBehind};
 ghost use Rattle.tree_cache.specs.Rows.{AreRowsOf, count_of, gone_at};
 
@@ -49,8 +49,8 @@ fn put<H: TreeHash, T: Disk>(disk: &mut T, rows: &Rows, key: TileKey) -> Result<
     requires kept { gone_at rows.now.rows (8 * key.level) ≤ 256 * key.place }
     requires place { tile_at key.level key.place ≤ T.known disk.old }
     ensures written { OnOk result (IsTileWritten H.hash rows.now key.level key.place
-        (T.told disk.old) (T.told disk.new)) }
-    ensures told { is_some (T.told disk.new) ≡ is_some (T.told disk.old) }
+        (T.contents disk.old) (T.contents disk.new)) }
+    ensures contents { is_some (T.contents disk.new) ≡ is_some (T.contents disk.old) }
     ensures known { OnOk result (T.known disk.new
         ≡ max (tile_at key.level key.place + 8192) (T.known disk.old)) }
     ensures known_err { OnErr result (T.known disk.new ≡ T.known disk.old) }
@@ -93,10 +93,10 @@ pub(crate) fn write_tiles<H: TreeHash, T: Disk>(
     requires place { 8192 * from ≤ T.known disk.old }
     ensures written { OnOk result
         (TilesAreWritten T.Disk H.hash rows.now.rows from to disk.old disk.new) }
-    ensures durable { OnOk result (IfSome (T.told disk.new)
+    ensures durable { OnOk result (IfSome (T.contents disk.new)
         (λ bytes. Only bytes (T.may_leave disk.new))) }
-    ensures front { (before after : Text) → T.told disk.old ≡ Some before
-        → T.told disk.new ≡ Some after → KeepsFront (8192 * from) before after }
+    ensures prefix { (before after : Text) → T.contents disk.old ≡ Some before
+        → T.contents disk.new ≡ Some after → KeepsPrefix (8192 * from) before after }
     ensures behind { WritesBehind T.Disk (8192 * from) disk.old disk.new }
     ensures reach { T.known disk.new ≤ max (8192 * to) (T.known disk.old) }
     ensures cause { HasCause (T.faults disk.old) (T.faults disk.new) result }

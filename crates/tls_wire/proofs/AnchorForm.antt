@@ -6,12 +6,12 @@ use Rattle.std.specs.Prelude.{if◌then◌else◌, ◌==◌, nat_lt}
 use Rattle.std.specs.List.{AllByRecursion}
 use Rattle.std.proofs.lemmas.Fmt.{decimal_nonempty}
 use Rattle.std.proofs.lemmas.List.{length-append}
-use Rattle.byte_forms.specs.Places.{At, at, IsBytes}
-use Rattle.byte_forms.specs.Readings.{◌>>=◌, discarded}
-use Rattle.byte_forms.specs.Lists.{up_to_end}
-use Rattle.byte_forms.specs.Forms.{Anything}
-use Rattle.byte_forms.proofs.Steps.{bind_ok, discarded_ok, guard_ok, ok_is}
-use Rattle.byte_forms.proofs.Lists.{up_to_end_drains}
+use Rattle.byte_formats.specs.Places.{At, at, IsBytes}
+use Rattle.byte_formats.specs.Readings.{◌>>=◌, discarded}
+use Rattle.byte_formats.specs.Lists.{up_to_end}
+use Rattle.byte_formats.specs.Forms.{Anything}
+use Rattle.byte_formats.proofs.Steps.{bind_ok, discarded_ok, guard_ok, ok_is}
+use Rattle.byte_formats.proofs.Lists.{up_to_end_drains}
 use Rattle.tls_wire.specs.declared.fault.AnchorError.{AnchorError}
 use Rattle.tls_wire.specs.declared.fault.AnchorError.TheVariants as text_faults
 use Rattle.tls_wire.specs.declared.fault.AnchorBytesError.{AnchorBytesError}
@@ -37,7 +37,7 @@ arcs_only_takes bytes done h some short e =
     record {
       arcs = read.0;
       are_arcs = found.1;
-      spelled = found.0.parts ∙ (ap (λ (t : List ℕ). flat_map arc read.0 ++ t) nothing
+      encoded = found.0.parts ∙ (ap (λ (t : List ℕ). flat_map arc read.0 ++ t) nothing
           ∙ append-nil (flat_map arc read.0));
       some = some;
       short = short;
@@ -78,7 +78,7 @@ unfolding anchor_of arcs_only
 anchor_again bytes id =
     let read = arcs_read id.arcs id.are_arcs in
     let P : List ℕ → Type 0 = λ t. up_to_end arc_at (at t 0) ≡ Ok (id.arcs, read.0) in
-    let whole = subst P (sym id.spelled) read.1 in
+    let whole = subst P (sym id.encoded) read.1 in
     let some : length bytes ≢ 0 = omega (arith, id.some) in
     rw (ne_eqb (length bytes) 0 some, le-ltb 255 (length bytes) id.short, whole) refl
 
@@ -90,7 +90,7 @@ unfolding text_of
 text_of_id bytes id =
     let read = arcs_read id.arcs id.are_arcs in
     let P : List ℕ → Type 0 = λ t. up_to_end arc_at (at t 0) ≡ Ok (id.arcs, read.0) in
-    ap text_in (subst P (sym id.spelled) read.1)
+    ap text_in (subst P (sym id.encoded) read.1)
 
 arcs_some : (ns : List ℕ) → AllByRecursion IsArc ns → 0 < length ns → 0 < length (flat_map arc ns)
 arcs_some [] small some = absurd (omega arith)
@@ -115,7 +115,7 @@ numbers_are_id text ns bytes numbers same short =
     record {
       arcs = ns;
       are_arcs = numbers.small;
-      spelled = same;
+      encoded = same;
       some =
           omega (arith, arcs_some ns numbers.small numbers.some, ap length same);
       short = short;
@@ -135,7 +135,7 @@ text_takes text bytes h e =
     let found = arcs_in_takes text s.0 h s.1 in
     let id = numbers_are_id text found.0 s.0 found.1 found.2 (ltb-false 255 (length s.0) k.0) in
     let P : List ℕ → Type 0 = λ b. IsAnchorId b × (text_of b ≡ text) in
-    subst P (ok_is AnchorError s.0 bytes k.1) (id, text_of_id s.0 id ∙ sym found.1.spelled)
+    subst P (ok_is AnchorError s.0 bytes k.1) (id, text_of_id s.0 id ∙ sym found.1.encoded)
 
 dotted_some : (ns : List ℕ) → AllByRecursion IsArc ns → 0 < length ns → 0 < length (dotted ns)
 dotted_some [] small some = absurd (omega arith)
@@ -146,7 +146,7 @@ dotted_some (n ∷ ns) small some = omega (
 )
 
 id_some : (bytes : List ℕ) (id : IsAnchorId bytes) → 0 < length id.arcs
-id_some bytes id = go id.arcs id.spelled
+id_some bytes id = go id.arcs id.encoded
   where
     go : (ns : List ℕ) → bytes ≡ flat_map arc ns → 0 < length ns
     go [] same = absurd (omega (arith, id.some, ap length same))
@@ -160,9 +160,9 @@ text_again bytes id =
     let long : length (dotted id.arcs) ≢ 0 = omega (arith, dotted_some id.arcs id.are_arcs some) in
     let numbers = dotted_again id.arcs 0 id.are_arcs some in
     let short : nat_lt 255 (length (flat_map arc id.arcs)) ≡ false =
-    le-ltb _ _ (omega (arith, id.short, ap length id.spelled)) in
+    le-ltb _ _ (omega (arith, id.short, ap length id.encoded)) in
     ap anchor_text text ∙ (rw (ne_eqb (length (dotted id.arcs)) 0 long, numbers, short) refl
-    ∙ ap (λ (b : List ℕ). Ok b) (sym id.spelled))
+    ∙ ap (λ (b : List ℕ). Ok b) (sym id.encoded))
 
 -- ---- what a call that made an anchor id knows
 

@@ -6,9 +6,9 @@ use Rattle.std.specs.Prelude.{if◌then◌else◌, ◌==◌, nat_lt, nat_le}
 use Rattle.std.specs.Char.{is_ascii_digit}
 use Rattle.std.proofs.lemmas.Bool.{lt-leb}
 use Rattle.std.proofs.lemmas.List.{drop_more, drop_all, length-drop}
-use Rattle.byte_forms.specs.Places.{At, at}
-use Rattle.byte_forms.specs.Readings.{◌>>=◌, discarded}
-use Rattle.byte_forms.specs.Lists.{up_to_end}
+use Rattle.byte_formats.specs.Places.{At, at}
+use Rattle.byte_formats.specs.Readings.{◌>>=◌, discarded}
+use Rattle.byte_formats.specs.Lists.{up_to_end}
 use Rattle.tls_wire.specs.declared.fault.AnchorError.{AnchorError}
 use Rattle.tls_wire.specs.declared.fault.AnchorError.TheVariants as text_faults
 use Rattle.tls_wire.specs.declared.fault.AnchorBytesError.{AnchorBytesError}

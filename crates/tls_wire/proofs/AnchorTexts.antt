@@ -8,8 +8,8 @@ use Rattle.std.specs.List.{AllByRecursion}
 use Rattle.std.proofs.lemmas.Bool.{cases_lt}
 use Rattle.std.proofs.lemmas.List.{length-append}
 use Rattle.std.proofs.lemmas.Fmt.{length-decimal-le}
-use Rattle.byte_forms.specs.Places.{at}
-use Rattle.byte_forms.specs.Readings.{◌>>=◌, is_read}
+use Rattle.byte_formats.specs.Places.{at}
+use Rattle.byte_formats.specs.Readings.{◌>>=◌, is_read}
 use Rattle.tls_wire.specs.declared.fault.AnchorError.{AnchorError}
 use Rattle.tls_wire.specs.declared.fault.AnchorError.TheVariants.{TooLong}
 use Rattle.tls_wire.specs.Arcs.{high_digits, arc, IsArc, dot_decimal, dotted, IsAnchorId}
@@ -190,7 +190,7 @@ text-short bytes id =
       ap length (text_of_id bytes id),
       dotted-short id.arcs id.are_arcs,
       arcs-count id.arcs id.are_arcs,
-      ap length id.spelled,
+      ap length id.encoded,
       id.short,
     )
 

@@ -12,11 +12,11 @@ use Rattle.std.proofs.lemmas.Nat.{div-mul-add, mod-mul-add}
 use Rattle.std.proofs.lemmas.List.{length-append, length-map, map_push}
 use Rattle.std.proofs.lemmas.Int.Digits.{digits_of_step, first_digits_of, all_below_base_digits_of}
 use Rattle.std.proofs.lemmas.Int.Digits.{number_after_ge, number_digits_of}
-use Rattle.byte_forms.specs.Places.{At, IsBytes, begins_with}
-use Rattle.byte_forms.specs.Forms.{Stands, IsForm, Anything, Nothing}
-use Rattle.byte_forms.specs.Lists.{up_to_end}
-use Rattle.byte_forms.proofs.Steps.{guard_ok, chosen, ok_is, IsBytes-rest, Stands-then}
-use Rattle.byte_forms.proofs.Lists.{many_form}
+use Rattle.byte_formats.specs.Places.{At, IsBytes, begins_with}
+use Rattle.byte_formats.specs.Forms.{Stands, IsForm, Anything, Nothing}
+use Rattle.byte_formats.specs.Lists.{up_to_end}
+use Rattle.byte_formats.proofs.Steps.{guard_ok, chosen, ok_is, IsBytes-rest, Stands-then}
+use Rattle.byte_formats.proofs.Lists.{many_form}
 use Rattle.tls_wire.specs.declared.fault.AnchorBytesError.{AnchorBytesError}
 use Rattle.tls_wire.specs.declared.fault.AnchorBytesError.TheVariants.{Padding, ArcTooLarge}
 use Rattle.tls_wire.specs.Arcs.{high_digits, arc, IsArc}
@@ -192,6 +192,6 @@ arcs_form = many_form arc IsArc arc_at arc_some arc_form
 -- One digit more behind the others.
 pub digits_put : (old mid new : List ℕ) (n : ℕ) → n ≢ 0 → mid ≡ old ++ high_digits (n / 128)
     → new ≡ mid ++ ((128 + n % 128) ∷ []) → new ≡ old ++ high_digits n
-digits_put old mid new n some front end =
-    end ∙ (rw front (append_assoc old (high_digits (n / 128)) ((128 + n % 128) ∷ []))
+digits_put old mid new n some prefix end =
+    end ∙ (rw prefix (append_assoc old (high_digits (n / 128)) ((128 + n % 128) ∷ []))
     ∙ ap (λ (t : List ℕ). old ++ t) (sym (high_digits_more n some)))

@@ -12,11 +12,11 @@ use Rattle.std.proofs.lemmas.Nat.{div-mul-add, mod-mul-add}
 use Rattle.std.proofs.lemmas.List.{length-append, nil_from_length}
 use Rattle.std.proofs.lemmas.Fmt.{decimal_digit, decimal_step, decimal_by_steps}
 use Rattle.std.proofs.lemmas.Bool.{and_parts}
-use Rattle.byte_forms.specs.Places.{At, IsBytes, after}
-use Rattle.byte_forms.specs.Readings.{◌>>=◌}
-use Rattle.byte_forms.specs.Forms.{Stands}
-use Rattle.byte_forms.proofs.Steps.{bind_ok, guard_ok, pass_ok, chosen, ok_is, IsBytes-rest}
-use Rattle.byte_forms.proofs.Steps.{IsBytes-drop, Stands-then, Stands-none}
+use Rattle.byte_formats.specs.Places.{At, IsBytes, after}
+use Rattle.byte_formats.specs.Readings.{◌>>=◌}
+use Rattle.byte_formats.specs.Forms.{Stands}
+use Rattle.byte_formats.proofs.Steps.{bind_ok, guard_ok, pass_ok, chosen, ok_is, IsBytes-rest}
+use Rattle.byte_formats.proofs.Steps.{IsBytes-drop, Stands-then, Stands-none}
 use Rattle.tls_wire.specs.declared.fault.AnchorError.{AnchorError}
 use Rattle.tls_wire.specs.declared.fault.AnchorError.TheVariants.{NotDecimal, LeadingZero}
 use Rattle.tls_wire.specs.declared.fault.AnchorError.TheVariants.{ArcTooLarge}
@@ -56,7 +56,7 @@ one_byte c place rest h = record { parts = refl; place = refl; bytes = IsBytes-r
 -- What was read of a number behind the digits of n: it is m, and a dot or the end follows.
 record IsTail (n : ℕ) (a : At) (m : ℕ) (b : At) : Type 0 where
   text : List ℕ
-  spelled : decimal n ++ text ≡ decimal m
+  encoded : decimal n ++ text ≡ decimal m
   stands : Stands a text b
   small : IsArc m
   ends : EndsNumber b.rest
@@ -64,7 +64,7 @@ record IsTail (n : ℕ) (a : At) (m : ℕ) (b : At) : Type 0 where
 no_tail : (n : ℕ) (a : At) → IsBytes a.rest → IsArc n → EndsNumber a.rest → IsTail n a n a
 no_tail n a h small ends = record {
   text = [];
-  spelled = append-nil (decimal n);
+  encoded = append-nil (decimal n);
   stands =
       Stands-none a h;
   small = small;
@@ -107,8 +107,8 @@ decimal_take start n place (c ∷ rest) m b h small e =
           ∙ ap (λ (x : ℕ). decimal n ++ (x ∷ [])) back in
           record {
             text = c ∷ others.text;
-            spelled = sym (append_assoc (decimal n) (c ∷ []) others.text)
-                ∙ (ap (λ (t : List ℕ). t ++ others.text) (sym grown) ∙ others.spelled);
+            encoded = sym (append_assoc (decimal n) (c ∷ []) others.text)
+                ∙ (ap (λ (t : List ℕ). t ++ others.text) (sym grown) ∙ others.encoded);
             stands = Stands-then a (c ∷ []) (record {
               place = place + 1;
               rest =
@@ -138,11 +138,11 @@ decimal_in_takes place (c ∷ rest) m b h e =
     let back : 48 + (c - 48) ≡ c = omega arith in
     let first : decimal (c - 48) ≡ c ∷ [] = decimal_digit (c - 48) (omega arith)
     ∙ ap (λ (x : ℕ). x ∷ []) back in
-    let spelled : c ∷ tail.text ≡ decimal m = ap (λ (t : List ℕ). t ++ tail.text) (sym first)
-    ∙ tail.spelled in
+    let encoded : c ∷ tail.text ≡ decimal m = ap (λ (t : List ℕ). t ++ tail.text) (sym first)
+    ∙ tail.encoded in
     let P : List ℕ → Type 0 = λ t. Stands a t b in
     record {
-      stands = subst P spelled (Stands-then a (c ∷ []) (record {
+      stands = subst P encoded (Stands-then a (c ∷ []) (record {
         place = place + 1;
         rest =
             rest;
@@ -230,7 +230,7 @@ dot_first [] ends other = absurd cc
 dot_first (c ∷ rest) ends other = ap (λ (x : ℕ). x ∷ rest) ends
 
 pub record AreNumbers (text : List ℕ) (ns : List ℕ) : Type 0 where
-  pub spelled : text ≡ dotted ns
+  pub encoded : text ≡ dotted ns
   pub small : AllByRecursion IsArc ns
   pub some : 0 < length ns
 
@@ -251,7 +251,7 @@ decimals_take (suc fuel) a ns h lt e =
       | inl c ↦
           let nothing = nil_from_length b.rest (eqb-true (length b.rest) 0 c.0) in
           subst P (ok_is AnchorError (n ∷ []) ns c.1) (record {
-            spelled = one.stands.parts
+            encoded = one.stands.parts
                 ∙ ap (λ (t : List ℕ). decimal n ++ t) nothing;
             small = (one.small, tt);
             some =
@@ -268,9 +268,9 @@ decimals_take (suc fuel) a ns h lt e =
           (omega arith) t.1 in
           let text : a.rest ≡ decimal n ++ (46 ∷ dotted t.0) = one.stands.parts
           ∙ ap (λ (u : List ℕ). decimal n ++ u) (dot
-          ∙ ap (λ (u : List ℕ). 46 ∷ u) others.spelled) in
+          ∙ ap (λ (u : List ℕ). 46 ∷ u) others.encoded) in
           subst P (ok_is AnchorError (n ∷ t.0) ns t.2) (record {
-            spelled = text
+            encoded = text
                 ∙ sym (dotted_behind n t.0 others.some);
             small = (one.small, others.small);
             some =

@@ -7,14 +7,14 @@ use Rattle.std.specs.Simd.{first_chunks}
 use Rattle.std.specs.Int.{w16}
 use Rattle.std.proofs.Math.Seq.{take-add, take-length}
 use Rattle.std.proofs.lemmas.List.{length-append, length-take-le, length-drop, take_at, drop_at}
-use Rattle.byte_forms.specs.Places.{At}
-use Rattle.byte_forms.specs.Readings.{lifted}
-use Rattle.byte_forms.specs.Forms.{Stands, IsForm, Anything}
-use Rattle.byte_forms.proofs.Steps.{bind_ok, lifted_ok, pass_ok, ok_is}
+use Rattle.byte_formats.specs.Places.{At}
+use Rattle.byte_formats.specs.Readings.{lifted}
+use Rattle.byte_formats.specs.Forms.{Stands, IsForm, Anything}
+use Rattle.byte_formats.proofs.Steps.{bind_ok, lifted_ok, pass_ok, ok_is}
 use Rattle.tls_wire.specs.declared.cursor.HashesError.{HashesError}
 use Rattle.tls_wire.specs.declared.cursor.HashesError.TheVariants.{HashLength, Short as NotFitting}
 use Rattle.tls_wire.specs.Reading.{vector_at, hashes_in, hashes_at}
-use Rattle.tls_wire.specs.Spelling.{vector, hashes, AreHashes}
+use Rattle.tls_wire.specs.Encoding.{vector, hashes, AreHashes}
 use Rattle.tls_wire.proofs.Numbers.{wide16}
 use Rattle.tls_wire.proofs.Vectors.{vector_form}
 
@@ -64,7 +64,7 @@ joined_chunks (item ∷ items) all =
     let tail : first_chunks 32 (length items) (drop 32 (item ++ concat items)) ≡ items =
     ap (first_chunks 32 (length items)) (drop_at item (concat items) 32 all.0)
     ∙ joined_chunks items all.1 in
-    ap (λ front. front ∷ first_chunks 32 (length items) (drop 32 (item ++ concat items)))
+    ap (λ prefix. prefix ∷ first_chunks 32 (length items) (drop 32 (item ++ concat items)))
     (take_at item (concat items) 32 all.0) ∙ ap (λ rest. item ∷ rest) tail
 
 in_whole : (bytes : List ℕ) → length bytes % 32 ≡ 0 → length bytes < 2 ^ 16

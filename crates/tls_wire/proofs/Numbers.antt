@@ -5,12 +5,12 @@ use Rattle.std.specs.Int.{Width, w8, w16, w32, w64, byte_len, from_be_bytes}
 use Rattle.std.proofs.lemmas.List.{take_at, drop_at, length-append, length-take}
 use Rattle.std.proofs.lemmas.Nat.{be_bytes_2, be_bytes_4, be_bytes_8, from_be_bytes-to_be_bytes_2}
 use Rattle.std.proofs.lemmas.Nat.{from_be_bytes-to_be_bytes_4, from_be_bytes-to_be_bytes_8}
-use Rattle.byte_forms.specs.Places.{At, IsBytes, after}
-use Rattle.byte_forms.specs.Forms.{Stands, IsForm, Anything, itself}
-use Rattle.byte_forms.proofs.Steps.{guard_ok, ok_is, IsBytes-take, Stands-front}
+use Rattle.byte_formats.specs.Places.{At, IsBytes, after}
+use Rattle.byte_formats.specs.Forms.{Stands, IsForm, Anything, itself}
+use Rattle.byte_formats.proofs.Steps.{guard_ok, ok_is, IsBytes-take, Stands-prefix}
 use Rattle.tls_wire.specs.declared.cursor.Short.{Short}
 use Rattle.tls_wire.specs.Reading.{short, bytes_at, number_at}
-use Rattle.tls_wire.specs.Spelling.{number}
+use Rattle.tls_wire.specs.Encoding.{number}
 
 -- The numbers below the limit and the byte strings of a width are each other's.
 pub record IsWide (w : Width) (limit : ℕ) : Type 0 where
@@ -67,7 +67,7 @@ bytes_form count = record {
       let long : count ≤ length a.rest = ltb-false _ _ g.0 in
       let P : List ℕ × At → Type 0 = λ v. Stands a v.0 v.1 × (length v.0 ≡ count) in
       subst P (ok_is Short (take count a.rest, after count a) (bytes, b) g.1)
-      (Stands-front a count long h, omega (arith, length-take count a.rest));
+      (Stands-prefix a count long h, omega (arith, length-take count a.rest));
   again = λ bytes p rest f q.
       let long : ltb (length (bytes ++ rest)) count ≡ false =
       le-ltb _ _ (omega (arith, length-append bytes rest)) in
@@ -78,17 +78,17 @@ pub number_form : (w : Width) (limit : ℕ) → IsWide w limit
     → IsForm (number w) (λ n. n < limit) Anything (number_at w)
 number_form w limit wide = record {
   takes = λ a n b h e.
-      let front = take (byte_len w) a.rest in
+      let prefix = take (byte_len w) a.rest in
       let g = guard_ok (ltb (length a.rest) (byte_len w)) (short a) (Ok (
-        from_be_bytes w front,
+        from_be_bytes w prefix,
         after (byte_len w) a,
       )) (n, b) e in
       let long : byte_len w ≤ length a.rest = ltb-false _ _ g.0 in
       let bytes = IsBytes-take (byte_len w) a.rest h in
-      let same = wide.back front (omega (arith, length-take (byte_len w) a.rest)) bytes in
+      let same = wide.back prefix (omega (arith, length-take (byte_len w) a.rest)) bytes in
       let P : ℕ × At → Type 0 = λ v. Stands a (number w v.0) v.1 × (v.0 < limit) in
-      subst P (ok_is Short (from_be_bytes w front, after (byte_len w) a) (n, b) g.1)
-      (rw same (Stands-front a (byte_len w) long h), wide.below front bytes);
+      subst P (ok_is Short (from_be_bytes w prefix, after (byte_len w) a) (n, b) g.1)
+      (rw same (Stands-prefix a (byte_len w) long h), wide.below prefix bytes);
   again = λ n p rest f q.
       let len = wide.len n in
       let long : ltb (length (number w n ++ rest)) (byte_len w) ≡ false =

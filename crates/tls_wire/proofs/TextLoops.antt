@@ -5,10 +5,10 @@ use Rattle.std.proofs.Common.{append_assoc, append-nil, arith, ne_eqb, eq-eqb, l
 use Rattle.std.proofs.Common.{decimal}
 use Rattle.std.specs.Prelude.{if◌then◌else◌, ◌==◌, nat_lt}
 use Rattle.std.proofs.lemmas.List.{length-drop, drop-drop}
-use Rattle.byte_forms.specs.Places.{At, at, after}
-use Rattle.byte_forms.specs.Readings.{◌>>=◌}
-use Rattle.byte_forms.specs.Lists.{many_at}
-use Rattle.byte_forms.proofs.Steps.{bind_ok, ok_is}
+use Rattle.byte_formats.specs.Places.{At, at, after}
+use Rattle.byte_formats.specs.Readings.{◌>>=◌}
+use Rattle.byte_formats.specs.Lists.{many_at}
+use Rattle.byte_formats.proofs.Steps.{bind_ok, ok_is}
 use Rattle.tls_wire.specs.declared.fault.AnchorError.{AnchorError}
 use Rattle.tls_wire.specs.declared.fault.AnchorBytesError.{AnchorBytesError}
 use Rattle.tls_wire.specs.Arcs.{arc, dot_decimal, dotted, IsAnchorId}
@@ -145,7 +145,7 @@ arcs_from bytes id =
       arcs = id.arcs;
       end = read.0;
       read =
-          subst P (sym id.spelled) read.1;
+          subst P (sym id.encoded) read.1;
       parts = sym (text_of_id bytes id);
     }
 

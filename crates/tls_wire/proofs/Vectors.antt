@@ -4,15 +4,15 @@ use Rattle.std.proofs.Common.{IfOk, refl, sym, ap, subst, ◌∙◌, append_asso
 use Rattle.std.specs.Prelude.{nat_lt}
 use Rattle.std.specs.Int.{Width, byte_len, from_be_bytes}
 use Rattle.std.proofs.lemmas.List.{length-append, length-drop, length-take-le}
-use Rattle.byte_forms.specs.Types.{Text}
-use Rattle.byte_forms.specs.Places.{At, after}
-use Rattle.byte_forms.specs.Readings.{blamed, Reads}
-use Rattle.byte_forms.specs.Forms.{Stands, IsForm, Anything, itself}
-use Rattle.byte_forms.proofs.Steps.{bind_ok, blamed_ok, guard_ok, ok_is, Stands-then}
-use Rattle.byte_forms.proofs.Forms.{blamed_form}
+use Rattle.byte_formats.specs.Types.{Text}
+use Rattle.byte_formats.specs.Places.{At, after}
+use Rattle.byte_formats.specs.Readings.{blamed, Reads}
+use Rattle.byte_formats.specs.Forms.{Stands, IsForm, Anything, itself}
+use Rattle.byte_formats.proofs.Steps.{bind_ok, blamed_ok, guard_ok, ok_is, Stands-then}
+use Rattle.byte_formats.proofs.Forms.{blamed_form}
 use Rattle.tls_wire.specs.declared.cursor.Short.{Short}
 use Rattle.tls_wire.specs.Reading.{short, bytes_at, number_at, vector_at, inner_at}
-use Rattle.tls_wire.specs.Spelling.{number, vector}
+use Rattle.tls_wire.specs.Encoding.{number, vector}
 use Rattle.tls_wire.proofs.Numbers.{IsWide, bytes_form, number_form}
 
 blamed_bytes : (s : Short) (count : ℕ)

@@ -2,10 +2,10 @@
 use Rattle.std.specs.Prelude.{ℕ, ◌+◌, ◌-◌, ◌*◌, ◌%◌, ◌^◌, nat_lt, nat_le, ◌==◌, zero, suc, Bool}
 use Rattle.std.specs.Prelude.{List, [], ◌∷◌, length, flat_map, Result, Ok, Err, if◌then◌else◌}
 use Rattle.std.specs.Char.{is_ascii_digit}
-use Rattle.byte_forms.specs.Types.{Text}
-use Rattle.byte_forms.specs.Places.{At, at, after, begins_with}
-use Rattle.byte_forms.specs.Readings.{Reading, ◌>>=◌, is_read, discarded}
-use Rattle.byte_forms.specs.Lists.{up_to_end}
+use Rattle.byte_formats.specs.Types.{Text}
+use Rattle.byte_formats.specs.Places.{At, at, after, begins_with}
+use Rattle.byte_formats.specs.Readings.{Reading, ◌>>=◌, is_read, discarded}
+use Rattle.byte_formats.specs.Lists.{up_to_end}
 use Rattle.tls_wire.specs.Arcs.{arc, dotted}
 use Rattle.tls_wire.specs.declared.fault.AnchorError.{AnchorError}
 use Rattle.tls_wire.specs.declared.fault.AnchorError.TheVariants as text_faults

@@ -4,7 +4,7 @@ use Rattle.std.specs.Prelude.{◌≡◌, ℕ, ◌+◌, ◌/◌, ◌%◌, ◌^◌
 use Rattle.std.specs.Prelude.{map, decimal, flat_map}
 use Rattle.std.specs.List.{AllByRecursion}
 use Rattle.std.specs.Int.Digits.{digits_of}
-use Rattle.byte_forms.specs.Types.{Text}
+use Rattle.byte_formats.specs.Types.{Text}
 
 -- The digits of a number in base 128, the highest first and none for 0, each with the highest bit
 -- of its byte set.
@@ -33,6 +33,6 @@ dotted (n ∷ ns) = decimal n ++ flat_map dot_decimal ns
 pub record IsAnchorId (bytes : Text) : Type 0 where
   pub arcs : List ℕ
   pub are_arcs : AllByRecursion IsArc arcs
-  pub spelled : bytes ≡ flat_map arc arcs
+  pub encoded : bytes ≡ flat_map arc arcs
   pub some : 0 < length bytes
   pub short : length bytes ≤ 255

@@ -1,5 +1,5 @@
 pub mod Reading
-pub mod Spelling
+pub mod Encoding
 pub mod Arcs
 pub mod Anchors
 pub mod Decimal

@@ -1,7 +1,7 @@
 //! Names of trust anchors.
 
 ghost use Rattle.std.specs.Prelude.{◌≡◌, ◌≤◌, length, IfOk};
-ghost use Rattle.byte_forms.specs.Readings.{Answers};
+ghost use Rattle.byte_formats.specs.Readings.{Answers};
 ghost use Rattle.tls_wire.specs.Arcs.{IsAnchorId};
 ghost use Rattle.tls_wire.specs.Anchors.{anchor_of, anchor_text, is_anchor_text, text_of};
 
@@ -21,7 +21,7 @@ pub struct AnchorId {
 }
 
 impl Model for AnchorId {
-    ghost use Rattle.byte_forms.specs.Types.{Text};
+    ghost use Rattle.byte_formats.specs.Types.{Text};
 
     ghost Value = { Text };
 

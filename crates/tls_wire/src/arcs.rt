@@ -2,8 +2,8 @@
 //! bit set in all but the last.
 
 ghost use Rattle.std.specs.Prelude.{◌≡◌, ◌^◌, ◌<◌, ◌≤◌, ◌++◌, length, drop, IfOk, OnOk};
-ghost use Rattle.byte_forms.specs.Places.{at};
-ghost use Rattle.byte_forms.specs.Readings.{Gives};
+ghost use Rattle.byte_formats.specs.Places.{at};
+ghost use Rattle.byte_formats.specs.Readings.{Gives};
 ghost use Rattle.tls_wire.specs.Arcs.{high_digits, arc};
 ghost use Rattle.tls_wire.specs.Anchors.{arc_from, arc_at, arcs_only};
 

@@ -2,8 +2,8 @@
 
 ghost use Rattle.std.specs.Prelude.{◌≡◌, ◌<◌, ◌≤◌, ◌-◌, ◌+◌, ◌++◌, length, drop, decimal};
 ghost use Rattle.std.specs.Prelude.{string_bytes, if◌then◌else◌, IfOk, OnOk};
-ghost use Rattle.byte_forms.specs.Places.{at};
-ghost use Rattle.byte_forms.specs.Readings.{Gives, Answers};
+ghost use Rattle.byte_formats.specs.Places.{at};
+ghost use Rattle.byte_formats.specs.Readings.{Gives, Answers};
 ghost use Rattle.tls_wire.specs.Anchors.{decimal_from, decimal_at, arcs_in, is_anchor_text};
 ghost use Rattle.tls_wire.specs.Anchors.{text_of};
 ghost use Rattle.tls_wire.specs.Arcs.{dot_decimal, IsAnchorId};

@@ -3,19 +3,19 @@
 ghost use Rattle.std.specs.Prelude.{◌≡◌, ◌<◌, ◌^◌, ℕ, decimal, flat_map, Ok, Some};
 ghost use Rattle.std.specs.List.{AllByRecursion};
 ghost use Rattle.std.specs.Int.{w8, w16, w32, w64};
-ghost use Rattle.byte_forms.specs.Types.{Text};
-ghost use Rattle.byte_forms.specs.Places.{IsBytes};
-ghost use Rattle.byte_forms.specs.Lists.{up_to_end};
-ghost use Rattle.byte_forms.specs.Forms.{IsForm, Anything, Nothing, itself};
+ghost use Rattle.byte_formats.specs.Types.{Text};
+ghost use Rattle.byte_formats.specs.Places.{IsBytes};
+ghost use Rattle.byte_formats.specs.Lists.{up_to_end};
+ghost use Rattle.byte_formats.specs.Forms.{IsForm, Anything, Nothing, itself};
 ghost use Rattle.tls_wire.specs.Reading.{bytes_at, number_at, vector_at, hashes_at};
-ghost use Rattle.tls_wire.specs.Spelling.{number, vector, HasLength, IsShorter, hashes, AreHashes};
+ghost use Rattle.tls_wire.specs.Encoding.{number, vector, HasLength, IsShorter, hashes, AreHashes};
 ghost use Rattle.tls_wire.specs.Arcs.{arc, IsArc, IsAnchorId};
 ghost use Rattle.tls_wire.specs.Anchors.{arc_at, anchor_of, anchor_text, text_of};
 ghost use Rattle.tls_wire.specs.Decimal.{number_of};
 
 /// A number that is read is spelled so, and a number that is spelled so is read again, whatever
 /// follows it.
-pub fn numbers_are_read_as_spelled()
+pub fn law_numbers_decode_as_encoded()
     ensures one_byte { IsForm (number w8) (λ n. n < 2 ^ 8) Anything (number_at w8) }
     ensures two_bytes { IsForm (number w16) (λ n. n < 2 ^ 16) Anything (number_at w16) }
     ensures four_bytes { IsForm (number w32) (λ n. n < 2 ^ 32) Anything (number_at w32) }
@@ -23,20 +23,20 @@ pub fn numbers_are_read_as_spelled()
 {}
 
 /// The same for so many bytes, and for vectors with a length of one or two bytes.
-pub fn vectors_are_read_as_spelled()
+pub fn law_vectors_decode_as_encoded()
     ensures bytes { (count : ℕ) → IsForm itself (HasLength count) Anything (bytes_at count) }
     ensures short_vectors { IsForm (vector w8) (IsShorter (2 ^ 8)) Anything (vector_at w8) }
     ensures long_vectors { IsForm (vector w16) (IsShorter (2 ^ 16)) Anything (vector_at w16) }
 {}
 
 /// Hashes of 32 bytes each, in a vector with a length of two bytes, are read as spelled.
-pub fn hashes_are_read_as_spelled()
+pub fn law_hashes_decode_as_encoded()
     ensures { IsForm hashes AreHashes Anything hashes_at }
 {}
 
 /// The bytes of anchor ids are read exactly where they are arcs one behind the other, 1 to 255
 /// bytes.
-pub fn anchor_ids_are_read_as_spelled()
+pub fn law_anchor_ids_decode_as_encoded()
     ensures arcs { IsForm (flat_map arc) (AllByRecursion IsArc) Nothing (up_to_end arc_at) }
     ensures read { (bytes id : Text) → IsBytes bytes → anchor_of bytes ≡ Ok id
         → (id ≡ bytes) × IsAnchorId bytes }
@@ -45,7 +45,7 @@ pub fn anchor_ids_are_read_as_spelled()
 
 /// The text of each anchor id is read as that anchor id, and a text that is read is the text of
 /// what was read.
-pub fn anchor_texts_are_read_as_written()
+pub fn law_anchor_texts_are_read_as_written()
     ensures again { (id : Text) → IsAnchorId id → anchor_text (text_of id) ≡ Ok id }
     ensures read { (text id : Text) → IsBytes text → anchor_text text ≡ Ok id
         → IsAnchorId id × (text_of id ≡ text) }
@@ -53,7 +53,7 @@ pub fn anchor_texts_are_read_as_written()
 
 /// A number below 2^63 in decimal is read as that number, and a text that is read is the number in
 /// decimal.
-pub fn numbers_in_decimal_are_read_as_written()
+pub fn law_numbers_in_decimal_are_read_as_written()
     ensures again { (n : ℕ) → n < 2 ^ 63 → number_of (decimal n) ≡ Some n }
     ensures read { (text : Text) (n : ℕ) → number_of text ≡ Some n
         → (decimal n ≡ text) × (n < 2 ^ 63) }

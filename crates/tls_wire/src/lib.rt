@@ -9,16 +9,11 @@ mod cursor;
 mod decimal;
 mod dotted;
 mod fault;
-mod laws;
+pub mod laws;
 mod writing;
 
 pub use anchor::AnchorId;
 pub use cursor::{Cursor, HashesError, Short};
 pub use decimal::read_number;
 pub use fault::{AnchorBytesError, AnchorError};
-pub use laws::{
-    anchor_ids_are_read_as_spelled, anchor_texts_are_read_as_written, hashes_are_read_as_spelled,
-    numbers_are_read_as_spelled, numbers_in_decimal_are_read_as_written,
-    vectors_are_read_as_spelled,
-};
 pub use writing::{put_bytes, put_hashes, put_u8, put_u16, put_u32, put_u64, put_vec8, put_vec16};

@@ -3,7 +3,7 @@
 
 ghost use Rattle.std.specs.Prelude.{◌≡◌, ◌++◌, ◌*◌, ◌^◌, ◌<◌, length, OnOk, OnErr};
 ghost use Rattle.std.specs.Int.{w8, w16, w32, w64};
-ghost use Rattle.tls_wire.specs.Spelling.{number, vector, hashes};
+ghost use Rattle.tls_wire.specs.Encoding.{number, vector, hashes};
 
 use mtc_io::{Bytes, Memory};
 

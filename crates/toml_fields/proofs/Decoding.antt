@@ -1,7 +1,7 @@
 -- What a text in base64 decodes to.
 use Rattle.std.proofs.Common.{◌≡◌, Option, Some, None, Ok, Err, ap}
 use Rattle.std.specs.Result.{result_ok}
-use Rattle.byte_forms.specs.Types.{Text}
+use Rattle.byte_formats.specs.Types.{Text}
 use Rattle.base64.specs.Engines.{standard}
 use Rattle.base64.specs.GeneralPurpose.{decode_of, decoded_of}
 use Rattle.base64.specs.declared.decode.DecodeError.{DecodeError}

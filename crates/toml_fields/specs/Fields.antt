@@ -1,7 +1,7 @@
 -- A field of a table: the value at its key, in its form. The faults are those of whoever reads the
 -- file.
 use Rattle.std.specs.Prelude.{Option, Some, None, Result, Ok, Err, option_map}
-use Rattle.byte_forms.specs.Readings.{some_or}
+use Rattle.byte_formats.specs.Readings.{some_or}
 use Rattle.toml.specs.Data.{Data}
 
 -- A field that has to be there: without it one fault, and out of its form another.

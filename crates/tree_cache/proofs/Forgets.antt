@@ -52,7 +52,7 @@ row-forgotten hashes gone old new can done even is =
     let within : gone ≤ old.gone + length old.kept = can.within in
     let size : length old.kept ≡ length hashes - old.gone =
     ap length is.kept ∙ length-drop old.gone hashes in
-    let front = is.within in
+    let prefix = is.within in
     let sum : old.gone + (gone - old.gone) ≡ gone = omega arith in
     record {
       kept = done.kept ∙ ap (drop (gone - old.gone)) is.kept
@@ -120,16 +120,16 @@ long-forgotten size level rows row new above raised is can done up count long =
 pub holds-forgotten : (size level : ℕ) (rows : List RowState) (row new : RowState)
     (above raised : List RowState) → rows ≡ row ∷ above → CanForgetAll size level rows
     → HasForgotten (gone_of size level) row new
-    → ((room : ℕ) → HoldUpTo room above → HoldUpTo room raised)
-    → (room : ℕ) → HoldUpTo room rows → HoldUpTo room (new ∷ raised)
+    → ((capacity : ℕ) → HoldUpTo capacity above → HoldUpTo capacity raised)
+    → (capacity : ℕ) → HoldUpTo capacity rows → HoldUpTo capacity (new ∷ raised)
 unfolding HoldUpTo
-holds-forgotten size level rows row new above raised is can done up room holds =
-    let here : HoldUpTo room (row ∷ above) = subst (HoldUpTo room) is holds in
+holds-forgotten size level rows row new above raised is can done up capacity holds =
+    let here : HoldUpTo capacity (row ∷ above) = subst (HoldUpTo capacity) is holds in
     let fits = here.0 in
     let spare = done.spare in
     let all = length-forgotten (gone_of size level) row new
     (can-row size level rows row above is can) done in
-    (omega arith, up (room / 2) here.1)
+    (omega arith, up (capacity / 2) here.1)
 
 pub gone-forgotten : (size level : ℕ) (rows : List RowState) (row new : RowState)
     (above raised : List RowState) → rows ≡ row ∷ above
@@ -205,17 +205,17 @@ none-in size level none =
     omega arith
 
 -- nodes let go from rows, through the slice of their vector
-pub record IsForgotten (size room : ℕ) (old new : List RowState) : Type 0 where
-  pub sound : AreSound room new
+pub record IsForgotten (size capacity : ℕ) (old new : List RowState) : Type 0 where
+  pub sound : AreSound capacity new
   pub rows_of : (h : List ℕ → List ℕ) (leaves : List (List ℕ)) → AreRowsOf h leaves old
       → AreRowsOf h leaves new
   pub count : count_of new ≡ count_of old
   pub gone : (level : ℕ) → gone_at new level ≡ gone_of size level
 
-sound-forgotten : (old new : List RowState) (room : ℕ) → AreSound room old
-    → length new ≡ length old → AreLong (count_of old) new → HoldUpTo room new
-    → AreSound room new
-sound-forgotten old new room sound count long holds =
+sound-forgotten : (old new : List RowState) (capacity : ℕ) → AreSound capacity old
+    → length new ≡ length old → AreLong (count_of old) new → HoldUpTo capacity new
+    → AreSound capacity new
+sound-forgotten old new capacity sound count long holds =
     let all : count_of new ≡ count_of old = count-long (count_of old) new long in
     let within = sound.within in
     record {
@@ -246,37 +246,38 @@ at-or-over (suc level) (suc count) = up (at-or-over level count)
     up (inl below) = inl (omega arith)
     up (inr over) = inr (omega arith)
 
-gone-all : (size : ℕ) (old new : List RowState) (room : ℕ) → AreSound room old
+gone-all : (size : ℕ) (old new : List RowState) (capacity : ℕ) → AreSound capacity old
     → size < 2 ^ 32 → size ≤ count_of old → length new ≡ length old
     → ((at : ℕ) → at < length old → gone_at new at ≡ gone_of size (0 + at))
     → (level : ℕ) → (level < length old) ⊎ (length old ≤ level)
     → gone_at new level ≡ gone_of size level
-gone-all size old new room sound few within count gone level (inl inside) =
+gone-all size old new capacity sound few within count gone level (inl inside) =
     let none : 0 + level ≡ level = omega arith in
     gone level inside ∙ ap (gone_of size) none
-gone-all size old new room sound few within count gone level (inr outside) =
+gone-all size old new capacity sound few within count gone level (inr outside) =
     gone-over new level (omega arith)
     ∙ sym (none-left size level old few within sound.levels outside)
 
-pub forgotten_whole : (size : ℕ) (old slice new : List RowState) (len room : ℕ)
-    → AreSound room old → size < 2 ^ 32 → size ≤ count_of old → slice ≡ old
+pub forgotten_whole : (size : ℕ) (old slice new : List RowState) (len capacity : ℕ)
+    → AreSound capacity old → size < 2 ^ 32 → size ≤ count_of old → slice ≡ old
     → len ≡ length old → length new ≡ length slice
     → ((h : List ℕ → List ℕ) (leaves : List (List ℕ)) → AreRowsOf h leaves slice
     → AreRowsOf h leaves new)
     → ((count : ℕ) → AreLong count slice → AreLong count new)
     → ((before : ℕ) → HoldUpTo before slice → HoldUpTo before new)
     → ((at : ℕ) → at < length slice → gone_at new at ≡ gone_of size (0 + at))
-    → IsForgotten size room old (take len (new ++ drop (length new) old))
-forgotten_whole size old slice new len room sound few within is same count rows long holds gone =
+    → IsForgotten size capacity old (take len (new ++ drop (length new) old))
+forgotten_whole size old slice new len capacity sound few within is same count rows long holds
+    gone =
     let equal : length new ≡ length old = count ∙ ap length is in
     let longer : AreLong (count_of old) new =
     long (count_of old) (subst (AreLong (count_of old)) (sym is) sound.long) in
-    subst (IsForgotten size room old) (sym (written-whole len new old same equal)) (record {
-      sound = sound-forgotten old new room sound equal longer
-          (holds room (subst (HoldUpTo room) (sym is) sound.holds));
+    subst (IsForgotten size capacity old) (sym (written-whole len new old same equal)) (record {
+      sound = sound-forgotten old new capacity sound equal longer
+          (holds capacity (subst (HoldUpTo capacity) (sym is) sound.holds));
       rows_of = λ h leaves are. rows h leaves (subst (AreRowsOf h leaves) (sym is) are);
       count = count-long (count_of old) new longer;
-      gone = λ level. gone-all size old new room sound few within equal
+      gone = λ level. gone-all size old new capacity sound few within equal
           (subst (λ l. (at : ℕ) → at < length l → gone_at new at ≡ gone_of size (0 + at)) is gone)
           level (at-or-over level (length old));
     })

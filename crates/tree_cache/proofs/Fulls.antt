@@ -6,7 +6,7 @@ use Rattle.std.proofs.Math.Nat.{pow-succ', zero-div}
 use Rattle.std.proofs.Math.Seq.{drop-cons}
 use Rattle.std.proofs.lemmas.List.{get_or-drop, get_or-take, length-drop, length-take}
 use Rattle.std.proofs.lemmas.Nat.{le-div, pow_pos}
-use Rattle.byte_forms.specs.Types.{Hash, HashFunction}
+use Rattle.byte_formats.specs.Types.{Hash, HashFunction}
 use Rattle.tree_cache.proofs.Pairs.{drop-paired, length-paired, part-paired, take-paired}
 use Rattle.tree_cache.specs.Cached.{AreFulls}
 use Rattle.tree_cache.proofs.Pushes.{long-of}
@@ -42,7 +42,7 @@ root_of-paired h (suc level) xs size =
     let double : 2 ^ suc level ≡ 2 * 2 ^ level = pow-succ' 2 level in
     let positive = pow_pos level in
     let pairs = length-paired h xs in
-    let front = length-take (2 * 2 ^ level) xs in
+    let prefix = length-take (2 * 2 ^ level) xs in
     let back = length-drop (2 * 2 ^ level) xs in
     let split : split_of (length xs) ≡ 2 * 2 ^ level =
     split_unique (length xs) (suc level) (omega arith) (omega arith) ∙ double in

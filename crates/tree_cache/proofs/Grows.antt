@@ -16,7 +16,7 @@ grown-same rows = record {
   gone = λ level. refl;
   same = λ h leaves are. are;
   long = λ count long. long;
-  kept = λ room holds. holds;
+  kept = λ capacity holds. holds;
 }
 
 -- a row with the same hashes
@@ -51,11 +51,11 @@ grown-row rows row grown above raised is gone same spare up = record {
   long = λ count long.
       let here : AreLong count (row ∷ above) = subst (AreLong count) is long in
       (long-same count row grown gone same here.0, up.long (count / 2) here.1);
-  kept = λ room holds.
-      let here : HoldUpTo room (row ∷ above) = subst (HoldUpTo room) is holds in
-      let fits : room ≤ row.gone + length row.kept + row.spare = here.0 in
+  kept = λ capacity holds.
+      let here : HoldUpTo capacity (row ∷ above) = subst (HoldUpTo capacity) is holds in
+      let fits : capacity ≤ row.gone + length row.kept + row.spare = here.0 in
       let size : length grown.kept ≡ length row.kept = ap length same in
-      (omega arith, up.kept (room / 2) here.1);
+      (omega arith, up.kept (capacity / 2) here.1);
 }
 
 pub grown-on : (a b c : List RowState) → HaveGrown a b → HaveGrown b c → HaveGrown a c
@@ -65,34 +65,35 @@ grown-on a b c one two = record {
   gone = λ level. two.gone level ∙ one.gone level;
   same = λ h leaves are. two.same h leaves (one.same h leaves are);
   long = λ count long. two.long count (one.long count long);
-  kept = λ room holds. two.kept room (one.kept room holds);
+  kept = λ capacity holds. two.kept capacity (one.kept capacity holds);
 }
 
-pub holds-more : (row : RowState) (above : List RowState) (room : ℕ)
-    → room ≤ row.gone + length row.kept + row.spare → HoldUpTo (room / 2) above
-    → HoldUpTo room (row ∷ above)
+pub holds-more : (row : RowState) (above : List RowState) (capacity : ℕ)
+    → capacity ≤ row.gone + length row.kept + row.spare → HoldUpTo (capacity / 2) above
+    → HoldUpTo capacity (row ∷ above)
 unfolding HoldUpTo
-holds-more row above room fits up = (fits, up)
+holds-more row above capacity fits up = (fits, up)
 
-pub holds-none : (rows : List RowState) (room : ℕ) → length rows ≡ 0 → room < 2 ^ length rows
-    → HoldUpTo room rows
+pub holds-none : (rows : List RowState) (capacity : ℕ) → length rows ≡ 0
+    → capacity < 2 ^ length rows
+    → HoldUpTo capacity rows
 unfolding HoldUpTo
-holds-none [] room none small = omega arith
-holds-none (row ∷ rows) room none small = let no : ⊥ = omega arith in absurd no
+holds-none [] capacity none small = omega arith
+holds-none (row ∷ rows) capacity none small = let no : ⊥ = omega arith in absurd no
 
-pub half-below : (room : ℕ) (rows : List RowState) (row : RowState) (above : List RowState)
-    → rows ≡ row ∷ above → room < 2 ^ length rows → room / 2 < 2 ^ length above
-half-below room rows row above is small =
+pub half-below : (capacity : ℕ) (rows : List RowState) (row : RowState) (above : List RowState)
+    → rows ≡ row ∷ above → capacity < 2 ^ length rows → capacity / 2 < 2 ^ length above
+half-below capacity rows row above is small =
     let size : length rows ≡ suc (length above) = ap length is in
     let double : 2 ^ length rows ≡ 2 * 2 ^ length above =
     ap (λ n. 2 ^ n) size ∙ pow-succ' 2 (length above) in
     omega arith
 
 -- with more room, or with as much
-pub sound-grown : (old new : List RowState) (before room : ℕ)
-    → AreSound before old → HaveGrown old new → HaveLevels new → HoldUpTo room new
-    → count_of old ≤ room → AreSound room new
-sound-grown old new before room sound grown levels holds within = record {
+pub sound-grown : (old new : List RowState) (before capacity : ℕ)
+    → AreSound before old → HaveGrown old new → HaveLevels new → HoldUpTo capacity new
+    → count_of old ≤ capacity → AreSound capacity new
+sound-grown old new before capacity sound grown levels holds within = record {
   levels = levels;
   long = subst (λ n. AreLong n new) (sym grown.count) (grown.long (count_of old) sound.long);
   holds = holds;
@@ -158,7 +159,7 @@ grown-none [] rows is none = record {
   gone = gone-none rows none;
   same = λ h leaves are. subst (λ l. AreRowsOf h l rows) (sym are) (rows-none rows none h);
   long = λ count long. subst (λ n. AreLong n rows) (sym long) (long-none rows none);
-  kept = λ room holds. subst (λ n. HoldUpTo n rows) (sym holds) (holds-zero rows);
+  kept = λ capacity holds. subst (λ n. HoldUpTo n rows) (sym holds) (holds-zero rows);
 }
 
 pub sound-none : AreSound 0 []

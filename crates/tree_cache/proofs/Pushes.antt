@@ -7,7 +7,7 @@ use Rattle.std.proofs.Math.Seq.{get_or-append_seam, take-append_seam}
 use Rattle.std.proofs.lemmas.List.{drop-append-le, get_or-drop, length-drop, length_push}
 use Rattle.tree_cache.proofs.Pairs.{length-paired, paired-alone, paired-joined}
 use Rattle.tree_cache.specs.Rows.{AreAllOf, AreLong, AreRowsOf, AreSound, HaveCount}
-use Rattle.tree_cache.specs.Rows.{HaveRoom, HoldUpTo, IsLong, IsRowOf, RowState}
+use Rattle.tree_cache.specs.Rows.{HaveCapacity, HoldUpTo, IsLong, IsRowOf, RowState}
 use Rattle.tree_cache.specs.Rows.{count_of, first_row, gone_at, paired, row_count}
 use Rattle.tree_core.specs.Tree.{pair_hash}
 
@@ -30,39 +30,39 @@ long-of h leaves (row ∷ rows) are = (
 )
 
 -- no rows at all have no room
-pub room-some : (rows : List RowState) → HaveRoom rows → length rows ≡ 0 → ⊥
+pub capacity-some : (rows : List RowState) → HaveCapacity rows → length rows ≡ 0 → ⊥
 unfolding AreLong HoldUpTo
-room-some [] has none =
+capacity-some [] has none =
     let below = has.below in
     let count = has.long in
-    let room = has.holds in
+    let capacity = has.holds in
     omega arith
-room-some (row ∷ rows) has none = omega arith
+capacity-some (row ∷ rows) has none = omega arith
 
 -- a row has room where the rows have
-pub room-spare : (rows : List RowState) (row : RowState) (above : List RowState)
-    → rows ≡ row ∷ above → HaveRoom rows → 0 < row.spare
+pub capacity-spare : (rows : List RowState) (row : RowState) (above : List RowState)
+    → rows ≡ row ∷ above → HaveCapacity rows → 0 < row.spare
 unfolding AreLong HoldUpTo
-room-spare rows row above is has =
-    let here : HaveRoom (row ∷ above) = subst HaveRoom is has in
+capacity-spare rows row above is has =
+    let here : HaveCapacity (row ∷ above) = subst HaveCapacity is has in
     let below = here.below in
     let size : row.gone + length row.kept ≡ here.count = here.long.0.all in
-    let room : here.room ≤ row.gone + length row.kept + row.spare = here.holds.0 in
+    let capacity : here.capacity ≤ row.gone + length row.kept + row.spare = here.holds.0 in
     omega arith
 
 -- the rows above have room for the parent of a pair
-pub room-above : (rows : List RowState) (row : RowState) (above : List RowState) (count : ℕ)
-    → rows ≡ row ∷ above → HaveRoom rows → count ≡ length row.kept + 1 → count % 2 ≡ 0
-    → HaveRoom above
+pub capacity-above : (rows : List RowState) (row : RowState) (above : List RowState) (count : ℕ)
+    → rows ≡ row ∷ above → HaveCapacity rows → count ≡ length row.kept + 1 → count % 2 ≡ 0
+    → HaveCapacity above
 unfolding AreLong HoldUpTo
-room-above rows row above count is has more even =
-    let here : HaveRoom (row ∷ above) = subst HaveRoom is has in
+capacity-above rows row above count is has more even =
+    let here : HaveCapacity (row ∷ above) = subst HaveCapacity is has in
     let below = here.below in
     let size : row.gone + length row.kept ≡ here.count = here.long.0.all in
     let gone : row.gone % 2 ≡ 0 = here.long.0.even in
     record {
       count = here.count / 2;
-      room = here.room / 2;
+      capacity = here.capacity / 2;
       long = here.long.1;
       holds = here.holds.1;
       below = omega arith;
@@ -223,15 +223,15 @@ gone-on rows row pushed above raised is same up (suc level) =
 pub holds-on : (rows : List RowState) (row pushed : RowState) (above raised : List RowState)
     (hash : List ℕ) → rows ≡ row ∷ above → pushed.gone ≡ row.gone
     → pushed.kept ≡ row.kept ++ hash ∷ [] → row.spare ≤ pushed.spare + 1
-    → ((room : ℕ) → HoldUpTo room above → HoldUpTo room raised)
-    → (room : ℕ) → HoldUpTo room rows → HoldUpTo room (pushed ∷ raised)
+    → ((capacity : ℕ) → HoldUpTo capacity above → HoldUpTo capacity raised)
+    → (capacity : ℕ) → HoldUpTo capacity rows → HoldUpTo capacity (pushed ∷ raised)
 unfolding HoldUpTo
-holds-on rows row pushed above raised hash is gone more spare up room holds =
-    let here : HoldUpTo room (row ∷ above) = subst (HoldUpTo room) is holds in
-    let fits : room ≤ row.gone + length row.kept + row.spare = here.0 in
+holds-on rows row pushed above raised hash is gone more spare up capacity holds =
+    let here : HoldUpTo capacity (row ∷ above) = subst (HoldUpTo capacity) is holds in
+    let fits : capacity ≤ row.gone + length row.kept + row.spare = here.0 in
     let one : length pushed.kept ≡ length row.kept + 1 =
     ap length more ∙ length_push row.kept hash in
-    (omega arith, up (room / 2) here.1)
+    (omega arith, up (capacity / 2) here.1)
 
 -- a vector whose slice was written has what was written
 pub written-whole : (len : ℕ) (new items : List RowState) → len ≡ length items
@@ -252,10 +252,10 @@ pub count-rows : (h : List ℕ → List ℕ) (leaves : List (List ℕ)) (rows : 
     → AreRowsOf h leaves rows → count_of rows ≡ length leaves
 count-rows h leaves rows are = count-long (length leaves) rows (long-of h leaves rows are)
 
-pub sound-pushed : (old new : List RowState) (room : ℕ) → AreSound room old
-    → count_of old < room → length new ≡ length old → AreLong (count_of old + 1) new
-    → HoldUpTo room new → AreSound room new
-sound-pushed old new room sound below count long holds =
+pub sound-pushed : (old new : List RowState) (capacity : ℕ) → AreSound capacity old
+    → count_of old < capacity → length new ≡ length old → AreLong (count_of old + 1) new
+    → HoldUpTo capacity new → AreSound capacity new
+sound-pushed old new capacity sound below count long holds =
     let all : count_of new ≡ count_of old + 1 = count-long (count_of old + 1) new long in
     record {
       levels = subst (λ n. (n ≡ 0) ⊎ (n ≡ 64)) (sym count) sound.levels;
@@ -264,41 +264,41 @@ sound-pushed old new room sound below count long holds =
       within = omega arith;
     }
 
-pub has-room : (rows : List RowState) (room : ℕ) → AreSound room rows
-    → count_of rows < room → HaveRoom rows
-has-room rows room sound below = record {
+pub has-capacity : (rows : List RowState) (capacity : ℕ) → AreSound capacity rows
+    → count_of rows < capacity → HaveCapacity rows
+has-capacity rows capacity sound below = record {
   count = count_of rows;
-  room = room;
+  capacity = capacity;
   long = sound.long;
   holds = sound.holds;
   below = below;
 }
 
 -- a leaf pushed into rows with room, through the slice of their vector
-pub record IsPushed (h : List ℕ → List ℕ) (leaf : List ℕ) (room : ℕ) (old new : List RowState)
+pub record IsPushed (h : List ℕ → List ℕ) (leaf : List ℕ) (capacity : ℕ) (old new : List RowState)
     : Type 0 where
-  pub sound : AreSound room new
+  pub sound : AreSound capacity new
   pub rows_of : (leaves : List (List ℕ)) → AreRowsOf h leaves old
       → AreRowsOf h (leaves ++ leaf ∷ []) new
   pub count : count_of new ≡ count_of old + 1
   pub gone : (level : ℕ) → gone_at new level ≡ gone_at old level
 
 pub pushed_whole : (h : List ℕ → List ℕ) (leaf : List ℕ) (old slice new : List RowState)
-    (len room : ℕ) → AreSound room old → count_of old < room → slice ≡ old
+    (len capacity : ℕ) → AreSound capacity old → count_of old < capacity → slice ≡ old
     → len ≡ length old → length new ≡ length slice
     → ((leaves : List (List ℕ)) → AreRowsOf h leaves slice
     → AreRowsOf h (leaves ++ leaf ∷ []) new)
     → ((count : ℕ) → AreLong count slice → AreLong (count + 1) new)
     → ((level : ℕ) → gone_at new level ≡ gone_at slice level)
     → ((before : ℕ) → HoldUpTo before slice → HoldUpTo before new)
-    → IsPushed h leaf room old (take len (new ++ drop (length new) old))
-pushed_whole h leaf old slice new len room sound below is size count pushed long gone holds =
+    → IsPushed h leaf capacity old (take len (new ++ drop (length new) old))
+pushed_whole h leaf old slice new len capacity sound below is size count pushed long gone holds =
     let same : length new ≡ length old = count ∙ ap length is in
     let longer : AreLong (count_of old + 1) new =
     long (count_of old) (subst (AreLong (count_of old)) (sym is) sound.long) in
-    subst (IsPushed h leaf room old) (sym (written-whole len new old size same)) (record {
-      sound = sound-pushed old new room sound below same longer
-          (holds room (subst (HoldUpTo room) (sym is) sound.holds));
+    subst (IsPushed h leaf capacity old) (sym (written-whole len new old size same)) (record {
+      sound = sound-pushed old new capacity sound below same longer
+          (holds capacity (subst (HoldUpTo capacity) (sym is) sound.holds));
       rows_of = λ leaves are. pushed leaves (subst (AreRowsOf h leaves) (sym is) are);
       count = count-long (count_of old + 1) new longer;
       gone = λ level. gone level ∙ ap (λ r. gone_at r level) is;

@@ -1,6 +1,6 @@
 -- What a cache of nodes is to a caller.
 use Rattle.std.specs.Prelude.{◌≡◌, ℕ, ◌+◌, ◌*◌, ◌/◌, ◌^◌, ◌<◌, List, [], length, slice_index_or}
-use Rattle.byte_forms.specs.Types.{Hash, HashFunction}
+use Rattle.byte_formats.specs.Types.{Hash, HashFunction}
 use Rattle.tree_core.specs.Path.{part_of}
 use Rattle.tree_core.specs.Tree.{root_of}
 

@@ -2,7 +2,7 @@
 use Rattle.std.specs.Prelude.{◌≡◌, ℕ, zero, suc, ◌+◌, ◌-◌, ◌<◌, ◌≤◌, ◌/◌, ◌%◌, ◌^◌, ◌⊎◌}
 use Rattle.std.specs.Prelude.{List, [], ◌∷◌, length, drop}
 use Rattle.std.specs.List.{All}
-use Rattle.byte_forms.specs.Types.{Hash, HashFunction}
+use Rattle.byte_formats.specs.Types.{Hash, HashFunction}
 use Rattle.tree_core.specs.Tree.{pair_hash}
 
 -- How many hashes are gone from the front of a row, those behind them, and how many more need no
@@ -52,17 +52,17 @@ pub record HaveCount (rows : List RowState) : Type 0 where
 
 -- The rows can have so many leaves without more memory.
 unfoldable pub HoldUpTo : ℕ → List RowState → Type 0
-HoldUpTo room [] = room ≡ 0
-HoldUpTo room (row ∷ rows) =
-    (room ≤ row_count row + row.spare) × HoldUpTo (room / 2) rows
+HoldUpTo capacity [] = capacity ≡ 0
+HoldUpTo capacity (row ∷ rows) =
+    (capacity ≤ row_count row + row.spare) × HoldUpTo (capacity / 2) rows
 
 -- The rows are those of some leaves, and one leaf more needs no memory.
-pub record HaveRoom (rows : List RowState) : Type 0 where
+pub record HaveCapacity (rows : List RowState) : Type 0 where
   pub count : ℕ
-  pub room : ℕ
+  pub capacity : ℕ
   pub long : AreLong count rows
-  pub holds : HoldUpTo room rows
-  pub below : count < room
+  pub holds : HoldUpTo capacity rows
+  pub below : count < capacity
 
 -- The hashes that the first row keeps: the leaves, where none is gone.
 abbrev pub first_row : List RowState → List Hash
@@ -110,20 +110,20 @@ pub record HaveGrown (old new : List RowState) : Type 0 where
   pub same : (h : HashFunction) (leaves : List Hash) → AreRowsOf h leaves old
       → AreRowsOf h leaves new
   pub long : (count : ℕ) → AreLong count old → AreLong count new
-  pub kept : (room : ℕ) → HoldUpTo room old → HoldUpTo room new
+  pub kept : (capacity : ℕ) → HoldUpTo capacity old → HoldUpTo capacity new
 
 -- The rows stand for as many leaves as the first one, and hold up to so many.
-pub record AreSound (room : ℕ) (rows : List RowState) : Type 0 where
+pub record AreSound (capacity : ℕ) (rows : List RowState) : Type 0 where
   pub levels : HaveLevels rows
   pub long : AreLong (count_of rows) rows
-  pub holds : HoldUpTo room rows
-  pub within : count_of rows ≤ room
+  pub holds : HoldUpTo capacity rows
+  pub within : count_of rows ≤ capacity
 
 -- The rows from the leaves up, and how many leaves they can have without more memory.
 pub record RowsState : Type 0 where
   pub rows : List RowState
-  pub room : ℕ
+  pub capacity : ℕ
 
 -- So many leaves more need no memory.
 abbrev pub spare_of : RowsState → ℕ
-spare_of r = r.room - count_of r.rows
+spare_of r = r.capacity - count_of r.rows

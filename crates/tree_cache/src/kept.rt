@@ -2,7 +2,7 @@
 
 ghost use Rattle.std.specs.Prelude.{◌≡◌, ℕ, ◌+◌, ◌*◌, ◌^◌, ◌<◌, ◌≤◌, List, [], ◌∷◌, ◌++◌, length};
 ghost use Rattle.std.specs.Prelude.{slice_index_or, OnOk, OnErr};
-ghost use Rattle.byte_forms.specs.Types.{Hash, HashFunction};
+ghost use Rattle.byte_formats.specs.Types.{Hash, HashFunction};
 ghost use Rattle.tree_cache.specs.Cached.{AreFulls};
 ghost use Rattle.tree_cache.specs.Rows.{AreRowsOf, HaveGrown, count_of, gone_at, spare_of};
 ghost use Rattle.tree_cache.specs.Tiled.{gone_of};
@@ -10,7 +10,7 @@ ghost use Rattle.tree_core.specs.Path.{part_of};
 ghost use Rattle.tree_core.specs.Tree.{root_of};
 
 use crate::row::Row;
-use crate::rows::{forget_from, kept_count, leaf_count, make_room, push_up};
+use crate::rows::{forget_from, kept_count, leaf_count, make_capacity, push_up};
 use mtc_io::Memory;
 use std::alloc::Global;
 use std::marker::Model;
@@ -24,7 +24,7 @@ use tree_core::TreeHash;
 #[derive(Drop)]
 pub struct Rows {
     rows: Vec<Row>,
-    room: u64,
+    capacity: u64,
     alloc: Global,
 }
 
@@ -33,20 +33,20 @@ impl Model for Rows {
 
     ghost Value = { RowsState };
 
-    ghost view = { λ r. record { rows = r.rows.items; room = r.room } };
+    ghost view = { λ r. record { rows = r.rows.items; capacity = r.capacity } };
 
-    ghost invariant = { λ r. AreSound r.room r.rows.items };
+    ghost invariant = { λ r. AreSound r.capacity r.rows.items };
 }
 
 impl Rows {
     /// The rows of no leaves. It takes no memory.
     pub fn new(alloc: Global) -> Rows
         ensures rows { result.rows ≡ [] }
-        ensures room { result.room ≡ 0 }
+        ensures capacity { result.capacity ≡ 0 }
     {
         Rows {
             rows: Vec::new(alloc),
-            room: 0,
+            capacity: 0,
             alloc,
         }
     }
@@ -54,9 +54,9 @@ impl Rows {
     /// How many leaves there are, those that are gone with them.
     pub fn count(&self) -> u64
         ensures value { result ≡ count_of self.now.rows }
-        ensures within { count_of self.now.rows ≤ self.now.room }
+        ensures within { count_of self.now.rows ≤ self.now.capacity }
     {
-        let _room = self.room;
+        let _capacity = self.capacity;
         leaf_count(self.rows.as_slice())
     }
 
@@ -65,29 +65,29 @@ impl Rows {
     pub fn reserve(&mut self, count: usize) -> Result<(), Memory>
         ensures grown { HaveGrown self.old.rows self.new.rows }
         ensures spare { OnOk result (count ≤ spare_of self.new) }
-        ensures kept { self.old.room ≤ self.new.room }
+        ensures kept { self.old.capacity ≤ self.new.capacity }
         ensures full { OnErr result (spare_of self.old < count) }
     {
         let size = leaf_count(self.rows.as_slice());
-        if count as u64 <= self.room - size {
+        if count as u64 <= self.capacity - size {
             return Ok(());
         }
         // Growth by as many leaves as are kept keeps the cost of many single leaves linear.
         let kept = kept_count(self.rows.as_slice());
-        let room = size.checked_add(kept.max(count) as u64).ok_or(Memory)?;
-        make_room(self.alloc, &mut self.rows, room)?;
-        self.room = room;
+        let capacity = size.checked_add(kept.max(count) as u64).ok_or(Memory)?;
+        make_capacity(self.alloc, &mut self.rows, capacity)?;
+        self.capacity = capacity;
         Ok(())
     }
 
     /// Puts a leaf hash behind the others, in room that is there.
     pub fn push<H: TreeHash>(&mut self, leaf: &[u8; 32])
-        requires { count_of self.old.rows < self.old.room }
+        requires { count_of self.old.rows < self.old.capacity }
         ensures pushed { (leaves : List Hash) → AreRowsOf H.hash leaves self.old.rows
             → AreRowsOf H.hash (leaves ++ leaf.now ∷ []) self.new.rows }
         ensures gone { (level : ℕ) → gone_at self.new.rows level ≡ gone_at self.old.rows level }
         ensures count { count_of self.new.rows ≡ count_of self.old.rows + 1 }
-        ensures room { self.new.room ≡ self.old.room }
+        ensures capacity { self.new.capacity ≡ self.old.capacity }
     {
         push_up::<H>(self.rows.as_mut_slice(), leaf);
     }
@@ -140,7 +140,7 @@ impl Rows {
             → AreRowsOf h leaves self.old.rows → AreRowsOf h leaves self.new.rows }
         ensures gone { (level : ℕ) → gone_at self.new.rows level ≡ gone_of size level }
         ensures count { count_of self.new.rows ≡ count_of self.old.rows }
-        ensures room { self.new.room ≡ self.old.room }
+        ensures capacity { self.new.capacity ≡ self.old.capacity }
     {
         forget_from(self.rows.as_mut_slice(), size, 0);
     }

@@ -94,7 +94,7 @@ impl Row {
         ensures { HasForgotten gone self.old self.new }
     {
         let count = (gone - self.gone) as usize;
-        drop_front(&mut self.hashes, count);
+        drop_prefix(&mut self.hashes, count);
         self.gone = gone;
     }
 
@@ -117,13 +117,13 @@ impl Row {
 }
 
 // Drops so many hashes from the front, and gives their room back where a smaller block can be had.
-fn drop_front(hashes: &mut Vec<[u8; 32]>, count: usize)
+fn drop_prefix(hashes: &mut Vec<[u8; 32]>, count: usize)
     requires { count ≤ length hashes.old.items }
     ensures items { hashes.new.items ≡ drop count hashes.old.items }
     ensures spare { vec_capacity hashes.old - vec_len hashes.old
         ≤ vec_capacity hashes.new - vec_len hashes.new }
 {
-    let room = hashes.capacity() - count;
+    let capacity = hashes.capacity() - count;
     drop(hashes.drain(..count));
-    hashes.shrink_to(room);
+    hashes.shrink_to(capacity);
 }

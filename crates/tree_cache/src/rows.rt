@@ -2,9 +2,10 @@
 
 ghost use Rattle.std.specs.Prelude.{◌≡◌, ℕ, ◌+◌, ◌^◌, ◌<◌, ◌≤◌, List, [], ◌∷◌, ◌++◌, length, IfOk};
 ghost use Rattle.std.specs.Prelude.{OnOk};
-ghost use Rattle.byte_forms.specs.Types.{Hash, HashFunction};
+ghost use Rattle.byte_formats.specs.Types.{Hash, HashFunction};
 ghost use Rattle.tree_cache.specs.Rows.{AreLong, AreRowsOf, HaveCount, HaveGrown, HaveLevels};
-ghost use Rattle.tree_cache.specs.Rows.{HaveNone, HaveRoom, HoldUpTo, count_of, first_row, gone_at};
+ghost use Rattle.tree_cache.specs.Rows.{HaveNone, HaveCapacity, HoldUpTo, count_of, first_row};
+ghost use Rattle.tree_cache.specs.Rows.{gone_at};
 ghost use Rattle.tree_cache.specs.Rows.{row_count};
 ghost use Rattle.tree_cache.specs.Tiled.{CanForgetAll, gone_of};
 
@@ -71,43 +72,43 @@ fn add_levels(alloc: Global, rows: &mut Vec<Row>) -> Result<(), Memory>
 }
 
 // Makes room for so many nodes in the first of these rows, and for those above them.
-fn grow(rows: &mut [Row], room: u64) -> Result<(), Memory>
-    requires small { room < 2 ^ length rows.old }
+fn grow(rows: &mut [Row], capacity: u64) -> Result<(), Memory>
+    requires small { capacity < 2 ^ length rows.old }
     requires counted { HaveCount rows.old }
     ensures grown { HaveGrown rows.old rows.new }
-    ensures holds { OnOk result (HoldUpTo room rows.new) }
+    ensures holds { OnOk result (HoldUpTo capacity rows.new) }
 {
     match rows.split_first_mut() {
         None => Ok(()),
         Some((row, above)) => {
             let count = row_length(row);
-            row.reserve(room.saturating_sub(count) as usize)?;
-            grow(above, room / 2)
+            row.reserve(capacity.saturating_sub(count) as usize)?;
+            grow(above, capacity / 2)
         }
     }
 }
 
 // Makes room for so many leaves in all.
-pub(crate) fn make_room(alloc: Global, rows: &mut Vec<Row>, room: u64) -> Result<(), Memory>
+pub(crate) fn make_capacity(alloc: Global, rows: &mut Vec<Row>, capacity: u64) -> Result<(), Memory>
     requires levels { HaveLevels rows.old.items }
     requires counted { HaveCount rows.old.items }
     ensures grown { HaveGrown rows.old.items rows.new.items }
     ensures levels { HaveLevels rows.new.items }
-    ensures holds { OnOk result (HoldUpTo room rows.new.items) }
+    ensures holds { OnOk result (HoldUpTo capacity rows.new.items) }
 {
     add_levels(alloc, rows)?;
-    grow(rows.as_mut_slice(), room)
+    grow(rows.as_mut_slice(), capacity)
 }
 
 // Puts a leaf, or a node of the first of these rows, behind the others, and above it each node of
 // which it is the last part.
 pub(crate) fn push_up<H: TreeHash>(rows: &mut [Row], hash: &[u8; 32])
-    requires room { HaveRoom rows.old }
+    requires capacity { HaveCapacity rows.old }
     ensures pushed { (leaves : List Hash)
         → AreRowsOf H.hash leaves rows.old → AreRowsOf H.hash (leaves ++ hash.now ∷ []) rows.new }
     ensures long { (count : ℕ) → AreLong count rows.old → AreLong (count + 1) rows.new }
     ensures gone { (level : ℕ) → gone_at rows.new level ≡ gone_at rows.old level }
-    ensures holds { (room : ℕ) → HoldUpTo room rows.old → HoldUpTo room rows.new }
+    ensures holds { (capacity : ℕ) → HoldUpTo capacity rows.old → HoldUpTo capacity rows.new }
 {
     match rows.split_first_mut() {
         None => unreachable!(),
@@ -141,7 +142,7 @@ pub(crate) fn forget_from(rows: &mut [Row], size: u64, level: u32)
     ensures same { (h : HashFunction) (leaves : List Hash)
         → AreRowsOf h leaves rows.old → AreRowsOf h leaves rows.new }
     ensures long { (count : ℕ) → AreLong count rows.old → AreLong count rows.new }
-    ensures holds { (room : ℕ) → HoldUpTo room rows.old → HoldUpTo room rows.new }
+    ensures holds { (capacity : ℕ) → HoldUpTo capacity rows.old → HoldUpTo capacity rows.new }
     ensures gone { (at : ℕ) → at < length rows.old
         → gone_at rows.new at ≡ gone_of size (level + at) }
 {

@@ -208,7 +208,7 @@ covers_two s t end d b lt end_is bit b_is =
     left_part s (t / 2 ^ d * 2 ^ d) b (s / 2 ^ d * 2 ^ (d - b) + 2 ^ (d - b) - 1) multiple
     (omega arith)
     (omega arith) in
-    let room = pow_pos b in
+    let capacity = pow_pos b in
     let split_low = shr_split s b in
     record {
       begins = omega arith;
@@ -257,7 +257,7 @@ pub lacking : (n d : ℕ) → n < 2 ^ 64 → d < 64
 lacking n d fits small =
     let power = one_shl d 64 small in
     let positive = pow_pos d in
-    let room : 2 ^ suc d ≤ 2 ^ 64 = pow_mono {i = suc d} {j = 64} (omega arith) in
+    let capacity : 2 ^ suc d ≤ 2 ^ 64 = pow_mono {i = suc d} {j = 64} (omega arith) in
     let double = pow-succ' 2 d in
     let both = and-not 64 n (2 ^ d - 1) fits (omega arith) in
     ap (λ m. bit_and (2 ^ 64 - 1 - n) (m - 1)) power ∙ omega arith

@@ -99,7 +99,7 @@ path_of-left h m k [] more is left = let none : ⊥ = omega arith in absurd none
 path_of-left h m k (x ∷ rest) more is left =
     let leaves : List (List ℕ) = x ∷ rest in
     let bounds = split_bounds (length (x ∷ rest)) in
-    let front = length-take (split_of (length (x ∷ rest))) (x ∷ rest) in
+    let prefix = length-take (split_of (length (x ∷ rest))) (x ∷ rest) in
     path_within-left (length rest) h m (x ∷ rest) more (omega arith)
     ∙ ap (λ p. p ++ root_of h (drop (split_of (length leaves)) leaves) ∷ [])
     (path_within_more (length rest) (length (take (split_of (length leaves)) leaves)) h m

@@ -4,7 +4,7 @@ use Rattle.std.proofs.Common.{take, drop, sym, ◌∙◌, ap, refl, arith}
 use Rattle.std.specs.Prelude.{map}
 use Rattle.std.proofs.lemmas.List.{drop-map, length-drop, length-map, length-take, take-map}
 use Rattle.std.proofs.lemmas.Nat.{pow_pos}
-use Rattle.byte_forms.specs.Types.{Hash}
+use Rattle.byte_formats.specs.Types.{Hash}
 use Rattle.tree_core.proofs.Powers.{largest_unique, split_bounds}
 use Rattle.tree_core.specs.Laws.{IsLargestPowerBelow, IsTreeHash}
 use Rattle.tree_core.specs.Split.{split_of}
@@ -14,7 +14,7 @@ use Rattle.tree_core.specs.Tree.{leaf_hash, pair_hash, root_of, root_within, tre
 pub record HasSizes (leaves : List Hash) : Type 0 where
   pub positive : 1 ≤ split_of (length leaves)
   pub below : split_of (length leaves) < max (length leaves) 2
-  pub front : length (take (split_of (length leaves)) leaves)
+  pub prefix : length (take (split_of (length leaves)) leaves)
       ≡ min (split_of (length leaves)) (length leaves)
   pub back : length (drop (split_of (length leaves)) leaves)
       ≡ length leaves - split_of (length leaves)
@@ -25,7 +25,7 @@ part_sizes leaves =
     record {
       positive = bounds.positive;
       below = bounds.below;
-      front = length-take (split_of (length leaves)) leaves;
+      prefix = length-take (split_of (length leaves)) leaves;
       back = length-drop (split_of (length leaves)) leaves;
     }
 
@@ -61,7 +61,7 @@ root_of-split h (x ∷ y ∷ rest) more =
     let positive = bounds.positive in
     let below = bounds.below in
     let k : ℕ = split_of (length leaves) in
-    let front = length-take (split_of (length leaves)) leaves in
+    let prefix = length-take (split_of (length leaves)) leaves in
     let back = length-drop (split_of (length leaves)) leaves in
     ap (λ l. pair_hash h l (root_within (length (y ∷ rest)) h
     (drop (split_of (length leaves)) leaves)))

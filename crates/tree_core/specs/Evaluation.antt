@@ -2,7 +2,7 @@
 -- 2.1.3.1), from the root down.
 use Rattle.std.specs.Prelude.{ℕ, ◌-◌, ◌%◌, ◌&&◌, ◌==◌, nat_lt, nat_le, not, if◌then◌else◌, List, []}
 use Rattle.std.specs.Prelude.{◌∷◌, reverse, Option, Some, None, option_map, Result, Err, ok_or}
-use Rattle.byte_forms.specs.Types.{Hash, HashFunction}
+use Rattle.byte_formats.specs.Types.{Hash, HashFunction}
 use Rattle.tree_core.specs.declared.error.EvalError.{EvalError}
 use Rattle.tree_core.specs.declared.error.EvalError.TheVariants.{BadSubtree, Outside, WrongLength}
 use Rattle.tree_core.specs.Split.{split_of}

@@ -1,7 +1,7 @@
 -- What holds of inclusion paths and their evaluation, for a hash function h.
 use Rattle.std.specs.Prelude.{◌≡◌, ◌≢◌, ℕ, ◌-◌, ◌<◌, ◌≤◌, ◌↔◌, List, [], ◌∷◌, ◌++◌, length, take}
 use Rattle.std.specs.Prelude.{drop, slice_index_or, IsSome, Some, Ok, Err}
-use Rattle.byte_forms.specs.Types.{Hash, HashFunction, Text}
+use Rattle.byte_formats.specs.Types.{Hash, HashFunction, Text}
 use Rattle.tree_core.specs.declared.error.EvalError.TheVariants.{WrongLength}
 use Rattle.tree_core.specs.Evaluation.{eval_of, evaluation}
 use Rattle.tree_core.specs.Laws.{IsLargestPowerBelow, IsSubtree}

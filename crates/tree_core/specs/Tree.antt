@@ -1,7 +1,7 @@
 -- The tree hash of a list of entries (RFC 9162, section 2.1.1). The hash function is h. Nothing is
 -- asked of it: that a hash has 32 bytes is a law of `TreeHash`.
 use Rattle.std.specs.Prelude.{ℕ, zero, suc, List, [], ◌∷◌, ◌++◌, length, take, drop, map}
-use Rattle.byte_forms.specs.Types.{Hash, HashFunction, Text}
+use Rattle.byte_formats.specs.Types.{Hash, HashFunction, Text}
 use Rattle.tree_core.specs.Split.{split_of}
 
 -- The hash of an entry as a leaf.

@@ -1,7 +1,7 @@
 //! The hash function of a tree, and the hashes of leaves and of pairs.
 
 ghost use Rattle.std.specs.Prelude.{◌≡◌, [], ◌++◌, length};
-ghost use Rattle.byte_forms.specs.Types.{HashFunction, Text};
+ghost use Rattle.byte_formats.specs.Types.{HashFunction, Text};
 ghost use Rattle.tree_core.specs.Tree.{leaf_hash, pair_hash};
 
 /// The byte before an entry, where it is hashed as a leaf. It differs from [`PAIR`], so that an
@@ -14,22 +14,22 @@ pub const PAIR: u8 = 1;
 /// The hash function of a tree, as a running hash: a value stands for the bytes added so far.
 pub trait TreeHash: Sized {
     /// The value stands for these bytes.
-    ghost stands_for: { Self → Text → Type 0 };
+    ghost represents: { Self → Text → Type 0 };
 
     /// The type's one function from bytes to a hash.
     ghost hash: { HashFunction };
 
     /// A running hash of no bytes.
     fn begin() -> Self
-        ensures { stands_for result [] };
+        ensures { represents result [] };
 
     /// Adds bytes behind those so far.
     fn add(&mut self, piece: &[u8])
-        ensures { (b : Text) → stands_for self.old b → stands_for self.new (b ++ piece.now) };
+        ensures { (b : Text) → represents self.old b → represents self.new (b ++ piece.now) };
 
     /// The hash of all bytes so far.
     fn end(self) -> [u8; 32]
-        ensures { (b : Text) → stands_for self b → result ≡ hash b };
+        ensures { (b : Text) → represents self b → result ≡ hash b };
 
     /// A hash has 32 bytes.
     ghost sized: { (b : Text) → length (hash b) ≡ 32 };

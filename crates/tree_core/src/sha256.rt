@@ -14,7 +14,7 @@ pub struct Sha {
 impl TreeHash for Sha {
     ghost use Rattle.sha2.proofs.Facts256.{length-sha256};
 
-    ghost stands_for = { λ s bytes. ⟦<Sha256 as Digest>⟧.holds s.running bytes };
+    ghost represents = { λ s bytes. ⟦<Sha256 as Digest>⟧.holds s.running bytes };
 
     ghost hash = { sha256 };
 

@@ -15,7 +15,7 @@ pub struct Toy {
 impl TreeHash for Toy {
     ghost use Rattle.std.specs.Prelude.{refl};
 
-    ghost stands_for = { λ t bytes. t.sum ≡ sum bytes % 256 };
+    ghost represents = { λ t bytes. t.sum ≡ sum bytes % 256 };
 
     ghost hash = { toy_hash };
 

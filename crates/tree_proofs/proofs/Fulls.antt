@@ -15,7 +15,7 @@ use Rattle.tree_proofs.proofs.Aligned.{IsAligned, IsAligned-from, IsAligned-halv
 use Rattle.tree_proofs.proofs.Aligned.{power_parts}
 use Rattle.tree_proofs.proofs.Parts.{part-root}
 use Rattle.tree_proofs.specs.Full.{BeginsFull}
-use Rattle.tree_proofs.specs.Told.{IsRootOf}
+use Rattle.tree_proofs.specs.Modelled.{IsRootOf}
 
 -- a subtree has entries
 pub some_in : (start end : ℕ) → is_subtree start end ≡ true → start < end
@@ -78,26 +78,27 @@ begins_full start end level middle is fits low high middle_is =
     }
 
 -- the hash of the full part is that of the subtree, where there is no rest
-pub root_at : (h : List ℕ → List ℕ) (told : Option (List (List ℕ))) (a b start end : ℕ)
+pub root_at : (h : List ℕ → List ℕ) (modelled : Option (List (List ℕ))) (a b start end : ℕ)
     (node : List ℕ)
-    → a ≡ start → b ≡ end → IsRootOf h told a b node → IsRootOf h told start end node
-root_at h told a b start end node a_is b_is is =
-    subst (λ e. IsRootOf h told start e node) b_is (subst (λ s. IsRootOf h told s b node) a_is is)
+    → a ≡ start → b ≡ end → IsRootOf h modelled a b node → IsRootOf h modelled start end node
+root_at h modelled a b start end node a_is b_is is =
+    subst (λ e. IsRootOf h modelled start e node) b_is
+    (subst (λ s. IsRootOf h modelled s b node) a_is is)
 
-pub joined : (h : List ℕ → List ℕ) (told seen : Option (List (List ℕ))) (start middle end : ℕ)
+pub joined : (h : List ℕ → List ℕ) (modelled seen : Option (List (List ℕ))) (start middle end : ℕ)
     (left right node : List ℕ) → start < middle → middle < end
     → middle ≡ start + split_of (end - start)
-    → IfSome told (λ xs. end ≤ length xs) → seen ≡ told
-    → IsRootOf h told start middle left → IsRootOf h seen middle end right
+    → IfSome modelled (λ xs. end ≤ length xs) → seen ≡ modelled
+    → IsRootOf h modelled start middle left → IsRootOf h seen middle end right
     → node ≡ pair_hash h left right
-    → IsRootOf h told start end node
-joined h told seen start middle end left right node some more is within seen_is left_is
+    → IsRootOf h modelled start end node
+joined h modelled seen start middle end left right node some more is within seen_is left_is
     right_is node_is =
-    same told within left_is (subst (λ t. IsRootOf h t middle end right) seen_is right_is)
+    same modelled within left_is (subst (λ t. IsRootOf h t middle end right) seen_is right_is)
   where
-    same : (told : Option (List (List ℕ))) → IfSome told (λ xs. end ≤ length xs)
-        → IsRootOf h told start middle left → IsRootOf h told middle end right
-        → IsRootOf h told start end node
+    same : (modelled : Option (List (List ℕ))) → IfSome modelled (λ xs. end ≤ length xs)
+        → IsRootOf h modelled start middle left → IsRootOf h modelled middle end right
+        → IsRootOf h modelled start end node
     same None within left_is right_is = tt
     same (Some xs) within left_is right_is =
         node_is
@@ -106,8 +107,8 @@ joined h told seen start middle end left right node some more is within seen_is 
         ∙ sym (part-root h xs start middle end within (omega arith) is)
 
 -- what is within the number of leaves is within the list, where it is told
-pub told_within : (told : Option (List (List ℕ))) (count end : ℕ)
-    → IfSome told (λ xs. count ≡ length xs)
-    → end ≤ count → IfSome told (λ xs. end ≤ length xs)
-told_within None count end counted within = tt
-told_within (Some xs) count end counted within = omega arith
+pub modelled_within : (modelled : Option (List (List ℕ))) (count end : ℕ)
+    → IfSome modelled (λ xs. count ≡ length xs)
+    → end ≤ count → IfSome modelled (λ xs. end ≤ length xs)
+modelled_within None count end counted within = tt
+modelled_within (Some xs) count end counted within = omega arith

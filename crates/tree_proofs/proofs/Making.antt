@@ -13,7 +13,7 @@ use Rattle.tree_core.specs.Tree.{root_of}
 use Rattle.tree_proofs.proofs.Made.{part_proof-whole}
 use Rattle.tree_proofs.proofs.Parts.{path-one}
 use Rattle.tree_proofs.specs.Proof.{proof_of}
-use Rattle.tree_proofs.specs.Told.{HasRootBehind, IsPathOf, IsProofIn, IsProofOf, IsRootOf}
+use Rattle.tree_proofs.specs.Modelled.{HasRootBehind, IsPathOf, IsProofIn, IsProofOf, IsRootOf}
 
 -- the halves of an interval are not longer than its split
 pub split_left : (start middle end : ℕ) → middle ≡ start + split_of (end - start)
@@ -60,21 +60,21 @@ not_higher r h seen low high from to count out next large within short pushed =
 
 -- what is made of a list is what is made of a half of it, and then the root of the other half
 pub made_by : {T E : Type 0} (r : Result T E) (h : List ℕ → List ℕ)
-    (told seen : Option (List (List ℕ))) (half all : List (List ℕ) → List (List ℕ))
+    (modelled seen : Option (List (List ℕ))) (half all : List (List ℕ) → List (List ℕ))
     (end from to : ℕ) (out made : List (List ℕ))
     → ((xs : List (List ℕ)) → end ≤ length xs
     → all xs ≡ half xs ++ root_of h (part_of xs from to) ∷ [])
-    → IfSome told (λ xs. end ≤ length xs) → seen ≡ told
-    → IfSome told (λ xs. out ≡ half xs)
+    → IfSome modelled (λ xs. end ≤ length xs) → seen ≡ modelled
+    → IfSome modelled (λ xs. out ≡ half xs)
     → OnOk r (HasRootBehind h seen from to out made)
-    → OnOk r (IfSome told (λ xs. made ≡ all xs))
-made_by r h told seen half all end from to out made split within seen_is out_is =
-    on_ok_weaker r (λ (pushed : HasRootBehind h seen from to out made). same told within out_is
+    → OnOk r (IfSome modelled (λ xs. made ≡ all xs))
+made_by r h modelled seen half all end from to out made split within seen_is out_is =
+    on_ok_weaker r (λ (pushed : HasRootBehind h seen from to out made). same modelled within out_is
     pushed.node (subst (λ t. IsRootOf h t from to pushed.node) seen_is pushed.root) pushed.text)
   where
-    same : (told : Option (List (List ℕ))) → IfSome told (λ xs. end ≤ length xs)
-        → IfSome told (λ xs. out ≡ half xs) → (node : List ℕ) → IsRootOf h told from to node
-        → made ≡ out ++ node ∷ [] → IfSome told (λ xs. made ≡ all xs)
+    same : (modelled : Option (List (List ℕ))) → IfSome modelled (λ xs. end ≤ length xs)
+        → IfSome modelled (λ xs. out ≡ half xs) → (node : List ℕ) → IsRootOf h modelled from to node
+        → made ≡ out ++ node ∷ [] → IfSome modelled (λ xs. made ≡ all xs)
     same None within out_is node node_is made_is = tt
     same (Some xs) within out_is node node_is made_is =
         made_is ∙ ap (λ p. p ++ node ∷ []) out_is ∙ ap (λ r. half xs ++ r ∷ []) node_is
@@ -86,18 +86,19 @@ pub cause_on : {T E : Type 0} (r : Result T E) (before between after : ℕ) → 
 cause_on r before between after same cause = subst (λ n. HasCause n after r) same cause
 
 -- the path of the only entry
-pub path_of_one : (h : List ℕ → List ℕ) (told : Option (List (List ℕ))) (index start end : ℕ)
-    (made : List (List ℕ)) → end ≤ start + 1 → IfSome told (λ xs. end ≤ length xs) → made ≡ []
-    → IsPathOf h told index start end made
+pub path_of_one : (h : List ℕ → List ℕ) (modelled : Option (List (List ℕ))) (index start end : ℕ)
+    (made : List (List ℕ)) → end ≤ start + 1 → IfSome modelled (λ xs. end ≤ length xs) → made ≡ []
+    → IsPathOf h modelled index start end made
 path_of_one h None index start end made one within none = tt
 path_of_one h (Some xs) index start end made one within none =
     none ∙ sym (path-one h xs (index - start) start end within one)
 
 -- the proof of the whole, whose hash is known
-pub proof_of_known : (h : List ℕ → List ℕ) (told : Option (List (List ℕ))) (low high start end : ℕ)
+pub proof_of_known : (h : List ℕ → List ℕ) (modelled : Option (List (List ℕ)))
+    (low high start end : ℕ)
     (known : Bool) (made : List (List ℕ)) → low < high → low ≡ start → high ≡ end
-    → IfSome told (λ xs. high ≤ length xs) → known ≡ true → made ≡ []
-    → IsProofIn h told low high start end known made
+    → IfSome modelled (λ xs. high ≤ length xs) → known ≡ true → made ≡ []
+    → IsProofIn h modelled low high start end known made
 proof_of_known h None low high start end known made some first last within is_known none = tt
 proof_of_known h (Some xs) low high start end known made some first last within is_known none =
     none
@@ -106,18 +107,20 @@ proof_of_known h (Some xs) low high start end known made some first last within 
 
 -- or isn't
 pub proof_of_root : {T E : Type 0} (r : Result T E) (h : List ℕ → List ℕ)
-    (told : Option (List (List ℕ))) (low high start end : ℕ) (known : Bool)
+    (modelled : Option (List (List ℕ))) (low high start end : ℕ) (known : Bool)
     (cleared made : List (List ℕ)) → low < high → low ≡ start → high ≡ end
-    → IfSome told (λ xs. high ≤ length xs) → known ≡ false → cleared ≡ []
-    → OnOk r (HasRootBehind h told low high cleared made)
-    → OnOk r (IsProofIn h told low high start end known made)
-proof_of_root r h told low high start end known cleared made some first last within is_new none =
-    on_ok_weaker r (λ (pushed : HasRootBehind h told low high cleared made). same told within
+    → IfSome modelled (λ xs. high ≤ length xs) → known ≡ false → cleared ≡ []
+    → OnOk r (HasRootBehind h modelled low high cleared made)
+    → OnOk r (IsProofIn h modelled low high start end known made)
+proof_of_root r h modelled low high start end known cleared made some first last within is_new
+    none =
+    on_ok_weaker r
+    (λ (pushed : HasRootBehind h modelled low high cleared made). same modelled within
     pushed.node pushed.root (pushed.text ∙ ap (λ o. o ++ pushed.node ∷ []) none))
   where
-    same : (told : Option (List (List ℕ))) → IfSome told (λ xs. high ≤ length xs)
-        → (node : List ℕ) → IsRootOf h told low high node → made ≡ [] ++ node ∷ []
-        → IsProofIn h told low high start end known made
+    same : (modelled : Option (List (List ℕ))) → IfSome modelled (λ xs. high ≤ length xs)
+        → (node : List ℕ) → IsRootOf h modelled low high node → made ≡ [] ++ node ∷ []
+        → IsProofIn h modelled low high start end known made
     same None within node node_is made_is = tt
     same (Some xs) within node node_is made_is =
         made_is
@@ -127,13 +130,13 @@ proof_of_root r h told low high start end known cleared made some first last wit
 
 -- one hash alone
 pub one_alone : {T E : Type 0} (r : Result T E) (h : List ℕ → List ℕ)
-    (told : Option (List (List ℕ))) (from to size : ℕ) (cleared made : List (List ℕ))
-    → cleared ≡ [] → OnOk r (HasRootBehind h told from to cleared made)
+    (modelled : Option (List (List ℕ))) (from to size : ℕ) (cleared made : List (List ℕ))
+    → cleared ≡ [] → OnOk r (HasRootBehind h modelled from to cleared made)
     → OnOk r ((height : ℕ) → size ≤ 2 ^ height → length made ≤ height + 1)
-one_alone r h told from to size cleared made none =
+one_alone r h modelled from to size cleared made none =
     on_ok_weaker r behind
   where
-    behind : HasRootBehind h told from to cleared made
+    behind : HasRootBehind h modelled from to cleared made
         → (height : ℕ) → size ≤ 2 ^ height → length made ≤ height + 1
     behind pushed height near =
         let count = ap length pushed.text ∙ length_push cleared pushed.node in
@@ -150,9 +153,9 @@ part_from low high start end from inside other =
     other
 
 -- the proof in the first leaves of a list
-pub proof_of_first : (h : List ℕ → List ℕ) (told : Option (List (List ℕ))) (start end size : ℕ)
-    (made : List (List ℕ)) → IsProofIn h told 0 size start end true made
-    → IsProofOf h told start end size made
+pub proof_of_first : (h : List ℕ → List ℕ) (modelled : Option (List (List ℕ))) (start end size : ℕ)
+    (made : List (List ℕ)) → IsProofIn h modelled 0 size start end true made
+    → IsProofOf h modelled start end size made
 proof_of_first h None start end size made is = tt
 proof_of_first h (Some xs) start end size made is =
     let begin : start - 0 ≡ start = omega arith in

@@ -1,7 +1,7 @@
 pub mod Proof
 pub mod Open
 pub mod Consistency
-pub mod Told
+pub mod Modelled
 pub mod Listed
 pub mod ProofLaws
 pub mod Full

@@ -2,7 +2,7 @@
 -- Tree Certificates makes, from the root down.
 use Rattle.std.specs.Prelude.{ℕ, ◌-◌, ◌&&◌, ◌==◌, Bool, true, false, nat_le, if◌then◌else◌, List}
 use Rattle.std.specs.Prelude.{[], ◌∷◌, reverse, Option, Some, None, option_map}
-use Rattle.byte_forms.specs.Types.{Hash, HashFunction}
+use Rattle.byte_formats.specs.Types.{Hash, HashFunction}
 use Rattle.tree_core.specs.Split.{split_of}
 use Rattle.tree_core.specs.Tree.{pair_hash}
 use Rattle.tree_proofs.specs.declared.outcome.Opened.{Opened}

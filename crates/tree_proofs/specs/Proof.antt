@@ -2,7 +2,7 @@
 -- consistency proofs).
 use Rattle.std.specs.Prelude.{ℕ, zero, suc, ◌-◌, ◌&&◌, ◌==◌, Bool, false, nat_le, if◌then◌else◌}
 use Rattle.std.specs.Prelude.{List, [], ◌∷◌, ◌++◌, length, take, drop, map}
-use Rattle.byte_forms.specs.Types.{Hash, HashFunction, Text}
+use Rattle.byte_formats.specs.Types.{Hash, HashFunction, Text}
 use Rattle.tree_core.specs.Split.{split_of}
 use Rattle.tree_core.specs.Tree.{leaf_hash, root_of}
 

@@ -3,7 +3,7 @@
 ghost use Rattle.std.specs.Prelude.{◌≡◌, ℕ, ◌+◌, ◌-◌, ◌^◌, ◌<◌, ◌≤◌, true, length, OnOk};
 ghost use Rattle.mtc_io.specs.Counts.{HasCause};
 ghost use Rattle.tree_core.specs.Subtree.{is_subtree};
-ghost use Rattle.tree_proofs.specs.Told.{IsProofIn, IsProofOf};
+ghost use Rattle.tree_proofs.specs.Modelled.{IsProofIn, IsProofOf};
 
 use crate::nodes::push_node;
 use crate::tree::split_between;

@@ -1,6 +1,6 @@
 //! The law of consistency proofs: the clauses are the law, and the function does nothing.
 
-ghost use Rattle.byte_forms.specs.Types.{HashFunction};
+ghost use Rattle.byte_formats.specs.Types.{HashFunction};
 ghost use Rattle.tree_proofs.specs.ProofLaws.{IsConsistencyProof, PassesWhereChecks, ProofsCheck};
 ghost use Rattle.tree_proofs.specs.ProofLaws.{WrongLengthByProof};
 
@@ -9,7 +9,7 @@ ghost use Rattle.tree_proofs.specs.ProofLaws.{WrongLengthByProof};
 /// That of a subtree checks for the tree hashes of the subtree and of the list, a proof passes
 /// exactly where it checks, and the answer is `WrongLength` exactly where the proof is not as long
 /// as the made one.
-pub fn consistency_proofs_check()
+pub fn law_consistency_proofs_check()
     ensures proof { (h : HashFunction) → IsConsistencyProof h }
     ensures checks { (h : HashFunction) → ProofsCheck h }
     ensures passes { (h : HashFunction) → PassesWhereChecks h }

@@ -2,11 +2,11 @@
 
 ghost use Rattle.std.specs.Prelude.{◌≡◌, ℕ, ◌+◌, ◌*◌, ◌^◌, ◌<◌, ◌≤◌, true, List, length, Option};
 ghost use Rattle.std.specs.Prelude.{IfSome, IfOk, OnOk};
-ghost use Rattle.byte_forms.specs.Types.{Hash};
+ghost use Rattle.byte_formats.specs.Types.{Hash};
 ghost use Rattle.mtc_io.specs.Counts.{HasCause};
 ghost use Rattle.tree_core.specs.Subtree.{is_subtree};
 ghost use Rattle.tree_proofs.specs.Full.{BeginsFull};
-ghost use Rattle.tree_proofs.specs.Told.{HasRootBehind, IsRootOf};
+ghost use Rattle.tree_proofs.specs.Modelled.{HasRootBehind, IsRootOf};
 
 use crate::Path;
 use mtc_io::Failed;
@@ -91,7 +91,7 @@ pub(crate) fn push_node<N: Nodes>(
 ) -> Result<(), Failed>
     requires valid { is_subtree start end ≡ true }
     requires within { end ≤ N.count nodes.old }
-    requires room { length out.old < 128 }
+    requires capacity { length out.old < 128 }
     ensures pushed { OnOk result
         (HasRootBehind N.H.hash (N.leaves nodes.old) start end out.old out.new) }
     ensures list { N.leaves nodes.new ≡ N.leaves nodes.old }

@@ -1,7 +1,7 @@
 //! The hashes of a path or a proof.
 
 ghost use Rattle.std.specs.Prelude.{◌≡◌, List, [], ◌∷◌, ◌++◌, ◌<◌, ◌≤◌, length, take};
-ghost use Rattle.byte_forms.specs.Types.{Hash};
+ghost use Rattle.byte_formats.specs.Types.{Hash};
 
 use std::marker::Model;
 

@@ -5,7 +5,7 @@ use Rattle.std.proofs.Common.{List, [], ◌∷◌, length, get_or, take, sym, ap
 use Rattle.std.specs.List.{AllByRecursion, Contains}
 use Rattle.std.proofs.Math.Seq.{take-length}
 use Rattle.std.proofs.lemmas.List.{get_or_default, length-take-le}
-use Rattle.byte_forms.specs.Types.{Hash, HashFunction, Text}
+use Rattle.byte_formats.specs.Types.{Hash, HashFunction, Text}
 use Rattle.tree_core.specs.Path.{part_of}
 use Rattle.tree_core.specs.Tree.{tree_hash}
 use Rattle.tree_proofs.specs.Consistency.{Checks}
@@ -20,17 +20,18 @@ use Rattle.collide.specs.Inputs.{inputs_of, open_inputs_of}
 use Rattle.collide.proofs.Compared.{collision_widened}
 use Rattle.collide.proofs.Extracting.{IsSized, ProofsExtract_always}
 use Rattle.world_core.specs.Laws.{HasHashes, OneListBehind}
-use Rattle.world_core.specs.Walk.{AreSteps, HasFront, IsOfList, front_inputs, held_behind, held_by}
+use Rattle.world_core.specs.Walk.{AreSteps, HasPrefix, IsOfList, prefix_inputs, held_behind}
+use Rattle.world_core.specs.Walk.{held_by}
 use Rattle.world_core.specs.Walk.{held_sizes, proof_inputs, step_inputs, with_steps}
-use Rattle.world_core.proofs.Steps.{IsAdvanceFrom, advance_checks, allowed_at, front_at}
+use Rattle.world_core.proofs.Steps.{IsAdvanceFrom, advance_checks, allowed_at, prefix_at}
 use Rattle.world_core.proofs.Steps.{held_advance}
 use Rattle.world_core.proofs.Steps.{held_sign, inputs_at, none_held, size_at}
-use Rattle.world_core.proofs.Walks.{empty_front, sign_checked, size_there}
+use Rattle.world_core.proofs.Walks.{empty_prefix, sign_checked, size_there}
 
 -- this holds, or the list and the proofs of these steps show two texts with one hash
 abbrev Shown : HashFunction → List Text → List Step → Type 0 → Type 0
 Shown h entries steps so =
-    so ⊎ HasCollision h (front_inputs h entries steps) (proof_inputs h steps)
+    so ⊎ HasCollision h (prefix_inputs h entries steps) (proof_inputs h steps)
 
 hashes_at : (steps : List Step) (k : ℕ) (s : Step) → AllByRecursion HasHashes steps
     → k < length steps → s ≡ get_or steps k s → HasHashes s
@@ -39,24 +40,24 @@ hashes_at (x ∷ xs) zero s all below is = subst HasHashes (sym is) all.0
 hashes_at (x ∷ xs) (suc k) s all below is = hashes_at xs k s all.1 (omega arith) is
 
 -- A proof that checks for a front of the list gives the list's own hash, or there are two texts.
-front_extracts : (h : HashFunction) → IsSized h → (entries : List Text) (front : Checkpoint)
-    (start end : ℕ) (node : Hash) (proof : List Hash) → HasFront h entries front
+prefix_extracts : (h : HashFunction) → IsSized h → (entries : List Text) (prefix : Checkpoint)
+    (start end : ℕ) (node : Hash) (proof : List Hash) → HasPrefix h entries prefix
     → AllByRecursion (λ hash. length hash ≡ 32) proof
-    → Checks h start end front.size node front.root proof
+    → Checks h start end prefix.size node prefix.root proof
     → (tree_hash h (part_of entries start end) ≡ node)
-    ⊎ HasCollision h (inputs_of h (take front.size entries))
-    (open_inputs_of h start end front.size true node proof)
-front_extracts h sized entries front start end node proof own hashes checks =
-    let xs : List Text = take front.size entries in
+    ⊎ HasCollision h (inputs_of h (take prefix.size entries))
+    (open_inputs_of h start end prefix.size true node proof)
+prefix_extracts h sized entries prefix start end node proof own hashes checks =
+    let xs : List Text = take prefix.size entries in
     let within = own.within in
-    let long : front.size ≡ length xs = sym (length-take-le front.size entries within) in
+    let long : prefix.size ≡ length xs = sym (length-take-le prefix.size entries within) in
     let some = some_in start end checks.valid in
     let last = checks.within in
     let part : part_of xs start end ≡ part_of entries start end =
-    part_of-take entries start end front.size (omega arith) last in
+    part_of-take entries start end prefix.size (omega arith) last in
     let here : Checks h start end (length xs) node (tree_hash h xs) proof =
     subst (λ (n : ℕ). Checks h start end n node (tree_hash h xs) proof) long
-    (subst (λ (r : Hash). Checks h start end front.size node r proof) (sym own.root) checks) in
+    (subst (λ (r : Hash). Checks h start end prefix.size node r proof) (sym own.root) checks) in
     ⊎_elim
     (λ (e : tree_hash h (part_of xs start end) ≡ node). inl (ap (tree_hash h) (sym part) ∙ e))
     (λ (found : HasCollision h (inputs_of h xs)
@@ -69,17 +70,17 @@ front_extracts h sized entries front start end node proof own hashes checks =
 found_in : (h : HashFunction) (entries : List Text) (steps : List Step) (k size : ℕ) (s : Step)
     → k < length steps → s ≡ get_or steps k s → Contains (held_sizes steps) size
     → HasCollision h (inputs_of h (take size entries)) (step_inputs h (held_behind h steps k) s)
-    → HasCollision h (front_inputs h entries steps) (proof_inputs h steps)
+    → HasCollision h (prefix_inputs h entries steps) (proof_inputs h steps)
 unfolding held_by
 found_in h entries steps k size s below is there found = (
   found.0,
   (
     found.1.0,
     collision_widened h (inputs_of h (take size entries))
-        (step_inputs h (held_behind h steps k) s) (front_inputs h entries steps)
+        (step_inputs h (held_behind h steps k) s) (prefix_inputs h entries steps)
         (proof_inputs h steps) found.0 found.1.0
         (λ (c : Contains (inputs_of h (take size entries)) found.0).
-        front_at h entries (held_sizes steps) size found.0 there.0 there.1 there.2 c)
+        prefix_at h entries (held_sizes steps) size found.0 there.0 there.1 there.2 c)
         (λ (c : Contains (step_inputs h (held_behind h steps k) s) found.1.0).
         inputs_at h (first_progress h) steps k s found.1.0 below is c)
         found.1.1,
@@ -100,24 +101,24 @@ advance_at h steps k size root proof are below is =
 
 nothing_held : (h : HashFunction) (entries : List Text) (steps : List Step) (k : ℕ)
     → AreSteps h steps → (held_behind h steps k).size ≡ 0
-    → HasFront h entries (held_behind h steps k)
+    → HasPrefix h entries (held_behind h steps k)
 unfolding held_by
 nothing_held h entries steps k are none =
-    subst (HasFront h entries)
+    subst (HasPrefix h entries)
     (sym (none_held h are.keys (first_progress h) are.done steps k are.each none))
-    (empty_front h entries)
+    (empty_prefix h entries)
 
 step_back : (h : HashFunction) → IsSized h → (entries : List Text) (steps : List Step) (k : ℕ)
     (s : Step) → AreSteps h steps → HasHashes s → k < length steps → s ≡ get_or steps k s
-    → HasFront h entries (held_behind h steps (k + 1))
-    → Shown h entries steps (HasFront h entries (held_behind h steps k))
-step_back h sized entries steps k (Sign index start end hash proof) are hashes below is front =
-    inl (subst (HasFront h entries)
-    (held_sign h steps k index start end hash proof below is) front)
-step_back h sized entries steps k (Advance size root proof) are hashes below is front =
+    → HasPrefix h entries (held_behind h steps (k + 1))
+    → Shown h entries steps (HasPrefix h entries (held_behind h steps k))
+step_back h sized entries steps k (Sign index start end hash proof) are hashes below is prefix =
+    inl (subst (HasPrefix h entries)
+    (held_sign h steps k index start end hash proof below is) prefix)
+step_back h sized entries steps k (Advance size root proof) are hashes below is prefix =
     let held = held_behind h steps k in
-    let own : HasFront h entries (record { size = size; root = root }) =
-    subst (HasFront h entries) (held_advance h steps k size root proof below is) front in
+    let own : HasPrefix h entries (record { size = size; root = root }) =
+    subst (HasPrefix h entries) (held_advance h steps k size root proof below is) prefix in
     let known = advance_at h steps k size root proof are below is in
     let more = known.more in
     let long = own.within in
@@ -135,7 +136,7 @@ step_back h sized entries steps k (Advance size root proof) are hashes below is 
     (open_inputs_of h 0 held.size size true held.root proof)).
     inr (found_in h entries steps k size (Advance size root proof) below is
     (size_at steps k size root proof below is) found))
-    (front_extracts h sized entries (record { size = size; root = root }) 0 held.size held.root
+    (prefix_extracts h sized entries (record { size = size; root = root }) 0 held.size held.root
     proof own hashes checks))
     known.shown
 
@@ -146,30 +147,30 @@ some_step = Advance 0 [] []
 
 walk_back : (left : ℕ) (h : HashFunction) → IsSized h → (entries : List Text) (steps : List Step)
     (k : ℕ) → k + left ≡ length steps → AreSteps h steps → AllByRecursion HasHashes steps
-    → HasFront h entries (held_by h steps)
-    → Shown h entries steps (HasFront h entries (held_behind h steps k))
-walk_back zero h sized entries steps k all are hashes front =
+    → HasPrefix h entries (held_by h steps)
+    → Shown h entries steps (HasPrefix h entries (held_behind h steps k))
+walk_back zero h sized entries steps k all are hashes prefix =
     let whole : length steps ≡ k = omega arith in
     let here : held_behind h steps k ≡ held_by h steps =
     ap (λ (n : ℕ). held_behind h steps n) (sym whole) ∙ ap (held_by h) (take-length steps) in
-    inl (subst (HasFront h entries) (sym here) front)
-walk_back (suc left) h sized entries steps k all are hashes front =
+    inl (subst (HasPrefix h entries) (sym here) prefix)
+walk_back (suc left) h sized entries steps k all are hashes prefix =
     let s : Step = get_or steps k some_step in
     let below : k < length steps = omega arith in
     let is : s ≡ get_or steps k s = get_or_default steps k some_step s below in
     ⊎_elim
-    (λ (behind : HasFront h entries (held_behind h steps (k + 1))).
+    (λ (behind : HasPrefix h entries (held_behind h steps (k + 1))).
     step_back h sized entries steps k s are (hashes_at steps k s hashes below is) below is behind)
-    (λ (found : HasCollision h (front_inputs h entries steps) (proof_inputs h steps)). inr found)
-    (walk_back left h sized entries steps (k + 1) (omega arith) are hashes front)
+    (λ (found : HasCollision h (prefix_inputs h entries steps) (proof_inputs h steps)). inr found)
+    (walk_back left h sized entries steps (k + 1) (omega arith) are hashes prefix)
 
 -- ---- a Sign
 
 sign_shown : (h : HashFunction) → IsSized h → (entries : List Text) (steps : List Step) (k : ℕ)
     (s : Step) → AreSteps h steps → HasHashes s → k < length steps → s ≡ get_or steps k s
-    → HasFront h entries (held_behind h steps k) → Shown h entries steps (IsOfList h entries s)
-sign_shown h sized entries steps k (Advance size root proof) are hashes below is front = inl tt
-sign_shown h sized entries steps k (Sign index start end hash proof) are hashes below is front =
+    → HasPrefix h entries (held_behind h steps k) → Shown h entries steps (IsOfList h entries s)
+sign_shown h sized entries steps k (Advance size root proof) are hashes below is prefix = inl tt
+sign_shown h sized entries steps k (Sign index start end hash proof) are hashes below is prefix =
     let held = held_behind h steps k in
     let checks = sign_checked h steps k index start end hash proof are below is in
     let some = some_in start end checks.valid in
@@ -179,16 +180,16 @@ sign_shown h sized entries steps k (Sign index start end hash proof) are hashes 
     (open_inputs_of h start end held.size true hash proof)).
     inr (found_in h entries steps k held.size (Sign index start end hash proof) below is
     (size_there h steps k start end some checks.within) found))
-    (front_extracts h sized entries held start end hash proof front hashes checks)
+    (prefix_extracts h sized entries held start end hash proof prefix hashes checks)
 
 pub OneListBehind_always : (h : HashFunction) → IsSized h → OneListBehind h
-OneListBehind_always h sized entries steps step are hashes front there =
+OneListBehind_always h sized entries steps step are hashes prefix there =
     let k = there.0 in
     let below : k < length steps = there.1 in
     let is : step ≡ get_or steps k step = sym there.2 in
     ⊎_elim
-    (λ (own : HasFront h entries (held_behind h steps k)).
+    (λ (own : HasPrefix h entries (held_behind h steps k)).
     sign_shown h sized entries steps k step are (hashes_at steps k step hashes below is) below is
     own)
-    (λ (found : HasCollision h (front_inputs h entries steps) (proof_inputs h steps)). inr found)
-    (walk_back (length steps - k) h sized entries steps k (omega arith) are hashes front)
+    (λ (found : HasCollision h (prefix_inputs h entries steps) (proof_inputs h steps)). inr found)
+    (walk_back (length steps - k) h sized entries steps k (omega arith) are hashes prefix)

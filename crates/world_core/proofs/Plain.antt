@@ -5,7 +5,7 @@ use Rattle.std.proofs.lemmas.Bool.{and_parts, le-ltb}
 use Rattle.std.proofs.lemmas.Option.{slice_get-get_or}
 use Rattle.std.proofs.lemmas.Slice.Eq.{bytes_eq-Decides}
 use Rattle.std.specs.Prelude.{bytes_eq, if◌then◌else◌}
-use Rattle.byte_forms.specs.Types.{HashFunction, Text}
+use Rattle.byte_formats.specs.Types.{HashFunction, Text}
 use Rattle.cert_fields.specs.Certificate.{Parts}
 use Rattle.tree_core.specs.Tree.{tree_hash}
 use Rattle.tree_proofs.proofs.Parts.{part_of-zero}
@@ -18,7 +18,7 @@ use Rattle.policy_core.specs.declared.answer.By.TheVariants.{Cosigners, Landmark
 use Rattle.world_core.specs.Audit.{AuditCase, HasInterval, HasOwn, foreign_in, foreign_of, has_own}
 use Rattle.world_core.specs.Audit.{hash_there, is_lacking, listed_entry, listed_key, of_checkpoint}
 use Rattle.world_core.specs.Audit.{of_interval, wanted_hash}
-use Rattle.world_core.specs.Walk.{HasFront, held_by}
+use Rattle.world_core.specs.Walk.{HasPrefix, held_by}
 use Rattle.world_core.specs.declared.wanted.WantedHash.{WantedHash}
 
 -- ---- the list is the one that is wanted
@@ -39,10 +39,10 @@ by_interval h x by has =
     ap (λ (b : By). foreign_in h x.items.entries (wanted_hash h x.accepted x.kept b)) by
     ∙ not_lacking h x.items.entries (of_interval x.accepted) has.within has.root
 
-pub by_front : (h : HashFunction) (x : AuditCase) (set : ℕ) (export : Export)
+pub by_prefix : (h : HashFunction) (x : AuditCase) (set : ℕ) (export : Export)
     → x.accepted.by ≡ Cosigners set → x.kept ≡ Some export
-    → HasFront h x.items.entries (held_by h export.steps) → foreign_of h x ≡ None
-by_front h x set export by kept has =
+    → HasPrefix h x.items.entries (held_by h export.steps) → foreign_of h x ≡ None
+by_prefix h x set export by kept has =
     let entries = x.items.entries in
     let held = held_by h export.steps in
     ap (λ (b : By). foreign_in h entries (wanted_hash h x.accepted x.kept b)) by

@@ -3,10 +3,10 @@
 use Rattle.std.proofs.Common.{◌≡◌, ℕ, List, [], ◌∷◌, Option, Some, None, Ok, sym, ap, subst, ◌∙◌}
 use Rattle.std.specs.Prelude.{IfSome, ℤ}
 use Rattle.std.specs.List.{AllByRecursion}
-use Rattle.byte_forms.specs.Types.{HashFunction, Text}
-use Rattle.byte_forms.specs.Places.{IsBytes}
-use Rattle.byte_forms.specs.Readings.{lifted}
-use Rattle.byte_forms.proofs.Steps.{bind_ok, lifted_ok, ok_is}
+use Rattle.byte_formats.specs.Types.{HashFunction, Text}
+use Rattle.byte_formats.specs.Places.{IsBytes}
+use Rattle.byte_formats.specs.Readings.{lifted}
+use Rattle.byte_formats.proofs.Steps.{bind_ok, lifted_ok, ok_is}
 use Rattle.cert_fields.specs.Certificate.{Parts, parts_of}
 use Rattle.cert_fields.proofs.CertificateForm.{parts_only}
 use Rattle.mtc_proof.specs.Proofs.{ProofParts}

@@ -13,9 +13,9 @@ use Rattle.std.proofs.lemmas.List.Quantifiers.{position-Some}
 use Rattle.std.proofs.Math.Seq.{take-length}
 use Rattle.std.proofs.lemmas.List.Elements.{Contains-append_left, Contains-append_right}
 use Rattle.std.proofs.lemmas.Slice.Eq.{bytes_eq-Decides}
-use Rattle.byte_forms.specs.Types.{Hash, HashFunction, Text}
-use Rattle.byte_forms.specs.Readings.{◌>>=◌, lifted}
-use Rattle.byte_forms.proofs.Steps.{bind_ok, guard_ok, lifted_ok, ok_is}
+use Rattle.byte_formats.specs.Types.{Hash, HashFunction, Text}
+use Rattle.byte_formats.specs.Readings.{◌>>=◌, lifted}
+use Rattle.byte_formats.proofs.Steps.{bind_ok, guard_ok, lifted_ok, ok_is}
 use Rattle.cert_fields.specs.Certificate.{Parts}
 use Rattle.cert_fields.specs.Grammar.{IsCertificate}
 use Rattle.cert_fields.specs.Views.{texts}
@@ -52,12 +52,12 @@ use Rattle.collide.specs.declared.finding.Finding.{Finding}
 use Rattle.collide.specs.declared.finding.Finding.TheVariants.{Pair as Found, Same}
 use Rattle.collide.proofs.Compared.{collision_widened}
 use Rattle.world_core.specs.Audit.{AuditCase, HasInterval, Settles, WasJudged, firsts_of}
-use Rattle.world_core.specs.Audit.{foreign_in, front_inputs_of, has_own, hash_there, is_lacking}
+use Rattle.world_core.specs.Audit.{foreign_in, prefix_inputs_of, has_own, hash_there, is_lacking}
 use Rattle.world_core.specs.Audit.{is_sign_of, listed_entry, listed_key, of_checkpoint}
 use Rattle.world_core.specs.Audit.{of_interval, proof_inputs_of}
 use Rattle.world_core.specs.Audit.{IsAudit, IsForeign, SettlesRecorded, foreign_of, is_recorded}
 use Rattle.world_core.specs.Audit.{is_recorded_by, is_supported, seconds_of, wanted_hash}
-use Rattle.world_core.specs.Walk.{AreSteps, HasFront, IsOfList, IsSign, IsWithin, front_inputs}
+use Rattle.world_core.specs.Walk.{AreSteps, HasPrefix, IsOfList, IsSign, IsWithin, prefix_inputs}
 use Rattle.world_core.specs.Walk.{held_behind, held_by}
 use Rattle.world_core.specs.Walk.{proof_inputs}
 use Rattle.world_core.specs.declared.wanted.WantedHash.{WantedHash}
@@ -166,9 +166,9 @@ interval_there h items a e =
     let there = not_foreign h items.entries (of_interval a) e in
     record { within = there.within; root = there.root }
 
-pub front_there : (h : HashFunction) (entries : List Text) (c : Checkpoint)
-    → foreign_in h entries (Some (of_checkpoint c)) ≡ None → HasFront h entries c
-front_there h entries c e =
+pub prefix_there : (h : HashFunction) (entries : List Text) (c : Checkpoint)
+    → foreign_in h entries (Some (of_checkpoint c)) ≡ None → HasPrefix h entries c
+prefix_there h entries c e =
     let there = not_foreign h entries (of_checkpoint c) e in
     record {
       within = there.within;
@@ -254,7 +254,7 @@ keys_settle h x entry key one other sized fits at is own same differ first secon
         one_hash = ap h first ∙ (hash ∙ ap h (sym second));
         first = subst (Contains (firsts_of h x)) (sym (first ∙ is))
             (last_in (inputs_of h (part_of x.items.entries x.accepted.start x.accepted.end))
-            (front_inputs_of h x.items.entries x.kept) (listed_key x.items x.accepted.index));
+            (prefix_inputs_of h x.items.entries x.kept) (listed_key x.items x.accepted.index));
         second = subst (Contains (seconds_of h x)) (sym second)
             (last_in (eval_inputs_of h (x.accepted.index - x.accepted.start)
             (x.accepted.end - x.accepted.start) (entry_of h x.cert) x.proof.path)
@@ -295,28 +295,29 @@ pub sign_settles : (h : HashFunction) (x : AuditCase) (e : Export) (entries : Li
     (given : List Step) (one other : Text) (f : Finding) (same : Type 0) → x.kept ≡ Some e
     → entries ≡ x.items.entries → given ≡ e.steps → f ≡ Found one other
     → has_own h x.items x.accepted x.cert ≡ false
-    → Extracts h same (front_inputs h entries given) (proof_inputs h given) f
+    → Extracts h same (prefix_inputs h entries given) (proof_inputs h given) f
     → Settles h x (Pair one other)
 sign_settles h x e entries given one other f same kept is told found own shown =
     let At : List Text → List Step → Finding → Type 0 = λ es ss g.
-    Extracts h same (front_inputs h es ss) (proof_inputs h ss) g in
+    Extracts h same (prefix_inputs h es ss) (proof_inputs h ss) g in
     let here : At x.items.entries e.steps (Found one other) =
     subst (λ (es : List Text). At es e.steps (Found one other)) is
     (subst (λ (ss : List Step). At entries ss (Found one other)) told
     (subst (λ (g : Finding). At entries given g) found shown)) in
     let a = x.accepted in
-    let fronts : front_inputs_of h x.items.entries x.kept ≡ front_inputs h x.items.entries e.steps =
-    ap (front_inputs_of h x.items.entries) kept in
+    let prefixes : prefix_inputs_of h x.items.entries x.kept
+    ≡ prefix_inputs h x.items.entries e.steps =
+    ap (prefix_inputs_of h x.items.entries) kept in
     let proofs : proof_inputs_of h x.kept ≡ proof_inputs h e.steps =
     ap (proof_inputs_of h) kept in (
       own,
-      collision_widened h (front_inputs h x.items.entries e.steps) (proof_inputs h e.steps)
+      collision_widened h (prefix_inputs h x.items.entries e.steps) (proof_inputs h e.steps)
           (firsts_of h x) (seconds_of h x) one other
-          (λ (c : Contains (front_inputs h x.items.entries e.steps) one).
+          (λ (c : Contains (prefix_inputs h x.items.entries e.steps) one).
           Contains-append_right (inputs_of h (part_of x.items.entries a.start a.end)) _ one
-          (Contains-append_left (front_inputs_of h x.items.entries x.kept)
+          (Contains-append_left (prefix_inputs_of h x.items.entries x.kept)
           (listed_key x.items a.index ∷ []) one
-          (subst (λ (xs : List Text). Contains xs one) (sym fronts) c)))
+          (subst (λ (xs : List Text). Contains xs one) (sym prefixes) c)))
           (λ (c : Contains (proof_inputs h e.steps) other).
           Contains-append_right (eval_inputs_of h (a.index - a.start) (a.end - a.start)
           (entry_of h x.cert) x.proof.path) _ other
@@ -327,9 +328,10 @@ sign_settles h x e entries given one other f same kept is told found own shown =
 -- ---- the list and the Sign
 
 all_held : (h : HashFunction) (entries : List Text) (steps : List Step)
-    → HasFront h entries (held_by h steps) → HasFront h entries (held_behind h steps (length steps))
-all_held h entries steps front =
-    subst (λ (xs : List Step). HasFront h entries (held_by h xs)) (sym (take-length steps)) front
+    → HasPrefix h entries (held_by h steps)
+    → HasPrefix h entries (held_behind h steps (length steps))
+all_held h entries steps prefix =
+    subst (λ (xs : List Step). HasPrefix h entries (held_by h xs)) (sym (take-length steps)) prefix
 
 found_there : (steps : List Step) (place : ℕ) (d : Step) → place < length steps
     → get_or steps place d ≡ get_or steps place (get_or steps place d)
@@ -338,12 +340,12 @@ found_there steps place d below = get_or_default steps place d (get_or steps pla
 pub sign_inside : (h : HashFunction) (entries : List Text) (steps : List Step) (place : ℕ)
     (a : Accepted) → AreSteps h steps → place < length steps
     → ((step : Step) → is_sign_of a (get_or steps place step) ≡ true)
-    → HasFront h entries (held_by h steps) → a.end ≤ length entries
-sign_inside h entries steps place a are below sign front =
+    → HasPrefix h entries (held_by h steps) → a.end ≤ length entries
+sign_inside h entries steps place a are below sign prefix =
     let d : Step = Advance 0 [] [] in
     let s : Step = get_or steps place d in
     let within = sign_long h entries steps place s are below (found_there steps place d below)
-    (all_held h entries steps front) in
+    (all_held h entries steps prefix) in
     (sign_of h entries a s (sign d)).within (length entries) within
 
 pub own_inside : (h : HashFunction) (entries : List Text) (steps : List Step) (place : ℕ)
@@ -351,20 +353,21 @@ pub own_inside : (h : HashFunction) (entries : List Text) (steps : List Step) (p
     → evaluation h leaf a.index a.start a.end path ≡ Ok a.hash
     → AreSteps h steps → place < length steps
     → ((step : Step) → is_sign_of a (get_or steps place step) ≡ true)
-    → HasFront h entries (held_by h steps) → a.index < length entries
-own_inside h entries steps place a leaf path value are below sign front =
+    → HasPrefix h entries (held_by h steps) → a.index < length entries
+own_inside h entries steps place a leaf path value are below sign prefix =
     let inside = (eval_inside h leaf a.index a.start a.end path a.hash value).1 in
-    let within = sign_inside h entries steps place a are below sign front in
+    let within = sign_inside h entries steps place a are below sign prefix in
     omega arith
 
 pub same_interval : (h : HashFunction) (items : ItemLists) (a : Accepted) (steps given : List Step)
     (place : ℕ) (step : Step) (entries firsts seconds : List Text) (f : Finding)
     → AreSteps h steps → place < length steps
     → ((s : Step) → is_sign_of a (get_or steps place s) ≡ true)
-    → HasFront h items.entries (held_by h steps) → given ≡ steps
+    → HasPrefix h items.entries (held_by h steps) → given ≡ steps
     → step ≡ get_or given place step → entries ≡ items.entries → f ≡ Same
     → Extracts h (IsOfList h entries step) firsts seconds f → HasInterval h items a
-same_interval h items a steps given place step entries firsts seconds f are below sign front told at
+same_interval h items a steps given place step entries firsts seconds f are below sign prefix told
+    at
     is found shown =
     let own : IsOfList h entries step =
     subst (λ (g : Finding). Extracts h (IsOfList h entries step) firsts seconds g) found shown in
@@ -375,7 +378,7 @@ same_interval h items a steps given place step entries firsts seconds f are belo
     let of = sign_of h items.entries a step (subst (λ (s : Step). is_sign_of a s ≡ true) (sym there)
     (sign step)) in
     record {
-      within = sign_inside h items.entries steps place a are below sign front;
+      within = sign_inside h items.entries steps place a are below sign prefix;
       root = of.root here;
     }
 

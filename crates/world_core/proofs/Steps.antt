@@ -9,11 +9,11 @@ use Rattle.std.specs.List.{Contains, flat_map}
 use Rattle.std.proofs.Math.Seq.{take-suc}
 use Rattle.std.proofs.lemmas.Bool.{and_parts}
 use Rattle.std.proofs.lemmas.List.Elements.{Contains-append_left, Contains-append_right}
-use Rattle.byte_forms.specs.Types.{Hash, HashFunction, Text}
-use Rattle.byte_forms.proofs.Steps.{chosen}
+use Rattle.byte_formats.specs.Types.{Hash, HashFunction, Text}
+use Rattle.byte_formats.proofs.Steps.{chosen}
 use Rattle.tree_proofs.specs.Consistency.{Checks, consistency}
 use Rattle.tree_proofs.proofs.Checked.{PassesWhereChecks_always}
-use Rattle.cosigner_core.specs.Checkpoints.{empty_checkpoint, is_front_of}
+use Rattle.cosigner_core.specs.Checkpoints.{empty_checkpoint, is_prefix_of}
 use Rattle.cosigner_core.specs.Progress.{first_progress, is_allowed, progress_by}
 use Rattle.cosigner_core.specs.Progress.{with_step}
 use Rattle.cosigner_core.specs.declared.checkpoint.Checkpoint.{Checkpoint}
@@ -148,19 +148,19 @@ pub size_held : (h : HashFunction) (steps : List Step)
 unfolding held_by
 size_held h steps = size_from (first_progress h) steps
 
-pub front_at : (h : HashFunction) (entries : List Text) (sizes : List ℕ) (m : ℕ) (x : Text)
+pub prefix_at : (h : HashFunction) (entries : List Text) (sizes : List ℕ) (m : ℕ) (x : Text)
     (k : ℕ) → k < length sizes → get_or sizes k m ≡ m
     → Contains (inputs_of h (take m entries)) x
     → Contains (flat_map (λ (n : ℕ). inputs_of h (take n entries)) sizes) x
-front_at h entries [] m x k below is one = absurd (omega arith)
-front_at h entries (n ∷ ns) m x zero below is one =
+prefix_at h entries [] m x k below is one = absurd (omega arith)
+prefix_at h entries (n ∷ ns) m x zero below is one =
     Contains-append_left (inputs_of h (take n entries))
     (flat_map (λ (j : ℕ). inputs_of h (take j entries)) ns) x
     (subst (λ (j : ℕ). Contains (inputs_of h (take j entries)) x) (sym is) one)
-front_at h entries (n ∷ ns) m x (suc k) below is one =
+prefix_at h entries (n ∷ ns) m x (suc k) below is one =
     Contains-append_right (inputs_of h (take n entries))
     (flat_map (λ (j : ℕ). inputs_of h (take j entries)) ns) x
-    (front_at h entries ns m x k (omega arith) is one)
+    (prefix_at h entries ns m x k (omega arith) is one)
 
 -- ---- what is allowed shows
 
@@ -177,10 +177,10 @@ sign_checks h keys p index start end hash proof e =
     (PassesWhereChecks_always h start end p.held.size hash p.held.root proof).0
     (ok_is_unit _ two.1)
 
-front_shown : (h : HashFunction) (held : Checkpoint) (size : ℕ) (root : Hash) (proof : List Hash)
-    → is_front_of h held size root proof ≡ true
+prefix_shown : (h : HashFunction) (held : Checkpoint) (size : ℕ) (root : Hash) (proof : List Hash)
+    → is_prefix_of h held size root proof ≡ true
     → (held.size ≡ 0) ⊎ Checks h 0 held.size size held.root root proof
-front_shown h held size root proof e =
+prefix_shown h held size root proof e =
     elim (chosen (held.size == 0) (length proof == 0) (is_ok (consistency h 0 held.size size
     held.root
     root proof)) true e) [
@@ -201,7 +201,7 @@ advance_checks h keys p size root proof e =
     let one = and_parts (nat_lt p.held.size size) _ e in
     record {
       more = ltb-true p.held.size size one.0;
-      shown = front_shown h p.held size root proof one.1;
+      shown = prefix_shown h p.held size root proof one.1;
     }
 
 -- ---- sizes rise

@@ -8,7 +8,7 @@ use Rattle.std.specs.List.{Contains}
 use Rattle.std.proofs.Math.Seq.{take-length}
 use Rattle.std.proofs.lemmas.List.{drop-map, length-map, length-take-le, take-map}
 use Rattle.std.proofs.lemmas.Slice.Eq.{bytes_eq-Decides}
-use Rattle.byte_forms.specs.Types.{Hash, HashFunction, Text}
+use Rattle.byte_formats.specs.Types.{Hash, HashFunction, Text}
 use Rattle.cert_fields.specs.Views.{texts}
 use Rattle.tree_core.specs.Path.{part_of}
 use Rattle.tree_core.specs.Tree.{tree_hash}
@@ -26,9 +26,9 @@ use Rattle.collide.specs.Inputs.{inputs_of, open_inputs_of}
 use Rattle.collide.specs.declared.finding.Finding.{Finding}
 use Rattle.collide.specs.declared.finding.Finding.TheVariants.{Pair, Same}
 use Rattle.collide.proofs.Compared.{collision_widened}
-use Rattle.world_core.specs.Walk.{AreSteps, HasFront, IsOfList, IsWithin, Shows, front_inputs}
+use Rattle.world_core.specs.Walk.{AreSteps, HasPrefix, IsOfList, IsWithin, Shows, prefix_inputs}
 use Rattle.world_core.specs.Walk.{held_behind, held_by, proof_inputs, held_sizes, with_steps}
-use Rattle.world_core.proofs.Steps.{advance_checks, allowed_at, front_at, held_advance, held_none}
+use Rattle.world_core.proofs.Steps.{advance_checks, allowed_at, prefix_at, held_advance, held_none}
 use Rattle.world_core.proofs.Steps.{held_sign, inputs_at, none_held, rises_to, sign_checks}
 use Rattle.world_core.proofs.Steps.{size_at, size_held, sizes_take}
 
@@ -37,8 +37,8 @@ use Rattle.world_core.proofs.Steps.{size_at, size_held, sizes_take}
 now : Bor Text → Text
 now s = s.now
 
-pub front_texts : (es : List (Bor Text)) (n : ℕ) → texts (take n es) ≡ take n (texts es)
-front_texts es n = sym (take-map (λ (s : Bor Text). s.now) n es)
+pub prefix_texts : (es : List (Bor Text)) (n : ℕ) → texts (take n es) ≡ take n (texts es)
+prefix_texts es n = sym (take-map (λ (s : Bor Text). s.now) n es)
 
 pub part_texts : (es : List (Bor Text)) (s e : ℕ)
     → texts (take (e - s) (drop s es)) ≡ part_of (texts es) s e
@@ -88,13 +88,13 @@ back_none h steps place none same =
 
 -- ---- tests
 
-pub front_tested : (h : HashFunction) (es : List (Bor Text)) (held : Checkpoint) (b : Bool)
+pub prefix_tested : (h : HashFunction) (es : List (Bor Text)) (held : Checkpoint) (b : Bool)
     (root : Hash) → held.size ≤ length es → root ≡ tree_hash h (texts (take held.size es))
     → b ≡ bytes_eq root held.root
-    → (IsTrue b → HasFront h (texts es) held) × (HasFront h (texts es) held → IsTrue b)
-front_tested h es held b root within is test =
+    → (IsTrue b → HasPrefix h (texts es) held) × (HasPrefix h (texts es) held → IsTrue b)
+prefix_tested h es held b root within is test =
     let same : root ≡ tree_hash h (take held.size (texts es)) =
-    is ∙ ap (tree_hash h) (front_texts es held.size) in
+    is ∙ ap (tree_hash h) (prefix_texts es held.size) in
     let long : held.size ≤ length (texts es) = omega (
       arith,
       length-map es (λ (s : Bor Text). s.now),
@@ -103,7 +103,7 @@ front_tested h es held b root within is test =
         within = long;
         root = sym same ∙ (bytes_eq-Decides root held.root).0 (sym test ∙ yes);
       },
-      λ front. test ∙ (bytes_eq-Decides root held.root).1 (same ∙ front.root),
+      λ prefix. test ∙ (bytes_eq-Decides root held.root).1 (same ∙ prefix.root),
     )
 
 pub list_tested : (h : HashFunction) (es : List (Bor Text)) (step : Step) (index start end : ℕ)
@@ -123,28 +123,28 @@ list_tested h es step index start end hash proof b root sign is test =
 
 -- ---- at an Advance
 
-pub empty_front : (h : HashFunction) (entries : List Text)
-    → HasFront h entries (empty_checkpoint h)
-empty_front h entries = record {
+pub empty_prefix : (h : HashFunction) (entries : List Text)
+    → HasPrefix h entries (empty_checkpoint h)
+empty_prefix h entries = record {
   within = omega arith;
   root = sym (tree-none h (take 0 entries) (omega arith));
 }
 
-pub advance_front : (h : HashFunction) (es : List (Bor Text)) (steps : List Step) (k size : ℕ)
+pub advance_prefix : (h : HashFunction) (es : List (Bor Text)) (steps : List Step) (k size : ℕ)
     (root : Hash) (proof : List Hash) → k < length steps
     → Advance size root proof ≡ get_or steps k (Advance size root proof)
-    → HasFront h (texts es) (held_behind h steps (k + 1))
-    → HasFront h (texts es) (record { size = size; root = root })
-advance_front h es steps k size root proof below is front =
-    subst (HasFront h (texts es)) (held_advance h steps k size root proof below is) front
+    → HasPrefix h (texts es) (held_behind h steps (k + 1))
+    → HasPrefix h (texts es) (record { size = size; root = root })
+advance_prefix h es steps k size root proof below is prefix =
+    subst (HasPrefix h (texts es)) (held_advance h steps k size root proof below is) prefix
 
 pub advance_long : (h : HashFunction) (es : List (Bor Text)) (steps : List Step) (k size : ℕ)
     (root : Hash) (proof : List Hash) → k < length steps
     → Advance size root proof ≡ get_or steps k (Advance size root proof)
-    → HasFront h (texts es) (held_behind h steps (k + 1))
+    → HasPrefix h (texts es) (held_behind h steps (k + 1))
     → size ≡ length (take size es)
-advance_long h es steps k size root proof below is front =
-    let there = (advance_front h es steps k size root proof below is front).within in
+advance_long h es steps k size root proof below is prefix =
+    let there = (advance_prefix h es steps k size root proof below is prefix).within in
     let long : size ≤ length es = omega (arith, length-map es (λ (s : Bor Text). s.now)) in
     sym (length-take-le size es long)
 
@@ -157,7 +157,7 @@ pub record HasGrownFrom (h : HashFunction) (held : Checkpoint) (size : ℕ) (roo
 pub advance_grown : (h : HashFunction) (es : List (Bor Text)) (steps : List Step) (k size : ℕ)
     (root : Hash) (proof : List Hash) → AreSteps h steps → k < length steps
     → Advance size root proof ≡ get_or steps k (Advance size root proof)
-    → (HasFront h (texts es) (held_behind h steps k) → ⊥)
+    → (HasPrefix h (texts es) (held_behind h steps k) → ⊥)
     → HasGrownFrom h (held_behind h steps k) size root proof
 unfolding held_by
 advance_grown h es steps k size root proof are below is apart =
@@ -170,8 +170,8 @@ advance_grown h es steps k size root proof are below is apart =
       more = known.more;
       checks = elim known.shown [
         | inl none ↦
-            absurd (apart (subst (HasFront h (texts es)) (sym (none_held h are.keys first are.done
-            steps k are.each none)) (empty_front h (texts es))))
+            absurd (apart (subst (HasPrefix h (texts es)) (sym (none_held h are.keys first are.done
+            steps k are.each none)) (empty_prefix h (texts es))))
         | inr checks ↦ checks
       ];
     }
@@ -179,17 +179,17 @@ advance_grown h es steps k size root proof are below is apart =
 pub advance_ready : (h : HashFunction) (es : List (Bor Text)) (steps : List Step) (k size : ℕ)
     (root : Hash) (proof given : List Hash) (before : Checkpoint) → AreSteps h steps
     → k < length steps → Advance size root proof ≡ get_or steps k (Advance size root proof)
-    → (HasFront h (texts es) (held_behind h steps k) → ⊥)
-    → HasFront h (texts es) (held_behind h steps (k + 1))
+    → (HasPrefix h (texts es) (held_behind h steps k) → ⊥)
+    → HasPrefix h (texts es) (held_behind h steps (k + 1))
     → before ≡ held_behind h steps k → given ≡ proof
     → Checks h 0 before.size (length (take size es)) before.root
     (tree_hash h (texts (take size es))) given
-advance_ready h es steps k size root proof given before are below is apart front held told =
+advance_ready h es steps k size root proof given before are below is apart prefix held told =
     let grown = advance_grown h es steps k size root proof are below is apart in
-    let there = advance_front h es steps k size root proof below is front in
-    let long = advance_long h es steps k size root proof below is front in
+    let there = advance_prefix h es steps k size root proof below is prefix in
+    let long = advance_long h es steps k size root proof below is prefix in
     let hash : root ≡ tree_hash h (texts (take size es)) =
-    sym there.root ∙ ap (tree_hash h) (sym (front_texts es size)) in
+    sym there.root ∙ ap (tree_hash h) (sym (prefix_texts es size)) in
     let one = subst (λ (n : ℕ). Checks h 0 (held_behind h steps k).size n
     (held_behind h steps k).root root proof) long grown.checks in
     let two = subst (λ (r : Hash). Checks h 0 (held_behind h steps k).size (length (take size es))
@@ -201,48 +201,48 @@ advance_ready h es steps k size root proof given before are below is apart front
     (tree_hash h (texts (take size es))) given) (sym held) three
 
 -- the first entries of a list are those of its front
-pub front_part : (es : List (Bor Text)) (size start end : ℕ) → start ≤ end → end ≤ size
+pub prefix_part : (es : List (Bor Text)) (size start end : ℕ) → start ≤ end → end ≤ size
     → part_of (texts (take size es)) start end ≡ part_of (texts es) start end
-front_part es size start end order within =
-    ap (λ (xs : List Text). part_of xs start end) (front_texts es size)
+prefix_part es size start end order within =
+    ap (λ (xs : List Text). part_of xs start end) (prefix_texts es size)
     ∙ part_of-take (texts es) start end size order within
 
 pub advance_found : (h : HashFunction) (es : List (Bor Text)) (steps : List Step) (k size : ℕ)
     (root : Hash) (proof given : List Hash) (before : Checkpoint) → AreSteps h steps
     → k < length steps → Advance size root proof ≡ get_or steps k (Advance size root proof)
-    → (HasFront h (texts es) (held_behind h steps k) → ⊥)
-    → HasFront h (texts es) (held_behind h steps (k + 1))
+    → (HasPrefix h (texts es) (held_behind h steps k) → ⊥)
+    → HasPrefix h (texts es) (held_behind h steps (k + 1))
     → before ≡ held_behind h steps k → given ≡ proof
     → (f : Finding)
     → Extracts h (tree_hash h (part_of (texts (take size es)) 0 before.size) ≡ before.root)
     (inputs_of h (texts (take size es)))
     (open_inputs_of h 0 before.size (length (take size es)) true before.root given) f
-    → Shows h (front_inputs h (texts es) steps) (proof_inputs h steps) f
+    → Shows h (prefix_inputs h (texts es) steps) (proof_inputs h steps) f
 unfolding held_by
-advance_found h es steps k size root proof given before are below is apart front held told Same e =
+advance_found h es steps k size root proof given before are below is apart prefix held told Same e =
     let grown = advance_grown h es steps k size root proof are below is apart in
-    let there = advance_front h es steps k size root proof below is front in
+    let there = advance_prefix h es steps k size root proof below is prefix in
     let shorter : before.size < size = subst (λ (c : Checkpoint). c.size < size) (sym held)
     grown.more in
     let long = there.within in
     let own : tree_hash h (take before.size (texts es)) ≡ before.root =
-    ap (tree_hash h) (sym (front_part es size 0 before.size (omega arith) (omega arith)
+    ap (tree_hash h) (sym (prefix_part es size 0 before.size (omega arith) (omega arith)
     ∙ part_of-zero (texts es) before.size)) ∙ e in
-    absurd (apart (subst (HasFront h (texts es)) held (record {
+    absurd (apart (subst (HasPrefix h (texts es)) held (record {
       within = omega arith;
       root = own;
     })))
-advance_found h es steps k size root proof given before are below is apart front held told
+advance_found h es steps k size root proof given before are below is apart prefix held told
     (Pair x y) e =
-    let long = advance_long h es steps k size root proof below is front in
+    let long = advance_long h es steps k size root proof below is prefix in
     let size_in = size_at steps k size root proof below is in
     let now_held = (held_behind h steps k) in
     collision_widened h (inputs_of h (texts (take size es)))
     (open_inputs_of h 0 before.size (length (take size es)) true before.root given)
-    (front_inputs h (texts es) steps) (proof_inputs h steps) x y
+    (prefix_inputs h (texts es) steps) (proof_inputs h steps) x y
     (λ (c : Contains (inputs_of h (texts (take size es))) x).
-    front_at h (texts es) (held_sizes steps) size x size_in.0 size_in.1 size_in.2
-    (subst (λ (xs : List Text). Contains (inputs_of h xs) x) (front_texts es size) c))
+    prefix_at h (texts es) (held_sizes steps) size x size_in.0 size_in.1 size_in.2
+    (subst (λ (xs : List Text). Contains (inputs_of h xs) x) (prefix_texts es size) c))
     (λ (c : Contains (open_inputs_of h 0 before.size (length (take size es)) true before.root
     given) y).
     let one = subst (λ (n : ℕ). Contains (open_inputs_of h 0 before.size n true before.root given)
@@ -257,11 +257,11 @@ advance_found h es steps k size root proof given before are below is apart front
 pub not_sign : (h : HashFunction) (es : List (Bor Text)) (steps : List Step)
     (k index start end : ℕ) (hash : Hash) (proof : List Hash) → k < length steps
     → Sign index start end hash proof ≡ get_or steps k (Sign index start end hash proof)
-    → (HasFront h (texts es) (held_behind h steps k) → ⊥)
-    → HasFront h (texts es) (held_behind h steps (k + 1)) → ⊥
-not_sign h es steps k index start end hash proof below is apart front =
-    apart (subst (HasFront h (texts es)) (held_sign h steps k index start end hash proof below is)
-    front)
+    → (HasPrefix h (texts es) (held_behind h steps k) → ⊥)
+    → HasPrefix h (texts es) (held_behind h steps (k + 1)) → ⊥
+not_sign h es steps k index start end hash proof below is apart prefix =
+    apart (subst (HasPrefix h (texts es)) (held_sign h steps k index start end hash proof below is)
+    prefix)
 
 -- ---- at a Sign
 
@@ -277,43 +277,43 @@ sign_checked h steps k index start end hash proof are below is =
 
 pub sign_long : (h : HashFunction) (entries : List Text) (steps : List Step) (k : ℕ)
     (step : Step) → AreSteps h steps → k < length steps → step ≡ get_or steps k step
-    → HasFront h entries (held_behind h steps (length steps)) → IsWithin (length entries) step
+    → HasPrefix h entries (held_behind h steps (length steps)) → IsWithin (length entries) step
 unfolding held_by
-sign_long h entries steps k (Advance size root proof) are below is front = tt
-sign_long h entries steps k (Sign index start end hash proof) are below is front =
+sign_long h entries steps k (Advance size root proof) are below is prefix = tt
+sign_long h entries steps k (Sign index start end hash proof) are below is prefix =
     let checks = sign_checked h steps k index start end hash proof are below is in
     let rise = rises_to h are.keys (first_progress h) are.done steps k are.each in
     let all = ap (λ (xs : List Step). (held_by h xs).size) (take-length steps) in
-    let long = front.within in
+    let long = prefix.within in
     let within = checks.within in
     let some = some_in start end checks.valid in
     (omega arith, omega arith)
 
 pub sign_within : (h : HashFunction) (es : List (Bor Text)) (steps : List Step) (k : ℕ)
     (step : Step) → AreSteps h steps → k < length steps → step ≡ get_or steps k step
-    → HasFront h (texts es) (held_behind h steps (length steps)) → IsWithin (length es) step
-sign_within h es steps k step are below is front =
+    → HasPrefix h (texts es) (held_behind h steps (length steps)) → IsWithin (length es) step
+sign_within h es steps k step are below is prefix =
     subst (λ (n : ℕ). IsWithin n step) (length-map es (λ (s : Bor Text). s.now))
-    (sign_long h (texts es) steps k step are below is front)
+    (sign_long h (texts es) steps k step are below is prefix)
 
 pub sign_ready : (h : HashFunction) (es : List (Bor Text)) (steps : List Step)
     (k index start end : ℕ) (hash : Hash) (proof given : List Hash) (held : Checkpoint)
     → AreSteps h steps → k < length steps
     → Sign index start end hash proof ≡ get_or steps k (Sign index start end hash proof)
-    → HasFront h (texts es) (held_behind h steps k)
+    → HasPrefix h (texts es) (held_behind h steps k)
     → held ≡ held_behind h steps k → given ≡ proof
     → Checks h start end (length (take held.size es)) hash
     (tree_hash h (texts (take held.size es))) given
-sign_ready h es steps k index start end hash proof given held are below is front same told =
+sign_ready h es steps k index start end hash proof given held are below is prefix same told =
     let checks = sign_checked h steps k index start end hash proof are below is in
-    let own : HasFront h (texts es) held = subst (HasFront h (texts es)) (sym same) front in
+    let own : HasPrefix h (texts es) held = subst (HasPrefix h (texts es)) (sym same) prefix in
     let here : Checks h start end held.size hash held.root proof =
     subst (λ (c : Checkpoint). Checks h start end c.size hash c.root proof) (sym same) checks in
     let within = own.within in
     let count : held.size ≤ length es = omega (arith, length-map es (λ (s : Bor Text). s.now)) in
     let long : held.size ≡ length (take held.size es) = sym (length-take-le held.size es count) in
     let root : held.root ≡ tree_hash h (texts (take held.size es)) =
-    sym own.root ∙ ap (tree_hash h) (sym (front_texts es held.size)) in
+    sym own.root ∙ ap (tree_hash h) (sym (prefix_texts es held.size)) in
     let one = subst (λ (n : ℕ). Checks h start end n hash held.root proof) long here in
     let two = subst (λ (r : Hash). Checks h start end (length (take held.size es)) hash r proof)
     root one in
@@ -335,29 +335,29 @@ pub sign_found : (h : HashFunction) (es : List (Bor Text)) (steps : List Step) (
     (k index start end : ℕ) (hash : Hash) (proof given : List Hash) (held : Checkpoint)
     → AreSteps h steps → k < length steps → step ≡ get_or steps k step
     → step ≡ Sign index start end hash proof
-    → HasFront h (texts es) (held_behind h steps k)
+    → HasPrefix h (texts es) (held_behind h steps k)
     → held ≡ held_behind h steps k → given ≡ proof
     → (f : Finding)
     → Extracts h (tree_hash h (part_of (texts (take held.size es)) start end) ≡ hash)
     (inputs_of h (texts (take held.size es)))
     (open_inputs_of h start end (length (take held.size es)) true hash given) f
-    → Extracts h (IsOfList h (texts es) step) (front_inputs h (texts es) steps)
+    → Extracts h (IsOfList h (texts es) step) (prefix_inputs h (texts es) steps)
     (proof_inputs h steps) f
 unfolding held_by
-sign_found h es steps step k index start end hash proof given held are below at is front same told
+sign_found h es steps step k index start end hash proof given held are below at is prefix same told
     f e =
     let here = found_at steps k step (Sign index start end hash proof) at is in
     let checks = sign_checked h steps k index start end hash proof are below here in
     let some = some_in start end checks.valid in
     let within = checks.within in
     let size : held.size ≡ (held_behind h steps k).size = ap (λ (c : Checkpoint). c.size) same in
-    let part = front_part es held.size start end (omega arith) (omega arith) in
+    let part = prefix_part es held.size start end (omega arith) (omega arith) in
     let root = ap (tree_hash h) part in
     let there = size_there h steps k start end some within in
-    let own = front.within in
+    let own = prefix.within in
     let count : held.size ≤ length es = omega (arith, length-map es (λ (s : Bor Text). s.now)) in
     let long : held.size ≡ length (take held.size es) = sym (length-take-le held.size es count) in
-    subst (λ (s : Step). Extracts h (IsOfList h (texts es) s) (front_inputs h (texts es) steps)
+    subst (λ (s : Step). Extracts h (IsOfList h (texts es) s) (prefix_inputs h (texts es) steps)
     (proof_inputs h steps) f) (sym is) (go f e root there long here)
   where
     go : (f : Finding)
@@ -370,21 +370,21 @@ sign_found h es steps step k index start end hash proof given held are below at 
         → held.size ≡ length (take held.size es)
         → Sign index start end hash proof ≡ get_or steps k (Sign index start end hash proof)
         → Extracts h (tree_hash h (part_of (texts es) start end) ≡ hash)
-        (front_inputs h (texts es) steps) (proof_inputs h steps) f
+        (prefix_inputs h (texts es) steps) (proof_inputs h steps) f
     go Same e root there long here = sym root ∙ e
     go (Pair x y) e root there long here = (
       λ (own : tree_hash h (part_of (texts es) start end) ≡ hash). e.0 (root ∙ own),
       collision_widened h (inputs_of h (texts (take held.size es)))
           (open_inputs_of h start end (length (take held.size es)) true hash given)
-          (front_inputs h (texts es) steps) (proof_inputs h steps) x y
+          (prefix_inputs h (texts es) steps) (proof_inputs h steps) x y
           (λ (c : Contains (inputs_of h (texts (take held.size es))) x).
           let one = subst (λ (xs : List Text). Contains (inputs_of h xs) x)
-          (front_texts es held.size)
+          (prefix_texts es held.size)
           c in
           let two = subst (λ (b : Checkpoint). Contains (inputs_of h (take b.size (texts es))) x)
           same
           one in
-          front_at h (texts es) (held_sizes steps) (held_behind h steps k).size x there.0 there.1
+          prefix_at h (texts es) (held_sizes steps) (held_behind h steps k).size x there.0 there.1
           there.2
           two)
           (λ (c : Contains (open_inputs_of h start end (length (take held.size es)) true hash given)

@@ -5,7 +5,7 @@ use Rattle.std.specs.Prelude.{List, [], ◌∷◌, ◌++◌, length, slice_get, 
 use Rattle.std.specs.Prelude.{None, is_some, option_map, Ok, if◌then◌else◌}
 use Rattle.std.specs.List.{position}
 use Rattle.std.specs.Str.{bytes_eq}
-use Rattle.byte_forms.specs.Types.{Hash, HashFunction, Text}
+use Rattle.byte_formats.specs.Types.{Hash, HashFunction, Text}
 use Rattle.cert_fields.specs.Certificate.{Parts}
 use Rattle.cert_fields.specs.Grammar.{IsCertificate}
 use Rattle.tree_core.specs.Path.{part_of}
@@ -26,7 +26,7 @@ use Rattle.policy_core.specs.declared.cosigners.Known.{Known}
 use Rattle.policy_core.specs.declared.store.Store.{Store}
 use Rattle.collide.specs.Extraction.{IsCollision}
 use Rattle.collide.specs.Inputs.{eval_inputs_of, inputs_of}
-use Rattle.world_core.specs.Walk.{front_inputs, held_by, proof_inputs}
+use Rattle.world_core.specs.Walk.{prefix_inputs, held_by, proof_inputs}
 use Rattle.cosigner_core.specs.declared.lists.Export.{Export}
 use Rattle.world_core.specs.declared.wanted.WantedHash.{WantedHash}
 use Rattle.world_core.specs.declared.answer.Audit.{Audit}
@@ -139,9 +139,9 @@ pub record HasOwn (h : HashFunction) (x : AuditCase) : Type 0 where
 
 -- ---- two texts
 
-abbrev pub front_inputs_of : HashFunction → List Text → Option Export → List Text
-front_inputs_of h entries None = []
-front_inputs_of h entries (Some e) = front_inputs h entries e.steps
+abbrev pub prefix_inputs_of : HashFunction → List Text → Option Export → List Text
+prefix_inputs_of h entries None = []
+prefix_inputs_of h entries (Some e) = prefix_inputs h entries e.steps
 
 abbrev pub proof_inputs_of : HashFunction → Option Export → List Text
 proof_inputs_of h None = []
@@ -153,7 +153,7 @@ proof_inputs_of h (Some e) = proof_inputs h e.steps
 abbrev pub firsts_of : HashFunction → AuditCase → List Text
 firsts_of h x =
     inputs_of h (part_of x.items.entries x.accepted.start x.accepted.end)
-    ++ (front_inputs_of h x.items.entries x.kept ++ listed_key x.items x.accepted.index ∷ [])
+    ++ (prefix_inputs_of h x.items.entries x.kept ++ listed_key x.items x.accepted.index ∷ [])
 
 -- The texts beside it: those in the evaluation of the certificate's path, those in the opening of
 -- the cosigner's proofs, and the certificate's key.

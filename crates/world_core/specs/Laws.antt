@@ -1,11 +1,12 @@
 -- What holds of the list behind what a cosigner has signed, for a hash function h.
 use Rattle.std.specs.Prelude.{◌≡◌, ◌⊎◌, List, length, Contains}
 use Rattle.std.specs.List.{AllByRecursion}
-use Rattle.byte_forms.specs.Types.{HashFunction, Text}
+use Rattle.byte_formats.specs.Types.{HashFunction, Text}
 use Rattle.cosigner_core.specs.declared.step.Step.{Step}
 use Rattle.cosigner_core.specs.declared.step.Step.TheVariants.{Advance, Sign}
 use Rattle.collide.specs.Extraction.{HasCollision}
-use Rattle.world_core.specs.Walk.{AreSteps, HasFront, IsOfList, front_inputs, held_by, proof_inputs}
+use Rattle.world_core.specs.Walk.{AreSteps, HasPrefix, IsOfList, prefix_inputs, held_by}
+use Rattle.world_core.specs.Walk.{proof_inputs}
 
 -- Each hash in the proof of a step has 32 bytes.
 abbrev pub HasHashes : Step → Type 0
@@ -16,6 +17,6 @@ HasHashes (Sign index start end hash proof) = AllByRecursion (λ hash. length ha
 -- of the list, or the list and the proofs of the steps show two texts with one hash.
 abbrev pub OneListBehind : HashFunction → Type 0
 OneListBehind h = (entries : List Text) (steps : List Step) (step : Step) → AreSteps h steps
-    → AllByRecursion HasHashes steps → HasFront h entries (held_by h steps) → Contains steps step
+    → AllByRecursion HasHashes steps → HasPrefix h entries (held_by h steps) → Contains steps step
     → IsOfList h entries step
-    ⊎ HasCollision h (front_inputs h entries steps) (proof_inputs h steps)
+    ⊎ HasCollision h (prefix_inputs h entries steps) (proof_inputs h steps)

@@ -1,7 +1,7 @@
 -- The list of entries behind what a cosigner has held and signed.
 use Rattle.std.specs.Prelude.{◌≡◌, ℕ, ◌≤◌, true, List, [], ◌∷◌, ◌++◌, length, take, Some}
 use Rattle.std.specs.List.{flat_map}
-use Rattle.byte_forms.specs.Types.{HashFunction, Text}
+use Rattle.byte_formats.specs.Types.{HashFunction, Text}
 use Rattle.tree_core.specs.Tree.{tree_hash}
 use Rattle.tree_core.specs.Path.{part_of}
 use Rattle.collide.specs.Extraction.{IsCollision}
@@ -33,7 +33,7 @@ pub record AreSteps (h : HashFunction) (steps : List Step) : Type 0 where
   pub each : progress_by h keys (first_progress h) steps ≡ Some done
 
 -- The first entries of a list are those of a checkpoint: there are as many, with its tree hash.
-pub record HasFront (h : HashFunction) (entries : List Text) (c : Checkpoint) : Type 0 where
+pub record HasPrefix (h : HashFunction) (entries : List Text) (c : Checkpoint) : Type 0 where
   pub within : c.size ≤ length entries
   pub root : tree_hash h (take c.size entries) ≡ c.root
 
@@ -60,8 +60,8 @@ held_sizes (Advance size root proof ∷ steps) = size ∷ held_sizes steps
 held_sizes (Sign index start end hash proof ∷ steps) = held_sizes steps
 
 -- The texts that are hashed in the tree hash of so many of the first entries, for each of them.
-abbrev pub front_inputs : HashFunction → List Text → List Step → List Text
-front_inputs h entries steps = flat_map (λ m. inputs_of h (take m entries)) (held_sizes steps)
+abbrev pub prefix_inputs : HashFunction → List Text → List Step → List Text
+prefix_inputs h entries steps = flat_map (λ m. inputs_of h (take m entries)) (held_sizes steps)
 
 -- A Sign is of the list: the list's own entries in its interval have the signed hash.
 abbrev pub IsOfList : HashFunction → List Text → Step → Type 0

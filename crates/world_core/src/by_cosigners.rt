@@ -10,7 +10,7 @@ ghost use Rattle.mtc_proof.specs.Views.{proof_parts};
 ghost use Rattle.cosigner_core.specs.declared.step.Step.{Step};
 ghost use Rattle.policy_core.specs.declared.store.Store.{Store};
 ghost use Rattle.world_core.specs.Audit.{Settles, SettlesRecorded, has_own, is_sign_of};
-ghost use Rattle.world_core.specs.Walk.{AreSteps, HasFront, held_by};
+ghost use Rattle.world_core.specs.Walk.{AreSteps, HasPrefix, held_by};
 
 use crate::answer::Audit;
 use crate::settling::settle;
@@ -60,7 +60,7 @@ fn by_sign<H: TreeHash>(
     requires within { place < length kept.now.steps }
     requires sign { (step : Step)
         → is_sign_of accepted.now (slice_index_or kept.now.steps place step) ≡ true }
-    requires whole { HasFront H.hash items.now.entries (held_by H.hash kept.now.steps) }
+    requires whole { HasPrefix H.hash items.now.entries (held_by H.hash kept.now.steps) }
     ensures { IfOk result (λ answer. (store : Store) → Settles H.hash (record {
       accepted = accepted.now;
       cert = parts cert.now;
@@ -96,7 +96,7 @@ pub(crate) fn by_record<H: TreeHash>(
         accepted.now.index accepted.now.start accepted.now.end (proof_parts proof.now).path
         ≡ Ok accepted.now.hash }
     requires allowed { AreSteps H.hash kept.now.steps }
-    requires whole { HasFront H.hash items.now.entries (held_by H.hash kept.now.steps) }
+    requires whole { HasPrefix H.hash items.now.entries (held_by H.hash kept.now.steps) }
     ensures { IfOk result (SettlesRecorded H.hash set kept.now (record {
       accepted = accepted.now;
       cert = parts cert.now;

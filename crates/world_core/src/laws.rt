@@ -2,8 +2,8 @@
 
 ghost use Rattle.std.specs.Prelude.{◌≡◌, ℕ, ℤ, IfSome, List, Ok, Option, Some};
 ghost use Rattle.std.specs.List.{AllByRecursion};
-ghost use Rattle.byte_forms.specs.Places.{IsBytes};
-ghost use Rattle.byte_forms.specs.Types.{HashFunction, Text};
+ghost use Rattle.byte_formats.specs.Places.{IsBytes};
+ghost use Rattle.byte_formats.specs.Types.{HashFunction, Text};
 ghost use Rattle.cert_fields.specs.Certificate.{Parts, parts_of};
 ghost use Rattle.mtc_proof.specs.Proofs.{ProofParts};
 ghost use Rattle.mtc_proof.specs.Reading.{proof_in};
@@ -24,8 +24,8 @@ use tree_core::TreeHash;
 /// What callers hold meets the conditions of [`audit`](crate::audit): a certificate that is read,
 /// with the proof that is read from it, where the store accepts its bytes at some moment; and what
 /// is read as an export, or is one by its rules. The proofs of an export have 32-byte hashes, as
-/// [`one_list_is_behind`] asks.
-pub fn what_is_read_can_be_audited()
+/// [`law_one_list_is_behind`] asks.
+pub fn law_what_is_read_can_be_audited()
     ensures judged { (h : HashFunction) (bytes : Text) (store : Store) (moment : ℤ) (a : Accepted)
         (c : Parts) (p : ProofParts) → IsBytes bytes → judgement h bytes store moment ≡ Ok a
         → parts_of bytes ≡ Ok c → proof_in c.proof ≡ Ok p → WasJudged h store c p a }
@@ -37,7 +37,7 @@ pub fn what_is_read_can_be_audited()
 {}
 
 /// What is held at last by steps that are allowed is the checkpoint to which they lead.
-pub fn steps_lead_to_what_is_held()
+pub fn law_steps_lead_to_what_is_held()
     ensures { (h : HashFunction) (keys : ℕ) (done : Progress) (steps : List Step)
         → progress_by h keys (first_progress h) steps ≡ Some done → held_by h steps ≡ done.held }
 {}
@@ -47,6 +47,6 @@ pub fn steps_lead_to_what_is_held()
 /// entries in its interval. Or else there are two different strings with one hash: the first is
 /// hashed in the tree hash of so many of the list's first entries as a checkpoint of the steps has,
 /// the second in the opening of their proofs.
-pub fn one_list_is_behind<H: TreeHash>()
+pub fn law_one_list_is_behind<H: TreeHash>()
     ensures { OneListBehind H.hash }
 {}

@@ -10,8 +10,8 @@
 mod answer;
 mod auditing;
 mod by_cosigners;
-mod front;
-mod laws;
+pub mod laws;
+mod prefix;
 mod settling;
 mod signed;
 mod supporting;
@@ -19,6 +19,5 @@ mod wanted;
 
 pub use answer::Audit;
 pub use auditing::audit;
-pub use front::{has_front, held_by};
-pub use laws::{one_list_is_behind, steps_lead_to_what_is_held, what_is_read_can_be_audited};
+pub use prefix::{has_prefix, held_by};
 pub use signed::walk;

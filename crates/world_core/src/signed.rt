@@ -5,10 +5,10 @@ ghost use Rattle.std.specs.Prelude.{slice_index_or};
 ghost use Rattle.cert_fields.specs.Views.{texts};
 ghost use Rattle.cosigner_core.specs.declared.step.Step.{Step};
 ghost use Rattle.collide.specs.Extraction.{Extracts};
-ghost use Rattle.world_core.specs.Walk.{AreSteps, HasFront, IsOfList, IsSign, IsWithin, Shows};
-ghost use Rattle.world_core.specs.Walk.{front_inputs, held_behind, held_by, proof_inputs};
+ghost use Rattle.world_core.specs.Walk.{AreSteps, HasPrefix, IsOfList, IsSign, IsWithin, Shows};
+ghost use Rattle.world_core.specs.Walk.{prefix_inputs, held_behind, held_by, proof_inputs};
 
-use crate::front::{has_front, held_by};
+use crate::prefix::{has_prefix, held_by};
 use collide::{Finding, in_consistency, list_hash};
 use cosigner_core::{Export, Step};
 use entry_list::Items;
@@ -36,19 +36,19 @@ fn is_of_list<H: TreeHash>(entries: &[&[u8]], step: &Step) -> bool
 // It is looked for by halves, so that few fronts of the list are hashed.
 fn parting<H: TreeHash>(entries: &[&[u8]], steps: &[Step], from: usize) -> usize
     requires within { from < length steps.now }
-    requires apart { HasFront H.hash (texts entries.now) (held_behind H.hash steps.now from) → ⊥ }
-    requires whole { HasFront H.hash (texts entries.now)
+    requires apart { HasPrefix H.hash (texts entries.now) (held_behind H.hash steps.now from) → ⊥ }
+    requires whole { HasPrefix H.hash (texts entries.now)
         (held_behind H.hash steps.now (length steps.now)) }
     ensures within { result < length steps.now }
-    ensures apart { HasFront H.hash (texts entries.now) (held_behind H.hash steps.now result) → ⊥ }
-    ensures next { HasFront H.hash (texts entries.now)
+    ensures apart { HasPrefix H.hash (texts entries.now) (held_behind H.hash steps.now result) → ⊥ }
+    ensures next { HasPrefix H.hash (texts entries.now)
         (held_behind H.hash steps.now (result + 1)) }
 {
     let mut low = from;
     let mut high = steps.len();
     while high - low > 1 {
         let middle = low + (high - low) / 2;
-        if has_front::<H>(entries, &held_by::<H>(&steps[..middle])) {
+        if has_prefix::<H>(entries, &held_by::<H>(&steps[..middle])) {
             high = middle;
         } else {
             low = middle;
@@ -67,10 +67,10 @@ fn at_advance<H: TreeHash>(
 ) -> Result<Finding, Memory>
     requires allowed { AreSteps H.hash steps.now }
     requires within { place < length steps.now }
-    requires apart { HasFront H.hash (texts entries.now) (held_behind H.hash steps.now place) → ⊥ }
-    requires next { HasFront H.hash (texts entries.now)
+    requires apart { HasPrefix H.hash (texts entries.now) (held_behind H.hash steps.now place) → ⊥ }
+    requires next { HasPrefix H.hash (texts entries.now)
         (held_behind H.hash steps.now (place + 1)) }
-    ensures { IfOk result (Shows H.hash (front_inputs H.hash (texts entries.now) steps.now)
+    ensures { IfOk result (Shows H.hash (prefix_inputs H.hash (texts entries.now) steps.now)
         (proof_inputs H.hash steps.now)) }
 {
     let before = held_by::<H>(&steps[..place]);
@@ -100,9 +100,9 @@ fn at_sign<H: TreeHash>(
     requires within { place < length steps.now }
     requires step { step.now ≡ slice_index_or steps.now place step.now }
     requires sign { IsSign step.now }
-    requires front { HasFront H.hash (texts entries.now) (held_behind H.hash steps.now place) }
+    requires prefix { HasPrefix H.hash (texts entries.now) (held_behind H.hash steps.now place) }
     ensures { IfOk result (Extracts H.hash (IsOfList H.hash (texts entries.now) step.now)
-        (front_inputs H.hash (texts entries.now) steps.now) (proof_inputs H.hash steps.now)) }
+        (prefix_inputs H.hash (texts entries.now) steps.now) (proof_inputs H.hash steps.now)) }
 {
     let held = held_by::<H>(&steps[..place]);
     match step {
@@ -137,15 +137,15 @@ pub(crate) fn find_signed<H: TreeHash>(
     requires within { place < length steps.now }
     requires step { step.now ≡ slice_index_or steps.now place step.now }
     requires sign { IsSign step.now }
-    requires whole { HasFront H.hash (texts entries.now)
+    requires whole { HasPrefix H.hash (texts entries.now)
         (held_behind H.hash steps.now (length steps.now)) }
     ensures { IfOk result (Extracts H.hash (IsOfList H.hash (texts entries.now) step.now)
-        (front_inputs H.hash (texts entries.now) steps.now) (proof_inputs H.hash steps.now)) }
+        (prefix_inputs H.hash (texts entries.now) steps.now) (proof_inputs H.hash steps.now)) }
 {
     if is_of_list::<H>(entries, step) {
         return Ok(Finding::Same);
     }
-    if has_front::<H>(entries, &held_by::<H>(&steps[..place])) {
+    if has_prefix::<H>(entries, &held_by::<H>(&steps[..place])) {
         return at_sign::<H>(alloc, entries, steps, place, step);
     }
     let last = parting::<H>(entries, steps, place);
@@ -167,10 +167,10 @@ pub fn walk<H: TreeHash>(
     requires allowed { AreSteps H.hash kept.now.steps }
     requires within { sign < length kept.now.steps }
     requires sign { (step : Step) → slice_get kept.now.steps sign ≡ Some step → IsSign step }
-    requires whole { HasFront H.hash items.now.entries (held_by H.hash kept.now.steps) }
+    requires whole { HasPrefix H.hash items.now.entries (held_by H.hash kept.now.steps) }
     ensures { (step : Step) → slice_get kept.now.steps sign ≡ Some step → IfOk result
         (Extracts H.hash (IsOfList H.hash items.now.entries step)
-        (front_inputs H.hash items.now.entries kept.now.steps)
+        (prefix_inputs H.hash items.now.entries kept.now.steps)
         (proof_inputs H.hash kept.now.steps)) }
 {
     let steps = kept.steps.as_slice();

@@ -6,7 +6,7 @@ ghost use Rattle.world_core.specs.Audit.{IsForeign, foreign_in, hash_there, of_c
 ghost use Rattle.world_core.specs.Audit.{wanted_hash};
 
 use crate::answer::Audit;
-use crate::front::held_by;
+use crate::prefix::held_by;
 use collide::list_hash;
 use cosigner_core::{Checkpoint, Export};
 use policy_core::{Accepted, By};

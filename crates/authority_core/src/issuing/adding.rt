@@ -7,7 +7,7 @@ ghost use Rattle.issuance_log.specs.declared.error.LogError.TheVariants.{Memory 
 ghost use Rattle.issuance_log.specs.Refusals.{add_refusal};
 ghost use Rattle.issuance_log.specs.Shown.{shown_with};
 ghost use Rattle.issuance_log.specs.Words.{log_end, log_broken, log_records, log_tiles_disk};
-ghost use Rattle.issuance_log.specs.Words.{told_state, view_of, LogAppends};
+ghost use Rattle.issuance_log.specs.Words.{modelled_state, view_of, LogAppends};
 ghost use Rattle.authority_core.specs.Acceptance.{IsOwnEntry};
 ghost use Rattle.authority_core.specs.Issues.{KeepsToOrMemory, issued_entry, issued_log};
 ghost use Rattle.authority_core.specs.Issues.{issued_record, of_log};
@@ -38,7 +38,7 @@ pub fn issue<H: TreeHash, D: Disk, T: Disk>(
         (of_log result) }
     ensures tiles { log_tiles_disk log.new ≡ log_tiles_disk log.old }
     ensures index { IfOk result (λ index. index ≡ (view_of log.old).size) }
-    ensures own { IfOk result (λ index. IfSome (told_state log.new) (λ s.
+    ensures own { IfOk result (λ index. IfSome (modelled_state log.new) (λ s.
         IsOwnEntry s.settings.id (slice_index_or s.entries index []))) }
     ensures answer { KeepsToOrMemory
         (add_refusal (view_of log.old) (log_broken log.old) (log_end log.old)
@@ -52,7 +52,7 @@ pub fn issue<H: TreeHash, D: Disk, T: Disk>(
         ≡ Ok (issued_log H.hash (view_of log.old).settings request.now
         (shown_with (view_of log.old) list))) }
 {
-    log.sound();
+    log.law_sound();
     let settings = log.settings();
     let entry = entry_of_request::<H>(alloc, &settings.id, request)?;
     let index = log.add(entry.as_slice(), request.key.as_slice())?;

@@ -2,7 +2,7 @@
 
 ghost use Rattle.std.specs.Prelude.{◌≡◌, ◌+◌, ◌<◌, ◌≤◌, true, false, List, [], ◌∷◌, ◌++◌, length};
 ghost use Rattle.std.specs.Prelude.{Some, Ok};
-ghost use Rattle.byte_forms.specs.Types.{HashFunction, Text};
+ghost use Rattle.byte_formats.specs.Types.{HashFunction, Text};
 ghost use Rattle.tls_wire.specs.Arcs.{IsAnchorId};
 ghost use Rattle.tls_wire.specs.Anchors.{text_of};
 ghost use Rattle.cert_names.specs.LogNames.{log_in};
@@ -19,7 +19,7 @@ ghost use Rattle.authority_core.specs.Requests.{CanBeIssued, RequestParts};
 /// The entry of a request is read as its fields; its issuer names the log, its names are those of
 /// the request in their order, it has no critical extension that is unknown, and the key of the
 /// request belongs to it. So stores that are set up for the log accept its certificates.
-pub fn entries_say_what_was_asked()
+pub fn law_entries_say_what_was_asked()
     ensures read { (h : HashFunction) (id : Text) (r : RequestParts)
         → ((bytes : Text) → length (h bytes) ≡ 32) → IsAnchorId id → CanBeIssued r
         → entry_in (entry_for h id r) ≡ Ok (Some (tbs_for h id r)) }
@@ -40,7 +40,7 @@ pub fn entries_say_what_was_asked()
 /// The record of what is issued keeps to the rules of a log's journal. Behind records that make a
 /// log which has room, it makes that log with the entry and its key, where these are within the
 /// limit for both together.
-pub fn issued_entries_keep_to_the_rules()
+pub fn law_issued_entries_keep_to_the_rules()
     ensures { (h : HashFunction) (list : List Text) (s : LogState) (r : RequestParts)
         → ((bytes : Text) → length (h bytes) ≡ 32) → IsAnchorId s.settings.id → CanBeIssued r
         → log_of h list ≡ Ok s → length s.entries < s.settings.limit

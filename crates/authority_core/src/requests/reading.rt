@@ -1,7 +1,7 @@
 //! Reading a request file.
 
 ghost use Rattle.std.specs.Prelude.{IfOk};
-ghost use Rattle.byte_forms.specs.Readings.{Answers};
+ghost use Rattle.byte_formats.specs.Readings.{Answers};
 ghost use Rattle.toml.specs.View.{table_view};
 ghost use Rattle.authority_core.specs.Files.{request_in, request_of};
 ghost use Rattle.authority_core.specs.Requests.{CanBeIssued};

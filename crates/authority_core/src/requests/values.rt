@@ -1,7 +1,7 @@
 //! The values of a request's fields.
 
 ghost use Rattle.std.specs.Prelude.{◌≡◌, ◌≤◌, length, codes, IfOk, IfSome};
-ghost use Rattle.byte_forms.specs.Readings.{Answers};
+ghost use Rattle.byte_formats.specs.Readings.{Answers};
 ghost use Rattle.cert_fields.specs.Grammar.{IsPublicKey};
 ghost use Rattle.cert_time.specs.Calendar.{IsMoment};
 ghost use Rattle.toml.specs.Data.{get_member};

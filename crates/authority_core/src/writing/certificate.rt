@@ -1,7 +1,7 @@
 //! Certificates of the entries of a log, in any subtree of it and with signatures.
 
 ghost use Rattle.std.specs.Prelude.{IfSome, IfOk};
-ghost use Rattle.issuance_log.specs.Words.{LogStays, log_disk, log_tiles_disk, told_by_both};
+ghost use Rattle.issuance_log.specs.Words.{LogStays, log_disk, log_tiles_disk, modelled_by_both};
 ghost use Rattle.issuance_log.specs.Words.{view_of};
 ghost use Rattle.mtc_proof.specs.Proofs.{AreSignatures};
 ghost use Rattle.authority_core.specs.Acceptance.{StoresAccept};
@@ -42,9 +42,9 @@ pub fn cert<H: TreeHash, D: Disk, T: Disk>(
     requires { AreSignatures signatures.now }
     ensures answer { KeepsToRefusal
         (cert_refusal (view_of log.old) index start end signatures.now) result }
-    ensures written { IfOk result (λ bytes. IfSome (told_by_both log.old)
+    ensures written { IfOk result (λ bytes. IfSome (modelled_by_both log.old)
         (λ s. IsWritten H.hash s index start end signatures.now bytes)) }
-    ensures accepted { IfOk result (λ bytes. IfSome (told_by_both log.old)
+    ensures accepted { IfOk result (λ bytes. IfSome (modelled_by_both log.old)
         (λ s. StoresAccept H.hash s index start end signatures.now bytes)) }
     ensures stays { LogStays log.old log.new }
     ensures journal { JournalCounts (D.faults (log_disk log.old)) (D.faults (log_disk log.new))

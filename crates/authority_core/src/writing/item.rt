@@ -3,7 +3,7 @@
 ghost use Rattle.std.specs.Prelude.{◌≡◌, ◌^◌, ◌<◌, ◌≤◌, length, true, IfSome, IfOk, IfErr};
 ghost use Rattle.cert_fields.specs.Given.{given};
 ghost use Rattle.issuance_log.specs.Records.{IsShort};
-ghost use Rattle.issuance_log.specs.Words.{LogStays, log_disk, log_tiles_disk, told_by_both};
+ghost use Rattle.issuance_log.specs.Words.{LogStays, log_disk, log_tiles_disk, modelled_by_both};
 ghost use Rattle.issuance_log.specs.Words.{view_of};
 ghost use Rattle.log_entry.specs.Views.{tbs_parts};
 ghost use Rattle.mtc_proof.specs.Proofs.{AreSignatures};
@@ -89,9 +89,9 @@ pub fn written<H: TreeHash, D: Disk, T: Disk>(
     requires within { end ≤ (view_of log.old).size }
     requires signed { AreSignatures signatures.now }
     requires short { length signatures.now < 2 ^ 16 }
-    ensures written { IfOk result (λ bytes. IfSome (told_by_both log.old)
+    ensures written { IfOk result (λ bytes. IfSome (modelled_by_both log.old)
         (λ s. IsWritten H.hash s index start end signatures.now bytes)) }
-    ensures accepted { IfOk result (λ bytes. IfSome (told_by_both log.old)
+    ensures accepted { IfOk result (λ bytes. IfSome (modelled_by_both log.old)
         (λ s. StoresAccept H.hash s index start end signatures.now bytes)) }
     ensures why { IfErr result IsOfDisks }
     ensures stays { LogStays log.old log.new }
@@ -100,7 +100,7 @@ pub fn written<H: TreeHash, D: Disk, T: Disk>(
     ensures tiles { TilesCounts (T.faults (log_tiles_disk log.old))
         (T.faults (log_tiles_disk log.new)) result }
 {
-    log.sound();
+    log.law_sound();
     let proof = proof_of(alloc, log, index, start, end, signatures)?;
     let mut entry = Bytes::new(alloc);
     let mut key = Bytes::new(alloc);

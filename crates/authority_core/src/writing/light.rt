@@ -1,7 +1,7 @@
 //! Certificates of the entries of a log by its landmarks, without signatures.
 
 ghost use Rattle.std.specs.Prelude.{◌≡◌, IfOk, IfSome};
-ghost use Rattle.issuance_log.specs.Words.{LogStays, log_disk, log_tiles_disk, told_by_both};
+ghost use Rattle.issuance_log.specs.Words.{LogStays, log_disk, log_tiles_disk, modelled_by_both};
 ghost use Rattle.issuance_log.specs.Words.{view_of};
 ghost use Rattle.authority_core.specs.Acceptance.{StoresAcceptLightly};
 ghost use Rattle.authority_core.specs.Certificates.{covering_in, HoldsEntry, IsLightlyWritten};
@@ -27,7 +27,7 @@ fn covering_subtree<H: TreeHash, D: Disk, T: Disk>(
     ensures holds { IfOk result (λ span. IfSome span
         (HoldsEntry (view_of log.now).size index)) }
 {
-    log.sound();
+    log.law_sound();
     let landmarks = of_marks(alloc, log.marks(), log.settings().max_active)?;
     Ok(covering(&landmarks, index))
 }
@@ -50,9 +50,9 @@ pub fn light_cert<H: TreeHash, D: Disk, T: Disk>(
     index: u64,
 ) -> Result<Bytes, WriteError>
     ensures answer { KeepsToLightRefusal (light_refusal (view_of log.old) index) result }
-    ensures written { IfOk result (λ bytes. IfSome (told_by_both log.old)
+    ensures written { IfOk result (λ bytes. IfSome (modelled_by_both log.old)
         (λ s. IsLightlyWritten H.hash s index bytes)) }
-    ensures accepted { IfOk result (λ bytes. IfSome (told_by_both log.old)
+    ensures accepted { IfOk result (λ bytes. IfSome (modelled_by_both log.old)
         (λ s. StoresAcceptLightly H.hash s index bytes)) }
     ensures stays { LogStays log.old log.new }
     ensures journal { JournalCounts (D.faults (log_disk log.old)) (D.faults (log_disk log.new))
@@ -66,7 +66,7 @@ pub fn light_cert<H: TreeHash, D: Disk, T: Disk>(
     if index == 0 {
         return Err(WriteError::NullEntry);
     }
-    log.sound();
+    log.law_sound();
     match covering_subtree(alloc, log, index)? {
         Some(span) => written(alloc, log, index, span.start, span.end, &[]),
         None => Err(WriteError::NotCovered),

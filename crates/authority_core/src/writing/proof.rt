@@ -1,8 +1,8 @@
 //! The proof of a certificate.
 
 ghost use Rattle.std.specs.Prelude.{◌≡◌, ◌⊎◌, ◌^◌, ◌<◌, ◌≤◌, length, true, IfSome, IfOk, IfErr};
-ghost use Rattle.tls_wire.specs.Spelling.{AreHashes};
-ghost use Rattle.issuance_log.specs.Words.{LogAsksTiles, log_tiles_disk, told_by_both, view_of};
+ghost use Rattle.tls_wire.specs.Encoding.{AreHashes};
+ghost use Rattle.issuance_log.specs.Words.{LogAsksTiles, log_tiles_disk, modelled_by_both, view_of};
 ghost use Rattle.mtc_proof.specs.Proofs.{AreSignatures, IsProof, proof_text};
 ghost use Rattle.tree_core.specs.Subtree.{is_subtree};
 ghost use Rattle.authority_core.specs.Certificates.{proof_for, TilesCounts};
@@ -18,7 +18,7 @@ use tree_proofs::{Path, include};
 
 // The type of a path makes its hashes as long as hashes are: the clause says it, and the call does
 // nothing.
-fn are_hashes(path: &[[u8; 32]])
+fn law_are_hashes(path: &[[u8; 32]])
     requires { length path.now ≤ 128 }
     ensures { AreHashes path.now }
 {
@@ -41,9 +41,9 @@ pub fn proof_of<H: TreeHash, D: Disk, T: Disk>(
     requires within { end ≤ (view_of log.old).size }
     requires signed { AreSignatures signatures.now }
     requires short { length signatures.now < 2 ^ 16 }
-    ensures proof { IfOk result (λ bytes. IfSome (told_by_both log.old) (λ s. bytes
+    ensures proof { IfOk result (λ bytes. IfSome (modelled_by_both log.old) (λ s. bytes
         ≡ proof_text (proof_for H.hash s index start end signatures.now))) }
-    ensures fits { IfOk result (λ _. IfSome (told_by_both log.old) (λ s.
+    ensures fits { IfOk result (λ _. IfSome (modelled_by_both log.old) (λ s.
         IsProof (proof_for H.hash s index start end signatures.now))) }
     ensures few { IfOk result (λ bytes. length bytes ≤ 200000) }
     ensures why { IfErr result
@@ -55,7 +55,7 @@ pub fn proof_of<H: TreeHash, D: Disk, T: Disk>(
     let mut path = Path::new();
     match include(log, index, start, end, &mut path) {
         Ok(()) => {
-            are_hashes(path.as_slice());
+            law_are_hashes(path.as_slice());
             Ok(write_proof(alloc, start, end, &path, signatures)?)
         }
         Err(Failed) => Err(WriteError::TilesFailed),

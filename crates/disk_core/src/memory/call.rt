@@ -22,6 +22,6 @@ pub struct Made {
 /// and this one.
 #[derive(Debug, Drop)]
 pub struct Change {
-    pub looks: u64,
+    pub only_reads: u64,
     pub made: Made,
 }

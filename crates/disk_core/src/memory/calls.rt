@@ -13,10 +13,10 @@ use std::alloc::Global;
 pub(crate) struct Calls {
     pub(crate) changes: Vec<Change>,
     // How many calls that only look came behind the last change.
-    pub(crate) looks: u64,
+    pub(crate) only_reads: u64,
     // How many calls there were.
     pub(crate) made: u64,
-    ghost counted: { made ≡ length (calls_in changes.items looks) },
+    ghost counted: { made ≡ length (calls_in changes.items only_reads) },
     ghost kept: { IsTrue (are_changes changes.items) },
 }
 
@@ -36,14 +36,14 @@ impl Calls {
     ghost use Rattle.mtc_io.specs.Counts.{last_count};
     ghost use Rattle.disk_core.specs.Fuse.{is_change};
     ghost use Rattle.disk_core.specs.Replay.{noted};
-    ghost use Rattle.disk_core.specs.Noted.{made_calls, HasRoom};
+    ghost use Rattle.disk_core.specs.Noted.{made_calls, HasCapacity};
 
     pub(crate) fn new(alloc: Global) -> Calls
         ensures { made_calls result ≡ [] }
     {
         Calls {
             changes: Vec::new(alloc),
-            looks: 0,
+            only_reads: 0,
             made: 0,
         }
     }
@@ -61,7 +61,7 @@ impl Calls {
     {
         Ok(Calls {
             changes: copies(alloc, &self.changes)?,
-            looks: self.looks,
+            only_reads: self.only_reads,
             made: self.made,
         })
     }
@@ -76,7 +76,7 @@ impl Calls {
         if self.made == u64::MAX {
             return Err(Memory);
         }
-        self.looks += 1;
+        self.only_reads += 1;
         self.made += 1;
         Ok(())
     }
@@ -84,7 +84,7 @@ impl Calls {
     // Makes room for one change more, and sees that a number is left for it.
     pub(crate) fn reserve(&mut self) -> Result<(), Memory>
         ensures calls { made_calls self.new ≡ made_calls self.old }
-        ensures room { OnOk result (HasRoom self.new) }
+        ensures capacity { OnOk result (HasCapacity self.new) }
     {
         if self.made == u64::MAX {
             return Err(Memory);
@@ -96,15 +96,15 @@ impl Calls {
     // A change, where there is room.
     #[tactic(auto, using(crate::proofs::Calls::change_more))]
     pub(crate) fn push(&mut self, call: Call, ok: bool)
-        requires room { HasRoom self.old }
+        requires capacity { HasCapacity self.old }
         requires change { IsTrue (is_change call) }
         ensures { made_calls self.new
             ≡ made_calls self.old ++ record { call = call; ok = ok } ∷ [] }
     {
-        let looks = self.looks;
+        let only_reads = self.only_reads;
         let made = Made { call, ok };
-        put(&mut self.changes, Change { looks, made });
-        self.looks = 0;
+        put(&mut self.changes, Change { only_reads, made });
+        self.only_reads = 0;
         self.made += 1;
     }
 

@@ -32,8 +32,8 @@ pub(crate) fn copies(alloc: Global, changes: &[Change]) -> Result<Vec<Change>, M
             call: copy_of(alloc, &change.made.call)?,
             ok: change.made.ok,
         };
-        let looks = change.looks;
-        kept.push(Change { looks, made })?;
+        let only_reads = change.only_reads;
+        kept.push(Change { only_reads, made })?;
     }
     Ok(kept)
 }

@@ -7,7 +7,7 @@ ghost use Rattle.disk_core.specs.Disk.{Torn};
 ghost use Rattle.disk_core.specs.Replay.{State, step, state_now, IsImage};
 
 use crate::memory::call::{Call, Change, Made};
-use crate::memory::history::{known_bytes, overwrite};
+use crate::memory::history::{law_known_bytes, overwrite};
 use mtc_io::Memory;
 use std::alloc::{AllocError, Global};
 
@@ -17,44 +17,44 @@ use std::alloc::{AllocError, Global};
 fn tear(image: &mut Vec<u8>, place: u64, piece: &[u8], choice: u64) -> Result<(), Memory>
     ensures { OnOk result (Torn place piece.now image.old.items image.new.items) }
 {
-    let front = piece.len() / 4 * (choice / 4 % 4) as usize;
+    let prefix = piece.len() / 4 * (choice / 4 % 4) as usize;
     match choice % 4 {
         0 => Ok(()),
         1 => overwrite(image, place, piece),
-        2 => put_front(image, place, piece, front),
-        _ => spoil(image, place, piece, front),
+        2 => put_prefix(image, place, piece, prefix),
+        _ => spoil(image, place, piece, prefix),
     }
 }
 
 // The front of the piece alone: where it reaches past the end, the file is cut short behind it.
-fn put_front(image: &mut Vec<u8>, place: u64, piece: &[u8], front: usize) -> Result<(), Memory>
-    requires { front ≤ length piece.now }
+fn put_prefix(image: &mut Vec<u8>, place: u64, piece: &[u8], prefix: usize) -> Result<(), Memory>
+    requires { prefix ≤ length piece.now }
     ensures { OnOk result (Torn place piece.now image.old.items image.new.items) }
 {
-    overwrite(image, place, &piece[..front])?;
+    overwrite(image, place, &piece[..prefix])?;
     Ok(())
 }
 
 // The front of the piece and other bytes behind it, also past the end of the file where the piece
 // reaches it. A byte that is written as it was stays.
-fn spoil(image: &mut Vec<u8>, place: u64, piece: &[u8], front: usize) -> Result<(), Memory>
-    requires { front ≤ length piece.now }
+fn spoil(image: &mut Vec<u8>, place: u64, piece: &[u8], prefix: usize) -> Result<(), Memory>
+    requires { prefix ≤ length piece.now }
     ensures { OnOk result (Torn place piece.now image.old.items image.new.items) }
 {
     let reaches = image.len() <= piece.len() || place as usize >= image.len() - piece.len();
-    put_spoilt(image, place, piece, front)?;
+    put_spoilt(image, place, piece, prefix)?;
     if reaches {
-        image.extend_from_slice(&piece[..front])?;
+        image.extend_from_slice(&piece[..prefix])?;
     }
     Ok(())
 }
 
 // The piece with other bytes behind its front, over what is there.
-fn put_spoilt(image: &mut Vec<u8>, place: u64, piece: &[u8], front: usize) -> Result<(), Memory>
+fn put_spoilt(image: &mut Vec<u8>, place: u64, piece: &[u8], prefix: usize) -> Result<(), Memory>
     ensures { OnOk result (Torn place piece.now image.old.items image.new.items) }
 {
     let start = image.len().min(place as usize);
-    let bytes = spoilt(*image.allocator(), &image[start..], piece, front)?;
+    let bytes = spoilt(*image.allocator(), &image[start..], piece, prefix)?;
     overwrite(image, place, &bytes)?;
     Ok(())
 }
@@ -68,14 +68,14 @@ fn has_at(bytes: &[u8], index: usize, byte: u8) -> bool
 }
 
 // The piece with each byte from an index on turned into another, but where it is there already.
-fn spoilt(alloc: Global, there: &[u8], piece: &[u8], front: usize) -> Result<Vec<u8>, AllocError>
+fn spoilt(alloc: Global, there: &[u8], piece: &[u8], prefix: usize) -> Result<Vec<u8>, AllocError>
     ensures size { IfOk result (λ v. length v.items ≡ length piece.now) }
     ensures same { IfOk result (λ v. (k : ℕ) → k < length piece.now → k < length there.now
         → slice_index piece.now k ≡ slice_index there.now k
         → slice_index v.items k ≡ slice_index there.now k) }
 {
     let mut bytes = Vec::from_slice(alloc, piece)?;
-    for index in front..piece.len() {
+    for index in prefix..piece.len() {
         if !has_at(there, index, piece[index]) {
             bytes[index] = 255 - piece[index];
         }
@@ -93,7 +93,7 @@ fn replay(seen: &mut Vec<u8>, image: &mut Vec<u8>, made: &Made, choice: u64) -> 
         Call::Read { .. } => Ok(()),
         Call::Write { place, piece } => {
             tear(image, *place, piece.as_slice(), choice)?;
-            known_bytes(image);
+            law_known_bytes(image);
             if made.ok {
                 overwrite(seen, *place, piece.as_slice())?;
             }
@@ -115,8 +115,8 @@ pub(crate) fn left(
     changes: &[Change],
     pick: u64,
 ) -> Result<Vec<u8>, Memory>
-    ensures { IfOk result (λ image. (looks : ℕ)
-        → IsImage (state_now first.now (calls_in changes.now looks)) image.items) }
+    ensures { IfOk result (λ image. (only_reads : ℕ)
+        → IsImage (state_now first.now (calls_in changes.now only_reads)) image.items) }
 {
     let mut seen = Vec::from_slice(alloc, first)?;
     let mut image = Vec::from_slice(alloc, first)?;

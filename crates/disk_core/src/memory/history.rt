@@ -3,8 +3,8 @@
 ghost use Rattle.std.specs.Prelude.{◌≡◌, ◌+◌, ◌<◌, [], length, true, false, if◌then◌else◌, is_ok};
 ghost use Rattle.std.specs.Prelude.{IfOk, OnOk, OnErr, IsTrue};
 ghost use Rattle.std.proofs.Props.{props};
-ghost use Rattle.byte_forms.specs.Types.{Text};
-ghost use Rattle.byte_forms.specs.Places.{IsBytes};
+ghost use Rattle.byte_formats.specs.Types.{Text};
+ghost use Rattle.byte_formats.specs.Places.{IsBytes};
 ghost use Rattle.disk_core.specs.Disk.{overwritten, Torn, Follows, NoNew, Only, Elapses};
 ghost use Rattle.mtc_io.specs.Counts.{last_count};
 ghost use Rattle.disk_core.specs.Fuse.{is_change};
@@ -86,7 +86,7 @@ fn write_noted(
 }
 
 // Each item of a slice of bytes is one.
-pub(crate) fn known_bytes(bytes: &[u8])
+pub(crate) fn law_known_bytes(bytes: &[u8])
     ensures { IsBytes bytes.now }
 {
     let _ = bytes;
@@ -99,7 +99,7 @@ impl History {
         ensures first { result.first ≡ first }
         ensures calls { made_calls result.calls ≡ [] }
     {
-        known_bytes(first.as_slice());
+        law_known_bytes(first.as_slice());
         History {
             first,
             live: Vec::new(alloc),

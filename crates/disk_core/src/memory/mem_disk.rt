@@ -8,7 +8,8 @@ ghost use Rattle.disk_core.specs.History.{seen_of, left_of, moment_of, since_of}
 ghost use Rattle.disk_core.specs.Calls.{are_changes};
 ghost use Rattle.disk_core.specs.Noted.{made_calls};
 ghost use Rattle.disk_core.specs.Plan.{LookTurn, NotedTurn, PlanTurn};
-ghost use Rattle.disk_core.specs.ReplayLaws.{told_seen, told_are, told_length, now_since};
+ghost use Rattle.disk_core.specs.ReplayLaws.{contents_seen, contents_are, contents_length};
+ghost use Rattle.disk_core.specs.ReplayLaws.{now_since};
 ghost use Rattle.disk_core.specs.ReplayLaws.{since_now, since_bytes};
 
 use crate::disk::Disk;
@@ -222,7 +223,7 @@ impl MemDisk {
 }
 
 impl Disk for MemDisk {
-    ghost told = { λ m. Some (seen_of m.past) };
+    ghost contents = { λ m. Some (seen_of m.past) };
 
     ghost known = { λ m. m.known };
 
@@ -261,13 +262,13 @@ impl Disk for MemDisk {
         settle(&mut self.plan, &mut self.past)
     }
 
-    ghost reads_image = { λ m b is. told_seen m.past.first (made_calls m.past.calls) b
+    ghost reads_image = { λ m b is. contents_seen m.past.first (made_calls m.past.calls) b
         m.past.are_bytes is };
 
-    ghost told_bytes = { λ m b is. told_are m.past.first (made_calls m.past.calls) b
+    ghost contents_bytes = { λ m b is. contents_are m.past.first (made_calls m.past.calls) b
         m.past.are_bytes is };
 
-    ghost known_there = { λ m b is. told_length m.known (seen_of m.past) b m.there is };
+    ghost known_there = { λ m b is. contents_length m.known (seen_of m.past) b m.there is };
 
     ghost counts_now = { λ m t c le is. now_since m.past.first (made_calls m.past.calls) t c
         le is };

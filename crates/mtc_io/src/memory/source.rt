@@ -80,14 +80,14 @@ impl Source for MemSource {
             self.faults = self.faults.saturating_add(1);
             return Err(Failed);
         }
-        let count = copy_front(&self.bytes.as_slice()[self.place..], into);
+        let count = copy_prefix(&self.bytes.as_slice()[self.place..], into);
         self.place += count;
         Ok(count)
     }
 }
 
 // Copies as much as there is and as fits into the front of `into`, and answers how much.
-fn copy_front(from: &[u8], into: &mut [u8]) -> usize
+fn copy_prefix(from: &[u8], into: &mut [u8]) -> usize
     ensures count { result ≡ min (length from.now) (length into.old) }
     ensures bytes { take result into.new ≡ take result from.now }
 {

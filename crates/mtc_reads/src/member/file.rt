@@ -1,6 +1,6 @@
 //! The file of `member`.
 
-ghost use Rattle.byte_forms.specs.Readings.{Gives};
+ghost use Rattle.byte_formats.specs.Readings.{Gives};
 ghost use Rattle.mtc_reads.specs.Member.{member_file, member_view};
 
 use tls_wire::{Cursor, HashesError};

@@ -1,6 +1,6 @@
 use Rattle.std.proofs.Common.{sym, ◌∙◌}
 use Rattle.std.proofs.lemmas.Result.{err_from_is_err_and}
-use Rattle.byte_forms.proofs.Loops.{walks_from, walks_more, walks_fails, walks_end}
+use Rattle.byte_formats.proofs.Loops.{walks_from, walks_more, walks_fails, walks_end}
 use Rattle.cert_fields.specs.AltNames.{general_name_at}
 use Rattle.cert_fields.proofs.alt_names.general_name_list.Goals as goal
 

@@ -1,4 +1,4 @@
-use Rattle.byte_forms.specs.Forms.{Anything, itself}
+use Rattle.byte_formats.specs.Forms.{Anything, itself}
 use Rattle.cert_fields.specs.Keys.{algorithm_at}
 use Rattle.cert_fields.specs.Grammar.{IsAlgorithm}
 use Rattle.cert_fields.proofs.FieldForms.{algorithm_form}

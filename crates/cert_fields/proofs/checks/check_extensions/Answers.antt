@@ -1,4 +1,4 @@
-use Rattle.byte_forms.specs.Forms.{Anything, OtherThan, itself}
+use Rattle.byte_formats.specs.Forms.{Anything, OtherThan, itself}
 use Rattle.cert_fields.specs.Extensions.{extensions_at}
 use Rattle.cert_fields.proofs.ExtensionForms.{IsExtensions, extensions_form}
 use Rattle.cert_fields.proofs.Offsets.{read_within}

@@ -1,4 +1,4 @@
-use Rattle.byte_forms.specs.Forms.{Anything, itself}
+use Rattle.byte_formats.specs.Forms.{Anything, itself}
 use Rattle.cert_fields.specs.Names.{name_at}
 use Rattle.cert_fields.specs.Grammar.{IsName}
 use Rattle.cert_fields.proofs.FieldForms.{name_form}

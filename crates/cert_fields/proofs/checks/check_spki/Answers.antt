@@ -1,4 +1,4 @@
-use Rattle.byte_forms.specs.Forms.{Anything, itself}
+use Rattle.byte_formats.specs.Forms.{Anything, itself}
 use Rattle.cert_fields.specs.Keys.{spki_at}
 use Rattle.cert_fields.specs.Grammar.{IsPublicKey}
 use Rattle.cert_fields.proofs.FieldForms.{spki_form}

@@ -1,4 +1,4 @@
-use Rattle.byte_forms.specs.Forms.{Anything}
+use Rattle.byte_formats.specs.Forms.{Anything}
 use Rattle.cert_time.specs.Periods.{period}
 use Rattle.cert_fields.specs.Times.{validity_at}
 use Rattle.cert_fields.specs.Grammar.{IsValidity}

@@ -1,4 +1,4 @@
-use Rattle.byte_forms.specs.Forms.{Anything}
+use Rattle.byte_formats.specs.Forms.{Anything}
 use Rattle.cert_fields.specs.Certificate.{version_at}
 use Rattle.cert_fields.proofs.CertificateForm.{NoValue, version_text, version_form}
 use Rattle.cert_fields.proofs.Offsets.{read_within}

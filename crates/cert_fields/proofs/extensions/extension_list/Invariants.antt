@@ -1,5 +1,5 @@
 use Rattle.std.proofs.Common.{length}
-use Rattle.byte_forms.specs.Readings.{discarded}
+use Rattle.byte_formats.specs.Readings.{discarded}
 use Rattle.cert_fields.specs.Extensions.{extension_list_at}
 use Rattle.cert_fields.proofs.Many.{Reaches}
 use Rattle.cert_fields.proofs.extensions.extension_list.Given as goal

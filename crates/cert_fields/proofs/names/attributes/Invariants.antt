@@ -1,7 +1,7 @@
 use Rattle.std.proofs.Common.{length}
-use Rattle.byte_forms.specs.Readings.{discarded}
-use Rattle.byte_forms.specs.Lists.{up_to_end}
-use Rattle.byte_forms.proofs.Loops.{Walks}
+use Rattle.byte_formats.specs.Readings.{discarded}
+use Rattle.byte_formats.specs.Lists.{up_to_end}
+use Rattle.byte_formats.proofs.Loops.{Walks}
 use Rattle.cert_fields.specs.Names.{attribute_at}
 use Rattle.cert_fields.proofs.names.attributes.Given as goal
 

@@ -2,7 +2,8 @@ use Rattle.std.proofs.Common.{ap, sym, ◌∙◌, ◌-◌, take}
 use Rattle.cert_fields.specs.Extensions.{are_repeated, identifiers}
 use Rattle.cert_fields.specs.Views.{texts}
 use Rattle.cert_fields.proofs.Walks.{taken_of, identifiers_none}
-use Rattle.cert_fields.proofs.Twice.{repeated_front, repeated_across, repeated_behind, among_front}
+use Rattle.cert_fields.proofs.Twice.{repeated_prefix, repeated_across, repeated_behind}
+use Rattle.cert_fields.proofs.Twice.{among_prefix}
 use Rattle.cert_fields.proofs.repeats.has_repeats_by.Goals.{then-sort_block-via-then-sort_block}
 use Rattle.cert_fields.proofs.repeats.has_repeats_by.Goals.{then-sort_block-via-else-sort_block+then-is_met}
 use Rattle.cert_fields.proofs.repeats.has_repeats_by.Goals as goal
@@ -18,10 +19,10 @@ returns-then-sort_block c =
     let total = sym c.loop-left.invariant ∙ ap are_repeated split in
     elim c.then-sort_block.branch [
       | then-sort_block-via-then-sort_block w ↦
-          sym (total ∙ repeated_front (texts (take taken block)) ids
+          sym (total ∙ repeated_prefix (texts (take taken block)) ids
           (sym c.sort_block.ensures.repeats ∙ w.if-sort_block.true))
       | then-sort_block-via-else-sort_block+then-is_met w ↦
-          let among = among_front block c.sort_block.new.block taken ids
+          let among = among_prefix block c.sort_block.new.block taken ids
           c.take_block-taken.ensures.within.1 c.sort_block.ensures.permutation in
           sym (total ∙ repeated_across (texts (take taken block)) ids (sym among
           ∙ (sym w.is_met.ensures ∙ w.if-is_met.true)))
@@ -35,7 +36,7 @@ loop-left-preserved c =
     let split = taken_of c.loop-left.reader taken (texts (take taken block))
     c.take_block-taken.new.reader c.loop-left.left c.take_block-taken.ensures.within.0
     c.take_block-taken.ensures.read in
-    let among = among_front block c.sort_block.new.block taken ids
+    let among = among_prefix block c.sort_block.new.block taken ids
     c.take_block-taken.ensures.within.1 c.sort_block.ensures.permutation in
     let none = sym c.sort_block.ensures.repeats ∙ c.if-sort_block.false in
     let apart = sym among ∙ (sym c.is_met.ensures ∙ c.if-is_met.false) in

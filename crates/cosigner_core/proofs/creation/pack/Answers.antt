@@ -1,7 +1,7 @@
 use Rattle.std.proofs.Common.{◌≡◌, ◌+◌, List, ℕ, length, ap, ◌∙◌, arith}
 use Rattle.cosigner_core.specs.Records.{cosigner_record}
 use Rattle.cosigner_core.specs.declared.settings.CosignerSettings.{CosignerSettings}
-use Rattle.cosigner_core.proofs.Spelled.{cosigner_created, length-cosigner}
+use Rattle.cosigner_core.proofs.Encoded.{cosigner_created, length-cosigner}
 use Rattle.cosigner_core.proofs.creation.pack.Goals as goal
 
 length_of : (s : CosignerSettings) (secret body : List ℕ) → body ≡ cosigner_record s secret

@@ -1,5 +1,5 @@
 use Rattle.std.proofs.Common.{refl}
-use Rattle.disk_core.proofs.Moments.{looked_on, no_look}
+use Rattle.disk_core.proofs.Moments.{only_read_on, nothing_read}
 use Rattle.journal_core.specs.Openings.{opening_disk}
 use Rattle.cosigner_core.specs.Openings.{CosignerCountsNoOther, HasCosignerCause}
 use Rattle.cosigner_core.proofs.Readings.{cause_behind, counts_behind, of_error}
@@ -8,7 +8,7 @@ use Rattle.cosigner_core.proofs.opening.read_rest.Goals as goal
 pub records-init : goal.records-init
 records-init g c = record {
   folded = c.requires;
-  looks = no_look g.D.Disk _ (g.met.D.Disk.only_now _);
+  only_reads = nothing_read g.D.Disk _ (g.met.D.Disk.only_now _);
   fine = refl;
 }
 
@@ -19,11 +19,11 @@ returns-in_err-read_next-clause-err g c =
     of_error (HasCosignerCause g.D.Disk g.H.TreeHash.hash old new) c.from_residual.result
     c.in_err-read_next.field-0.0 c.from_residual.ensures.1
     (cause_behind g.D.Disk old (opening_disk c.records.opening) new g.H.TreeHash.hash
-    c.in_err-read_next.field-0.0 c.records.invariant.looks c.in_err-read_next.ensures.err)
+    c.in_err-read_next.field-0.0 c.records.invariant.only_reads c.in_err-read_next.ensures.err)
 
-pub returns-in_err-read_next-clause-looks : goal.returns-in_err-read_next-clause-looks
-returns-in_err-read_next-clause-looks g c =
-    looked_on g.D.Disk _ _ _ c.records.invariant.looks c.read_next.ensures.looks
+pub returns-in_err-read_next-clause-only_reads : goal.returns-in_err-read_next-clause-only_reads
+returns-in_err-read_next-clause-only_reads g c =
+    only_read_on g.D.Disk _ _ _ c.records.invariant.only_reads c.read_next.ensures.only_reads
 
 pub returns-in_err-read_next-clause-fine_err : goal.returns-in_err-read_next-clause-fine_err
 returns-in_err-read_next-clause-fine_err g c =
@@ -34,6 +34,6 @@ returns-in_err-read_next-clause-fine_err g c =
     (counts_behind g.D.Disk old (opening_disk c.records.opening) new
     c.in_err-read_next.field-0.0 c.records.invariant.fine c.in_err-read_next.ensures.fine_err)
 
-pub returns-then-not-branch-clause-looks : goal.returns-then-not-branch-clause-looks
-returns-then-not-branch-clause-looks g c =
-    looked_on g.D.Disk _ _ _ c.records.invariant.looks c.read_next.ensures.looks
+pub returns-then-not-branch-clause-only_reads : goal.returns-then-not-branch-clause-only_reads
+returns-then-not-branch-clause-only_reads g c =
+    only_read_on g.D.Disk _ _ _ c.records.invariant.only_reads c.read_next.ensures.only_reads

@@ -1,5 +1,5 @@
 use Rattle.std.proofs.Common.{subst, sym, ◌∙◌}
-use Rattle.disk_core.proofs.Moments.{looked_on}
+use Rattle.disk_core.proofs.Moments.{only_read_on}
 use Rattle.journal_core.specs.Openings.{opening_disk}
 use Rattle.journal_core.specs.Readings.{HasFound}
 use Rattle.cosigner_core.specs.Folds.{CosignerState, cosigner_fold}
@@ -13,8 +13,8 @@ returns-in_err-contents-clause-err g c =
     (opening_disk c.read_first.new.opening)) c.from_residual.result c.in_err-contents.field-0.0
     c.from_residual.ensures.1 c.in_err-contents.ensures.err
 
-pub returns-in_err-contents-clause-looks : goal.returns-in_err-contents-clause-looks
-returns-in_err-contents-clause-looks g c = c.read_first.ensures.looks
+pub returns-in_err-contents-clause-only_reads : goal.returns-in_err-contents-clause-only_reads
+returns-in_err-contents-clause-only_reads g c = c.read_first.ensures.only_reads
 
 pub returns-in_err-contents-clause-fine_err : goal.returns-in_err-contents-clause-fine_err
 returns-in_err-contents-clause-fine_err g c =
@@ -30,11 +30,11 @@ returns-in_err-read_rest-clause-err g c =
     c.from_residual-in_err-read_rest.result c.in_err-read_rest.field-0.0
     c.from_residual-in_err-read_rest.ensures.1
     (cause_behind g.D.Disk old (opening_disk c.read_first.new.opening) new g.H.TreeHash.hash
-    c.in_err-read_rest.field-0.0 c.read_first.ensures.looks c.in_err-read_rest.ensures.err)
+    c.in_err-read_rest.field-0.0 c.read_first.ensures.only_reads c.in_err-read_rest.ensures.err)
 
-pub returns-in_err-read_rest-clause-looks : goal.returns-in_err-read_rest-clause-looks
-returns-in_err-read_rest-clause-looks g c =
-    looked_on g.D.Disk _ _ _ c.read_first.ensures.looks c.read_rest.ensures.looks
+pub returns-in_err-read_rest-clause-only_reads : goal.returns-in_err-read_rest-clause-only_reads
+returns-in_err-read_rest-clause-only_reads g c =
+    only_read_on g.D.Disk _ _ _ c.read_first.ensures.only_reads c.read_rest.ensures.only_reads
 
 pub returns-in_err-read_rest-clause-fine_err : goal.returns-in_err-read_rest-clause-fine_err
 returns-in_err-read_rest-clause-fine_err g c =
@@ -52,16 +52,16 @@ returns-in-Ok-clause-found g c =
     subst (λ (s : CosignerState). HasFound (cosigner_fold g.H.TreeHash.hash) s
     c.read_rest.new.opening) (sym c.in-Ok.ensures) c.in_ok-read_rest.ensures.found
 
-pub returns-in-Ok-clause-looks : goal.returns-in-Ok-clause-looks
-returns-in-Ok-clause-looks g c =
-    looked_on g.D.Disk _ _ _ c.read_first.ensures.looks c.read_rest.ensures.looks
+pub returns-in-Ok-clause-only_reads : goal.returns-in-Ok-clause-only_reads
+returns-in-Ok-clause-only_reads g c =
+    only_read_on g.D.Disk _ _ _ c.read_first.ensures.only_reads c.read_rest.ensures.only_reads
 
 pub returns-in-Ok-clause-fine : goal.returns-in-Ok-clause-fine
 returns-in-Ok-clause-fine g c = c.in_ok-read_rest.ensures.fine ∙ c.in_ok-contents.ensures.fine
 
-pub returns-in-Err-clause-looks : goal.returns-in-Err-clause-looks
-returns-in-Err-clause-looks g c =
-    looked_on g.D.Disk _ _ _ c.read_first.ensures.looks c.read_rest.ensures.looks
+pub returns-in-Err-clause-only_reads : goal.returns-in-Err-clause-only_reads
+returns-in-Err-clause-only_reads g c =
+    only_read_on g.D.Disk _ _ _ c.read_first.ensures.only_reads c.read_rest.ensures.only_reads
 
 pub returns-in-Err-clause-fine_err : goal.returns-in-Err-clause-fine_err
 returns-in-Err-clause-fine_err g c =

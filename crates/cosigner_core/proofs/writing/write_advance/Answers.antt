@@ -1,6 +1,6 @@
 use Rattle.std.proofs.Common.{◌∙◌, ap, subst}
 use Rattle.std.specs.Int.{w8, w64}
-use Rattle.tls_wire.specs.Spelling.{AreHashes, number, vector}
+use Rattle.tls_wire.specs.Encoding.{AreHashes, number, vector}
 use Rattle.cosigner_core.proofs.Writes.{four_pieces}
 use Rattle.cosigner_core.proofs.Forms.{advance_again}
 use Rattle.cosigner_core.specs.Reading.{advance_in}

@@ -1,5 +1,5 @@
 use Rattle.std.proofs.Common.{◌≡◌, drop}
-use Rattle.byte_forms.specs.Numbers.{value}
+use Rattle.byte_formats.specs.Numbers.{value}
 use Rattle.der_core.proofs.Loops.{carried}
 use Rattle.der_core.proofs.contents.number.Given as goal
 

@@ -1,5 +1,5 @@
 use Rattle.std.proofs.Common.{length}
-use Rattle.byte_forms.specs.Readings.{discarded}
+use Rattle.byte_formats.specs.Readings.{discarded}
 use Rattle.der_core.specs.Items.{item, inside}
 use Rattle.der_core.specs.Sets.{rising_at}
 use Rattle.der_core.proofs.Sets.{Rises}

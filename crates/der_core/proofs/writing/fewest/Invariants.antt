@@ -1,5 +1,5 @@
 use Rattle.std.proofs.Common.{◌≡◌, ◌<◌, ◌≤◌, length, slice_index}
-use Rattle.byte_forms.specs.Numbers.{value}
+use Rattle.byte_formats.specs.Numbers.{value}
 use Rattle.der_core.proofs.writing.fewest.Given as goal
 
 -- The number stays as it was.

@@ -8,8 +8,8 @@ no_shorter : {E : Type 0} (result : Result ℕ E) (old new : ℕ)
 no_shorter (Ok n) old new is = omega arith
 no_shorter (Err e) old new is = omega arith
 
-pub returns-clause-looks : goal.returns-clause-looks
-returns-clause-looks g c =
-    one_look g.D.Disk _ _ c.len.ensures.told c.len.ensures.crash c.len.ensures.time
+pub returns-clause-only_reads : goal.returns-clause-only_reads
+returns-clause-only_reads g c =
+    one_look g.D.Disk _ _ c.len.ensures.contents c.len.ensures.crash c.len.ensures.time
     (no_shorter _ _ _ c.len.ensures.known) c.len.ensures.cause.later
     (g.met.D.Disk.only_now _)

@@ -1,5 +1,5 @@
 use Rattle.std.proofs.Common.{◌≡◌, ◌∙◌, List, Some, sym}
-use Rattle.byte_forms.specs.Types.{Text}
+use Rattle.byte_formats.specs.Types.{Text}
 use Rattle.cosigner_core.specs.Words.{cosigner_disk}
 use Rattle.drill_nodes.specs.Disks.{records_on}
 use Rattle.drill_nodes.proofs.cosigner.opened.Goals as goal

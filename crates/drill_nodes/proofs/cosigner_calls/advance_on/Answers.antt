@@ -1,6 +1,6 @@
 use Rattle.cosigner_core.specs.Words.{cosigner_disk}
 use Rattle.drill_nodes.proofs.FailedCalls.{failed_none}
-use Rattle.drill_nodes.proofs.ReadImages.{told_reads}
+use Rattle.drill_nodes.proofs.ReadImages.{contents_read}
 use Rattle.drill_nodes.proofs.cosigner_calls.advance_on.Goals as goal
 
 pub returns-in-Ok : goal.returns-in-Ok
@@ -11,7 +11,7 @@ returns-in-Ok g c = λ out. record {
   kept = λ is. c.in-Ok.ensures.appends.kept;
   signed = λ is. tt;
   numbered = λ is. tt;
-  reads = told_reads (g.D.Disk.told (cosigner_disk c.advance.new.self))
+  reads = contents_read (g.D.Disk.contents (cosigner_disk c.advance.new.self))
       (g.D.Disk.may_leave (cosigner_disk c.advance.new.self))
       (g.met.D.Disk.reads_image (cosigner_disk c.advance.new.self));
 }
@@ -27,7 +27,7 @@ returns-in-Err-Append-Failed g c = λ out. record {
   kept = λ is. absurd cc;
   signed = λ is. absurd cc;
   numbered = λ is. absurd cc;
-  reads = told_reads (g.D.Disk.told (cosigner_disk c.advance.new.self))
+  reads = contents_read (g.D.Disk.contents (cosigner_disk c.advance.new.self))
       (g.D.Disk.may_leave (cosigner_disk c.advance.new.self))
       (g.met.D.Disk.reads_image (cosigner_disk c.advance.new.self));
 }

@@ -4,7 +4,7 @@ use Rattle.cosigner_core.specs.Views.{subtree_parts}
 use Rattle.cosigner_core.specs.Words.{cosigner_broken, cosigner_disk, cosigner_end, cosigner_state}
 use Rattle.drill_nodes.proofs.FailedCalls.{failed_none}
 use Rattle.drill_nodes.proofs.Numbered.{numbered}
-use Rattle.drill_nodes.proofs.ReadImages.{told_reads}
+use Rattle.drill_nodes.proofs.ReadImages.{contents_read}
 use Rattle.drill_nodes.proofs.cosigner_calls.cosign_on.Goals as goal
 
 pub returns-in-Ok : goal.returns-in-Ok
@@ -20,7 +20,7 @@ returns-in-Ok g c = record {
       numbered g.H.TreeHash.hash (cosigner_state it) r (journal_refusal (cosigner_broken it)
       (cosigner_end it) (sign_record (cosigner_state it).key.next r.start r.end r.hash r.proof))
       c.in-Ok.ensures.answer;
-  reads = told_reads (g.D.Disk.told (cosigner_disk c.cosign.new.self))
+  reads = contents_read (g.D.Disk.contents (cosigner_disk c.cosign.new.self))
       (g.D.Disk.may_leave (cosigner_disk c.cosign.new.self))
       (g.met.D.Disk.reads_image (cosigner_disk c.cosign.new.self));
 }
@@ -36,7 +36,7 @@ returns-in-Err-Append-Failed g c = record {
   kept = λ is. absurd cc;
   signed = λ is. absurd cc;
   numbered = λ is. absurd cc;
-  reads = told_reads (g.D.Disk.told (cosigner_disk c.cosign.new.self))
+  reads = contents_read (g.D.Disk.contents (cosigner_disk c.cosign.new.self))
       (g.D.Disk.may_leave (cosigner_disk c.cosign.new.self))
       (g.met.D.Disk.reads_image (cosigner_disk c.cosign.new.self));
 }

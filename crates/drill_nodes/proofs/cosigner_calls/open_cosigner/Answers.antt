@@ -8,9 +8,9 @@ use Rattle.drill_nodes.proofs.cosigner_calls.open_cosigner.Goals as goal
 pub returns-in-Ok : goal.returns-in-Ok
 returns-in-Ok g c = record {
   sound = c.in-Ok.ensures.sound;
-  found = found_on (cosigner_fold g.H.TreeHash.hash) (g.D.Disk.told c.args.disk)
+  found = found_on (cosigner_fold g.H.TreeHash.hash) (g.D.Disk.contents c.args.disk)
       (cosigner_records c.in-Ok.cosigner) (cosigner_state c.in-Ok.cosigner)
-      (c.in-Ok.ensures.list ∙ ap (option_map records_of) c.in-Ok.ensures.looks.told)
+      (c.in-Ok.ensures.list ∙ ap (option_map records_of) c.in-Ok.ensures.only_reads.contents)
       c.in-Ok.ensures.found;
   valid = c.in-Ok.ensures.valid;
   images = c.in-Ok.ensures.all;

@@ -1,5 +1,5 @@
 use Rattle.std.proofs.Common.{◌∙◌, List, length, sym, ap}
-use Rattle.byte_forms.specs.Types.{Text}
+use Rattle.byte_formats.specs.Types.{Text}
 use Rattle.cosigner_core.specs.Counts.{indices_of}
 use Rattle.drill_nodes.specs.CosignerViews.{IsDiskOf}
 use Rattle.drill_nodes.proofs.HandedOut.{handed}

@@ -1,5 +1,5 @@
 use Rattle.std.proofs.Common.{◌<◌, ◌^◌, ◌∙◌, ◌++◌, List, arith, refl, ap}
-use Rattle.byte_forms.specs.Types.{Text}
+use Rattle.byte_formats.specs.Types.{Text}
 use Rattle.mtc_proof.specs.Proofs.{signature_text}
 use Rattle.drill_nodes.specs.CosignerViews.{cosigner_shown, records_shown}
 use Rattle.drill_nodes.proofs.CosignerStops.{says_sign}
@@ -25,7 +25,7 @@ returns-clause-state g c =
       recorded = record {
         more = c.in_ok-node.ensures.grows;
         sign = says_sign _ list c.in_ok-node.ensures.recorded none c.ranges.size.fits
-            c.are_hashes.ensures.one c.are_hashes.ensures.all;
+            c.law_are_hashes.ensures.one c.law_are_hashes.ensures.all;
       };
     }
 

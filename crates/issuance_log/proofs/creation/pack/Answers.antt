@@ -1,7 +1,7 @@
 use Rattle.std.proofs.Common.{◌≡◌, ◌+◌, List, ℕ, length, ap, ◌∙◌, arith}
 use Rattle.issuance_log.specs.Records.{settings_record}
 use Rattle.issuance_log.specs.Settings.{Settings}
-use Rattle.issuance_log.proofs.Spelled.{length-settings, log_created}
+use Rattle.issuance_log.proofs.Encoded.{length-settings, log_created}
 use Rattle.issuance_log.proofs.creation.pack.Goals as goal
 
 length_of : (s : Settings) (body : List ℕ) → body ≡ settings_record s

@@ -1,5 +1,5 @@
 use Rattle.std.proofs.Common.{ap, ◌∙◌, length}
-use Rattle.disk_core.proofs.Moments.{looked_on}
+use Rattle.disk_core.proofs.Moments.{only_read_on}
 use Rattle.journal_core.specs.Words.{records}
 use Rattle.issuance_log.proofs.Rereading.{body_read}
 use Rattle.issuance_log.proofs.entries.read_body.Goals as goal
@@ -13,16 +13,16 @@ returns-clause-body g c =
     (c.read.auto.out ∙ ap length c.deref_mut.ensures.value ∙ zeros) zeros
     (c.in_ok-body.body.ok.0 ∙ zeros)
 
-pub returns-in_err-size-clause-looks : goal.returns-in_err-size-clause-looks
-returns-in_err-size-clause-looks g c = c.read_size.ensures.looks
+pub returns-in_err-size-clause-only_reads : goal.returns-in_err-size-clause-only_reads
+returns-in_err-size-clause-only_reads g c = c.read_size.ensures.only_reads
 
-pub returns-in_err-body-clause-looks : goal.returns-in_err-body-clause-looks
-returns-in_err-body-clause-looks g c = c.read_size.ensures.looks
+pub returns-in_err-body-clause-only_reads : goal.returns-in_err-body-clause-only_reads
+returns-in_err-body-clause-only_reads g c = c.read_size.ensures.only_reads
 
-pub returns-in_err-read-clause-looks : goal.returns-in_err-read-clause-looks
-returns-in_err-read-clause-looks g c =
-    looked_on g.D.Disk _ _ _ c.read_size.ensures.looks c.read.ensures.looks
+pub returns-in_err-read-clause-only_reads : goal.returns-in_err-read-clause-only_reads
+returns-in_err-read-clause-only_reads g c =
+    only_read_on g.D.Disk _ _ _ c.read_size.ensures.only_reads c.read.ensures.only_reads
 
-pub returns-clause-looks : goal.returns-clause-looks
-returns-clause-looks g c =
-    looked_on g.D.Disk _ _ _ c.read_size.ensures.looks c.read.ensures.looks
+pub returns-clause-only_reads : goal.returns-clause-only_reads
+returns-clause-only_reads g c =
+    only_read_on g.D.Disk _ _ _ c.read_size.ensures.only_reads c.read.ensures.only_reads

@@ -25,7 +25,7 @@ returns-in-Err-begin-clause-err g c =
     ∙ ap Ok c.in-Ok-Some.field-0-is) c.next.follows.holds-at-none in
     subst (HasLogCause g.D.Disk g.H.TreeHash.hash (opening_disk old) (opening_disk new))
     (sym c.refusal_at.ensures)
-    (cause_begun old new c.in-Ok-Some.body.now read.0 read.1 g.H.TreeHash.hash read.2.looks
+    (cause_begun old new c.in-Ok-Some.body.now read.0 read.1 g.H.TreeHash.hash read.2.only_reads
     LogNumbers (λ n. n.view) c.in-Err-begin.why c.requires.list c.in-Err-begin.ensures.found)
 
 pub returns-in-Ok-None-clause-err : goal.returns-in-Ok-None-clause-err
@@ -34,7 +34,7 @@ returns-in-Ok-None-clause-err g c =
     let new = c.next.follows.lender-at-none in
     let ended = subst (Nexts old new) (c.in-Ok-None.is
     ∙ ap Ok c.in-Ok-None.field-0-is) c.next.follows.holds-at-none in
-    missing_first (log_fold g.H.TreeHash.hash) old new ended.0 ended.1.looks c.requires.list
+    missing_first (log_fold g.H.TreeHash.hash) old new ended.0 ended.1.only_reads c.requires.list
 
 pub returns-in-Err-clause-err : goal.returns-in-Err-clause-err
 returns-in-Err-clause-err g c =
@@ -75,33 +75,33 @@ returns-in-Err-clause-fine_err g c =
     let refused = subst (Nexts old new) c.in-Err.is c.next.follows.holds-at-none in
     λ other. refused.1.fine (λ is. other (ap Open is))
 
-pub returns-in-Ok-clause-looks : goal.returns-in-Ok-clause-looks
-returns-in-Ok-clause-looks g c =
+pub returns-in-Ok-clause-only_reads : goal.returns-in-Ok-clause-only_reads
+returns-in-Ok-clause-only_reads g c =
     let old = c.args.opening.now in
     let new = c.next.follows.lender-at-none in
     let read = subst (Nexts old new) (c.in-Ok-Some.is
     ∙ ap Ok c.in-Ok-Some.field-0-is) c.next.follows.holds-at-none in
-    read.2.looks
+    read.2.only_reads
 
-pub returns-in-Err-begin-clause-looks : goal.returns-in-Err-begin-clause-looks
-returns-in-Err-begin-clause-looks g c =
+pub returns-in-Err-begin-clause-only_reads : goal.returns-in-Err-begin-clause-only_reads
+returns-in-Err-begin-clause-only_reads g c =
     let old = c.args.opening.now in
     let new = c.next.follows.lender-at-none in
     let read = subst (Nexts old new) (c.in-Ok-Some.is
     ∙ ap Ok c.in-Ok-Some.field-0-is) c.next.follows.holds-at-none in
-    read.2.looks
+    read.2.only_reads
 
-pub returns-in-Ok-None-clause-looks : goal.returns-in-Ok-None-clause-looks
-returns-in-Ok-None-clause-looks g c =
+pub returns-in-Ok-None-clause-only_reads : goal.returns-in-Ok-None-clause-only_reads
+returns-in-Ok-None-clause-only_reads g c =
     let old = c.args.opening.now in
     let new = c.next.follows.lender-at-none in
     let ended = subst (Nexts old new) (c.in-Ok-None.is
     ∙ ap Ok c.in-Ok-None.field-0-is) c.next.follows.holds-at-none in
-    ended.1.looks
+    ended.1.only_reads
 
-pub returns-in-Err-clause-looks : goal.returns-in-Err-clause-looks
-returns-in-Err-clause-looks g c =
+pub returns-in-Err-clause-only_reads : goal.returns-in-Err-clause-only_reads
+returns-in-Err-clause-only_reads g c =
     let old = c.args.opening.now in
     let new = c.next.follows.lender-at-none in
     let refused = subst (Nexts old new) c.in-Err.is c.next.follows.holds-at-none in
-    refused.1.looks
+    refused.1.only_reads

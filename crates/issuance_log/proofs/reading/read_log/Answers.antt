@@ -1,6 +1,6 @@
 use Rattle.std.proofs.Common.{◌∙◌}
 use Rattle.std.proofs.lemmas.Result.{err_from_is_err_and}
-use Rattle.disk_core.proofs.Moments.{looked_on}
+use Rattle.disk_core.proofs.Moments.{only_read_on}
 use Rattle.issuance_log.proofs.Adopting.{log_later}
 use Rattle.issuance_log.proofs.reading.read_log.Goals as goal
 
@@ -16,7 +16,7 @@ returns-in_err-numbers g c =
       disk = first.disk;
       adopted = first.adopted;
       err = c.in_err-numbers.ensures.err;
-      looks = first.looks;
+      only_reads = first.only_reads;
       fine = tt;
       fine_err = c.in_err-numbers.ensures.fine_err;
     })
@@ -31,9 +31,9 @@ returns-in_err-read_rest g c =
       found = tt;
       disk = rest.disk ∙ first.disk;
       adopted = rest.adopted ∙ first.adopted;
-      err = log_later g.D.Disk g.H.TreeHash.hash _ _ _ c.in_err-read_rest.field-0.0 first.looks
+      err = log_later g.D.Disk g.H.TreeHash.hash _ _ _ c.in_err-read_rest.field-0.0 first.only_reads
           c.in_err-read_rest.ensures.err;
-      looks = looked_on g.D.Disk _ _ _ first.looks rest.looks;
+      only_reads = only_read_on g.D.Disk _ _ _ first.only_reads rest.only_reads;
       fine = tt;
       fine_err = λ other. c.in_err-read_rest.ensures.fine_err other
           ∙ c.in_ok-numbers.ensures.fine;
@@ -48,7 +48,7 @@ returns g c =
       disk = rest.disk ∙ first.disk;
       adopted = rest.adopted ∙ first.adopted;
       err = tt;
-      looks = looked_on g.D.Disk _ _ _ first.looks rest.looks;
+      only_reads = only_read_on g.D.Disk _ _ _ first.only_reads rest.only_reads;
       fine = c.in_ok-read_rest.ensures.fine ∙ c.in_ok-numbers.ensures.fine;
       fine_err = tt;
     }

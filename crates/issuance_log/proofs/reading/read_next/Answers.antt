@@ -24,7 +24,7 @@ returns-in-Err-take-clause-err g c =
     ∙ ap Ok c.in-Ok-Some.field-0-is) c.next.follows.holds-at-none in
     subst (HasLogCause g.D.Disk g.H.TreeHash.hash (opening_disk old) (opening_disk new))
     (sym c.refusal_at.ensures)
-    (cause_taken old new c.in-Ok-Some.body.now read.0 read.1 read.2.looks
+    (cause_taken old new c.in-Ok-Some.body.now read.0 read.1 read.2.only_reads
     c.args.numbers.now.view c.take.new.numbers.view c.args.items.now c.read_count-number.result
     c.in-Err-take.why c.read_count-number.ensures c.requires c.in-Err-take.ensures.view)
 
@@ -34,7 +34,7 @@ returns-in-Ok-None-clause-more g c =
     let new = c.next.follows.lender-at-none in
     let ended = subst (Nexts old new) (c.in-Ok-None.is
     ∙ ap Ok c.in-Ok-None.field-0-is) c.next.follows.holds-at-none in
-    gathered_last old new c.args.numbers.now.view c.args.items.now ended.0 ended.1.looks
+    gathered_last old new c.args.numbers.now.view c.args.items.now ended.0 ended.1.only_reads
     c.requires
 
 pub returns-in-Err-clause-err : goal.returns-in-Err-clause-err
@@ -84,33 +84,33 @@ returns-in-Ok-clause-shorter g c =
     ∙ ap Ok c.in-Ok-Some.field-0-is) c.next.follows.holds-at-none in
     read.1.shorter
 
-pub returns-in-Ok-clause-looks : goal.returns-in-Ok-clause-looks
-returns-in-Ok-clause-looks g c =
+pub returns-in-Ok-clause-only_reads : goal.returns-in-Ok-clause-only_reads
+returns-in-Ok-clause-only_reads g c =
     let old = c.args.opening.now in
     let new = c.next.follows.lender-at-none in
     let read = subst (Nexts old new) (c.in-Ok-Some.is
     ∙ ap Ok c.in-Ok-Some.field-0-is) c.next.follows.holds-at-none in
-    read.2.looks
+    read.2.only_reads
 
-pub returns-in-Err-take-clause-looks : goal.returns-in-Err-take-clause-looks
-returns-in-Err-take-clause-looks g c =
+pub returns-in-Err-take-clause-only_reads : goal.returns-in-Err-take-clause-only_reads
+returns-in-Err-take-clause-only_reads g c =
     let old = c.args.opening.now in
     let new = c.next.follows.lender-at-none in
     let read = subst (Nexts old new) (c.in-Ok-Some.is
     ∙ ap Ok c.in-Ok-Some.field-0-is) c.next.follows.holds-at-none in
-    read.2.looks
+    read.2.only_reads
 
-pub returns-in-Ok-None-clause-looks : goal.returns-in-Ok-None-clause-looks
-returns-in-Ok-None-clause-looks g c =
+pub returns-in-Ok-None-clause-only_reads : goal.returns-in-Ok-None-clause-only_reads
+returns-in-Ok-None-clause-only_reads g c =
     let old = c.args.opening.now in
     let new = c.next.follows.lender-at-none in
     let ended = subst (Nexts old new) (c.in-Ok-None.is
     ∙ ap Ok c.in-Ok-None.field-0-is) c.next.follows.holds-at-none in
-    ended.1.looks
+    ended.1.only_reads
 
-pub returns-in-Err-clause-looks : goal.returns-in-Err-clause-looks
-returns-in-Err-clause-looks g c =
+pub returns-in-Err-clause-only_reads : goal.returns-in-Err-clause-only_reads
+returns-in-Err-clause-only_reads g c =
     let old = c.args.opening.now in
     let new = c.next.follows.lender-at-none in
     let refused = subst (Nexts old new) c.in-Err.is c.next.follows.holds-at-none in
-    refused.1.looks
+    refused.1.only_reads

@@ -1,6 +1,6 @@
 use Rattle.std.proofs.Common.{◌∙◌, refl}
 use Rattle.std.proofs.lemmas.Result.{err_from_is_err_and}
-use Rattle.disk_core.proofs.Moments.{looked_on, no_look}
+use Rattle.disk_core.proofs.Moments.{only_read_on, nothing_read}
 use Rattle.issuance_log.proofs.Adopting.{log_later}
 use Rattle.issuance_log.proofs.reading.read_rest.Goals as goal
 
@@ -9,7 +9,7 @@ records-init g c = record {
   gathered = c.requires;
   disk = refl;
   adopted = refl;
-  looks = no_look g.D.Disk _ (g.met.D.Disk.only_now _);
+  only_reads = nothing_read g.D.Disk _ (g.met.D.Disk.only_now _);
   fine = refl;
 }
 
@@ -21,7 +21,7 @@ records-preserved g c =
       gathered = rw c.if-not-branch.false at c.in_ok-read_next.ensures.more;
       disk = read.disk ∙ so_far.disk;
       adopted = read.adopted ∙ so_far.adopted;
-      looks = looked_on g.D.Disk _ _ _ so_far.looks read.looks;
+      only_reads = only_read_on g.D.Disk _ _ _ so_far.only_reads read.only_reads;
       fine = c.in_ok-read_next.ensures.fine ∙ so_far.fine;
     }
 
@@ -37,7 +37,7 @@ returns-then-not-branch g c =
       disk = read.disk ∙ so_far.disk;
       adopted = read.adopted ∙ so_far.adopted;
       err = tt;
-      looks = looked_on g.D.Disk _ _ _ so_far.looks read.looks;
+      only_reads = only_read_on g.D.Disk _ _ _ so_far.only_reads read.only_reads;
       fine = c.in_ok-read_next.ensures.fine ∙ so_far.fine;
       fine_err = tt;
     }
@@ -51,9 +51,10 @@ returns-in_err-read_next g c =
       found = tt;
       disk = read.disk ∙ so_far.disk;
       adopted = read.adopted ∙ so_far.adopted;
-      err = log_later g.D.Disk g.H.TreeHash.hash _ _ _ c.in_err-read_next.field-0.0 so_far.looks
+      err =
+          log_later g.D.Disk g.H.TreeHash.hash _ _ _ c.in_err-read_next.field-0.0 so_far.only_reads
           c.in_err-read_next.ensures.err;
-      looks = looked_on g.D.Disk _ _ _ so_far.looks read.looks;
+      only_reads = only_read_on g.D.Disk _ _ _ so_far.only_reads read.only_reads;
       fine = tt;
       fine_err = λ other. c.in_err-read_next.ensures.fine_err other ∙ so_far.fine;
     })

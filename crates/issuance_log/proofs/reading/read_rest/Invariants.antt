@@ -1,5 +1,5 @@
 use Rattle.std.proofs.Common.{◌≡◌}
-use Rattle.disk_core.specs.Moments.{Looks}
+use Rattle.disk_core.specs.Moments.{OnlyReads}
 use Rattle.journal_core.specs.Openings.{opening_disk, bytes_left}
 use Rattle.tile_store.specs.Store.{tiles_adopted, tiles_disk}
 use Rattle.issuance_log.specs.Gathered.{HasGathered}
@@ -11,7 +11,7 @@ invariant-records g l = record {
   gathered : HasGathered l.numbers.view l.items l.opening;
   disk : tiles_disk (items_tiles l.items) ≡ tiles_disk (items_tiles l.initial.items);
   adopted : tiles_adopted (items_tiles l.items) ≡ tiles_adopted (items_tiles l.initial.items);
-  looks : Looks g.D.Disk (opening_disk l.initial.opening) (opening_disk l.opening);
+  only_reads : OnlyReads g.D.Disk (opening_disk l.initial.opening) (opening_disk l.opening);
   fine : g.D.Disk.faults (opening_disk l.opening)
       ≡ g.D.Disk.faults (opening_disk l.initial.opening);
 }

@@ -1,7 +1,7 @@
 use Rattle.std.proofs.Common.{ap, arith, subst, sym, ◌∙◌, ◌%◌, ℕ, IfSome}
 use Rattle.std.proofs.lemmas.Result.{err_from_is_err_and}
-use Rattle.disk_core.proofs.Moments.{no_look}
-use Rattle.disk_core.specs.Moments.{Looks}
+use Rattle.disk_core.proofs.Moments.{nothing_read}
+use Rattle.disk_core.specs.Moments.{OnlyReads}
 use Rattle.journal_core.specs.Openings.{opening_disk, read_list}
 use Rattle.tile_store.specs.Store.{tiles_disk}
 use Rattle.issuance_log.specs.Items.{items_tiles}
@@ -32,9 +32,9 @@ returns-in_err-numbers g c =
       tiles = tt;
       err = cause_of_log g.D.Disk g.T.Disk g.H.TreeHash.hash _ _ _ _ c.in_err-numbers.field-0.0
           c.in_err-numbers.ensures.err;
-      looks = log.looks;
-      looks_tiles = subst (λ disk. Looks g.T.Disk old disk) (sym log.disk)
-          (no_look g.T.Disk old (g.met.T.Disk.only_now old));
+      only_reads = log.only_reads;
+      only_reads_tiles = subst (λ disk. OnlyReads g.T.Disk old disk) (sym log.disk)
+          (nothing_read g.T.Disk old (g.met.T.Disk.only_now old));
       fine = tt;
       fine_tiles = tt;
       fine_err = c.in_err-numbers.ensures.fine_err;
@@ -62,13 +62,14 @@ returns-in_err-adopt g c =
       tiles = tt;
       err = open_later g.D.Disk g.T.Disk h (opening_disk c.args.opening.now) (opening_disk opening)
           (opening_disk opening) (tiles_disk (items_tiles c.args.items.now)) later (Tile why)
-          log.looks
+          log.only_reads
           (subst (λ disk. HasTileCause g.D.Disk g.T.Disk h (opening_disk opening) disk later why)
           log.disk (tile_cause v items opening found c.tiled.result c.tiled.ensures.value
           (log.adopted ∙ c.requires.unadopted) later why (omega arith)
           c.in_err-adopt.ensures.cause));
-      looks = log.looks;
-      looks_tiles = subst (λ disk. Looks g.T.Disk disk later) log.disk c.adopt.ensures.looks;
+      only_reads = log.only_reads;
+      only_reads_tiles =
+          subst (λ disk. OnlyReads g.T.Disk disk later) log.disk c.adopt.ensures.only_reads;
       fine = tt;
       fine_tiles = tt;
       fine_err = λ other. c.in_ok-numbers.ensures.fine;
@@ -90,14 +91,15 @@ returns g c =
       found = gathered_still v items opening found c.adopt.new.self c.adopt.ensures.places
           c.adopt.ensures.leaves;
       stored = omega (arith, c.tiled.ensures.value, c.in_ok-adopt.ensures.stored);
-      tiles = subst (λ disk. IfSome list (λ l. IfSome (g.T.Disk.told disk)
+      tiles = subst (λ disk. IfSome list (λ l. IfSome (g.T.Disk.contents disk)
           (HasItsTiles h (shown_with v l)))) log.disk
           (its_tiles v items opening found c.tiled.result c.tiled.ensures.value
           (log.adopted ∙ c.requires.unadopted) c.in_ok-adopt.ensures.stands);
       err = tt;
-      looks = log.looks;
-      looks_tiles = subst (λ disk. Looks g.T.Disk disk (tiles_disk (items_tiles c.adopt.new.self)))
-          log.disk c.adopt.ensures.looks;
+      only_reads = log.only_reads;
+      only_reads_tiles =
+          subst (λ disk. OnlyReads g.T.Disk disk (tiles_disk (items_tiles c.adopt.new.self)))
+          log.disk c.adopt.ensures.only_reads;
       fine = c.in_ok-numbers.ensures.fine;
       fine_tiles = c.in_ok-adopt.ensures.fine ∙ ap (λ disk. g.T.Disk.faults disk) log.disk;
       fine_err = tt;

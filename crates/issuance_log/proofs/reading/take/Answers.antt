@@ -1,6 +1,6 @@
 use Rattle.std.proofs.Common.{Some, refl, ap, sym, ◌∙◌, arith}
-use Rattle.issuance_log.proofs.Spelled.{item_takes}
-use Rattle.issuance_log.proofs.Views.{item_refused, item_taken, taken_room}
+use Rattle.issuance_log.proofs.Encoded.{item_takes}
+use Rattle.issuance_log.proofs.Views.{item_refused, item_taken, taken_capacity}
 use Rattle.issuance_log.proofs.reading.take.Goals as goal
 
 pub returns-then-not-takes-clause-view : goal.returns-then-not-takes-clause-view
@@ -13,7 +13,7 @@ returns-then-not-takes-clause-view g c = (
 
 pub add-requires : goal.add-requires
 add-requires g c =
-    let room = taken_room g.H.TreeHash.hash c.args.numbers.now.view
+    let capacity = taken_capacity g.H.TreeHash.hash c.args.numbers.now.view
     (c.in-Ok.entry.now, c.in-Ok.key.now) (sym c.takes.ensures.value ∙ c.if-not-takes.false) in
     let few = c.takes.ensures.sound.allowed.few in
     omega (arith, c.requires)
@@ -26,5 +26,5 @@ returns-in_ok-add-in-Ok-clause-view g c =
 
 pub returns-in-Err-Memory-clause-short : goal.returns-in-Err-Memory-clause-short
 returns-in-Err-Memory-clause-short g c = λ entry key is.
-    let spelled = item_takes c.args.body.now entry key (λ i. (c.type_inv.body i).fits) is in
-    (spelled.1, spelled.2)
+    let encoded = item_takes c.args.body.now entry key (λ i. (c.type_inv.body i).fits) is in
+    (encoded.1, encoded.2)

@@ -1,4 +1,4 @@
-use Rattle.issuance_log.proofs.Spelled.{item_takes}
+use Rattle.issuance_log.proofs.Encoded.{item_takes}
 use Rattle.issuance_log.proofs.record.read_item.Goals as goal
 
 pub returns-clause-short_entry : goal.returns-clause-short_entry

@@ -7,13 +7,13 @@ use Rattle.journal_core.proofs.copying.copy_behind.Goals as goal
 
 pub returns-clause-ok : goal.returns-clause-ok
 returns-clause-ok g c =
-    when_ok c.copy_records.result _ _ (between (g.D.Disk.told (disk_of c.args.journal.now))
+    when_ok c.copy_records.result _ _ (between (g.D.Disk.contents (disk_of c.args.journal.now))
     c.args.from (end_of c.args.journal.now) (λ bodies.
     Appends (g.O.Sink.taken c.args.out.now) (g.O.Sink.taken c.copy_records.new.out)
     (sized_text bodies))) c.copy_records.ensures.ok
 
 pub returns-clause-prefix : goal.returns-clause-prefix
 returns-clause-prefix g c =
-    between (g.D.Disk.told (disk_of c.args.journal.now)) c.args.from (end_of c.args.journal.now)
+    between (g.D.Disk.contents (disk_of c.args.journal.now)) c.args.from (end_of c.args.journal.now)
     (λ bodies. AppendsPrefix (g.O.Sink.taken c.args.out.now)
     (g.O.Sink.taken c.copy_records.new.out) (sized_text bodies)) c.copy_records.ensures.prefix

@@ -1,5 +1,5 @@
-use Rattle.disk_core.proofs.Moments.{no_look}
+use Rattle.disk_core.proofs.Moments.{nothing_read}
 use Rattle.journal_core.proofs.held.hold.Goals as goal
 
-pub returns-then-place-count-clause-looks : goal.returns-then-place-count-clause-looks
-returns-then-place-count-clause-looks g c = no_look g.D.Disk _ (g.met.D.Disk.only_now _)
+pub returns-then-place-count-clause-only_reads : goal.returns-then-place-count-clause-only_reads
+returns-then-place-count-clause-only_reads g c = nothing_read g.D.Disk _ (g.met.D.Disk.only_now _)

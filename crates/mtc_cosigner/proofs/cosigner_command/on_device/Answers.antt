@@ -1,12 +1,12 @@
 use Rattle.std.proofs.Common.{inl, List, Option, subst, sym}
-use Rattle.byte_forms.specs.Types.{Text}
+use Rattle.byte_formats.specs.Types.{Text}
 use Rattle.cosigner_core.specs.Words.{cosigner_disk, cosigner_records, cosigner_state}
-use Rattle.mtc_answers.specs.Answers.{Ending, ending_of}
-use Rattle.mtc_answers.specs.Steps.{Outcome}
-use Rattle.mtc_answers.specs.Valid.{WorksValidly}
-use Rattle.mtc_answers.specs.Works.{HasWorked as HasWorkedWith, HasWorkedOn}
-use Rattle.mtc_answers.proofs.Works.{worked_on}
-use Rattle.mtc_answers.proofs.Valid.{valid_on}
+use Rattle.mtc_command.specs.Answers.{Ending, ending_of}
+use Rattle.mtc_command.specs.Steps.{Outcome}
+use Rattle.mtc_command.specs.Valid.{WorksValidly}
+use Rattle.mtc_command.specs.Works.{HasWorked as HasWorkedWith, HasWorkedOn}
+use Rattle.mtc_command.proofs.Works.{worked_on}
+use Rattle.mtc_command.proofs.Valid.{valid_on}
 use Rattle.mtc_cosigner.specs.Works.{IsCosigner, cosigner_bytes_say, found_cosigner}
 use Rattle.mtc_cosigner.specs.Works.{cosigner_says}
 use Rattle.mtc_cosigner.proofs.Opened.{IsFound, found_says, refused_says}
@@ -26,13 +26,15 @@ returns-in-Ok-clause-serves g c =
     let found = subst (IsFound d (cosigner_bytes_say h name says) next c.args.disk
     (cosigner_disk it))
     opened.list (record {
-      told = found_says h name says (d.told c.args.disk) (cosigner_records it) (cosigner_state it)
+      contents =
+          found_says h name says (d.contents c.args.disk) (cosigner_records it) (cosigner_state it)
           opened.found;
       stands = opened.stands;
       all = opened.all;
     }) in
     rw c.into_disk.ensures (worked_on d name (cosigner_bytes_say h name says) next c.args.disk
-    (cosigner_disk it) done ending g.met.D.Disk.reads_image opened.looks opened.fine found.told
+    (cosigner_disk it) done ending g.met.D.Disk.reads_image opened.only_reads opened.fine
+    found.contents
     found.stands found.all
     (subst (λ (o : Option (List Text)). HasWorkedWith d name o next (cosigner_disk it) done ending)
     opened.list c.carry_out-answer.ensures.works))
@@ -61,13 +63,14 @@ returns-in-Ok-clause-valid g c =
     let found = subst (IsFound d (cosigner_bytes_say h name says) next c.args.disk
     (cosigner_disk it))
     opened.list (record {
-      told = found_says h name says (d.told c.args.disk) (cosigner_records it) (cosigner_state it)
+      contents =
+          found_says h name says (d.contents c.args.disk) (cosigner_records it) (cosigner_state it)
           opened.found;
       stands = opened.stands;
       all = opened.all;
     }) in
     rw c.into_disk.ensures (valid_on d (IsCosigner h) name (cosigner_bytes_say h name says) next
-    c.args.disk (cosigner_disk it) done opened.looks found.told found.stands found.all
+    c.args.disk (cosigner_disk it) done opened.only_reads found.contents found.stands found.all
     (subst (λ (o : Option (List Text)). WorksValidly d (IsCosigner h) o next (cosigner_disk it)
     done) opened.list c.carry_out-answer.ensures.valid))
 

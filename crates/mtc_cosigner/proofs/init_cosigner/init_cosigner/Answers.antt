@@ -1,9 +1,9 @@
 use Rattle.std.proofs.Common.{[], ◌∷◌, inl, inr, refl}
 use Rattle.std.proofs.lemmas.Result.{err_from_is_err_and}
-use Rattle.mtc_answers.specs.Answers.{ending_of}
-use Rattle.mtc_answers.proofs.Begins.{begins_behind, begins_stopped}
-use Rattle.mtc_answers.proofs.Served.{behind}
-use Rattle.mtc_answers.proofs.Valid.{behind_valid, kept_valid}
+use Rattle.mtc_command.specs.Answers.{ending_of}
+use Rattle.mtc_command.proofs.Begins.{begins_behind, begins_stopped}
+use Rattle.mtc_command.proofs.Served.{behind}
+use Rattle.mtc_command.proofs.Valid.{behind_valid, kept_valid}
 use Rattle.mtc_cosigner.specs.InitOutcome.{init_cosigner_outcome, init_says, cosigner_settings_of}
 use Rattle.mtc_cosigner.specs.Works.{IsCosigner}
 use Rattle.mtc_cosigner.proofs.Begun.{asked_so}

@@ -1,14 +1,14 @@
 use Rattle.std.proofs.Common.{rules, [], ◌∷◌, ◌≡◌, IsOk, inl, refl, length, subst, sym}
 use Rattle.std.proofs.lemmas.Result.{err_from_is_err_and}
-use Rattle.byte_forms.specs.Types.{Text}
+use Rattle.byte_formats.specs.Types.{Text}
 use Rattle.journal_core.specs.Packed.{first_body}
-use Rattle.mtc_answers.specs.Answers.{ending_of, no_memory}
-use Rattle.mtc_answers.specs.Served.{HasServed}
-use Rattle.mtc_answers.specs.Steps.{Outcome}
-use Rattle.mtc_answers.specs.Valid.{KeepsValid}
-use Rattle.mtc_answers.proofs.Begins.{begins_of}
-use Rattle.mtc_answers.proofs.Served.{stopped}
-use Rattle.mtc_answers.proofs.Valid.{new_valid, same_valid}
+use Rattle.mtc_command.specs.Answers.{ending_of, no_memory}
+use Rattle.mtc_command.specs.Served.{HasServed}
+use Rattle.mtc_command.specs.Steps.{Outcome}
+use Rattle.mtc_command.specs.Valid.{KeepsValid}
+use Rattle.mtc_command.proofs.Begins.{begins_of}
+use Rattle.mtc_command.proofs.Served.{stopped}
+use Rattle.mtc_command.proofs.Valid.{new_valid, same_valid}
 use Rattle.mtc_cosigner.specs.InitOutcome.{init_says}
 use Rattle.mtc_cosigner.specs.Works.{IsCosigner}
 use Rattle.mtc_cosigner.proofs.Begun.{begun_so}

@@ -1,12 +1,12 @@
 use Rattle.std.proofs.Common.{rules, subst, sym}
-use Rattle.byte_forms.specs.Types.{Text}
+use Rattle.byte_formats.specs.Types.{Text}
 use Rattle.cosigner_core.specs.Folds.{holding}
 use Rattle.cosigner_core.specs.Records.{advance_record}
 use Rattle.cosigner_core.specs.Refusals.{advance_refused}
 use Rattle.cosigner_core.specs.Views.{advance_parts}
 use Rattle.cosigner_core.specs.Words.{cosigner_broken, cosigner_end, cosigner_state}
-use Rattle.mtc_answers.specs.Answers.{Ending, replied, said}
-use Rattle.mtc_answers.specs.declared.answer.Said.TheVariants.{Done}
+use Rattle.mtc_command.specs.Answers.{Ending, replied, said}
+use Rattle.mtc_command.specs.declared.answer.Said.TheVariants.{Done}
 use Rattle.mtc_cosigner.specs.CosignerOutcomes.{advance_says, advanced_text}
 use Rattle.mtc_cosigner.specs.Works.{HasWorkedOnCosigner}
 use Rattle.mtc_cosigner.proofs.Asked.{advance_sound}

@@ -1,13 +1,13 @@
 use Rattle.std.proofs.Common.{[], ◌∷◌, ◌≡◌, ◌∙◌, Ok, Err, ap, inl, inr, refl, subst, sym}
 use Rattle.std.proofs.lemmas.Result.{err_from_is_err_and}
-use Rattle.byte_forms.specs.Types.{Text}
+use Rattle.byte_formats.specs.Types.{Text}
 use Rattle.cosigner_core.specs.Reading.{subtree_in}
 use Rattle.cosigner_core.specs.Requests.{SubtreeParts}
 use Rattle.cosigner_core.specs.Views.{subtree_parts}
-use Rattle.mtc_answers.specs.Answers.{ending_of}
-use Rattle.mtc_answers.specs.Steps.{with_form}
-use Rattle.mtc_answers.proofs.Served.{behind}
-use Rattle.mtc_answers.proofs.Valid.{behind_valid, kept_valid}
+use Rattle.mtc_command.specs.Answers.{ending_of}
+use Rattle.mtc_command.specs.Steps.{with_form}
+use Rattle.mtc_command.proofs.Served.{behind}
+use Rattle.mtc_command.proofs.Valid.{behind_valid, kept_valid}
 use Rattle.mtc_cosigner.specs.CosignerOutcomes.{cosign_says, form_fault_text}
 use Rattle.mtc_cosigner.specs.Works.{IsCosigner, cosign_outcome, cosigner_outcome}
 use Rattle.mtc_cosigner.specs.Works.{cosigner_says}

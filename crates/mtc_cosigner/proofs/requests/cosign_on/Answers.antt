@@ -1,14 +1,14 @@
 use Rattle.std.proofs.Common.{rules, subst, sym, ap, ◌∙◌, ◌++◌}
 use Rattle.std.specs.Int.{w8, w16}
-use Rattle.tls_wire.specs.Spelling.{vector}
-use Rattle.byte_forms.specs.Types.{Text}
+use Rattle.tls_wire.specs.Encoding.{vector}
+use Rattle.byte_formats.specs.Types.{Text}
 use Rattle.cosigner_core.specs.Folds.{having_signed}
 use Rattle.cosigner_core.specs.Records.{sign_record}
 use Rattle.cosigner_core.specs.Refusals.{cosign_refused}
 use Rattle.cosigner_core.specs.Views.{subtree_parts}
 use Rattle.cosigner_core.specs.Words.{cosigner_broken, cosigner_end, cosigner_state}
-use Rattle.mtc_answers.specs.Answers.{Ending, replied, said}
-use Rattle.mtc_answers.specs.declared.answer.Said.TheVariants.{Done}
+use Rattle.mtc_command.specs.Answers.{Ending, replied, said}
+use Rattle.mtc_command.specs.declared.answer.Said.TheVariants.{Done}
 use Rattle.mtc_cosigner.specs.CosignerOutcomes.{cosign_says, cosigned_text}
 use Rattle.mtc_cosigner.specs.Works.{HasWorkedOnCosigner}
 use Rattle.mtc_cosigner.proofs.Asked.{cosign_sound}

@@ -1,18 +1,18 @@
 use Rattle.std.proofs.Common.{Option, Result, Ok, Err}
 use Rattle.std.specs.Prelude.{IfOk, IfSome}
-use Rattle.byte_forms.specs.Places.{IsBytes}
-use Rattle.byte_forms.specs.Readings.{Answers}
-use Rattle.byte_forms.specs.Types.{HashFunction, Text}
+use Rattle.byte_formats.specs.Places.{IsBytes}
+use Rattle.byte_formats.specs.Readings.{Answers}
+use Rattle.byte_formats.specs.Types.{HashFunction, Text}
 use Rattle.cosigner_core.specs.ExportReading.{export_in}
 use Rattle.cosigner_core.specs.declared.error.ReadExportError.{ReadExportError}
-use Rattle.cosigner_core.specs.declared.error.ReadExportError.TheVariants.{Memory as NoRoom}
+use Rattle.cosigner_core.specs.declared.error.ReadExportError.TheVariants.{Memory as NoCapacity}
 use Rattle.cosigner_core.specs.declared.lists.Export.{Export}
 use Rattle.world_core.proofs.Premises.{export_steps}
 use Rattle.world_core.specs.Walk.{AreSteps}
 use Rattle.mtc_monitor.proofs.audit.kept_in.Goals as goal
 
 allowed : (h : HashFunction) (bytes : Text) (read : Result (Option Export) ReadExportError)
-    → IsBytes bytes → Answers NoRoom (export_in h bytes) read
+    → IsBytes bytes → Answers NoCapacity (export_in h bytes) read
     → IfOk read (λ kept. IfSome kept (λ e. AreSteps h e.steps))
 allowed h bytes (Ok kept) are is = export_steps h bytes kept are is
 allowed h bytes (Err why) are is = tt

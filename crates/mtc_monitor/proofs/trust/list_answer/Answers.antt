@@ -1,6 +1,6 @@
 use Rattle.std.proofs.Common.{◌≡◌, Bor, ap, arith, length}
 use Rattle.std.proofs.lemmas.List.{length-map}
-use Rattle.byte_forms.specs.Types.{Text}
+use Rattle.byte_formats.specs.Types.{Text}
 use Rattle.cert_fields.specs.Views.{texts}
 use Rattle.landmarks.proofs.BothWays.{list_read}
 use Rattle.mtc_monitor.proofs.trust.list_answer.Goals as goal

@@ -1,6 +1,6 @@
 use Rattle.std.proofs.Common.{◌≡◌, ◌≢◌, length, ne_eqb, arith, eq-eqb}
 use Rattle.std.proofs.lemmas.Result.{err_from_is_err_and}
-use Rattle.byte_forms.proofs.Loops.{walks_from, walks_more, walks_fails, walks_end}
+use Rattle.byte_formats.proofs.Loops.{walks_from, walks_more, walks_fails, walks_end}
 use Rattle.mtc_proof.specs.Reading.{mtc_signature_at}
 use Rattle.mtc_proof.proofs.list.all_signatures.Goals as goal
 

@@ -1,7 +1,7 @@
 use Rattle.std.proofs.Common.{length}
-use Rattle.byte_forms.specs.Readings.{discarded}
-use Rattle.byte_forms.specs.Lists.{up_to_end}
-use Rattle.byte_forms.proofs.Loops.{Walks}
+use Rattle.byte_formats.specs.Readings.{discarded}
+use Rattle.byte_formats.specs.Lists.{up_to_end}
+use Rattle.byte_formats.proofs.Loops.{Walks}
 use Rattle.mtc_proof.specs.Reading.{mtc_signature_at}
 use Rattle.mtc_proof.proofs.list.all_signatures.Given as goal
 

@@ -1,6 +1,6 @@
 use Rattle.std.proofs.Common.{subst}
-use Rattle.byte_forms.specs.Places.{At}
-use Rattle.byte_forms.specs.Readings.{Gives}
+use Rattle.byte_formats.specs.Places.{At}
+use Rattle.byte_formats.specs.Readings.{Gives}
 use Rattle.mtc_proof.specs.Reading.{checked_signatures}
 use Rattle.mtc_proof.proofs.Forms.{list_found, list_only}
 use Rattle.mtc_proof.proofs.list.check_signatures.Goals as goal

@@ -1,5 +1,5 @@
 use Rattle.std.proofs.Common.{◌∙◌, ap, append_assoc, refl, subst}
-use Rattle.tls_wire.specs.Spelling.{AreHashes}
+use Rattle.tls_wire.specs.Encoding.{AreHashes}
 use Rattle.mtc_proof.specs.Reading.{proof_in}
 use Rattle.mtc_proof.proofs.Forms.{proofs_again}
 use Rattle.mtc_proof.proofs.writing.write_proof.Goals as goal

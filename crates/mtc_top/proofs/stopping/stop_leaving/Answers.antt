@@ -1,7 +1,7 @@
 use Rattle.disk_core.specs.contracts.memory.mem_disk.MemDiskDisk.TheImpl.{ghosts as disks}
 use Rattle.mtc_room.specs.Memory.{disk_in}
 use Rattle.mtc_room.specs.contracts.memory.MemRoomRoom.TheImpl.{ghosts as rooms}
-use Rattle.mtc_answers.specs.Made.{images_at, images_since, moment_at}
+use Rattle.mtc_command.specs.Made.{images_at, images_since, moment_at}
 use Rattle.mtc_top.proofs.Placed.{one_left, stopped}
 use Rattle.mtc_top.proofs.stopping.stop_leaving.Goals as goal
 

@@ -1,13 +1,13 @@
 use Rattle.std.proofs.Common.{IfSome, Result, subst, sym}
 use Rattle.mtc_words.specs.Commands.{CommandValue}
 use Rattle.mtc_words.specs.declared.error.WordError.{WordError}
-use Rattle.mtc_answers.specs.Answers.{ending_of}
-use Rattle.mtc_answers.specs.Works.{TellsNew}
+use Rattle.mtc_command.specs.Answers.{ending_of}
+use Rattle.mtc_command.specs.Works.{ModelsNew}
 use Rattle.mtc_top.specs.Facts.{facts}
 use Rattle.mtc_top.proofs.top.answer.Goals as goal
 
 pub returns-in-Ok-clause-began : goal.returns-in-Ok-clause-began
 returns-in-Ok-clause-began g c =
     subst (λ (said : Result CommandValue WordError). IfSome (facts g.H.TreeHash.hash said).makes
-    (λ name. TellsNew g.R.Room g.R.Dsk.Disk name c.args.room.now c.perform.new.room
+    (λ name. ModelsNew g.R.Room g.R.Dsk.Disk name c.args.room.now c.perform.new.room
     (ending_of c.perform.result))) (sym c.in-Ok.ensures.exact) c.perform.ensures.began

@@ -1,6 +1,6 @@
 use Rattle.std.proofs.Common.{[], refl, arith}
-use Rattle.mtc_answers.proofs.Served.{answered}
-use Rattle.mtc_answers.specs.Answers.{ending_of}
+use Rattle.mtc_command.proofs.Served.{answered}
+use Rattle.mtc_command.specs.Answers.{ending_of}
 use Rattle.mtc_drill.specs.Summary.{drill_outcome}
 use Rattle.mtc_top.proofs.top.perform.Goals as goal
 
@@ -11,9 +11,9 @@ returns-in-Drill-clause-done g c =
     (answered g.R.Room g.R.Dsk.Disk [] [] [] (drill_outcome c.in-Drill.number) c.args.room.now
     c.args.room.now
     (record {
-      lent = refl;
+      opened = refl;
       later = omega arith;
-      tells = λ t. t;
+      is_modelled = λ t. t;
       others = λ name other. record { bytes = refl; disk = refl };
     })
     g.met.R.Dsk.Disk.only_now (ending_of c.drill.result) (drill_outcome c.in-Drill.number).answer

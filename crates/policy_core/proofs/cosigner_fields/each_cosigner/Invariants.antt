@@ -1,5 +1,5 @@
 use Rattle.std.proofs.Common.{◌≡◌, ◌≤◌, ◌++◌, drop, length, Ok}
-use Rattle.byte_forms.specs.Readings.{◌>>=◌}
+use Rattle.byte_formats.specs.Readings.{◌>>=◌}
 use Rattle.toml.specs.View.{items_view}
 use Rattle.policy_core.specs.CosignerFields.{cosigners_from}
 use Rattle.policy_core.specs.Limits.{most_cosigners}

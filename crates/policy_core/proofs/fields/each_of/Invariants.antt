@@ -1,5 +1,5 @@
 use Rattle.std.proofs.Common.{◌≡◌, ◌++◌, drop, Ok}
-use Rattle.byte_forms.specs.Readings.{◌>>=◌}
+use Rattle.byte_formats.specs.Readings.{◌>>=◌}
 use Rattle.toml.specs.View.{items_view}
 use Rattle.policy_core.specs.Fields.{each_of}
 use Rattle.policy_core.proofs.fields.each_of.Given as goal

@@ -1,5 +1,5 @@
 use Rattle.std.proofs.Common.{◌≤◌, arith, rules}
-use Rattle.tile_store.proofs.Compared.{reason-looked}
+use Rattle.tile_store.proofs.Compared.{reason-only_read}
 use Rattle.tile_store.specs.Comparing.{HasTileReason}
 use Rattle.tile_store.proofs.checking.check.Goals as goal
 
@@ -9,9 +9,9 @@ returns-in_err-compare-clause-err g c =
     let within : c.min.result ≤ c.args.to = omega arith in
     let reason : HasTileReason g.T.Disk g.H.TreeHash.hash c.args.rows.now c.args.from c.args.to
     c.args.disk.now c.compare.new.disk c.args.pool.now c.in_err-compare.field-0.0 =
-    reason-looked g.T.Disk g.H.TreeHash.hash c.args.rows.now c.args.from c.min.result c.args.to
+    reason-only_read g.T.Disk g.H.TreeHash.hash c.args.rows.now c.args.from c.min.result c.args.to
     c.args.disk.now c.look_len.new.disk c.compare.new.disk c.args.pool.now
-    c.in_err-compare.field-0.0 c.look_len.ensures.looks c.in_ok-whole.ensures.cause.fine within
+    c.in_err-compare.field-0.0 c.look_len.ensures.only_reads c.in_ok-whole.ensures.cause.fine within
     c.in_err-compare.ensures.err in
     let made = c.from_residual-in_err-compare.ensures in
     search rules

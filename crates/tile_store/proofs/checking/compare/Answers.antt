@@ -1,6 +1,6 @@
 use Rattle.std.proofs.Common.{◌≡◌, ◌*◌, ◌≤◌, true, false, sym, ◌∙◌, subst, arith, rules}
 use Rattle.std.proofs.lemmas.Bool.{false≢true}
-use Rattle.disk_core.proofs.Moments.{no_look}
+use Rattle.disk_core.proofs.Moments.{nothing_read}
 use Rattle.tile_store.proofs.Compared.{compared-on, first-other, found-more, found-none}
 use Rattle.tile_store.proofs.Compared.{unheld-still}
 use Rattle.tile_store.proofs.Numbers.{full-number, gone-kept, number-full}
@@ -12,7 +12,7 @@ pub loop-number-init : goal.loop-number-init
 loop-number-init g c =
     found-none g.T.Disk g.H.TreeHash.hash c.args.rows.now c.args.from c.args.disk.now
     c.args.pool.now
-    (no_look g.T.Disk c.args.disk.now (g.met.T.Disk.only_now c.args.disk.now)) c.requires.free
+    (nothing_read g.T.Disk c.args.disk.now (g.met.T.Disk.only_now c.args.disk.now)) c.requires.free
 
 pub matches-requires-clause-full : goal.matches-requires-clause-full
 matches-requires-clause-full g c =
@@ -38,7 +38,7 @@ matches-requires-clause-kept g c =
 pub matches-requires-clause-there : goal.matches-requires-clause-there
 matches-requires-clause-there g c =
     let number = c.tile_with-key.ensures.number in
-    let known = c.loop-number.invariant.compared.looks.known in
+    let known = c.loop-number.invariant.compared.only_reads.known in
     let there = c.requires.there in
     omega arith
 
@@ -82,8 +82,8 @@ returns-then-not-branch-clause-err g c =
           c.loop-number.disk c.args.pool.now c.loop-number.pool c.tile_with-key.ensures.low
           c.tile_with-key.ensures.number c.loop-number.auto.number c.loop-number-test.true
           c.loop-number.invariant
-          (λ bytes told frames leaves are tile.
-          let is = c.in_ok-matches.ensures.same bytes told frames leaves are in
+          (λ bytes contents frames leaves are tile.
+          let is = c.in_ok-matches.ensures.same bytes contents frames leaves are in
           false≢true (sym no ∙ is.1 tile)),
     )
 
@@ -95,5 +95,5 @@ loop-number-preserved g c =
     c.loop-number.disk c.matches.new.disk c.args.pool.now c.loop-number.pool
     c.matches.new.pool c.tile_with-key.ensures.low c.tile_with-key.ensures.number
     c.loop-number.invariant c.matches.ensures.compared c.in_ok-matches.ensures.cause.fine
-    (λ bytes told frames leaves are.
-    let is = c.in_ok-matches.ensures.same bytes told frames leaves are in is.0 yes)
+    (λ bytes contents frames leaves are.
+    let is = c.in_ok-matches.ensures.same bytes contents frames leaves are in is.0 yes)

@@ -15,14 +15,14 @@ load-requires-clause-few g c =
     c.requires.full
 
 pub returns-clause-same : goal.returns-clause-same
-returns-clause-same g c = λ b told frames leaves are.
+returns-clause-same g c = λ b contents frames leaves are.
     let h = g.H.TreeHash.hash in
     let level = c.args.key.level in
     let place = c.args.key.place in
     let eq = c.eq-same.ensures in
     let decides = bytes_eq-Decides c.frame.result.now c.tile_bytes.result.now in
     let here : c.frame.result.now ≡ part (tile_at level place) 8192 b =
-    c.frame.ensures.value ∙ c.load.ensures.frames b told frames c.in_ok-slot.slot.0 c.args.key
+    c.frame.ensures.value ∙ c.load.ensures.frames b contents frames c.in_ok-slot.slot.0 c.args.key
     c.in_ok-slot.ensures.held in
     let tile = c.tile_bytes.ensures.tile h leaves are in (
       λ yes.
@@ -37,6 +37,6 @@ returns-clause-compared g c =
     subst (HaveCompared g.T.Disk c.args.disk.now c.load.new.disk c.args.pool.now)
     (sym c.release.ensures)
     (compared-one g.T.Disk c.args.disk.now c.load.new.disk c.args.pool.now c.load.new.pool
-    c.in_ok-slot.slot.0 c.args.key c.load.ensures.looks c.load.ensures.frames
-    c.load.ensures.keys c.load.ensures.free c.load.ensures.count c.sound.ensures
+    c.in_ok-slot.slot.0 c.args.key c.load.ensures.only_reads c.load.ensures.frames
+    c.load.ensures.keys c.load.ensures.free c.load.ensures.count c.law_sound.ensures
     c.in_ok-slot.ensures.held)

@@ -1,7 +1,7 @@
 use Rattle.std.proofs.Common.{subst, arith}
 use Rattle.disk_core.specs.Disk.{Torn}
 use Rattle.disk_core.proofs.Moments.{goes_on, started}
-use Rattle.tile_store.proofs.Fronts.{behind-now, front-torn}
+use Rattle.tile_store.proofs.Prefixes.{behind-now, prefix-torn}
 use Rattle.tile_store.proofs.Numbers.{full-number, full-small}
 use Rattle.tile_store.specs.Layout.{tile_at}
 use Rattle.tile_store.specs.Writing.{IsImageBehind}
@@ -36,7 +36,7 @@ returns-clause-any_moment g c =
     record {
       before = step.0;
       left = step.1;
-      keeps = front-torn place c.tile_bytes.result.now step.0 image
+      keeps = prefix-torn place c.tile_bytes.result.now step.0 image
           (subst (λ p. Torn p c.tile_bytes.result.now step.0 image)
           c.place_of.ensures step.2);
     })

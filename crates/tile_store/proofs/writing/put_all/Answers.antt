@@ -39,7 +39,7 @@ returns-in_err-put-clause-behind g c =
     behind-put g.T.Disk c.args.disk.now c.loop-number.disk c.put.new.disk c.args.from
     (tile_at c.tile_with.result.level c.tile_with.result.place)
     (g.met.T.Disk.counts_now c.loop-number.disk) (omega arith) c.loop-number.invariant.behind
-    c.put.ensures.any_moment c.put.ensures.told (omega arith)
+    c.put.ensures.any_moment c.put.ensures.contents (omega arith)
 
 pub loop-number-preserved : goal.loop-number-preserved
 loop-number-preserved g c =
@@ -49,7 +49,7 @@ loop-number-preserved g c =
     (g.met.T.Disk.known_there c.loop-number.disk) c.loop-number.auto.number
     c.loop-number-test.true c.tile_with.ensures.low c.tile_with.ensures.number
     c.loop-number.invariant
-    c.put.ensures.any_moment c.put.ensures.told c.in_ok-put.ensures.known
+    c.put.ensures.any_moment c.put.ensures.contents c.in_ok-put.ensures.known
     c.in_ok-put.ensures.cause.fine c.in_ok-put.ensures.written
 
 pub returns-clause-written : goal.returns-clause-written
@@ -61,7 +61,7 @@ returns-clause-written g c =
     let place = c.requires.place in
     record {
       known = omega arith;
-      holds = λ before after told_old told_now leaves are first level place low below full.
-          written.holds before after told_old told_now leaves are first level place low
+      holds = λ before after contents_old contents_now leaves are first level place low below full.
+          written.holds before after contents_old contents_now leaves are first level place low
           (omega arith) full;
     }

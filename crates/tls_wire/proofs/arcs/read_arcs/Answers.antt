@@ -1,6 +1,6 @@
 use Rattle.std.proofs.lemmas.Result.{err_from_is_err_and}
-use Rattle.byte_forms.specs.Places.{at}
-use Rattle.byte_forms.proofs.Loops.{walks_more, walks_fails, walks_end}
+use Rattle.byte_formats.specs.Places.{at}
+use Rattle.byte_formats.proofs.Loops.{walks_more, walks_fails, walks_end}
 use Rattle.tls_wire.specs.Anchors.{arc_at}
 use Rattle.tls_wire.proofs.AnchorLoops.{some_left, none_left, less_left, arcs_fail, arcs_end}
 use Rattle.tls_wire.proofs.arcs.read_arcs.Goals as goal

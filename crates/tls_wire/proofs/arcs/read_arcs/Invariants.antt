@@ -1,8 +1,8 @@
 use Rattle.std.proofs.Common.{length, ◌-◌}
-use Rattle.byte_forms.specs.Places.{at}
-use Rattle.byte_forms.specs.Readings.{discarded}
-use Rattle.byte_forms.specs.Lists.{up_to_end}
-use Rattle.byte_forms.proofs.Loops.{Walks}
+use Rattle.byte_formats.specs.Places.{at}
+use Rattle.byte_formats.specs.Readings.{discarded}
+use Rattle.byte_formats.specs.Lists.{up_to_end}
+use Rattle.byte_formats.proofs.Loops.{Walks}
 use Rattle.tls_wire.specs.Anchors.{arc_at}
 use Rattle.tls_wire.proofs.arcs.read_arcs.Given as goal
 

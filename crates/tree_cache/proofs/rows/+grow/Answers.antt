@@ -11,7 +11,7 @@ returns-in-None-clause-grown t c = grown-same c.args.rows.now
 
 pub returns-in-None-clause-holds : goal.returns-in-None-clause-holds
 returns-in-None-clause-holds t c =
-    holds-none c.args.rows.now c.args.room c.in-None.ensures.cases c.requires.small
+    holds-none c.args.rows.now c.args.capacity c.in-None.ensures.cases c.requires.small
 
 pub returns-in_err-reserve-in-Some-clause-grown : goal.returns-in_err-reserve-in-Some-clause-grown
 returns-in_err-reserve-in-Some-clause-grown t c =
@@ -31,7 +31,8 @@ returns-in_ok-reserve-in-Some-clause-holds t c =
     let gone = c.reserve.ensures.gone in
     let more = c.in_ok-reserve-in-Some.ensures.spare in
     on_ok_weaker c.grow.result
-    (holds-more c.reserve.new.self c.grow.new.rows c.args.room (omega arith)) c.grow.ensures.holds
+    (holds-more c.reserve.new.self c.grow.new.rows c.args.capacity (omega arith))
+    c.grow.ensures.holds
 
 pub row_length-count-requires : goal.row_length-count-requires
 row_length-count-requires t c =
@@ -40,7 +41,7 @@ row_length-count-requires t c =
 
 pub grow-requires : goal.grow-requires
 grow-requires t c =
-    let half = half-below c.args.room c.args.rows.now c.in-Some.row.now c.in-Some.above.now
+    let half = half-below c.args.capacity c.args.rows.now c.in-Some.row.now c.in-Some.above.now
     c.in-Some.ensures.cases.0 c.requires.small in
     let counted : HaveCount c.in-Some.above.now =
     counted-above c.args.rows.now c.in-Some.row.now c.in-Some.above.now

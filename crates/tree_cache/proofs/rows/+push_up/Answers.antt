@@ -1,26 +1,26 @@
 use Rattle.std.proofs.Common.{length, ap, refl, arith, rules}
 use Rattle.std.proofs.lemmas.List.{length_push}
-use Rattle.tree_cache.specs.Rows.{HaveRoom}
-use Rattle.tree_cache.proofs.Pushes.{gone-on, holds-on, long-alone, long-joined, room-above}
-use Rattle.tree_cache.proofs.Pushes.{room-some, room-spare, rows-alone, rows-joined}
+use Rattle.tree_cache.specs.Rows.{HaveCapacity}
+use Rattle.tree_cache.proofs.Pushes.{gone-on, holds-on, long-alone, long-joined, capacity-above}
+use Rattle.tree_cache.proofs.Pushes.{capacity-some, capacity-spare, rows-alone, rows-joined}
 use Rattle.tree_cache.proofs.rows.+push_up.Goals as goal
 
 pub unreachable-requires : goal.unreachable-requires
 unreachable-requires g t c =
-    room-some c.args.rows.now c.requires.room c.in-None.ensures.cases
+    capacity-some c.args.rows.now c.requires.capacity c.in-None.ensures.cases
 
 pub push-requires : goal.push-requires
 push-requires g t c =
-    room-spare c.args.rows.now c.in-Some.row.now c.in-Some.above.now
-    c.in-Some.ensures.cases.0 c.requires.room
+    capacity-spare c.args.rows.now c.in-Some.row.now c.in-Some.above.now
+    c.in-Some.ensures.cases.0 c.requires.capacity
 
 pub push_up-requires : goal.push_up-requires
 push_up-requires g t c =
     let size = ap length c.push.ensures.hashes in
     let one = length_push c.in-Some.row.now.kept c.args.hash.now in
-    let room : HaveRoom c.in-Some.above.now =
-    room-above c.args.rows.now c.in-Some.row.now c.in-Some.above.now
-    (length c.push.new.self.kept) c.in-Some.ensures.cases.0 c.requires.room (omega arith)
+    let capacity : HaveCapacity c.in-Some.above.now =
+    capacity-above c.args.rows.now c.in-Some.row.now c.in-Some.above.now
+    (length c.push.new.self.kept) c.in-Some.ensures.cases.0 c.requires.capacity (omega arith)
     c.in-Some-last_pair.ensures.0 in
     search rules
 
@@ -69,4 +69,4 @@ pub returns-in_default-clause-holds : goal.returns-in_default-clause-holds
 returns-in_default-clause-holds g t c =
     holds-on c.args.rows.now c.in-Some.row.now c.push.new.self c.in-Some.above.now
     c.in-Some.above.now c.args.hash.now c.in-Some.ensures.cases.0 c.push.ensures.gone
-    c.push.ensures.hashes c.push.ensures.spare (λ room holds. holds)
+    c.push.ensures.hashes c.push.ensures.spare (λ capacity holds. holds)

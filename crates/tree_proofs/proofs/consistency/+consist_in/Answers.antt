@@ -1,6 +1,6 @@
 use Rattle.std.proofs.Common.{◌+◌, ◌-◌, ◌<◌, false, ◌∙◌, arith}
 use Rattle.tree_core.specs.Path.{part_of}
-use Rattle.tree_proofs.proofs.Fulls.{some_in, told_within}
+use Rattle.tree_proofs.proofs.Fulls.{some_in, modelled_within}
 use Rattle.tree_proofs.proofs.Made.{part_proof-left, part_proof-over, part_proof-right}
 use Rattle.tree_proofs.proofs.Making.{cause_on, made_by, one_alone, one_higher, part_from}
 use Rattle.tree_proofs.proofs.Making.{proof_of_known, proof_of_root, split_left, split_right}
@@ -13,7 +13,7 @@ returns-then-known-clause-proof g t c =
     c.args.start c.args.end
     c.args.known _ (some_in c.args.low c.args.high c.requires.valid) c.if-low-start.true
     c.if-high-end.true
-    (told_within _ _ c.args.high (g.met.N.Nodes.counted c.args.nodes.now) c.requires.within)
+    (modelled_within _ _ c.args.high (g.met.N.Nodes.counted c.args.nodes.now) c.requires.within)
     c.if-known.true c.clear.ensures
 
 pub returns-then-high-end-clause-proof : goal.returns-then-high-end-clause-proof
@@ -22,7 +22,7 @@ returns-then-high-end-clause-proof g t c =
     c.args.low c.args.high c.args.start c.args.end c.args.known c.clear.new.self
     c.push_node.new.out (some_in c.args.low c.args.high c.requires.valid) c.if-low-start.true
     c.if-high-end.true
-    (told_within _ _ c.args.high (g.met.N.Nodes.counted c.args.nodes.now) c.requires.within)
+    (modelled_within _ _ c.args.high (g.met.N.Nodes.counted c.args.nodes.now) c.requires.within)
     c.if-known.false c.clear.ensures c.push_node.ensures.pushed
 
 pub returns-then-high-end-clause-short : goal.returns-then-high-end-clause-short
@@ -31,9 +31,9 @@ returns-then-high-end-clause-short g t c =
     c.args.low c.args.high (c.args.high - c.args.low) c.clear.new.self c.push_node.new.out
     c.clear.ensures c.push_node.ensures.pushed
 
-pub push_node-requires-then-end-middle-clause-room :
-    goal.push_node-requires-then-end-middle-clause-room
-push_node-requires-then-end-middle-clause-room g t c = let short =
+pub push_node-requires-then-end-middle-clause-capacity :
+    goal.push_node-requires-then-end-middle-clause-capacity
+push_node-requires-then-end-middle-clause-capacity g t c = let short =
     c.in_ok-consist_in.ensures.short 64 (omega arith) in omega arith
 
 pub returns-in_ok-consist_in-clause-proof : goal.returns-in_ok-consist_in-clause-proof
@@ -53,7 +53,7 @@ returns-in_ok-consist_in-clause-proof g t c =
     (λ xs within. part_proof-left g.N.H.TreeHash.hash xs c.args.start c.args.end c.args.low
     c.split_between-middle.result c.args.high
     c.args.known within more split.split c.requires.from c.requires.some c.if-end-middle.true)
-    (told_within _ _ c.args.high (g.met.N.Nodes.counted c.args.nodes.now) c.requires.within)
+    (modelled_within _ _ c.args.high (g.met.N.Nodes.counted c.args.nodes.now) c.requires.within)
     c.in_ok-consist_in.ensures.list c.in_ok-consist_in.ensures.proof
     c.push_node-then-end-middle.ensures.pushed
 
@@ -88,9 +88,9 @@ returns-in_ok-consist_in-clause-cause g t c =
     cause_on c.push_node-then-end-middle.result _ _ _ c.in_ok-consist_in.ensures.cause.fine
     c.push_node-then-end-middle.ensures.cause
 
-pub push_node-requires-then-middle-start-clause-room :
-    goal.push_node-requires-then-middle-start-clause-room
-push_node-requires-then-middle-start-clause-room g t c = let short =
+pub push_node-requires-then-middle-start-clause-capacity :
+    goal.push_node-requires-then-middle-start-clause-capacity
+push_node-requires-then-middle-start-clause-capacity g t c = let short =
     c.in_ok-consist_in-2.ensures.short 64 (omega arith) in omega arith
 
 pub returns-in_ok-consist_in-2-clause-proof : goal.returns-in_ok-consist_in-2-clause-proof
@@ -111,7 +111,7 @@ returns-in_ok-consist_in-2-clause-proof g t c =
     (λ xs within. part_proof-right g.N.H.TreeHash.hash xs c.args.start c.args.end c.args.low
     c.split_between-middle.result c.args.high
     c.args.known within more split.split c.if-middle-start.true c.requires.some c.requires.inside)
-    (told_within _ _ c.args.high (g.met.N.Nodes.counted c.args.nodes.now) c.requires.within)
+    (modelled_within _ _ c.args.high (g.met.N.Nodes.counted c.args.nodes.now) c.requires.within)
     c.in_ok-consist_in-2.ensures.list c.in_ok-consist_in-2.ensures.proof
     c.push_node-then-middle-start.ensures.pushed
 
@@ -146,9 +146,9 @@ returns-in_ok-consist_in-2-clause-cause g t c =
     cause_on c.push_node-then-middle-start.result _ _ _ c.in_ok-consist_in-2.ensures.cause.fine
     c.push_node-then-middle-start.ensures.cause
 
-pub push_node-requires-else-middle-start-clause-room :
-    goal.push_node-requires-else-middle-start-clause-room
-push_node-requires-else-middle-start-clause-room g t c = let short =
+pub push_node-requires-else-middle-start-clause-capacity :
+    goal.push_node-requires-else-middle-start-clause-capacity
+push_node-requires-else-middle-start-clause-capacity g t c = let short =
     c.in_ok-consist_in-3.ensures.short 64 (omega arith) in omega arith
 
 pub returns-in_ok-consist_in-3-clause-proof : goal.returns-in_ok-consist_in-3-clause-proof
@@ -172,7 +172,7 @@ returns-in_ok-consist_in-3-clause-proof g t c =
     c.args.known within more split.split c.requires.from
     (part_from c.args.low c.args.high c.args.start c.args.end c.requires.from c.requires.inside
     c.else-low-start.either) c.if-middle-start.false c.if-end-middle.false c.requires.inside)
-    (told_within _ _ c.args.high (g.met.N.Nodes.counted c.args.nodes.now) c.requires.within)
+    (modelled_within _ _ c.args.high (g.met.N.Nodes.counted c.args.nodes.now) c.requires.within)
     c.in_ok-consist_in-3.ensures.list c.in_ok-consist_in-3.ensures.proof
     c.push_node-else-middle-start.ensures.pushed
 

@@ -1,6 +1,6 @@
 use Rattle.std.proofs.Common.{◌+◌, ◌-◌, ◌<◌, ◌∙◌, arith}
 use Rattle.tree_core.specs.Path.{part_of, path_of}
-use Rattle.tree_proofs.proofs.Fulls.{told_within}
+use Rattle.tree_proofs.proofs.Fulls.{modelled_within}
 use Rattle.tree_proofs.proofs.Making.{cause_on, made_by, not_higher, path_of_one, split_left}
 use Rattle.tree_proofs.proofs.Making.{split_right}
 use Rattle.tree_proofs.proofs.Parts.{path-left, path-right}
@@ -11,11 +11,11 @@ returns-then-end-start-eq1-clause-path g t c =
     path_of_one g.N.H.TreeHash.hash (g.N.Nodes.leaves c.args.nodes.now) c.args.index c.args.start
     c.args.end _
     (let one = c.if-end-start-eq1.true in omega arith)
-    (told_within _ _ c.args.end (g.met.N.Nodes.counted c.args.nodes.now) c.requires.within)
+    (modelled_within _ _ c.args.end (g.met.N.Nodes.counted c.args.nodes.now) c.requires.within)
     c.clear.ensures
 
-pub push_node-requires-clause-room : goal.push_node-requires-clause-room
-push_node-requires-clause-room g t c = let short =
+pub push_node-requires-clause-capacity : goal.push_node-requires-clause-capacity
+push_node-requires-clause-capacity g t c = let short =
     c.in_ok-include.ensures.short 64 (omega arith) in omega arith
 
 pub returns-in_ok-include-clause-path : goal.returns-in_ok-include-clause-path
@@ -35,7 +35,7 @@ returns-in_ok-include-clause-path g t c =
     (λ xs within. path-left g.N.H.TreeHash.hash xs c.args.index c.args.start
     c.split_between-middle.result c.args.end within more
     c.split_between-middle.ensures.split c.requires.from c.if-index-middle.true)
-    (told_within _ _ c.args.end (g.met.N.Nodes.counted c.args.nodes.now) c.requires.within)
+    (modelled_within _ _ c.args.end (g.met.N.Nodes.counted c.args.nodes.now) c.requires.within)
     c.in_ok-include.ensures.list c.in_ok-include.ensures.path
     c.push_node.ensures.pushed
 
@@ -70,9 +70,9 @@ returns-in_ok-include-clause-cause g t c =
     cause_on c.push_node.result _ _ _ c.in_ok-include.ensures.cause.fine
     c.push_node.ensures.cause
 
-pub push_node-requires-else-index-middle-clause-room :
-    goal.push_node-requires-else-index-middle-clause-room
-push_node-requires-else-index-middle-clause-room g t c = let short =
+pub push_node-requires-else-index-middle-clause-capacity :
+    goal.push_node-requires-else-index-middle-clause-capacity
+push_node-requires-else-index-middle-clause-capacity g t c = let short =
     c.in_ok-include-2.ensures.short 64 (omega arith) in omega arith
 
 pub returns-in_ok-include-2-clause-path : goal.returns-in_ok-include-2-clause-path
@@ -92,7 +92,7 @@ returns-in_ok-include-2-clause-path g t c =
     (λ xs within. path-right g.N.H.TreeHash.hash xs c.args.index c.args.start
     c.split_between-middle.result c.args.end within more
     c.split_between-middle.ensures.split c.if-index-middle.false)
-    (told_within _ _ c.args.end (g.met.N.Nodes.counted c.args.nodes.now) c.requires.within)
+    (modelled_within _ _ c.args.end (g.met.N.Nodes.counted c.args.nodes.now) c.requires.within)
     c.in_ok-include-2.ensures.list c.in_ok-include-2.ensures.path
     c.push_node-else-index-middle.ensures.pushed
 

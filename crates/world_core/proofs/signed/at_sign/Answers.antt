@@ -6,7 +6,7 @@ in_consistency-requires g c =
     sign_ready g.H.TreeHash.hash c.args.entries.now c.args.steps.now c.args.place c.in-Sign.index
     c.in-Sign.start c.in-Sign.end c.in-Sign.hash c.in-Sign.proof c.as_slice.result.now
     c.held_by-held.result c.requires.allowed c.requires.within
-    (found_at c.args.steps.now c.args.place _ _ c.requires.step c.in-Sign.is) c.requires.front
+    (found_at c.args.steps.now c.args.place _ _ c.requires.step c.in-Sign.is) c.requires.prefix
     c.held_by-held.ensures c.as_slice.ensures
 
 pub returns : goal.returns
@@ -15,5 +15,5 @@ returns g c =
     (sign_found g.H.TreeHash.hash c.args.entries.now c.args.steps.now c.args.step.now
     c.args.place c.in-Sign.index c.in-Sign.start c.in-Sign.end c.in-Sign.hash c.in-Sign.proof
     c.as_slice.result.now c.held_by-held.result c.requires.allowed c.requires.within
-    c.requires.step c.in-Sign.is c.requires.front c.held_by-held.ensures c.as_slice.ensures)
+    c.requires.step c.in-Sign.is c.requires.prefix c.held_by-held.ensures c.as_slice.ensures)
     c.in_consistency.ensures

@@ -1,11 +1,11 @@
 use Rattle.std.proofs.Common.{◌≡◌, ℕ, ◌++◌, ◌∷◌, [], IfSome, None, Result, Ok, Err, ap, subst}
 use Rattle.std.proofs.Common.{sym, ◌∙◌}
 use Rattle.std.proofs.lemmas.Result.{err_from_is_err_and}
-use Rattle.byte_forms.specs.Types.{Text}
+use Rattle.byte_formats.specs.Types.{Text}
 use Rattle.issuance_log.specs.Folds.{log_of, one_item_more, with_item}
 use Rattle.issuance_log.specs.Records.{entry_record}
 use Rattle.issuance_log.specs.Shown.{shown_with}
-use Rattle.issuance_log.specs.Words.{log_broken, log_end, log_records, told_state, view_of}
+use Rattle.issuance_log.specs.Words.{log_broken, log_end, log_records, modelled_state, view_of}
 use Rattle.issuance_log.specs.Words.{LogAppends}
 use Rattle.issuance_log.specs.Refusals.{ItemKeepsTo, add_refusal}
 use Rattle.issuance_log.specs.Settings.{Settings}
@@ -16,7 +16,7 @@ use Rattle.authority_core.specs.Issuing.{entry_for}
 use Rattle.authority_core.specs.Issues.{KeepsToOrMemory, issued_entry, issued_log, issued_record}
 use Rattle.authority_core.specs.Requests.{RequestParts}
 use Rattle.authority_core.proofs.Answered.{not_touched, of_refusal, or_memory}
-use Rattle.authority_core.proofs.Told.{own_told}
+use Rattle.authority_core.proofs.Modelled.{own_modelled}
 use Rattle.authority_core.proofs.issuing.adding.issue.Goals as goal
 
 -- The same entry and key.
@@ -42,9 +42,10 @@ returns-clause-appends g c =
 pub returns-clause-own : goal.returns-clause-own
 returns-clause-own g c =
     let log = c.args.log.now in
-    own_told (told_state log) (told_state c.add.new.self) (view_of log) _ c.as_slice.result.now
-    c.as_slice-2.result.now c.in_ok-index.index c.in_ok-index.ensures.appends.tells.told
-    c.sound.ensures.view c.in_ok-index.ensures.index
+    own_modelled (modelled_state log) (modelled_state c.add.new.self) (view_of log) _
+    c.as_slice.result.now
+    c.as_slice-2.result.now c.in_ok-index.index c.in_ok-index.ensures.appends.is_modelled.contents
+    c.law_sound.ensures.view c.in_ok-index.ensures.index
     (ap (λ (s : Settings). s.id) (c.settings.view_is ∙ c.settings-settings.ensures.value))
     (subst (IsOwnEntry _) (sym (c.as_slice.ensures ∙ c.in_ok-entry.ensures.bytes))
     c.in_ok-entry.ensures.own)

@@ -1,10 +1,10 @@
 use Rattle.std.proofs.Common.{◌≡◌, IfSome, Ok, subst, arith}
-use Rattle.byte_forms.specs.Types.{Text}
+use Rattle.byte_formats.specs.Types.{Text}
 use Rattle.issuance_log.specs.Refusals.{item_at}
 use Rattle.issuance_log.specs.Words.{log_records, log_tiles_disk, view_of}
-use Rattle.issuance_log.proofs.Asked.{asks_stays, asks_told}
+use Rattle.issuance_log.proofs.Asked.{asks_stays, asks_modelled}
 use Rattle.authority_core.specs.Certificates.{IsCertificateOf}
-use Rattle.authority_core.proofs.Told.{accepts_told, asks_then, written_told}
+use Rattle.authority_core.proofs.Modelled.{accepts_modelled, asks_then, written_modelled}
 use Rattle.authority_core.proofs.writing.item.written.Goals as goal
 
 pub returns-in-Ok-clause-written : goal.returns-in-Ok-clause-written
@@ -14,15 +14,15 @@ returns-in-Ok-clause-written g c =
     let made = c.in_ok-certificate-in-Ok in
     let item = subst (λ o. IfSome o (λ s. item_at s c.args.index
     ≡ Ok (c.entry.new.entry, c.entry.new.spki)))
-    (asks_told log c.proof_of.new.log c.in_ok-proof.ensures.asks) c.in-Ok.ensures.item in
-    written_told h c.args.index c.args.start c.args.end c.args.signatures.now
+    (asks_modelled log c.proof_of.new.log c.in_ok-proof.ensures.asks) c.in-Ok.ensures.item in
+    written_modelled h c.args.index c.args.start c.args.end c.args.signatures.now
     c.entry.new.entry c.entry.new.spki c.in_ok-proof.proof made.certificate
-    (view_of log) (g.T.Disk.told (log_tiles_disk log)) (log_records log) (omega arith)
+    (view_of log) (g.T.Disk.contents (log_tiles_disk log)) (log_records log) (omega arith)
     (subst (λ (e : Text). IsCertificateOf h c.args.index e c.entry.new.spki c.in_ok-proof.proof
     made.certificate) c.as_slice.ensures
     (subst (λ (k : Text). IsCertificateOf h c.args.index c.as_slice.result.now k
     c.in_ok-proof.proof made.certificate) c.as_slice-in-Ok.ensures made.ensures))
-    c.in_ok-proof.ensures.proof item c.sound.ensures.view
+    c.in_ok-proof.ensures.proof item c.law_sound.ensures.view
 
 pub returns-in-Ok-clause-accepted : goal.returns-in-Ok-clause-accepted
 returns-in-Ok-clause-accepted g c =
@@ -31,19 +31,19 @@ returns-in-Ok-clause-accepted g c =
     let made = c.in_ok-certificate-in-Ok in
     let item = subst (λ o. IfSome o (λ s. item_at s c.args.index
     ≡ Ok (c.entry.new.entry, c.entry.new.spki)))
-    (asks_told log c.proof_of.new.log c.in_ok-proof.ensures.asks) c.in-Ok.ensures.item in
-    accepts_told h c.args.index c.args.start c.args.end c.args.signatures.now
-    made.certificate (view_of log) (g.T.Disk.told (log_tiles_disk log))
+    (asks_modelled log c.proof_of.new.log c.in_ok-proof.ensures.asks) c.in-Ok.ensures.item in
+    accepts_modelled h c.args.index c.args.start c.args.end c.args.signatures.now
+    made.certificate (view_of log) (g.T.Disk.contents (log_tiles_disk log))
     (log_records log) c.requires.valid c.requires.from c.requires.below c.requires.within
-    c.sound.ensures.view c.in_ok-proof.ensures.fits
-    (written_told h c.args.index c.args.start c.args.end c.args.signatures.now
+    c.law_sound.ensures.view c.in_ok-proof.ensures.fits
+    (written_modelled h c.args.index c.args.start c.args.end c.args.signatures.now
     c.entry.new.entry c.entry.new.spki c.in_ok-proof.proof made.certificate
-    (view_of log) (g.T.Disk.told (log_tiles_disk log)) (log_records log) (omega arith)
+    (view_of log) (g.T.Disk.contents (log_tiles_disk log)) (log_records log) (omega arith)
     (subst (λ (e : Text). IsCertificateOf h c.args.index e c.entry.new.spki c.in_ok-proof.proof
     made.certificate) c.as_slice.ensures
     (subst (λ (k : Text). IsCertificateOf h c.args.index c.as_slice.result.now k
     c.in_ok-proof.proof made.certificate) c.as_slice-in-Ok.ensures made.ensures))
-    c.in_ok-proof.ensures.proof item c.sound.ensures.view)
+    c.in_ok-proof.ensures.proof item c.law_sound.ensures.view)
 
 pub returns-in_err-proof-clause-stays : goal.returns-in_err-proof-clause-stays
 returns-in_err-proof-clause-stays g c =

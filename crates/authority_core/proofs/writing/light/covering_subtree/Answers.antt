@@ -11,7 +11,7 @@ pub of_marks-requires-clause-small : goal.of_marks-requires-clause-small
 of_marks-requires-clause-small g c = λ i.
     let few = bounded 0 (view_of c.args.log.now).size c.marks.result.now
     c.marks.ensures.rising (suc i) in
-    omega (arith, few, c.sound.ensures.numbers.few, c.sound.ensures.numbers.allowed.few)
+    omega (arith, few, c.law_sound.ensures.numbers.few, c.law_sound.ensures.numbers.allowed.few)
 
 pub returns-clause-holds : goal.returns-clause-holds
 returns-clause-holds g c =

@@ -11,7 +11,7 @@ use Rattle.cosigner_core.proofs.Adds.{grown, keeps_append, keeps_second, none_of
 use Rattle.cosigner_core.proofs.Adds.{on_err, refused, some_body, stay_kept}
 use Rattle.cosigner_core.proofs.Allowed.{added, sign_allowed, valid_step}
 use Rattle.cosigner_core.proofs.Keeps.{keeps_sound, made_of, made_sound}
-use Rattle.cosigner_core.proofs.Spelled.{length-sign}
+use Rattle.cosigner_core.proofs.Encoded.{length-sign}
 use Rattle.cosigner_core.proofs.cosigner.Cosigner.cosign.Goals as goal
 
 pub returns-in_err-test_subtree-clause-appends : goal.returns-in_err-test_subtree-clause-appends
@@ -37,7 +37,7 @@ returns-in_err-append-clause-appends g c =
     (record {
       leaves = c.in_err-append.ensures.leaves;
       broken = c.in_err-append.ensures.broken;
-      told = c.in_err-append.ensures.told;
+      contents = c.in_err-append.ensures.contents;
       count = c.in_err-append.ensures.count;
       as_read = c.in_err-append.ensures.as_read;
       any_moment = c.in_err-append.ensures.any_moment;
@@ -52,7 +52,7 @@ returns-in_err-append-clause-records g c =
     (record {
       leaves = c.in_err-append.ensures.leaves;
       broken = c.in_err-append.ensures.broken;
-      told = c.in_err-append.ensures.told;
+      contents = c.in_err-append.ensures.contents;
       count = c.in_err-append.ensures.count;
       as_read = c.in_err-append.ensures.as_read;
       any_moment = c.in_err-append.ensures.any_moment;
@@ -96,7 +96,7 @@ invariant_of-self g c = record {
       c.in_err-append.field-0.0 (record {
         leaves = c.in_err-append.ensures.leaves;
         broken = c.in_err-append.ensures.broken;
-        told = c.in_err-append.ensures.told;
+        contents = c.in_err-append.ensures.contents;
         count = c.in_err-append.ensures.count;
         as_read = c.in_err-append.ensures.as_read;
         any_moment = c.in_err-append.ensures.any_moment;
@@ -129,7 +129,7 @@ returns-clause-appends g c =
     (record {
       leaves = c.in_ok-append.ensures.leaves;
       broken = c.in_ok-append.ensures.broken;
-      told = c.in_ok-append.ensures.told;
+      contents = c.in_ok-append.ensures.contents;
       count = c.in_ok-append.ensures.count;
       as_read = c.in_ok-append.ensures.as_read;
       any_moment = c.in_ok-append.ensures.any_moment;

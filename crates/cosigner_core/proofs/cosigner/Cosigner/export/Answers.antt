@@ -1,5 +1,5 @@
 use Rattle.std.proofs.Common.{◌∙◌, sym}
-use Rattle.disk_core.proofs.Moments.{no_look}
+use Rattle.disk_core.proofs.Moments.{nothing_read}
 use Rattle.journal_core.proofs.Copies.{when_ok}
 use Rattle.cosigner_core.specs.Words.{cosigner_disk, cosigner_end, cosigner_records, cosigner_state}
 use Rattle.cosigner_core.proofs.Exported.{export_begun, export_prefix, export_whole}
@@ -8,8 +8,8 @@ use Rattle.cosigner_core.proofs.cosigner.Cosigner.export.Goals as goal
 pub returns-in-Err-clause-prefix : goal.returns-in-Err-clause-prefix
 returns-in-Err-clause-prefix g c =
     export_begun (cosigner_state c.args.self.now) (cosigner_records c.args.self.now)
-    (g.O.Sink.taken c.args.out.now) (g.O.Sink.taken c.write_front.new.out)
-    c.write_front.ensures.prefix
+    (g.O.Sink.taken c.args.out.now) (g.O.Sink.taken c.write_prefix.new.out)
+    c.write_prefix.ensures.prefix
 
 pub returns-clause-written : goal.returns-clause-written
 returns-clause-written g c =
@@ -18,9 +18,9 @@ returns-clause-written g c =
     c.end_behind_first-from.result (cosigner_end it)
     (λ first long. c.end_behind_first-from.ensures.end first
     (long ∙ sym c.first_size.ensures.value))
-    (g.D.Disk.told (cosigner_disk it)) (g.O.Sink.taken c.args.out.now)
-    (g.O.Sink.taken c.write_front.new.out) (g.O.Sink.taken c.copy_behind.new.out) it.settled
-    (g.met.D.Disk.told_bytes (cosigner_disk it)) c.in-Ok.ensures.ok) c.copy_behind.ensures.ok
+    (g.D.Disk.contents (cosigner_disk it)) (g.O.Sink.taken c.args.out.now)
+    (g.O.Sink.taken c.write_prefix.new.out) (g.O.Sink.taken c.copy_behind.new.out) it.settled
+    (g.met.D.Disk.contents_bytes (cosigner_disk it)) c.in-Ok.ensures.ok) c.copy_behind.ensures.ok
 
 pub returns-clause-prefix : goal.returns-clause-prefix
 returns-clause-prefix g c =
@@ -29,9 +29,9 @@ returns-clause-prefix g c =
     (cosigner_end it)
     (λ first long. c.end_behind_first-from.ensures.end first
     (long ∙ sym c.first_size.ensures.value))
-    (g.D.Disk.told (cosigner_disk it)) (g.O.Sink.taken c.args.out.now)
-    (g.O.Sink.taken c.write_front.new.out) (g.O.Sink.taken c.copy_behind.new.out) it.settled
-    (g.met.D.Disk.told_bytes (cosigner_disk it)) c.in-Ok.ensures.ok c.copy_behind.ensures.prefix
+    (g.D.Disk.contents (cosigner_disk it)) (g.O.Sink.taken c.args.out.now)
+    (g.O.Sink.taken c.write_prefix.new.out) (g.O.Sink.taken c.copy_behind.new.out) it.settled
+    (g.met.D.Disk.contents_bytes (cosigner_disk it)) c.in-Ok.ensures.ok c.copy_behind.ensures.prefix
 
-pub returns-in-Err-clause-looks : goal.returns-in-Err-clause-looks
-returns-in-Err-clause-looks g c = no_look g.D.Disk _ (g.met.D.Disk.only_now _)
+pub returns-in-Err-clause-only_reads : goal.returns-in-Err-clause-only_reads
+returns-in-Err-clause-only_reads g c = nothing_read g.D.Disk _ (g.met.D.Disk.only_now _)

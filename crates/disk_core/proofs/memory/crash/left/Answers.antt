@@ -13,7 +13,7 @@ loop-change-preserved c =
     c.loop-change.change-index) was.0 was.1)
 
 pub returns : goal.returns
-returns c = λ looks.
+returns c = λ only_reads.
     subst (λ (s : State). IsImage s c.loop-change.image.items)
-    (state_in_all c.args.first.now c.args.changes.now c.loop-change.change-index looks
+    (state_in_all c.args.first.now c.args.changes.now c.loop-change.change-index only_reads
     (omega arith)) c.loop-change.invariant.1

@@ -1,8 +1,8 @@
 use Rattle.std.proofs.Common.{◌≡◌, ◌∙◌, List, [], ◌∷◌, Ok, Some, sym, subst, ap, refl}
-use Rattle.byte_forms.specs.Types.{Text}
+use Rattle.byte_formats.specs.Types.{Text}
 use Rattle.disk_core.specs.Memory.{bytes_of}
 use Rattle.disk_core.specs.declared.memory.mem_disk.MemDisk.{MemDisk}
-use Rattle.journal_core.specs.Format.{StandsFor}
+use Rattle.journal_core.specs.Format.{Represents}
 use Rattle.lmots_core.specs.declared.parameters.OtsType.TheVariants.{W4}
 use Rattle.lms_core.specs.declared.heights.LmsType.TheVariants.{H5}
 use Rattle.cosigner_core.specs.Folds.{cosigner_of, new_cosigner}
@@ -27,8 +27,8 @@ returns-in-Ok-clause-state g c =
     let same : settings_with id log ≡ cosigner_settings c.args.last =
     ap (λ (x : Text). settings_with x log) c.in_ok-id_of.ensures
     ∙ ap (settings_with (id_of c.args.last)) c.in_ok-id_of-2.ensures in
-    let holds : StandsFor (bytes_of c.into_disk.result) (records_on c.into_disk.result) =
-    subst (λ (d : MemDisk). StandsFor (bytes_of d) (records_on d)) (sym c.into_disk.ensures)
+    let holds : Represents (bytes_of c.into_disk.result) (records_on c.into_disk.result) =
+    subst (λ (d : MemDisk). Represents (bytes_of d) (records_on d)) (sym c.into_disk.ensures)
     (c.in-Ok.journal.stands (bytes_of c.in-Ok.journal.disk) refl) in
     let first : records_on c.into_disk.result
     ≡ cosigner_record (settings_with id log) c.in_ok-secret.secret ∷ [] =

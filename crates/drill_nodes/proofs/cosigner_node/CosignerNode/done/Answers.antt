@@ -1,8 +1,8 @@
 use Rattle.std.proofs.Common.{◌≡◌, ◌∙◌, List, [], ◌∷◌, ◌++◌, Some, sym, subst, ap, refl}
-use Rattle.byte_forms.specs.Types.{Text}
+use Rattle.byte_formats.specs.Types.{Text}
 use Rattle.disk_core.specs.Memory.{bytes_of}
 use Rattle.cosigner_core.specs.Folds.{CosignerState}
-use Rattle.journal_core.specs.Ends.{settled_of}
+use Rattle.journal_core.specs.Ends.{durable_of}
 use Rattle.cosigner_core.specs.Words.{cosigner_disk, cosigner_end}
 use Rattle.drill_nodes.specs.CosignerCalls.{body_called, cosigner_behind}
 use Rattle.drill_nodes.specs.CosignerNodes.{IsCosignerDisk}
@@ -19,7 +19,7 @@ invariant_of-result g c =
     let grown = called.grown c.if-branch.true in
     let disk = cosigner_disk c.call_cosigner.new.cosigner in
     let list : List Text =
-    settled_of (cosigner_end c.args.self.cosigner) (bytes_of (cosigner_disk c.args.self.cosigner))
+    durable_of (cosigner_end c.args.self.cosigner) (bytes_of (cosigner_disk c.args.self.cosigner))
     ++ body_called (cosigner_shown c.args.self) c.args.call.now ∷ [] in
     record {
       sound = grown.sound;
@@ -36,7 +36,7 @@ returns-then-branch-clause-records g c =
     let called = c.in_ok-call_cosigner.ensures in
     let body = body_called (cosigner_shown c.args.self) c.args.call.now in
     let list : List Text =
-    settled_of (cosigner_end c.args.self.cosigner) (bytes_of (cosigner_disk c.args.self.cosigner))
+    durable_of (cosigner_end c.args.self.cosigner) (bytes_of (cosigner_disk c.args.self.cosigner))
     in
     records_grown (cosigner_disk c.call_cosigner.new.cosigner) (list ++ body ∷ []) called.reads
     (called.kept c.if-branch.true)

@@ -1,14 +1,14 @@
 use Rattle.std.proofs.Common.{◌≡◌, ◌∙◌, ◌++◌, List, Some, sym, ap, refl}
-use Rattle.byte_forms.specs.Types.{Text}
+use Rattle.byte_formats.specs.Types.{Text}
 use Rattle.mtc_io.specs.Memory.{SinkState}
 use Rattle.disk_core.specs.Memory.{bytes_of}
 use Rattle.journal_core.specs.Format.{records_of}
 use Rattle.cosigner_core.specs.ExportReading.{export_in}
 use Rattle.cosigner_core.specs.Exports.{export_text}
-use Rattle.journal_core.specs.Ends.{settled_of}
+use Rattle.journal_core.specs.Ends.{durable_of}
 use Rattle.cosigner_core.specs.Words.{cosigner_disk, cosigner_end}
 use Rattle.drill_nodes.specs.CosignerViews.{cosigner_shown, records_shown}
-use Rattle.drill_nodes.proofs.Exported.{looked_on, reads_again, same_list, same_text}
+use Rattle.drill_nodes.proofs.Exported.{only_read_on, reads_again, same_list, same_text}
 use Rattle.drill_nodes.proofs.cosigner_node.CosignerNode.export.Goals as goal
 
 pub invariant_of-self : goal.invariant_of-self
@@ -17,13 +17,13 @@ invariant_of-self g c =
     let old = cosigner_disk c.args.self.now.cosigner in
     let new = cosigner_disk c.export.new.self in
     let bytes : bytes_of new ≡ bytes_of old =
-    same_text (bytes_of new) (bytes_of old) e.looks.told in
+    same_text (bytes_of new) (bytes_of old) e.only_reads.contents in
     record {
       sound = e.same.broken ∙ c.args.self.now.sound;
       settled = e.same.list ∙ c.args.self.now.settled
           ∙ ap (λ (b : Text). Some (records_of b)) (sym bytes);
-      stands = looked_on g.H.TreeHash.hash (cosigner_shown c.args.self.now) _ old new bytes
-          e.looks.crash e.same.state c.args.self.now.stands;
+      stands = only_read_on g.H.TreeHash.hash (cosigner_shown c.args.self.now) _ old new bytes
+          e.only_reads.crash e.same.state c.args.self.now.stands;
     }
 
 pub returns-clause-same : goal.returns-clause-same
@@ -32,7 +32,7 @@ returns-clause-same g c =
     record {
       state = e.same.state;
       records = ap records_of (same_text (bytes_of (cosigner_disk c.export.new.self))
-          (bytes_of (cosigner_disk c.args.self.now.cosigner)) e.looks.told);
+          (bytes_of (cosigner_disk c.args.self.now.cosigner)) e.only_reads.contents);
       stops = refl;
     }
 
@@ -40,7 +40,7 @@ pub returns-clause-read : goal.returns-clause-read
 returns-clause-read g c = λ steps said.
     let self = c.args.self.now in
     let list : List Text =
-    settled_of (cosigner_end self.cosigner) (bytes_of (cosigner_disk self.cosigner)) in
+    durable_of (cosigner_end self.cosigner) (bytes_of (cosigner_disk self.cosigner)) in
     let written : c.in_ok-text.text ≡ export_text (cosigner_shown self) list =
     c.in_ok-text.ensures ∙ c.taken.ensures ∙ c.in-Ok.ensures.written
     ∙ ap (λ (x : SinkState). x.taken ++ export_text (cosigner_shown self) list) c.new-out.ensures in

@@ -2,14 +2,14 @@ use Rattle.std.proofs.Common.{◌≡◌, ◌∙◌, ◌+◌, ◌<◌, ◌≤◌,
 use Rattle.std.proofs.Common.{arith, ap, refl, subst, sym, get_or, None, Option}
 use Rattle.std.proofs.lemmas.List.{take_all}
 use Rattle.std.specs.List.{remove, sum_by}
-use Rattle.byte_forms.specs.Types.{Text}
+use Rattle.byte_formats.specs.Types.{Text}
 use Rattle.drill_nodes.specs.Cosigners.{HaveSigned, IsSigned, keys_used, stops_by}
 use Rattle.drill_nodes.specs.CosignerViews.{cosigner_shown, cosigner_stops}
 use Rattle.drill_nodes.specs.Rounds.{stops_in}
 use Rattle.drill_nodes.specs.declared.turns.Stop.{Stop}
 use Rattle.drill_nodes.proofs.Going.{all_gone, most_is, next_gone, next_is, none_gone, none_put}
 use Rattle.drill_nodes.proofs.Going.{put_next, some_left, stops_next, sum_round}
-use Rattle.drill_nodes.proofs.Pairs.{front_more}
+use Rattle.drill_nodes.proofs.Pairs.{prefix_more}
 use Rattle.drill_nodes.proofs.cosigners.Cosigners.cosign.Goals as goal
 
 pub loop-turn-init : goal.loop-turn-init
@@ -56,7 +56,7 @@ loop-turn-preserved g c =
     let keys_so_far = before.keys in
     let one = c.in_ok-node.ensures.stops in
     let key = c.in_ok-node.ensures.keys in
-    let more = front_more old i x below (next_is (IsSigned c.args.size c.args.hash) i old now x
+    let more = prefix_more old i x below (next_is (IsSigned c.args.size c.args.hash) i old now x
     before.gone below c.remove-node.ensures.value) in
     record {
       gone = next_gone (IsSigned c.args.size c.args.hash) i old now c.push.new.self.items x y

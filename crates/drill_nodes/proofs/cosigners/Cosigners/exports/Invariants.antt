@@ -4,8 +4,9 @@ use Rattle.drill_nodes.specs.CosignerViews.{IsExportOf, IsStill}
 use Rattle.drill_nodes.proofs.Going.{HaveGone}
 use Rattle.drill_nodes.proofs.cosigners.Cosigners.exports.Given as goal
 
-abbrev pub invariant-loop-told : goal.invariant-loop-told
-invariant-loop-told g l = record {
-  gone : HaveGone IsStill l._told l.fn.self.nodes.items l.self.nodes.items;
-  read : Paired (IsExportOf g.H.TreeHash.hash) (take l._told l.fn.self.nodes.items) l.texts.items;
+abbrev pub invariant-loop-contents : goal.invariant-loop-contents
+invariant-loop-contents g l = record {
+  gone : HaveGone IsStill l._contents l.fn.self.nodes.items l.self.nodes.items;
+  read : Paired (IsExportOf g.H.TreeHash.hash) (take l._contents l.fn.self.nodes.items)
+      l.texts.items;
 }

@@ -6,8 +6,8 @@ use Rattle.disk_core.specs.declared.memory.mem_disk.MemDisk.{MemDisk}
 use Rattle.drill_nodes.specs.Cosigners.{Paired}
 use Rattle.drill_nodes.specs.CosignerViews.{IsDiskOf}
 use Rattle.drill_nodes.specs.Disks.{signs_on}
-use Rattle.drill_nodes.proofs.Going.{left_front, left_next}
-use Rattle.drill_nodes.proofs.Pairs.{front_more, paired_push}
+use Rattle.drill_nodes.proofs.Going.{left_prefix, left_next}
+use Rattle.drill_nodes.proofs.Pairs.{prefix_more, paired_push}
 use Rattle.drill_nodes.proofs.cosigners.Cosigners.hand_out.Goals as goal
 
 pub loop-out-preserved : goal.loop-out-preserved
@@ -22,7 +22,7 @@ loop-out-preserved g c =
     let disk = c.in_ok-disk.disk in
     let len = c.args.self.nodes.ok.0 in
     let below : i < length old = omega (arith, c.loop-out-test.true, c.len-count.ensures, len) in
-    let more = front_more old i x below (left_front old now i x below before.left
+    let more = prefix_more old i x below (left_prefix old now i x below before.left
     c.remove-node.ensures.value) in
     let push = c.in_ok-push.ensures.items in
     let whole = ap (sum_by signs_on) push ∙ sum_by-append signs_on disks (disk ∷ []) in

@@ -1,5 +1,5 @@
 use Rattle.std.proofs.Common.{◌≡◌, ℕ, [], IfSome, Ok, rules, refl, sym, subst, ◌∙◌, arith}
-use Rattle.disk_core.proofs.Moments.{no_look}
+use Rattle.disk_core.proofs.Moments.{nothing_read}
 use Rattle.issuance_log.specs.Folds.{log_of}
 use Rattle.issuance_log.specs.Items.{AreBelow, AreHashed, StandAt, items_leaves, items_places}
 use Rattle.issuance_log.specs.Shown.{shown_with}
@@ -59,8 +59,8 @@ returns-then-index-eq0-clause-stays g c =
 
 pub returns-clause-stays : goal.returns-clause-stays
 returns-clause-stays g c = record {
-  looks = c.read_entry.ensures.looks;
-  tiles = no_look g.T.Disk (log_tiles_disk c.args.self.now) (g.met.T.Disk.only_now _);
+  only_reads = c.read_entry.ensures.only_reads;
+  tiles = nothing_read g.T.Disk (log_tiles_disk c.args.self.now) (g.met.T.Disk.only_now _);
   view = refl;
   end = c.read_entry.ensures.end;
   broken = c.read_entry.ensures.broken;

@@ -12,12 +12,13 @@ use Rattle.issuance_log.specs.declared.error.LogError.TheVariants.{Append, Memor
 use Rattle.issuance_log.proofs.Adds.{above_last, marked_unrefused}
 use Rattle.issuance_log.proofs.Answering.{marked_refused}
 use Rattle.issuance_log.proofs.Appending.{below_same, end_stays, grown_kept, log_keeps, log_shows}
-use Rattle.issuance_log.proofs.Appending.{marks_it, no_leaves, no_places, told_behind, told_of}
-use Rattle.issuance_log.proofs.Appending.{told_same}
+use Rattle.issuance_log.proofs.Appending.{marks_it, no_leaves, no_places, modelled_behind}
+use Rattle.issuance_log.proofs.Appending.{modelled_of}
+use Rattle.issuance_log.proofs.Appending.{contents_same}
 use Rattle.issuance_log.proofs.Growth.{size_fits}
 use Rattle.issuance_log.proofs.Keeping.{short_none}
 use Rattle.issuance_log.proofs.Leaving.{appends_err, appends_not, appends_ok, err_is, untouched}
-use Rattle.issuance_log.proofs.Spelled.{length-landmark, mark_alone}
+use Rattle.issuance_log.proofs.Encoded.{length-landmark, mark_alone}
 use Rattle.issuance_log.proofs.Standing.{below_on}
 use Rattle.issuance_log.proofs.Views.{view_marked}
 use Rattle.issuance_log.proofs.log.Log.mark.Goals as goal
@@ -121,7 +122,7 @@ returns-in_err-append-clause-appends g c =
     c.append.ensures.count c.append.ensures.any_moment c.append.ensures.afterwards
     c.from_residual-in_err-append.result c.in_err-append.field-0.0
     c.from_residual-in_err-append.ensures.1 c.prepare_mark.ensures.same
-    c.in_err-append.ensures.leaves c.in_err-append.ensures.broken c.append.ensures.told
+    c.in_err-append.ensures.leaves c.in_err-append.ensures.broken c.append.ensures.contents
     c.append.ensures.as_read
 
 pub returns-in_err-prepare_mark-clause-appends : goal.returns-in_err-prepare_mark-clause-appends
@@ -150,7 +151,7 @@ invariant_of-self-2 g c =
     let w = c.push_mark.new.self.view in
     let view = c.push_mark.ensures ∙ ap one_mark_more c.prepare_mark.ensures.same in
     let none = mark_alone v.size in
-    let told = told_of h w places leaves (is_broken journal) (records journal)
+    let contents = modelled_of h w places leaves (is_broken journal) (records journal)
     (grown_kept h v w places leaves log.journal journal c.as_slice.result.now body
     (c.as_slice.ensures ∙ c.in_ok-body.ensures ∙ ap landmark_record c.size-size.ensures.value)
     grown (view_marked h v fits above ∙ ap Some (sym view)) places leaves
@@ -165,9 +166,9 @@ invariant_of-self-2 g c =
       counted = omega arith;
       stored = omega arith;
       below = below_on places (end_of log.journal) (end_of journal) log.below (omega arith);
-      agrees = told.agrees;
-      stand = told.stand;
-      hashed = told.hashed;
+      agrees = contents.agrees;
+      stand = contents.stand;
+      hashed = contents.hashed;
     }
 
 pub invariant_of-self-in-Break-branch-3 : goal.invariant_of-self-in-Break-branch-3
@@ -181,10 +182,11 @@ invariant_of-self-in-Break-branch-3 g c =
     let leaves = items_leaves log.items in
     let same = c.prepare_mark.ensures.same in
     let refused : is_ok c.append.result ≡ false = search rules in
-    let told = told_same h v c.prepare_mark.new.self.view places places leaves leaves
+    let contents = contents_same h v c.prepare_mark.new.self.view places places leaves leaves
     (is_broken c.append.new.self) (records c.append.new.self) same refl refl
-    (told_behind h v places leaves text log.journal c.append.new.self c.append.result
-    c.last_mark.ensures.sound.some refused append.leaves append.broken append.told append.as_read
+    (modelled_behind h v places leaves text log.journal c.append.new.self c.append.result
+    c.last_mark.ensures.sound.some refused append.leaves append.broken append.contents
+    append.as_read
     (record { agrees = log.agrees; stand = log.stand; hashed = log.hashed })) in
     let size = ap (λ (u : LogView). u.size) same in
     let tiled = ap (λ (u : LogView). u.tiled) same in
@@ -196,7 +198,7 @@ invariant_of-self-in-Break-branch-3 g c =
       below = below_same places places (end_of log.journal) (end_of c.append.new.self) refl
           (end_stays text log.journal c.append.new.self c.append.result refused append.leaves)
           log.below;
-      agrees = told.agrees;
-      stand = told.stand;
-      hashed = told.hashed;
+      agrees = contents.agrees;
+      stand = contents.stand;
+      hashed = contents.hashed;
     }

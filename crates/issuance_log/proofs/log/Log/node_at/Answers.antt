@@ -11,6 +11,6 @@ returns-clause-node g c =
     let log = c.args.self.now in
     let h = g.H.TreeHash.hash in
     IfOk-weaker c.node.result _ _ (λ node is. leaves_are h (view_of log)
-    (g.T.Disk.told (log_tiles_disk log)) _ (log_records log) (λ leaves. node
+    (g.T.Disk.contents (log_tiles_disk log)) _ (log_records log) (λ leaves. node
     ≡ root_of h (part_of leaves (c.args.place * 2 ^ c.args.level)
     ((c.args.place + 1) * 2 ^ c.args.level))) log.hashed is) c.node.ensures.value

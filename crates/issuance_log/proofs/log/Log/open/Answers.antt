@@ -1,8 +1,8 @@
 use Rattle.std.proofs.Common.{ℕ, IfSome, Ok, [], option_map, ap, refl, subst, sym, ◌∙◌, ◌≡◌}
-use Rattle.disk_core.proofs.Moments.{looked_on, no_look}
-use Rattle.disk_core.specs.Moments.{Looks}
+use Rattle.disk_core.proofs.Moments.{only_read_on, nothing_read}
+use Rattle.disk_core.specs.Moments.{OnlyReads}
 use Rattle.journal_core.proofs.FoldSteps.{cause_begin}
-use Rattle.journal_core.specs.Format.{StandsFor}
+use Rattle.journal_core.specs.Format.{Represents}
 use Rattle.journal_core.specs.Openings.{opening_disk, read_list}
 use Rattle.journal_core.specs.Words.{is_broken, records}
 use Rattle.tile_store.specs.Store.{tiles_disk}
@@ -12,7 +12,7 @@ use Rattle.issuance_log.specs.Openings.{HasItsTiles, HasOpenCause, TilesCountNoO
 use Rattle.issuance_log.specs.Shown.{shown_with}
 use Rattle.issuance_log.specs.declared.error.LogOpenError.TheVariants.{Open}
 use Rattle.issuance_log.proofs.Adopting.{if_shown, open_later}
-use Rattle.issuance_log.proofs.Appending.{made_of, told_of}
+use Rattle.issuance_log.proofs.Appending.{made_of, modelled_of}
 use Rattle.issuance_log.proofs.log.Log.open.Goals as goal
 
 pub returns-in-Err-clause-cause : goal.returns-in-Err-clause-cause
@@ -29,16 +29,17 @@ invariant_of-result g c =
     let leaves = items_leaves items in
     let found = c.in-Ok-read_tiled.ensures.found in
     let journal = c.ready.result in
-    let told = told_of g.H.TreeHash.hash v places leaves (is_broken journal) (records journal)
+    let contents =
+    modelled_of g.H.TreeHash.hash v places leaves (is_broken journal) (records journal)
     (subst (λ o. IfSome o (AreKept g.H.TreeHash.hash v places leaves)) (sym c.ready.ensures.list)
     found.kept) in
     record {
       counted = found.counted;
       stored = c.in-Ok-read_tiled.ensures.stored;
       below = subst (λ (n : ℕ). AreBelow places n) (sym c.ready.ensures.place) found.below;
-      agrees = told.agrees;
-      stand = told.stand;
-      hashed = told.hashed;
+      agrees = contents.agrees;
+      stand = contents.stand;
+      hashed = contents.hashed;
     }
 
 pub returns-in-Ok-read_tiled-clause-valid : goal.returns-in-Ok-read_tiled-clause-valid
@@ -56,9 +57,9 @@ returns-in-Ok-read_tiled-clause-tiles g c =
     let h = g.H.TreeHash.hash in
     let v = c.in-Ok-read_tiled.numbers.view in
     let list = read_list c.read_tiled.new.opening in
-    if_shown v (λ s. IfSome (g.T.Disk.told c.args.tiles) (HasItsTiles h s)) list
+    if_shown v (λ s. IfSome (g.T.Disk.contents c.args.tiles) (HasItsTiles h s)) list
     (records c.ready.result) c.ready.ensures.list
-    (subst (λ disk. IfSome list (λ l. IfSome (g.T.Disk.told disk)
+    (subst (λ disk. IfSome list (λ l. IfSome (g.T.Disk.contents disk)
     (HasItsTiles h (shown_with v l)))) c.new-items.ensures.disk
     c.in-Ok-read_tiled.ensures.tiles)
 
@@ -67,7 +68,7 @@ read_tiled-requires g c =
     let begun = c.in-Ok.ensures.ok in
     let items = c.new-items.ensures in
     record {
-      list = begun.list ∙ ap (λ o. option_map (λ _. []) o) (sym begun.looks.told);
+      list = begun.list ∙ ap (λ o. option_map (λ _. []) o) (sym begun.only_reads.contents);
       place = begun.place;
       goes_on = begun.goes_on;
       none = items.places;
@@ -78,16 +79,18 @@ read_tiled-requires g c =
 pub returns-in-Ok-read_tiled-clause-sound : goal.returns-in-Ok-read_tiled-clause-sound
 returns-in-Ok-read_tiled-clause-sound g c = c.ready.ensures.sound
 
-pub returns-in-Ok-read_tiled-clause-looks : goal.returns-in-Ok-read_tiled-clause-looks
-returns-in-Ok-read_tiled-clause-looks g c =
-    subst (λ disk. Looks g.D.Disk c.args.disk disk) (sym c.ready.ensures.disk)
-    (looked_on g.D.Disk c.args.disk (opening_disk c.in-Ok.opening)
-    (opening_disk c.read_tiled.new.opening) c.in-Ok.ensures.ok.looks c.read_tiled.ensures.looks)
+pub returns-in-Ok-read_tiled-clause-only_reads : goal.returns-in-Ok-read_tiled-clause-only_reads
+returns-in-Ok-read_tiled-clause-only_reads g c =
+    subst (λ disk. OnlyReads g.D.Disk c.args.disk disk) (sym c.ready.ensures.disk)
+    (only_read_on g.D.Disk c.args.disk (opening_disk c.in-Ok.opening)
+    (opening_disk c.read_tiled.new.opening) c.in-Ok.ensures.ok.only_reads
+    c.read_tiled.ensures.only_reads)
 
-pub returns-in-Ok-read_tiled-clause-looks_tiles : goal.returns-in-Ok-read_tiled-clause-looks_tiles
-returns-in-Ok-read_tiled-clause-looks_tiles g c =
-    subst (λ disk. Looks g.T.Disk disk (tiles_disk (items_tiles c.read_tiled.new.items)))
-    c.new-items.ensures.disk c.read_tiled.ensures.looks_tiles
+pub returns-in-Ok-read_tiled-clause-only_reads_tiles :
+    goal.returns-in-Ok-read_tiled-clause-only_reads_tiles
+returns-in-Ok-read_tiled-clause-only_reads_tiles g c =
+    subst (λ disk. OnlyReads g.T.Disk disk (tiles_disk (items_tiles c.read_tiled.new.items)))
+    c.new-items.ensures.disk c.read_tiled.ensures.only_reads_tiles
 
 pub returns-in-Ok-read_tiled-clause-fine : goal.returns-in-Ok-read_tiled-clause-fine
 returns-in-Ok-read_tiled-clause-fine g c =
@@ -103,20 +106,20 @@ pub returns-in-Ok-read_tiled-clause-found : goal.returns-in-Ok-read_tiled-clause
 returns-in-Ok-read_tiled-clause-found g c =
     let h = g.H.TreeHash.hash in
     let v = c.in-Ok-read_tiled.numbers.view in
-    subst (λ told. IfSome told (λ b. IfSome (records c.ready.result) (λ list. log_read h b
+    subst (λ contents. IfSome contents (λ b. IfSome (records c.ready.result) (λ list. log_read h b
     ≡ Ok (record { records = list; state = shown_with v list }))))
-    (c.read_tiled.ensures.looks.told ∙ c.in-Ok.ensures.ok.looks.told)
-    (subst (λ o. IfSome (g.D.Disk.told (opening_disk c.read_tiled.new.opening)) (λ b.
+    (c.read_tiled.ensures.only_reads.contents ∙ c.in-Ok.ensures.ok.only_reads.contents)
+    (subst (λ o. IfSome (g.D.Disk.contents (opening_disk c.read_tiled.new.opening)) (λ b.
     IfSome o (λ list. log_read h b
     ≡ Ok (record { records = list; state = shown_with v list })))) (sym c.ready.ensures.list)
     c.in-Ok-read_tiled.ensures.found.found)
 
 pub returns-in-Ok-read_tiled-clause-stands : goal.returns-in-Ok-read_tiled-clause-stands
 returns-in-Ok-read_tiled-clause-stands g c =
-    subst (λ disk. IfSome (g.D.Disk.told disk) (λ b. IfSome (records c.ready.result)
-    (StandsFor b))) (sym c.ready.ensures.disk)
-    (subst (λ o. IfSome (g.D.Disk.told (opening_disk c.read_tiled.new.opening)) (λ b.
-    IfSome o (StandsFor b))) (sym c.ready.ensures.list)
+    subst (λ disk. IfSome (g.D.Disk.contents disk) (λ b. IfSome (records c.ready.result)
+    (Represents b))) (sym c.ready.ensures.disk)
+    (subst (λ o. IfSome (g.D.Disk.contents (opening_disk c.read_tiled.new.opening)) (λ b.
+    IfSome o (Represents b))) (sym c.ready.ensures.list)
     c.in-Ok-read_tiled.ensures.found.stands)
 
 pub returns-in-Ok-read_tiled-clause-all : goal.returns-in-Ok-read_tiled-clause-all
@@ -128,14 +131,15 @@ returns-in-Ok-read_tiled-clause-end g c = c.ready.ensures.end
 pub returns-in-Err-read_tiled-clause-err : goal.returns-in-Err-read_tiled-clause-err
 returns-in-Err-read_tiled-clause-err g c =
     rw (c.hand_back-in-Err-read_tiled.ensures.disk, c.into_disk.ensures)
-    (looked_on g.D.Disk c.args.disk (opening_disk c.in-Ok.opening)
-    (opening_disk c.read_tiled.new.opening) c.in-Ok.ensures.ok.looks c.read_tiled.ensures.looks)
+    (only_read_on g.D.Disk c.args.disk (opening_disk c.in-Ok.opening)
+    (opening_disk c.read_tiled.new.opening) c.in-Ok.ensures.ok.only_reads
+    c.read_tiled.ensures.only_reads)
 
 pub returns-in-Err-read_tiled-clause-err_tiles : goal.returns-in-Err-read_tiled-clause-err_tiles
 returns-in-Err-read_tiled-clause-err_tiles g c =
     rw (c.hand_back-in-Err-read_tiled.ensures.tiles, c.into_disk-in-Err-read_tiled.ensures)
-    (subst (λ disk. Looks g.T.Disk disk (tiles_disk (items_tiles c.read_tiled.new.items)))
-    c.new-items.ensures.disk c.read_tiled.ensures.looks_tiles)
+    (subst (λ disk. OnlyReads g.T.Disk disk (tiles_disk (items_tiles c.read_tiled.new.items)))
+    c.new-items.ensures.disk c.read_tiled.ensures.only_reads_tiles)
 
 pub returns-in-Err-read_tiled-clause-cause : goal.returns-in-Err-read_tiled-clause-cause
 returns-in-Err-read_tiled-clause-cause g c =
@@ -152,7 +156,7 @@ returns-in-Err-read_tiled-clause-cause g c =
       c.hand_back-in-Err-read_tiled.ensures.why,
     )
     (open_later g.D.Disk g.T.Disk h c.args.disk begun read c.args.tiles later why
-    c.in-Ok.ensures.ok.looks
+    c.in-Ok.ensures.ok.only_reads
     (subst (λ disk. HasOpenCause g.D.Disk g.T.Disk h begun read disk later why)
     c.new-items.ensures.disk c.in-Err-read_tiled.ensures.err))
 
@@ -178,11 +182,11 @@ returns-in-Err-read_tiled-clause-fine_tiles_err g c =
     c.new-items.ensures.disk c.in-Err-read_tiled.ensures.fine_tiles_err)
 
 pub returns-in-Err-clause-err : goal.returns-in-Err-clause-err
-returns-in-Err-clause-err g c = rw c.hand_back.ensures.disk c.in-Err.ensures.looks
+returns-in-Err-clause-err g c = rw c.hand_back.ensures.disk c.in-Err.ensures.only_reads
 
 pub returns-in-Err-clause-err_tiles : goal.returns-in-Err-clause-err_tiles
 returns-in-Err-clause-err_tiles g c =
-    rw c.hand_back.ensures.tiles (no_look g.T.Disk c.args.tiles (g.met.T.Disk.only_now _))
+    rw c.hand_back.ensures.tiles (nothing_read g.T.Disk c.args.tiles (g.met.T.Disk.only_now _))
 
 pub returns-in-Err-clause-fine_err : goal.returns-in-Err-clause-fine_err
 returns-in-Err-clause-fine_err g c =

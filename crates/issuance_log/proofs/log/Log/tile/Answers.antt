@@ -1,7 +1,7 @@
 use Rattle.std.proofs.Common.{refl, ap, sym, subst, ◌≡◌, ◌<◌, ◌≤◌, ◌∙◌, ◌^◌, ◌%◌, ◌*◌, ◌/◌, ℕ, List}
 use Rattle.std.proofs.Common.{length, max, arith, rules, false, Some, IfSome}
 use Rattle.std.specs.Prelude.{is_ok}
-use Rattle.byte_forms.specs.Types.{Text}
+use Rattle.byte_formats.specs.Types.{Text}
 use Rattle.journal_core.specs.Words.{end_of, is_broken, records}
 use Rattle.tile_store.specs.Contents.{HoldsTiles}
 use Rattle.tile_store.specs.Layout.{tiles_end}
@@ -18,12 +18,13 @@ use Rattle.issuance_log.proofs.Adds.{tiled_unrefused}
 use Rattle.issuance_log.proofs.Answering.{tiled_answer, tiled_refused, tiles_failed, tiles_old}
 use Rattle.issuance_log.proofs.Answering.{tiles_starved}
 use Rattle.issuance_log.proofs.Appending.{below_same, end_stays, grown_kept, log_keeps, log_shows}
-use Rattle.issuance_log.proofs.Appending.{no_leaves, no_places, some_told, tiles_it, told_behind}
-use Rattle.issuance_log.proofs.Appending.{told_of, told_same}
+use Rattle.issuance_log.proofs.Appending.{no_leaves, no_places, some_modelled, tiles_it}
+use Rattle.issuance_log.proofs.Appending.{modelled_behind}
+use Rattle.issuance_log.proofs.Appending.{modelled_of, contents_same}
 use Rattle.issuance_log.proofs.Growth.{size_fits}
 use Rattle.issuance_log.proofs.Keeping.{short_none}
 use Rattle.issuance_log.proofs.Leaving.{appends_err, appends_not, appends_ok, err_is, untouched}
-use Rattle.issuance_log.proofs.Spelled.{length-tiles, tiles_no_item}
+use Rattle.issuance_log.proofs.Encoded.{length-tiles, tiles_no_item}
 use Rattle.issuance_log.proofs.Standing.{below_on}
 use Rattle.issuance_log.proofs.Tiling.{behind_none, behind_stored, keeps_still, keeps_stored}
 use Rattle.issuance_log.proofs.Views.{view_tiled}
@@ -162,7 +163,8 @@ returns-clause-appends g c =
     let above : v.tiled < full_size v = omega arith in
     let within : full_size v ≤ v.size = omega arith in
     let grown = c.in_ok-append.ensures.leaves in
-    appends_ok log _ (some_told _ _ (g.T.Disk.told (log_tiles_disk log)) _ c.store.ensures.leaves)
+    appends_ok log _
+    (some_modelled _ _ (g.T.Disk.contents (log_tiles_disk log)) _ c.store.ensures.leaves)
     (tiles_record (full_size v)) (tiled_to (full_size v)) (with_tiles (full_size v))
     c.as_slice.result.now
     (c.as_slice.ensures ∙ c.in_ok-body.ensures ∙ ap tiles_record size_is) c.append.ensures.count
@@ -177,20 +179,22 @@ returns-in_err-append-clause-appends g c =
     let log = c.args.self.now in
     let v = view_of log in
     let size_is = ap (λ (n : ℕ). n / 256 * 256) c.size.ensures.value in
-    appends_err log _ (some_told _ _ (g.T.Disk.told (log_tiles_disk log)) _ c.store.ensures.leaves)
+    appends_err log _
+    (some_modelled _ _ (g.T.Disk.contents (log_tiles_disk log)) _ c.store.ensures.leaves)
     (tiles_record (full_size v)) (tiled_to (full_size v)) (with_tiles (full_size v))
     c.as_slice.result.now
     (c.as_slice.ensures ∙ c.in_ok-body.ensures ∙ ap tiles_record size_is) c.append.ensures.count
     c.append.ensures.any_moment c.append.ensures.afterwards c.from_residual-in_err-append.result
     c.in_err-append.field-0.0 c.from_residual-in_err-append.ensures.1 refl
-    c.in_err-append.ensures.leaves c.in_err-append.ensures.broken c.append.ensures.told
+    c.in_err-append.ensures.leaves c.in_err-append.ensures.broken c.append.ensures.contents
     c.append.ensures.as_read
 
 pub returns-in_err-store-clause-appends : goal.returns-in_err-store-clause-appends
 returns-in_err-store-clause-appends g c =
     let log = c.args.self.now in
     let v = view_of log in
-    let same = some_told _ _ (g.T.Disk.told (log_tiles_disk log)) _ c.store.ensures.leaves in
+    let same =
+    some_modelled _ _ (g.T.Disk.contents (log_tiles_disk log)) _ c.store.ensures.leaves in
     appends_not log _ same (tiles_record (full_size v)) (tiled_to (full_size v))
     (with_tiles (full_size v)) c.from_residual-in_err-store.result Failed
     c.from_residual-in_err-store.ensures.1 refl (g.met.D.Disk.only_now _)
@@ -314,7 +318,7 @@ invariant_of-self-2 g c =
     let w = c.set_tiled.new.self.view in
     let view = c.set_tiled.ensures.view ∙ ap (λ (n : ℕ). tiled_to n v) size_is in
     let none = tiles_no_item (full_size v) in
-    let told = told_of h w (items_places items) (items_leaves items)
+    let contents = modelled_of h w (items_places items) (items_leaves items)
     (is_broken journal) (records journal)
     (grown_kept h v w places leaves log.journal journal c.as_slice.result.now body
     (c.as_slice.ensures ∙ c.in_ok-body.ensures ∙ ap tiles_record size_is) grown
@@ -333,9 +337,9 @@ invariant_of-self-2 g c =
       stored = omega arith;
       below = subst (λ (l : List ℕ). AreBelow l (end_of journal)) (sym c.store.ensures.places)
           (below_on places (end_of log.journal) (end_of journal) log.below (omega arith));
-      agrees = told.agrees;
-      stand = told.stand;
-      hashed = told.hashed;
+      agrees = contents.agrees;
+      stand = contents.stand;
+      hashed = contents.hashed;
     }
 
 pub invariant_of-self-in-Break-branch-3 : goal.invariant_of-self-in-Break-branch-3
@@ -349,11 +353,11 @@ invariant_of-self-in-Break-branch-3 g c =
     let places = items_places log.items in
     let leaves = items_leaves log.items in
     let refused : is_ok c.append.result ≡ false = search rules in
-    let told = told_same h v v places (items_places items) leaves
+    let contents = contents_same h v v places (items_places items) leaves
     (items_leaves items) (is_broken c.append.new.self) (records c.append.new.self)
     refl c.store.ensures.places c.store.ensures.leaves
-    (told_behind h v places leaves text log.journal c.append.new.self c.append.result
-    c.tiled.ensures.sound.some refused append.leaves append.broken append.told append.as_read
+    (modelled_behind h v places leaves text log.journal c.append.new.self c.append.result
+    c.tiled.ensures.sound.some refused append.leaves append.broken append.contents append.as_read
     (record { agrees = log.agrees; stand = log.stand; hashed = log.hashed })) in
     let counted = log.counted in
     let same = ap (λ (l : List ℕ). length l) c.store.ensures.places in
@@ -366,7 +370,7 @@ invariant_of-self-in-Break-branch-3 g c =
           (end_of c.append.new.self) c.store.ensures.places
           (end_stays text log.journal c.append.new.self c.append.result refused append.leaves)
           log.below;
-      agrees = told.agrees;
-      stand = told.stand;
-      hashed = told.hashed;
+      agrees = contents.agrees;
+      stand = contents.stand;
+      hashed = contents.hashed;
     }

@@ -3,16 +3,16 @@ use Rattle.std.proofs.Common.{option_map, is_some, ap, sym, subst, ◌∙◌, ad
 use Rattle.std.proofs.lemmas.List.{nil_from_length, length-take, length-drop}
 use Rattle.journal_core.specs.Format.{header, record_bytes, new_file_of}
 use Rattle.journal_core.specs.Packed.{first_body}
-use Rattle.journal_core.specs.Settled.{IsSettled}
+use Rattle.journal_core.specs.Durable.{IsDurable}
 use Rattle.journal_core.specs.declared.first_record.FirstRecord.{FirstRecord}
-use Rattle.journal_core.proofs.Told.{if_some}
-use Rattle.journal_core.proofs.Begun.{started_settled, started_all, started_records}
+use Rattle.journal_core.proofs.Modelled.{if_some}
+use Rattle.journal_core.proofs.Begun.{started_durable, started_all, started_records}
 use Rattle.journal_core.proofs.Begun.{started_written}
 use Rattle.journal_core.proofs.first_record.FirstRecord.start.Goals as goal
 
 -- the length of its body
 sized : (packed : FirstRecord) → length (first_body packed) ≡ packed.size
-sized packed = let room = packed.room in let few =
+sized packed = let capacity = packed.capacity in let few =
     packed.few in simp (length-take, length-drop) (omega arith)
 
 -- the piece that was written
@@ -23,9 +23,9 @@ piece_is packed buffer same =
     ∙ ap (λ (n : ℕ). take n packed.buffer.items) (add_comm packed.size 22) ∙ packed.packed
 
 -- a file of no bytes
-empty : (told : Option (List ℕ)) (n : ℕ) → n ≡ 0 → IfSome told (λ b. n ≡ length b)
-    → IfSome told (λ b. b ≡ [])
-empty told n none lengths = if_some (λ b. n ≡ length b) (λ b. b ≡ []) told
+empty : (contents : Option (List ℕ)) (n : ℕ) → n ≡ 0 → IfSome contents (λ b. n ≡ length b)
+    → IfSome contents (λ b. b ≡ [])
+empty contents n none lengths = if_some (λ b. n ≡ length b) (λ b. b ≡ []) contents
     (λ b is. nil_from_length b (sym is ∙ none)) lengths
 
 some_body : (packed : FirstRecord) → 1 ≤ length (first_body packed)
@@ -35,47 +35,50 @@ few_body : (packed : FirstRecord) → length (first_body packed) ≤ 131072
 few_body packed = let few = packed.few in let size = sized packed in omega arith
 
 pub invariant_of-result-clause-settled : goal.invariant_of-result-clause-settled
-invariant_of-result-clause-settled g c = λ sound b told.
-    subst (λ (n : ℕ). IsSettled b (g.D.Disk.may_leave c.write_first.new.disk) (n + 22))
+invariant_of-result-clause-settled g c = λ sound b contents.
+    subst (λ (n : ℕ). IsDurable b (g.D.Disk.may_leave c.write_first.new.disk) (n + 22))
     (sized c.args.self)
-    (started_settled g.D.Disk c.look_len.new.disk c.write_first.new.disk (first_body c.args.self)
+    (started_durable g.D.Disk c.look_len.new.disk c.write_first.new.disk (first_body c.args.self)
     (take (c.args.self.size + 22) c.deref.result.now)
-    (subst (λ (told : Option (List ℕ)). IfSome told (λ b. b ≡ []))
-    (sym c.look_len.ensures.looks.told)
-    (empty (g.D.Disk.told c.args.disk) c.in-Ok.length c.if-length-ne0.false c.in-Ok.ensures.length))
+    (subst (λ (contents : Option (List ℕ)). IfSome contents (λ b. b ≡ []))
+    (sym c.look_len.ensures.only_reads.contents)
+    (empty (g.D.Disk.contents c.args.disk) c.in-Ok.length c.if-length-ne0.false
+    c.in-Ok.ensures.length))
     (piece_is c.args.self c.deref.result.now c.deref.ensures.value) (some_body c.args.self)
     (few_body c.args.self)
-    c.in-Ok-write_first.ensures.written c.in-Ok-write_first.ensures.durable b told)
+    c.in-Ok-write_first.ensures.written c.in-Ok-write_first.ensures.durable b contents)
 
 pub invariant_of-result-clause-stands : goal.invariant_of-result-clause-stands
-invariant_of-result-clause-stands g c = λ b told.
-    (started_settled g.D.Disk c.look_len.new.disk c.write_first.new.disk (first_body c.args.self)
+invariant_of-result-clause-stands g c = λ b contents.
+    (started_durable g.D.Disk c.look_len.new.disk c.write_first.new.disk (first_body c.args.self)
     (take (c.args.self.size + 22) c.deref.result.now)
-    (subst (λ (told : Option (List ℕ)). IfSome told (λ b. b ≡ []))
-    (sym c.look_len.ensures.looks.told)
-    (empty (g.D.Disk.told c.args.disk) c.in-Ok.length c.if-length-ne0.false c.in-Ok.ensures.length))
+    (subst (λ (contents : Option (List ℕ)). IfSome contents (λ b. b ≡ []))
+    (sym c.look_len.ensures.only_reads.contents)
+    (empty (g.D.Disk.contents c.args.disk) c.in-Ok.length c.if-length-ne0.false
+    c.in-Ok.ensures.length))
     (piece_is c.args.self c.deref.result.now c.deref.ensures.value) (some_body c.args.self)
     (few_body c.args.self)
-    c.in-Ok-write_first.ensures.written c.in-Ok-write_first.ensures.durable b told).stands
+    c.in-Ok-write_first.ensures.written c.in-Ok-write_first.ensures.durable b contents).stands
 
 pub returns-in-Ok-write_first-clause-ok : goal.returns-in-Ok-write_first-clause-ok
 returns-in-Ok-write_first-clause-ok g c =
-    let none = subst (λ (told : Option (List ℕ)). IfSome told (λ b. b ≡ []))
-    (sym c.look_len.ensures.looks.told)
-    (empty (g.D.Disk.told c.args.disk) c.in-Ok.length c.if-length-ne0.false
+    let none = subst (λ (contents : Option (List ℕ)). IfSome contents (λ b. b ≡ []))
+    (sym c.look_len.ensures.only_reads.contents)
+    (empty (g.D.Disk.contents c.args.disk) c.in-Ok.length c.if-length-ne0.false
     c.in-Ok.ensures.length) in
     let size = sized c.args.self in
     record {
-      empty = empty (g.D.Disk.told c.args.disk) c.in-Ok.length c.if-length-ne0.false
+      empty = empty (g.D.Disk.contents c.args.disk) c.in-Ok.length c.if-length-ne0.false
           c.in-Ok.ensures.length;
-      told = c.write_first.ensures.told ∙ ap is_some c.look_len.ensures.looks.told;
+      contents = c.write_first.ensures.contents ∙ ap is_some c.look_len.ensures.only_reads.contents;
       list = started_records g.D.Disk c.look_len.new.disk c.write_first.new.disk
           (first_body c.args.self)
           (take (c.args.self.size + 22) c.deref.result.now) none
           (piece_is c.args.self c.deref.result.now c.deref.ensures.value) (some_body c.args.self)
           (few_body c.args.self)
           c.in-Ok-write_first.ensures.written c.in-Ok-write_first.ensures.durable
-          ∙ ap (option_map (λ _. first_body c.args.self ∷ [])) c.look_len.ensures.looks.told;
+          ∙ ap (option_map (λ _. first_body c.args.self ∷ []))
+          c.look_len.ensures.only_reads.contents;
       sound = refl;
       end = omega arith;
       all = started_all g.D.Disk c.look_len.new.disk c.write_first.new.disk (first_body c.args.self)
@@ -90,5 +93,5 @@ returns-in-Ok-write_first-clause-ok g c =
           (few_body c.args.self)
           c.in-Ok-write_first.ensures.written c.in-Ok-write_first.ensures.durable
           ∙ ap (option_map (λ _. header ++ record_bytes (first_body c.args.self)))
-          c.look_len.ensures.looks.told;
+          c.look_len.ensures.only_reads.contents;
     }

@@ -1,22 +1,22 @@
 use Rattle.disk_core.specs.Moments.{LeavesOnly}
 use Rattle.disk_core.proofs.Moments.{left_now}
-use Rattle.journal_core.specs.Format.{StandsForEither}
+use Rattle.journal_core.specs.Format.{RepresentsEither}
 use Rattle.journal_core.specs.Words.{disk_of, records}
-use Rattle.journal_core.proofs.Told.{if_some, if_told}
+use Rattle.journal_core.proofs.Modelled.{if_some, if_modelled}
 use Rattle.journal_core.proofs.journal.Journal.append.Goals as goal
 
 pub returns-clause-afterwards : goal.returns-clause-afterwards
 returns-clause-afterwards g c = λ sound.
     if_some (λ list. LeavesOnly g.D.Disk (disk_of c.args.self.now) (disk_of c.put.new.self)
-    (StandsForEither list c.args.body.now)) _ (records c.args.self.now)
+    (RepresentsEither list c.args.body.now)) _ (records c.args.self.now)
     (λ list run. left_now g.D.Disk _ _ _ (g.met.D.Disk.counts_now _) run)
     (c.put.ensures.any_moment sound)
 
 pub returns-clause-as_read : goal.returns-clause-as_read
 returns-clause-as_read g c = λ sound.
     if_some (λ list. LeavesOnly g.D.Disk (disk_of c.args.self.now) (disk_of c.put.new.self)
-    (StandsForEither list c.args.body.now)) _ (records c.args.self.now)
-    (λ list run. if_told (StandsForEither list c.args.body.now)
-    (g.D.Disk.told (disk_of c.put.new.self))
-    (λ b told. left_now g.D.Disk _ _ _ (g.met.D.Disk.counts_now _) run b
-    (g.met.D.Disk.reads_image _ b told))) (c.put.ensures.any_moment sound)
+    (RepresentsEither list c.args.body.now)) _ (records c.args.self.now)
+    (λ list run. if_modelled (RepresentsEither list c.args.body.now)
+    (g.D.Disk.contents (disk_of c.put.new.self))
+    (λ b contents. left_now g.D.Disk _ _ _ (g.met.D.Disk.counts_now _) run b
+    (g.met.D.Disk.reads_image _ b contents))) (c.put.ensures.any_moment sound)

@@ -1,26 +1,26 @@
 use Rattle.std.proofs.Common.{◌≡◌, ◌+◌, ℕ, List, length, take, ap, ◌∙◌, add_comm, true≢false}
 use Rattle.std.proofs.Common.{arith, rules, refl, le_trans, Option, Some, None, is_some, option_map}
 use Rattle.journal_core.specs.Format.{tail_of, records_of}
-use Rattle.journal_core.proofs.Steps.{done_settled, done_all, done_records, done_written}
+use Rattle.journal_core.proofs.Steps.{done_durable, done_all, done_records, done_written}
 use Rattle.journal_core.proofs.Steps.{one_step, both_steps, still_stands}
 use Rattle.journal_core.proofs.Appends.{untouched_moment}
 use Rattle.journal_core.proofs.journal.Journal.put.Goals as goal
 
 -- The piece that was written.
-piece_is : (buffer room : List ℕ) (body : List ℕ) → buffer ≡ room
-    → take (5 + length body) room ≡ tail_of body → take (length body + 5) buffer ≡ tail_of body
-piece_is buffer room body same is =
+piece_is : (buffer capacity : List ℕ) (body : List ℕ) → buffer ≡ capacity
+    → take (5 + length body) capacity ≡ tail_of body → take (length body + 5) buffer ≡ tail_of body
+piece_is buffer capacity body same is =
     ap (λ (b : List ℕ). take (length body + 5) b) same
-    ∙ ap (λ (n : ℕ). take n room) (add_comm (length body) 5) ∙ is
+    ∙ ap (λ (n : ℕ). take n capacity) (add_comm (length body) 5) ∙ is
 
 pub invariant_of-self : goal.invariant_of-self
 invariant_of-self g c = record {
-  room = search rules;
+  capacity = search rules;
   there = le_trans c.args.self.now.there c.write_synced.ensures.known_kept;
   begun = c.args.self.now.begun;
   stands =
       still_stands g.D.Disk c.args.self.now.disk c.write_synced.new.disk c.args.body.now
-      c.write_synced.ensures.told
+      c.write_synced.ensures.contents
       (g.met.D.Disk.reads_image _) (g.met.D.Disk.counts_now _)
       (one_step g.D.Disk c.args.self.now.disk c.write_synced.new.disk c.write_synced.new.disk
       c.args.body.now
@@ -33,13 +33,13 @@ invariant_of-self g c = record {
 
 pub invariant_of-self-in-Break-branch-2 : goal.invariant_of-self-in-Break-branch-2
 invariant_of-self-in-Break-branch-2 g c = record {
-  room = search rules;
+  capacity = search rules;
   there = le_trans (le_trans c.args.self.now.there c.write_synced.ensures.known_kept)
       c.write_synced-2.ensures.known_kept;
   begun = c.args.self.now.begun;
   stands =
       still_stands g.D.Disk c.args.self.now.disk c.write_synced-2.new.disk c.args.body.now
-      (c.write_synced-2.ensures.told ∙ c.write_synced.ensures.told)
+      (c.write_synced-2.ensures.contents ∙ c.write_synced.ensures.contents)
       (g.met.D.Disk.reads_image _) (g.met.D.Disk.counts_now _)
       (both_steps g.D.Disk c.args.self.now.disk c.write_synced.new.disk c.write_synced-2.new.disk
       c.args.body.now
@@ -53,14 +53,14 @@ invariant_of-self-in-Break-branch-2 g c = record {
 }
 
 pub invariant_of-self-2-clause-stands : goal.invariant_of-self-2-clause-stands
-invariant_of-self-2-clause-stands g c = λ b told.
-    (done_settled g.D.Disk c.args.self.now.disk c.write_synced.new.disk c.write_synced-2.new.disk
+invariant_of-self-2-clause-stands g c = λ b contents.
+    (done_durable g.D.Disk c.args.self.now.disk c.write_synced.new.disk c.write_synced-2.new.disk
     c.args.body.now
     (take (length c.args.body.now + 5) c.deref.result.now) c.args.self.now.end
     (c.args.self.now.settled c.if-self.false)
     (piece_is _ _ _ c.deref.ensures.value c.pack.ensures.tail) c.requires.some c.requires.few
     c.in_ok-write_synced.ensures.written c.in_ok-write_synced-2.ensures.written
-    c.in_ok-write_synced-2.ensures.durable b told).stands
+    c.in_ok-write_synced-2.ensures.durable b contents).stands
 
 pub returns-then-self-size-clause-any_moment : goal.returns-then-self-size-clause-any_moment
 returns-then-self-size-clause-any_moment g c = λ sound.
@@ -68,14 +68,14 @@ returns-then-self-size-clause-any_moment g c = λ sound.
     (c.args.self.now.settled sound) (g.met.D.Disk.only_now _)
 
 pub invariant_of-self-2-clause-settled : goal.invariant_of-self-2-clause-settled
-invariant_of-self-2-clause-settled g c = λ sound b told.
-    done_settled g.D.Disk c.args.self.now.disk c.write_synced.new.disk c.write_synced-2.new.disk
+invariant_of-self-2-clause-settled g c = λ sound b contents.
+    done_durable g.D.Disk c.args.self.now.disk c.write_synced.new.disk c.write_synced-2.new.disk
     c.args.body.now
     (take (length c.args.body.now + 5) c.deref.result.now) c.args.self.now.end
     (c.args.self.now.settled c.if-self.false)
     (piece_is _ _ _ c.deref.ensures.value c.pack.ensures.tail) c.requires.some c.requires.few
     c.in_ok-write_synced.ensures.written c.in_ok-write_synced-2.ensures.written
-    c.in_ok-write_synced-2.ensures.durable b told
+    c.in_ok-write_synced-2.ensures.durable b contents
 
 pub returns-clause-leaves : goal.returns-clause-leaves
 returns-clause-leaves g c = record {
@@ -147,16 +147,17 @@ some_records None (Some new) is = is
 some_records (Some old) None is = is
 some_records (Some old) (Some new) is = is
 
-pub returns-in_err-write_synced-clause-told : goal.returns-in_err-write_synced-clause-told
-returns-in_err-write_synced-clause-told g c = some_records _ _ c.write_synced.ensures.told
+pub returns-in_err-write_synced-clause-contents : goal.returns-in_err-write_synced-clause-contents
+returns-in_err-write_synced-clause-contents g c = some_records _ _ c.write_synced.ensures.contents
 
-pub returns-in_err-write_synced-2-clause-told : goal.returns-in_err-write_synced-2-clause-told
-returns-in_err-write_synced-2-clause-told g c =
-    some_records _ _ (c.write_synced-2.ensures.told ∙ c.write_synced.ensures.told)
+pub returns-in_err-write_synced-2-clause-contents :
+    goal.returns-in_err-write_synced-2-clause-contents
+returns-in_err-write_synced-2-clause-contents g c =
+    some_records _ _ (c.write_synced-2.ensures.contents ∙ c.write_synced.ensures.contents)
 
-pub returns-clause-told : goal.returns-clause-told
-returns-clause-told g c =
-    some_records _ _ (c.write_synced-2.ensures.told ∙ c.write_synced.ensures.told)
+pub returns-clause-contents : goal.returns-clause-contents
+returns-clause-contents g c =
+    some_records _ _ (c.write_synced-2.ensures.contents ∙ c.write_synced.ensures.contents)
 
 pub returns-in_err-write_synced-2-clause-count : goal.returns-in_err-write_synced-2-clause-count
 returns-in_err-write_synced-2-clause-count g c =

@@ -1,15 +1,15 @@
-use Rattle.journal_core.proofs.OpeningSteps.{ended_settled, ended_records, ended_all, ended_place}
+use Rattle.journal_core.proofs.OpeningSteps.{ended_durable, ended_records, ended_all, ended_place}
 use Rattle.journal_core.proofs.opening.Opening.ready.Goals as goal
 
 pub invariant_of-result-clause-settled : goal.invariant_of-result-clause-settled
-invariant_of-result-clause-settled g c = λ sound b told.
-    ended_settled g.D.Disk c.args.self.disk c.args.self.place c.args.self.reading
-    (c.args.self.closed c.requires) b told
+invariant_of-result-clause-settled g c = λ sound b contents.
+    ended_durable g.D.Disk c.args.self.disk c.args.self.place c.args.self.reading
+    (c.args.self.closed c.requires) b contents
 
 pub invariant_of-result-clause-stands : goal.invariant_of-result-clause-stands
-invariant_of-result-clause-stands g c = λ b told.
-    (ended_settled g.D.Disk c.args.self.disk c.args.self.place c.args.self.reading
-    (c.args.self.closed c.requires) b told).stands
+invariant_of-result-clause-stands g c = λ b contents.
+    (ended_durable g.D.Disk c.args.self.disk c.args.self.place c.args.self.reading
+    (c.args.self.closed c.requires) b contents).stands
 
 pub returns-clause-list : goal.returns-clause-list
 returns-clause-list g c = ended_records g.D.Disk c.args.self.disk c.args.self.place

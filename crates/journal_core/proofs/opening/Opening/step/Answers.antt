@@ -6,13 +6,13 @@ use Rattle.journal_core.specs.Format.{IsClosedAt}
 use Rattle.journal_core.proofs.OpeningSteps.{step_reading, step_list, step_count, same_reading}
 use Rattle.journal_core.proofs.OpeningSteps.{same_list, only_fails, refused_walk, ended_stands}
 use Rattle.journal_core.proofs.OpeningSteps.{ended_walk}
-use Rattle.disk_core.proofs.Moments.{no_look}
-use Rattle.journal_core.proofs.Told.{at_told}
+use Rattle.disk_core.proofs.Moments.{nothing_read}
+use Rattle.journal_core.proofs.Modelled.{at_contents}
 use Rattle.journal_core.proofs.opening.Opening.step.Goals as goal
 
 length_is : (start n : ℕ) (buffer : List ℕ) → length buffer ≡ 131094 → start + n ≤ 131094
     → length (part start n buffer) ≡ n
-length_is start n buffer room few = simp (length-take, length-drop) (omega arith)
+length_is start n buffer capacity few = simp (length-take, length-drop) (omega arith)
 
 next_is : (place n : ℕ) (body : List ℕ) → length body ≡ n
     → place + (5 + n) ≡ place + 5 + length body
@@ -27,11 +27,12 @@ invariant_of-self-clause-reading g c =
     let within : (1 ≤ lies.size) × (lies.size ≤ 131072)
     × (place + 5 + lies.size ≤ c.args.self.now.size) × (lies.start + lies.size ≤ 131094)
     = rw c.in-Ok-Some.field-0-is at c.in-Ok-Some.ensures.within in
-    step_reading g.D.Disk c.args.self.now.disk c.read_record.new.disk c.read_record.ensures.looks
+    step_reading g.D.Disk c.args.self.now.disk c.read_record.new.disk
+    c.read_record.ensures.only_reads
     place c.args.self.now.reading
     body (rw c.in-Ok-Some.field-0-is at c.in-Ok-Some.ensures.found) (place + (5 + lies.size))
     (next_is place lies.size body (length_is lies.start lies.size buffer
-    c.read_record.new.window.room within.3))
+    c.read_record.new.window.capacity within.3))
 
 pub invariant_of-self-clause-counted : goal.invariant_of-self-clause-counted
 invariant_of-self-clause-counted g c =
@@ -42,11 +43,11 @@ invariant_of-self-clause-counted g c =
     let within : (1 ≤ lies.size) × (lies.size ≤ 131072)
     × (place + 5 + lies.size ≤ c.args.self.now.size) × (lies.start + lies.size ≤ 131094)
     = rw c.in-Ok-Some.field-0-is at c.in-Ok-Some.ensures.within in
-    step_count g.D.Disk c.args.self.now.disk c.read_record.new.disk c.read_record.ensures.looks
+    step_count g.D.Disk c.args.self.now.disk c.read_record.new.disk c.read_record.ensures.only_reads
     place c.args.self.now.reading
     body (rw c.in-Ok-Some.field-0-is at c.in-Ok-Some.ensures.found) (place + (5 + lies.size))
     (next_is place lies.size body (length_is lies.start lies.size buffer
-    c.read_record.new.window.room within.3))
+    c.read_record.new.window.capacity within.3))
     c.args.self.now.count c.args.self.now.counted
 
 pub returns-in-Ok-Some : goal.returns-in-Ok-Some
@@ -59,14 +60,14 @@ returns-in-Ok-Some g c =
     let within : (1 ≤ n) × (n ≤ 131072) × (place + 5 + n ≤ c.args.self.now.size)
     × (lies.start + n ≤ 131094)
     = rw c.in-Ok-Some.field-0-is at c.in-Ok-Some.ensures.within in
-    let size : length body ≡ n = length_is lies.start n buffer c.read_record.new.window.room
+    let size : length body ≡ n = length_is lies.start n buffer c.read_record.new.window.capacity
     within.3 in
     let some = within.0 in
     let few = within.1 in
     let ends = within.2 in (
       record {
         list = step_list g.D.Disk c.args.self.now.disk c.read_record.new.disk
-            c.read_record.ensures.looks place c.args.self.now.reading
+            c.read_record.ensures.only_reads place c.args.self.now.reading
             body (rw c.in-Ok-Some.field-0-is at c.in-Ok-Some.ensures.found) (place + (5 + n))
             (next_is place n body size);
         some = omega arith;
@@ -82,7 +83,7 @@ returns-in-Ok-Some g c =
         kind = λ none. tt;
         whole = λ none. tt;
         walk = λ none. tt;
-        looks = c.read_record.ensures.looks;
+        only_reads = c.read_record.ensures.only_reads;
         fine = λ none. c.in-Ok-Some.ensures.fine;
       },
     )
@@ -91,7 +92,7 @@ pub returns-in-Err : goal.returns-in-Err
 returns-in-Err g c = (
   record {
     list = same_list g.D.Disk c.args.self.now.disk c.read_record.new.disk
-        c.read_record.ensures.looks c.args.self.now.place c.args.self.now.reading;
+        c.read_record.ensures.only_reads c.args.self.now.place c.args.self.now.reading;
     kept = refl;
     goes_on = refl;
   },
@@ -101,12 +102,12 @@ returns-in-Err g c = (
     reason = λ none. c.in-Err.ensures.reason;
     kind = λ none. c.in-Err.ensures.kind;
     whole = λ none. only_fails g.D.Disk c.args.self.now.disk c.read_record.new.disk
-        c.read_record.ensures.looks c.args.self.now.place c.args.self.now.reading
+        c.read_record.ensures.only_reads c.args.self.now.place c.args.self.now.reading
         _ c.in-Err.ensures.reason c.in-Err.ensures.kind;
     walk = λ none. refused_walk g.D.Disk c.args.self.now.disk c.read_record.new.disk
-        c.read_record.ensures.looks c.args.self.now.place c.args.self.now.reading
+        c.read_record.ensures.only_reads c.args.self.now.place c.args.self.now.reading
         _ c.in-Err.ensures.reason;
-    looks = c.read_record.ensures.looks;
+    only_reads = c.read_record.ensures.only_reads;
     fine = c.in-Err.ensures.fine;
   },
 )
@@ -131,7 +132,7 @@ returns-then-self g c =
         kind = λ none. tt;
         whole = λ none. tt;
         walk = λ none. tt;
-        looks = no_look g.D.Disk c.args.self.now.disk (g.met.D.Disk.only_now _);
+        only_reads = nothing_read g.D.Disk c.args.self.now.disk (g.met.D.Disk.only_now _);
         fine = λ none. refl;
       },
     )
@@ -139,16 +140,17 @@ returns-then-self g c =
 pub returns-in-Ok-None : goal.returns-in-Ok-None
 returns-in-Ok-None g c =
     let place = c.args.self.now.place in
-    let looks = c.read_record.ensures.looks in
-    let reading = same_reading g.D.Disk c.args.self.now.disk c.read_record.new.disk looks place
+    let only_reads = c.read_record.ensures.only_reads in
+    let reading = same_reading g.D.Disk c.args.self.now.disk c.read_record.new.disk only_reads place
     c.args.self.now.reading in
-    let found : IfSome (g.D.Disk.told c.args.self.now.disk) (λ b. IsClosedAt b place) =
+    let found : IfSome (g.D.Disk.contents c.args.self.now.disk) (λ b. IsClosedAt b place) =
     rw c.in-Ok-None.field-0-is at c.in-Ok-None.ensures.found in
-    let closed : (b : List ℕ) → g.D.Disk.told c.read_record.new.disk ≡ Some b → IsClosedAt b place
-    = λ b told. at_told (λ (bytes : List ℕ). IsClosedAt bytes place)
-    (g.D.Disk.told c.args.self.now.disk) b (sym looks.told ∙ told) found in (
+    let closed : (b : List ℕ) → g.D.Disk.contents c.read_record.new.disk ≡ Some b
+    → IsClosedAt b place
+    = λ b contents. at_contents (λ (bytes : List ℕ). IsClosedAt bytes place)
+    (g.D.Disk.contents c.args.self.now.disk) b (sym only_reads.contents ∙ contents) found in (
       record {
-        list = same_list g.D.Disk c.args.self.now.disk c.read_record.new.disk looks place
+        list = same_list g.D.Disk c.args.self.now.disk c.read_record.new.disk only_reads place
             c.args.self.now.reading;
         ended = refl;
         place = refl;
@@ -163,7 +165,7 @@ returns-in-Ok-None g c =
         kind = λ none. tt;
         whole = λ none. tt;
         walk = λ none. tt;
-        looks = looks;
+        only_reads = only_reads;
         fine = λ none. c.in-Ok-None.ensures.fine;
       },
     )

@@ -14,8 +14,9 @@ pub returns-clause-made : goal.returns-clause-made
 returns-clause-made c =
     let is : get_by_text c.insert.new.self c.args.name.now ≡ Some c.new-disk.result
     = grind (arith, text_keys) in
-    subst (λ x. IsSomeAnd x (λ e. IsFresh [] e × SameDevice ghosts e c.in_ok-lent.lent)) (sym is)
-    (c.new-disk.ensures.fresh, c.in_ok-lent.ensures.same)
+    subst (λ x. IsSomeAnd x (λ e. IsFresh [] e × SameDevice ghosts e c.in_ok-opened.opened))
+    (sym is)
+    (c.new-disk.ensures.fresh, c.in_ok-opened.ensures.same)
 
 pub returns-clause-listed : goal.returns-clause-listed
 returns-clause-listed c =

@@ -2,7 +2,7 @@ use Rattle.std.proofs.Common.{◌≡◌, List, [], Option, Some, None, Result, O
 use Rattle.std.proofs.Common.{sym, ap, subst, ◌∙◌}
 use Rattle.std.specs.Option.{IsSomeAnd}
 use Rattle.std.specs.BTreeMap.{get_by_text}
-use Rattle.byte_forms.specs.Types.{Text}
+use Rattle.byte_formats.specs.Types.{Text}
 use Rattle.mtc_io.specs.declared.fault.Memory.{Memory}
 use Rattle.disk_core.specs.Memory.{bytes_of, images_of, IsFresh}
 use Rattle.disk_core.specs.Replay.{state_now, IsImage}
@@ -14,11 +14,11 @@ use Rattle.mtc_room.specs.declared.error.RoomError.{RoomError}
 use Rattle.mtc_room.proofs.memory.MemRoomRoom.fresh.Goals as goal
 
 -- what holds of the device that was made holds of the one that is lent
-lent_is : {T : Type 0} (P : T → Type 0) (made : T) (result : Result T RoomError)
+opened_is : {T : Type 0} (P : T → Type 0) (made : T) (result : Result T RoomError)
     → IfOk result (λ it. ◌≡◌ {A = Result T Memory} (Ok made) (Ok it)) → P made
     → IfOk result P
-lent_is P made (Ok it) same is = let e : made ≡ it = cc in subst P e is
-lent_is P made (Err why) same is = tt
+opened_is P made (Ok it) same is = let e : made ≡ it = cc in subst P e is
+opened_is P made (Err why) same is = tt
 
 no_bytes : (e : MemDisk) → IsFresh [] e → bytes_of e ≡ []
 no_bytes e fresh = subst (λ (calls : List Made). (state_now e.past.first calls).seen ≡ [])
@@ -47,24 +47,24 @@ only_in (Some e) d is c left =
     was ∙ is.0.first
 
 -- the device of the new file behind the loan
-kept : (c : goal.After-lend_out)
-    → IsSomeAnd (get_by_text c.lend_out.new.self.files c.args.name.now)
+kept : (c : goal.After-open_one)
+    → IsSomeAnd (get_by_text c.open_one.new.self.files c.args.name.now)
     (λ e. IsFresh [] e × SameDevice ghosts e c.in-Ok.disk)
 kept c = subst (λ files. IsSomeAnd (get_by_text files c.args.name.now)
     (λ e. IsFresh [] e × SameDevice ghosts e c.in-Ok.disk))
-    (sym c.lend_out.ensures.files) c.in-Ok.ensures.made
+    (sym c.open_one.ensures.files) c.in-Ok.ensures.made
 
 pub returns-in-Ok-clause-device : goal.returns-in-Ok-clause-device
 returns-in-Ok-clause-device c =
-    lent_is _ c.in-Ok.disk c.lend_out.result c.lend_out.ensures.ok
+    opened_is _ c.in-Ok.disk c.open_one.result c.open_one.ensures.ok
     (λ _. device_in _ c.in-Ok.disk (kept c))
 
 pub returns-in-Ok-clause-empty : goal.returns-in-Ok-clause-empty
 returns-in-Ok-clause-empty c =
-    lent_is _ c.in-Ok.disk c.lend_out.result c.lend_out.ensures.ok
+    opened_is _ c.in-Ok.disk c.open_one.result c.open_one.ensures.ok
     (λ _. empty_in _ c.in-Ok.disk (kept c))
 
 pub returns-in-Ok-clause-only : goal.returns-in-Ok-clause-only
 returns-in-Ok-clause-only c =
-    lent_is _ c.in-Ok.disk c.lend_out.result c.lend_out.ensures.ok
+    opened_is _ c.in-Ok.disk c.open_one.result c.open_one.ensures.ok
     (λ _. only_in _ c.in-Ok.disk (kept c))

@@ -3,7 +3,7 @@ use Rattle.std.proofs.Common.{arith}
 use Rattle.std.proofs.Common.{rules}
 use Rattle.std.proofs.lemmas.Bool.{cases_lt}
 use Rattle.tile_store.proofs.Adopted.{found-tiles, gone-more, list-stays, same-leaves}
-use Rattle.tile_store.proofs.Adopted.{sound-adopted, told-each}
+use Rattle.tile_store.proofs.Adopted.{sound-adopted, contents-each}
 use Rattle.tile_store.proofs.Numbers.{full-more}
 use Rattle.tile_store.specs.Layout.{tiles_end}
 use Rattle.tile_store.specs.Sound.{leaves_with}
@@ -56,12 +56,12 @@ invariant_of-self g c =
       keys = λ slot key holds.
           full-more tiles.adopted c.args.size key.level key.place (omega arith)
           (tiles.keys slot key holds);
-      told = λ b told.
+      contents = λ b contents.
           sound-adopted h tiles.adopted tiles.stored c.args.size c.max-self.result tiles.rows
           c.forget.new.self tiles.pool b c.requires.multiple most (omega arith)
           (c.forget.ensures.same h) (c.forget.ensures.gone 0)
-          (found-tiles old tiles c.args.size b stays c.in_ok-compare.ensures.stands told)
-          (tiles.told b told);
+          (found-tiles old tiles c.args.size b stays c.in_ok-compare.ensures.stands contents)
+          (tiles.contents b contents);
     }
 
 pub returns-clause-list : goal.returns-clause-list
@@ -73,16 +73,16 @@ returns-clause-list g c =
     let rows : count_of tiles.rows.rows ≡ count_of old.rows.rows =
     ap (λ r. count_of r.rows) stays.rows in
     let size = c.requires.within in
-    told-each (g.T.Disk.told old.disk) (g.T.Disk.told tiles.disk)
+    contents-each (g.T.Disk.contents old.disk) (g.T.Disk.contents tiles.disk)
     (leaves_with old.adopted old.rows) (leaves_with c.args.size c.forget.new.self)
-    stays.looks.told
-    (λ b told.
-    let sound = tiles.told b told in
+    stays.only_reads.contents
+    (λ b contents.
+    let sound = tiles.contents b contents in
     let leaves = leaves_with tiles.adopted tiles.rows b in
     let count = count-rows h (leaves_with tiles.adopted tiles.rows b) tiles.rows.rows
     sound.stands in
     list-stays h leaves c.args.size c.forget.new.self b
-    (found-tiles old tiles c.args.size b stays c.in_ok-compare.ensures.stands told)
+    (found-tiles old tiles c.args.size b stays c.in_ok-compare.ensures.stands contents)
     c.requires.multiple (omega arith) (c.forget.ensures.same h leaves sound.stands)
     (c.forget.ensures.gone 0)
     ∙ same-leaves old tiles b stays)

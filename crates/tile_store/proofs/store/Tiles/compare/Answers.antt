@@ -1,5 +1,5 @@
 use Rattle.std.proofs.Common.{ℕ, sym, ◌∙◌, subst, arith}
-use Rattle.tile_store.proofs.Adopted.{both-told, cause-from, if-err-map, on-ok-map, stand-in}
+use Rattle.tile_store.proofs.Adopted.{both-contents, cause-from, if-err-map, on-ok-map, stand-in}
 use Rattle.tile_store.proofs.Numbers.{full-low, full-number}
 use Rattle.tile_store.specs.Causes.{IsNewTile, StandsIn}
 use Rattle.tile_store.specs.Comparing.{HasTileReason, HaveMatched}
@@ -42,7 +42,7 @@ invariant_of-self g c =
       whole = tiles.whole;
       written = tiles.written;
       within = tiles.within;
-      reach = let known = compared.looks.known in
+      reach = let known = compared.only_reads.known in
           let reach = tiles.reach in
           omega arith;
       gone = tiles.gone;
@@ -54,12 +54,12 @@ invariant_of-self g c =
           omega arith;
       free = compared.free;
       keys = λ slot key holds. tiles.keys slot key (compared.keys slot key holds);
-      told = λ b told.
-          let old = tiles.told b (sym compared.looks.told ∙ told) in
+      contents = λ b contents.
+          let old = tiles.contents b (sym compared.only_reads.contents ∙ contents) in
           record {
             stands = old.stands;
             tiles = old.tiles;
-            frames = compared.frames b (sym compared.looks.told ∙ told) old.frames;
+            frames = compared.frames b (sym compared.only_reads.contents ∙ contents) old.frames;
           };
     }
 
@@ -68,11 +68,11 @@ returns-clause-stands g c =
     let tiles = c.args.self.now in
     let h = g.H.TreeHash.hash in
     on-ok-map c.check.result c.check.ensures.ok (λ matched.
-    both-told (g.T.Disk.told tiles.disk) (leaves_with tiles.adopted tiles.rows)
+    both-contents (g.T.Disk.contents tiles.disk) (leaves_with tiles.adopted tiles.rows)
     (λ bytes leaves. (level place : ℕ) → IsNewTile tiles.adopted c.args.size level place
     → StandsIn h leaves bytes level place)
-    (λ b told.
-    let sound = tiles.told b told in
+    (λ b contents.
+    let sound = tiles.contents b contents in
     let few = tiles.few in
     let size = c.requires.within in
     stand-in g.T.Disk h tiles.rows tiles.adopted c.args.size tiles.disk tiles.pool b
@@ -81,7 +81,7 @@ returns-clause-stands g c =
     tiles.pool) c.count_tiles-from.ensures
     (subst (λ n. HaveMatched g.T.Disk h tiles.rows c.count_tiles-from.result n tiles.disk
     tiles.pool) c.count_tiles-to.ensures matched))
-    told sound.frames sound.stands))
+    contents sound.frames sound.stands))
 
 pub returns-clause-cause : goal.returns-clause-cause
 returns-clause-cause g c =

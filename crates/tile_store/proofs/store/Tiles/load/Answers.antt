@@ -36,7 +36,7 @@ invariant_of-self g c =
       whole = tiles.whole;
       written = tiles.written;
       within = tiles.within;
-      reach = let known = c.load.ensures.looks.known in
+      reach = let known = c.load.ensures.only_reads.known in
           let reach = tiles.reach in
           omega arith;
       gone = tiles.gone;
@@ -52,11 +52,12 @@ invariant_of-self g c =
           (λ same. subst (λ k. IsFull tiles.adopted k.level k.place) (sym same) c.requires)
           (λ before. tiles.keys slot key before)
           (c.load.ensures.keys slot key holds);
-      told = λ b told.
-          let old = tiles.told b (sym c.load.ensures.looks.told ∙ told) in
+      contents = λ b contents.
+          let old = tiles.contents b (sym c.load.ensures.only_reads.contents ∙ contents) in
           record {
             stands = old.stands;
             tiles = old.tiles;
-            frames = c.load.ensures.frames b (sym c.load.ensures.looks.told ∙ told) old.frames;
+            frames = c.load.ensures.frames b (sym c.load.ensures.only_reads.contents ∙ contents)
+                old.frames;
           };
     }

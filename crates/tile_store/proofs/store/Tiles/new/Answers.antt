@@ -1,6 +1,6 @@
 use Rattle.std.proofs.Common.{◌≡◌, [], length, refl, ap, arith}
 use Rattle.tile_store.proofs.Grown.{gone-none, leaves-none, no-pins, sound-new}
-use Rattle.tile_store.proofs.NodeValues.{when-told}
+use Rattle.tile_store.proofs.NodeValues.{when-contents}
 use Rattle.tile_store.specs.Sound.{leaves_with}
 use Rattle.tree_cache.specs.Rows.{count_of}
 use Rattle.tile_store.proofs.store.Tiles.new.Goals as goal
@@ -17,14 +17,15 @@ invariant_of-result g c =
       gone = λ level. gone-none c.new.result.rows level c.new.ensures.rows;
       beside = let none = ap length c.new-2.ensures in
           omega arith;
-      some = c.sound.ensures.some;
-      free = no-pins c.args.pool c.sound.ensures c.requires;
+      some = c.law_sound.ensures.some;
+      free = no-pins c.args.pool c.law_sound.ensures c.requires;
       keys = λ slot key holds. absurd (c.requires slot key holds);
-      told = λ b told.
+      contents = λ b contents.
           sound-new g.H.TreeHash.hash c.new.result c.args.pool b c.new.ensures.rows c.requires;
     }
 
 pub returns-clause-leaves : goal.returns-clause-leaves
 returns-clause-leaves g c =
-    when-told (g.T.Disk.told c.args.disk) (leaves_with 0 c.new.result) (λ leaves. leaves ≡ [])
-    (λ b told. leaves-none c.new.result b c.new.ensures.rows)
+    when-contents (g.T.Disk.contents c.args.disk) (leaves_with 0 c.new.result)
+    (λ leaves. leaves ≡ [])
+    (λ b contents. leaves-none c.new.result b c.new.ensures.rows)

@@ -1,6 +1,6 @@
 use Rattle.std.proofs.Common.{[], ◌∷◌, ◌++◌, ◌∙◌, ap, arith}
 use Rattle.std.specs.Prelude.{option_map}
-use Rattle.tile_store.proofs.Grown.{leaves-pushed, sound-pushed, told-same}
+use Rattle.tile_store.proofs.Grown.{leaves-pushed, sound-pushed, contents-same}
 use Rattle.tile_store.specs.Sound.{leaves_with}
 use Rattle.tile_store.proofs.store.Tiles.push.Goals as goal
 
@@ -21,19 +21,19 @@ invariant_of-self g c =
       some = tiles.some;
       free = tiles.free;
       keys = tiles.keys;
-      told = λ b told.
+      contents = λ b contents.
           sound-pushed g.H.TreeHash.hash tiles.adopted tiles.stored tiles.rows c.push.new.self
           tiles.pool b c.args.leaf.now c.push.ensures.pushed c.push.ensures.gone within
-          (tiles.told b told);
+          (tiles.contents b contents);
     }
 
 pub returns-clause-ok : goal.returns-clause-ok
 returns-clause-ok g c =
     let tiles = c.reserve.new.self in
-    told-same (g.T.Disk.told tiles.disk) (leaves_with tiles.adopted c.push.new.self)
+    contents-same (g.T.Disk.contents tiles.disk) (leaves_with tiles.adopted c.push.new.self)
     (λ list. list ++ c.args.leaf.now ∷ []) (leaves_with tiles.adopted tiles.rows)
-    (λ b told.
-    let sound = tiles.told b told in
+    (λ b contents.
+    let sound = tiles.contents b contents in
     leaves-pushed g.H.TreeHash.hash tiles.adopted tiles.rows c.push.new.self b c.args.leaf.now
     c.push.ensures.pushed c.push.ensures.gone sound.stands)
     ∙ ap (option_map (λ list. list ++ c.args.leaf.now ∷ [])) c.reserve.ensures.list

@@ -18,7 +18,7 @@ invariant_of-self g c =
       some = tiles.some;
       free = tiles.free;
       keys = tiles.keys;
-      told = λ b told.
+      contents = λ b contents.
           sound-roomier g.H.TreeHash.hash tiles.adopted tiles.stored tiles.rows c.reserve.new.self
-          tiles.pool b grown (tiles.told b told);
+          tiles.pool b grown (tiles.contents b contents);
     }

@@ -1,7 +1,7 @@
 use Rattle.std.proofs.Common.{◌≡◌, ◌<◌, ◌≤◌, ⊎_elim, max, sym, subst, arith, rules}
 use Rattle.std.specs.Prelude.{IfSome}
 use Rattle.std.proofs.lemmas.Bool.{cases_lt}
-use Rattle.byte_forms.specs.Types.{Text}
+use Rattle.byte_formats.specs.Types.{Text}
 use Rattle.tile_store.proofs.Kept.{sound-stored, when-these}
 use Rattle.tile_store.specs.Contents.{HoldsTiles}
 use Rattle.tile_store.specs.Layout.{tiles_end}
@@ -38,14 +38,14 @@ invariant_of-self g c =
       some = tiles.some;
       free = tiles.free;
       keys = tiles.keys;
-      told = λ b told.
+      contents = λ b contents.
           sound-stored h tiles.adopted tiles.stored c.args.size c.max-self.result tiles.rows
           tiles.pool b most
-          (when-these (g.T.Disk.told tiles.disk) (leaves_with tiles.adopted tiles.rows)
+          (when-these (g.T.Disk.contents tiles.disk) (leaves_with tiles.adopted tiles.rows)
           (λ leaves. (image : Text) → g.T.Disk.may_leave tiles.disk image
-          → HoldsTiles h leaves c.args.size image) b told
+          → HoldsTiles h leaves c.args.size image) b contents
           (subst (λ o. IfSome o (λ leaves. (image : Text) → g.T.Disk.may_leave tiles.disk image
           → HoldsTiles h leaves c.args.size image)) (sym c.write.ensures.list)
-          c.in_ok-write.ensures.holds) b (g.met.T.Disk.reads_image tiles.disk b told))
-          (tiles.told b told);
+          c.in_ok-write.ensures.holds) b (g.met.T.Disk.reads_image tiles.disk b contents))
+          (tiles.contents b contents);
     }

@@ -2,7 +2,7 @@ use Rattle.std.proofs.Common.{◌≡◌, ◌+◌, ◌-◌, ◌*◌, ◌/◌, ◌
 use Rattle.std.proofs.Common.{ap, subst, sym}
 use Rattle.std.proofs.Common.{arith, rules}
 use Rattle.tile_store.proofs.Numbers.{full-more, gone-below}
-use Rattle.tile_store.proofs.NodeValues.{frame-tile, tile-node, when-told}
+use Rattle.tile_store.proofs.NodeValues.{frame-tile, tile-node, when-contents}
 use Rattle.tile_store.specs.Contents.{IsTile}
 use Rattle.tile_store.specs.Layout.{IsFull}
 use Rattle.tile_store.specs.Sound.{leaves_with}
@@ -45,12 +45,12 @@ returns-clause-value g c =
     let h = g.H.TreeHash.hash in
     let stays = c.load.ensures.stays in
     let key = c.tile_of-key.result in
-    when-told (g.T.Disk.told old.disk) (leaves_with old.adopted old.rows)
+    when-contents (g.T.Disk.contents old.disk) (leaves_with old.adopted old.rows)
     (λ leaves. c.node.result ≡ root_of h (part_of leaves (c.args.place * 2 ^ c.args.level)
     ((c.args.place + 1) * 2 ^ c.args.level)))
-    (λ b told.
-    let before = old.told b told in
-    let sound = now.told b (stays.looks.told ∙ told) in
+    (λ b contents.
+    let before = old.contents b contents in
+    let sound = now.contents b (stays.only_reads.contents ∙ contents) in
     let full : IsFull old.adopted key.level key.place = search rules in
     let adopted = stays.adopted in
     let written = now.written in

@@ -1,13 +1,13 @@
 use Rattle.std.proofs.Common.{◌*◌, sym, subst, arith}
 use Rattle.disk_core.specs.Disk.{Only}
 use Rattle.std.specs.Prelude.{IfSome}
-use Rattle.byte_forms.specs.Types.{Text}
+use Rattle.byte_formats.specs.Types.{Text}
 use Rattle.tile_store.proofs.Kept.{first-of, leaves-behind, on-ok-from, sound-behind, tiles-of}
-use Rattle.tile_store.proofs.Kept.{told-before, told-both}
-use Rattle.tile_store.proofs.NodeValues.{when-told}
+use Rattle.tile_store.proofs.Kept.{contents-before, contents-both}
+use Rattle.tile_store.proofs.NodeValues.{when-contents}
 use Rattle.tile_store.specs.Contents.{HoldsTiles}
 use Rattle.tile_store.specs.Sound.{leaves_with}
-use Rattle.tile_store.specs.Writing.{HoldsFirst, KeepsFront}
+use Rattle.tile_store.specs.Writing.{HoldsFirst, KeepsPrefix}
 use Rattle.tree_cache.proofs.Pushes.{count-rows}
 use Rattle.tile_store.proofs.store.Tiles.write.Goals as goal
 
@@ -42,31 +42,32 @@ invariant_of-self g c =
       some = tiles.some;
       free = tiles.free;
       keys = tiles.keys;
-      told = λ after told.
+      contents = λ after contents.
           let few = tiles.few in
           let within = tiles.within in
-          let before = told-before (g.T.Disk.told tiles.disk)
-          (g.T.Disk.told c.write_tiles.new.disk) after c.write_tiles.ensures.behind.told told in
+          let before = contents-before (g.T.Disk.contents tiles.disk)
+          (g.T.Disk.contents c.write_tiles.new.disk) after c.write_tiles.ensures.behind.contents
+          contents in
           let there = g.met.T.Disk.known_there tiles.disk before.0 before.1 in
           sound-behind g.H.TreeHash.hash tiles.adopted tiles.stored tiles.rows tiles.pool before.0
           after tiles.whole tiles.written (omega arith) (omega arith)
-          (subst (λ n. KeepsFront (8192 * n) before.0 after) c.count_tiles-from.ensures
-          (c.write_tiles.ensures.front before.0 after before.1 told)) tiles.keys
-          (tiles.told before.0 before.1);
+          (subst (λ n. KeepsPrefix (8192 * n) before.0 after) c.count_tiles-from.ensures
+          (c.write_tiles.ensures.prefix before.0 after before.1 contents)) tiles.keys
+          (tiles.contents before.0 before.1);
     }
 
 pub returns-clause-list : goal.returns-clause-list
 returns-clause-list g c =
     let tiles = c.args.self.now in
     let reach = tiles.reach in
-    told-both (g.T.Disk.told tiles.disk) (g.T.Disk.told c.write_tiles.new.disk)
-    (leaves_with tiles.adopted tiles.rows) c.write_tiles.ensures.behind.told
-    (λ b after told_old told_new.
-    let there = g.met.T.Disk.known_there tiles.disk b told_old in
+    contents-both (g.T.Disk.contents tiles.disk) (g.T.Disk.contents c.write_tiles.new.disk)
+    (leaves_with tiles.adopted tiles.rows) c.write_tiles.ensures.behind.contents
+    (λ b after contents_old contents_new.
+    let there = g.met.T.Disk.known_there tiles.disk b contents_old in
     leaves-behind tiles.adopted tiles.stored tiles.rows b after tiles.whole tiles.written
     (omega arith)
-    (subst (λ n. KeepsFront (8192 * n) b after) c.count_tiles-from.ensures
-    (c.write_tiles.ensures.front b after told_old told_new)))
+    (subst (λ n. KeepsPrefix (8192 * n) b after) c.count_tiles-from.ensures
+    (c.write_tiles.ensures.prefix b after contents_old contents_new)))
 
 pub returns-clause-holds : goal.returns-clause-holds
 returns-clause-holds g c =
@@ -75,24 +76,24 @@ returns-clause-holds g c =
     let new = c.write_tiles.new.disk in
     on-ok-from c.write_tiles.result c.write_tiles.ensures.written c.write_tiles.ensures.durable
     (λ written durable.
-    when-told (g.T.Disk.told tiles.disk) (leaves_with tiles.adopted tiles.rows)
+    when-contents (g.T.Disk.contents tiles.disk) (leaves_with tiles.adopted tiles.rows)
     (λ leaves. (image : Text) → g.T.Disk.may_leave new image
     → HoldsTiles h leaves c.args.size image)
-    (λ b told.
+    (λ b contents.
     let leaves = leaves_with tiles.adopted tiles.rows b in
-    let sound = tiles.told b told in
+    let sound = tiles.contents b contents in
     let few = tiles.few in
     let size = c.requires in
     let count = count-rows h (leaves_with tiles.adopted tiles.rows b) tiles.rows.rows
     sound.stands in
-    let later = told-before (g.T.Disk.told new) (g.T.Disk.told tiles.disk) b
-    (sym c.write_tiles.ensures.behind.told) told in
+    let later = contents-before (g.T.Disk.contents new) (g.T.Disk.contents tiles.disk) b
+    (sym c.write_tiles.ensures.behind.contents) contents in
     let only : Only later.0 (g.T.Disk.may_leave new) =
     subst (λ t. IfSome t (λ bytes. Only bytes (g.T.Disk.may_leave new))) later.1 durable in
     λ image left.
     subst (HoldsTiles h leaves c.args.size) (sym (only image left))
     (tiles-of h leaves c.args.size later.0 (omega arith) (omega arith)
     (subst (λ n. HoldsFirst h leaves n later.0) c.count_tiles-to.ensures
-    (written.holds b later.0 told later.1 leaves sound.stands
+    (written.holds b later.0 contents later.1 leaves sound.stands
     (subst (λ n. HoldsFirst h leaves n b) (sym c.count_tiles-from.ensures)
     (first-of h leaves tiles.stored b sound.tiles)))))))

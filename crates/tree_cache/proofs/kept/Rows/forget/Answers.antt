@@ -13,12 +13,12 @@ forget_from-requires-clause-can c =
     (sym c.self.view_is) c.requires.before))
 
 forgotten : (c : goal.After-self-1)
-    → IsForgotten c.args.size c.self.inside.room c.self.inside.rows.items
+    → IsForgotten c.args.size c.self.inside.capacity c.self.inside.rows.items
     (take c.self.inside.rows.len
     (c.forget_from.new.rows ++ drop (length c.forget_from.new.rows) c.self.inside.rows.items))
 forgotten c =
     forgotten_whole c.args.size c.self.inside.rows.items c.as_mut_slice.result.now
-    c.forget_from.new.rows c.self.inside.rows.len c.self.inside.room c.self.invariant
+    c.forget_from.new.rows c.self.inside.rows.len c.self.inside.capacity c.self.invariant
     c.requires.few
     (subst (λ r. c.args.size ≤ count_of r.rows) (sym c.self.view_is) c.requires.within)
     c.as_mut_slice.ensures.value (omega (arith, c.self.inside.rows.ok.0)) (omega arith)

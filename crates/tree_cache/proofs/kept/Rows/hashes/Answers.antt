@@ -56,7 +56,7 @@ returns-clause-size c =
     (subst (λ l. (c.args.from + c.args.count) * 2 ^ c.args.level ≤ count_of l) (sym rows)
     c.requires.within) in
     let all = ap length c.part.ensures in
-    let front = length-take c.args.count
+    let prefix = length-take c.args.count
     (drop (c.args.from - c.in-Some.row.now.gone) c.in-Some.row.now.kept) in
     let back = length-drop (c.args.from - c.in-Some.row.now.gone) c.in-Some.row.now.kept in
     omega arith

@@ -10,10 +10,10 @@ pub invariant_of-self : goal.invariant_of-self
 invariant_of-self c =
     let it = c.args.self.now in
     let made : Made = record { call = c.args.call; ok = c.args.ok } in
-    let change : Change = record { looks = it.looks; made = made } in
+    let change : Change = record { only_reads = it.only_reads; made = made } in
     let more = ap (λ (changes : List Change). length (calls_in changes 0)) c.put.ensures
     ∙ ap length (change_more it.changes.items change) in
-    let longer = length_push (calls_in it.changes.items it.looks) made in
+    let longer = length_push (calls_in it.changes.items it.only_reads) made in
     record {
       counted = omega (arith, more, longer, it.counted);
       kept = ap are_changes c.put.ensures

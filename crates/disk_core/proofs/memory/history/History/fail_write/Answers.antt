@@ -1,5 +1,5 @@
 use Rattle.std.proofs.Common.{refl, sym, false, is_ok, subst, List, ℕ, ◌∙◌}
-use Rattle.byte_forms.specs.Places.{IsBytes}
+use Rattle.byte_formats.specs.Places.{IsBytes}
 use Rattle.disk_core.specs.Disk.{Torn, Follows}
 use Rattle.disk_core.specs.History.{left_of}
 use Rattle.disk_core.specs.Noted.{made_calls}

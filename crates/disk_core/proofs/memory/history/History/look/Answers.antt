@@ -1,5 +1,5 @@
 use Rattle.std.proofs.Common.{refl, sym, ◌∙◌, is_ok, true}
-use Rattle.disk_core.specs.Calls.{looked}
+use Rattle.disk_core.specs.Calls.{only_read}
 use Rattle.disk_core.specs.Noted.{made_calls}
 use Rattle.disk_core.specs.declared.memory.call.Call.TheVariants.{Len}
 use Rattle.disk_core.proofs.Replay.{quiet_pushed, bytes_noted, seen_kept, time_pushed}
@@ -8,7 +8,7 @@ use Rattle.disk_core.proofs.memory.history.History.look.Goals as goal
 pub invariant_of-self : goal.invariant_of-self
 invariant_of-self c =
     let kept = seen_kept c.args.self.now.first (made_calls c.args.self.now.calls)
-    (made_calls c.look.new.self) looked (is_ok c.look.result) (λ s. refl) c.look.ensures.calls in
+    (made_calls c.look.new.self) only_read (is_ok c.look.result) (λ s. refl) c.look.ensures.calls in
     record {
       are_bytes = bytes_noted _ _ _ Len true (is_ok c.look.result) c.look.ensures.calls tt
           c.args.self.now.are_bytes;
@@ -16,7 +16,7 @@ invariant_of-self c =
     }
 
 pub returns-clause-crash : goal.returns-clause-crash
-returns-clause-crash c = quiet_pushed _ _ _ looked (λ s. refl) c.in_ok-look.ensures.calls
+returns-clause-crash c = quiet_pushed _ _ _ only_read (λ s. refl) c.in_ok-look.ensures.calls
 
 pub returns-clause-time : goal.returns-clause-time
 returns-clause-time c = time_pushed _ _ _ _ c.in_ok-look.ensures.calls

@@ -1,8 +1,0 @@
-use Rattle.byte_forms.proofs.Digits.{value-digits, digits-value}
-use Rattle.byte_forms.proofs.numbers_have_one_spelling.Goals as goal
-
-pub returns-clause-again : goal.returns-clause-again
-returns-clause-again c = value-digits
-
-pub returns-clause-one : goal.returns-clause-one
-returns-clause-one c = digits-value

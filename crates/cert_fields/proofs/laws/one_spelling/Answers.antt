@@ -1,5 +1,0 @@
-use Rattle.cert_fields.proofs.CertificateForm.{one_certificate}
-use Rattle.cert_fields.proofs.laws.one_spelling.Goals as goal
-
-pub returns : goal.returns
-returns c = one_certificate

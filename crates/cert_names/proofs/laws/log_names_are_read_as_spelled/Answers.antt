@@ -1,5 +1,0 @@
-use Rattle.cert_names.proofs.LogForms.{id_named, log_only, log_again}
-use Rattle.cert_names.proofs.laws.log_names_are_read_as_spelled.Goals as goal
-
-pub returns : goal.returns
-returns c = record { ids = id_named; read = log_only; again = log_again }

@@ -1,5 +1,0 @@
-use Rattle.collide.proofs.Hashed.{AreInputs_always}
-use Rattle.collide.proofs.laws.inputs_by_clauses.Goals as goal
-
-pub returns : goal.returns
-returns c = AreInputs_always

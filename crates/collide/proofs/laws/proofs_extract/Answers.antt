@@ -1,5 +1,0 @@
-use Rattle.collide.proofs.Extracting.{ProofsExtract_always}
-use Rattle.collide.proofs.laws.proofs_extract.Goals as goal
-
-pub returns : goal.returns
-returns g c = ProofsExtract_always g.H.TreeHash.hash g.met.H.TreeHash.sized

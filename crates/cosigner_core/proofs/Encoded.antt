@@ -1,0 +1,293 @@
+-- The records of a cosigner are read as they are spelled.
+use Rattle.std.proofs.Common.{◌≡◌, ℕ, ◌+◌, ◌^◌, ◌<◌, ◌≤◌, ◌==◌, Bool, true, false, List, [], ◌∷◌}
+use Rattle.std.proofs.Common.{◌++◌, length, Option, Some, None, option_map, option_and_then, Result}
+use Rattle.std.proofs.Common.{Ok, Err, refl, ap, subst, ◌∙◌, if◌then◌else◌, arith}
+use Rattle.std.proofs.lemmas.Bool.{eqb-true}
+use Rattle.std.proofs.lemmas.List.{length-append}
+use Rattle.std.specs.Int.{w8, w32, w64}
+use Rattle.byte_formats.specs.Types.{Hash, HashFunction, Text}
+use Rattle.byte_formats.specs.Places.{At, at, IsBytes}
+use Rattle.byte_formats.specs.Forms.{Anything, FitsBoth, IsForm, both, itself}
+use Rattle.byte_formats.specs.Readings.{both_at, whole_of}
+use Rattle.byte_formats.proofs.Forms.{both_form, lifted_form}
+use Rattle.journal_core.proofs.Folds.{state_begins, state_next}
+use Rattle.lmots_core.specs.Parameters.{type_of_code, typecode}
+use Rattle.lmots_core.specs.declared.parameters.OtsType.{OtsType}
+use Rattle.lmots_core.specs.declared.parameters.OtsType.TheVariants.{W1, W2, W4, W8}
+use Rattle.lms_core.specs.Heights.{height, lms_code}
+use Rattle.lms_core.specs.declared.heights.LmsType.{LmsType}
+use Rattle.lms_core.specs.declared.heights.LmsType.TheVariants.{H5, H10, H15, H20, H25}
+use Rattle.tls_wire.specs.Reading.{bytes_at, number_at, vector_at}
+use Rattle.tls_wire.specs.Encoding.{number, vector}
+use Rattle.tls_wire.specs.declared.cursor.Short.{Short}
+use Rattle.tls_wire.proofs.AnchorForm.{anchor_again}
+use Rattle.tls_wire.proofs.Numbers.{bytes_form, number_form, wide8, wide32}
+use Rattle.tls_wire.proofs.Vectors.{vector_form}
+use Rattle.cosigner_core.specs.Folds.{CosignerState, after_step, begun_cosigner, cosigner_fold}
+use Rattle.cosigner_core.specs.Folds.{cosigner_of}
+use Rattle.cosigner_core.specs.Folds.{new_cosigner, next_state}
+use Rattle.cosigner_core.specs.Reading.{hash_at, proof_at, short_fault, u64_at}
+use Rattle.cosigner_core.specs.Records.{FitsCosigner, FitsStep}
+use Rattle.cosigner_core.specs.declared.step.Step.TheVariants.{Advance, Sign}
+use Rattle.cosigner_core.specs.Records.{advance_record, advance_step_at, cosigner_at}
+use Rattle.cosigner_core.specs.declared.step.Step.{Step}
+use Rattle.cosigner_core.specs.Records.{cosigner_in, cosigner_record, first_by_tag, founded}
+use Rattle.cosigner_core.specs.Records.{cosigner_settings_with, sign_record, sign_step_at}
+use Rattle.cosigner_core.specs.Records.{signing_type}
+use Rattle.cosigner_core.specs.Records.{step_by_tag, step_in, step_record, advance_of, sign_of}
+use Rattle.cosigner_core.specs.Records.{index_at}
+use Rattle.cosigner_core.specs.declared.settings.CosignerSettings.{CosignerSettings}
+use Rattle.cosigner_core.proofs.Forms.{IsRoot, IsWord, Root, root_text, sized_form, spanned_form}
+use Rattle.cosigner_core.proofs.Tagged.{some_value, tag_again, tag_takes, whole_again}
+use Rattle.cosigner_core.proofs.Tagged.{whole_takes}
+
+-- ---- how long they are
+
+pub length-cosigner : (s : CosignerSettings) (secret : Text)
+    → length (cosigner_record s secret) ≡ 11 + length s.id + length s.log + length secret
+unfolding cosigner_record
+length-cosigner s secret = simp length-append (omega arith)
+
+pub length-advance : (size : ℕ) (root : Hash) (proof : List Hash)
+    → 1 ≤ length (advance_record size root proof)
+unfolding advance_record
+length-advance size root proof = simp length-append (omega arith)
+
+pub length-sign : (index start end : ℕ) (hash : Hash) (proof : List Hash)
+    → 1 ≤ length (sign_record index start end hash proof)
+unfolding sign_record
+length-sign index start end hash proof = simp length-append (omega arith)
+
+-- ---- an Advance
+
+abbrev AdvanceFields : Type 0
+AdvanceFields = ℕ × Root
+
+abbrev advance_fields : AdvanceFields → Text
+advance_fields = both (number w64) root_text
+
+abbrev FitAdvance : AdvanceFields → Type 0
+FitAdvance = FitsBoth IsWord IsRoot
+
+advance_form : IsForm advance_fields FitAdvance Anything advance_step_at
+unfolding advance_step_at
+advance_form = sized_form
+
+-- ---- a Sign
+
+abbrev IsShortWord : ℕ → Type 0
+IsShortWord n = n < 2 ^ 32
+
+abbrev SignFields : Type 0
+SignFields = ℕ × (ℕ × (ℕ × Root))
+
+abbrev sign_fields : SignFields → Text
+sign_fields = both (number w32) (both (number w64) (both (number w64) root_text))
+
+abbrev FitSign : SignFields → Type 0
+FitSign = FitsBoth IsShortWord (FitsBoth IsWord (FitsBoth IsWord IsRoot))
+
+sign_form : IsForm sign_fields FitSign Anything sign_step_at
+unfolding sign_step_at
+sign_form =
+    both_form (number w32) IsShortWord Anything index_at (both (number w64) (both (number w64)
+    root_text)) (FitsBoth IsWord (FitsBoth IsWord IsRoot)) Anything
+    (both_at u64_at (both_at u64_at (both_at hash_at proof_at)))
+    (lifted_form (number w32) IsShortWord Anything (number_at w32) short_fault
+    (number_form w32 (2 ^ 32) wide32)) spanned_form (λ y rest f q. tt)
+
+-- ---- either
+
+pub step_again : (step : Step) → FitsStep step → step_in (step_record step) ≡ Some step
+unfolding step_in advance_record sign_record
+step_again (Advance size root proof) fits =
+    ap step_by_tag (tag_again 0x12 (advance_fields (size, (root, proof))) (omega arith))
+    ∙ ap (option_map advance_of) (whole_again advance_fields FitAdvance advance_step_at advance_form
+    1 (size, (root, proof)) (fits.word, (fits.sized, fits.all_hashes)))
+step_again (Sign index start end hash proof) fits =
+    ap step_by_tag (tag_again 0x13 (sign_fields (index, (start, (end, (hash, proof)))))
+    (omega arith))
+    ∙ ap (option_map sign_of) (whole_again sign_fields FitSign sign_step_at sign_form 1
+    (index, (start, (end, (hash, proof)))) (
+      fits.short_word,
+      (
+        fits.start_word,
+        (
+          fits.end_word,
+          (fits.sized, fits.all_hashes),
+        ),
+      ),
+    ))
+
+map_some : {X Y : Type 0} (f : X → Y) (o : Option X) (y : Y) → option_map f o ≡ Some y
+    → (x : X) × (o ≡ Some x) × (f x ≡ y)
+map_some f None y is = let wrong : None ≡ Some y = is in cc
+map_some f (Some x) y is = (x, refl, some_value (f x) y is)
+
+pub step_takes : (body : Text) (step : Step) → IsBytes body → step_in body ≡ Some step
+    → (body ≡ step_record step) × FitsStep step
+unfolding step_in advance_record sign_record
+step_takes body step bytes is = go (number_at w8 (at body 0)) refl is
+  where
+    Encodes : Step → Type 0
+    Encodes said = (body ≡ step_record said) × FitsStep said
+
+    advance_is : (a : At) (x : AdvanceFields) → body ≡ number w8 0x12 ++ a.rest → IsBytes a.rest
+        → whole_of (advance_step_at a) ≡ Some x → (body ≡ step_record (advance_of x))
+        × FitsStep (advance_of x)
+    advance_is a x begins rest is =
+        let took = whole_takes advance_fields FitAdvance advance_step_at advance_form a x
+        rest is in (
+          begins ∙ ap (λ (t : Text). number w8 0x12 ++ t) took.0,
+          record { word = took.1.0; sized = took.1.1.0; all_hashes = took.1.1.1 },
+        )
+
+    sign_is : (a : At) (x : SignFields) → body ≡ number w8 0x13 ++ a.rest → IsBytes a.rest
+        → whole_of (sign_step_at a) ≡ Some x → (body ≡ step_record (sign_of x))
+        × FitsStep (sign_of x)
+    sign_is a x begins rest is =
+        let took = whole_takes sign_fields FitSign sign_step_at sign_form a x rest is in (
+          begins ∙ ap (λ (t : Text). number w8 0x13 ++ t) took.0,
+          record {
+            short_word = took.1.0;
+            start_word = took.1.1.0;
+            end_word = took.1.1.1.0;
+            sized = took.1.1.1.1.0;
+            all_hashes = took.1.1.1.1.1;
+          },
+        )
+
+    sorted : (tag : ℕ × At) (one two : Bool) → (tag.0 == 0x12) ≡ one → (tag.0 == 0x13) ≡ two
+        → body ≡ number w8 tag.0 ++ tag.1.rest → IsBytes tag.1.rest
+        → (if one then option_map advance_of (whole_of (advance_step_at tag.1))
+        else (if two then option_map sign_of (whole_of (sign_step_at tag.1)) else None))
+        ≡ Some step
+        → (body ≡ step_record step) × FitsStep step
+    sorted tag true two first second begins rest is =
+        let said = map_some advance_of (whole_of (advance_step_at tag.1)) step is in
+        let here : body ≡ number w8 0x12 ++ tag.1.rest =
+        begins ∙ ap (λ (n : ℕ). number w8 n ++ tag.1.rest) (eqb-true tag.0 0x12 first) in
+        subst (λ (s : Step). (body ≡ step_record s) × FitsStep s) said.2
+        (advance_is tag.1 said.0 here rest said.1)
+    sorted tag false true first second begins rest is =
+        let said = map_some sign_of (whole_of (sign_step_at tag.1)) step is in
+        let here : body ≡ number w8 0x13 ++ tag.1.rest =
+        begins ∙ ap (λ (n : ℕ). number w8 n ++ tag.1.rest) (eqb-true tag.0 0x13 second) in
+        subst (λ (s : Step). (body ≡ step_record s) × FitsStep s) said.2
+        (sign_is tag.1 said.0 here rest said.1)
+    sorted tag false false first second begins rest is = let wrong : None ≡ Some step = is in cc
+
+    go : (r : Result (ℕ × At) Short) → number_at w8 (at body 0) ≡ r → step_by_tag r ≡ Some step
+        → (body ≡ step_record step) × FitsStep step
+    go (Err short) was is = let wrong : None ≡ Some step = is in cc
+    go (Ok tag) was is =
+        let begins = tag_takes body tag bytes was in
+        sorted tag (tag.0 == 0x12) (tag.0 == 0x13) refl refl begins.0 begins.1 is
+
+-- ---- a Cosigner
+
+abbrev ShortId : Text → Type 0
+ShortId bytes = length bytes < 2 ^ 8
+
+abbrev IsSecret : Text → Type 0
+IsSecret bytes = length bytes ≡ 48
+
+abbrev pub CosignerFields : Type 0
+CosignerFields = Text × (Text × (ℕ × (ℕ × Text)))
+
+abbrev pub cosigner_fields : CosignerFields → Text
+cosigner_fields = both (vector w8) (both (vector w8) (both (number w32) (both (number w32) itself)))
+
+abbrev pub FitCosigner : CosignerFields → Type 0
+FitCosigner = FitsBoth ShortId (FitsBoth ShortId (FitsBoth IsShortWord (FitsBoth IsShortWord
+    IsSecret)))
+
+pub cosigner_form : IsForm cosigner_fields FitCosigner Anything cosigner_at
+unfolding cosigner_at
+cosigner_form =
+    let id = vector_form w8 (2 ^ 8) wide8 in
+    let code = number_form w32 (2 ^ 32) wide32 in
+    let last = both_form (number w32) IsShortWord Anything (number_at w32) itself IsSecret Anything
+    (bytes_at 48) code (bytes_form 48) (λ y rest f q. tt) in
+    let codes = both_form (number w32) IsShortWord Anything (number_at w32)
+    (both (number w32) itself) (FitsBoth IsShortWord IsSecret) Anything
+    (both_at (number_at w32) (bytes_at 48)) code last (λ y rest f q. tt) in
+    let log = both_form (vector w8) ShortId Anything (vector_at w8)
+    (both (number w32) (both (number w32) itself))
+    (FitsBoth IsShortWord (FitsBoth IsShortWord IsSecret)) Anything
+    (both_at (number_at w32) (both_at (number_at w32) (bytes_at 48))) id codes
+    (λ y rest f q. tt) in
+    both_form (vector w8) ShortId Anything (vector_at w8)
+    (both (vector w8) (both (number w32) (both (number w32) itself)))
+    (FitsBoth ShortId (FitsBoth IsShortWord (FitsBoth IsShortWord IsSecret))) Anything
+    (both_at (vector_at w8) (both_at (number_at w32) (both_at (number_at w32) (bytes_at 48)))) id
+    log (λ y rest f q. tt)
+
+type_again : (l : LmsType) → height l ≤ 10 → signing_type (lms_code l) ≡ Some l
+type_again H5 small = refl
+type_again H10 small = refl
+type_again H15 small = absurd (omega arith)
+type_again H20 small = absurd (omega arith)
+type_again H25 small = absurd (omega arith)
+
+code_short : (l : LmsType) → lms_code l < 2 ^ 32
+code_short H5 = omega arith
+code_short H10 = omega arith
+code_short H15 = omega arith
+code_short H20 = omega arith
+code_short H25 = omega arith
+
+width_again : (t : OtsType) → type_of_code (typecode t) ≡ Some t
+width_again W1 = refl
+width_again W2 = refl
+width_again W4 = refl
+width_again W8 = refl
+
+width_short : (t : OtsType) → typecode t < 2 ^ 32
+width_short W1 = omega arith
+width_short W2 = omega arith
+width_short W4 = omega arith
+width_short W8 = omega arith
+
+settings_again : (s : CosignerSettings) (secret : Text) → FitsCosigner s secret
+    → cosigner_settings_with s.id s.log (lms_code s.lms) (typecode s.ots) ≡ Some s
+settings_again s secret fits =
+    rw (
+      type_again s.lms fits.small,
+      width_again s.ots,
+      anchor_again s.id fits.id,
+      anchor_again s.log fits.log,
+    ) refl
+
+pub cosigner_again : (s : CosignerSettings) (secret : Text) → FitsCosigner s secret
+    → cosigner_in (cosigner_record s secret) ≡ Some (s, secret)
+unfolding cosigner_in cosigner_record
+cosigner_again s secret fits =
+    let id = fits.id.short in
+    let log = fits.log.short in
+    let x : CosignerFields = (s.id, (s.log, (lms_code s.lms, (typecode s.ots, secret)))) in
+    let fit : FitCosigner x =
+    (omega arith, (omega arith, (code_short s.lms, (width_short s.ots, fits.sized)))) in
+    ap first_by_tag (tag_again 0x11 (cosigner_fields x) (omega arith))
+    ∙ ap (option_and_then founded)
+    (whole_again cosigner_fields FitCosigner cosigner_at cosigner_form 1 x fit)
+    ∙ ap (option_map (λ (t : CosignerSettings). (t, secret))) (settings_again s secret fits)
+
+-- ---- a journal of records as they are spelled
+
+pub cosigner_created : (h : HashFunction) (s : CosignerSettings) (secret : Text)
+    → FitsCosigner s secret
+    → cosigner_of h (cosigner_record s secret ∷ []) ≡ Ok (new_cosigner h s secret)
+unfolding begun_cosigner
+cosigner_created h s secret fits =
+    state_begins (cosigner_fold h) (cosigner_record s secret) (new_cosigner h s secret)
+    (ap (option_map (λ (x : CosignerSettings × Text). new_cosigner h x.0 x.1))
+    (cosigner_again s secret fits))
+
+pub step_added : (h : HashFunction) (list : List Text) (s : CosignerState) (step : Step)
+    (t : CosignerState) → cosigner_of h list ≡ Ok s → FitsStep step → after_step h s step ≡ Some t
+    → cosigner_of h (list ++ step_record step ∷ []) ≡ Ok t
+unfolding next_state
+step_added h list s step t is fits next =
+    state_next (cosigner_fold h) list s (step_record step) t is
+    (ap (option_and_then (after_step h s)) (step_again step fits) ∙ next)

@@ -1,0 +1,11 @@
+use Rattle.cosigner_core.proofs.Behind.{begins_so, once_each, only_begins}
+use Rattle.cosigner_core.proofs.laws.law_cosigners_begin_with_their_settings.Goals as goal
+
+pub returns-clause-behind : goal.returns-clause-behind
+returns-clause-behind c = begins_so
+
+pub returns-clause-only : goal.returns-clause-only
+returns-clause-only c = only_begins
+
+pub returns-clause-once : goal.returns-clause-once
+returns-clause-once c = once_each

@@ -1,5 +1,0 @@
-use Rattle.cosigner_core.proofs.Counts.{counts_up}
-use Rattle.cosigner_core.proofs.laws.one_time_keys_sign_once.Goals as goal
-
-pub returns : goal.returns
-returns c = counts_up

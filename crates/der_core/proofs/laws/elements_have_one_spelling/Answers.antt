@@ -1,5 +1,0 @@
-use Rattle.der_core.proofs.Elements.{one_element}
-use Rattle.der_core.proofs.laws.elements_have_one_spelling.Goals as goal
-
-pub returns : goal.returns
-returns c = one_element

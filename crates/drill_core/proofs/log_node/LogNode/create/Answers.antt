@@ -1,0 +1,31 @@
+use Rattle.std.proofs.Common.{◌≡◌, ◌∙◌, List, [], ◌∷◌, Ok, Some, sym, subst, ap, refl}
+use Rattle.byte_formats.specs.Types.{Text}
+use Rattle.disk_core.specs.Memory.{bytes_of}
+use Rattle.disk_core.specs.declared.memory.mem_disk.MemDisk.{MemDisk}
+use Rattle.journal_core.specs.Format.{Represents}
+use Rattle.issuance_log.specs.Folds.{log_of, new_log}
+use Rattle.issuance_log.specs.Records.{settings_record}
+use Rattle.issuance_log.specs.Settings.{Settings}
+use Rattle.drill_core.specs.Entries.{log_settings}
+use Rattle.drill_nodes.specs.Disks.{records_on}
+use Rattle.drill_core.proofs.log_node.LogNode.create.Goals as goal
+
+some_is : (xs ys : List Text) → Some xs ≡ Some ys → xs ≡ ys
+some_is xs ys e = cc
+
+pub returns-in-Ok-clause-state : goal.returns-in-Ok-clause-state
+returns-in-Ok-clause-state g c =
+    let settings : Settings =
+    record { id = c.in_ok-id_of.field-0; max_active = 4; limit = 64 } in
+    let same : settings ≡ log_settings =
+    ap (λ (id : Text). record { id = id; max_active = 4; limit = 64 }) c.in_ok-id_of.ensures in
+    let holds : Represents (bytes_of c.into_disk.result) (records_on c.into_disk.result) =
+    subst (λ (d : MemDisk). Represents (bytes_of d) (records_on d)) (sym c.into_disk.ensures)
+    (c.in-Ok.journal.stands (bytes_of c.in-Ok.journal.disk) refl) in
+    let first : records_on c.into_disk.result ≡ settings_record settings ∷ [] =
+    ap records_on c.into_disk.ensures
+    ∙ some_is (records_on c.in-Ok.journal.disk) (settings_record settings ∷ [])
+    c.in-Ok.ensures.ok.list in
+    c.in_ok-node-in-Ok.ensures.state (records_on c.into_disk.result) (new_log log_settings) holds
+    (ap (log_of g.H.TreeHash.hash) first ∙ c.in-Ok.ensures.valid g.H.TreeHash.hash
+    ∙ ap (λ (s : Settings). Ok (new_log s)) same)

@@ -1,0 +1,201 @@
+-- What a round makes of the nodes of a drill, and what rounds make of them.
+use Rattle.std.specs.Prelude.{◌≡◌, ◌+◌, ◌*◌, ◌<◌, ◌≤◌, ℕ, zero, suc, List, [], ◌∷◌, ◌++◌, length}
+use Rattle.std.specs.Prelude.{pos, Option, Some, None}
+use Rattle.std.specs.List.{AllByRecursion}
+use Rattle.byte_formats.specs.Types.{Hash, HashFunction, Text}
+use Rattle.lmots_core.specs.declared.parameters.OtsType.TheVariants.{W4}
+use Rattle.lms_core.specs.declared.heights.LmsType.TheVariants.{H5}
+use Rattle.lms_core.specs.Trees.{private_key}
+use Rattle.tree_core.specs.Tree.{tree_hash}
+use Rattle.tree_core.specs.declared.hashing.TreeHash.{Ghosts as Hashes}
+use Rattle.issuance_log.specs.Folds.{LogState, with_mark}
+use Rattle.cosigner_core.specs.Checkpoints.{empty_checkpoint}
+use Rattle.cosigner_core.specs.Folds.{CosignerState}
+use Rattle.cosigner_core.specs.declared.checkpoint.Checkpoint.{Checkpoint}
+use Rattle.policy_core.specs.Judgement.{judgement}
+use Rattle.authority_core.specs.Certificates.{IsWritten}
+use Rattle.authority_core.specs.Issues.{issued_log}
+use Rattle.drill_nodes.specs.CosignerNodes.{HasSign, secret_of}
+use Rattle.drill_nodes.specs.CosignerViews.{cosigner_shown, records_shown}
+use Rattle.drill_nodes.specs.Cosigners.{HasRecordedAll, HaveSigned, IsSigned, Paired, keys_used}
+use Rattle.drill_nodes.specs.Cosigners.{stops_by}
+use Rattle.drill_nodes.specs.Ids.{drill_log_id, id_of}
+use Rattle.drill_nodes.specs.Rounds.{Drill, after_rounds, begun, landmark_turns, stops_in, stops_of}
+use Rattle.drill_nodes.specs.declared.cosigner_node.CosignerNode.{CosignerNode}
+use Rattle.drill_nodes.specs.declared.round.Round.{Round}
+use Rattle.drill_nodes.specs.declared.turns.Stop.{Stop}
+use Rattle.drill_core.specs.AuditViews.{AllStand}
+use Rattle.drill_core.specs.Entries.{entries_to, log_with, request_for}
+use Rattle.drill_core.specs.LightStores.{IsDue}
+use Rattle.drill_core.specs.LogNodes.{IsSameLog, log_shown, log_stops}
+use Rattle.drill_core.specs.Stores.{IsAcceptedByAll, StoresAcceptNow, drill_store, one_accepted}
+use Rattle.drill_core.specs.declared.nodes.FleetNodes.{FleetNodes}
+
+-- the log that has issued so many entries more
+unfoldable pub issued_to : HashFunction → ℕ → LogState → LogState
+issued_to h zero s = s
+issued_to h (suc count) s =
+    let t = issued_to h count s in
+    issued_log h t.settings (request_for (length t.entries)) t
+
+-- the log with a landmark more, if there is one
+abbrev pub with_landmark : Option (Option Stop) → LogState → LogState
+with_landmark None s = s
+with_landmark (Some turn) s = with_mark s
+
+-- the tree hash of all of a log
+abbrev pub log_root : HashFunction → LogState → Hash
+log_root h s = tree_hash h s.entries
+
+-- The bytes are a certificate of the log's entry at an index, in the subtree of all its entries.
+abbrev pub IsWrittenOf : HashFunction → LogState → ℕ → Text → Type 0
+IsWrittenOf h s index bytes =
+    (signatures : Text) × IsWritten h s index 0 (length s.entries) signatures bytes
+
+-- ---- a round
+
+module _ {H : Type 0} {hashes : Hashes H} where
+  -- how many stops were made
+  abbrev pub all_stops : FleetNodes H hashes → ℕ
+  all_stops nodes = log_stops nodes.log + stops_by nodes.cosigners.nodes.items
+
+  -- What a round asks of the nodes: three cosigners, which hold no more than the log has, and
+  -- counts that have room for it.
+  pub record AreReady (nodes : FleetNodes H hashes) : Type 0 where
+    pub three : length nodes.cosigners.nodes.items ≡ 3
+    pub held : AllByRecursion (λ node. (cosigner_shown node).held.size
+        ≤ length (log_shown nodes.log).entries) nodes.cosigners.nodes.items
+    pub verified : nodes.verified ≤ 15
+    pub stands : nodes.stands ≤ 45
+    pub light : nodes.light ≤ 15
+
+  -- All cosigners have signed all of the log, and there is one certificate more, with their
+  -- signatures. It was judged, and audited with the records of each.
+  pub record HasCertified (h : HashFunction) (index : ℕ) (old new : FleetNodes H hashes)
+      : Type 0 where
+    pub log : IsSameLog old.log new.log
+    pub store : new.store ≡ old.store
+    pub each : Paired (IsSigned (length (log_shown old.log).entries)
+        (log_root h (log_shown old.log))) old.cosigners.nodes.items new.cosigners.nodes.items
+    pub signatures : Text
+    pub signed : HaveSigned (length (log_shown old.log).entries) (log_root h (log_shown old.log))
+        old.cosigners.nodes.items [] signatures
+    pub cert : Text
+    pub certs : new.certs.items ≡ old.certs.items ++ cert ∷ []
+    pub written : IsWritten h (log_shown old.log) index 0 (length (log_shown old.log).entries)
+        signatures cert
+    pub accepts : StoresAcceptNow h (log_shown old.log) index signatures cert
+    pub verified : new.verified
+        ≡ old.verified + one_accepted (judgement h cert old.store (pos 1767225600))
+    pub stands : AllStand h old.store cert (log_shown old.log) new.cosigners.nodes.items
+        → new.stands ≡ old.stands + 3
+    pub light : new.light ≡ old.light
+
+  -- A cosigner behind a round: it holds this root, and has signed it.
+  pub record HasHeldAndSigned (size : ℕ) (hash : Hash) (old new : CosignerNode H hashes)
+      : Type 0 where
+    pub id : (cosigner_shown new).id ≡ (cosigner_shown old).id
+    pub log_id : (cosigner_shown new).log ≡ (cosigner_shown old).log
+    pub held : (cosigner_shown new).held ≡ record { size = size; root = hash }
+    pub key : (cosigner_shown new).key.key ≡ (cosigner_shown old).key.key
+    pub more : (cosigner_shown old).key.next + 1 ≤ (cosigner_shown new).key.next
+    pub recorded : HasRecordedAll size hash (records_shown old) (records_shown new)
+
+  -- A round was played.
+  pub record HasPlayed (h : HashFunction) (r : Round) (old new : FleetNodes H hashes)
+      : Type 0 where
+    pub log : log_shown new.log
+        ≡ with_landmark r.landmark (issued_to h (length r.entries) (log_shown old.log))
+    pub store : new.store ≡ old.store
+    pub each : Paired (HasHeldAndSigned (length (log_shown new.log).entries)
+        (log_root h (log_shown new.log))) old.cosigners.nodes.items new.cosigners.nodes.items
+    pub signatures : Text
+    pub signed : HaveSigned (length (log_shown new.log).entries) (log_root h (log_shown new.log))
+        old.cosigners.nodes.items [] signatures
+    pub cert : Text
+    pub certs : new.certs.items ≡ old.certs.items ++ cert ∷ []
+    pub written : IsWritten h (log_shown new.log) r.index 0 (length (log_shown new.log).entries)
+        signatures cert
+    pub accepts : StoresAcceptNow h (log_shown new.log) r.index signatures cert
+    pub verified : new.verified
+        ≡ old.verified + one_accepted (judgement h cert old.store (pos 1767225600))
+    pub stands : AllStand h old.store cert (log_shown new.log) new.cosigners.nodes.items
+        → new.stands ≡ old.stands + 3
+    pub light : IsDue h (log_shown new.log)
+        → new.light ≡ old.light + length (landmark_turns r.landmark)
+    pub keys : keys_used new.cosigners.nodes.items
+        ≤ keys_used old.cosigners.nodes.items + 3 + stops_in r.signs
+    pub stops : all_stops new ≡ all_stops old + stops_of r
+
+-- ---- so many rounds of the drill with a number
+
+-- what the cosigners hold behind so many rounds, where the log has so many entries
+abbrev pub checkpoint_after : HashFunction → ℕ → ℕ → Checkpoint
+checkpoint_after h zero size = empty_checkpoint h
+checkpoint_after h (suc before) size =
+    record { size = size; root = tree_hash h (entries_to h size) }
+
+-- A cosigner of the drill: its id and secret, what it holds, and that it has used as many one-time
+-- keys as there were rounds, or more.
+pub record IsCosignerWithin (number last count : ℕ) (checkpoint : Checkpoint) (s : CosignerState)
+    : Type 0 where
+  pub id : s.id ≡ id_of last
+  pub log_id : s.log ≡ drill_log_id
+  pub held : s.held ≡ checkpoint
+  pub key : s.key.key ≡ private_key H5 W4 (secret_of last number)
+  pub signed : count ≤ s.key.next
+
+-- Each certificate is of the index and the size of its round, and is accepted by all cosigners.
+abbrev pub AreWritten : HashFunction → ℕ → List Text → List (ℕ × ℕ) → Type 0
+AreWritten h number [] [] = Unit {0}
+AreWritten h number [] (w ∷ ws) = ⊥
+AreWritten h number (cert ∷ certs) [] = ⊥
+AreWritten h number (cert ∷ certs) (w ∷ ws) =
+    (IsWrittenOf h (log_with h w.1 []) w.0 cert × IsAcceptedByAll h number w.0 w.1 cert)
+    × AreWritten h number certs ws
+
+-- Among these records is a Sign of all of the log at each size of a certificate.
+abbrev pub HaveSigns : HashFunction → List (ℕ × ℕ) → List Text → Type 0
+HaveSigns h written list =
+    AllByRecursion (λ w. HasSign 0 w.1 (tree_hash h (entries_to h w.1)) list) written
+
+-- No certificate was written at a larger size.
+abbrev pub NoneLarger : ℕ → List (ℕ × ℕ) → Type 0
+NoneLarger size written = AllByRecursion (λ w. w.1 ≤ size) written
+
+-- the cosigners of a drill
+abbrev pub cosigner_arcs : List ℕ
+cosigner_arcs = 2 ∷ 3 ∷ 4 ∷ []
+
+module _ {H : Type 0} {hashes : Hashes H} where
+  -- A cosigner behind so many rounds: it holds all of the log, and has signed it in each.
+  pub record IsNodeAfter (h : HashFunction) (number count : ℕ) (d : Drill) (last : ℕ)
+      (node : CosignerNode H hashes) : Type 0 where
+    pub within : IsCosignerWithin number last count (checkpoint_after h count d.size)
+        (cosigner_shown node)
+    pub signs : HaveSigns h d.written (records_shown node)
+
+  -- The nodes behind so many rounds of the drill with a number, which stands so, and what was
+  -- counted.
+  pub record IsAfter (h : HashFunction) (number count : ℕ) (d : Drill) (nodes : FleetNodes H hashes)
+      : Type 0 where
+    pub log : log_shown nodes.log ≡ log_with h d.size d.marks
+    pub cosigners : Paired (IsNodeAfter h number count d) cosigner_arcs nodes.cosigners.nodes.items
+    pub keys : keys_used nodes.cosigners.nodes.items ≤ 3 * count + d.stops
+    pub store : nodes.store ≡ drill_store number
+    pub certs : AreWritten h number nodes.certs.items d.written
+    pub sizes : NoneLarger d.size d.written
+    pub verified : nodes.verified ≡ count
+    pub stands : nodes.stands ≡ 3 * count
+    pub light : nodes.light ≡ length d.marks
+    pub few_marks : length d.marks ≤ count
+    pub stops : all_stops nodes ≡ d.stops
+    pub few_stops : d.stops ≤ 10 * count
+
+  -- A drill with a number, behind so many rounds: the number for the next draw, and the nodes.
+  pub record IsStanding (h : HashFunction) (number count next : ℕ) (nodes : FleetNodes H hashes)
+      : Type 0 where
+    pub next_is : next ≡ (after_rounds count (begun number)).next
+    pub some : 1 ≤ (after_rounds count (begun number)).size
+    pub small : (after_rounds count (begun number)).size ≤ 1 + 3 * count
+    pub after : IsAfter h number count (after_rounds count (begun number)) nodes

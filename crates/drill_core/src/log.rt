@@ -1,0 +1,190 @@
+//! The log of a drill.
+
+ghost use Rattle.std.specs.Prelude.{◌≡◌, ◌+◌, List, [], ◌∷◌, length, Ok, IfOk};
+ghost use Rattle.byte_formats.specs.Types.{Text};
+ghost use Rattle.disk_core.specs.Memory.{bytes_of, images_of};
+ghost use Rattle.journal_core.specs.Format.{Represents};
+ghost use Rattle.issuance_log.specs.Folds.{LogState, log_of, new_log, with_mark};
+ghost use Rattle.authority_core.specs.Issues.{issued_log};
+ghost use Rattle.drill_core.specs.Calls.{IsLogWith, count_in, log_called};
+ghost use Rattle.drill_core.specs.Entries.{log_settings, request_for};
+ghost use Rattle.drill_core.specs.LogNodes.{log_shown, log_stops};
+ghost use Rattle.drill_core.specs.Nodes.{IsEither, IsLeft};
+ghost use Rattle.drill_core.specs.Played.{issued_to};
+ghost use Rattle.drill_nodes.specs.Rounds.{stops_in};
+
+use crate::calls::{LogCall, call_log, open_log};
+use crate::log_node::{LogNode, size_of};
+use crate::requests::request_for;
+use disk_core::{Fuse, MemDisk};
+use drill_nodes::{LOG, Stop, Stops, Turn, Turns, id_of};
+use issuance_log::{Log, LogSettings, create};
+use mtc_io::Memory;
+use std::alloc::Global;
+use tree_core::TreeHash;
+
+// So many landmarks of the log are active, and it has so many entries at most.
+const ACTIVE: u32 = 4;
+
+const LIMIT: u32 = 64;
+
+// A log on a device that stands for its records, and one for its tiles, with the stops so far.
+fn opened<H: TreeHash>(
+    alloc: Global,
+    disk: MemDisk,
+    tiles: MemDisk,
+    stops: Stops,
+) -> Result<LogNode<H>, Memory>
+    ensures state { IfOk result (λ it. (list : List Text) (s : LogState)
+        → Represents (bytes_of disk) list → log_of H.hash list ≡ Ok s → log_shown it ≡ s) }
+    ensures stops { IfOk result (λ it. log_stops it ≡ length stops.made.items) }
+{
+    Ok(LogNode {
+        log: open_log(alloc, disk, tiles)?,
+        stops,
+    })
+}
+
+// The log with its journal behind a fuse, and the stops so far.
+fn fused<H: TreeHash>(
+    alloc: Global,
+    node: LogNode<H>,
+    passes: u64,
+) -> Result<(Log<H, Fuse<MemDisk>, MemDisk>, Stops), Memory>
+    ensures state { IfOk result (λ x. IsLogWith H.hash (log_shown node) x.0) }
+    ensures stops { IfOk result (λ x. length x.1.made.items ≡ log_stops node) }
+{
+    let (disk, tiles, stops) = node.into_disks();
+    let fuse = Fuse::new(disk, passes);
+    let log = open_log(alloc, fuse, tiles)?;
+    log.law_sound();
+    Ok((log, stops))
+}
+
+// What a call leaves of the device behind the fuse, and of that of the tiles, and whether it was
+// done. It may find no memory.
+fn halted<H: TreeHash>(
+    alloc: Global,
+    log: Log<H, Fuse<MemDisk>, MemDisk>,
+    call: &LogCall,
+) -> Result<(MemDisk, MemDisk, bool), Memory>
+    ensures { IfOk result (λ left. (s : LogState) → IsLogWith H.hash s log
+        → IsLeft H.hash call.now s (images_of left.0)) }
+{
+    let mut log = log;
+    let done = call_log(alloc, &mut log, call)?;
+    let (fuse, tiles) = log.into_disks();
+    let left = fuse.into_inner();
+    if left.starved() > 0 {
+        return Err(Memory);
+    }
+    Ok((left, tiles, done))
+}
+
+// The call is made behind a fuse, and the log is opened again on an image of what is left of each
+// device. This is the one place where a stop is counted.
+fn stopped<H: TreeHash>(
+    alloc: Global,
+    node: LogNode<H>,
+    call: &LogCall,
+    stop: Stop,
+) -> Result<LogNode<H>, Memory>
+    ensures state { IfOk result (λ it. IsEither H.hash call.now (log_shown node) (log_shown it)) }
+    ensures stops { IfOk result (λ it. log_stops it ≡ log_stops node + 1) }
+{
+    let (log, mut stops) = fused(alloc, node, stop.passes)?;
+    let (left, tiles, done) = halted(alloc, log, call)?;
+    let image = left.crash(stop.pick)?;
+    let tiles = tiles.crash(stop.pick)?;
+    stops.add(stop, done)?;
+    let again = opened(alloc, image, tiles, stops)?;
+    Ok(again)
+}
+
+impl<H: TreeHash> LogNode<H> {
+    /// A new log on an empty device, and another empty one for its tiles.
+    pub(crate) fn create(alloc: Global) -> Result<LogNode<H>, Memory>
+        ensures state { IfOk result (λ it. log_shown it ≡ new_log log_settings) }
+        ensures stops { IfOk result (λ it. log_stops it ≡ 0) }
+    {
+        let settings = LogSettings {
+            id: id_of(alloc, LOG)?,
+            max_active: ACTIVE,
+            limit: LIMIT,
+        };
+        let disk = MemDisk::new(alloc, Vec::new(alloc));
+        match create(alloc, disk, &settings) {
+            Ok(journal) => {
+                let tiles = MemDisk::new(alloc, Vec::new(alloc));
+                let node = opened(alloc, journal.into_disk(), tiles, Stops::new(alloc))?;
+                Ok(node)
+            }
+            Err(_) => Err(Memory),
+        }
+    }
+
+    // How many entries it has, or how many landmarks, by the kind of the call.
+    fn count(&self, call: &LogCall) -> u64
+        ensures { result ≡ count_in (log_shown self.now) call.now }
+    {
+        match call {
+            LogCall::Issue(_) => size_of(&self.log),
+            LogCall::Mark => self.log.marks().len() as u64,
+        }
+    }
+
+    // The call, with a stop or without one. Behind a stop it is made again, unless its record was
+    // recovered.
+    fn asked(self, alloc: Global, call: &LogCall, turn: Turn) -> Result<LogNode<H>, Memory>
+        ensures state { IfOk result (λ it.
+            log_shown it ≡ log_called H.hash (log_shown self) call.now) }
+        ensures stops { IfOk result (λ it. log_stops it ≡ log_stops self + stops_in (turn ∷ [])) }
+    {
+        let Some(stop) = turn else {
+            let done = self.done(alloc, call)?;
+            return Ok(done);
+        };
+        let before = self.count(call);
+        let mut node = stopped(alloc, self, call, stop)?;
+        if before < node.count(call) {
+            node.stops.recover();
+            Ok(node)
+        } else {
+            let again = node.done(alloc, call)?;
+            Ok(again)
+        }
+    }
+
+    /// Issues the next entry.
+    pub(crate) fn issue(self, alloc: Global, turn: Turn) -> Result<LogNode<H>, Memory>
+        ensures state { IfOk result (λ it. log_shown it
+            ≡ issued_log H.hash (log_shown self).settings
+            (request_for (length (log_shown self).entries)) (log_shown self)) }
+        ensures stops { IfOk result (λ it. log_stops it ≡ log_stops self + stops_in (turn ∷ [])) }
+    {
+        let request = request_for(alloc, size_of(&self.log))?;
+        self.asked(alloc, &LogCall::Issue(request), turn)
+    }
+
+    /// Issues an entry for each turn.
+    #[tactic(auto, unfolding(crate::specs::Played::issued_to))]
+    pub(crate) fn issue_all(self, alloc: Global, turns: &Turns) -> Result<LogNode<H>, Memory>
+        ensures state { IfOk result (λ it. log_shown it
+            ≡ issued_to H.hash (length turns.now) (log_shown self)) }
+        ensures stops { IfOk result (λ it. log_stops it ≡ log_stops self + stops_in turns.now) }
+    {
+        let mut node = self;
+        for turn in turns.as_slice() {
+            node = node.issue(alloc, *turn)?;
+        }
+        Ok(node)
+    }
+
+    /// Sets a landmark.
+    pub(crate) fn mark(self, alloc: Global, turn: Turn) -> Result<LogNode<H>, Memory>
+        ensures state { IfOk result (λ it. log_shown it ≡ with_mark (log_shown self)) }
+        ensures stops { IfOk result (λ it. log_stops it ≡ log_stops self + stops_in (turn ∷ [])) }
+    {
+        self.asked(alloc, &LogCall::Mark, turn)
+    }
+}

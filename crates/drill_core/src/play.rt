@@ -1,0 +1,248 @@
+//! A round of a drill.
+
+ghost use Rattle.std.specs.Prelude.{◌≡◌, ◌<◌, ◌≤◌, ◌+◌, [], ◌∷◌, length, IfOk, OnOk};
+ghost use Rattle.std.specs.List.{AllByRecursion};
+ghost use Rattle.authority_core.specs.Certificates.{IsWritten};
+ghost use Rattle.issuance_log.specs.Folds.{with_mark};
+ghost use Rattle.drill_nodes.specs.Cosigners.{HaveSigned, IsAdvanced, IsSigned, Paired, keys_used};
+ghost use Rattle.drill_nodes.specs.Cosigners.{stops_by};
+ghost use Rattle.drill_nodes.specs.CosignerViews.{cosigner_shown};
+ghost use Rattle.drill_nodes.specs.Rounds.{landmark_turns, stops_in};
+ghost use Rattle.drill_core.specs.LightStores.{IsDue};
+ghost use Rattle.drill_core.specs.LogNodes.{IsSameLog, log_shown};
+ghost use Rattle.drill_core.specs.Played.{AreReady, HasCertified, HasPlayed, all_stops, issued_to};
+ghost use Rattle.drill_core.specs.Played.{with_landmark};
+ghost use Rattle.drill_core.specs.Played.{log_root};
+ghost use Rattle.drill_core.specs.Stores.{StoresAcceptNow};
+
+use crate::audits::audited;
+use crate::light::one_light;
+use crate::log_node::{LogNode, size_of};
+use crate::nodes::FleetNodes;
+use crate::store::one_accepted;
+use crate::tree::root_and_proof;
+use authority_core::{cert, law_entries_say_what_was_asked};
+use drill_nodes::{Cosigners, Round, Turn, Turns};
+use mtc_io::{Bytes, Memory};
+use mtc_proof::check_signatures;
+use std::alloc::Global;
+use tree_core::TreeHash;
+
+// Each cosigner holds the root of the log.
+fn hold_all<H: TreeHash>(
+    alloc: Global,
+    log: &mut LogNode<H>,
+    cosigners: &mut Cosigners<H>,
+    turns: &Turns,
+) -> Result<(), Memory>
+    requires some { 0 < length cosigners.old.nodes.items }
+    requires larger { AllByRecursion
+        (λ node. (cosigner_shown node).held.size < length (log_shown log.old).entries)
+        cosigners.old.nodes.items }
+    requires turns { length turns.now ≡ length cosigners.old.nodes.items }
+    ensures same { IsSameLog log.old log.new }
+    ensures each { OnOk result (Paired (IsAdvanced (length (log_shown log.old).entries)
+        (log_root H.hash (log_shown log.old))) cosigners.old.nodes.items
+        cosigners.new.nodes.items) }
+    ensures stops { OnOk result (stops_by cosigners.new.nodes.items
+        ≡ stops_by cosigners.old.nodes.items + stops_in turns.now) }
+{
+    let held = cosigners.held();
+    let size = size_of(&log.log);
+    let (root, proof) = root_and_proof(&mut log.log, held)?;
+    cosigners.advance(alloc, size, root, proof.as_slice(), turns)?;
+    Ok(())
+}
+
+// Each cosigner signs all of the log, and puts its signature behind the others.
+fn sign_all<H: TreeHash>(
+    alloc: Global,
+    log: &mut LogNode<H>,
+    cosigners: &mut Cosigners<H>,
+    turns: &Turns,
+    signatures: &mut Bytes,
+) -> Result<(), Memory>
+    requires { length turns.now ≡ length cosigners.old.nodes.items }
+    ensures same { IsSameLog log.old log.new }
+    ensures each { OnOk result (Paired (IsSigned (length (log_shown log.old).entries)
+        (log_root H.hash (log_shown log.old))) cosigners.old.nodes.items
+        cosigners.new.nodes.items) }
+    ensures signed { OnOk result (HaveSigned (length (log_shown log.old).entries)
+        (log_root H.hash (log_shown log.old)) cosigners.old.nodes.items signatures.old
+        signatures.new) }
+    ensures keys { OnOk result (keys_used cosigners.new.nodes.items
+        ≤ keys_used cosigners.old.nodes.items + length cosigners.old.nodes.items
+        + stops_in turns.now) }
+    ensures stops { OnOk result (stops_by cosigners.new.nodes.items
+        ≡ stops_by cosigners.old.nodes.items + stops_in turns.now) }
+{
+    let size = size_of(&log.log);
+    let (hash, proof) = root_and_proof(&mut log.log, size)?;
+    cosigners.cosign(alloc, size, hash, proof.as_slice(), turns, signatures)?;
+    Ok(())
+}
+
+// The certificate of an entry, in the subtree of all entries, with these signatures.
+fn certificate<H: TreeHash>(
+    alloc: Global,
+    log: &mut LogNode<H>,
+    index: u64,
+    signatures: &Bytes,
+) -> Result<Bytes, Memory>
+    ensures same { IsSameLog log.old log.new }
+    ensures written { IfOk result (λ bytes. IsWritten H.hash (log_shown log.old) index 0
+        (length (log_shown log.old).entries) signatures.now bytes) }
+    ensures accepts { IfOk result (λ bytes. StoresAcceptNow H.hash (log_shown log.old) index
+        signatures.now bytes) }
+{
+    law_entries_say_what_was_asked();
+    let size = size_of(&log.log);
+    if check_signatures(signatures.as_slice()).is_err() {
+        return Err(Memory);
+    }
+    match cert(alloc, &mut log.log, index, 0, size, signatures.as_slice()) {
+        Ok(bytes) => Ok(bytes),
+        Err(_) => Err(Memory),
+    }
+}
+
+// The certificate of the newest entry without signatures is judged: 1 where it is accepted.
+fn judged_light<H: TreeHash>(alloc: Global, log: &mut LogNode<H>) -> Result<u64, Memory>
+    ensures same { IsSameLog log.old log.new }
+    ensures few { IfOk result (λ count. count ≤ 1) }
+    ensures accepted { IfOk result (λ count. IsDue H.hash (log_shown log.old) → count ≡ 1) }
+{
+    let count = one_light(alloc, &mut log.log)?;
+    Ok(count)
+}
+
+impl<H: TreeHash> FleetNodes<H> {
+    // The log issues an entry for each turn, and each cosigner holds its root.
+    fn grow(self, alloc: Global, entries: &Turns, turns: &Turns) -> Result<FleetNodes<H>, Memory>
+        requires some { 1 ≤ length entries.now }
+        requires ready { AreReady self }
+        requires turns { length turns.now ≡ 3 }
+        ensures log { IfOk result (λ it. log_shown it.log
+            ≡ issued_to H.hash (length entries.now) (log_shown self.log)) }
+        ensures each { IfOk result (λ it. Paired (IsAdvanced (length (log_shown it.log).entries)
+            (log_root H.hash (log_shown it.log))) self.cosigners.nodes.items
+            it.cosigners.nodes.items) }
+        ensures stops { IfOk result (λ it. all_stops it ≡ all_stops self + stops_in entries.now
+            + stops_in turns.now) }
+        ensures store { IfOk result (λ it. it.store ≡ self.store) }
+        ensures certs { IfOk result (λ it. it.certs ≡ self.certs) }
+        ensures verified { IfOk result (λ it. it.verified ≡ self.verified) }
+        ensures stands { IfOk result (λ it. it.stands ≡ self.stands) }
+        ensures light { IfOk result (λ it. it.light ≡ self.light) }
+    {
+        let mut log = self.log.issue_all(alloc, entries)?;
+        let mut cosigners = self.cosigners;
+        hold_all(alloc, &mut log, &mut cosigners, turns)?;
+        Ok(FleetNodes {
+            log,
+            cosigners,
+            store: self.store,
+            certs: self.certs,
+            verified: self.verified,
+            stands: self.stands,
+            light: self.light,
+        })
+    }
+
+    // A landmark is set, and the certificate of the newest entry without signatures judged.
+    fn mark(self, alloc: Global, turn: Turn) -> Result<FleetNodes<H>, Memory>
+        requires { self.light ≤ 15 }
+        ensures log { IfOk result (λ it. log_shown it.log ≡ with_mark (log_shown self.log)) }
+        ensures cosigners { IfOk result (λ it. it.cosigners ≡ self.cosigners) }
+        ensures stops { IfOk result (λ it. all_stops it ≡ all_stops self + stops_in (turn ∷ [])) }
+        ensures store { IfOk result (λ it. it.store ≡ self.store) }
+        ensures certs { IfOk result (λ it. it.certs ≡ self.certs) }
+        ensures verified { IfOk result (λ it. it.verified ≡ self.verified) }
+        ensures stands { IfOk result (λ it. it.stands ≡ self.stands) }
+        ensures light { IfOk result (λ it. IsDue H.hash (log_shown it.log)
+            → it.light ≡ self.light + 1) }
+    {
+        let mut log = self.log.mark(alloc, turn)?;
+        let light = judged_light(alloc, &mut log)?;
+        Ok(FleetNodes {
+            log,
+            cosigners: self.cosigners,
+            store: self.store,
+            certs: self.certs,
+            verified: self.verified,
+            stands: self.stands,
+            light: self.light + light,
+        })
+    }
+
+    // The landmark of a round, if it has one.
+    fn mark_in(self, alloc: Global, landmark: Option<Turn>) -> Result<FleetNodes<H>, Memory>
+        requires { self.light ≤ 15 }
+        ensures log { IfOk result
+            (λ it. log_shown it.log ≡ with_landmark landmark (log_shown self.log)) }
+        ensures cosigners { IfOk result (λ it. it.cosigners ≡ self.cosigners) }
+        ensures stops { IfOk result
+            (λ it. all_stops it ≡ all_stops self + stops_in (landmark_turns landmark)) }
+        ensures store { IfOk result (λ it. it.store ≡ self.store) }
+        ensures certs { IfOk result (λ it. it.certs ≡ self.certs) }
+        ensures verified { IfOk result (λ it. it.verified ≡ self.verified) }
+        ensures stands { IfOk result (λ it. it.stands ≡ self.stands) }
+        ensures light { IfOk result (λ it. IsDue H.hash (log_shown it.log)
+            → it.light ≡ self.light + length (landmark_turns landmark)) }
+    {
+        match landmark {
+            Some(turn) => self.mark(alloc, turn),
+            None => Ok(self),
+        }
+    }
+
+    // Each cosigner signs all of the log, and the certificate of an entry is written with the
+    // signatures, judged, and audited with what each cosigner has recorded.
+    fn certify(&mut self, alloc: Global, index: u64, turns: &Turns) -> Result<(), Memory>
+        requires three { length self.old.cosigners.nodes.items ≡ 3 }
+        requires verified { self.old.verified ≤ 15 }
+        requires stands { self.old.stands ≤ 45 }
+        requires turns { length turns.now ≡ 3 }
+        ensures certified { OnOk result (HasCertified H.hash index self.old self.new) }
+        ensures keys { OnOk result (keys_used self.new.cosigners.nodes.items
+            ≤ keys_used self.old.cosigners.nodes.items + 3 + stops_in turns.now) }
+        ensures stops { OnOk result
+            (all_stops self.new ≡ all_stops self.old + stops_in turns.now) }
+    {
+        let mut signatures = Bytes::new(alloc);
+        sign_all(
+            alloc,
+            &mut self.log,
+            &mut self.cosigners,
+            turns,
+            &mut signatures,
+        )?;
+        let bytes = certificate(alloc, &mut self.log, index, &signatures)?;
+        let stands = audited(
+            alloc,
+            &mut self.log,
+            &mut self.cosigners,
+            &self.store,
+            &bytes,
+        )?;
+        let accepted = one_accepted::<H>(&bytes, &self.store);
+        self.certs.push(bytes)?;
+        self.verified += accepted;
+        self.stands += stands;
+        Ok(())
+    }
+
+    /// Plays a round.
+    pub(crate) fn play(self, alloc: Global, round: &Round) -> Result<FleetNodes<H>, Memory>
+        requires ready { AreReady self }
+        requires some { 1 ≤ length round.now.entries }
+        requires advances { length round.now.advances ≡ 3 }
+        requires signs { length round.now.signs ≡ 3 }
+        ensures { IfOk result (HasPlayed H.hash round.now self) }
+    {
+        let grown = self.grow(alloc, &round.entries, &round.advances)?;
+        let mut played = grown.mark_in(alloc, round.landmark)?;
+        played.certify(alloc, round.index, &round.signs)?;
+        Ok(played)
+    }
+}

@@ -1,0 +1,91 @@
+//! What a relying party of a drill holds, and what it accepts.
+
+ghost use Rattle.std.specs.Prelude.{◌≡◌, ◌≤◌, [], ◌∷◌, length, map, pos, IfOk};
+ghost use Rattle.policy_core.specs.Judgement.{judgement};
+ghost use Rattle.drill_nodes.specs.CosignerViews.{cosigner_shown};
+ghost use Rattle.drill_core.specs.Stores.{known_as, one_accepted, store_with};
+
+use crate::requests::NOT_BEFORE;
+use cert_names::log_name;
+use drill_nodes::{CosignerNode, Cosigners, LOG, id_of};
+use mtc_io::{Bytes, Memory};
+use policy_core::{
+    By, Cosigners as KnownCosigners, Known, Places, Revoked, Rule, Rules, Store, Subtrees,
+};
+use relying_party::judge;
+use std::alloc::Global;
+use tree_core::TreeHash;
+
+// What is known of a cosigner.
+fn known<H: TreeHash>(alloc: Global, node: &CosignerNode<H>) -> Result<Known, Memory>
+    ensures { IfOk result (λ known. known ≡ known_as (cosigner_shown node.now)) }
+{
+    Ok(Known {
+        id: node.id(alloc)?,
+        key: node.public(),
+    })
+}
+
+// What is known of several.
+fn all_known<H: TreeHash>(alloc: Global, nodes: &[CosignerNode<H>]) -> Result<Vec<Known>, Memory>
+    ensures { IfOk result
+        (λ list. list.items ≡ map (λ node. known_as (cosigner_shown node)) nodes.now) }
+{
+    let mut list = Vec::new(alloc);
+    for node in nodes {
+        list.push(known(alloc, node)?)?;
+    }
+    Ok(list)
+}
+
+// Two of the three have to have signed.
+fn two_of_three(alloc: Global) -> Result<Rules, Memory>
+    ensures { IfOk result (λ rules. rules
+        ≡ record { count = 2; cosigners = 0 ∷ 1 ∷ 2 ∷ [] } ∷ []) }
+{
+    let mut places = Vec::new(alloc);
+    places.push(0)?;
+    places.push(1)?;
+    places.push(2)?;
+    let mut rules = Vec::new(alloc);
+    rules.push(Rule {
+        count: 2,
+        cosigners: Places::from_vec(places),
+    })?;
+    Ok(Rules::from_vec(rules))
+}
+
+/// The store that knows the cosigners, by the rule that two of the three have signed.
+pub(crate) fn store_of<H: TreeHash>(
+    alloc: Global,
+    cosigners: &Cosigners<H>,
+) -> Result<Store, Memory>
+    requires { length cosigners.now.nodes.items ≡ 3 }
+    ensures { IfOk result (λ store. store ≡ store_with
+        (map (λ node. known_as (cosigner_shown node)) cosigners.now.nodes.items)) }
+{
+    let known = all_known(alloc, cosigners.as_slice())?;
+    let log = id_of(alloc, LOG)?;
+    Ok(Store {
+        name: log_name(alloc, &log)?,
+        log,
+        cosigners: KnownCosigners::from_vec(known),
+        rules: two_of_three(alloc)?,
+        subtrees: Subtrees::from_vec(Vec::new(alloc)),
+        revoked: Revoked::from_vec(Vec::new(alloc)),
+    })
+}
+
+/// 1 where the certificate is accepted by all three cosigners, or else 0.
+pub(crate) fn one_accepted<H: TreeHash>(cert: &Bytes, store: &Store) -> u64
+    ensures value { result ≡ one_accepted (judgement H.hash cert.now store.now (pos 1767225600)) }
+    ensures few { result ≤ 1 }
+{
+    match judge::<H>(cert.as_slice(), store, NOT_BEFORE) {
+        Ok(accepted) => match accepted.by {
+            By::Cosigners(7) => 1,
+            _ => 0,
+        },
+        Err(_) => 0,
+    }
+}

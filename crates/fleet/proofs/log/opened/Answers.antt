@@ -1,6 +1,0 @@
-use Rattle.fleet.proofs.Looked.{some_is}
-use Rattle.fleet.proofs.log.opened.Goals as goal
-
-pub returns-clause-state : goal.returns-clause-state
-returns-clause-state g c = λ list s stands is.
-    some_is _ s (c.in_ok-open_log.ensures.found list s stands is).1

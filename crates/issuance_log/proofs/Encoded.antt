@@ -1,0 +1,337 @@
+-- The records of a log are read as they are spelled.
+use Rattle.std.proofs.Common.{◌≡◌, ℕ, ◌+◌, ◌%◌, ◌^◌, ◌==◌, ◌<◌, ◌≤◌, if◌then◌else◌, Bool}
+use Rattle.std.proofs.Common.{true, false, List, [], ◌∷◌, ◌++◌, length, Option, Some, None}
+use Rattle.std.proofs.Common.{option_map, option_and_then, Result, Ok, Err, refl, ap, sym, ◌∙◌}
+use Rattle.std.proofs.Common.{arith}
+use Rattle.std.specs.Borrow.{Bor}
+use Rattle.std.specs.Int.{w8, w16, w32, w64}
+use Rattle.std.proofs.lemmas.Bool.{eq-eqb, le-leb, lt-ltb, eqb-true}
+use Rattle.std.proofs.lemmas.List.{length-append, append-nil, nil_from_length}
+use Rattle.byte_formats.specs.Places.{At, at, IsBytes}
+use Rattle.byte_formats.specs.Forms.{Stands, IsForm, Anything, both, FitsBoth}
+use Rattle.byte_formats.specs.Readings.{both_at, whole_of}
+use Rattle.byte_formats.proofs.Forms.{both_form}
+use Rattle.byte_formats.proofs.Steps.{Stands-then}
+use Rattle.tls_wire.specs.Arcs.{IsAnchorId}
+use Rattle.tls_wire.specs.Anchors.{anchor_of}
+use Rattle.tls_wire.specs.Reading.{number_at, vector_at}
+use Rattle.tls_wire.specs.Encoding.{number, vector}
+use Rattle.tls_wire.specs.declared.cursor.Short.{Short}
+use Rattle.tls_wire.proofs.Numbers.{wide8, wide16, wide32, wide64, number_form}
+use Rattle.tls_wire.proofs.Vectors.{vector_form}
+use Rattle.tls_wire.proofs.AnchorForm.{anchor_again}
+use Rattle.landmarks.specs.Limits.{most_active, most_entries}
+use Rattle.issuance_log.specs.Folds.{LogState, new_log, with_item, with_mark, with_tiles, view_in}
+use Rattle.issuance_log.specs.Folds.{changed, begun_log, next_log, log_fold, log_of, takes_entry}
+use Rattle.issuance_log.specs.Folds.{takes_landmark, takes_tiles}
+use Rattle.issuance_log.specs.Marks.{last_mark}
+use Rattle.log_entry.specs.Matching.{matches}
+use Rattle.issuance_log.specs.Records.{log_tag, entry_tag, landmark_tag, tiles_tag, settings_at}
+use Rattle.issuance_log.specs.Records.{entry_at, tiled_in, tiles_record}
+use Rattle.issuance_log.specs.Records.{with_id, log_settings_with, tagged, settings_in}
+use Rattle.issuance_log.specs.Records.{item_in, mark_in, settings_record, IsShort, entry_record}
+use Rattle.issuance_log.specs.Records.{landmark_record}
+use Rattle.issuance_log.specs.Results.{LogFinds}
+use Rattle.issuance_log.specs.declared.error.RecordError.{RecordError}
+use Rattle.issuance_log.specs.declared.error.RecordError.TheVariants.{Unfit, Memory}
+use Rattle.issuance_log.specs.Settings.{Settings, most_item, are_allowed, AreAllowed}
+use Rattle.journal_core.proofs.Folds.{state_begins, state_next}
+
+pub length-settings : (s : Settings) → length (settings_record s) ≡ 10 + length s.id
+unfolding settings_record
+length-settings s = simp length-append (omega arith)
+
+pub length-entry : (entry key : List ℕ)
+    → length (entry_record entry key) ≡ 5 + length entry + length key
+unfolding entry_record
+length-entry entry key = simp length-append (omega arith)
+
+pub length-tiles : (size : ℕ) → length (tiles_record size) ≡ 9
+unfolding tiles_record
+length-tiles size = simp length-append (omega arith)
+
+pub length-landmark : (size : ℕ) → length (landmark_record size) ≡ 9
+unfolding landmark_record
+length-landmark size = simp length-append (omega arith)
+
+-- ---- a form behind its tag
+
+-- what was read is all there was
+pub some_value : {X : Type 0} (y x : X) → Some y ≡ Some x → y ≡ x
+some_value {X} y x is = cc
+
+all_is : {X : Type 0} (r : Result (X × At) Short) (x : X) → whole_of r ≡ Some x → (b : At)
+    × (r ≡ Ok (x, b)) × (b.rest ≡ [])
+all_is {X} (Err short) x is = let wrong : None ≡ Some x = is in cc
+all_is {X} (Ok v) x is =
+    let test = when_some (length v.1.rest == 0) v.0 x is in (
+      v.1,
+      ap (λ (y : X). Ok (y, v.1)) test.1,
+      nil_from_length v.1.rest (eqb-true (length v.1.rest) 0 test.0),
+    )
+  where
+    when_some : (b : Bool) (y x : X) → (if b then Some y else None) ≡ Some x → (b ≡ true) × (y ≡ x)
+    when_some true y x is = (refl, some_value y x is)
+    when_some false y x is = let wrong : None ≡ Some x = is in cc
+
+module _ {X : Type 0} (wanted : ℕ) (small : wanted < 256) (encode : X → List ℕ) (Fits : X
+    → Type 0) (read : At → Result (X × At) Short) (form : IsForm encode Fits Anything read) where
+  pub read_again : (x : X) → Fits x → whole_of (read (record { place = 1; rest = encode x }))
+      ≡ Some x
+  read_again x fits =
+      ap (λ (text : List ℕ). whole_of (read (record { place = 1; rest = text })))
+      (sym (append-nil (encode x)))
+      ∙ ap whole_of (form.again x 1 [] fits tt)
+
+  pub tagged_again : (x : X) → Fits x
+      → tagged wanted read (number_at w8 (at (number w8 wanted ++ encode x) 0)) ≡ Some x
+  tagged_again x fits =
+      let tag = (number_form w8 (2 ^ 8) wide8).again wanted 0 (encode x) small tt in
+      let test : (wanted == wanted) ≡ true = eq-eqb wanted wanted refl in
+      ap (tagged wanted read) tag
+      ∙ ap (λ (b : Bool). if b then whole_of (read (record { place = 1; rest = encode x }))
+      else None) test
+      ∙ read_again x fits
+
+  pub tagged_takes : (body : List ℕ) (x : X) → IsBytes body
+      → tagged wanted read (number_at w8 (at body 0)) ≡ Some x
+      → (body ≡ number w8 wanted ++ encode x) × Fits x
+  tagged_takes body x bytes is = go (number_at w8 (at body 0)) refl is
+    where
+      encoded : (n : ℕ) (b : At) → Stands (at body 0) (number w8 n ++ encode x) b → b.rest ≡ []
+          → n ≡ wanted → body ≡ number w8 wanted ++ encode x
+      encoded n b stands none same =
+          stands.parts ∙ ap (λ (rest : List ℕ). (number w8 n ++ encode x) ++ rest) none
+          ∙ append-nil (number w8 n ++ encode x) ∙ ap (λ (m : ℕ). number w8 m ++ encode x) same
+
+      chosen_some : (b : Bool) (o : Option X) → (if b then o else None) ≡ Some x → (b ≡ true)
+          × (o ≡ Some x)
+      chosen_some true o is = (refl, is)
+      chosen_some false o is = let wrong : None ≡ Some x = is in cc
+
+      go : (r : Result (ℕ × At) Short) → number_at w8 (at body 0) ≡ r
+          → tagged wanted read r ≡ Some x → (body ≡ number w8 wanted ++ encode x) × Fits x
+      go (Err short) was is = let wrong : None ≡ Some x = is in cc
+      go (Ok tag) was is =
+          let test = chosen_some (tag.0 == wanted) (whole_of (read tag.1)) is in
+          let rest = all_is (read tag.1) x test.1 in
+          let one = (number_form w8 (2 ^ 8) wide8).takes (at body 0) tag.0 tag.1 bytes was in
+          let two = form.takes tag.1 x rest.0 one.0.bytes rest.1 in
+          let both =
+          Stands-then (at body 0) (number w8 tag.0) tag.1 (encode x) rest.0 one.0 two.0 in
+          (encoded tag.0 rest.0 both rest.2 (eqb-true tag.0 wanted test.0), two.1)
+
+-- ---- an Entry
+
+entry_form : IsForm (both (vector w16) (vector w16)) (FitsBoth IsShort IsShort)
+    Anything entry_at
+unfolding entry_at
+entry_form =
+    let vectors = vector_form w16 (2 ^ 16) wide16 in
+    both_form (vector w16) IsShort Anything (vector_at w16) (vector w16) IsShort Anything
+    (vector_at w16) vectors vectors (λ y rest f q. tt)
+
+pub item_again : (entry key : List ℕ) → IsShort entry → IsShort key
+    → item_in (entry_record entry key) ≡ Some (entry, key)
+unfolding item_in entry_record
+item_again entry key few_entry few_key =
+    tagged_again entry_tag (omega arith) (both (vector w16) (vector w16)) (FitsBoth IsShort IsShort)
+    entry_at entry_form (entry, key) (few_entry, few_key)
+
+pub item_takes : (body entry key : List ℕ) → IsBytes body → item_in body ≡ Some (entry, key)
+    → (body ≡ entry_record entry key) × IsShort entry × IsShort key
+unfolding item_in entry_record
+item_takes body entry key bytes is =
+    let taken = tagged_takes entry_tag (omega arith) (both (vector w16) (vector w16))
+    (FitsBoth IsShort IsShort) entry_at entry_form body (entry, key) bytes is in
+    (taken.0, taken.1.0, taken.1.1)
+
+-- a record in which no item is found
+pub no_item : (body : List ℕ) (why : RecordError) → why ≡ Unfit
+    → LogFinds {X = Bor (List ℕ) × Bor (List ℕ)} (λ x. (x.0.now, x.1.now)) (item_in body) (Err why)
+    → item_in body ≡ None
+no_item body Unfit is none = none
+no_item body Memory is none = let wrong : Memory ≡ Unfit = is in cc
+
+-- the log behind an Entry, and behind any other record
+-- what a record makes of a log, by what it says
+abbrev pub changed_log : (h : List ℕ → List ℕ) → LogState → Option (List ℕ × List ℕ) → Option ℕ
+    → Option ℕ → Option LogState
+changed_log h s item mark tiled =
+    changed h (view_in s) (λ x. with_item x.0 x.1 s) (with_mark s) (λ size. with_tiles size s) item
+    mark tiled
+
+pub next_says : (h : List ℕ → List ℕ) (s : LogState) (body : List ℕ)
+    (item : Option (List ℕ × List ℕ)) (mark tiled : Option ℕ) → item_in body ≡ item
+    → mark_in body ≡ mark → tiled_in body ≡ tiled
+    → next_log h s body ≡ changed_log h s item mark tiled
+unfolding next_log
+next_says h s body item mark tiled one two three =
+    ap (λ o. changed_log h s o (mark_in body) (tiled_in body)) one
+    ∙ ap (λ o. changed_log h s item o (tiled_in body)) two ∙ ap (changed_log h s item mark) three
+
+-- ---- a Landmark
+
+abbrev pub IsLong : ℕ → Type 0
+IsLong n = n < 2 ^ 64
+
+pub mark_again : (size : ℕ) → size < 2 ^ 64 → mark_in (landmark_record size) ≡ Some size
+unfolding mark_in landmark_record
+mark_again size fits = tagged_again landmark_tag (omega arith) (number w64) IsLong (number_at w64)
+    (number_form w64 (2 ^ 64) wide64) size fits
+
+pub mark_takes : (body : List ℕ) (size : ℕ) → IsBytes body → mark_in body ≡ Some size
+    → (body ≡ landmark_record size) × (size < 2 ^ 64)
+unfolding mark_in landmark_record
+mark_takes body size bytes is = tagged_takes landmark_tag (omega arith) (number w64) IsLong
+    (number_at w64) (number_form w64 (2 ^ 64) wide64) body size bytes is
+
+-- a Landmark is no Entry
+pub mark_alone : (size : ℕ) → item_in (landmark_record size) ≡ None
+unfolding item_in landmark_record
+mark_alone size = ap (tagged entry_tag entry_at)
+    ((number_form w8 (2 ^ 8) wide8).again landmark_tag 0 (number w64 size) (omega arith) tt)
+
+-- ---- a Tiles
+
+pub tiled_again : (size : ℕ) → size < 2 ^ 64 → tiled_in (tiles_record size) ≡ Some size
+unfolding tiled_in tiles_record
+tiled_again size fits = tagged_again tiles_tag (omega arith) (number w64) IsLong (number_at w64)
+    (number_form w64 (2 ^ 64) wide64) size fits
+
+pub tiled_takes : (body : List ℕ) (size : ℕ) → IsBytes body → tiled_in body ≡ Some size
+    → (body ≡ tiles_record size) × (size < 2 ^ 64)
+unfolding tiled_in tiles_record
+tiled_takes body size bytes is = tagged_takes tiles_tag (omega arith) (number w64) IsLong
+    (number_at w64) (number_form w64 (2 ^ 64) wide64) body size bytes is
+
+-- a Tiles is neither an Entry nor a Landmark
+pub tiles_no_item : (size : ℕ) → item_in (tiles_record size) ≡ None
+unfolding item_in tiles_record
+tiles_no_item size = ap (tagged entry_tag entry_at)
+    ((number_form w8 (2 ^ 8) wide8).again tiles_tag 0 (number w64 size) (omega arith) tt)
+
+pub tiles_no_mark : (size : ℕ) → mark_in (tiles_record size) ≡ None
+unfolding mark_in tiles_record
+tiles_no_mark size = ap (tagged landmark_tag (number_at w64))
+    ((number_form w8 (2 ^ 8) wide8).again tiles_tag 0 (number w64 size) (omega arith) tt)
+
+-- ---- a Log
+
+abbrev pub settings_text : List ℕ × (ℕ × ℕ) → List ℕ
+settings_text = both (vector w8) (both (number w32) (number w32))
+
+abbrev ShortId : List ℕ → Type 0
+ShortId bytes = length bytes < 2 ^ 8
+
+abbrev IsWord : ℕ → Type 0
+IsWord n = n < 2 ^ 32
+
+abbrev pub FitSettings : List ℕ × (ℕ × ℕ) → Type 0
+FitSettings = FitsBoth ShortId (FitsBoth IsWord IsWord)
+
+pub settings_form : IsForm settings_text FitSettings Anything settings_at
+unfolding settings_at
+settings_form =
+    let numbers = number_form w32 (2 ^ 32) wide32 in
+    let pair = both_form (number w32) IsWord Anything (number_at w32) (number w32) IsWord Anything
+    (number_at w32) numbers numbers (λ y rest f q. tt) in
+    both_form (vector w8) ShortId Anything (vector_at w8) (both (number w32) (number w32))
+    (FitsBoth IsWord IsWord) Anything (both_at (number_at w32) (number_at w32))
+    (vector_form w8 (2 ^ 8) wide8) pair (λ y rest f q. tt)
+
+tests_allowed : (active limit : ℕ) → AreAllowed active limit → are_allowed active limit ≡ true
+tests_allowed active limit is =
+    rw (
+      le-leb 1 active is.some_active,
+      le-leb active most_active is.few_active,
+      le-leb 2 limit is.some,
+      le-leb limit most_entries is.few,
+    ) refl
+
+pub settings_again : (s : Settings) → IsAnchorId s.id → AreAllowed s.max_active s.limit
+    → settings_in (settings_record s) ≡ Some s
+unfolding settings_in settings_record
+settings_again s id allowed =
+    let active = allowed.few_active in
+    let limit = allowed.few in
+    let short = id.short in
+    let fits : FitSettings (s.id, (s.max_active, s.limit)) =
+    (omega arith, (omega arith, omega arith)) in
+    ap (option_and_then log_settings_with) (tagged_again log_tag
+    (omega arith) settings_text FitSettings
+    settings_at settings_form (s.id, (s.max_active, s.limit)) fits)
+    ∙ ap (λ (b : Bool). if b then with_id s.max_active s.limit (anchor_of s.id) else None)
+    (tests_allowed s.max_active s.limit allowed)
+    ∙ ap (with_id s.max_active s.limit) (anchor_again s.id id)
+
+-- ---- a journal of records as they are spelled
+
+-- of a Log
+pub log_created : (h : List ℕ → List ℕ) (s : Settings) → IsAnchorId s.id
+    → AreAllowed s.max_active s.limit → log_of h (settings_record s ∷ []) ≡ Ok (new_log s)
+unfolding begun_log
+log_created h s id allowed = state_begins (log_fold h) (settings_record s) (new_log s)
+    (ap (option_map new_log) (settings_again s id allowed))
+
+-- of one Entry more
+pub next_added : (h : List ℕ → List ℕ) (s : LogState) (entry key : List ℕ)
+    → length s.entries < s.settings.limit → IsShort entry → IsShort key
+    → matches h entry key ≡ true → next_log h s (entry_record entry key)
+    ≡ Some (with_item entry key s)
+next_added h s entry key capacity few_entry few_key belongs =
+    let test : takes_entry h (view_in s) (entry, key) ≡ true =
+    rw (lt-ltb (length s.entries) s.settings.limit capacity, belongs) refl in
+    next_says h s (entry_record entry key) (Some (entry, key)) _ _
+    (item_again entry key few_entry few_key) refl refl
+    ∙ ap (λ (b : Bool). if b then Some (with_item entry key s) else None) test
+
+-- of one Landmark more
+pub next_marked : (h : List ℕ → List ℕ) (s : LogState) → length s.entries < 2 ^ 64
+    → last_mark s.marks < length s.entries
+    → next_log h s (landmark_record (length s.entries)) ≡ Some (with_mark s)
+next_marked h s fits above =
+    let size = length s.entries in
+    let test : takes_landmark (view_in s) size ≡ true =
+    rw (eq-eqb size size refl, lt-ltb (last_mark s.marks) size above) refl in
+    next_says h s (landmark_record size) None (Some size) _ (mark_alone size)
+    (mark_again size fits) refl
+    ∙ ap (λ (b : Bool). if b then Some (with_mark s) else None) test
+
+-- of one Tiles more
+pub next_tiled : (h : List ℕ → List ℕ) (s : LogState) (size : ℕ) → size < 2 ^ 64
+    → size % 256 ≡ 0 → s.tiled < size → size ≤ length s.entries
+    → next_log h s (tiles_record size) ≡ Some (with_tiles size s)
+next_tiled h s size fits multiple above within =
+    let test : takes_tiles (view_in s) size ≡ true =
+    rw (
+      eq-eqb (size % 256) 0 multiple,
+      lt-ltb s.tiled size above,
+      le-leb size (length s.entries) within,
+    ) refl in
+    next_says h s (tiles_record size) None None (Some size) (tiles_no_item size)
+    (tiles_no_mark size) (tiled_again size fits)
+    ∙ ap (λ (b : Bool). if b then Some (with_tiles size s) else None) test
+
+pub log_added : (h : List ℕ → List ℕ) (list : List (List ℕ)) (s : LogState) (entry key : List ℕ)
+    → log_of h list ≡ Ok s → length s.entries < s.settings.limit
+    → length entry + length key ≤ most_item → matches h entry key ≡ true
+    → log_of h (list ++ entry_record entry key ∷ []) ≡ Ok (with_item entry key s)
+log_added h list s entry key is capacity few belongs =
+    state_next (log_fold h) list s (entry_record entry key) (with_item entry key s) is
+    (next_added h s entry key capacity (omega arith) (omega arith) belongs)
+
+pub log_marked : (h : List ℕ → List ℕ) (list : List (List ℕ)) (s : LogState) → log_of h list ≡ Ok s
+    → length s.entries < 2 ^ 64 → last_mark s.marks < length s.entries
+    → log_of h (list ++ landmark_record (length s.entries) ∷ []) ≡ Ok (with_mark s)
+log_marked h list s is fits above =
+    state_next (log_fold h) list s (landmark_record (length s.entries)) (with_mark s) is
+    (next_marked h s fits above)
+
+pub log_tiled : (h : List ℕ → List ℕ) (list : List (List ℕ)) (s : LogState) (size : ℕ)
+    → log_of h list ≡ Ok s → size < 2 ^ 64 → size % 256 ≡ 0 → s.tiled < size
+    → size ≤ length s.entries
+    → log_of h (list ++ tiles_record size ∷ []) ≡ Ok (with_tiles size s)
+log_tiled h list s size is fits multiple above within =
+    state_next (log_fold h) list s (tiles_record size) (with_tiles size s) is
+    (next_tiled h s size fits multiple above within)

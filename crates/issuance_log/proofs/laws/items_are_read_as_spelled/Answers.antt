@@ -1,8 +1,0 @@
-use Rattle.issuance_log.proofs.Spelled.{item_again, item_takes}
-use Rattle.issuance_log.proofs.laws.items_are_read_as_spelled.Goals as goal
-
-pub returns-clause-again : goal.returns-clause-again
-returns-clause-again c = item_again
-
-pub returns-clause-only : goal.returns-clause-only
-returns-clause-only c = item_takes

@@ -1,0 +1,18 @@
+use Rattle.issuance_log.proofs.Shown.{recorded_mark, recorded_tiles, shown_added, shown_longer}
+use Rattle.issuance_log.proofs.Shown.{shown_so}
+use Rattle.issuance_log.proofs.laws.law_records_determine_the_items.Goals as goal
+
+pub returns-clause-whole : goal.returns-clause-whole
+returns-clause-whole c = shown_so
+
+pub returns-clause-longer : goal.returns-clause-longer
+returns-clause-longer c = shown_longer
+
+pub returns-clause-added : goal.returns-clause-added
+returns-clause-added c = shown_added
+
+pub returns-clause-marked : goal.returns-clause-marked
+returns-clause-marked c = recorded_mark
+
+pub returns-clause-tiled : goal.returns-clause-tiled
+returns-clause-tiled c = recorded_tiles

@@ -1,5 +1,0 @@
-use Rattle.issuance_log.proofs.Views.{views_follow}
-use Rattle.issuance_log.proofs.laws.views_follow_the_records.Goals as goal
-
-pub returns : goal.returns
-returns c = views_follow

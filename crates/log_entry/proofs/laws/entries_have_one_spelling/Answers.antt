@@ -1,5 +1,0 @@
-use Rattle.log_entry.proofs.EntryForm.{one_entry}
-use Rattle.log_entry.proofs.laws.entries_have_one_spelling.Goals as goal
-
-pub returns : goal.returns
-returns c = one_entry

@@ -1,0 +1,14 @@
+pub mod Items
+pub mod Asked
+pub mod Appends
+pub mod BadTiles
+pub mod Opened
+pub mod Issued
+pub mod Marked
+pub mod Stored
+pub mod Worked
+pub mod Replied
+pub mod Reading
+pub mod Certified
+pub mod OnlyRead
+pub mod Requested

@@ -1,0 +1,98 @@
+-- A log that is opened on the devices of its journal and of its tiles.
+use Rattle.std.proofs.Common.{◌≡◌, ℕ, List, Option, None, IfSome, Ok, Err, Some, inl, inr}
+use Rattle.std.proofs.Common.{option_map, refl, ap, ◌∙◌}
+use Rattle.std.proofs.lemmas.Option.{IfSome_then}
+use Rattle.byte_formats.specs.Types.{HashFunction, Text}
+use Rattle.disk_core.specs.Moments.{OnlyReads}
+use Rattle.disk_core.specs.declared.disk.Disk.{Ghosts}
+use Rattle.journal_core.specs.declared.error.OpenError.TheVariants as open_error
+use Rattle.issuance_log.specs.Folds.{LogState}
+use Rattle.issuance_log.specs.Openings.{HasItsTiles, HasOpenCause, IsBadTile, log_read}
+use Rattle.issuance_log.specs.declared.error.LogOpenError.{LogOpenError}
+use Rattle.issuance_log.specs.declared.error.LogOpenError.TheVariants.{Open}
+use Rattle.issuance_log.specs.declared.error.LogOpenError.TheVariants.{Tile as NoTiles}
+use Rattle.tile_store.specs.declared.error.TileError.TheVariants as tile_error
+use Rattle.mtc_command.specs.Answers.{bad_tile, no_memory, refused, replied, room_failed}
+use Rattle.mtc_command.specs.Answers.{tiles_name}
+use Rattle.mtc_command.specs.Steps.{answers, with_form}
+use Rattle.mtc_command.specs.Works.{HasWorkedTiledOn}
+use Rattle.mtc_command.specs.declared.answer.Stopped.TheVariants.{BadForm}
+use Rattle.mtc_command.proofs.Tiled.{tiled_early}
+use Rattle.mtc_command.proofs.Works.{each_some}
+use Rattle.mtc_authority.specs.Works.{found_log, log_bytes_say, log_open_ending, log_open_text}
+use Rattle.mtc_authority.specs.Works.{log_says, tested_says, unless_missing}
+use Rattle.mtc_authority.specs.declared.work.Work.{Work}
+use Rattle.mtc_authority.proofs.Appends.{mapped_some}
+use Rattle.mtc_authority.proofs.BadTiles.{bad_is, none_bad}
+
+module _ (h : HashFunction) (name : Text) (work : Work) where
+  -- the outcome of the bytes of both is that of the log that was found
+  found_says : (contents tiles : Option Text) (list : Option (List Text))
+      (state : List Text → LogState)
+      → IfSome contents (λ b. IfSome list (λ l. log_read h b ≡ Ok (found_log (state l) l)))
+      → IfSome list (λ l. IfSome tiles (HasItsTiles h (state l)))
+      → IfSome tiles (λ held. IfSome contents (λ b. IfSome list (λ l.
+      log_bytes_say h name work b held ≡ log_says h work (found_log (state l) l))))
+  found_says contents None list state found all = tt
+  found_says None (Some held) list state found all = tt
+  found_says (Some b) (Some held) None state found all = tt
+  found_says (Some b) (Some held) (Some l) state found all =
+      ap (λ r. with_form log_open_text name r (tested_says h name work held)) found
+      ∙ ap (λ o. unless_missing name o (log_says h work (found_log (state l) l)))
+      (none_bad h (state l) held all)
+
+  pub found_tiles : (contents tiles : Option Text) (list : Option (List Text))
+      (state : List Text → LogState)
+      → IfSome contents (λ b. IfSome list (λ l. log_read h b ≡ Ok (found_log (state l) l)))
+      → IfSome (option_map state list) (λ s. IfSome tiles (HasItsTiles h s))
+      → IfSome tiles (λ held. IfSome contents (λ b. IfSome list (λ l.
+      log_bytes_say h name work b held ≡ log_says h work (found_log (state l) l))))
+  found_tiles contents tiles list state found all = found_says contents tiles list state found
+      (mapped_some state list (λ s. IfSome tiles (HasItsTiles h s)) all)
+
+  -- the outcome where a tile isn't there
+  bad_says : (contents tiles : Option Text) (level place : ℕ)
+      → IfSome contents (λ b. IfSome tiles (λ held. IsBadTile h b held level place))
+      → IfSome tiles (λ held. IfSome contents (λ b.
+      log_bytes_say h name work b held ≡ answers (bad_tile name level place)))
+  bad_says contents None level place bad = tt
+  bad_says None (Some held) level place bad = tt
+  bad_says (Some b) (Some held) level place bad =
+      ap (λ r. with_form log_open_text name r (tested_says h name work held)) bad.is
+      ∙ ap (λ o. unless_missing name o (log_says h work bad.found))
+      (bad_is h bad.found.state held level place bad.few bad.bad)
+
+  module _ {D : Type 0} (g : Ghosts D) (old new tiles tiles' : D)
+      (only_reads : OnlyReads g old new) where
+    -- a file that is no log
+    no_log : (why : LogOpenError)
+        → IfSome (g.contents old) (λ b. log_read h b ≡ Err why)
+        → HasWorkedTiledOn g name (log_bytes_say h name work) old new tiles tiles'
+        (replied (refused BadForm (Some name) (log_open_text why)))
+    no_log why is = tiled_early g name (log_bytes_say h name work) old new tiles tiles' only_reads
+        (replied (refused BadForm (Some name) (log_open_text why)))
+        (record { plain = λ e. absurd cc; later = only_reads.faults; fault = tt }) (inr (inl refl))
+        (each_some (g.contents tiles) _ (λ held. IfSome_then (g.contents old) is
+        (λ b read. ap (λ r. with_form log_open_text name r (tested_says h name work held)) read)))
+
+    -- a log that wasn't opened
+    pub refused_says : (why : LogOpenError) → HasOpenCause g g h old new tiles tiles' why
+        → HasWorkedTiledOn g name (log_bytes_say h name work) old new tiles tiles'
+        (log_open_ending name why)
+    refused_says (Open open_error.Failed) is =
+        tiled_early g name (log_bytes_say h name work) old new tiles tiles' only_reads
+        (room_failed name)
+        (record { plain = tt; later = only_reads.faults; fault = inl (refl, is) }) tt tt
+    refused_says (Open open_error.Memory) is =
+        tiled_early g name (log_bytes_say h name work) old new tiles tiles' only_reads no_memory
+        (record { plain = tt; later = only_reads.faults; fault = tt }) tt tt
+    refused_says (NoTiles tile_error.Failed) is =
+        tiled_early g name (log_bytes_say h name work) old new tiles tiles' only_reads
+        (room_failed (tiles_name name))
+        (record { plain = tt; later = only_reads.faults; fault = inr (refl, is) }) tt tt
+    refused_says (NoTiles (tile_error.BadTile level place)) is =
+        tiled_early g name (log_bytes_say h name work) old new tiles tiles' only_reads
+        (replied (bad_tile name level place))
+        (record { plain = λ e. absurd cc; later = only_reads.faults; fault = tt }) (inr (inl refl))
+        (bad_says (g.contents old) (g.contents tiles) level place is)
+    refused_says why is = no_log why is

@@ -1,0 +1,126 @@
+use Rattle.std.proofs.Common.{[], ◌∷◌, ◌≡◌, Err, Ok, inl, inr, refl, subst, sym}
+use Rattle.std.proofs.lemmas.Result.{err_from_is_err_and}
+use Rattle.byte_formats.specs.Readings.{Answers}
+use Rattle.byte_formats.specs.Types.{Text}
+use Rattle.authority_core.specs.Files.{request_of}
+use Rattle.authority_core.specs.declared.requests.error.RequestError.TheVariants.{Memory}
+use Rattle.mtc_command.specs.Answers.{Ending, ending_of, tiles_name}
+use Rattle.mtc_command.specs.Served.{HasServedBeside}
+use Rattle.mtc_command.proofs.Served.{behind, beside}
+use Rattle.mtc_command.proofs.Valid.{behind_valid, kept_valid}
+use Rattle.mtc_authority.specs.IssueCommand.{issue_outcome, request_says}
+use Rattle.mtc_authority.specs.Works.{IsLog, log_outcome}
+use Rattle.mtc_authority.specs.declared.work.Work.TheVariants.{Issue}
+use Rattle.mtc_authority.proofs.OnlyRead.{only_read_behind, only_read_kept}
+use Rattle.mtc_authority.proofs.Reading.{asked_so, unread}
+use Rattle.mtc_authority.proofs.issue.issue.Goals as goal
+
+pub returns-in_err-text-clause-serves : goal.returns-in_err-text-clause-serves
+returns-in_err-text-clause-serves g c =
+    let journal = c.args.journal.now in
+    let tiles = tiles_name journal in
+    let file = c.args.file.now in
+    let old = c.args.room.now in
+    let stopped = err_from_is_err_and c.from_residual.result c.from_residual.ensures.1 in
+    rw (stopped.1, stopped.2) (beside g.R.Room g.R.Dsk.Disk ⊥ (journal ∷ tiles ∷ file ∷ [])
+    (journal ∷ []) (tiles ∷ []) (issue_outcome g.H.TreeHash.hash journal file (g.R.Room.file old))
+    old c.read_input.new.room _
+    (c.in_err-text.ensures.stops (journal ∷ tiles ∷ file ∷ []) (journal ∷ [])
+    (request_says g.H.TreeHash.hash journal file (g.R.Room.file old journal)
+    (g.R.Room.file old tiles)) (inr (inr (inl refl)))))
+
+pub returns-in-Ok-clause-serves : goal.returns-in-Ok-clause-serves
+returns-in-Ok-clause-serves g c =
+    let h = g.H.TreeHash.hash in
+    let rooms = g.R.Room in
+    let journal = c.args.journal.now in
+    let tiles = tiles_name journal in
+    let file = c.args.file.now in
+    let old = c.args.room.now in
+    let mid = c.read_input.new.room in
+    let read = c.in_ok-text.ensures in
+    let is : request_of c.in_ok-text.text ≡ Ok c.in-Ok.request =
+    subst (λ (t : Text). request_of t ≡ Ok c.in-Ok.request) c.as_slice.ensures
+    c.in-Ok.ensures.exact in
+    behind rooms g.R.Dsk.Disk (journal ∷ tiles ∷ file ∷ []) (journal ∷ tiles ∷ []) (journal ∷ [])
+    (tiles ∷ []) (issue_outcome h journal file (rooms.file old))
+    (log_outcome h journal (rooms.file mid journal) (rooms.file mid tiles)
+    (Issue c.in-Ok.request)) old mid
+    c.on_log.new.room (ending_of c.on_log.result) read.settled
+    (λ t. asked_so h journal file (rooms.file old) c.in_ok-text.text (read.bytes t).0
+    (read.bytes t).1 (rooms.file mid journal) (rooms.file mid tiles) c.in-Ok.request is
+    (read.settled.others journal tt).bytes (read.settled.others tiles tt).bytes)
+    (λ name is. elim is [
+      | inl same ↦ inl same
+      | inr more ↦ elim more [ inl same ↦ inr (inl same) | inr never ↦ absurd never ]
+    ])
+    c.on_log.ensures.serves
+
+pub returns-clause-serves : goal.returns-clause-serves
+returns-clause-serves g c =
+    let journal = c.args.journal.now in
+    let tiles = tiles_name journal in
+    let file = c.args.file.now in
+    let old = c.args.room.now in
+    let read = c.in_ok-text.ensures in
+    let is : Answers Memory (request_of c.in_ok-text.text) (Err c.in-Err.why) =
+    subst (λ (t : Text). Answers Memory (request_of t) (Err c.in-Err.why)) c.as_slice.ensures
+    c.in-Err.ensures.exact in
+    subst (λ (e : Ending). HasServedBeside g.R.Room g.R.Dsk.Disk (journal ∷ tiles ∷ file ∷ [])
+    journal tiles (issue_outcome g.H.TreeHash.hash journal file (g.R.Room.file old)) old
+    c.read_input.new.room e) (sym c.refuse_request.ensures)
+    (unread g.R.Room g.R.Dsk.Disk g.H.TreeHash.hash journal file old c.read_input.new.room
+    c.in_ok-text.text read.settled g.met.R.Dsk.Disk.only_now read.bytes c.in-Err.why is)
+
+pub returns-in_err-text-clause-valid : goal.returns-in_err-text-clause-valid
+returns-in_err-text-clause-valid g c =
+    kept_valid g.R.Room g.R.Dsk.Disk (IsLog g.H.TreeHash.hash) (c.args.journal.now ∷ [])
+    (issue_outcome g.H.TreeHash.hash c.args.journal.now c.args.file.now
+    (g.R.Room.file c.args.room.now)) c.args.room.now c.read_input.new.room
+    c.in_err-text.ensures.settled g.met.R.Dsk.Disk.only_now
+
+pub returns-in-Ok-clause-valid : goal.returns-in-Ok-clause-valid
+returns-in-Ok-clause-valid g c =
+    let h = g.H.TreeHash.hash in
+    let rooms = g.R.Room in
+    let journal = c.args.journal.now in
+    let tiles = tiles_name journal in
+    let file = c.args.file.now in
+    let old = c.args.room.now in
+    let mid = c.read_input.new.room in
+    let read = c.in_ok-text.ensures in
+    let is : request_of c.in_ok-text.text ≡ Ok c.in-Ok.request =
+    subst (λ (t : Text). request_of t ≡ Ok c.in-Ok.request) c.as_slice.ensures
+    c.in-Ok.ensures.exact in
+    behind_valid rooms g.R.Dsk.Disk (IsLog h) (journal ∷ [])
+    (issue_outcome h journal file (rooms.file old))
+    (log_outcome h journal (rooms.file mid journal) (rooms.file mid tiles)
+    (Issue c.in-Ok.request)) old mid
+    c.on_log.new.room read.settled
+    (λ t. asked_so h journal file (rooms.file old) c.in_ok-text.text (read.bytes t).0
+    (read.bytes t).1 (rooms.file mid journal) (rooms.file mid tiles) c.in-Ok.request is
+    (read.settled.others journal tt).bytes (read.settled.others tiles tt).bytes)
+    c.on_log.ensures.valid
+
+pub returns-clause-valid : goal.returns-clause-valid
+returns-clause-valid g c =
+    kept_valid g.R.Room g.R.Dsk.Disk (IsLog g.H.TreeHash.hash) (c.args.journal.now ∷ [])
+    (issue_outcome g.H.TreeHash.hash c.args.journal.now c.args.file.now
+    (g.R.Room.file c.args.room.now)) c.args.room.now c.read_input.new.room
+    c.in_ok-text.ensures.settled g.met.R.Dsk.Disk.only_now
+
+pub returns-in_err-text-clause-only_read : goal.returns-in_err-text-clause-only_read
+returns-in_err-text-clause-only_read g c =
+    only_read_kept g.R.Room g.R.Dsk.Disk (tiles_name c.args.journal.now) c.args.room.now
+    c.read_input.new.room c.in_err-text.ensures.settled g.met.R.Dsk.Disk.only_now
+
+pub returns-in-Ok-clause-only_read : goal.returns-in-Ok-clause-only_read
+returns-in-Ok-clause-only_read g c =
+    only_read_behind g.R.Room g.R.Dsk.Disk (tiles_name c.args.journal.now) c.args.room.now
+    c.read_input.new.room c.on_log.new.room c.in_ok-text.ensures.settled
+    (c.on_log.ensures.only_read (λ e. absurd cc))
+
+pub returns-clause-only_read : goal.returns-clause-only_read
+returns-clause-only_read g c =
+    only_read_kept g.R.Room g.R.Dsk.Disk (tiles_name c.args.journal.now) c.args.room.now
+    c.read_input.new.room c.in_ok-text.ensures.settled g.met.R.Dsk.Disk.only_now

@@ -1,0 +1,158 @@
+use Rattle.std.proofs.Common.{inl, inr, subst, sym}
+use Rattle.issuance_log.specs.Folds.{LogState, view_in}
+use Rattle.mtc_command.specs.Answers.{ending_of}
+use Rattle.mtc_authority.specs.CertOutcome.{cert_reply, light_reply}
+use Rattle.mtc_authority.specs.LandmarkOutcomes.{landmarks_reply}
+use Rattle.mtc_authority.specs.LogOutcomes.{checkpoint_reply, entries_reply}
+use Rattle.mtc_authority.specs.RequestOutcomes.{consist_reply, subtree_reply}
+use Rattle.mtc_authority.specs.Works.{HasWorkedOnLog, StaysLog, log_says}
+use Rattle.mtc_authority.specs.declared.work.Work.{Work}
+use Rattle.mtc_authority.proofs.Worked.{landmarks_so, worked_by}
+use Rattle.mtc_authority.proofs.work.carry_out.Goals as goal
+
+pub returns-in-Checkpoint-clause-works : goal.returns-in-Checkpoint-clause-works
+unfolding Rattle.mtc_authority.specs.Works.log_says
+returns-in-Checkpoint-clause-works g c = subst
+    (λ (w : Work). HasWorkedOnLog c.args.journal.now (log_says g.H.TreeHash.hash w)
+    c.args.log.now c.checkpoint.new.log (ending_of c.checkpoint.result)) (sym c.in-Checkpoint.is)
+    (worked_by _ _ _ _ (λ (s : LogState). checkpoint_reply g.H.TreeHash.hash s.entries)
+    c.checkpoint.ensures)
+
+pub returns-in-Entries-clause-works : goal.returns-in-Entries-clause-works
+unfolding Rattle.mtc_authority.specs.Works.log_says
+returns-in-Entries-clause-works g c = subst
+    (λ (w : Work). HasWorkedOnLog c.args.journal.now (log_says g.H.TreeHash.hash w)
+    c.args.log.now c.entries.new.log (ending_of c.entries.result)) (sym c.in-Entries.is)
+    (worked_by _ _ _ _ (entries_reply _) c.entries.ensures)
+
+pub returns-in-Issue-clause-works : goal.returns-in-Issue-clause-works
+unfolding Rattle.mtc_authority.specs.Works.log_says
+returns-in-Issue-clause-works g c = subst
+    (λ (w : Work). HasWorkedOnLog c.args.journal.now (log_says g.H.TreeHash.hash w)
+    c.args.log.now
+    c.issue_on.new.log (ending_of c.issue_on.result)) (sym c.in-Issue.is)
+    c.issue_on.ensures.works
+
+pub returns-in-Consist-clause-works : goal.returns-in-Consist-clause-works
+unfolding Rattle.mtc_authority.specs.Works.log_says
+returns-in-Consist-clause-works g c = subst
+    (λ (w : Work). HasWorkedOnLog c.args.journal.now (log_says g.H.TreeHash.hash w)
+    c.args.log.now c.consist.new.log (ending_of c.consist.result)) (sym c.in-Consist.is)
+    (worked_by _ _ _ _ (consist_reply g.H.TreeHash.hash _ _) c.consist.ensures)
+
+pub returns-in-Subtree-clause-works : goal.returns-in-Subtree-clause-works
+unfolding Rattle.mtc_authority.specs.Works.log_says
+returns-in-Subtree-clause-works g c = subst
+    (λ (w : Work). HasWorkedOnLog c.args.journal.now (log_says g.H.TreeHash.hash w)
+    c.args.log.now c.subtree.new.log (ending_of c.subtree.result)) (sym c.in-Subtree.is)
+    (worked_by _ _ _ _ (subtree_reply g.H.TreeHash.hash _ _ _) c.subtree.ensures)
+
+pub returns-in-Landmark-clause-works : goal.returns-in-Landmark-clause-works
+unfolding Rattle.mtc_authority.specs.Works.log_says
+returns-in-Landmark-clause-works g c = subst
+    (λ (w : Work). HasWorkedOnLog c.args.journal.now (log_says g.H.TreeHash.hash w)
+    c.args.log.now
+    c.set_landmark.new.log (ending_of c.set_landmark.result)) (sym c.in-Landmark.is)
+    c.set_landmark.ensures.works
+
+pub returns-in-LightCert-clause-works : goal.returns-in-LightCert-clause-works
+unfolding Rattle.mtc_authority.specs.Works.log_says
+returns-in-LightCert-clause-works g c = subst
+    (λ (w : Work). HasWorkedOnLog c.args.journal.now (log_says g.H.TreeHash.hash w)
+    c.args.log.now c.light_certificate.new.log (ending_of c.light_certificate.result))
+    (sym c.in-LightCert.is)
+    (worked_by _ _ _ _ (light_reply g.H.TreeHash.hash _) c.light_certificate.ensures)
+
+pub returns-in-Cert-clause-works : goal.returns-in-Cert-clause-works
+unfolding Rattle.mtc_authority.specs.Works.log_says
+returns-in-Cert-clause-works g c = subst
+    (λ (w : Work). HasWorkedOnLog c.args.journal.now (log_says g.H.TreeHash.hash w)
+    c.args.log.now c.certificate.new.log (ending_of c.certificate.result)) (sym c.in-Cert.is)
+    (worked_by _ _ _ _ (cert_reply g.H.TreeHash.hash _ _ _ _) c.certificate.ensures)
+
+pub returns-in-Tile-clause-works : goal.returns-in-Tile-clause-works
+unfolding Rattle.mtc_authority.specs.Works.log_says
+returns-in-Tile-clause-works g c = subst
+    (λ (w : Work). HasWorkedOnLog c.args.journal.now (log_says g.H.TreeHash.hash w)
+    c.args.log.now c.tile_on.new.log (ending_of c.tile_on.result)) (sym c.in-Tile.is)
+    c.tile_on.ensures.works
+
+pub returns-in-Landmarks-clause-works : goal.returns-in-Landmarks-clause-works
+unfolding Rattle.mtc_authority.specs.Works.log_says
+returns-in-Landmarks-clause-works g c =
+    let log = c.args.log.now in
+    let ending = ending_of c.list_landmarks.result in
+    subst (λ (w : Work). HasWorkedOnLog c.args.journal.now (log_says g.H.TreeHash.hash w)
+    log c.list_landmarks.new.log ending) (sym c.in-Landmarks.is)
+    (worked_by _ _ _ _ (λ (s : LogState). landmarks_reply (view_in s))
+    (landmarks_so c.args.journal.now log c.list_landmarks.new.log ending
+    c.list_landmarks.ensures.stays c.requires.view c.list_landmarks.ensures.reply))
+
+pub returns-in-Checkpoint-clause-valid : goal.returns-in-Checkpoint-clause-valid
+returns-in-Checkpoint-clause-valid g c = inl (inr c.checkpoint.ensures.stays.only_reads)
+
+pub returns-in-Entries-clause-valid : goal.returns-in-Entries-clause-valid
+returns-in-Entries-clause-valid g c = inl (inr c.entries.ensures.stays.only_reads)
+
+pub returns-in-Consist-clause-valid : goal.returns-in-Consist-clause-valid
+returns-in-Consist-clause-valid g c = inl (inr c.consist.ensures.stays.only_reads)
+
+pub returns-in-Subtree-clause-valid : goal.returns-in-Subtree-clause-valid
+returns-in-Subtree-clause-valid g c = inl (inr c.subtree.ensures.stays.only_reads)
+
+pub returns-in-Landmarks-clause-valid : goal.returns-in-Landmarks-clause-valid
+returns-in-Landmarks-clause-valid g c = inl (inr c.list_landmarks.ensures.stays.only_reads)
+
+pub returns-in-LightCert-clause-valid : goal.returns-in-LightCert-clause-valid
+returns-in-LightCert-clause-valid g c = inl (inr c.light_certificate.ensures.stays.only_reads)
+
+pub returns-in-Cert-clause-valid : goal.returns-in-Cert-clause-valid
+returns-in-Cert-clause-valid g c = inl (inr c.certificate.ensures.stays.only_reads)
+
+pub returns-in-Issue-clause-valid : goal.returns-in-Issue-clause-valid
+unfolding Rattle.mtc_authority.specs.Works.log_says
+returns-in-Issue-clause-valid g c = subst
+    (λ (w : Work). StaysLog g.H.TreeHash.hash (log_says g.H.TreeHash.hash w) c.args.log.now
+    c.issue_on.new.log) (sym c.in-Issue.is) c.issue_on.ensures.valid
+
+pub returns-in-Landmark-clause-valid : goal.returns-in-Landmark-clause-valid
+unfolding Rattle.mtc_authority.specs.Works.log_says
+returns-in-Landmark-clause-valid g c = subst
+    (λ (w : Work). StaysLog g.H.TreeHash.hash (log_says g.H.TreeHash.hash w) c.args.log.now
+    c.set_landmark.new.log) (sym c.in-Landmark.is) c.set_landmark.ensures.valid
+
+pub returns-in-Tile-clause-valid : goal.returns-in-Tile-clause-valid
+unfolding Rattle.mtc_authority.specs.Works.log_says
+returns-in-Tile-clause-valid g c = subst
+    (λ (w : Work). StaysLog g.H.TreeHash.hash (log_says g.H.TreeHash.hash w) c.args.log.now
+    c.tile_on.new.log) (sym c.in-Tile.is) c.tile_on.ensures.valid
+
+pub returns-in-Checkpoint-clause-only_read : goal.returns-in-Checkpoint-clause-only_read
+returns-in-Checkpoint-clause-only_read g c = λ other. inr c.checkpoint.ensures.stays.tiles
+
+pub returns-in-Entries-clause-only_read : goal.returns-in-Entries-clause-only_read
+returns-in-Entries-clause-only_read g c = λ other. inr c.entries.ensures.stays.tiles
+
+pub returns-in-Consist-clause-only_read : goal.returns-in-Consist-clause-only_read
+returns-in-Consist-clause-only_read g c = λ other. inr c.consist.ensures.stays.tiles
+
+pub returns-in-Subtree-clause-only_read : goal.returns-in-Subtree-clause-only_read
+returns-in-Subtree-clause-only_read g c = λ other. inr c.subtree.ensures.stays.tiles
+
+pub returns-in-Landmarks-clause-only_read : goal.returns-in-Landmarks-clause-only_read
+returns-in-Landmarks-clause-only_read g c = λ other. inr c.list_landmarks.ensures.stays.tiles
+
+pub returns-in-LightCert-clause-only_read : goal.returns-in-LightCert-clause-only_read
+returns-in-LightCert-clause-only_read g c = λ other. inr c.light_certificate.ensures.stays.tiles
+
+pub returns-in-Cert-clause-only_read : goal.returns-in-Cert-clause-only_read
+returns-in-Cert-clause-only_read g c = λ other. inr c.certificate.ensures.stays.tiles
+
+pub returns-in-Issue-clause-only_read : goal.returns-in-Issue-clause-only_read
+returns-in-Issue-clause-only_read g c = λ other. inl c.issue_on.ensures.tiles
+
+pub returns-in-Landmark-clause-only_read : goal.returns-in-Landmark-clause-only_read
+returns-in-Landmark-clause-only_read g c = λ other. inl c.set_landmark.ensures.tiles
+
+pub returns-in-Tile-clause-only_read : goal.returns-in-Tile-clause-only_read
+returns-in-Tile-clause-only_read g c = λ other. absurd (other c.in-Tile.is)

@@ -1,0 +1,71 @@
+-- The outcomes of the commands on a log: `init-log`, `checkpoint` and `entries`.
+use Rattle.std.specs.Prelude.{ℕ, nat_lt, List, [], ◌++◌, length, slice_index_or, codes, None}
+use Rattle.std.specs.Prelude.{◌≡◌, ◌<◌, if◌then◌else◌}
+use Rattle.std.specs.Fmt.{decimal}
+use Rattle.byte_formats.specs.Types.{HashFunction, Text}
+use Rattle.hex.specs.Hex.{encode_lower}
+use Rattle.tls_wire.specs.Anchors.{text_of}
+use Rattle.tree_core.specs.Tree.{tree_hash}
+use Rattle.entry_list.specs.Items.{ItemLists, file_text}
+use Rattle.issuance_log.specs.Folds.{LogState}
+use Rattle.issuance_log.specs.Records.{settings_record}
+use Rattle.issuance_log.specs.Settings.{Settings}
+use Rattle.mtc_command.specs.declared.answer.Said.TheVariants.{Done}
+use Rattle.mtc_command.specs.declared.answer.Stopped.TheVariants.{NotAllowed}
+use Rattle.mtc_command.specs.Answers.{Ending, Reply, no_memory, refused, replied, room_failed, said}
+use Rattle.mtc_command.specs.Steps.{Outcome, Files, starts, with_fresh}
+
+-- A new log.
+
+-- What a log says of itself from its first record on.
+abbrev pub log_settings_of : Text → ℕ → ℕ → Settings
+log_settings_of id active limit = record { id = id; max_active = active; limit = limit }
+
+-- The line of a log that was made.
+abbrev pub log_line : Text → Text
+log_line id = codes "log " ++ (text_of id ++ codes "\n")
+
+abbrev pub init_log_outcome : Text → Text → ℕ → ℕ → Files → Outcome
+init_log_outcome journal id active limit files = with_fresh journal (files journal)
+    (starts (settings_record (log_settings_of id active limit)) (log_line id))
+
+-- The size and the tree hash.
+
+abbrev pub checkpoint_lines : ℕ → Text → Text
+checkpoint_lines size root = codes "size " ++ (decimal size
+    ++ (codes "\nroot " ++ (encode_lower root ++ codes "\n")))
+
+abbrev pub checkpoint_reply : HashFunction → List Text → Reply
+checkpoint_reply h entries =
+    said Done (checkpoint_lines (length entries) (tree_hash h entries))
+
+-- The items of a log: its entries, and the key of each.
+abbrev pub items_of : LogState → ItemLists
+items_of s = record { entries = s.entries; keys = s.keys }
+
+-- The state of the log doesn't allow it.
+abbrev pub not_allowed : Text → Reply
+not_allowed reason = refused NotAllowed None reason
+
+-- The asked size is above that of the log.
+abbrev pub beyond : ℕ → Reply
+beyond size = not_allowed (codes "Beyond " ++ decimal size)
+
+-- So many of the first items, where the log has them.
+abbrev pub entries_reply : ℕ → LogState → Reply
+entries_reply size s =
+    if nat_lt (length s.entries) size then beyond (length s.entries)
+    else said Done (file_text (items_of s) size)
+
+-- These are the entry and the key at an index, and both have fewer than 2^16 bytes.
+pub record IsItemAt (s : LogState) (index : ℕ) (entry key : Text) : Type 0 where
+  pub entry_is : entry ≡ slice_index_or s.entries index []
+  pub key_is : key ≡ slice_index_or s.keys index []
+  pub short_entry : length entry < 65536
+  pub short_key : length key < 65536
+
+-- It ends without a reply: the room failed at this file, or memory was refused.
+abbrev pub StopsAt : Type 0 → Text → Ending → Type 0
+StopsAt Fault file (replied reply) = ⊥
+StopsAt Fault file (room_failed at) = (at ≡ file) × Fault
+StopsAt Fault file no_memory = Unit {0}

@@ -1,0 +1,33 @@
+//! Laws of what is printed of a log: the clauses are the laws, and the functions do nothing.
+
+ghost use Rattle.std.specs.Prelude.{◌≡◌, ◌≤◌, ◌<◌, ◌^◌, ℕ, length, map, Ok, None, Some};
+ghost use Rattle.byte_formats.specs.Types.{HashFunction, Text};
+ghost use Rattle.entry_list.specs.Items.{file_text, first_items};
+ghost use Rattle.entry_list.specs.Reading.{items_in};
+ghost use Rattle.issuance_log.specs.Folds.{LogState};
+ghost use Rattle.issuance_log.specs.Openings.{HasItsTiles};
+ghost use Rattle.issuance_log.specs.Sound.{IsSound};
+ghost use Rattle.tile_store.specs.Causes.{IsFirstBad};
+ghost use Rattle.tree_core.specs.Tree.{leaf_hash};
+ghost use Rattle.mtc_authority.specs.BadTiles.{first_bad};
+ghost use Rattle.mtc_authority.specs.LogOutcomes.{items_of};
+
+/// What `entries` prints is a file of entries, which is read as so many of the log's first items.
+pub fn law_printed_entries_are_read()
+    ensures { (h : HashFunction) (s : LogState) (count : ℕ) → IsSound h s
+        → count ≤ length s.entries
+        → items_in h (file_text (items_of s) count) ≡ Ok (first_items count (items_of s)) }
+{}
+
+/// A command on a log tells no bad tile exactly where the file of its tiles has those of its last
+/// size, and the one that it tells is the first of them that the file has not.
+pub fn law_bad_tiles_are_reported()
+    ensures none { (h : HashFunction) (s : LogState) (tiles : Text) → HasItsTiles h s tiles
+        → first_bad h s tiles ≡ None }
+    ensures all { (h : HashFunction) (s : LogState) (tiles : Text) → s.tiled < 2 ^ 32
+        → first_bad h s tiles ≡ None → HasItsTiles h s tiles }
+    ensures first { (h : HashFunction) (s : LogState) (tiles : Text) (level place : ℕ)
+        → s.tiled < 2 ^ 32
+        → IsFirstBad h (map (leaf_hash h) s.entries) tiles 0 s.tiled level place
+        → first_bad h s tiles ≡ Some (level, place) }
+{}

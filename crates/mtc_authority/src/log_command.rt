@@ -1,0 +1,152 @@
+//! The commands on a log that has a journal: the journal and the file of its tiles are lent,
+//! opened, worked on and put back.
+
+ghost use Rattle.std.specs.Prelude.{◌≡◌, ◌≢◌, ◌<◌, ◌+◌, ◌^◌, [], ◌∷◌};
+ghost use Rattle.disk_core.specs.Moments.{OnlyReads};
+ghost use Rattle.frame_pool.specs.Frames.{IsNew};
+ghost use Rattle.mtc_command.specs.Answers.{stop_ending, ending_of, tiles_name};
+ghost use Rattle.mtc_command.specs.Served.{HasServedBeside, OnlyReadsBeside};
+ghost use Rattle.mtc_command.specs.Valid.{KeepsValid, ServesValidlyTiled};
+ghost use Rattle.mtc_command.specs.Works.{HasWorkedTiledOn};
+ghost use Rattle.mtc_authority.specs.Works.{IsLog, log_bytes_say, log_outcome, log_open_ending};
+ghost use Rattle.mtc_authority.specs.declared.work.Work.TheVariants.{Tile};
+
+use crate::work::{Work, carry_out};
+use disk_core::Disk;
+use frame_pool::Pool;
+use issuance_log::{Log, LogOpenError, LogRefused};
+use journal_core::OpenError;
+use mtc_command::{
+    Answer, Reason, Stop, Stopped, close, open_file, open_tiles, refuse_file, tiles_name,
+};
+use mtc_room::Room;
+use std::alloc::Global;
+use tile_store::TileError;
+use tree_core::TreeHash;
+
+// So many tiles are held in memory at once.
+const FRAMES: usize = 64;
+
+// Why a journal isn't opened as a log with its tiles.
+fn refuse_log<'a>(journal: &'a str, why: LogOpenError) -> Stop<'a>
+    ensures { stop_ending result ≡ log_open_ending journal.now why }
+{
+    let bad = Stopped::BadForm;
+    match why {
+        LogOpenError::BadRecord(number) => {
+            refuse_file(bad, journal, Reason::with_number("BadRecord", number))
+        }
+        LogOpenError::Open(OpenError::NotJournal) => {
+            refuse_file(bad, journal, Reason::named("NotJournal"))
+        }
+        LogOpenError::Open(OpenError::BadLength(place)) => {
+            refuse_file(bad, journal, Reason::with_number("BadLength", place))
+        }
+        LogOpenError::Open(OpenError::CutShort(place)) => {
+            refuse_file(bad, journal, Reason::with_number("CutShort", place))
+        }
+        LogOpenError::Open(OpenError::Failed) => Stop::Room(journal),
+        LogOpenError::Open(OpenError::Memory) => Stop::Memory,
+        LogOpenError::Tile(TileError::Failed) => Stop::Tiles(journal),
+        LogOpenError::Tile(TileError::BadTile { level, place }) => Stop::BadTile {
+            journal,
+            level,
+            place,
+        },
+    }
+}
+
+// Opens the log on the device of its journal and on that of its tiles, with a pool of 64 frames
+// that hold nothing, and works on it.
+fn on_devices<'a, H: TreeHash, D: Disk>(
+    alloc: Global,
+    disk: D,
+    tiles: D,
+    pool: Pool,
+    journal: &'a str,
+    work: Work,
+) -> (D, D, Result<Answer, Stop<'a>>)
+    requires { IsNew 64 pool }
+    ensures serves { HasWorkedTiledOn D.Disk journal.now (log_bytes_say H.hash journal.now work)
+        disk result.0 tiles result.1 (ending_of result.2) }
+    ensures valid { ServesValidlyTiled D.Disk (IsLog H.hash)
+        (log_bytes_say H.hash journal.now work) disk result.0 tiles }
+    ensures only_read { work ≢ Tile → OnlyReads D.Disk tiles result.1 }
+{
+    match Log::<H, D, D>::open(alloc, disk, tiles, pool) {
+        Ok(mut log) => {
+            log.law_sound();
+            let answer = carry_out(alloc, journal, &mut log, work);
+            let (disk, tiles) = log.into_disks();
+            (disk, tiles, answer)
+        }
+        Err(LogRefused { disk, tiles, why }) => (disk, tiles, Err(refuse_log(journal, why))),
+    }
+}
+
+// Lends the device of the tiles beside that of a journal, and works on the log. Whatever comes of
+// it, both are put back, that of the journal last: so who has the journal has the tiles.
+fn on_journal<'a, H: TreeHash, R: Room>(
+    alloc: Global,
+    room: &mut R,
+    journal: &'a str,
+    name: &str,
+    pool: Pool,
+    work: Work,
+) -> Result<Answer, Stop<'a>>
+    requires opened { R.opened room.old + 1 < 2 ^ 32 }
+    requires named { name.now ≡ tiles_name journal.now }
+    requires frames { IsNew 64 pool }
+    ensures serves { HasServedBeside R.Room R.Dsk.Disk (journal.now ∷ tiles_name journal.now ∷ [])
+        journal.now (tiles_name journal.now)
+        (log_outcome H.hash journal.now (R.file room.old journal.now)
+        (R.file room.old (tiles_name journal.now)) work)
+        room.old room.new (ending_of result) }
+    ensures valid { KeepsValid R.Room R.Dsk.Disk (IsLog H.hash) (journal.now ∷ [])
+        (log_outcome H.hash journal.now (R.file room.old journal.now)
+        (R.file room.old (tiles_name journal.now)) work) room.old room.new }
+    ensures only_read { work ≢ Tile
+        → OnlyReadsBeside R.Room R.Dsk.Disk room.old room.new (tiles_name journal.now) }
+{
+    let disk = open_file(room, journal)?;
+    match open_tiles(room, journal, name) {
+        Ok(tiles) => {
+            let (disk, tiles, answer) = on_devices::<H, R::Dsk>(
+                alloc, disk, tiles, pool, journal, work,
+            );
+            close(room, name, tiles);
+            close(room, journal, disk);
+            answer
+        }
+        Err(stop) => {
+            close(room, journal, disk);
+            Err(stop)
+        }
+    }
+}
+
+/// Lends a journal and the file of its tiles, which is made where it isn't there, opens the log and
+/// works on it. Whatever comes of it, the devices are put back. The memory for the tiles is taken
+/// before anything is lent, so that want of it makes no file.
+pub fn on_log<'a, H: TreeHash, R: Room>(
+    alloc: Global,
+    room: &mut R,
+    journal: &'a str,
+    work: Work,
+) -> Result<Answer, Stop<'a>>
+    requires { R.opened room.old + 1 < 2 ^ 32 }
+    ensures serves { HasServedBeside R.Room R.Dsk.Disk (journal.now ∷ tiles_name journal.now ∷ [])
+        journal.now (tiles_name journal.now)
+        (log_outcome H.hash journal.now (R.file room.old journal.now)
+        (R.file room.old (tiles_name journal.now)) work)
+        room.old room.new (ending_of result) }
+    ensures valid { KeepsValid R.Room R.Dsk.Disk (IsLog H.hash) (journal.now ∷ [])
+        (log_outcome H.hash journal.now (R.file room.old journal.now)
+        (R.file room.old (tiles_name journal.now)) work) room.old room.new }
+    ensures only_read { work ≢ Tile
+        → OnlyReadsBeside R.Room R.Dsk.Disk room.old room.new (tiles_name journal.now) }
+{
+    let name = tiles_name(alloc, journal)?;
+    let pool = Pool::new(alloc, FRAMES)?;
+    on_journal::<H, R>(alloc, room, journal, &name, pool, work)
+}

@@ -1,0 +1,78 @@
+//! The work of a command on a log whose journal is open: its own refusals, its text, and at most
+//! one append, which is its last step.
+
+ghost use Rattle.mtc_authority.specs.Works.{HasWorkedOnLog, IsReadyLog, OnlyReadsTiles, StaysLog};
+ghost use Rattle.mtc_authority.specs.Works.{log_says};
+ghost use Rattle.mtc_command.specs.Answers.{ending_of};
+
+use crate::cert::{Signatures, certificate, light_certificate};
+use crate::checkpoint::{checkpoint, entries};
+use crate::issue::issue_on;
+use crate::marks::{list_landmarks, set_landmark};
+use crate::requests::{consist, subtree};
+use crate::tiles::tile_on;
+use authority_core::Request;
+use disk_core::Disk;
+use issuance_log::Log;
+use mtc_command::{Answer, Stop};
+use std::alloc::Global;
+use tree_core::TreeHash;
+
+/// What a command does with a log.
+#[derive(Drop)]
+pub enum Work {
+    /// The size and the tree hash.
+    Checkpoint,
+    /// So many of the first entries.
+    Entries(u64),
+    /// One entry more: that of a request.
+    Issue(Request),
+    /// The request to hold the first `.1` entries, of a cosigner that holds the first `.0`.
+    Consist(u64, u64),
+    /// The request to sign the subtree from the first number up to the second one, of so many of
+    /// the first entries.
+    Subtree(u64, u64, u64),
+    /// A landmark more, at the size.
+    Landmark,
+    /// The list of the active landmarks.
+    Landmarks,
+    /// The certificate of the entry at this index without signatures, in the subtree that an active
+    /// landmark has for it.
+    LightCert(u64),
+    /// The certificate of the entry at the first number, in the subtree from the second number up
+    /// to the third one, with these signatures.
+    Cert(u64, u64, u64, Signatures),
+    /// The tiles that the entries fill are stored.
+    Tile,
+}
+
+/// Carries out a command on the log of a journal. A failure of a device is told by the name of its
+/// file. The device of the tiles is only looked at, unless tiles are stored.
+#[tactic(auto, unfolding(crate::specs::Works::log_says))]
+pub fn carry_out<'a, H: TreeHash, D: Disk>(
+    alloc: Global,
+    journal: &'a str,
+    log: &mut Log<H, D, D>,
+    work: Work,
+) -> Result<Answer, Stop<'a>>
+    requires { IsReadyLog log.old }
+    ensures works { HasWorkedOnLog journal.now (log_says H.hash work) log.old log.new
+        (ending_of result) }
+    ensures valid { StaysLog H.hash (log_says H.hash work) log.old log.new }
+    ensures only_read { OnlyReadsTiles work log.old log.new }
+{
+    match work {
+        Work::Checkpoint => checkpoint(alloc, journal, log),
+        Work::Entries(size) => entries(alloc, journal, log, size),
+        Work::Issue(request) => issue_on(alloc, journal, log, &request),
+        Work::Consist(old, new) => consist(alloc, journal, log, old, new),
+        Work::Subtree(start, end, size) => subtree(alloc, journal, log, start, end, size),
+        Work::Landmark => set_landmark(alloc, journal, log),
+        Work::Landmarks => list_landmarks(alloc, log),
+        Work::LightCert(index) => light_certificate(alloc, journal, log, index),
+        Work::Cert(index, start, end, signatures) => {
+            certificate(alloc, journal, log, index, start, end, &signatures)
+        }
+        Work::Tile => tile_on(alloc, journal, log),
+    }
+}

@@ -1,5 +1,0 @@
-use Rattle.mtc_proof.proofs.Inputs.{one_input}
-use Rattle.mtc_proof.proofs.laws.signature_inputs_have_one_meaning.Goals as goal
-
-pub returns : goal.returns
-returns c = one_input

@@ -1,0 +1,332 @@
+//! In which order the room of real files calls the system.
+
+use crate::noted::{Call, Noted, Wanted};
+use crate::system::{disk_refusal, fresh_refusal, scratch_refusal};
+use journal_core::{HEADER, OpenError, Opening, Refused};
+use mtc_files::FileRoom;
+use mtc_io::Memory;
+use mtc_room::{Room, RoomError};
+use std::alloc::Global;
+use std::fs::{self, File, Permissions};
+use std::io;
+use std::os::unix::fs::PermissionsExt;
+use std::rt::Files;
+use std::test::Fail;
+
+// What a room is asked for: a journal, a new one, or a file of tiles.
+#[derive(Clone, Copy)]
+enum Asked {
+    Journal,
+    New,
+    Tiles,
+}
+
+// Why the room doesn't lend it, and how many calls that took where each was the one to come.
+fn ended<R: Files<File = File>>(
+    files: &R,
+    asked: Asked,
+    name: &str,
+    wanted: Wanted,
+) -> (Option<RoomError>, Option<usize>) {
+    let noted = Noted {
+        files,
+        wanted: &wanted,
+    };
+    let refusal = match asked {
+        Asked::Journal => disk_refusal(&noted, name),
+        Asked::New => fresh_refusal(&noted, name),
+        Asked::Tiles => scratch_refusal(&noted, name),
+    };
+    (refusal, wanted.met())
+}
+
+// Of so many bytes, those from a place on are written again, in pieces of which the last one has a
+// size of its own; before that so many of the first ones are read, or none.
+type End = (u64, u64, u64, usize, usize);
+
+const ENDS: [End; 12] = [
+    (0, 0, 0, 0, 0),
+    (15, 0, 0, 0, 0),
+    (16, 0, 1, 16, 16),
+    (22, 0, 1, 22, 22),
+    (4095, 0, 1, 4095, 22),
+    (4096, 0, 1, 4096, 22),
+    (4097, 0, 2, 1, 22),
+    (131_094, 0, 33, 22, 22),
+    (135_167, 0, 33, 4095, 22),
+    (135_168, 0, 33, 4096, 22),
+    (135_169, 1, 33, 4096, 22),
+    (300_000, 164_832, 33, 4096, 22),
+];
+
+// Puts the reads and the writes of so many pieces behind other calls.
+fn add_pieces(calls: &mut Vec<Call>, from: u64, pieces: u64, last: usize) -> Result<(), Memory> {
+    for piece in 0..pieces {
+        let place = from.saturating_add(piece.saturating_mul(4096));
+        let size = if piece + 1 == pieces { last } else { 4096 };
+        calls.push(Call::Read(place, size))?;
+        calls.push(Call::Write(place, size))?;
+    }
+    Ok(())
+}
+
+// The calls for a journal with such an end: it is locked, and the name leads to it, before its
+// bytes are touched; all are written before the folder is synced.
+fn calls_of(alloc: Global, end: End) -> Result<Vec<Call>, Memory> {
+    let (_, from, pieces, last, first) = end;
+    let prefix = [Call::Open, Call::Lock, Call::Look, Call::Find];
+    let mut calls = Vec::from_slice(alloc, &prefix)?;
+    if first > 0 {
+        calls.push(Call::Read(0, first))?;
+    }
+    add_pieces(&mut calls, from, pieces, last)?;
+    calls.push(Call::OpenFolder)?;
+    calls.push(Call::SyncFolder)?;
+    Ok(calls)
+}
+
+// Makes a file of so many bytes that begins with these.
+fn make<R: Files<File = File>>(
+    files: &R,
+    alloc: Global,
+    path: &str,
+    begins: &[u8],
+    length: u64,
+) -> io::Result<Vec<u8>> {
+    let mut bytes = vec![in alloc; 0; length as usize]?;
+    for (place, byte) in bytes.iter_mut().enumerate() {
+        *byte = if place < begins.len() {
+            begins[place]
+        } else {
+            (place % 251) as u8
+        };
+    }
+    fs::write(files, path, bytes.as_slice())?;
+    fs::set_permissions(files, path, Permissions::from_mode(0o600))?;
+    Ok(bytes)
+}
+
+fn holds<R: Files<File = File> + Alloc>(files: &R, path: &str, bytes: &[u8]) -> io::Result<bool> {
+    Ok(fs::read(files, path)?.as_slice() == bytes)
+}
+
+#[test]
+fn the_end_of_a_journal_is_written_behind_its_lock(rt: HostRuntime) -> Result<(), Fail> {
+    let path = "mtc_files_end_test";
+    for end in ENDS {
+        let bytes = make(&rt, rt.alloc(), path, &HEADER, end.0)?;
+        let calls = calls_of(rt.alloc(), end)?;
+        let count = calls.len();
+        let ended = ended(&rt, Asked::Journal, path, Wanted::new(calls));
+        assert!(rt; ended == (None, Some(count)), "{} bytes", end.0);
+        assert!(rt; holds(&rt, path, &bytes)?, "the {} bytes", end.0);
+    }
+    fs::remove_file(&rt, path)?;
+    Ok(())
+}
+
+#[test]
+fn another_file_is_not_written(rt: HostRuntime) -> Result<(), Fail> {
+    let path = "mtc_files_other_test";
+    let others: [&[u8]; 3] = [
+        b"mtc-journal/v2\n\0",
+        b"mtc-journal/v1\n\x01",
+        b"-----BEGIN TRUST",
+    ];
+    for begins in others {
+        let bytes = make(&rt, rt.alloc(), path, begins, 5000)?;
+        let calls = calls_of(rt.alloc(), (5000, 0, 0, 0, 22))?;
+        let ended = ended(&rt, Asked::Journal, path, Wanted::new(calls));
+        assert!(rt;
+            ended == (None, Some(7)) && holds(&rt, path, &bytes)?,
+            "{}",
+            begins[15]
+        );
+    }
+    fs::remove_file(&rt, path)?;
+    Ok(())
+}
+
+// The calls for a new journal, for a new file of tiles, and for one that is there.
+const NEW: [Call; 7] = [
+    Call::Create,
+    Call::Lock,
+    Call::FindLink,
+    Call::Look,
+    Call::Sync,
+    Call::OpenFolder,
+    Call::SyncFolder,
+];
+
+const NEW_TILES: [Call; 8] = [
+    Call::FindLink,
+    Call::Create,
+    Call::Lock,
+    Call::FindLink,
+    Call::Look,
+    Call::Sync,
+    Call::OpenFolder,
+    Call::SyncFolder,
+];
+
+const EMPTY_TILES: [Call; 6] = [
+    Call::FindLink,
+    Call::Open,
+    Call::Look,
+    Call::Lock,
+    Call::Look,
+    Call::FindLink,
+];
+
+const TILES: [Call; 8] = [
+    Call::FindLink,
+    Call::Open,
+    Call::Look,
+    Call::Read(0, 22),
+    Call::Lock,
+    Call::Look,
+    Call::FindLink,
+    Call::Read(0, 22),
+];
+
+// Removes a file, or makes one of so many bytes, which is a journal where one is asked for.
+fn prepare<R: Files<File = File>>(
+    files: &R,
+    alloc: Global,
+    asked: Asked,
+    path: &str,
+    length: Option<u64>,
+) -> io::Result<()> {
+    let _ = fs::remove_file(files, path);
+    if let Some(length) = length {
+        let begins: &[u8] = if matches!(asked, Asked::Journal) {
+            &HEADER
+        } else {
+            &[]
+        };
+        make(files, alloc, path, begins, length)?;
+    }
+    Ok(())
+}
+
+// What is asked for, of a file of so many bytes or of none; the calls for it, and the number of the
+// one that finds the file by its name behind the lock.
+type Case = (Asked, Option<u64>, Vec<Call>, usize);
+
+fn cases(alloc: Global) -> Result<[Case; 6], Memory> {
+    let short = calls_of(alloc, (4097, 0, 2, 1, 22))?;
+    let long = calls_of(alloc, (135_169, 1, 33, 4096, 22))?;
+    Ok([
+        (Asked::Journal, Some(4097), short, 3),
+        (Asked::Journal, Some(135_169), long, 3),
+        (Asked::New, None, Vec::from_slice(alloc, &NEW)?, 2),
+        (Asked::Tiles, None, Vec::from_slice(alloc, &NEW_TILES)?, 3),
+        (
+            Asked::Tiles,
+            Some(0),
+            Vec::from_slice(alloc, &EMPTY_TILES)?,
+            5,
+        ),
+        (Asked::Tiles, Some(8192), Vec::from_slice(alloc, &TILES)?, 6),
+    ])
+}
+
+// How a case ends of which the call of this number fails, or finds another file.
+fn tried<R: Files<File = File>>(
+    files: &R,
+    alloc: Global,
+    case: &Case,
+    failing: Option<usize>,
+    elsewhere: Option<usize>,
+) -> io::Result<(Option<RoomError>, Option<usize>)> {
+    let path = "mtc_files_order_test";
+    let (asked, length, calls, _) = case;
+    prepare(files, alloc, *asked, path, *length)?;
+    let mut wanted = Wanted::new(Vec::from_slice(alloc, calls)?);
+    wanted.failing = failing;
+    wanted.elsewhere = elsewhere;
+    let ended = ended(files, *asked, path, wanted);
+    let _ = fs::remove_file(files, path);
+    Ok(ended)
+}
+
+// Whether a case makes its calls, and none behind one that fails, or that finds another file by the
+// name. A new file's node is asked for behind its name's.
+fn is_as_told<R: Files<File = File>>(files: &R, alloc: Global, case: &Case) -> io::Result<bool> {
+    let (_, _, calls, found) = case;
+    let mut right = tried(files, alloc, case, None, None)? == (None, Some(calls.len()));
+    for failing in 0..calls.len() {
+        let reported = (Some(RoomError::Failed), Some(failing.saturating_add(1)));
+        right = right && tried(files, alloc, case, Some(failing), None)? == reported;
+    }
+    let behind = if calls.contains(&Call::Create) { 2 } else { 1 };
+    let reported = (Some(RoomError::Failed), Some(found.saturating_add(behind)));
+    Ok(right && tried(files, alloc, case, None, Some(*found))? == reported)
+}
+
+#[test]
+fn the_room_calls_the_system_in_its_order(rt: HostRuntime) -> Result<(), Fail> {
+    for case in &cases(rt.alloc())? {
+        assert!(rt;
+            is_as_told(&rt, rt.alloc(), case)?,
+            "{} calls",
+            case.2.len()
+        );
+    }
+    Ok(())
+}
+
+#[test]
+fn a_file_is_moved_off_the_streams(rt: HostRuntime) -> Result<(), Fail> {
+    let path = "mtc_files_stream_test";
+    make(&rt, rt.alloc(), path, b"tiles", 15)?;
+    let calls = [
+        Call::Open,
+        Call::Move,
+        Call::Lock,
+        Call::Look,
+        Call::Find,
+        Call::OpenFolder,
+        Call::SyncFolder,
+    ];
+    let mut wanted = Wanted::new(Vec::from_slice(rt.alloc(), &calls)?);
+    wanted.on_stream = true;
+    assert!(rt; ended(&rt, Asked::Journal, path, wanted) == (None, Some(7)));
+    fs::remove_file(&rt, path)?;
+    Ok(())
+}
+
+// Whether the opening of a journal syncs it first, of which the room has written the end again, and
+// is refused where that fails.
+fn syncs_first<R: Files<File = File>>(
+    files: &R,
+    alloc: Global,
+    path: &str,
+    wanted: &Wanted,
+) -> bool {
+    let noted = Noted { files, wanted };
+    let mut room = FileRoom::new(&noted);
+    let Ok(disk) = room.disk(path) else {
+        return false;
+    };
+    let (disk, failed) = match Opening::begin(alloc, disk) {
+        Ok(opening) => (opening.into_disk(), false),
+        Err(Refused { disk, why }) => (disk, why == OpenError::Failed),
+    };
+    room.keep(path, disk);
+    failed
+}
+
+#[test]
+fn the_opening_syncs_what_was_written_again(rt: HostRuntime) -> Result<(), Fail> {
+    let path = "mtc_files_opening_test";
+    make(&rt, rt.alloc(), path, &HEADER, 4097)?;
+    let mut calls = calls_of(rt.alloc(), (4097, 0, 2, 1, 22))?;
+    calls.push(Call::Sync)?;
+    let count = calls.len();
+    let mut wanted = Wanted::new(calls);
+    wanted.failing = Some(count.saturating_sub(1));
+    assert!(rt; syncs_first(&rt, rt.alloc(), path, &wanted) && wanted.met() == Some(count));
+    fs::remove_file(&rt, path)?;
+    Ok(())
+}

@@ -1,0 +1,283 @@
+//! The room of real files.
+
+use disk_core::{Disk, FileDisk};
+use mtc_files::{FileRoom, Held};
+use mtc_io::{Bytes, Failed, ReadError, Source, read_all};
+use mtc_room::{Cause, Room, RoomError};
+use std::alloc::Global;
+use std::fs::{self, File, TryLockError};
+use std::io;
+use std::os::unix::fs::MetadataExt;
+use std::rt::Files;
+use std::test::Fail;
+
+// Why a room doesn't lend an input file of that name; none where it does.
+fn source_refusal<R: Files>(files: &R, name: &str) -> Option<RoomError>
+where
+    R::File: Held,
+{
+    let mut room = FileRoom::new(files);
+    match room.source(name) {
+        Ok(source) => {
+            room.done(source);
+            None
+        }
+        Err(why) => Some(why),
+    }
+}
+
+// The same of a journal.
+pub fn disk_refusal<R: Files>(files: &R, name: &str) -> Option<RoomError>
+where
+    R::File: Held,
+{
+    let mut room = FileRoom::new(files);
+    match room.disk(name) {
+        Ok(disk) => {
+            room.keep(name, disk);
+            None
+        }
+        Err(why) => Some(why),
+    }
+}
+
+// The same of a new journal.
+pub fn fresh_refusal<R: Files>(files: &R, name: &str) -> Option<RoomError>
+where
+    R::File: Held,
+{
+    let mut room = FileRoom::new(files);
+    match room.fresh(name) {
+        Ok(disk) => {
+            room.keep(name, disk);
+            None
+        }
+        Err(why) => Some(why),
+    }
+}
+
+// The same of a file of tiles, which fails alone.
+pub fn scratch_refusal<R: Files>(files: &R, name: &str) -> Option<RoomError>
+where
+    R::File: Held,
+{
+    let mut room = FileRoom::new(files);
+    match room.scratch(name) {
+        Ok(disk) => {
+            room.keep(name, disk);
+            None
+        }
+        Err(Failed) => Some(RoomError::Failed),
+    }
+}
+
+// What each of these calls answers for a name.
+fn refusals<R: Files<File = File>>(files: &R, name: &str) -> [Option<RoomError>; 3] {
+    [
+        source_refusal(files, name),
+        disk_refusal(files, name),
+        fresh_refusal(files, name),
+    ]
+}
+
+fn read<S: Source>(alloc: Global, source: &mut S) -> Result<Bytes, ReadError> {
+    read_all(alloc, source, 5)
+}
+
+// What a room gives of an input file of five bytes at most.
+fn opened_bytes<R: Files<File = File>>(files: &R, alloc: Global, name: &str) -> Option<Bytes> {
+    let mut room = FileRoom::new(files);
+    let mut source = room.source(name).ok()?;
+    let bytes = read(alloc, &mut source);
+    room.done(source);
+    bytes.ok()
+}
+
+// Whether these are the bytes.
+fn is_opened<R: Files<File = File>>(files: &R, alloc: Global, name: &str, wanted: &[u8]) -> bool {
+    match opened_bytes(files, alloc, name) {
+        Some(bytes) => bytes.as_slice() == wanted,
+        None => false,
+    }
+}
+
+#[test]
+fn opens_the_files_of_the_system(rt: HostRuntime) -> Result<(), Fail> {
+    let name = "mtc_file_room_test";
+    fs::write(&rt, name, b"entry")?;
+    assert!(rt; is_opened(&rt, rt.alloc(), name, b"entry"));
+    fs::remove_file(&rt, name)?;
+    assert!(rt; source_refusal(&rt, name) == Some(RoomError::Absent));
+    Ok(())
+}
+
+// Whether an empty file takes five bytes.
+fn is_filled(disk: &mut FileDisk) -> bool {
+    disk.len() == Ok(0) && disk.write_at(0, b"entry") == Ok(()) && disk.sync() == Ok(())
+}
+
+// Whether they are there, and it takes two more.
+fn is_filled_up(disk: &mut FileDisk) -> bool {
+    disk.len() == Ok(5) && disk.write_at(5, b" 1") == Ok(())
+}
+
+// Whether a new file is made that takes bytes, and no second one of that name.
+fn makes<R: Files<File = File>>(files: &R, name: &str) -> bool {
+    let mut room = FileRoom::new(files);
+    let Ok(mut disk) = room.fresh(name) else {
+        return false;
+    };
+    let filled = is_filled(&mut disk);
+    room.keep(name, disk);
+    filled && fresh_refusal(files, name) == Some(RoomError::Exists)
+}
+
+// Whether the file is lent again, and takes more.
+fn opens_again<R: Files<File = File>>(files: &R, name: &str) -> bool {
+    let mut room = FileRoom::new(files);
+    let Ok(mut disk) = room.disk(name) else {
+        return false;
+    };
+    let filled = is_filled_up(&mut disk);
+    room.keep(name, disk);
+    filled
+}
+
+fn holds<R: Files<File = File> + Alloc>(files: &R, name: &str, bytes: &[u8]) -> io::Result<bool> {
+    Ok(fs::read(files, name)?.as_slice() == bytes)
+}
+
+#[test]
+fn makes_files_and_opens_them_again(rt: HostRuntime) -> Result<(), Fail> {
+    let name = "mtc_file_room_fresh_test";
+    // One may be left of a run that was cut off.
+    let _ = fs::remove_file(&rt, name);
+    assert!(rt; disk_refusal(&rt, name) == Some(RoomError::Absent));
+    assert!(rt; makes(&rt, name));
+    assert!(rt; fs::metadata(&rt, name)?.mode() & 0o777 == 0o600);
+    assert!(rt; opens_again(&rt, name));
+    assert!(rt; holds(&rt, name, b"entry 1")?);
+    fs::remove_file(&rt, name)?;
+    assert!(rt; disk_refusal(&rt, name) == Some(RoomError::Absent));
+    Ok(())
+}
+
+// The calls are those for an input file, for a journal and for a new journal.
+#[test]
+fn each_error_of_the_system_has_its_answer(rt: HostRuntime) -> Result<(), Fail> {
+    let _ = fs::create_dir(&rt, "mtc_file_room_refusals");
+    let _ = fs::create_dir(&rt, "mtc_file_room_refusals/folder");
+    let _ = fs::write(&rt, "mtc_file_room_refusals/file", b"");
+    let absent = Some(RoomError::Absent);
+    let exists = Some(RoomError::Exists);
+    let failed = Some(RoomError::Failed);
+    // A folder opens as a source, and fails where it is read.
+    let cases = [
+        ("mtc_file_room_refusals/folder", [None, failed, exists]),
+        ("mtc_file_room_refusals/file", [None, None, exists]),
+        (
+            "mtc_file_room_refusals/file/behind",
+            [absent, absent, failed],
+        ),
+        ("mtc_file_room_refusals/none/new", [absent, absent, failed]),
+    ];
+    for (name, wanted) in cases {
+        assert!(rt; refusals(&rt, name) == wanted, "{name}");
+    }
+    assert!(rt; !fs::exists(&rt, "mtc_file_room_refusals/none")?);
+    fs::remove_dir_all(&rt, "mtc_file_room_refusals")?;
+    Ok(())
+}
+
+// A file that exists, open to be read and written.
+fn open_to_write<R: Files>(files: &R, name: &str) -> io::Result<R::File> {
+    File::options().read(true).write(true).open(files, name)
+}
+
+// Whether a room can lend the journal of that name.
+fn opens<R: Files<File = File>>(files: &R, name: &str) -> bool {
+    disk_refusal(files, name).is_none()
+}
+
+// Whether nobody else is lent a new journal while it is out.
+fn is_opened_alone<R: Files<File = File>>(files: &R, name: &str) -> bool {
+    let mut room = FileRoom::new(files);
+    let Ok(disk) = room.fresh(name) else {
+        return false;
+    };
+    let found = refusals(files, name);
+    room.keep(name, disk);
+    found == [None, Some(RoomError::Failed), Some(RoomError::Exists)]
+}
+
+// Why a room failed at a journal, and at a file of tiles, if it did.
+fn causes<R: Files<File = File>>(files: &R, name: &str) -> [Cause; 2] {
+    let mut room = FileRoom::new(files);
+    if let Ok(disk) = room.disk(name) {
+        room.keep(name, disk);
+    }
+    let of_journal = room.cause();
+    let mut room = FileRoom::new(files);
+    if let Ok(disk) = room.scratch(name) {
+        room.keep(name, disk);
+    }
+    [of_journal, room.cause()]
+}
+
+// Why a room failed at a journal that is locked, and then at a folder that can't be read.
+fn causes_after_lock<R: Files<File = File>>(files: &R, name: &str) -> [Cause; 2] {
+    let mut room = FileRoom::new(files);
+    if let Ok(disk) = room.disk(name) {
+        room.keep(name, disk);
+    }
+    let of_journal = room.cause();
+    if let Ok(mut folder) = room.source(".") {
+        let mut byte = [0];
+        let _ = folder.read(&mut byte);
+        room.done(folder);
+    }
+    [of_journal, room.cause()]
+}
+
+// Whether a file isn't lent that another opening has locked, as a journal or for tiles, and that
+// is reported; once the lock is gone it is lent.
+fn is_refused<R: Files<File = File>>(files: &R, name: &str) -> io::Result<bool> {
+    let other = open_to_write(files, name)?;
+    let is_reported = other.try_lock().is_ok() && !opens(files, name);
+    let locked = causes(files, name) == [Cause::Locked, Cause::Locked]
+        && causes_after_lock(files, name) == [Cause::Locked, Cause::Failed];
+    drop(other);
+    Ok(is_reported && locked && causes(files, name) == [Cause::Failed, Cause::Failed])
+}
+
+// Whether another opening can't lock a file.
+fn is_locked<R: Files<File = File>>(files: &R, name: &str) -> bool {
+    match open_to_write(files, name) {
+        Ok(other) => matches!(other.try_lock(), Err(TryLockError::WouldBlock)),
+        Err(_) => false,
+    }
+}
+
+// Whether it can't while the journal is out.
+fn is_opened_locked<R: Files<File = File>>(files: &R, name: &str) -> bool {
+    let mut room = FileRoom::new(files);
+    let Ok(disk) = room.disk(name) else {
+        return false;
+    };
+    let locked = is_locked(files, name);
+    room.keep(name, disk);
+    locked
+}
+
+#[test]
+fn a_journal_is_opened_once_at_a_time(rt: HostRuntime) -> Result<(), Fail> {
+    let name = "mtc_file_room_lock_test";
+    let _ = fs::remove_file(&rt, name);
+    assert!(rt; is_opened_alone(&rt, name));
+    assert!(rt; opens(&rt, name));
+    assert!(rt; is_refused(&rt, name)?);
+    assert!(rt; is_opened_locked(&rt, name));
+    assert!(rt; opens(&rt, name));
+    fs::remove_file(&rt, name)?;
+    Ok(())
+}

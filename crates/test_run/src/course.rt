@@ -1,0 +1,383 @@
+//! A course: runs of the program over a room, and beside them the steps of the nodes that they
+//! were. Behind each run the room is compared with the states of the history of these steps.
+
+use crate::course_desk::{Desk, Outlet, Ran, WHOLE};
+use crate::course_draws::Draws;
+use crate::course_node::{NODES, Node, secret, starts};
+use crate::course_plans::Plan;
+use crate::course_records::{Text, kept_in, text_of};
+use crate::difference::Difference;
+use mtc_io::Bytes;
+use node_history::{HistoryError, NodeStart, NodeState, NodeStep, history};
+use std::alloc::Global;
+use tree_core::Sha;
+
+/// How many runs and stops ended so: what a node refused, what failed in the device, pending
+/// records that a stop kept and that were gone, records that were settled and not handed out, those
+/// that were handed out in part, and stops of the machine.
+#[derive(Clone, Copy, Debug, PartialEq, Eq)]
+pub struct Tally {
+    pub refused: u64,
+    pub failed: u64,
+    pub kept: u64,
+    pub gone: u64,
+    pub silent: u64,
+    pub cut: u64,
+    pub stops: u64,
+    pub within: u64,
+}
+
+// What a run printed of a record, all of it or its front.
+#[derive(Drop)]
+struct Printed {
+    node: Node,
+    text: Vec<u8>,
+    is_whole: bool,
+}
+
+/// The room, and the steps and states of the nodes.
+pub struct Course {
+    pub alloc: Global,
+    pub draws: Draws,
+    pub desk: Desk,
+    pub tally: Tally,
+    starts: [NodeStart; 2],
+    steps: Vec<NodeStep>,
+    states: Vec<NodeState>,
+    printed: Vec<Printed>,
+}
+
+impl Printed {
+    fn is_of(&self, node: Node) -> bool {
+        self.node == node
+    }
+}
+
+// A drop in one step: a derived one is proved field by field wherever a value is let go.
+impl Drop for Course {
+    fn drop(self) {
+        let Course {
+            alloc: _,
+            draws: _,
+            desk: _,
+            tally: _,
+            starts: _,
+            steps: _,
+            states: _,
+            printed: _,
+        } = self;
+    }
+}
+
+// Places the request of that name.
+fn place_request(desk: &mut Desk, alloc: Global, name: &str) -> Result<(), Difference> {
+    let request = format!(in alloc;
+        "not_before = \"2026-01-01T00:00:00Z\"\nnot_after = \"2026-01-08T00:00:00Z\"\n\
+         dns = [\"{name}.example\"]\n\
+         key = \"MCowBQYDK2VwAyEAAAAAAAAAAAAAAAAAAAAAAAAAAAAAAAAAAAAAAAAAAAA=\"\n"
+    )?;
+    desk.place(name, request.as_bytes())
+}
+
+// Makes both nodes, by two requests and the secret of the cosigner.
+fn make_nodes(desk: &mut Desk, alloc: Global) -> Result<(), Difference> {
+    for name in ["a", "b"] {
+        place_request(desk, alloc, name)?;
+    }
+    desk.place("f", secret())?;
+    for words in [
+        "init-log j 32473.1 2 16",
+        "init-cosigner s 32473.2 32473.1 5 1 f",
+    ] {
+        let status = desk.run(words, WHOLE)?.status;
+        if status != 0 {
+            return Err(Difference::Status(status));
+        }
+    }
+    Ok(())
+}
+
+// Whether the text begins with what is printed, and is all of it where it is whole.
+fn is_printed(printed: &Printed, text: &Text) -> bool {
+    for (found, wanted) in printed.text.iter().zip(text.prefix.as_slice()) {
+        if found != wanted {
+            return false;
+        }
+    }
+    let length = printed.text.len();
+    if printed.is_whole {
+        length == text.length
+    } else {
+        0 < length && length < text.length
+    }
+}
+
+// Whether this was printed of the record that was handed out at this place.
+fn is_handed(
+    alloc: Global,
+    state: &NodeState,
+    place: usize,
+    printed: &Printed,
+) -> Result<bool, Difference> {
+    let Some(number) = state.handed.as_slice().get(place) else {
+        return Ok(false);
+    };
+    let Some(bodies) = state.settled.as_slice().get(..*number as usize) else {
+        return Ok(false);
+    };
+    let text = text_of(alloc, bodies)?;
+    Ok(is_printed(printed, &text))
+}
+
+impl Course {
+    // A room without a file.
+    fn new(alloc: Global, seed: u64, tally: Tally) -> Result<Course, Difference> {
+        let starts = starts(alloc)?;
+        Ok(Course {
+            alloc,
+            draws: Draws::new(seed),
+            desk: Desk::new(alloc),
+            tally,
+            starts,
+            steps: Vec::new(alloc),
+            states: Vec::new(alloc),
+            printed: Vec::new(alloc),
+        })
+    }
+
+    // Both nodes are made.
+    fn start(&mut self) -> Result<(), Difference> {
+        make_nodes(&mut self.desk, self.alloc)?;
+        self.replay()?;
+        self.compare()
+    }
+
+    /// A room in which both nodes were made.
+    pub fn begin(alloc: Global, seed: u64, tally: Tally) -> Result<Course, Difference> {
+        let mut course = Course::new(alloc, seed, tally)?;
+        course.start()?;
+        Ok(course)
+    }
+
+    /// The state of a node behind the steps so far.
+    pub fn state(&self, node: Node) -> Result<&NodeState, Difference> {
+        match self.states.as_slice().get(node.number() as usize) {
+            Some(state) => Ok(state),
+            None => Err(Difference::Records),
+        }
+    }
+
+    // The states behind the steps so far.
+    fn replay(&mut self) -> Result<(), Difference> {
+        match history::<Sha>(self.alloc, &self.starts, self.steps.as_slice()) {
+            Ok(states) => {
+                self.states = states;
+                Ok(())
+            }
+            Err(HistoryError::NotAStep(number)) => Err(Difference::Step(number)),
+            Err(HistoryError::Memory) => Err(Difference::Memory),
+        }
+    }
+
+    /// A node stops, and is opened again.
+    pub fn restart(&mut self, node: Node, kept: bool) -> Result<(), Difference> {
+        let node = node.number();
+        self.steps.push(NodeStep::Stop { node, kept })?;
+        self.replay()
+    }
+
+    fn push_begin(&mut self, node: Node, body: &[u8]) -> Result<(), Difference> {
+        let body = Bytes::copy_of(self.alloc, body)?;
+        let node = node.number();
+        self.steps.push(NodeStep::Begin { node, body })?;
+        Ok(())
+    }
+
+    /// Begins a record behind a stop, if the rules allow it.
+    pub fn begin_record(&mut self, node: Node, body: &[u8]) -> Result<bool, Difference> {
+        self.restart(node, false)?;
+        let number = self.steps.len() as u64;
+        self.push_begin(node, body)?;
+        match self.replay() {
+            Ok(()) => Ok(true),
+            Err(why) if why == Difference::Step(number) => {
+                self.steps.pop();
+                Ok(false)
+            }
+            Err(why) => Err(why),
+        }
+    }
+
+    // The record is settled, and nothing of it was printed.
+    fn settle_silently(&mut self, node: Node, is_whole: bool) -> Result<(), Difference> {
+        let node = node.number();
+        self.steps.push(NodeStep::Settle { node })?;
+        self.tally.silent = self.tally.silent.saturating_add(1);
+        if is_whole {
+            Err(Difference::Printed)
+        } else {
+            Ok(())
+        }
+    }
+
+    // The record is settled and handed out.
+    fn hand(&mut self, node: Node, is_whole: bool) -> Result<(), Difference> {
+        if !is_whole {
+            self.tally.cut = self.tally.cut.saturating_add(1);
+        }
+        let node = node.number();
+        self.steps.push(NodeStep::Settle { node })?;
+        self.steps.push(NodeStep::Hand { node })?;
+        Ok(())
+    }
+
+    // The record is settled, and handed out if a byte of it was printed.
+    fn settle(&mut self, node: Node, text: Vec<u8>, is_whole: bool) -> Result<(), Difference> {
+        if text.is_empty() {
+            return self.settle_silently(node, is_whole);
+        }
+        self.printed.push(Printed {
+            node,
+            text,
+            is_whole,
+        })?;
+        self.hand(node, is_whole)
+    }
+
+    // How a run ended. Where its device failed, the record stays pending.
+    fn end(&mut self, node: Node, allowed: bool, ran: Ran) -> Result<(), Difference> {
+        match (ran.status, allowed) {
+            (0, true) => self.settle(node, ran.out, true),
+            (6, true) => self.settle(node, ran.out, false),
+            (5, _) if ran.out.is_empty() => {
+                self.tally.failed = self.tally.failed.saturating_add(1);
+                Ok(())
+            }
+            (4 | 9, false) if ran.out.is_empty() => {
+                self.tally.refused = self.tally.refused.saturating_add(1);
+                Ok(())
+            }
+            (status, _) => Err(Difference::Status(status)),
+        }
+    }
+
+    // Whether a file has the records of a node's state, with the pending one or without it.
+    fn is_of(&self, node: Node, bytes: &[u8]) -> Result<bool, Difference> {
+        Ok(kept_in(self.alloc, bytes, node, self.state(node)?)?.is_some())
+    }
+
+    fn compare_image(&mut self, node: Node) -> Result<(), Difference> {
+        let pick = self.draws.below(65_536);
+        let image = self.desk.image(node.file(), pick)?;
+        if self.is_of(node, image.as_slice())? {
+            Ok(())
+        } else {
+            Err(Difference::Image)
+        }
+    }
+
+    // The records of a node's journal are those of its state, with the pending one or without it;
+    // and so are those of some images that a crash may leave.
+    fn compare_records(&mut self, node: Node) -> Result<(), Difference> {
+        if !self.is_of(node, self.desk.bytes(node.file())?)? {
+            return Err(Difference::Records);
+        }
+        for _ in 0..4 {
+            self.compare_image(node)?;
+        }
+        Ok(())
+    }
+
+    // What the runs of a node printed are the records that were handed out.
+    fn compare_printed(&self, node: Node) -> Result<(), Difference> {
+        let state = self.state(node)?;
+        let mut place = 0usize;
+        for printed in &self.printed {
+            if printed.is_of(node) {
+                if !is_handed(self.alloc, state, place, printed)? {
+                    return Err(Difference::Printed);
+                }
+                place = place.saturating_add(1);
+            }
+        }
+        if place == state.handed.len() {
+            Ok(())
+        } else {
+            Err(Difference::Printed)
+        }
+    }
+
+    fn compare(&mut self) -> Result<(), Difference> {
+        for node in NODES {
+            self.compare_records(node)?;
+            self.compare_printed(node)?;
+        }
+        Ok(())
+    }
+
+    // The number of the call that fails, below the limit; or none.
+    fn failing(&mut self, limit: u64, chance: u64) -> Option<u64> {
+        if self.draws.below(chance) == 0 {
+            Some(self.draws.below(limit))
+        } else {
+            None
+        }
+    }
+
+    fn outlet(&mut self) -> Outlet {
+        Outlet {
+            per_call: (self.draws.below(8) as usize).saturating_add(1),
+            failing: self.failing(2, 4),
+        }
+    }
+
+    // Runs a command that adds a record, if the rules allow it: the status.
+    fn run_and_end(
+        &mut self,
+        plan: &Plan,
+        outlet: Outlet,
+        allowed: bool,
+    ) -> Result<u8, Difference> {
+        let ran = self.desk.run(plan.words, outlet)?;
+        let status = ran.status;
+        self.end(plan.node, allowed, ran)?;
+        Ok(status)
+    }
+
+    // Runs a command that adds a record, and compares what it leaves: whether its device failed.
+    fn perform(&mut self, plan: &Plan) -> Result<bool, Difference> {
+        let node = plan.node;
+        let failing = self.failing(10, 3);
+        let outlet = self.outlet();
+        self.desk.renew(node.file(), failing)?;
+        let allowed = self.begin_record(node, plan.body.as_slice())?;
+        let status = self.run_and_end(plan, outlet, allowed)?;
+        if status == 5 && failing.is_none() || status == 6 && outlet.failing.is_none() {
+            return Err(Difference::Status(status));
+        }
+        self.replay()?;
+        self.compare()?;
+        Ok(status == 5)
+    }
+
+    // One run of a command, and a stop behind it where it failed, or by chance; or one in which the
+    // machine stops.
+    fn follow(&mut self, plan: &Plan) -> Result<(), Difference> {
+        if self.draws.below(10) == 0 {
+            return self.stop_within(plan);
+        }
+        if self.perform(plan)? {
+            self.stop_behind(plan.node)
+        } else if self.draws.below(6) == 0 {
+            self.stop_machine()
+        } else {
+            Ok(())
+        }
+    }
+
+    /// The same of a drawn command.
+    pub fn turn(&mut self) -> Result<(), Difference> {
+        let plan = self.plan()?;
+        self.follow(&plan)
+    }
+}

@@ -1,5 +1,0 @@
-use Rattle.tree_core.proofs.Subtrees.{is_subtree_iff}
-use Rattle.tree_core.proofs.laws.subtrees_by_power.Goals as goal
-
-pub returns : goal.returns
-returns c = is_subtree_iff

@@ -1,0 +1,10 @@
+use Rattle.world_core.proofs.Premises.{are_steps, export_steps, have_hashes, was_judged}
+use Rattle.world_core.proofs.laws.law_what_is_read_can_be_audited.Goals as goal
+
+pub returns : goal.returns
+returns c = record {
+  judged = was_judged;
+  read = export_steps;
+  export = are_steps;
+  hashes = have_hashes;
+}

@@ -1,0 +1,7 @@
+use Rattle.world_core.proofs.Walks.{prefix_tested}
+use Rattle.world_core.proofs.prefix.has_prefix.Goals as goal
+
+pub returns : goal.returns
+returns g c =
+    prefix_tested g.H.TreeHash.hash c.args.entries.now c.args.held.now c.eq.result
+    c.list_hash.result c.if-held-entries.false c.list_hash.ensures c.eq.ensures

@@ -1,0 +1,14 @@
+use Rattle.std.proofs.Common.{◌≡◌, ◌≤◌, length}
+use Rattle.world_core.specs.Walk.{held_behind, held_by}
+use Rattle.world_core.proofs.prefix.held_by.Given as goal
+
+-- behind the steps from here on nothing else is held
+pub record Invariant (g : goal.Over) (l : goal.Live-loop-place g) : Type 0 where
+  pub within : l.place ≤ length l.steps
+  pub same : held_behind g.H.TreeHash.hash l.steps l.place ≡ held_by g.H.TreeHash.hash l.steps
+
+abbrev pub invariant-loop-place : goal.invariant-loop-place
+invariant-loop-place g l = Invariant g l
+
+abbrev pub decreases-loop-place : goal.decreases-loop-place
+decreases-loop-place g l = l.place
