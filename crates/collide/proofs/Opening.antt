@@ -44,8 +44,9 @@ opened_some f None p is some = absurd (false≢true (sym (ap is_some is) ∙ som
 
 -- The texts in an opening, by those of the part.
 
-open_inputs_left : (h : HashFunction) (s e n k : ℕ) (known : Bool) (node z : Hash) (q : List Hash)
-    → 1 < n → k ≡ split_of n → e ≤ k → open_inputs_from_root h s e n known node (z ∷ q)
+pub open_inputs_left : (h : HashFunction) (s e n k : ℕ) (known : Bool) (node z : Hash)
+    (q : List Hash) → 1 < n → k ≡ split_of n → e ≤ k
+    → open_inputs_from_root h s e n known node (z ∷ q)
     ≡ inputs_left z (open_from_root h s e k known node q)
     ++ open_inputs_from_root h s e k known node q
 unfolding open_inputs_from_root
@@ -57,7 +58,7 @@ open_inputs_left h s e n k known node z q more split left =
     ∙ ap (λ k. inputs_left z (open_from_root h s e k known node q)
     ++ open_inputs_from_root h s e k known node q) (sym split)
 
-open_inputs_right : (h : HashFunction) (s e n k a b c : ℕ) (known : Bool) (node z : Hash)
+pub open_inputs_right : (h : HashFunction) (s e n k a b c : ℕ) (known : Bool) (node z : Hash)
     (q : List Hash) → 1 < n → k ≡ split_of n → s ≡ k + a → e ≡ k + b → n ≡ k + c → 0 < b
     → open_inputs_from_root h s e n known node (z ∷ q)
     ≡ inputs_right z (open_from_root h a b c known node q)
@@ -78,7 +79,7 @@ open_inputs_right h s e n k a b c known node z q more split s_is e_is n_is some 
     ∙ ap (λ i. inputs_right z (open_from_root h a b i known node q)
     ++ open_inputs_from_root h a b i known node q) size
 
-open_inputs_over : (h : HashFunction) (s e n k b c : ℕ) (known : Bool) (node z : Hash)
+pub open_inputs_over : (h : HashFunction) (s e n k b c : ℕ) (known : Bool) (node z : Hash)
     (q : List Hash) → 1 < n → k ≡ split_of n → s < k → e ≡ k + b → n ≡ k + c → 0 < b → e < n
     → open_inputs_from_root h s e n known node (z ∷ q)
     ≡ inputs_over z (open_from_root h 0 b c false node q)
@@ -96,7 +97,7 @@ open_inputs_over h s e n k b c known node z q more split before e_is n_is some p
     ++ open_inputs_from_root h 0 b i false node q) size
 
 -- an opening's texts turned, since the last hash of a proof is the first from the root down
-turned : (h : HashFunction) (s e n : ℕ) (known : Bool) (node z : Hash) (proof rest : List Hash)
+pub turned : (h : HashFunction) (s e n : ℕ) (known : Bool) (node z : Hash) (proof rest : List Hash)
     → proof ≡ rest ++ z ∷ []
     → open_inputs_of h s e n known node proof
     ≡ open_inputs_from_root h s e n known node (z ∷ reverse rest)
@@ -105,13 +106,13 @@ turned h s e n known node z proof rest is =
     ap (open_inputs_from_root h s e n known node) (ap reverse is ∙ reverse-append rest (z ∷ []))
 
 -- one of the texts in front of those of the part
-prefix_in : (x : Text) (texts prefix more rest : List Text) → texts ≡ prefix ++ rest
+pub prefix_in : (x : Text) (texts prefix more rest : List Text) → texts ≡ prefix ++ rest
     → prefix ≡ x ∷ more → Contains texts x
 prefix_in x texts prefix more rest texts_are prefix_is =
     subst (λ t. Contains t x) (sym (texts_are ∙ ap (λ f. f ++ rest) prefix_is))
     (first_in x (more ++ rest))
 
-rest_in : (texts prefix rest : List Text) (t : Text) → texts ≡ prefix ++ rest → Contains rest t
+pub rest_in : (texts prefix rest : List Text) (t : Text) → texts ≡ prefix ++ rest → Contains rest t
     → Contains texts t
 rest_in texts prefix rest t texts_are within =
     subst (λ all. Contains all t) (sym texts_are) (Contains-append_right prefix rest t within)
