@@ -17,7 +17,7 @@ use Rattle.tree_core.specs.Split.{split_of}
 use Rattle.tree_core.specs.Tree.{leaf_hash, root_of, tree_hash}
 use Rattle.tree_proofs.proofs.Parts.{part-drop, part-length, part-take}
 use Rattle.tree_proofs.specs.Proof.{consistency_proof, proof_of, proof_within}
-use Rattle.tree_proofs.specs.ProofLaws.{IsConsistencyProof}
+use Rattle.tree_proofs.specs.ProofLaws.{IsConsistencyProof, IsRfcProof}
 
 -- an interval that is not the whole of n entries
 pub other-whole : (start end n : ℕ) → (0 < start) ⊎ (end < n) → (eqb start 0 && eqb end n) ≡ false
@@ -250,6 +250,19 @@ IsConsistencyProof_always h = record {
 
     positive : {n : ℕ} (k : ℕ) → IsLargestPowerBelow n k → 0 < k
     positive k is = let some = pow_pos is.power.0 in let power = is.power.1 in omega arith
+
+-- The same of the first entries of a list.
+pub IsRfcProof_always : (h : List ℕ → List ℕ) → IsRfcProof h
+IsRfcProof_always h =
+    let is = IsConsistencyProof_always h in
+    record {
+      known = is.known;
+      whole = is.whole;
+      left = λ entries m k known largest some within.
+          is.left entries 0 m k known largest some within;
+      right = λ entries m k known largest behind part.
+          is.over entries m k known largest behind part;
+    }
 
 -- The proof in a part of a list, by the halves of its interval.
 

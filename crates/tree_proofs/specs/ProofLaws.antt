@@ -34,6 +34,31 @@ pub record IsConsistencyProof (h : HashFunction) : Type 0 where
       → consistency_proof h 0 end known entries
       ≡ consistency_proof h 0 (end - k) false (drop k entries) ++ tree_hash h (take k entries) ∷ []
 
+-- SUBPROOF(m, D[n], known) of RFC 9162 (section 2.1.4.1): the consistency proof of the first m
+-- entries, for a reader who knows their tree hash or not. PROOF(m, D[n]), for 0 < m < n, is the one
+-- for a reader who knows it.
+abbrev pub subproof : HashFunction → ℕ → List Text → Bool → List Hash
+subproof h m entries known = consistency_proof h 0 m known entries
+
+-- The section's clauses. Of the whole list there is no hash where the reader knows its tree hash,
+-- and else that one. Of fewer entries, for k the largest power of two below the list's number:
+-- where m ≤ k, it is the proof in the first k and then the tree hash of the rest; where m > k, the
+-- proof of m - k in the rest, for a reader who doesn't know their tree hash, and then the tree hash
+-- of the first k.
+pub record IsRfcProof (h : HashFunction) : Type 0 where
+  pub known : (entries : List Text) → 0 < length entries
+      → subproof h (length entries) entries true ≡ []
+  pub whole : (entries : List Text) → 0 < length entries
+      → subproof h (length entries) entries false ≡ tree_hash h entries ∷ []
+  pub left : (entries : List Text) (m k : ℕ) (known : Bool)
+      → IsLargestPowerBelow (length entries) k → 0 < m → m ≤ k
+      → subproof h m entries known
+      ≡ subproof h m (take k entries) known ++ tree_hash h (drop k entries) ∷ []
+  pub right : (entries : List Text) (m k : ℕ) (known : Bool)
+      → IsLargestPowerBelow (length entries) k → k < m → m < length entries
+      → subproof h m entries known
+      ≡ subproof h (m - k) (drop k entries) false ++ tree_hash h (take k entries) ∷ []
+
 -- In a list of entries, for each subtree in it: its consistency proof checks for the tree hash of
 -- the subtree and the one of the list.
 abbrev pub ProofsCheck : HashFunction → Type 0

@@ -1,16 +1,17 @@
 //! The law of consistency proofs: the clauses are the law, and the function does nothing.
 
 ghost use Rattle.byte_formats.specs.Types.{HashFunction};
-ghost use Rattle.tree_proofs.specs.ProofLaws.{IsConsistencyProof, PassesWhereChecks, ProofsCheck};
-ghost use Rattle.tree_proofs.specs.ProofLaws.{WrongLengthByProof};
+ghost use Rattle.tree_proofs.specs.ProofLaws.{IsConsistencyProof, IsRfcProof, PassesWhereChecks};
+ghost use Rattle.tree_proofs.specs.ProofLaws.{ProofsCheck, WrongLengthByProof};
 
 /// The law of consistency proofs, for every hash function: the proof of an interval by the split of
-/// its list (the draft on Merkle Tree Certificates, where it makes subtree consistency proofs).
-/// That of a subtree checks for the tree hashes of the subtree and of the list, a proof passes
-/// exactly where it checks, and the answer is `WrongLength` exactly where the proof is not as long
-/// as the made one.
+/// its list (the draft on Merkle Tree Certificates, where it makes subtree consistency proofs). Of
+/// the first entries of a list it is the proof of RFC 9162 (section 2.1.4.1). That of a subtree
+/// checks for the tree hashes of the subtree and of the list, a proof passes exactly where it
+/// checks, and the answer is `WrongLength` exactly where the proof is not as long as the made one.
 pub fn law_consistency_proofs_check()
     ensures proof { (h : HashFunction) → IsConsistencyProof h }
+    ensures rfc { (h : HashFunction) → IsRfcProof h }
     ensures checks { (h : HashFunction) → ProofsCheck h }
     ensures passes { (h : HashFunction) → PassesWhereChecks h }
     ensures wrong_length { (h : HashFunction) → WrongLengthByProof h }

@@ -40,14 +40,15 @@ impl Path {
         &self.hashes[..self.length]
     }
 
-    pub(crate) fn clear(&mut self)
+    /// Removes all hashes.
+    pub fn clear(&mut self)
         ensures { self.new ≡ [] }
     {
         self.length = 0;
     }
 
-    // Puts a hash behind the others.
-    pub(crate) fn push(&mut self, hash: &[u8; 32])
+    /// Appends a hash to fewer than 128.
+    pub fn push(&mut self, hash: &[u8; 32])
         requires { length self.old < 128 }
         ensures { self.new ≡ self.old ++ hash.now ∷ [] }
     {
