@@ -7,7 +7,7 @@ use Rattle.std.proofs.lemmas.Bool.{eq-eqb, leb-false, lt-ltb, not-false}
 use Rattle.std.specs.Str.{bytes_eq}
 use Rattle.byte_formats.specs.Types.{HashFunction, Text}
 use Rattle.tree_core.specs.Subtree.{is_subtree}
-use Rattle.cosigner_core.specs.Checkpoints.{has_subtree, is_prefix_of}
+use Rattle.tree_proofs.specs.Checkpoints.{has_subtree, is_prefix_of}
 use Rattle.cosigner_core.specs.Folds.{CosignerState, after_step, cosigner_of, having_signed}
 use Rattle.cosigner_core.specs.Folds.{holding}
 use Rattle.cosigner_core.specs.Folds.{key_count}

@@ -6,10 +6,10 @@ use Rattle.std.proofs.lemmas.Bool.{and_parts, eqb-true, ltb-true}
 use Rattle.byte_formats.specs.Types.{HashFunction, Text}
 use Rattle.byte_formats.specs.Readings.{some_or}
 use Rattle.byte_formats.proofs.Steps.{bind_ok, ok_is, some_or_ok}
+use Rattle.tree_proofs.specs.Checkpoints.{has_subtree, is_prefix_of}
 use Rattle.hss_core.specs.Counted.{Counted}
 use Rattle.journal_core.specs.Folds.{state_behind, taken_from}
 use Rattle.lms_core.specs.Heights.{height}
-use Rattle.cosigner_core.specs.Checkpoints.{has_subtree, is_prefix_of}
 use Rattle.cosigner_core.specs.Counts.{CountsUp, index_before, indices_in, indices_of}
 use Rattle.cosigner_core.specs.Folds.{CosignerState, after_step, begun_cosigner, cosigner_fold}
 use Rattle.cosigner_core.specs.Folds.{cosigner_of}

@@ -3,15 +3,15 @@
 use Rattle.std.specs.Prelude.{ℕ, ◌+◌, ◌^◌, List, Option, Some, None, option_map, option_and_then}
 use Rattle.std.specs.Prelude.{Result, if◌then◌else◌}
 use Rattle.byte_formats.specs.Types.{Hash, HashFunction, Text}
+use Rattle.tree_proofs.specs.Checkpoints.{empty_checkpoint}
+use Rattle.tree_proofs.specs.declared.checkpoint.Checkpoint.{Checkpoint}
 use Rattle.journal_core.specs.Folds.{Fold, state_behind}
 use Rattle.hss_core.specs.Counted.{Counted}
 use Rattle.lms_core.specs.Heights.{height}
 use Rattle.lms_core.specs.Trees.{private_key}
-use Rattle.cosigner_core.specs.Checkpoints.{empty_checkpoint}
 use Rattle.cosigner_core.specs.Progress.{is_allowed, with_step}
 use Rattle.cosigner_core.specs.Records.{cosigner_in, step_in}
 use Rattle.cosigner_core.specs.declared.step.Step.{Step}
-use Rattle.cosigner_core.specs.declared.checkpoint.Checkpoint.{Checkpoint}
 use Rattle.cosigner_core.specs.declared.error.CosignerOpenError.{CosignerOpenError}
 use Rattle.cosigner_core.specs.declared.error.CosignerOpenError.TheVariants.{BadRecord, Open}
 use Rattle.cosigner_core.specs.declared.progress.Progress.{Progress}

@@ -1,4 +1,3 @@
-pub mod Checkpoints
 pub mod Counts
 pub mod ExportReading
 pub mod Exports

@@ -3,7 +3,7 @@
 use Rattle.std.specs.Prelude.{ℕ, ◌+◌, ◌==◌, ◌&&◌, nat_lt, Bool, List, [], ◌∷◌, Option, Some, None}
 use Rattle.std.specs.Prelude.{option_map, option_and_then, is_some, if◌then◌else◌}
 use Rattle.byte_formats.specs.Types.{HashFunction, Text}
-use Rattle.cosigner_core.specs.Checkpoints.{empty_checkpoint, has_subtree, is_prefix_of}
+use Rattle.tree_proofs.specs.Checkpoints.{empty_checkpoint, has_subtree, is_prefix_of}
 use Rattle.cosigner_core.specs.Records.{step_in}
 use Rattle.cosigner_core.specs.declared.progress.Progress.{Progress}
 use Rattle.cosigner_core.specs.declared.step.Step.{Step}

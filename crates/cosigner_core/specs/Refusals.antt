@@ -6,7 +6,7 @@ use Rattle.byte_formats.specs.Types.{HashFunction, Text}
 use Rattle.journal_core.specs.Format.{most_bytes}
 use Rattle.journal_core.specs.declared.error.AppendError.TheVariants as append_error
 use Rattle.tree_core.specs.Subtree.{is_subtree}
-use Rattle.cosigner_core.specs.Checkpoints.{has_subtree, is_prefix_of}
+use Rattle.tree_proofs.specs.Checkpoints.{has_subtree, is_prefix_of}
 use Rattle.cosigner_core.specs.Folds.{CosignerState, key_count}
 use Rattle.cosigner_core.specs.Records.{advance_record, sign_record}
 use Rattle.cosigner_core.specs.Requests.{AdvanceParts, SubtreeParts}

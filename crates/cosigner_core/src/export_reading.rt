@@ -12,7 +12,7 @@ ghost use Rattle.cosigner_core.specs.Views.{step_said};
 ghost use Rattle.cosigner_core.specs.declared.error.ReadExportError.TheVariants.{Memory as NoCapacity};
 
 use crate::error::ReadExportError;
-use crate::lists::{Export, Hashes, StepList};
+use crate::lists::{Export, StepList};
 use crate::progress::Progress;
 use crate::record::read_step;
 use crate::step::{Step, StepRef};
@@ -21,6 +21,7 @@ use mtc_io::Memory;
 use std::alloc::Global;
 use tls_wire::{AnchorBytesError, AnchorId, Cursor, Short};
 use tree_core::TreeHash;
+use tree_proofs::Hashes;
 
 // The number of one-time keys of a public key of one level, whose tree has height 5 or 10.
 #[tactic(auto, unfolding(crate::specs::ExportReading::signing_keys))]

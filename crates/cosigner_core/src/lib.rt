@@ -17,7 +17,6 @@
 //! Requests are bytes in the presentation language of TLS (RFC 8446, section 3).
 #![tactic(auto)]
 
-mod checkpoint;
 mod contents;
 mod cosigner;
 mod creation;
@@ -39,7 +38,6 @@ mod step;
 mod step_record;
 mod writing;
 
-pub use checkpoint::Checkpoint;
 pub use cosigner::Cosigner;
 pub use creation::{create, pack};
 pub use error::{CosignError, CosignerOpenError, ReadExportError};
@@ -47,10 +45,11 @@ pub use export_reading::read_export;
 pub use fault::FormError;
 pub use following::may_follow;
 pub use journal_core::CopyError as ExportError;
-pub use lists::{Export, Hashes, StepList};
+pub use lists::{Export, StepList};
 pub use progress::Progress;
 pub use reading::{read_advance, read_subtree};
 pub use requests::{AdvanceRequest, SubtreeRequest};
 pub use settings::CosignerSettings;
 pub use step::Step;
+pub use tree_proofs::{Checkpoint, Hashes};
 pub use writing::{write_advance, write_subtree};

@@ -4,9 +4,9 @@ ghost use Rattle.std.specs.Prelude.{◌≡◌};
 ghost use Rattle.cosigner_core.specs.Progress.{first_progress, progress_after};
 ghost use Rattle.cosigner_core.specs.Views.{step_said};
 
-use crate::checkpoint::Checkpoint;
 use crate::step::StepRef;
 use tree_core::TreeHash;
+use tree_proofs::Checkpoint;
 
 /// What a cosigner holds of its log, and the number of the one-time key that signs next.
 #[derive(Clone, Copy, Debug)]

@@ -10,7 +10,6 @@ ghost use Rattle.cosigner_core.specs.Refusals.{IsOfRequest, advance_refusal, sub
 ghost use Rattle.cosigner_core.specs.Signatures.{signature_by};
 ghost use Rattle.cosigner_core.specs.Views.{advance_parts, subtree_parts};
 
-use crate::checkpoint::Checkpoint;
 use crate::error::CosignError;
 use crate::requests::{AdvanceRequest, SubtreeRequest};
 use crate::settings::CosignerSettings;
@@ -20,6 +19,7 @@ use mtc_proof::{InputBuf, signature_input};
 use std::marker::Model;
 use tls_wire::AnchorId;
 use tree_core::{TreeHash, subtree_ok};
+use tree_proofs::Checkpoint;
 
 /// The settings of a cosigner, what it holds of its log, and its key, which counts.
 #[derive(Drop)]

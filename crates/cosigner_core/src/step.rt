@@ -1,6 +1,6 @@
 //! What the records of a cosigner's journal say behind the first one.
 
-use crate::lists::Hashes;
+use tree_proofs::Hashes;
 
 /// A step of a cosigner: what a record behind the first one says.
 #[derive(Debug, Drop)]

@@ -5,8 +5,8 @@ use Rattle.std.specs.List.{sum_by}
 use Rattle.std.proofs.lemmas.List.Sums.{sum_by-cons}
 use Rattle.byte_formats.specs.Types.{HashFunction}
 use Rattle.tree_core.specs.declared.hashing.TreeHash.{Ghosts as Hashes}
+use Rattle.tree_proofs.specs.Checkpoints.{empty_checkpoint}
 use Rattle.issuance_log.specs.Folds.{new_log}
-use Rattle.cosigner_core.specs.Checkpoints.{empty_checkpoint}
 use Rattle.cosigner_core.specs.Folds.{CosignerState, new_cosigner}
 use Rattle.policy_core.specs.declared.cosigners.Known.{Known}
 use Rattle.drill_nodes.specs.CosignerNodes.{cosigner_settings, secret_of}

@@ -7,8 +7,8 @@ use Rattle.std.proofs.lemmas.List.Sums.{sum_by-cons}
 use Rattle.byte_formats.specs.Types.{HashFunction, Text}
 use Rattle.disk_core.specs.declared.memory.mem_disk.MemDisk.{MemDisk}
 use Rattle.tree_core.specs.declared.hashing.TreeHash.{Ghosts as Hashes}
+use Rattle.tree_proofs.specs.declared.checkpoint.Checkpoint.{Checkpoint}
 use Rattle.issuance_log.specs.Folds.{LogState}
-use Rattle.cosigner_core.specs.declared.checkpoint.Checkpoint.{Checkpoint}
 use Rattle.drill_nodes.specs.CosignerViews.{IsDiskOf, cosigner_shown, records_shown}
 use Rattle.drill_nodes.specs.Cosigners.{Paired, keys_used}
 use Rattle.drill_nodes.specs.Disks.{records_on, signs_on}

@@ -7,12 +7,12 @@ use Rattle.std.specs.List.{AllByRecursion, IsDistinct, flat_map, list_any}
 use Rattle.std.specs.Option.{is_none}
 use Rattle.byte_formats.specs.Types.{Hash, HashFunction, Text}
 use Rattle.tree_core.specs.Tree.{tree_hash}
+use Rattle.tree_proofs.specs.declared.checkpoint.Checkpoint.{Checkpoint}
 use Rattle.lms_core.specs.declared.private_key.PrivateKey.{PrivateKey}
 use Rattle.hss_core.specs.Hss.{Verifies, one_level_public}
 use Rattle.mtc_proof.specs.Inputs.{signed_text}
 use Rattle.mtc_proof.specs.Proofs.{IsMtcSignature, ProofParts, SigParts, signature_text}
 use Rattle.cosigner_core.specs.Folds.{CosignerState}
-use Rattle.cosigner_core.specs.declared.checkpoint.Checkpoint.{Checkpoint}
 use Rattle.policy_core.specs.Counting.{counted, counts, has_signed, is_signature_of}
 use Rattle.policy_core.specs.Stores.{IsValid}
 use Rattle.policy_core.specs.Acceptance.{accepted_by}

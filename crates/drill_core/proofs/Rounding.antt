@@ -9,10 +9,10 @@ use Rattle.std.specs.Option.{is_some}
 use Rattle.byte_formats.specs.Types.{HashFunction, Text}
 use Rattle.tree_core.specs.Tree.{tree_hash}
 use Rattle.tree_core.specs.declared.hashing.TreeHash.{Ghosts as Hashes}
+use Rattle.tree_proofs.specs.declared.checkpoint.Checkpoint.{Checkpoint}
 use Rattle.mtc_proof.specs.Proofs.{SigParts}
 use Rattle.issuance_log.specs.Folds.{LogState}
 use Rattle.cosigner_core.specs.Words.{cosigner_disk}
-use Rattle.cosigner_core.specs.declared.checkpoint.Checkpoint.{Checkpoint}
 use Rattle.policy_core.specs.Judgement.{judgement}
 use Rattle.policy_core.specs.declared.store.Store.{Store}
 use Rattle.drill_nodes.specs.CosignerNodes.{IsCosignerDisk}

@@ -21,6 +21,7 @@ use Rattle.tree_core.specs.Evaluation.{evaluation}
 use Rattle.tree_core.specs.Path.{part_of}
 use Rattle.tree_core.specs.Tree.{leaf_hash, tree_hash}
 use Rattle.tree_proofs.proofs.Parts.{part_of-zero}
+use Rattle.tree_proofs.specs.declared.checkpoint.Checkpoint.{Checkpoint}
 use Rattle.cert_fields.specs.Certificate.{Parts, parts_of}
 use Rattle.cert_fields.proofs.CertificateForm.{parts_again}
 use Rattle.log_entry.specs.EntryOf.{entry_of}
@@ -42,7 +43,6 @@ use Rattle.policy_core.specs.declared.store.Store.{Store}
 use Rattle.cosigner_core.specs.ExportReading.{export_of, signing_keys}
 use Rattle.cosigner_core.specs.Folds.{CosignerState, cosigner_of, progress_of}
 use Rattle.cosigner_core.specs.Progress.{first_progress, progress_by, steps_in}
-use Rattle.cosigner_core.specs.declared.checkpoint.Checkpoint.{Checkpoint}
 use Rattle.cosigner_core.specs.declared.lists.Export.{Export}
 use Rattle.cosigner_core.specs.declared.step.Step.{Step}
 use Rattle.cosigner_core.specs.declared.step.Step.TheVariants.{Sign}

@@ -12,13 +12,13 @@ use Rattle.policy_core.specs.declared.store.Store.{Store}
 use Rattle.entry_list.specs.Items.{ItemLists}
 use Rattle.cosigner_core.specs.Folds.{CosignerState}
 use Rattle.cosigner_core.specs.Words.{cosigner_disk}
-use Rattle.cosigner_core.specs.declared.checkpoint.Checkpoint.{Checkpoint}
 use Rattle.drill_nodes.specs.CosignerNodes.{IsCosignerDisk}
 use Rattle.drill_nodes.specs.CosignerViews.{IsExportOf, IsStill, cosigner_shown, cosigner_stops}
 use Rattle.drill_nodes.specs.CosignerViews.{records_shown}
 use Rattle.drill_nodes.specs.Cosigners.{HasRecordedAll, IsAdvanced, IsSignatureBy, IsSigned, Paired}
 use Rattle.drill_nodes.specs.Cosigners.{held_first, keys_used, stops_by}
 use Rattle.std.proofs.lemmas.List.Sums.{sum_by-cons}
+use Rattle.tree_proofs.specs.declared.checkpoint.Checkpoint.{Checkpoint}
 use Rattle.drill_nodes.specs.declared.cosigner_node.CosignerNode.{CosignerNode}
 use Rattle.drill_nodes.proofs.CosignerStops.{more_twice}
 use Rattle.drill_core.specs.Audits.{AllByExport, StandsByExport, StandsWith}

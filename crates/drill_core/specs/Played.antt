@@ -8,10 +8,10 @@ use Rattle.lms_core.specs.declared.heights.LmsType.TheVariants.{H5}
 use Rattle.lms_core.specs.Trees.{private_key}
 use Rattle.tree_core.specs.Tree.{tree_hash}
 use Rattle.tree_core.specs.declared.hashing.TreeHash.{Ghosts as Hashes}
+use Rattle.tree_proofs.specs.Checkpoints.{empty_checkpoint}
+use Rattle.tree_proofs.specs.declared.checkpoint.Checkpoint.{Checkpoint}
 use Rattle.issuance_log.specs.Folds.{LogState, with_mark}
-use Rattle.cosigner_core.specs.Checkpoints.{empty_checkpoint}
 use Rattle.cosigner_core.specs.Folds.{CosignerState}
-use Rattle.cosigner_core.specs.declared.checkpoint.Checkpoint.{Checkpoint}
 use Rattle.policy_core.specs.Judgement.{judgement}
 use Rattle.authority_core.specs.Certificates.{IsWritten}
 use Rattle.authority_core.specs.Issues.{issued_log}

@@ -5,10 +5,10 @@ use Rattle.std.specs.Prelude.{nat_lt, not, if◌then◌else◌}
 use Rattle.std.specs.Str.{bytes_eq}
 use Rattle.byte_formats.specs.Types.{HashFunction}
 use Rattle.tree_core.specs.Subtree.{is_subtree}
+use Rattle.tree_proofs.specs.Checkpoints.{has_subtree}
 use Rattle.lms_core.specs.Heights.{height}
 use Rattle.lms_core.specs.declared.heights.LmsType.{LmsType}
 use Rattle.lms_core.specs.declared.heights.LmsType.TheVariants.{H5, H10, H15, H20, H25}
-use Rattle.cosigner_core.specs.Checkpoints.{has_subtree}
 use Rattle.cosigner_core.specs.Folds.{CosignerState, key_count}
 use Rattle.cosigner_core.specs.Refusals.{earlier, subtree_refusal}
 use Rattle.cosigner_core.specs.Requests.{SubtreeParts}

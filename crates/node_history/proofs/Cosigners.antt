@@ -18,7 +18,7 @@ use Rattle.lms_core.specs.declared.heights.LmsType.{LmsType}
 use Rattle.lms_core.specs.declared.heights.LmsType.TheVariants.{H5, H10, H15, H20, H25}
 use Rattle.tls_wire.specs.Encoding.{vector}
 use Rattle.tree_core.specs.Subtree.{is_subtree}
-use Rattle.cosigner_core.specs.Checkpoints.{has_subtree}
+use Rattle.tree_proofs.specs.Checkpoints.{has_subtree}
 use Rattle.cosigner_core.specs.Counts.{index_before, indices_in, indices_of}
 use Rattle.cosigner_core.specs.Exports.{export_text, prefix_text, records_text}
 use Rattle.cosigner_core.specs.Folds.{CosignerState, after_step, begun_cosigner, cosigner_fold}

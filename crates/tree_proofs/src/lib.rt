@@ -20,8 +20,10 @@
 #![tactic(auto)]
 
 mod checking;
+mod checkpoint;
 mod consistency;
 mod error;
+mod hashes;
 mod inclusion;
 pub mod laws;
 mod leaves;
@@ -32,8 +34,10 @@ mod paths;
 mod tree;
 
 pub use checking::check;
+pub use checkpoint::Checkpoint;
 pub use consistency::consist;
 pub use error::ConsistError;
+pub use hashes::Hashes;
 pub use inclusion::include;
 pub use leaves::Listed;
 pub use nodes::{Nodes, node_of};

@@ -11,8 +11,8 @@ use Rattle.tree_core.specs.Tree.{tree_hash}
 use Rattle.tree_proofs.specs.Consistency.{Checks}
 use Rattle.tree_proofs.proofs.Fulls.{some_in}
 use Rattle.tree_proofs.proofs.Parts.{part_of-take, part_of-zero}
+use Rattle.tree_proofs.specs.declared.checkpoint.Checkpoint.{Checkpoint}
 use Rattle.cosigner_core.specs.Progress.{first_progress}
-use Rattle.cosigner_core.specs.declared.checkpoint.Checkpoint.{Checkpoint}
 use Rattle.cosigner_core.specs.declared.step.Step.{Step}
 use Rattle.cosigner_core.specs.declared.step.Step.TheVariants.{Advance, Sign}
 use Rattle.collide.specs.Extraction.{HasCollision}

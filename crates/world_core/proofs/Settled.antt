@@ -26,6 +26,7 @@ use Rattle.tree_core.specs.Path.{part_of}
 use Rattle.tree_core.specs.Subtree.{is_subtree}
 use Rattle.tree_core.specs.Tree.{leaf_hash, tree_hash}
 use Rattle.tree_proofs.proofs.Parts.{part_of-zero}
+use Rattle.tree_proofs.specs.declared.checkpoint.Checkpoint.{Checkpoint}
 use Rattle.log_entry.specs.EntryOf.{entry_of}
 use Rattle.log_entry.specs.Matching.{holds, matches}
 use Rattle.log_entry.specs.Reading.{entry_in}
@@ -34,7 +35,6 @@ use Rattle.entry_list.specs.Items.{ItemLists, has_key, is_key_of}
 use Rattle.cert_fields.specs.Keys.{is_public_key}
 use Rattle.mtc_proof.specs.Proofs.{ProofParts}
 use Rattle.mtc_proof.specs.Reading.{proof_in}
-use Rattle.cosigner_core.specs.declared.checkpoint.Checkpoint.{Checkpoint}
 use Rattle.cosigner_core.specs.declared.lists.Export.{Export}
 use Rattle.cosigner_core.specs.declared.step.Step.{Step}
 use Rattle.cosigner_core.specs.declared.step.Step.TheVariants.{Advance, Sign}

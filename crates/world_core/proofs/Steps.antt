@@ -13,10 +13,10 @@ use Rattle.byte_formats.specs.Types.{Hash, HashFunction, Text}
 use Rattle.byte_formats.proofs.Steps.{chosen}
 use Rattle.tree_proofs.specs.Consistency.{Checks, consistency}
 use Rattle.tree_proofs.proofs.Checked.{PassesWhereChecks_always}
-use Rattle.cosigner_core.specs.Checkpoints.{empty_checkpoint, is_prefix_of}
+use Rattle.tree_proofs.specs.Checkpoints.{empty_checkpoint, is_prefix_of}
+use Rattle.tree_proofs.specs.declared.checkpoint.Checkpoint.{Checkpoint}
 use Rattle.cosigner_core.specs.Progress.{first_progress, is_allowed, progress_by}
 use Rattle.cosigner_core.specs.Progress.{with_step}
-use Rattle.cosigner_core.specs.declared.checkpoint.Checkpoint.{Checkpoint}
 use Rattle.cosigner_core.specs.declared.progress.Progress.{Progress}
 use Rattle.cosigner_core.specs.declared.step.Step.{Step}
 use Rattle.cosigner_core.specs.declared.step.Step.TheVariants.{Advance, Sign}

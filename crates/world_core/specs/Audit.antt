@@ -10,11 +10,11 @@ use Rattle.cert_fields.specs.Certificate.{Parts}
 use Rattle.cert_fields.specs.Grammar.{IsCertificate}
 use Rattle.tree_core.specs.Path.{part_of}
 use Rattle.tree_core.specs.Tree.{tree_hash}
+use Rattle.tree_proofs.specs.declared.checkpoint.Checkpoint.{Checkpoint}
 use Rattle.log_entry.specs.EntryOf.{entry_of}
 use Rattle.entry_list.specs.Items.{ItemLists}
 use Rattle.mtc_proof.specs.Proofs.{ProofParts}
 use Rattle.mtc_proof.specs.Reading.{proof_in}
-use Rattle.cosigner_core.specs.declared.checkpoint.Checkpoint.{Checkpoint}
 use Rattle.cosigner_core.specs.declared.step.Step.{Step}
 use Rattle.cosigner_core.specs.declared.step.Step.TheVariants.{Advance, Sign}
 use Rattle.policy_core.specs.Counting.{is_in_set}

@@ -4,12 +4,12 @@ use Rattle.std.specs.List.{flat_map}
 use Rattle.byte_formats.specs.Types.{HashFunction, Text}
 use Rattle.tree_core.specs.Tree.{tree_hash}
 use Rattle.tree_core.specs.Path.{part_of}
+use Rattle.tree_proofs.specs.declared.checkpoint.Checkpoint.{Checkpoint}
 use Rattle.collide.specs.Extraction.{IsCollision}
 use Rattle.collide.specs.Inputs.{inputs_of, open_inputs_of}
 use Rattle.collide.specs.declared.finding.Finding.{Finding}
 use Rattle.collide.specs.declared.finding.Finding.TheVariants.{Pair, Same}
 use Rattle.cosigner_core.specs.Progress.{first_progress, progress_by, with_step}
-use Rattle.cosigner_core.specs.declared.checkpoint.Checkpoint.{Checkpoint}
 use Rattle.cosigner_core.specs.declared.progress.Progress.{Progress}
 use Rattle.cosigner_core.specs.declared.step.Step.{Step}
 use Rattle.cosigner_core.specs.declared.step.Step.TheVariants.{Advance, Sign}

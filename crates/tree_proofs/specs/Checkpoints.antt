@@ -1,14 +1,14 @@
--- What a cosigner holds of its log, and what a consistency proof shows of it.
+-- A list's size and tree hash, and what a consistency proof shows of it.
 use Rattle.std.specs.Prelude.{ℕ, ◌==◌, Bool, List, [], length, is_ok, if◌then◌else◌}
 use Rattle.byte_formats.specs.Types.{Hash, HashFunction}
+use Rattle.tree_proofs.specs.declared.checkpoint.Checkpoint.{Checkpoint}
 use Rattle.tree_proofs.specs.Consistency.{consistency}
-use Rattle.cosigner_core.specs.declared.checkpoint.Checkpoint.{Checkpoint}
 
 -- of no entries, whose tree hash is that of no bytes
 abbrev pub empty_checkpoint : HashFunction → Checkpoint
 empty_checkpoint h = record { size = 0; root = h [] }
 
--- The entries that are held are the first ones of the log with this size and root, by this proof.
+-- The entries that are held are the first ones of the list with this size and root, by this proof.
 -- Of no entries it is the proof of no hashes.
 abbrev pub is_prefix_of : HashFunction → Checkpoint → ℕ → Hash → List Hash → Bool
 is_prefix_of h held size root proof =

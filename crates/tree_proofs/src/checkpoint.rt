@@ -1,12 +1,12 @@
-//! What a cosigner holds of its log.
+//! The size and the tree hash of a list, and what a proof shows of it.
 
 ghost use Rattle.std.specs.Prelude.{◌≡◌, ◌≤◌, true, length};
-ghost use Rattle.cosigner_core.specs.Checkpoints.{empty_checkpoint, has_subtree, is_prefix_of};
+ghost use Rattle.tree_proofs.specs.Checkpoints.{empty_checkpoint, has_subtree, is_prefix_of};
 
+use crate::check;
 use tree_core::TreeHash;
-use tree_proofs::check;
 
-/// The number of entries of a log at some time, and their tree hash.
+/// The number of entries of a list, and their tree hash.
 #[derive(Clone, Copy, Debug)]
 pub struct Checkpoint {
     pub size: u64,
@@ -14,7 +14,7 @@ pub struct Checkpoint {
 }
 
 impl Checkpoint {
-    /// The checkpoint of a log without entries.
+    /// The checkpoint of a list without entries.
     pub fn empty<H: TreeHash>() -> Checkpoint
         ensures { result ≡ empty_checkpoint H.hash }
     {
@@ -24,14 +24,9 @@ impl Checkpoint {
         }
     }
 
-    /// The proof shows that these entries are the first ones of the log that has this size and
+    /// The proof shows that these entries are the first ones of the list that has this size and
     /// root. For no entries it is the proof of no hashes.
-    pub(crate) fn is_prefix_of<H: TreeHash>(
-        &self,
-        size: u64,
-        root: &[u8; 32],
-        proof: &[[u8; 32]],
-    ) -> bool
+    pub fn is_prefix_of<H: TreeHash>(&self, size: u64, root: &[u8; 32], proof: &[[u8; 32]]) -> bool
         ensures exact { result ≡ is_prefix_of H.hash self.now size root.now proof.now }
         ensures short { result ≡ true → length proof.now ≤ 65 }
     {
@@ -42,7 +37,7 @@ impl Checkpoint {
     }
 
     /// The proof shows that this is the hash of a subtree of these entries.
-    pub(crate) fn has_subtree<H: TreeHash>(
+    pub fn has_subtree<H: TreeHash>(
         &self,
         start: u64,
         end: u64,
