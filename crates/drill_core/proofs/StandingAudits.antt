@@ -53,7 +53,7 @@ use Rattle.world_core.specs.Audit.{WasJudged, is_counted, is_counted_as, is_reco
 use Rattle.world_core.specs.Audit.{is_sign_of, foreign_in, of_checkpoint, some_place}
 use Rattle.world_core.specs.Walk.{held_by}
 use Rattle.world_core.proofs.Premises.{held_at_last}
-use Rattle.world_core.proofs.Durable.{eval_inside, judged_path}
+use Rattle.world_core.proofs.Settled.{eval_inside, judged_path}
 use Rattle.drill_core.specs.Audits.{StandsWith}
 use Rattle.drill_nodes.specs.CosignerNodes.{HasSign, secret_of}
 use Rattle.drill_nodes.specs.Ids.{drill_log_id, id_of}
