@@ -41,7 +41,7 @@ STANDARDS = {
     "journals, records, lists and exports ([FORMATS](FORMATS.md))": ("journal_core", "issuance_log", "cosigner_core", "entry_list"),
     "words and answers ([COMMANDS](COMMANDS.md))": ("mtc_words", "mtc_command", "mtc_reads", "mtc_authority", "mtc_cosigner", "mtc_monitor",
                                                "mtc_drill"),
-    "audits: a list of entries beside what was accepted": ("world_core",),
+    "audits: a list of entries beside what was accepted": ("cosigner_steps", "world_core"),
     "the draft: proofs, stores and judgement, issuing": ("mtc_proof", "policy_core", "authority_core"),
     "RFC 9162 and the draft: trees": ("tree_core", "tree_proofs", "landmarks", "collide"),
     "RFC 5280: certificates and entries": ("cert_time", "cert_fields", "cert_names", "log_entry"),

@@ -48,11 +48,11 @@ use Rattle.cosigner_core.specs.declared.step.Step.{Step}
 use Rattle.cosigner_core.specs.declared.step.Step.TheVariants.{Sign}
 use Rattle.cosigner_core.proofs.ExportAgain.{export_again}
 use Rattle.cosigner_core.proofs.FirstRecords.{then_some}
+use Rattle.cosigner_steps.specs.Steps.{held_by}
 use Rattle.authority_core.specs.Certificates.{parts_with, proof_for}
 use Rattle.world_core.specs.Audit.{WasJudged, is_counted, is_counted_as, is_recorded}
 use Rattle.world_core.specs.Audit.{is_sign_of, foreign_in, of_checkpoint, some_place}
-use Rattle.world_core.specs.Walk.{held_by}
-use Rattle.world_core.proofs.Premises.{held_at_last}
+use Rattle.cosigner_steps.proofs.Holding.{held_at_last}
 use Rattle.world_core.proofs.Settled.{eval_inside, judged_path}
 use Rattle.drill_core.specs.Audits.{StandsWith}
 use Rattle.drill_nodes.specs.CosignerNodes.{HasSign, secret_of}

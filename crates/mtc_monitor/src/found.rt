@@ -5,8 +5,8 @@ ghost use Rattle.cert_fields.specs.Views.{parts};
 ghost use Rattle.mtc_command.specs.Answers.{said};
 ghost use Rattle.mtc_command.specs.Wanted.{Meets};
 ghost use Rattle.mtc_proof.specs.Views.{proof_parts};
+ghost use Rattle.cosigner_steps.specs.Steps.{AreSteps};
 ghost use Rattle.world_core.specs.Audit.{WasJudged};
-ghost use Rattle.world_core.specs.Walk.{AreSteps};
 ghost use Rattle.mtc_monitor.specs.AuditOutcome.{audit_says, case_of};
 ghost use Rattle.mtc_monitor.specs.Views.{accepted_parts, audit_reply};
 

@@ -9,9 +9,9 @@ use Rattle.mtc_room.specs.declared.room.Room.{Ghosts as Rooms}
 use Rattle.entry_list.specs.Items.{AreItems}
 use Rattle.entry_list.proofs.Written.{items_only}
 use Rattle.cosigner_core.specs.declared.lists.Export.{Export}
+use Rattle.cosigner_steps.specs.Steps.{HasPrefix, held_by}
 use Rattle.policy_core.specs.declared.answer.By.TheVariants.{Landmark}
 use Rattle.world_core.specs.Audit.{AuditCase, HasInterval, foreign_of}
-use Rattle.world_core.specs.Walk.{HasPrefix, held_by}
 use Rattle.world_core.proofs.Plain.{by_prefix, by_interval, own_there}
 use Rattle.mtc_command.proofs.Made.{OnlyNow, ReadsImage}
 use Rattle.mtc_top.specs.AuditLaws.{AuditsSettle, IsSignedInCourse, StandsOrCollides, StandsOrPair}

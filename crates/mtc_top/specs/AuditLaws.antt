@@ -14,6 +14,7 @@ use Rattle.cosigner_core.specs.declared.lists.Export.{Export}
 use Rattle.cosigner_core.specs.declared.settings.CosignerSettings.{CosignerSettings}
 use Rattle.cosigner_core.specs.declared.step.Step.TheVariants.{Sign}
 use Rattle.entry_list.specs.Reading.{items_in}
+use Rattle.cosigner_steps.specs.Steps.{HasPrefix, held_by}
 use Rattle.policy_core.specs.Counting.{is_in_set}
 use Rattle.policy_core.specs.Files.{store_of}
 use Rattle.policy_core.specs.declared.answer.By.TheVariants.{Cosigners, Landmark}
@@ -22,7 +23,6 @@ use Rattle.policy_core.specs.declared.store.Store.{Store}
 use Rattle.node_history.specs.declared.start.NodeStart.TheVariants.{Cosigner}
 use Rattle.world_core.specs.Audit.{AuditCase, HasInterval, HasOwn, firsts_of, foreign_of, has_own}
 use Rattle.world_core.specs.Audit.{seconds_of}
-use Rattle.world_core.specs.Walk.{HasPrefix, held_by}
 use Rattle.mtc_command.specs.Steps.{Files}
 use Rattle.mtc_command.specs.Wanted.{IsPair}
 use Rattle.mtc_monitor.specs.AuditOutcome.{collision_text, accepted_in, stands_text}

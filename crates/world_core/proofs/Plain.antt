@@ -13,12 +13,12 @@ use Rattle.log_entry.specs.Entries.{body_text, tbs_text}
 use Rattle.log_entry.specs.EntryOf.{entry_of, tbs_with}
 use Rattle.entry_list.specs.Items.{AreItems}
 use Rattle.cosigner_core.specs.declared.lists.Export.{Export}
+use Rattle.cosigner_steps.specs.Steps.{HasPrefix, held_by}
 use Rattle.policy_core.specs.declared.answer.By.{By}
 use Rattle.policy_core.specs.declared.answer.By.TheVariants.{Cosigners, Landmark}
 use Rattle.world_core.specs.Audit.{AuditCase, HasInterval, HasOwn, foreign_in, foreign_of, has_own}
 use Rattle.world_core.specs.Audit.{hash_there, is_lacking, listed_entry, listed_key, of_checkpoint}
 use Rattle.world_core.specs.Audit.{of_interval, wanted_hash}
-use Rattle.world_core.specs.Walk.{HasPrefix, held_by}
 use Rattle.world_core.specs.declared.wanted.WantedHash.{WantedHash}
 
 -- ---- the list is the one that is wanted

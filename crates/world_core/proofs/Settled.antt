@@ -51,19 +51,21 @@ use Rattle.collide.specs.Inputs.{eval_inputs_of, inputs_of}
 use Rattle.collide.specs.declared.finding.Finding.{Finding}
 use Rattle.collide.specs.declared.finding.Finding.TheVariants.{Pair as Found, Same}
 use Rattle.collide.proofs.Compared.{collision_widened}
+use Rattle.cosigner_steps.specs.Steps.{AreSteps, HasPrefix, IsOfList, IsSign, IsWithin}
+use Rattle.cosigner_steps.specs.Steps.{prefix_inputs}
+use Rattle.cosigner_steps.specs.Steps.{held_behind, held_by}
+use Rattle.cosigner_steps.specs.Steps.{proof_inputs}
 use Rattle.world_core.specs.Audit.{AuditCase, HasInterval, Settles, WasJudged, firsts_of}
 use Rattle.world_core.specs.Audit.{foreign_in, prefix_inputs_of, has_own, hash_there, is_lacking}
 use Rattle.world_core.specs.Audit.{is_sign_of, listed_entry, listed_key, of_checkpoint}
 use Rattle.world_core.specs.Audit.{of_interval, proof_inputs_of}
 use Rattle.world_core.specs.Audit.{IsAudit, IsForeign, SettlesRecorded, foreign_of, is_recorded}
 use Rattle.world_core.specs.Audit.{is_recorded_by, is_supported, seconds_of, wanted_hash}
-use Rattle.world_core.specs.Walk.{AreSteps, HasPrefix, IsOfList, IsSign, IsWithin, prefix_inputs}
-use Rattle.world_core.specs.Walk.{held_behind, held_by}
-use Rattle.world_core.specs.Walk.{proof_inputs}
 use Rattle.world_core.specs.declared.wanted.WantedHash.{WantedHash}
 use Rattle.world_core.specs.declared.answer.Audit.{Audit}
 use Rattle.world_core.specs.declared.answer.Audit.TheVariants.{Foreign, Pair, Stands, Unrecorded}
-use Rattle.world_core.proofs.Walks.{part_texts, sign_long}
+use Rattle.cosigner_steps.proofs.Holding.{sign_long}
+use Rattle.world_core.proofs.Walks.{part_texts}
 
 not_no : (b : Bool) → not b ≡ false → b ≡ true
 not_no true e = refl

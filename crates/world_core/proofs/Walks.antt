@@ -26,11 +26,13 @@ use Rattle.collide.specs.Inputs.{inputs_of, open_inputs_of}
 use Rattle.collide.specs.declared.finding.Finding.{Finding}
 use Rattle.collide.specs.declared.finding.Finding.TheVariants.{Pair, Same}
 use Rattle.collide.proofs.Compared.{collision_widened}
-use Rattle.world_core.specs.Walk.{AreSteps, HasPrefix, IsOfList, IsWithin, Shows, prefix_inputs}
-use Rattle.world_core.specs.Walk.{held_behind, held_by, proof_inputs, held_sizes, with_steps}
-use Rattle.world_core.proofs.Steps.{advance_checks, allowed_at, prefix_at, held_advance, held_none}
-use Rattle.world_core.proofs.Steps.{held_sign, inputs_at, none_held, rises_to, sign_checks}
-use Rattle.world_core.proofs.Steps.{size_at, size_held, sizes_take}
+use Rattle.cosigner_steps.specs.Steps.{AreSteps, HasPrefix, IsOfList, IsWithin, Shows}
+use Rattle.cosigner_steps.specs.Steps.{prefix_inputs}
+use Rattle.cosigner_steps.specs.Steps.{held_behind, held_by, proof_inputs, held_sizes, with_steps}
+use Rattle.cosigner_steps.proofs.Steps.{advance_checks, allowed_at, prefix_at, held_advance}
+use Rattle.cosigner_steps.proofs.Steps.{held_none}
+use Rattle.cosigner_steps.proofs.Steps.{held_sign, inputs_at, none_held, rises_to, sign_checks}
+use Rattle.cosigner_steps.proofs.Steps.{size_at, size_held, sizes_take}
 
 -- ---- slices
 
@@ -46,45 +48,10 @@ part_texts es s e =
     sym (take-map (λ (x : Bor Text). x.now) (e - s) (drop s es))
     ∙ ap (take (e - s)) (sym (drop-map (λ (x : Bor Text). x.now) s es))
 
-pub found_at : (steps : List Step) (k : ℕ) (s t : Step) → s ≡ get_or steps k s → s ≡ t
-    → t ≡ get_or steps k t
-found_at steps k s t at is = subst (λ (x : Step). x ≡ get_or steps k x) is at
-
 pub ok_still : {X E : Type 0} (P Q : X → Type 0) (r : Result X E) → ((x : X) → P x → Q x)
     → IfOk r P → IfOk r Q
 ok_still P Q (Ok x) more p = more x p
 ok_still P Q (Err e) more p = p
-
--- ---- what is held, from the last step back
-
-pub back_sign : (h : HashFunction) (steps : List Step) (place index start end : ℕ) (hash : Hash)
-    (proof : List Hash) → 0 < place → place ≤ length steps
-    → Sign index start end hash proof
-    ≡ get_or steps (place - 1) (Sign index start end hash proof)
-    → held_behind h steps place ≡ held_by h steps
-    → held_behind h steps (place - 1) ≡ held_by h steps
-back_sign h steps place index start end hash proof some within is same =
-    let below : place - 1 < length steps = omega arith in
-    let here : place - 1 + 1 ≡ place = omega arith in
-    sym (held_sign h steps (place - 1) index start end hash proof below is)
-    ∙ (ap (λ (k : ℕ). held_behind h steps k) here ∙ same)
-
-pub back_advance : (h : HashFunction) (steps : List Step) (place size : ℕ) (root : Hash)
-    (proof : List Hash) → 0 < place → place ≤ length steps
-    → Advance size root proof ≡ get_or steps (place - 1) (Advance size root proof)
-    → held_behind h steps place ≡ held_by h steps
-    → record { size = size; root = root } ≡ held_by h steps
-back_advance h steps place size root proof some within is same =
-    let below : place - 1 < length steps = omega arith in
-    let here : place - 1 + 1 ≡ place = omega arith in
-    sym (held_advance h steps (place - 1) size root proof below is)
-    ∙ (ap (λ (k : ℕ). held_behind h steps k) here ∙ same)
-
-pub back_none : (h : HashFunction) (steps : List Step) (place : ℕ) → place ≤ 0
-    → held_behind h steps place ≡ held_by h steps → empty_checkpoint h ≡ held_by h steps
-back_none h steps place none same =
-    let nought : 0 ≡ place = omega arith in
-    sym (held_none h) ∙ (ap (λ (k : ℕ). held_behind h steps k) nought ∙ same)
 
 -- ---- tests
 
@@ -122,13 +89,6 @@ list_tested h es step index start end hash proof b root sign is test =
     )
 
 -- ---- at an Advance
-
-pub empty_prefix : (h : HashFunction) (entries : List Text)
-    → HasPrefix h entries (empty_checkpoint h)
-empty_prefix h entries = record {
-  within = omega arith;
-  root = sym (tree-none h (take 0 entries) (omega arith));
-}
 
 pub advance_prefix : (h : HashFunction) (es : List (Bor Text)) (steps : List Step) (k size : ℕ)
     (root : Hash) (proof : List Hash) → k < length steps
@@ -265,30 +225,6 @@ not_sign h es steps k index start end hash proof below is apart prefix =
 
 -- ---- at a Sign
 
-pub sign_checked : (h : HashFunction) (steps : List Step) (k index start end : ℕ) (hash : Hash)
-    (proof : List Hash) → AreSteps h steps → k < length steps
-    → Sign index start end hash proof ≡ get_or steps k (Sign index start end hash proof)
-    → Checks h start end (held_behind h steps k).size hash (held_behind h steps k).root proof
-unfolding held_by
-sign_checked h steps k index start end hash proof are below is =
-    sign_checks h are.keys (with_steps (first_progress h) (take k steps)) index start end hash proof
-    (allowed_at h are.keys (first_progress h) are.done steps k (Sign index start end hash proof)
-    are.each below is)
-
-pub sign_long : (h : HashFunction) (entries : List Text) (steps : List Step) (k : ℕ)
-    (step : Step) → AreSteps h steps → k < length steps → step ≡ get_or steps k step
-    → HasPrefix h entries (held_behind h steps (length steps)) → IsWithin (length entries) step
-unfolding held_by
-sign_long h entries steps k (Advance size root proof) are below is prefix = tt
-sign_long h entries steps k (Sign index start end hash proof) are below is prefix =
-    let checks = sign_checked h steps k index start end hash proof are below is in
-    let rise = rises_to h are.keys (first_progress h) are.done steps k are.each in
-    let all = ap (λ (xs : List Step). (held_by h xs).size) (take-length steps) in
-    let long = prefix.within in
-    let within = checks.within in
-    let some = some_in start end checks.valid in
-    (omega arith, omega arith)
-
 pub sign_within : (h : HashFunction) (es : List (Bor Text)) (steps : List Step) (k : ℕ)
     (step : Step) → AreSteps h steps → k < length steps → step ≡ get_or steps k step
     → HasPrefix h (texts es) (held_behind h steps (length steps)) → IsWithin (length es) step
@@ -319,17 +255,6 @@ sign_ready h es steps k index start end hash proof given held are below is prefi
     root one in
     subst (λ (p : List Hash). Checks h start end (length (take held.size es)) hash
     (tree_hash h (texts (take held.size es))) p) (sym told) two
-
-pub size_there : (h : HashFunction) (steps : List Step) (k start end : ℕ)
-    → start < end → end ≤ (held_behind h steps k).size
-    → Contains (held_sizes steps) (held_behind h steps k).size
-size_there h steps k start end some within =
-    elim (size_held h (take k steps)) [
-      | inl none ↦
-          let size : (held_behind h steps k).size ≡ 0 = ap (λ (c : Checkpoint). c.size) none in
-          absurd (omega arith)
-      | inr there ↦ sizes_take steps k (held_behind h steps k).size there
-    ]
 
 pub sign_found : (h : HashFunction) (es : List (Bor Text)) (steps : List Step) (step : Step)
     (k index start end : ℕ) (hash : Hash) (proof given : List Hash) (held : Checkpoint)

@@ -26,8 +26,8 @@ use Rattle.policy_core.specs.declared.cosigners.Known.{Known}
 use Rattle.policy_core.specs.declared.store.Store.{Store}
 use Rattle.collide.specs.Extraction.{IsCollision}
 use Rattle.collide.specs.Inputs.{eval_inputs_of, inputs_of}
-use Rattle.world_core.specs.Walk.{prefix_inputs, held_by, proof_inputs}
 use Rattle.cosigner_core.specs.declared.lists.Export.{Export}
+use Rattle.cosigner_steps.specs.Steps.{prefix_inputs, held_by, proof_inputs}
 use Rattle.world_core.specs.declared.wanted.WantedHash.{WantedHash}
 use Rattle.world_core.specs.declared.answer.Audit.{Audit}
 use Rattle.world_core.specs.declared.answer.Audit.TheVariants.{Foreign, Pair, Stands, Unrecorded}

@@ -3,8 +3,8 @@
 ghost use Rattle.std.specs.Prelude.{IfOk, IfSome, option_map};
 ghost use Rattle.cert_fields.specs.Views.{parts};
 ghost use Rattle.mtc_proof.specs.Views.{proof_parts};
+ghost use Rattle.cosigner_steps.specs.Steps.{AreSteps};
 ghost use Rattle.world_core.specs.Audit.{IsAudit, WasJudged};
-ghost use Rattle.world_core.specs.Walk.{AreSteps};
 
 use crate::answer::Audit;
 use crate::by_cosigners::by_record;

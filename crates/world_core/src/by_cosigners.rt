@@ -8,9 +8,9 @@ ghost use Rattle.tree_core.specs.Tree.{leaf_hash};
 ghost use Rattle.log_entry.specs.EntryOf.{entry_of};
 ghost use Rattle.mtc_proof.specs.Views.{proof_parts};
 ghost use Rattle.cosigner_core.specs.declared.step.Step.{Step};
+ghost use Rattle.cosigner_steps.specs.Steps.{AreSteps, HasPrefix, held_by};
 ghost use Rattle.policy_core.specs.declared.store.Store.{Store};
 ghost use Rattle.world_core.specs.Audit.{Settles, SettlesRecorded, has_own, is_sign_of};
-ghost use Rattle.world_core.specs.Walk.{AreSteps, HasPrefix, held_by};
 
 use crate::answer::Audit;
 use crate::settling::settle;

@@ -1,4 +1,4 @@
-//! One list of entries behind what cosigners have signed and relying parties have accepted.
+//! Audits: one list of entries behind what cosigners have signed and relying parties have accepted.
 //!
 //! [`audit`] holds the acceptance of a certificate against a list of entries that has the
 //! landmark's hash, or the root of a cosigner's export. It shows that the certificate's entry and
@@ -19,5 +19,6 @@ mod wanted;
 
 pub use answer::Audit;
 pub use auditing::audit;
-pub use prefix::{has_prefix, held_by};
+pub use cosigner_steps::held_by;
+pub use prefix::has_prefix;
 pub use signed::walk;

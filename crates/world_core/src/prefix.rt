@@ -1,30 +1,12 @@
-//! What a cosigner has held, and whether a list begins with it.
+//! Whether a list begins with what a cosigner has held.
 
-ghost use Rattle.std.specs.Prelude.{◌≡◌, ◌↔◌, IsTrue};
+ghost use Rattle.std.specs.Prelude.{◌↔◌, IsTrue};
 ghost use Rattle.cert_fields.specs.Views.{texts};
-ghost use Rattle.world_core.specs.Walk.{HasPrefix, held_by};
+ghost use Rattle.cosigner_steps.specs.Steps.{HasPrefix};
 
 use collide::list_hash;
-use cosigner_core::{Checkpoint, Step};
+use cosigner_core::Checkpoint;
 use tree_core::TreeHash;
-
-/// What a cosigner holds behind these steps: the checkpoint of the last Advance, or that of no
-/// entries.
-pub fn held_by<H: TreeHash>(steps: &[Step]) -> Checkpoint
-    ensures { result ≡ held_by H.hash steps.now }
-{
-    let mut place = steps.len();
-    while place > 0 {
-        place -= 1;
-        if let Step::Advance { size, root, .. } = &steps[place] {
-            return Checkpoint {
-                size: *size,
-                root: *root,
-            };
-        }
-    }
-    Checkpoint::empty::<H>()
-}
 
 /// Whether a list begins with the entries of a checkpoint: it has as many, and their tree hash is
 /// the root.

@@ -5,12 +5,14 @@ ghost use Rattle.std.specs.Prelude.{slice_index_or};
 ghost use Rattle.cert_fields.specs.Views.{texts};
 ghost use Rattle.cosigner_core.specs.declared.step.Step.{Step};
 ghost use Rattle.collide.specs.Extraction.{Extracts};
-ghost use Rattle.world_core.specs.Walk.{AreSteps, HasPrefix, IsOfList, IsSign, IsWithin, Shows};
-ghost use Rattle.world_core.specs.Walk.{prefix_inputs, held_behind, held_by, proof_inputs};
+ghost use Rattle.cosigner_steps.specs.Steps.{AreSteps, HasPrefix, IsOfList, IsSign, IsWithin};
+ghost use Rattle.cosigner_steps.specs.Steps.{Shows, held_behind, held_by, prefix_inputs};
+ghost use Rattle.cosigner_steps.specs.Steps.{proof_inputs};
 
-use crate::prefix::{has_prefix, held_by};
+use crate::prefix::has_prefix;
 use collide::{Finding, in_consistency, list_hash};
 use cosigner_core::{Export, Step};
+use cosigner_steps::held_by;
 use entry_list::Items;
 use mtc_io::Memory;
 use std::alloc::Global;

@@ -6,9 +6,9 @@ ghost use Rattle.world_core.specs.Audit.{IsForeign, foreign_in, hash_there, of_c
 ghost use Rattle.world_core.specs.Audit.{wanted_hash};
 
 use crate::answer::Audit;
-use crate::prefix::held_by;
 use collide::list_hash;
 use cosigner_core::{Checkpoint, Export};
+use cosigner_steps::held_by;
 use policy_core::{Accepted, By};
 use tree_core::TreeHash;
 

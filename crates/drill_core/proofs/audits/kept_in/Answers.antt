@@ -1,8 +1,8 @@
 use Rattle.std.proofs.Common.{Option, subst}
 use Rattle.std.specs.Prelude.{IfSome}
 use Rattle.cosigner_core.specs.declared.lists.Export.{Export}
-use Rattle.world_core.specs.Walk.{AreSteps}
-use Rattle.world_core.proofs.Premises.{export_steps}
+use Rattle.cosigner_steps.specs.Steps.{AreSteps}
+use Rattle.cosigner_steps.proofs.Exported.{export_steps}
 use Rattle.drill_core.proofs.audits.kept_in.Goals as goal
 
 pub returns-in-Ok-Some-clause-allowed : goal.returns-in-Ok-Some-clause-allowed

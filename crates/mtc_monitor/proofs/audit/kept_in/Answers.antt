@@ -7,8 +7,8 @@ use Rattle.cosigner_core.specs.ExportReading.{export_in}
 use Rattle.cosigner_core.specs.declared.error.ReadExportError.{ReadExportError}
 use Rattle.cosigner_core.specs.declared.error.ReadExportError.TheVariants.{Memory as NoCapacity}
 use Rattle.cosigner_core.specs.declared.lists.Export.{Export}
-use Rattle.world_core.proofs.Premises.{export_steps}
-use Rattle.world_core.specs.Walk.{AreSteps}
+use Rattle.cosigner_steps.specs.Steps.{AreSteps}
+use Rattle.cosigner_steps.proofs.Exported.{export_steps}
 use Rattle.mtc_monitor.proofs.audit.kept_in.Goals as goal
 
 allowed : (h : HashFunction) (bytes : Text) (read : Result (Option Export) ReadExportError)

@@ -10,8 +10,9 @@ use Rattle.tree_core.specs.Toy.{toy_hash}
 use Rattle.cosigner_core.specs.ExportReading.{export_in}
 use Rattle.cosigner_core.specs.declared.error.ReadExportError.TheVariants.{Memory}
 use Rattle.cosigner_core.specs.declared.lists.Export.{Export}
-use Rattle.world_core.specs.Walk.{AreSteps}
-use Rattle.world_core.proofs.Premises.{export_steps, was_judged}
+use Rattle.cosigner_steps.specs.Steps.{AreSteps}
+use Rattle.cosigner_steps.proofs.Exported.{export_steps}
+use Rattle.world_core.proofs.Premises.{was_judged}
 use Rattle.test_judge.proofs.audits.audited.Goals as goal
 
 pub audit-requires-clause-judged : goal.audit-requires-clause-judged

@@ -5,8 +5,8 @@ use Rattle.tree_core.specs.Toy.{toy_hash}
 use Rattle.cosigner_core.specs.ExportReading.{export_in}
 use Rattle.cosigner_core.specs.declared.error.ReadExportError.TheVariants.{Memory}
 use Rattle.cosigner_core.specs.declared.step.Step.{Step}
-use Rattle.world_core.specs.Walk.{IsSign}
-use Rattle.world_core.proofs.Premises.{export_steps}
+use Rattle.cosigner_steps.specs.Steps.{IsSign}
+use Rattle.cosigner_steps.proofs.Exported.{export_steps}
 use Rattle.test_judge.proofs.walks.walked.Goals as goal
 
 pub walk-requires-clause-allowed : goal.walk-requires-clause-allowed

@@ -1,4 +1,5 @@
-use Rattle.world_core.proofs.Premises.{are_steps, export_steps, have_hashes, was_judged}
+use Rattle.cosigner_steps.proofs.Exported.{are_steps, export_steps, have_hashes}
+use Rattle.world_core.proofs.Premises.{was_judged}
 use Rattle.world_core.proofs.laws.law_what_is_read_can_be_audited.Goals as goal
 
 pub returns : goal.returns

@@ -1,4 +1,5 @@
-use Rattle.world_core.proofs.Walks.{advance_found, advance_long, advance_ready, found_at, not_sign}
+use Rattle.cosigner_steps.proofs.Holding.{found_at}
+use Rattle.world_core.proofs.Walks.{advance_found, advance_long, advance_ready, not_sign}
 use Rattle.world_core.proofs.Walks.{ok_still}
 use Rattle.world_core.proofs.signed.at_advance.Goals as goal
 

@@ -1,4 +1,5 @@
-use Rattle.world_core.proofs.Walks.{found_at, ok_still, sign_found, sign_ready}
+use Rattle.cosigner_steps.proofs.Holding.{found_at}
+use Rattle.world_core.proofs.Walks.{ok_still, sign_found, sign_ready}
 use Rattle.world_core.proofs.signed.at_sign.Goals as goal
 
 pub in_consistency-requires : goal.in_consistency-requires

@@ -1,6 +1,6 @@
 use Rattle.std.proofs.Common.{◌<◌, ◌≤◌, ◌-◌, length}
 use Rattle.cert_fields.specs.Views.{texts}
-use Rattle.world_core.specs.Walk.{HasPrefix, held_behind}
+use Rattle.cosigner_steps.specs.Steps.{HasPrefix, held_behind}
 use Rattle.world_core.proofs.signed.parting.Given as goal
 
 pub record Invariant (g : goal.Over) (l : goal.Live-loop-high g) : Type 0 where

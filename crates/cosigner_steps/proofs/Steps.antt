@@ -1,4 +1,4 @@
--- Steps of a cosigner: what is held behind each, and what their proofs show.
+-- Steps of a cosigner: what is held after each, and what their proofs show.
 use Rattle.std.proofs.Common.{◌≡◌, ◌⊎◌, ℕ, zero, suc, ◌+◌, ◌<◌, ◌≤◌, Bool, true, false, List, []}
 use Rattle.std.proofs.Common.{◌∷◌, ◌++◌, length, get_or, take, Some, None, refl, sym, ap}
 use Rattle.std.proofs.Common.{subst, ◌∙◌}
@@ -21,8 +21,8 @@ use Rattle.cosigner_core.specs.declared.progress.Progress.{Progress}
 use Rattle.cosigner_core.specs.declared.step.Step.{Step}
 use Rattle.cosigner_core.specs.declared.step.Step.TheVariants.{Advance, Sign}
 use Rattle.collide.specs.Inputs.{inputs_of}
-use Rattle.world_core.specs.Walk.{held_behind, held_by, inputs_from, held_sizes}
-use Rattle.world_core.specs.Walk.{step_inputs, with_steps}
+use Rattle.cosigner_steps.specs.Steps.{held_behind, held_by, inputs_from, held_sizes}
+use Rattle.cosigner_steps.specs.Steps.{step_inputs, with_steps}
 
 -- ---- what is held
 
@@ -48,7 +48,7 @@ taken steps k s below is =
     ap (λ (n : ℕ). take n steps) next
     ∙ (take-suc steps k s below ∙ ap (λ (x : Step). take k steps ++ x ∷ []) (sym is))
 
--- behind an Advance its own checkpoint is held, and behind a Sign what was held before
+-- after an Advance its own checkpoint is held, and after a Sign what was held before
 pub held_advance : (h : HashFunction) (steps : List Step) (k size : ℕ) (root : Hash)
     (proof : List Hash) → k < length steps
     → Advance size root proof ≡ get_or steps k (Advance size root proof)

@@ -1,6 +1,6 @@
 use Rattle.std.proofs.Common.{◌≡◌, ◌≤◌, length}
-use Rattle.world_core.specs.Walk.{held_behind, held_by}
-use Rattle.world_core.proofs.prefix.held_by.Given as goal
+use Rattle.cosigner_steps.specs.Steps.{held_behind, held_by}
+use Rattle.cosigner_steps.proofs.held.held_by.Given as goal
 
 -- behind the steps from here on nothing else is held
 pub record Invariant (g : goal.Over) (l : goal.Live-loop-place g) : Type 0 where

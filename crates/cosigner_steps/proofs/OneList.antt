@@ -1,4 +1,4 @@
--- One list behind a cosigner: where a list begins with what is held at last, each Sign is of the
+-- One list beside a cosigner: where a list begins with what is held at last, each Sign is of the
 -- list, or there are two texts with one hash.
 use Rattle.std.proofs.Common.{◌≡◌, ◌⊎◌, ⊎_elim, inl, inr, ℕ, zero, suc, ◌+◌, ◌-◌, ◌<◌, ◌≤◌, true}
 use Rattle.std.proofs.Common.{List, [], ◌∷◌, length, get_or, take, sym, ap, subst, ◌∙◌, arith}
@@ -19,14 +19,14 @@ use Rattle.collide.specs.Extraction.{HasCollision}
 use Rattle.collide.specs.Inputs.{inputs_of, open_inputs_of}
 use Rattle.collide.proofs.Compared.{collision_widened}
 use Rattle.collide.proofs.Extracting.{IsSized, ProofsExtract_always}
-use Rattle.world_core.specs.Laws.{HasHashes, OneListBehind}
-use Rattle.world_core.specs.Walk.{AreSteps, HasPrefix, IsOfList, prefix_inputs, held_behind}
-use Rattle.world_core.specs.Walk.{held_by}
-use Rattle.world_core.specs.Walk.{held_sizes, proof_inputs, step_inputs, with_steps}
-use Rattle.world_core.proofs.Steps.{IsAdvanceFrom, advance_checks, allowed_at, prefix_at}
-use Rattle.world_core.proofs.Steps.{held_advance}
-use Rattle.world_core.proofs.Steps.{held_sign, inputs_at, none_held, size_at}
-use Rattle.world_core.proofs.Walks.{empty_prefix, sign_checked, size_there}
+use Rattle.cosigner_steps.specs.Laws.{HasHashes, OneListBehind}
+use Rattle.cosigner_steps.specs.Steps.{AreSteps, HasPrefix, IsOfList, prefix_inputs, held_behind}
+use Rattle.cosigner_steps.specs.Steps.{held_by}
+use Rattle.cosigner_steps.specs.Steps.{held_sizes, proof_inputs, step_inputs, with_steps}
+use Rattle.cosigner_steps.proofs.Steps.{IsAdvanceFrom, advance_checks, allowed_at, prefix_at}
+use Rattle.cosigner_steps.proofs.Steps.{held_advance}
+use Rattle.cosigner_steps.proofs.Steps.{held_sign, inputs_at, none_held, size_at}
+use Rattle.cosigner_steps.proofs.Holding.{empty_prefix, sign_checked, size_there}
 
 -- this holds, or the list and the proofs of these steps show two texts with one hash
 abbrev Shown : HashFunction → List Text → List Step → Type 0 → Type 0

@@ -1,4 +1,4 @@
--- The list of entries behind what a cosigner has held and signed.
+-- What a cosigner's steps hold and hash, beside the list of entries that it has signed.
 use Rattle.std.specs.Prelude.{◌≡◌, ℕ, ◌≤◌, true, List, [], ◌∷◌, ◌++◌, length, take, Some}
 use Rattle.std.specs.List.{flat_map}
 use Rattle.byte_formats.specs.Types.{HashFunction, Text}
@@ -19,14 +19,14 @@ unfoldable pub with_steps : Progress → List Step → Progress
 with_steps p [] = p
 with_steps p (step ∷ steps) = with_steps (with_step p step) steps
 
--- What is held behind all of these steps, and behind so many of the first.
+-- What is held after all of these steps, and after so many of the first.
 unfoldable pub held_by : HashFunction → List Step → Checkpoint
 held_by h steps = (with_steps (first_progress h) steps).held
 
 abbrev pub held_behind : HashFunction → List Step → ℕ → Checkpoint
 held_behind h steps count = held_by h (take count steps)
 
--- Each step is allowed behind those before it, to a cosigner with some number of one-time keys.
+-- Each step is allowed after those before it, to a cosigner with some number of one-time keys.
 pub record AreSteps (h : HashFunction) (steps : List Step) : Type 0 where
   pub keys : ℕ
   pub done : Progress
@@ -53,7 +53,7 @@ inputs_from h p (step ∷ steps) =
 abbrev pub proof_inputs : HashFunction → List Step → List Text
 proof_inputs h steps = inputs_from h (first_progress h) steps
 
--- The sizes of the checkpoints that a cosigner has held behind the empty one.
+-- The sizes of the checkpoints that a cosigner has held after the empty one.
 unfoldable pub held_sizes : List Step → List ℕ
 held_sizes [] = []
 held_sizes (Advance size root proof ∷ steps) = size ∷ held_sizes steps

@@ -1,8 +1,8 @@
 use Rattle.std.proofs.Common.{arith, ap, ◌∙◌}
 use Rattle.std.proofs.Math.Seq.{take-length}
-use Rattle.world_core.specs.Walk.{held_by}
-use Rattle.world_core.proofs.Walks.{back_advance, back_none, back_sign, found_at}
-use Rattle.world_core.proofs.prefix.held_by.Goals as goal
+use Rattle.cosigner_steps.specs.Steps.{held_by}
+use Rattle.cosigner_steps.proofs.Holding.{back_advance, back_none, back_sign, found_at}
+use Rattle.cosigner_steps.proofs.held.held_by.Goals as goal
 
 pub loop-place-init : goal.loop-place-init
 loop-place-init g c = record {

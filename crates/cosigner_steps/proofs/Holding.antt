@@ -1,0 +1,117 @@
+-- What is held, from the last step back and at a Sign.
+use Rattle.std.proofs.Common.{◌≡◌, ℕ, ◌+◌, ◌-◌, ◌<◌, ◌≤◌, List, length, get_or, take, Some, sym, ap}
+use Rattle.std.proofs.Common.{subst, ◌∙◌, arith, inl, inr}
+use Rattle.std.specs.List.{Contains}
+use Rattle.std.proofs.Math.Seq.{take-length}
+use Rattle.byte_formats.specs.Types.{Hash, HashFunction, Text}
+use Rattle.tree_proofs.specs.Checkpoints.{empty_checkpoint}
+use Rattle.tree_proofs.specs.Consistency.{Checks}
+use Rattle.tree_proofs.specs.declared.checkpoint.Checkpoint.{Checkpoint}
+use Rattle.tree_proofs.proofs.Fulls.{some_in}
+use Rattle.tree_proofs.proofs.Splits.{tree-none}
+use Rattle.cosigner_core.specs.Progress.{first_progress, is_allowed, progress_by, with_step}
+use Rattle.cosigner_core.specs.declared.progress.Progress.{Progress}
+use Rattle.cosigner_core.specs.declared.step.Step.{Step}
+use Rattle.cosigner_core.specs.declared.step.Step.TheVariants.{Advance, Sign}
+use Rattle.cosigner_core.proofs.Tagged.{some_value}
+use Rattle.cosigner_steps.specs.Steps.{AreSteps, HasPrefix, IsWithin, held_behind, held_by}
+use Rattle.cosigner_steps.specs.Steps.{held_sizes, with_steps}
+use Rattle.cosigner_steps.proofs.Steps.{allowed_at, held_advance, held_none, held_sign, rises_to}
+use Rattle.cosigner_steps.proofs.Steps.{sign_checks, size_held, sizes_take, step_first}
+
+-- ---- what is held at last
+
+done_by : (h : HashFunction) (keys : ℕ) (p q : Progress) (steps : List Step)
+    → progress_by h keys p steps ≡ Some q → with_steps p steps ≡ q
+unfolding progress_by with_steps
+done_by h keys p q [] e = some_value p q e
+done_by h keys p q (step ∷ steps) e =
+    let one = step_first (is_allowed h keys p step) (with_step p step) q
+    (λ (r : Progress). progress_by h keys r steps) e in
+    done_by h keys (with_step p step) q steps one.1
+
+-- Steps that are allowed bring a cosigner just so far.
+pub held_at_last : (h : HashFunction) (keys : ℕ) (q : Progress) (steps : List Step)
+    → progress_by h keys (first_progress h) steps ≡ Some q → held_by h steps ≡ q.held
+unfolding held_by
+held_at_last h keys q steps e =
+    ap (λ (r : Progress). r.held) (done_by h keys (first_progress h) q steps e)
+
+pub found_at : (steps : List Step) (k : ℕ) (s t : Step) → s ≡ get_or steps k s → s ≡ t
+    → t ≡ get_or steps k t
+found_at steps k s t at is = subst (λ (x : Step). x ≡ get_or steps k x) is at
+
+-- ---- what is held, from the last step back
+
+pub back_sign : (h : HashFunction) (steps : List Step) (place index start end : ℕ) (hash : Hash)
+    (proof : List Hash) → 0 < place → place ≤ length steps
+    → Sign index start end hash proof
+    ≡ get_or steps (place - 1) (Sign index start end hash proof)
+    → held_behind h steps place ≡ held_by h steps
+    → held_behind h steps (place - 1) ≡ held_by h steps
+back_sign h steps place index start end hash proof some within is same =
+    let below : place - 1 < length steps = omega arith in
+    let here : place - 1 + 1 ≡ place = omega arith in
+    sym (held_sign h steps (place - 1) index start end hash proof below is)
+    ∙ (ap (λ (k : ℕ). held_behind h steps k) here ∙ same)
+
+pub back_advance : (h : HashFunction) (steps : List Step) (place size : ℕ) (root : Hash)
+    (proof : List Hash) → 0 < place → place ≤ length steps
+    → Advance size root proof ≡ get_or steps (place - 1) (Advance size root proof)
+    → held_behind h steps place ≡ held_by h steps
+    → record { size = size; root = root } ≡ held_by h steps
+back_advance h steps place size root proof some within is same =
+    let below : place - 1 < length steps = omega arith in
+    let here : place - 1 + 1 ≡ place = omega arith in
+    sym (held_advance h steps (place - 1) size root proof below is)
+    ∙ (ap (λ (k : ℕ). held_behind h steps k) here ∙ same)
+
+pub back_none : (h : HashFunction) (steps : List Step) (place : ℕ) → place ≤ 0
+    → held_behind h steps place ≡ held_by h steps → empty_checkpoint h ≡ held_by h steps
+back_none h steps place none same =
+    let nought : 0 ≡ place = omega arith in
+    sym (held_none h) ∙ (ap (λ (k : ℕ). held_behind h steps k) nought ∙ same)
+
+-- ---- at a Sign
+
+pub empty_prefix : (h : HashFunction) (entries : List Text)
+    → HasPrefix h entries (empty_checkpoint h)
+empty_prefix h entries = record {
+  within = omega arith;
+  root = sym (tree-none h (take 0 entries) (omega arith));
+}
+
+pub sign_checked : (h : HashFunction) (steps : List Step) (k index start end : ℕ) (hash : Hash)
+    (proof : List Hash) → AreSteps h steps → k < length steps
+    → Sign index start end hash proof ≡ get_or steps k (Sign index start end hash proof)
+    → Checks h start end (held_behind h steps k).size hash (held_behind h steps k).root proof
+unfolding held_by
+sign_checked h steps k index start end hash proof are below is =
+    sign_checks h are.keys (with_steps (first_progress h) (take k steps)) index start end hash proof
+    (allowed_at h are.keys (first_progress h) are.done steps k (Sign index start end hash proof)
+    are.each below is)
+
+pub sign_long : (h : HashFunction) (entries : List Text) (steps : List Step) (k : ℕ)
+    (step : Step) → AreSteps h steps → k < length steps → step ≡ get_or steps k step
+    → HasPrefix h entries (held_behind h steps (length steps)) → IsWithin (length entries) step
+unfolding held_by
+sign_long h entries steps k (Advance size root proof) are below is prefix = tt
+sign_long h entries steps k (Sign index start end hash proof) are below is prefix =
+    let checks = sign_checked h steps k index start end hash proof are below is in
+    let rise = rises_to h are.keys (first_progress h) are.done steps k are.each in
+    let all = ap (λ (xs : List Step). (held_by h xs).size) (take-length steps) in
+    let long = prefix.within in
+    let within = checks.within in
+    let some = some_in start end checks.valid in
+    (omega arith, omega arith)
+
+pub size_there : (h : HashFunction) (steps : List Step) (k start end : ℕ)
+    → start < end → end ≤ (held_behind h steps k).size
+    → Contains (held_sizes steps) (held_behind h steps k).size
+size_there h steps k start end some within =
+    elim (size_held h (take k steps)) [
+      | inl none ↦
+          let size : (held_behind h steps k).size ≡ 0 = ap (λ (c : Checkpoint). c.size) none in
+          absurd (omega arith)
+      | inr there ↦ sizes_take steps k (held_behind h steps k).size there
+    ]

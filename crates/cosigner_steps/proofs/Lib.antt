@@ -1,0 +1,4 @@
+pub mod Steps
+pub mod Holding
+pub mod Exported
+pub mod OneList
