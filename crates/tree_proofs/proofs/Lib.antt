@@ -6,3 +6,4 @@ pub mod Making
 pub mod Opens
 pub mod Fulls
 pub mod Checked
+pub mod Checkpoints

@@ -1,11 +1,13 @@
 -- What holds of consistency proofs, for a hash function h.
-use Rattle.std.specs.Prelude.{◌≡◌, ◌≢◌, ℕ, ◌-◌, ◌<◌, ◌≤◌, ◌↔◌, Bool, true, false, List, [], ◌∷◌}
-use Rattle.std.specs.Prelude.{◌++◌, length, take, drop, Ok, Err}
+use Rattle.std.specs.Prelude.{◌≡◌, ◌≢◌, ◌⊎◌, ℕ, ◌-◌, ◌<◌, ◌≤◌, ◌↔◌, Bool, true, false, List, []}
+use Rattle.std.specs.Prelude.{◌∷◌, ◌++◌, length, take, drop, Ok, Err}
 use Rattle.byte_formats.specs.Types.{Hash, HashFunction, Text}
 use Rattle.tree_core.specs.Laws.{IsLargestPowerBelow, IsSubtree}
 use Rattle.tree_core.specs.Path.{part_of}
 use Rattle.tree_core.specs.Tree.{tree_hash}
+use Rattle.tree_proofs.specs.declared.checkpoint.Checkpoint.{Checkpoint}
 use Rattle.tree_proofs.specs.declared.error.ConsistError.TheVariants.{WrongLength}
+use Rattle.tree_proofs.specs.Checkpoints.{has_subtree, is_prefix_of}
 use Rattle.tree_proofs.specs.Consistency.{Checks, consistency}
 use Rattle.tree_proofs.specs.Proof.{consistency_proof, proof_of}
 
@@ -81,3 +83,18 @@ WrongLengthByProof h = (leaves proof : List Hash) (start end : ℕ) (node root :
     → IsSubtree start end → end ≤ length leaves
     → (consistency h start end (length leaves) node root proof ≡ Err WrongLength)
     ↔ (length proof ≢ length (proof_of h start end true leaves))
+
+-- The entries of a checkpoint are the first ones of the list with this size and root, by this
+-- proof: there are none, and the proof has no hash, or the proof checks.
+abbrev pub IsShownPrefix : HashFunction → Checkpoint → ℕ → Hash → List Hash → Type 0
+IsShownPrefix h held size root proof =
+    ((held.size ≡ 0) × (proof ≡ []))
+    ⊎ ((0 < held.size) × Checks h 0 held.size size held.root root proof)
+
+-- What a proof shows of a checkpoint, in these words.
+pub record CheckpointsAreShown (h : HashFunction) : Type 0 where
+  pub prefix : (held : Checkpoint) (size : ℕ) (root : Hash) (proof : List Hash)
+      → (is_prefix_of h held size root proof ≡ true) ↔ IsShownPrefix h held size root proof
+  pub subtree : (held : Checkpoint) (start end : ℕ) (hash : Hash) (proof : List Hash)
+      → (has_subtree h held start end hash proof ≡ true)
+      ↔ Checks h start end held.size hash held.root proof

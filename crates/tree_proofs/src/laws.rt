@@ -1,8 +1,8 @@
-//! The law of consistency proofs: the clauses are the law, and the function does nothing.
+//! Laws of consistency proofs: the clauses are the laws, and the functions do nothing.
 
 ghost use Rattle.byte_formats.specs.Types.{HashFunction};
-ghost use Rattle.tree_proofs.specs.ProofLaws.{IsConsistencyProof, IsRfcProof, PassesWhereChecks};
-ghost use Rattle.tree_proofs.specs.ProofLaws.{ProofsCheck, WrongLengthByProof};
+ghost use Rattle.tree_proofs.specs.ProofLaws.{CheckpointsAreShown, IsConsistencyProof, IsRfcProof};
+ghost use Rattle.tree_proofs.specs.ProofLaws.{PassesWhereChecks, ProofsCheck, WrongLengthByProof};
 
 /// The law of consistency proofs, for every hash function: the proof of an interval by the split of
 /// its list (the draft on Merkle Tree Certificates, where it makes subtree consistency proofs). Of
@@ -15,4 +15,11 @@ pub fn law_consistency_proofs_check()
     ensures checks { (h : HashFunction) → ProofsCheck h }
     ensures passes { (h : HashFunction) → PassesWhereChecks h }
     ensures wrong_length { (h : HashFunction) → WrongLengthByProof h }
+{}
+
+/// What a proof shows of a checkpoint, for every hash function. Its entries are the first ones of
+/// another list exactly where there are none and the proof has no hash, or the proof checks. A hash
+/// is that of a subtree of them exactly where the proof checks.
+pub fn law_checkpoints_are_shown()
+    ensures { (h : HashFunction) → CheckpointsAreShown h }
 {}
