@@ -24,9 +24,9 @@ returns-in-Err c =
     let told : answer_of (check_refusal c.loop-done.key.now (key_behind size rest) (take size rest))
     ≡ Err c.in-Err.refusal =
     rw (
-      ← c.split_at.ensures.prefix,
+      ← c.split_at.ensures.front,
       ← c.split_at.ensures.back,
-      ← c.split_at-in-loop-done.ensures.prefix,
+      ← c.split_at-in-loop-done.ensures.front,
       ← c.check.ensures,
     )
     c.in-Err.is in
@@ -43,21 +43,21 @@ loop-done-preserved c =
     omega arith in
     let fit = parts_fit-more _ _ size rest more found c.loop-done.invariant.1 in
     let next : c.split_at-in-loop-done.result.0.now ≡ key_behind size rest =
-    rw (c.split_at-in-loop-done.ensures.prefix, c.split_at.ensures.back) refl in
+    rw (c.split_at-in-loop-done.ensures.front, c.split_at.ensures.back) refl in
     let behind : c.split_at-in-loop-done.result.1.now ≡ behind_key size rest =
     rw (c.split_at-in-loop-done.ensures.back, c.split_at.ensures.back) (drop-drop 56 size rest) in
     let told : answer_of (check_refusal c.loop-done.key.now (key_behind size rest) (take size rest))
     ≡ Ok tt =
     rw (
-      ← c.split_at.ensures.prefix,
+      ← c.split_at.ensures.front,
       ← c.split_at.ensures.back,
-      ← c.split_at-in-loop-done.ensures.prefix,
+      ← c.split_at-in-loop-done.ensures.front,
       ← c.check.ensures,
     )
     c.in-Ok.is in
     let passed = levels_refusal-passed _ _ size c.loop-done.key.now c.args.message.now rest more
     found (answer_of-ok _ told) in (
-      omega (arith, c.split_at-in-loop-done.ensures.prefix_len),
+      omega (arith, c.split_at-in-loop-done.ensures.front_len),
       rw behind fit.1,
       rw (next, behind) (c.loop-done.invariant.2 ∙ passed),
     )
