@@ -1,4 +1,4 @@
--- What is held, from the last step back and at a Sign.
+-- What is held, from the last step back, at an Advance and at a Sign.
 use Rattle.std.proofs.Common.{◌≡◌, ℕ, ◌+◌, ◌-◌, ◌<◌, ◌≤◌, List, length, get_or, take, Some, sym, ap}
 use Rattle.std.proofs.Common.{subst, ◌∙◌, arith, inl, inr}
 use Rattle.std.specs.List.{Contains}
@@ -16,8 +16,9 @@ use Rattle.cosigner_core.specs.declared.step.Step.TheVariants.{Advance, Sign}
 use Rattle.cosigner_core.proofs.Tagged.{some_value}
 use Rattle.cosigner_steps.specs.Steps.{AreSteps, HasPrefix, IsWithin, held_behind, held_by}
 use Rattle.cosigner_steps.specs.Steps.{held_sizes, with_steps}
-use Rattle.cosigner_steps.proofs.Steps.{allowed_at, held_advance, held_none, held_sign, rises_to}
-use Rattle.cosigner_steps.proofs.Steps.{sign_checks, size_held, sizes_take, step_first}
+use Rattle.cosigner_steps.proofs.Steps.{IsAdvanceFrom, advance_checks, allowed_at, held_advance}
+use Rattle.cosigner_steps.proofs.Steps.{held_none, held_sign, none_held, rises_to, sign_checks}
+use Rattle.cosigner_steps.proofs.Steps.{size_held, sizes_take, step_first}
 
 -- ---- what is held at last
 
@@ -72,7 +73,7 @@ back_none h steps place none same =
     let nought : 0 ≡ place = omega arith in
     sym (held_none h) ∙ (ap (λ (k : ℕ). held_behind h steps k) nought ∙ same)
 
--- ---- at a Sign
+-- ---- at a step
 
 pub empty_prefix : (h : HashFunction) (entries : List Text)
     → HasPrefix h entries (empty_checkpoint h)
@@ -104,6 +105,26 @@ sign_long h entries steps k (Sign index start end hash proof) are below is prefi
     let within = checks.within in
     let some = some_in start end checks.valid in
     (omega arith, omega arith)
+
+-- what an Advance shows of what was held, and that a list begins with no entries
+pub advance_at : (h : HashFunction) (steps : List Step) (k size : ℕ) (root : Hash)
+    (proof : List Hash) → AreSteps h steps → k < length steps
+    → Advance size root proof ≡ get_or steps k (Advance size root proof)
+    → IsAdvanceFrom h (held_behind h steps k) size root proof
+unfolding held_by
+advance_at h steps k size root proof are below is =
+    let first = first_progress h in
+    advance_checks h are.keys (with_steps first (take k steps)) size root proof
+    (allowed_at h are.keys first are.done steps k (Advance size root proof) are.each below is)
+
+pub nothing_held : (h : HashFunction) (entries : List Text) (steps : List Step) (k : ℕ)
+    → AreSteps h steps → (held_behind h steps k).size ≡ 0
+    → HasPrefix h entries (held_behind h steps k)
+unfolding held_by
+nothing_held h entries steps k are none =
+    subst (HasPrefix h entries)
+    (sym (none_held h are.keys (first_progress h) are.done steps k are.each none))
+    (empty_prefix h entries)
 
 pub size_there : (h : HashFunction) (steps : List Step) (k start end : ℕ)
     → start < end → end ≤ (held_behind h steps k).size

@@ -20,13 +20,10 @@ use Rattle.collide.specs.Inputs.{inputs_of, open_inputs_of}
 use Rattle.collide.proofs.Compared.{collision_widened}
 use Rattle.collide.proofs.Extracting.{IsSized, ProofsExtract_always}
 use Rattle.cosigner_steps.specs.Laws.{HasHashes, OneListBehind}
-use Rattle.cosigner_steps.specs.Steps.{AreSteps, HasPrefix, IsOfList, prefix_inputs, held_behind}
-use Rattle.cosigner_steps.specs.Steps.{held_by}
-use Rattle.cosigner_steps.specs.Steps.{held_sizes, proof_inputs, step_inputs, with_steps}
-use Rattle.cosigner_steps.proofs.Steps.{IsAdvanceFrom, advance_checks, allowed_at, prefix_at}
-use Rattle.cosigner_steps.proofs.Steps.{held_advance}
-use Rattle.cosigner_steps.proofs.Steps.{held_sign, inputs_at, none_held, size_at}
-use Rattle.cosigner_steps.proofs.Holding.{empty_prefix, sign_checked, size_there}
+use Rattle.cosigner_steps.specs.Steps.{AreSteps, HasPrefix, IsOfList, held_behind, held_by}
+use Rattle.cosigner_steps.specs.Steps.{held_sizes, prefix_inputs, proof_inputs, step_inputs}
+use Rattle.cosigner_steps.proofs.Steps.{held_advance, held_sign, inputs_at, prefix_at, size_at}
+use Rattle.cosigner_steps.proofs.Holding.{advance_at, nothing_held, sign_checked, size_there}
 
 -- this holds, or the list and the proofs of these steps show two texts with one hash
 abbrev Shown : HashFunction → List Text → List Step → Type 0 → Type 0
@@ -88,25 +85,6 @@ found_in h entries steps k size s below is there found = (
 )
 
 -- ---- from one step back
-
-advance_at : (h : HashFunction) (steps : List Step) (k size : ℕ) (root : Hash) (proof : List Hash)
-    → AreSteps h steps → k < length steps
-    → Advance size root proof ≡ get_or steps k (Advance size root proof)
-    → IsAdvanceFrom h (held_behind h steps k) size root proof
-unfolding held_by
-advance_at h steps k size root proof are below is =
-    let first = first_progress h in
-    advance_checks h are.keys (with_steps first (take k steps)) size root proof
-    (allowed_at h are.keys first are.done steps k (Advance size root proof) are.each below is)
-
-nothing_held : (h : HashFunction) (entries : List Text) (steps : List Step) (k : ℕ)
-    → AreSteps h steps → (held_behind h steps k).size ≡ 0
-    → HasPrefix h entries (held_behind h steps k)
-unfolding held_by
-nothing_held h entries steps k are none =
-    subst (HasPrefix h entries)
-    (sym (none_held h are.keys (first_progress h) are.done steps k are.each none))
-    (empty_prefix h entries)
 
 step_back : (h : HashFunction) → IsSized h → (entries : List Text) (steps : List Step) (k : ℕ)
     (s : Step) → AreSteps h steps → HasHashes s → k < length steps → s ≡ get_or steps k s

@@ -12,7 +12,7 @@ use Rattle.std.proofs.lemmas.List.Elements.{Contains-append_left, Contains-appen
 use Rattle.byte_formats.specs.Types.{Hash, HashFunction, Text}
 use Rattle.byte_formats.proofs.Steps.{chosen}
 use Rattle.tree_proofs.specs.Consistency.{Checks, consistency}
-use Rattle.tree_proofs.proofs.Checked.{PassesWhereChecks_always}
+use Rattle.tree_proofs.proofs.Checkpoints.{CheckpointsAreShown_always}
 use Rattle.tree_proofs.specs.Checkpoints.{empty_checkpoint, is_prefix_of}
 use Rattle.tree_proofs.specs.declared.checkpoint.Checkpoint.{Checkpoint}
 use Rattle.cosigner_core.specs.Progress.{first_progress, is_allowed, progress_by}
@@ -164,30 +164,13 @@ prefix_at h entries (n ∷ ns) m x (suc k) below is one =
 
 -- ---- what is allowed shows
 
-ok_is_unit : {E : Type 0} (r : Result (Unit {0}) E) → is_ok r ≡ true → r ≡ Ok tt
-ok_is_unit (Ok x) e = refl
-ok_is_unit (Err d) e = absurd cc
-
 pub sign_checks : (h : HashFunction) (keys : ℕ) (p : Progress) (index start end : ℕ) (hash : Hash)
     (proof : List Hash) → is_allowed h keys p (Sign index start end hash proof) ≡ true
     → Checks h start end p.held.size hash p.held.root proof
 sign_checks h keys p index start end hash proof e =
     let one = and_parts (index == p.next) _ e in
     let two = and_parts (nat_lt index keys) _ one.1 in
-    (PassesWhereChecks_always h start end p.held.size hash p.held.root proof).0
-    (ok_is_unit _ two.1)
-
-prefix_shown : (h : HashFunction) (held : Checkpoint) (size : ℕ) (root : Hash) (proof : List Hash)
-    → is_prefix_of h held size root proof ≡ true
-    → (held.size ≡ 0) ⊎ Checks h 0 held.size size held.root root proof
-prefix_shown h held size root proof e =
-    elim (chosen (held.size == 0) (length proof == 0) (is_ok (consistency h 0 held.size size
-    held.root
-    root proof)) true e) [
-      | inl c ↦ inl (eqb-true held.size 0 c.0)
-      | inr c ↦ inr ((PassesWhereChecks_always h 0 held.size size held.root root proof).0
-          (ok_is_unit _ c.1))
-    ]
+    ((CheckpointsAreShown_always h).subtree p.held start end hash proof).0 two.1
 
 pub record IsAdvanceFrom (h : HashFunction) (held : Checkpoint) (size : ℕ) (root : Hash)
     (proof : List Hash) : Type 0 where
@@ -201,7 +184,10 @@ advance_checks h keys p size root proof e =
     let one = and_parts (nat_lt p.held.size size) _ e in
     record {
       more = ltb-true p.held.size size one.0;
-      shown = prefix_shown h p.held size root proof one.1;
+      shown = elim (((CheckpointsAreShown_always h).prefix p.held size root proof).0 one.1) [
+        | inl none ↦ inl none.0
+        | inr some ↦ inr some.1
+      ];
     }
 
 -- ---- sizes rise

@@ -5,7 +5,6 @@ use Rattle.std.proofs.Common.{take, drop, Ok, Err, sym, ap, subst, ◌∙◌, ar
 use Rattle.std.proofs.Common.{inl, inr}
 use Rattle.std.specs.Prelude.{Result, IfOk, IsTrue, bytes_eq}
 use Rattle.std.specs.List.{Contains}
-use Rattle.std.proofs.Math.Seq.{take-length}
 use Rattle.std.proofs.lemmas.List.{drop-map, length-map, length-take-le, take-map}
 use Rattle.std.proofs.lemmas.Slice.Eq.{bytes_eq-Decides}
 use Rattle.byte_formats.specs.Types.{Hash, HashFunction, Text}
@@ -15,8 +14,6 @@ use Rattle.tree_core.specs.Tree.{tree_hash}
 use Rattle.tree_proofs.specs.Consistency.{Checks}
 use Rattle.tree_proofs.proofs.Fulls.{some_in}
 use Rattle.tree_proofs.proofs.Parts.{part_of-take, part_of-zero}
-use Rattle.tree_proofs.proofs.Splits.{tree-none}
-use Rattle.tree_proofs.specs.Checkpoints.{empty_checkpoint}
 use Rattle.tree_proofs.specs.declared.checkpoint.Checkpoint.{Checkpoint}
 use Rattle.cosigner_core.specs.Progress.{first_progress}
 use Rattle.cosigner_core.specs.declared.step.Step.{Step}
@@ -27,12 +24,11 @@ use Rattle.collide.specs.declared.finding.Finding.{Finding}
 use Rattle.collide.specs.declared.finding.Finding.TheVariants.{Pair, Same}
 use Rattle.collide.proofs.Compared.{collision_widened}
 use Rattle.cosigner_steps.specs.Steps.{AreSteps, HasPrefix, IsOfList, IsWithin, Shows}
-use Rattle.cosigner_steps.specs.Steps.{prefix_inputs}
-use Rattle.cosigner_steps.specs.Steps.{held_behind, held_by, proof_inputs, held_sizes, with_steps}
-use Rattle.cosigner_steps.proofs.Steps.{advance_checks, allowed_at, prefix_at, held_advance}
-use Rattle.cosigner_steps.proofs.Steps.{held_none}
-use Rattle.cosigner_steps.proofs.Steps.{held_sign, inputs_at, none_held, rises_to, sign_checks}
-use Rattle.cosigner_steps.proofs.Steps.{size_at, size_held, sizes_take}
+use Rattle.cosigner_steps.specs.Steps.{held_behind, held_by, held_sizes, prefix_inputs}
+use Rattle.cosigner_steps.specs.Steps.{proof_inputs}
+use Rattle.cosigner_steps.proofs.Steps.{held_advance, held_sign, inputs_at, prefix_at, size_at}
+use Rattle.cosigner_steps.proofs.Holding.{advance_at, found_at, nothing_held, sign_checked}
+use Rattle.cosigner_steps.proofs.Holding.{sign_long, size_there}
 
 -- ---- slices
 
@@ -119,19 +115,12 @@ pub advance_grown : (h : HashFunction) (es : List (Bor Text)) (steps : List Step
     → Advance size root proof ≡ get_or steps k (Advance size root proof)
     → (HasPrefix h (texts es) (held_behind h steps k) → ⊥)
     → HasGrownFrom h (held_behind h steps k) size root proof
-unfolding held_by
 advance_grown h es steps k size root proof are below is apart =
-    let first = first_progress h in
-    let allowed = allowed_at h are.keys first are.done steps k (Advance size root proof) are.each
-    below is in
-    let before = with_steps first (take k steps) in
-    let known = advance_checks h are.keys before size root proof allowed in
+    let known = advance_at h steps k size root proof are below is in
     record {
       more = known.more;
       checks = elim known.shown [
-        | inl none ↦
-            absurd (apart (subst (HasPrefix h (texts es)) (sym (none_held h are.keys first are.done
-            steps k are.each none)) (empty_prefix h (texts es))))
+        | inl none ↦ absurd (apart (nothing_held h (texts es) steps k are none))
         | inr checks ↦ checks
       ];
     }
