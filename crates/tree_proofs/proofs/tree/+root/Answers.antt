@@ -24,4 +24,4 @@ returns-in_default g t c =
     c.root-in_default.ensures
     ∙ tree-more g.H.TreeHash.hash c.args.entries.now _ _ _ c.in_default.len_at_least
     c.split.ensures.value
-    c.split_at.ensures.prefix c.split_at.ensures.back
+    c.split_at.ensures.front c.split_at.ensures.back
