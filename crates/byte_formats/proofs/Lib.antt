@@ -3,3 +3,4 @@ pub mod Forms
 pub mod Lists
 pub mod Loops
 pub mod Digits
+pub mod Values
