@@ -188,11 +188,8 @@ def sentence(rows, whole, clock):
     """What README says of the times of its two commands."""
     chain, proofs = chain_of(rows)
     return (
-        "The first has two waits. Within some three minutes it shows on standard error what the program answers, unproved: "
-        "`mtc: not proved yet: member 0`. Then it proves and builds the program, once, and prints the answer. "
-        "It shows each crate as it is proved; the prover takes up to four processors for one. "
-        f"On the machine of the last whole run the proofs add up to {proofs:.0f} processor minutes, of which {chain:.0f} follow one another, "
-        "along the longest chain of crates, where no check has kept anything there. "
+        "The first shows an unproved answer on standard error within some three minutes, then proves and builds the program, once: "
+        f"{proofs:.0f} processor minutes of proofs on the machine of the last whole run, of which {chain:.0f} follow one another. "
         f"The second took {whole} processor minutes, and {clock} ([GATE](docs/GATE.md))."
     )
 
