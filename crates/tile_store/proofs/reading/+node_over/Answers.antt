@@ -14,7 +14,7 @@ pub node_over-requires : goal.node_over-requires
 node_over-requires g t c =
     let half = half-power c.args.level c.if-level-eq0.false in
     let size = c.requires.size in
-    let prefix = ap length c.split_at.ensures.prefix in
+    let prefix = ap length c.split_at.ensures.front in
     let long : length c.split_at.result.0.now ≡ 32 * 2 ^ (c.args.level - 1) = omega arith in
     let small : c.args.level - 1 < 8 = omega arith in
     search rules
@@ -38,7 +38,7 @@ returns g t c =
     (node-pair h (2 ^ c.args.level) (2 ^ lower) lower c.args.hashes.now c.node_over.result
     c.node_over-2.result refl double
     (subst (λ l. IsNodeOver h (2 ^ lower) l c.node_over.result)
-    (c.split_at.ensures.prefix ∙ ap (λ n. take n c.args.hashes.now) middle) c.node_over.ensures)
+    (c.split_at.ensures.front ∙ ap (λ n. take n c.args.hashes.now) middle) c.node_over.ensures)
     (subst (λ l. IsNodeOver h (2 ^ lower) l c.node_over-2.result)
     (c.split_at.ensures.back ∙ ap (λ n. drop n c.args.hashes.now) middle)
     c.node_over-2.ensures))
