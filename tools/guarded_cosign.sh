@@ -10,7 +10,7 @@
 #   20  the journal has lost records, or it is another one: never sign with it again
 #   21  there is no kept export, or with `begin` there is one
 #   22  another run of this script has the journal or KEPT
-#   23  the export can't be kept; nothing was handed out
+#   23  the export can't be kept; nothing was handed out. The journal may have the record by then: its key counts as used
 #   64  the words are none of the above, JOURNAL is no file, or KEPT or KEPT.new is a journal
 set -euo pipefail
 umask 077
