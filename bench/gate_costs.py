@@ -188,8 +188,8 @@ def sentence(rows, whole, clock):
     """What README says of the times of its two commands."""
     chain, proofs = chain_of(rows)
     return (
-        "The first shows an unproved answer on standard error within some three minutes, then proves and builds the program, once: "
-        f"{proofs:.0f} processor minutes of proofs on the machine of the last whole run, of which {chain:.0f} follow one another. "
+        "The first shows an unproved answer on standard error within some three minutes. Then it proves and builds the program, once. "
+        f"That is {proofs:.0f} processor minutes of proofs on the machine of the last whole run, of which {chain:.0f} follow one another. "
         f"The second took {whole} processor minutes, and {clock} ([GATE](docs/GATE.md))."
     )
 
