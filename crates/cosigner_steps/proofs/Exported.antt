@@ -4,6 +4,7 @@ use Rattle.std.specs.Prelude.{IfSome}
 use Rattle.std.specs.List.{AllByRecursion}
 use Rattle.byte_formats.specs.Types.{HashFunction, Text}
 use Rattle.byte_formats.specs.Places.{IsBytes}
+use Rattle.byte_formats.proofs.Values.{then_some}
 use Rattle.cosigner_core.specs.ExportReading.{IsExport, export_in, signing_keys}
 use Rattle.cosigner_core.specs.Progress.{first_progress, progress_by}
 use Rattle.cosigner_core.specs.Records.{FitsStep}
@@ -11,7 +12,6 @@ use Rattle.cosigner_core.specs.declared.lists.Export.{Export}
 use Rattle.cosigner_core.specs.declared.step.Step.{Step}
 use Rattle.cosigner_core.specs.declared.step.Step.TheVariants.{Advance, Sign}
 use Rattle.cosigner_core.proofs.ExportForm.{export_takes}
-use Rattle.cosigner_core.proofs.FirstRecords.{then_some}
 use Rattle.cosigner_steps.specs.Laws.{HasHashes}
 use Rattle.cosigner_steps.specs.Steps.{AreSteps}
 

@@ -3,6 +3,7 @@ use Rattle.std.proofs.Common.{◌≡◌, ℕ, ◌+◌, ◌-◌, ◌<◌, ◌≤�
 use Rattle.std.proofs.Common.{subst, ◌∙◌, arith, inl, inr}
 use Rattle.std.specs.List.{Contains}
 use Rattle.std.proofs.Math.Seq.{take-length}
+use Rattle.std.proofs.lemmas.Option.{same_Some}
 use Rattle.byte_formats.specs.Types.{Hash, HashFunction, Text}
 use Rattle.tree_proofs.specs.Checkpoints.{empty_checkpoint}
 use Rattle.tree_proofs.specs.Consistency.{Checks}
@@ -13,7 +14,6 @@ use Rattle.cosigner_core.specs.Progress.{first_progress, is_allowed, progress_by
 use Rattle.cosigner_core.specs.declared.progress.Progress.{Progress}
 use Rattle.cosigner_core.specs.declared.step.Step.{Step}
 use Rattle.cosigner_core.specs.declared.step.Step.TheVariants.{Advance, Sign}
-use Rattle.cosigner_core.proofs.Tagged.{some_value}
 use Rattle.cosigner_steps.specs.Steps.{AreSteps, HasPrefix, IsWithin, held_behind, held_by}
 use Rattle.cosigner_steps.specs.Steps.{held_sizes, with_steps}
 use Rattle.cosigner_steps.proofs.Steps.{IsAdvanceFrom, advance_checks, allowed_at, held_advance}
@@ -25,7 +25,7 @@ use Rattle.cosigner_steps.proofs.Steps.{size_held, sizes_take, step_first}
 done_by : (h : HashFunction) (keys : ℕ) (p q : Progress) (steps : List Step)
     → progress_by h keys p steps ≡ Some q → with_steps p steps ≡ q
 unfolding progress_by with_steps
-done_by h keys p q [] e = some_value p q e
+done_by h keys p q [] e = same_Some p q e
 done_by h keys p q (step ∷ steps) e =
     let one = step_first (is_allowed h keys p step) (with_step p step) q
     (λ (r : Progress). progress_by h keys r steps) e in

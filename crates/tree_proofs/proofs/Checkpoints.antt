@@ -1,11 +1,12 @@
 -- What a proof shows of a checkpoint.
-use Rattle.std.proofs.Common.{◌≡◌, ℕ, zero, suc, ◌<◌, true, false, List, length, refl, ap, ◌∙◌}
-use Rattle.std.proofs.Common.{eqb, eqb-true, inl, inr, arith}
+use Rattle.std.proofs.Common.{◌≡◌, ℕ, true, List, length, refl, ap, ◌∙◌, eqb, eqb-true, inl, inr}
+use Rattle.std.proofs.Common.{arith}
 use Rattle.std.specs.Prelude.{Result, Ok, Err, is_ok}
 use Rattle.std.proofs.lemmas.Bool.{cond-false, cond-true, eq-eqb, ne_eqb}
 use Rattle.std.proofs.lemmas.List.{nil_from_length}
 use Rattle.byte_formats.specs.Types.{Hash, HashFunction}
 use Rattle.byte_formats.proofs.Steps.{chosen}
+use Rattle.byte_formats.proofs.Values.{not_zero}
 use Rattle.tree_proofs.specs.declared.checkpoint.Checkpoint.{Checkpoint}
 use Rattle.tree_proofs.specs.Checkpoints.{has_subtree, is_prefix_of}
 use Rattle.tree_proofs.specs.Consistency.{Checks, consistency}
@@ -35,12 +36,8 @@ prefix_shown h held size root proof e =
           inl (eqb-true held.size 0 c.0, nil_from_length proof (eqb-true (length proof) 0 c.1))
       | inr c ↦
           let passes = PassesWhereChecks_always h 0 held.size size held.root root proof in
-          inr (positive held.size c.0, passes.0 (ok_is_unit _ c.1))
+          inr (not_zero held.size c.0, passes.0 (ok_is_unit _ c.1))
     ]
-  where
-    positive : (n : ℕ) → eqb n 0 ≡ false → 0 < n
-    positive zero so = absurd cc
-    positive (suc n) so = omega arith
 
 prefix_tests : (h : HashFunction) (held : Checkpoint) (size : ℕ) (root : Hash) (proof : List Hash)
     → IsShownPrefix h held size root proof → is_prefix_of h held size root proof ≡ true
