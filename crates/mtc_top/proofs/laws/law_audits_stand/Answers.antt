@@ -1,6 +1,6 @@
 use Rattle.mtc_top.proofs.Audits.{audits_stand}
 use Rattle.mtc_top.proofs.AuditsSettle.{audits_settle}
-use Rattle.mtc_top.proofs.laws.audits_stand.Goals as goal
+use Rattle.mtc_top.proofs.laws.law_audits_stand.Goals as goal
 
 pub returns-clause-settle : goal.returns-clause-settle
 returns-clause-settle g c = audits_settle g.H.TreeHash.hash g.R.Room g.R.Dsk.Disk g.O.Sink g.E.Sink
