@@ -17,10 +17,10 @@ use Rattle.tls_wire.specs.declared.fault.AnchorError.TheVariants as text_faults
 use Rattle.tls_wire.specs.declared.fault.AnchorBytesError.{AnchorBytesError}
 use Rattle.tls_wire.specs.declared.fault.AnchorBytesError.TheVariants as byte_faults
 use Rattle.tls_wire.specs.Arcs.{arc, IsArc, dot_decimal, dotted, IsAnchorId}
-use Rattle.tls_wire.specs.Anchors.{arc_at, arcs_only, anchor_of, decimals_at, arcs_in, anchor_text}
+use Rattle.tls_wire.specs.Anchors.{arc_at, arcs_only, anchor_of, arcs_in, anchor_text}
 use Rattle.tls_wire.specs.Anchors.{text_in, text_of}
 use Rattle.tls_wire.proofs.ArcForm.{arc_form, arc_some, arcs_form}
-use Rattle.tls_wire.proofs.DecimalForm.{AreNumbers, dotted_takes, dotted_again}
+use Rattle.tls_wire.proofs.DecimalForm.{AreNumbers, arcs_in_takes, arcs_in_again}
 
 -- ---- bytes
 
@@ -42,6 +42,19 @@ arcs_only_takes bytes done h some short e =
       some = some;
       short = short;
     }
+
+done_with : Result At AnchorBytesError → Result (Unit {0}) AnchorBytesError
+done_with r = r >>= λ end. Ok tt
+
+pub arcs_fail : (bytes : List ℕ) (e : AnchorBytesError) → discarded (up_to_end arc_at (at bytes 0))
+    ≡ Err e → arcs_only bytes ≡ Err e
+unfolding arcs_only done_with
+arcs_fail bytes e total = ap done_with total
+
+pub arcs_end : (bytes : List ℕ) (a : At) → discarded (up_to_end arc_at (at bytes 0)) ≡ Ok a
+    → arcs_only bytes ≡ Ok tt
+unfolding arcs_only done_with
+arcs_end bytes a total = ap done_with total
 
 -- An anchor id reads as its arcs.
 pub arcs_read : (ns : List ℕ) → AllByRecursion IsArc ns → (end : At)
@@ -100,15 +113,6 @@ arcs_some (n ∷ ns) small some = omega (
   length-append (arc n) (flat_map arc ns),
 )
 
--- The arcs of a text, and its numbers.
-pub arcs_in_takes : (text bytes : List ℕ) → IsBytes text → arcs_in text ≡ Ok bytes → (ns : List ℕ)
-    × AreNumbers text ns × (bytes ≡ flat_map arc ns)
-unfolding arcs_in
-arcs_in_takes text bytes h e =
-    let s = bind_ok (decimals_at (length text + 1) (at text 0))
-    (λ (ns : List ℕ). Ok (flat_map arc ns)) bytes e in
-    (s.0, dotted_takes text s.0 0 h s.1, sym (ok_is AnchorError (flat_map arc s.0) bytes s.2))
-
 pub numbers_are_id : (text ns bytes : List ℕ) → AreNumbers text ns → bytes ≡ flat_map arc ns
     → length bytes ≤ 255 → IsAnchorId bytes
 numbers_are_id text ns bytes numbers same short =
@@ -153,15 +157,16 @@ id_some bytes id = go id.arcs id.encoded
     go (n ∷ ns) same = omega arith
 
 pub text_again : (bytes : List ℕ) → IsAnchorId bytes → anchor_text (text_of bytes) ≡ Ok bytes
-unfolding anchor_text arcs_in
+unfolding anchor_text
 text_again bytes id =
     let some = id_some bytes id in
     let text = text_of_id bytes id in
     let long : length (dotted id.arcs) ≢ 0 = omega (arith, dotted_some id.arcs id.are_arcs some) in
-    let numbers = dotted_again id.arcs 0 id.are_arcs some in
     let short : nat_lt 255 (length (flat_map arc id.arcs)) ≡ false =
     le-ltb _ _ (omega (arith, id.short, ap length id.encoded)) in
-    ap anchor_text text ∙ (rw (ne_eqb (length (dotted id.arcs)) 0 long, numbers, short) refl
+    ap anchor_text text
+    ∙ (rw (ne_eqb (length (dotted id.arcs)) 0 long, arcs_in_again id.arcs id.are_arcs some, short)
+    refl
     ∙ ap (λ (b : List ℕ). Ok b) (sym id.encoded))
 
 -- ---- what a call that made an anchor id knows

@@ -1,24 +1,24 @@
 -- Looking at a text without keeping its arcs: their number of bytes is enough.
 use Rattle.std.proofs.Common.{◌≡◌, ◌≢◌, ℕ, zero, suc, ◌+◌, ◌*◌, ◌/◌, ◌%◌, ◌^◌, ◌<◌, ◌≤◌, Bool, true}
 use Rattle.std.proofs.Common.{false, List, [], ◌∷◌, ◌++◌, length, Result, Ok, Err, IfOk, refl, sym}
-use Rattle.std.proofs.Common.{ap, ◌∙◌, append-nil, arith, inl, inr, ne_eqb, lt-ltb, le-ltb}
-use Rattle.std.proofs.Common.{flat_map, decimal}
+use Rattle.std.proofs.Common.{ap, ◌∙◌, arith, lt-ltb, le-ltb, ne_eqb, flat_map, decimal}
 use Rattle.std.specs.Prelude.{if◌then◌else◌, nat_lt}
 use Rattle.std.specs.List.{AllByRecursion}
-use Rattle.std.proofs.lemmas.Bool.{cases_lt}
 use Rattle.std.proofs.lemmas.List.{length-append}
 use Rattle.std.proofs.lemmas.Fmt.{length-decimal-le}
-use Rattle.byte_formats.specs.Places.{at}
+use Rattle.byte_formats.specs.Types.{Text}
+use Rattle.byte_formats.specs.Places.{At, at}
 use Rattle.byte_formats.specs.Readings.{◌>>=◌, is_read}
+use Rattle.byte_formats.specs.Lists.{many_at}
 use Rattle.tls_wire.specs.declared.fault.AnchorError.{AnchorError}
 use Rattle.tls_wire.specs.declared.fault.AnchorError.TheVariants.{TooLong}
 use Rattle.tls_wire.specs.Arcs.{high_digits, arc, IsArc, dot_decimal, dotted, IsAnchorId}
-use Rattle.tls_wire.specs.Anchors.{decimal_at, decimals_at, arcs_in, anchor_text, is_anchor_text}
-use Rattle.tls_wire.specs.Anchors.{text_of}
+use Rattle.tls_wire.specs.Anchors.{decimal_at, dot_decimal_at, arcs_in, anchor_text}
+use Rattle.tls_wire.specs.Anchors.{is_anchor_text, text_of}
 use Rattle.tls_wire.proofs.ArcForm.{high_digits_more, arc_some}
 use Rattle.tls_wire.proofs.AnchorForm.{text_of_id}
 use Rattle.tls_wire.proofs.TextLoops.{NumbersLeft, with_bytes, numbers_from, numbers_fail}
-use Rattle.tls_wire.proofs.TextLoops.{numbers_done, numbers_more}
+use Rattle.tls_wire.proofs.TextLoops.{numbers_end, numbers_more}
 
 -- ---- the bytes of an arc
 
@@ -51,110 +51,86 @@ counted_end total count (suc n) le c = absurd (omega arith)
 -- ---- the numbers of a text
 
 -- The arcs so far have so many bytes.
-pub record CountLeft (text : List ℕ) (count place : ℕ) : Type 0 where
-  pub bytes : List ℕ
-  pub left : NumbersLeft text bytes place
+pub record CountLeft (text : Text) (count : ℕ) (a : At) : Type 0 where
+  pub bytes : Text
+  pub left : NumbersLeft (arcs_in text) bytes a
   pub same : length bytes ≡ count
-  pub few : count ≤ 255
-
-pub count_from : (text : List ℕ) → CountLeft text 0 0
-count_from text = record { bytes = []; left = numbers_from text; same = refl; few = omega arith }
 
 -- An answer of so many bytes at most.
-fits : Result (List ℕ) AnchorError → Bool
+fits : Result Text AnchorError → Bool
 fits (Ok bytes) = if nat_lt 255 (length bytes) then false else true
 fits (Err e) = false
 
-text_says : (text : List ℕ) → 0 < length text → is_anchor_text text ≡ fits (arcs_in text)
-unfolding anchor_text fits
-text_says [] some = absurd (omega arith)
-text_says (c ∷ text) some = rw (ne_eqb (length (c ∷ text)) 0 (omega arith))
-    (go (arcs_in (c ∷ text)))
+text_says : (text : Text) → is_anchor_text text ≡ fits (arcs_in text)
+unfolding anchor_text arcs_in decimal_at fits
+text_says [] = refl
+text_says (c ∷ text) = let other : length (c ∷ text) ≢ 0 = omega arith in
+    rw (ne_eqb (length (c ∷ text)) 0 other) (go (arcs_in (c ∷ text)))
   where
-    test : (b : Bool) (bytes : List ℕ) → is_read (if b then Err TooLong else Ok bytes)
+    test : (b : Bool) (bytes : Text) → is_read (if b then Err TooLong else Ok bytes)
         ≡ (if b then false else true)
     test true bytes = refl
     test false bytes = refl
 
-    go : (r : Result (List ℕ) AnchorError)
-        → is_read (r >>= λ (bytes : List ℕ). if nat_lt 255 (length bytes) then Err TooLong
+    go : (r : Result Text AnchorError)
+        → is_read (r >>= λ (bytes : Text). if nat_lt 255 (length bytes) then Err TooLong
         else Ok bytes) ≡ fits r
     go (Ok bytes) = test (nat_lt 255 (length bytes)) bytes
     go (Err e) = refl
 
-empty_text : is_anchor_text [] ≡ false
-unfolding anchor_text
-empty_text = refl
-
-says_no : (text : List ℕ) → fits (arcs_in text) ≡ false → false ≡ is_anchor_text text
-says_no [] none = sym empty_text
-says_no (b ∷ text) none = sym (text_says (b ∷ text) (omega arith) ∙ none)
-
-fits_no : (r : Result (List ℕ) AnchorError) (e : AnchorError) → r ≡ Err e → fits r ≡ false
+-- A number doesn't read.
+pub none_counted : (text : Text) (e : AnchorError) → arcs_in text ≡ Err e
+    → false ≡ is_anchor_text text
 unfolding fits
-fits_no r e same = rw same refl
+none_counted text e fails = sym (text_says text ∙ rw fails refl)
 
-fits_long : (bytes : List ℕ) (r : Result (List ℕ) AnchorError) → 255 < length bytes
-    → fits (with_bytes bytes r) ≡ false
-unfolding fits
-fits_long bytes (Err e) long = refl
-fits_long bytes (Ok ns) long =
-    let all : 255 < length (bytes ++ flat_map arc ns) =
-    omega (arith, length-append bytes (flat_map arc ns)) in
-    rw (lt-ltb 255 (length (bytes ++ flat_map arc ns)) all) refl
-
-fits_yes : (r : Result (List ℕ) AnchorError) (bytes : List ℕ) → r ≡ Ok bytes → length bytes ≤ 255
-    → fits r ≡ true
-unfolding fits
-fits_yes r bytes same few = rw (same, le-ltb 255 (length bytes) few) refl
-
--- The next number doesn't read.
-pub count_fails : (text : List ℕ) (count place : ℕ) (e : AnchorError)
-    → decimal_at (at text place) ≡ Err e → CountLeft text count place → false ≡ is_anchor_text text
-count_fails text count place e step c =
-    says_no text (fits_no (arcs_in text) e (numbers_fail text c.bytes place e step c.left))
+pub count_fails : (text : Text) (count : ℕ) (a : At) (e : AnchorError) → dot_decimal_at a ≡ Err e
+    → length a.rest ≢ 0 → CountLeft text count a → false ≡ is_anchor_text text
+count_fails text count a e step some c =
+    none_counted text e (numbers_fail (arcs_in text) c.bytes a e step some c.left)
 
 -- Too many bytes.
-pub count_large : (text : List ℕ) (count place n behind : ℕ)
-    → decimal_at (at text place) ≡ Ok (n, at text behind) → place < behind → behind ≤ length text
-    → 255 < count + length (arc n) → CountLeft text count place → false ≡ is_anchor_text text
-count_large text count place n behind step lt le large c =
-    let long : 255 < length (c.bytes ++ arc n) =
-    omega (arith, length-append c.bytes (arc n), c.same) in
-    elim (cases_lt behind (length text)) [
-      | inl less ↦
-          let more = numbers_more text c.bytes place n behind step lt less c.left in
-          says_no text (ap fits (sym more.rest)
-          ∙ fits_long (c.bytes ++ arc n) (decimals_at more.fuel (at text (behind + 1))) long)
-      | inr ge ↦
-          let done = numbers_done text c.bytes place n behind step (omega arith) c.left in
-          let none : with_bytes (c.bytes ++ arc n) (Ok []) ≡ Ok (c.bytes ++ arc n) =
-          ap (λ (t : List ℕ). Ok t) (append-nil (c.bytes ++ arc n)) in
-          says_no text (ap fits (done ∙ sym none) ∙ fits_long (c.bytes ++ arc n) (Ok []) long)
-    ]
+pub count_large : (text : Text) (count : ℕ) (a : At) → 255 < count → CountLeft text count a
+    → false ≡ is_anchor_text text
+unfolding fits
+count_large text count a large c =
+    sym (text_says text ∙ (ap fits (sym c.left.rest)
+    ∙ go (many_at dot_decimal_at c.left.fuel a)))
+  where
+    go : (r : Result (List ℕ × At) AnchorError) → fits (with_bytes c.bytes r) ≡ false
+    go (Err e) = refl
+    go (Ok ns) =
+        let all : 255 < length (c.bytes ++ flat_map arc ns.0) =
+        omega (arith, length-append c.bytes (flat_map arc ns.0), c.same) in
+        rw (lt-ltb 255 (length (c.bytes ++ flat_map arc ns.0)) all) refl
 
--- The last number.
-pub count_done : (text : List ℕ) (count place n behind : ℕ)
-    → decimal_at (at text place) ≡ Ok (n, at text behind) → place < behind → behind ≡ length text
-    → count + length (arc n) ≤ 255 → CountLeft text count place → true ≡ is_anchor_text text
-count_done text count place n behind step lt end few c =
-    let size : length (c.bytes ++ arc n) ≤ 255 =
-    omega (arith, length-append c.bytes (arc n), c.same) in
-    let done = numbers_done text c.bytes place n behind step end c.left in
-    sym (text_says text (omega (arith, lt, end))
-    ∙ fits_yes (arcs_in text) (c.bytes ++ arc n) done size)
+-- No number is left.
+pub count_end : (text : Text) (count : ℕ) (a : At) → count ≤ 255 → length a.rest ≡ 0
+    → CountLeft text count a → true ≡ is_anchor_text text
+unfolding fits
+count_end text count a few none c =
+    let size : length c.bytes ≤ 255 = omega (arith, c.same) in
+    sym (text_says text ∙ rw (
+      numbers_end (arcs_in text) c.bytes a none c.left,
+      le-ltb 255 (length c.bytes) size,
+    ) refl)
 
--- Another number, and a dot behind it.
-pub count_more : (text : List ℕ) (count place n behind : ℕ)
-    → decimal_at (at text place) ≡ Ok (n, at text behind) → place < behind → behind ≤ length text
-    → behind ≢ length text
-    → count + length (arc n) ≤ 255 → CountLeft text count place
-    → CountLeft text (count + length (arc n)) (behind + 1)
-count_more text count place n behind step lt le other few c = record {
+pub count_from : (text : Text) (n : ℕ) (a : At) → decimal_at (at text 0) ≡ Ok (n, a)
+    → CountLeft text (length (arc n)) a
+count_from text n a step = record {
+  bytes = arc n;
+  left = numbers_from text n a step;
+  same = refl;
+}
+
+-- Another number.
+pub count_more : (text : Text) (count : ℕ) (a : At) (n : ℕ) (b : At)
+    → dot_decimal_at a ≡ Ok (n, b) → length b.rest < length a.rest → CountLeft text count a
+    → CountLeft text (count + length (arc n)) b
+count_more text count a n b step less c = record {
   bytes = c.bytes ++ arc n;
-  left = numbers_more text c.bytes place n behind step lt (omega arith) c.left;
+  left = numbers_more (arcs_in text) c.bytes a n b step less c.left;
   same = omega (arith, length-append c.bytes (arc n), c.same);
-  few = few;
 }
 
 -- ---- how long the text of an anchor id is

@@ -41,15 +41,14 @@ some_chosen : (test : Bool) (m n : ℕ) → (if test then Some m else None) ≡ 
 some_chosen true m n e = (refl, cc)
 some_chosen false m n e = absurd cc
 
--- a text that std doesn't parse is no number
+-- a text in decimal that std doesn't parse is too large
 pub refused : {E : Type 0} (text : List ℕ) (e : E) → ParsesUnsigned 64 10 text (Err e)
-    → None ≡ number_of text
-unfolding number_of
-refused text e parsed = none_chosen _ _ (λ test.
-    let digits : all_ascii_digits text ≡ true = grind arith in
-    let some : 0 < length text = grind arith in
-    let below : digits_value 10 text < 2 ^ 64 = grind arith in
-    parse_digits own 64 text (Err e) parsed digits (some, below))
+    → is_decimal text ≡ true
+    → None ≡ (if nat_lt (digits_value 10 text) (2 ^ 64) then Some (digits_value 10 text) else None)
+refused text e parsed test =
+    let parts = decimal_parts text test in
+    none_chosen (nat_lt (digits_value 10 text) (2 ^ 64)) (digits_value 10 text) (λ small.
+    parse_digits own 64 text (Err e) parsed parts.digits (parts.some, ltb-true _ _ small))
 
 -- a text in decimal is one of characters
 pub are_characters : (text : List ℕ) → is_decimal text ≡ true → IsUtf8 text
@@ -59,6 +58,13 @@ are_characters text test =
 
 -- ---- both ways
 
+-- a text in decimal is that of its number
+pub decimal_is : (text : List ℕ) → is_decimal text ≡ true → digits_value 10 text < 2 ^ 64
+    → decimal (digits_value 10 text) ≡ text
+decimal_is text test small =
+    let parts = decimal_parts text test in
+    decimal-digits_value own text parts.digits parts.some parts.shortest small
+
 pub number_is_decimal : (text : List ℕ) (n : ℕ) → number_of text ≡ Some n
     → (decimal n ≡ text) × (n < 2 ^ 63)
 unfolding number_of
@@ -66,10 +72,8 @@ number_is_decimal text n e =
     let step = some_chosen (is_decimal text && nat_lt (digits_value 10 text) (2 ^ 63))
     (digits_value 10 text) n e in
     let tests = and_parts (is_decimal text) (nat_lt (digits_value 10 text) (2 ^ 63)) step.0 in
-    let parts = decimal_parts text tests.0 in
     let below : digits_value 10 text < 2 ^ 63 = ltb-true _ _ tests.1 in (
-      ap decimal (sym step.1)
-          ∙ decimal-digits_value own text parts.digits parts.some parts.shortest (omega arith),
+      ap decimal (sym step.1) ∙ decimal_is text tests.0 (omega arith),
       omega (arith, step.1),
     )
 
@@ -86,13 +90,19 @@ some_digits text digits some first =
     rw (lt-ltb 0 (length text) some, digits, ne_eqb (get_or text 0 0) 48 other)
     (grind (arith, nat_tests))
 
-decimal_in_form : (n : ℕ) → n < 2 ^ 63 → is_decimal (decimal n) ≡ true
+-- the digits of a number, and the number that they write
+pub decimal_digits : (n : ℕ) → n < 2 ^ 64 → all_ascii_digits (decimal n) ≡ true
+decimal_digits n small = digits_decimal own n small
+
+pub decimal_value : (n : ℕ) → n < 2 ^ 64 → digits_value 10 (decimal n) ≡ n
+decimal_value n small = digits_value-decimal own n small
+
+pub decimal_in_form : (n : ℕ) → n < 2 ^ 64 → is_decimal (decimal n) ≡ true
 decimal_in_form n small =
-    let fits : n < 2 ^ 64 = omega arith in
     ⊎_elim
-    (λ (more : 0 < n). some_digits (decimal n) (digits_decimal own n fits)
-    (decimal_nonempty n fits) (first_decimal n more fits))
-    (λ (none : n ≤ 0). one_digit (decimal n) (digits_decimal own n fits)
+    (λ (more : 0 < n). some_digits (decimal n) (decimal_digits n small)
+    (decimal_nonempty n small) (first_decimal n more small))
+    (λ (none : n ≤ 0). one_digit (decimal n) (decimal_digits n small)
     (ap length (decimal_digit n (omega arith))))
     (cases_lt 0 n)
 
@@ -100,5 +110,4 @@ pub decimal_is_number : (n : ℕ) → n < 2 ^ 63 → number_of (decimal n) ≡ S
 unfolding number_of
 decimal_is_number n small =
     let fits : n < 2 ^ 64 = omega arith in
-    let value : digits_value 10 (decimal n) ≡ n = digits_value-decimal own n fits in
-    rw (decimal_in_form n small, value, lt-ltb n (2 ^ 63) small) refl
+    rw (decimal_in_form n fits, decimal_value n fits, lt-ltb n (2 ^ 63) small) refl

@@ -1,6 +1,6 @@
 pub mod Numbers
 pub mod Vectors
-pub mod AnchorLoops
+pub mod Digits
 pub mod ArcForm
 pub mod DecimalForm
 pub mod Decimals
@@ -8,3 +8,4 @@ pub mod AnchorForm
 pub mod TextLoops
 pub mod AnchorTexts
 pub mod Hashes
+pub mod Cuts

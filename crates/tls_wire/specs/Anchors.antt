@@ -1,12 +1,17 @@
 -- Reading anchor ids, with their faults in their order.
-use Rattle.std.specs.Prelude.{ℕ, ◌+◌, ◌-◌, ◌*◌, ◌%◌, ◌^◌, nat_lt, nat_le, ◌==◌, zero, suc, Bool}
-use Rattle.std.specs.Prelude.{List, [], ◌∷◌, length, flat_map, Result, Ok, Err, if◌then◌else◌}
+use Rattle.std.specs.Prelude.{ℕ, ◌+◌, ◌%◌, ◌^◌, nat_lt, nat_le, ◌==◌, Bool, true, not}
+use Rattle.std.specs.Prelude.{List, [], ◌∷◌, length, map, take, drop, flat_map, Result, Ok, Err}
+use Rattle.std.specs.Prelude.{if◌then◌else◌}
 use Rattle.std.specs.Char.{is_ascii_digit}
+use Rattle.std.specs.List.{prefix_len, take_while}
+use Rattle.std.specs.Int.Digits.{number_from_digits}
+use Rattle.std.specs.Str.Parse.{digits_value}
 use Rattle.byte_formats.specs.Types.{Text}
 use Rattle.byte_formats.specs.Places.{At, at, after, begins_with}
 use Rattle.byte_formats.specs.Readings.{Reading, ◌>>=◌, is_read, discarded}
 use Rattle.byte_formats.specs.Lists.{up_to_end}
 use Rattle.tls_wire.specs.Arcs.{arc, dotted}
+use Rattle.tls_wire.specs.Decimal.{is_decimal}
 use Rattle.tls_wire.specs.declared.fault.AnchorError.{AnchorError}
 use Rattle.tls_wire.specs.declared.fault.AnchorError.TheVariants as text_faults
 use Rattle.tls_wire.specs.declared.fault.AnchorBytesError.{AnchorBytesError}
@@ -14,20 +19,25 @@ use Rattle.tls_wire.specs.declared.fault.AnchorBytesError.TheVariants as byte_fa
 
 -- ---- bytes
 
--- What is left of the arc that began at start, behind digits that stand for n. It is too large as
--- soon as they are.
-unfoldable pub arc_from : ℕ → ℕ → ℕ → Text → Result (ℕ × At) AnchorBytesError
-arc_from start n place [] = Err byte_faults.Unfinished
-arc_from start n place (b ∷ rest) =
-    if nat_le (2 ^ 64) (n * 128 + b % 128) then Err (byte_faults.ArcTooLarge start)
-    else (if nat_lt b 128 then Ok (n * 128 + b % 128, record { place = place + 1; rest = rest })
-    else arc_from start (n * 128 + b % 128) (place + 1) rest)
+-- How many bytes with the highest bit set stand here: the digits of an arc in front of the last.
+abbrev pub high_count : Text → ℕ
+high_count bytes = prefix_len (λ b. nat_le 0x80 b) bytes
 
--- One arc. It doesn't begin with a digit of 0.
-unfoldable pub arc_at : Reading ℕ AnchorBytesError
-arc_at a =
+-- The number that digits in base 128 write, whatever the highest bit of each byte.
+abbrev pub base_128 : Text → ℕ
+base_128 bytes = number_from_digits 128 (map (λ b. b % 128) bytes)
+
+-- One arc: these bytes, up to its last one. It doesn't begin with a digit of 0, and where it is too
+-- large, its end isn't looked for.
+abbrev pub arc_of : Text → Reading ℕ AnchorBytesError
+arc_of bytes a =
     if begins_with 0x80 a.rest then Err (byte_faults.Padding a.place)
-    else arc_from a.place 0 a.place a.rest
+    else (if nat_le (2 ^ 64) (base_128 bytes) then Err (byte_faults.ArcTooLarge a.place)
+    else (if length bytes == high_count a.rest then Err byte_faults.Unfinished
+    else Ok (base_128 bytes, after (length bytes) a)))
+
+unfoldable pub arc_at : Reading ℕ AnchorBytesError
+arc_at a = arc_of (take (high_count a.rest + 1) a.rest) a
 
 -- The bytes are arcs up to their end.
 unfoldable pub arcs_only : Text → Result (Unit {0}) AnchorBytesError
@@ -42,40 +52,36 @@ anchor_of bytes =
 
 -- ---- texts
 
--- What is left of the number that began at start, behind digits that stand for n, up to a dot or
--- the end.
-unfoldable pub decimal_from : ℕ → ℕ → ℕ → Text → Result (ℕ × At) AnchorError
-decimal_from start n place [] = Ok (n, record { place = place; rest = [] })
-decimal_from start n place (c ∷ rest) =
-    if c == 0x2E then Ok (n, record { place = place; rest = c ∷ rest })
-    else (if is_ascii_digit c then
-    (if n == 0 then Err (text_faults.LeadingZero start)
-    else (if nat_le (2 ^ 64) (n * 10 + (c - 0x30)) then Err (text_faults.ArcTooLarge start)
-    else decimal_from start (n * 10 + (c - 0x30)) (place + 1) rest))
-    else Err (text_faults.NotDecimal place))
+-- What ends a number: a dot, or the end.
+abbrev pub ends_number : Text → Bool
+ends_number [] = true
+ends_number (c ∷ rest) = c == 0x2E
 
--- One number, which has a digit.
-abbrev pub decimal_in : ℕ → Text → Result (ℕ × At) AnchorError
-decimal_in place [] = Err (text_faults.NotDecimal place)
-decimal_in place (c ∷ rest) =
-    if is_ascii_digit c then decimal_from place (c - 0x30) (place + 1) rest
-    else Err (text_faults.NotDecimal place)
+-- One number: these digits, up to a dot or the end.
+abbrev pub decimal_of : Text → Reading ℕ AnchorError
+decimal_of digits a =
+    if length digits == 0 then Err (text_faults.NotDecimal a.place)
+    else (if not (is_decimal digits) then Err (text_faults.LeadingZero a.place)
+    else (if nat_le (2 ^ 64) (digits_value 10 digits) then Err (text_faults.ArcTooLarge a.place)
+    else (if ends_number (drop (length digits) a.rest) then
+    Ok (digits_value 10 digits, after (length digits) a)
+    else Err (text_faults.NotDecimal (a.place + length digits)))))
 
 unfoldable pub decimal_at : Reading ℕ AnchorError
-decimal_at a = decimal_in a.place a.rest
+decimal_at a = decimal_of (take_while is_ascii_digit a.rest) a
 
--- Numbers up to the end, with dots between them. The first argument is more than the number of
--- characters that are left.
-unfoldable pub decimals_at : ℕ → At → Result (List ℕ) AnchorError
-decimals_at zero a = Ok []
-decimals_at (suc fuel) a =
-    decimal_at a >>= λ n.
-    if length n.1.rest == 0 then Ok (n.0 ∷ [])
-    else (decimals_at fuel (after 1 n.1) >>= λ ns. Ok (n.0 ∷ ns))
+-- A dot, and a number.
+unfoldable pub dot_decimal_at : Reading ℕ AnchorError
+dot_decimal_at a =
+    if begins_with 0x2E a.rest then decimal_at (after 1 a)
+    else Err (text_faults.NotDecimal a.place)
 
 -- The arcs of a text in dotted decimal, one behind the other.
 unfoldable pub arcs_in : Text → Result Text AnchorError
-arcs_in text = decimals_at (length text + 1) (at text 0) >>= λ ns. Ok (flat_map arc ns)
+arcs_in text =
+    decimal_at (at text 0) >>= λ n.
+    up_to_end dot_decimal_at n.1 >>= λ ns.
+    Ok (flat_map arc (n.0 ∷ ns.0))
 
 -- The anchor id with this text: first its numbers, then the length of its bytes.
 unfoldable pub anchor_text : Text → Result Text AnchorError

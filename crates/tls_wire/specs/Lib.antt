@@ -3,3 +3,4 @@ pub mod Encoding
 pub mod Arcs
 pub mod Anchors
 pub mod Decimal
+pub mod Lines

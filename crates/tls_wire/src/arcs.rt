@@ -1,57 +1,89 @@
 //! Arcs of an anchor id: numbers below 2 ^ 64 in base 128, in the fewest bytes, with the highest
 //! bit set in all but the last.
 
-ghost use Rattle.std.specs.Prelude.{◌≡◌, ◌^◌, ◌<◌, ◌≤◌, ◌++◌, length, drop, IfOk, OnOk};
-ghost use Rattle.byte_formats.specs.Places.{at};
-ghost use Rattle.byte_formats.specs.Readings.{Gives};
+ghost use Rattle.std.specs.Prelude.{◌≡◌, ◌^◌, ◌<◌, ◌≤◌, ◌+◌, ◌++◌, length, take, Some, None, OnOk};
+ghost use Rattle.std.specs.Prelude.{nat_lt, if◌then◌else◌};
+ghost use Rattle.byte_formats.specs.Readings.{Gives, Moves};
 ghost use Rattle.tls_wire.specs.Arcs.{high_digits, arc};
-ghost use Rattle.tls_wire.specs.Anchors.{arc_from, arc_at, arcs_only};
+ghost use Rattle.tls_wire.specs.Anchors.{high_count, base_128, arc_at, arcs_only};
 
+use crate::cursor::Cursor;
 use crate::fault::AnchorBytesError;
 use mtc_io::{Bytes, Memory};
 
-// The arc at this offset, and the offset behind it.
-#[tactic(auto, unfolding(crate::specs::Anchors::arc_at))]
-pub(crate) fn read_arc(bytes: &[u8], start: usize) -> Result<(u64, usize), AnchorBytesError>
-    requires { start < length bytes.now }
-    ensures exact { Gives (λ x. (x.0, at bytes.now x.1)) result (arc_at (at bytes.now start)) }
-    ensures forward { IfOk result (λ x. (start < x.1) × (x.1 ≤ length bytes.now)) }
+// How many bytes with the highest bit set stand here.
+fn high_count(bytes: &[u8]) -> usize
+    ensures exact { result ≡ high_count bytes.now }
+    ensures within { result ≤ length bytes.now }
 {
-    if bytes[start] == 128 {
-        Err(AnchorBytesError::Padding(start))
-    } else {
-        digits(bytes, start)
+    let mut count = 0;
+    let mut rest = bytes;
+    while let [byte, behind @ ..] = rest {
+        if *byte < 128 {
+            return count;
+        }
+        count += 1;
+        rest = behind;
     }
+    count
 }
 
-// The digits of the arc at this offset.
-fn digits(bytes: &[u8], start: usize) -> Result<(u64, usize), AnchorBytesError>
-    requires { start < length bytes.now }
-    ensures exact { Gives (λ x. (x.0, at bytes.now x.1)) result
-        (arc_from start 0 start (drop start bytes.now)) }
-    ensures forward { IfOk result (λ x. (start < x.1) × (x.1 ≤ length bytes.now)) }
+// The number that digits in base 128 write, where it fits 64 bits.
+fn base_128(bytes: &[u8]) -> Option<u64>
+    ensures { result ≡ (if nat_lt (base_128 bytes.now) (2 ^ 64) then Some (base_128 bytes.now)
+        else None) }
 {
     let mut n: u64 = 0;
-    for place in start..bytes.len() {
-        let byte = bytes[place];
+    let mut rest = bytes;
+    while let [byte, behind @ ..] = rest {
         if n >= 1 << 57 {
-            return Err(AnchorBytesError::ArcTooLarge(start));
+            return None;
         }
-        n = n * 128 + (byte % 128) as u64;
-        if byte < 128 {
-            return Ok((n, place + 1));
-        }
+        n = n * 128 + (*byte % 128) as u64;
+        rest = behind;
     }
-    Err(AnchorBytesError::Unfinished)
+    Some(n)
+}
+
+// One arc.
+#[tactic(auto, unfolding(crate::specs::Anchors::arc_at))]
+pub(crate) fn read_arc(input: &mut Cursor) -> Result<u64, AnchorBytesError>
+    ensures exact { Moves (λ n. n) arc_at input.old result input.new }
+    ensures forward { OnOk result (length input.new.rest < length input.old.rest) }
+{
+    let start = input.place();
+    let rest = input.rest();
+    if let [128, ..] = rest {
+        return Err(AnchorBytesError::Padding(start));
+    }
+    let count = high_count(rest);
+    let bytes = first(rest, count + 1);
+    let n = base_128(bytes).ok_or(AnchorBytesError::ArcTooLarge(start))?;
+    if bytes.len() == count {
+        return Err(AnchorBytesError::Unfinished);
+    }
+    input.skip(bytes.len());
+    Ok(n)
+}
+
+// The first bytes, at most so many.
+fn first(bytes: &[u8], count: usize) -> &[u8]
+    ensures { result.now ≡ take count bytes.now }
+{
+    if count < bytes.len() {
+        &bytes[..count]
+    } else {
+        bytes
+    }
 }
 
 // Reads arcs up to the end of the bytes.
 pub(crate) fn read_arcs(bytes: &[u8]) -> Result<(), AnchorBytesError>
     ensures { Gives (λ x. x) result (arcs_only bytes.now) }
 {
-    let mut place = 0;
-    while place < bytes.len() {
-        place = read_arc(bytes, place)?.1;
+    let mut input = Cursor::new(bytes);
+    while input.left() != 0 {
+        read_arc(&mut input)?;
     }
     Ok(())
 }

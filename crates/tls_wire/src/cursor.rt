@@ -1,8 +1,8 @@
 //! Reading from left to right.
 
-ghost use Rattle.std.specs.Prelude.{◌≡◌, length};
+ghost use Rattle.std.specs.Prelude.{◌≡◌, ◌≤◌, length};
 ghost use Rattle.std.specs.Int.{w8, w16, w32, w64};
-ghost use Rattle.byte_formats.specs.Places.{at};
+ghost use Rattle.byte_formats.specs.Places.{at, after};
 ghost use Rattle.byte_formats.specs.Readings.{Reads};
 ghost use Rattle.tls_wire.specs.Reading.{bytes_at, ahead_at, number_at, vector_at, inner_at};
 ghost use Rattle.tls_wire.specs.Reading.{hashes_at};
@@ -86,6 +86,15 @@ impl<'a> Cursor<'a> {
         self.rest
     }
 
+    // Goes so many bytes on.
+    pub(crate) fn skip(&mut self, count: usize)
+        requires { count ≤ length self.old.rest }
+        ensures { self.new ≡ after count self.old }
+    {
+        self.place += count;
+        self.rest = &self.rest[count..];
+    }
+
     /// A number of one byte.
     pub fn u8(&mut self) -> Result<u8, Short>
         ensures { Reads (λ n. n) (number_at w8) self.old result self.new }
@@ -121,9 +130,8 @@ impl<'a> Cursor<'a> {
         if self.rest.len() < count {
             return Err(Short { place: self.place });
         }
-        let (bytes, rest) = self.rest.split_at(count);
-        self.place += count;
-        self.rest = rest;
+        let bytes = &self.rest[..count];
+        self.skip(count);
         Ok(bytes)
     }
 

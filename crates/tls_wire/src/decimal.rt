@@ -1,7 +1,8 @@
 //! Numbers in decimal, alone in their text.
 
-ghost use Rattle.std.specs.Prelude.{◌≡◌, true};
+ghost use Rattle.std.specs.Prelude.{◌≡◌, ◌^◌, nat_lt, true, Some, None, if◌then◌else◌};
 ghost use Rattle.std.specs.Str.{all_ascii_digits};
+ghost use Rattle.std.specs.Str.Parse.{digits_value};
 ghost use Rattle.tls_wire.specs.Decimal.{is_decimal, number_of};
 
 fn are_digits(bytes: &[u8]) -> bool
@@ -15,7 +16,7 @@ fn are_digits(bytes: &[u8]) -> bool
     true
 }
 
-fn has_decimal_form(bytes: &[u8]) -> bool
+pub(crate) fn has_decimal_form(bytes: &[u8]) -> bool
     ensures { result ≡ is_decimal bytes.now }
 {
     if bytes.is_empty() || !are_digits(bytes) {
@@ -27,15 +28,27 @@ fn has_decimal_form(bytes: &[u8]) -> bool
     bytes[0] != b'0'
 }
 
-// The number of a text that is in decimal, where it is at most 2^63 - 1.
-#[tactic(auto, unfolding(crate::specs::Decimal::number_of))]
+// The number of digits, where it fits 64 bits.
 fn parsed(digits: &str) -> Option<u64>
     requires { is_decimal digits.now ≡ true }
-    ensures { result ≡ number_of digits.now }
+    ensures { result ≡ (if nat_lt (digits_value 10 digits.now) (2 ^ 64) then
+        Some (digits_value 10 digits.now) else None) }
 {
     match digits.parse::<u64>() {
-        Ok(number) if number < 1 << 63 => Some(number),
-        _ => None,
+        Ok(number) => Some(number),
+        Err(_) => None,
+    }
+}
+
+// The number of a text that is in decimal, where it fits 64 bits.
+pub(crate) fn decimal_value(text: &[u8]) -> Option<u64>
+    requires { is_decimal text.now ≡ true }
+    ensures { result ≡ (if nat_lt (digits_value 10 text.now) (2 ^ 64) then
+        Some (digits_value 10 text.now) else None) }
+{
+    match str::from_utf8(text) {
+        Ok(digits) => parsed(digits),
+        Err(_) => None,
     }
 }
 
@@ -48,8 +61,8 @@ pub fn read_number(text: &[u8]) -> Option<u64>
     if !has_decimal_form(text) {
         return None;
     }
-    match str::from_utf8(text) {
-        Ok(digits) => parsed(digits),
-        Err(_) => None,
+    match decimal_value(text) {
+        Some(number) if number < 1 << 63 => Some(number),
+        _ => None,
     }
 }

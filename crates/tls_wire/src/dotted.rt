@@ -1,55 +1,133 @@
 //! Numbers in dotted decimal.
 
-ghost use Rattle.std.specs.Prelude.{◌≡◌, ◌<◌, ◌≤◌, ◌-◌, ◌+◌, ◌++◌, length, drop, decimal};
-ghost use Rattle.std.specs.Prelude.{string_bytes, if◌then◌else◌, IfOk, OnOk};
-ghost use Rattle.byte_formats.specs.Places.{at};
-ghost use Rattle.byte_formats.specs.Readings.{Gives, Answers};
-ghost use Rattle.tls_wire.specs.Anchors.{decimal_from, decimal_at, arcs_in, is_anchor_text};
-ghost use Rattle.tls_wire.specs.Anchors.{text_of};
+ghost use Rattle.std.specs.Prelude.{◌≡◌, ◌<◌, ◌≤◌, ◌++◌, true, length, decimal, string_bytes};
+ghost use Rattle.std.specs.Prelude.{IfOk, OnOk};
+ghost use Rattle.std.specs.Char.{is_ascii_digit};
+ghost use Rattle.std.specs.List.{prefix_len};
+ghost use Rattle.byte_formats.specs.Readings.{Answers, Moves, is_read};
+ghost use Rattle.tls_wire.specs.Anchors.{arc_at, decimal_at, dot_decimal_at, ends_number, arcs_in};
+ghost use Rattle.tls_wire.specs.Anchors.{is_anchor_text, text_of};
 ghost use Rattle.tls_wire.specs.Arcs.{dot_decimal, IsAnchorId};
 
 use crate::arcs::{arc_length, put_arc, read_arc};
+use crate::cursor::Cursor;
+use crate::decimal::{decimal_value, has_decimal_form};
 use crate::fault::AnchorError;
 use mtc_io::{Bytes, Memory};
 use std::alloc::Global;
+
+// How many digits stand here.
+fn digit_count(text: &[u8]) -> usize
+    ensures exact { result ≡ prefix_len is_ascii_digit text.now }
+    ensures within { result ≤ length text.now }
+{
+    let mut count = 0;
+    let mut rest = text;
+    while let [c, behind @ ..] = rest {
+        if !c.is_ascii_digit() {
+            return count;
+        }
+        count += 1;
+        rest = behind;
+    }
+    count
+}
+
+// A number may end in front of this.
+fn ends_number(rest: &[u8]) -> bool
+    ensures { result ≡ ends_number rest.now }
+{
+    match rest {
+        [] => true,
+        [c, ..] => *c == b'.',
+    }
+}
+
+// One number, without a leading zero, up to a dot or the end.
+#[tactic(auto, unfolding(crate::specs::Anchors::decimal_at))]
+fn read_decimal(input: &mut Cursor) -> Result<u64, AnchorError>
+    ensures exact { Moves (λ n. n) decimal_at input.old result input.new }
+    ensures forward { OnOk result (length input.new.rest < length input.old.rest) }
+{
+    let start = input.place();
+    let rest = input.rest();
+    let count = digit_count(rest);
+    if count == 0 {
+        return Err(AnchorError::NotDecimal(start));
+    }
+    let digits = &rest[..count];
+    if !has_decimal_form(digits) {
+        return Err(AnchorError::LeadingZero(start));
+    }
+    let n = decimal_value(digits).ok_or(AnchorError::ArcTooLarge(start))?;
+    input.skip(count);
+    if !ends_number(input.rest()) {
+        return Err(AnchorError::NotDecimal(input.place()));
+    }
+    Ok(n)
+}
+
+// A dot, and a number.
+#[tactic(auto, unfolding(crate::specs::Anchors::dot_decimal_at))]
+fn read_dot_decimal(input: &mut Cursor) -> Result<u64, AnchorError>
+    ensures exact { Moves (λ n. n) dot_decimal_at input.old result input.new }
+    ensures forward { OnOk result (length input.new.rest < length input.old.rest) }
+{
+    match input.rest() {
+        [b'.', ..] => {
+            input.skip(1);
+            read_decimal(input)
+        }
+        _ => Err(AnchorError::NotDecimal(input.place())),
+    }
+}
 
 // The numbers of a text, as arcs one behind the other.
 #[tactic(auto, unfolding(crate::specs::Anchors::arcs_in))]
 pub(crate) fn arcs_of_text(alloc: Global, text: &[u8]) -> Result<Bytes, AnchorError>
     ensures { Answers AnchorError.Memory (arcs_in text.now) result }
 {
+    let mut input = Cursor::new(text);
     let mut bytes = Bytes::new(alloc);
-    let mut place = 0;
-    loop {
-        let (n, behind) = read_decimal(text, place)?;
+    let first = read_decimal(&mut input)?;
+    put_arc(&mut bytes, first)?;
+    while input.left() != 0 {
+        let n = read_dot_decimal(&mut input)?;
         put_arc(&mut bytes, n)?;
-        if behind == text.len() {
-            return Ok(bytes);
-        }
-        place = behind + 1;
     }
+    Ok(bytes)
 }
 
 // The text is numbers whose arcs have 1 to 255 bytes together.
 pub(crate) fn is_dotted(text: &[u8]) -> bool
     ensures { result ≡ is_anchor_text text.now }
 {
-    let mut count: usize = 0;
-    let mut place = 0;
-    loop {
-        match read_decimal(text, place) {
-            Err(_) => return false,
-            Ok((n, behind)) => {
-                count += arc_length(n);
-                if count > 255 {
-                    return false;
-                }
-                if behind == text.len() {
-                    return true;
-                }
-                place = behind + 1;
-            }
+    let mut input = Cursor::new(text);
+    let mut count = match read_decimal(&mut input) {
+        Ok(n) => arc_length(n),
+        Err(_) => return false,
+    };
+    while count <= 255 {
+        if input.left() == 0 {
+            return true;
         }
+        match read_dot_decimal(&mut input) {
+            Ok(n) => count += arc_length(n),
+            Err(_) => return false,
+        }
+    }
+    false
+}
+
+// The arc that stands here.
+fn arc_here(input: &mut Cursor) -> u64
+    requires { is_read (arc_at input.old) ≡ true }
+    ensures exact { Moves (λ n. n) arc_at input.old (Ok result) input.new }
+    ensures forward { length input.new.rest < length input.old.rest }
+{
+    match read_arc(input) {
+        Ok(n) => n,
+        Err(_) => unreachable!(),
     }
 }
 
@@ -58,70 +136,13 @@ pub(crate) fn text_of_arcs(alloc: Global, bytes: &[u8]) -> Result<Bytes, Memory>
     requires { IsAnchorId bytes.now }
     ensures { IfOk result (λ text. text ≡ text_of bytes.now) }
 {
+    let mut input = Cursor::new(bytes);
     let mut text = String::new(alloc);
-    let mut place = 0;
-    while place < bytes.len() {
-        match read_arc(bytes, place) {
-            Ok((n, behind)) => {
-                put_number(&mut text, place > 0, n)?;
-                place = behind;
-            }
-            Err(_) => unreachable!(),
-        }
+    let first = arc_here(&mut input);
+    write!(text, "{first}")?;
+    while input.left() != 0 {
+        let n = arc_here(&mut input);
+        write!(text, ".{n}")?;
     }
     Ok(Bytes::from_vec(text.into_bytes()))
-}
-
-// Puts a number behind the text, and a dot before it where there is a number already.
-fn put_number(text: &mut String, dot: bool, n: u64) -> Result<(), Memory>
-    ensures { OnOk result (string_bytes text.new
-        ≡ string_bytes text.old ++ (if dot then dot_decimal n else decimal n)) }
-{
-    if dot {
-        text.push('.')?;
-    }
-    write!(text, "{n}")?;
-    Ok(())
-}
-
-// The number at this offset, without a leading zero, up to a dot or the end; and the offset behind
-// it.
-#[tactic(auto, unfolding(crate::specs::Anchors::decimal_at))]
-pub(crate) fn read_decimal(text: &[u8], start: usize) -> Result<(u64, usize), AnchorError>
-    requires { start ≤ length text.now }
-    ensures exact { Gives (λ x. (x.0, at text.now x.1)) result (decimal_at (at text.now start)) }
-    ensures forward { IfOk result (λ x. (start < x.1) × (x.1 ≤ length text.now)) }
-{
-    match text.get(start) {
-        Some(first) if first.is_ascii_digit() => digits(text, start, *first - b'0'),
-        _ => Err(AnchorError::NotDecimal(start)),
-    }
-}
-
-// The number at this offset, which begins with this digit.
-fn digits(text: &[u8], start: usize, first: u8) -> Result<(u64, usize), AnchorError>
-    requires { start < length text.now }
-    ensures exact { Gives (λ x. (x.0, at text.now x.1)) result
-        (decimal_from start first (start + 1) (drop (start + 1) text.now)) }
-    ensures forward { IfOk result (λ x. (start < x.1) × (x.1 ≤ length text.now)) }
-{
-    let mut n = first as u64;
-    for place in start + 1..text.len() {
-        let c = text[place];
-        if c == b'.' {
-            return Ok((n, place));
-        }
-        if !c.is_ascii_digit() {
-            return Err(AnchorError::NotDecimal(place));
-        }
-        if n == 0 {
-            return Err(AnchorError::LeadingZero(start));
-        }
-        let digit = (c - b'0') as u64;
-        if n > (u64::MAX - digit) / 10 {
-            return Err(AnchorError::ArcTooLarge(start));
-        }
-        n = n * 10 + digit;
-    }
-    Ok((n, text.len()))
 }

@@ -1,6 +1,6 @@
 //! Laws of the forms: the clauses are the laws, and the functions do nothing.
 
-ghost use Rattle.std.specs.Prelude.{◌≡◌, ◌<◌, ◌^◌, ℕ, decimal, flat_map, Ok, Some};
+ghost use Rattle.std.specs.Prelude.{◌≡◌, ◌<◌, ◌^◌, ◌∷◌, ◌++◌, ℕ, decimal, flat_map, Ok, Some};
 ghost use Rattle.std.specs.List.{AllByRecursion};
 ghost use Rattle.std.specs.Int.{w8, w16, w32, w64};
 ghost use Rattle.byte_formats.specs.Types.{Text};
@@ -12,6 +12,7 @@ ghost use Rattle.tls_wire.specs.Encoding.{number, vector, HasLength, IsShorter, 
 ghost use Rattle.tls_wire.specs.Arcs.{arc, IsArc, IsAnchorId};
 ghost use Rattle.tls_wire.specs.Anchors.{arc_at, anchor_of, anchor_text, text_of};
 ghost use Rattle.tls_wire.specs.Decimal.{number_of};
+ghost use Rattle.tls_wire.specs.Lines.{cut_at, Lacks};
 
 /// A number that is read is spelled so, and a number that is spelled so is read again, whatever
 /// follows it.
@@ -57,4 +58,13 @@ pub fn law_numbers_in_decimal_are_read_as_written()
     ensures again { (n : ℕ) → n < 2 ^ 63 → number_of (decimal n) ≡ Some n }
     ensures read { (text : Text) (n : ℕ) → number_of text ≡ Some n
         → (decimal n ≡ text) × (n < 2 ^ 63) }
+{}
+
+/// What is cut at a byte is what stands before the first one and behind it, and a text is cut there
+/// again.
+pub fn law_texts_are_cut_at_their_first_byte()
+    ensures parts { (mark : ℕ) (text : Text) (cut : Text × Text) → cut_at mark text ≡ Some cut
+        → (text ≡ cut.0 ++ (mark ∷ cut.1)) × Lacks mark cut.0 }
+    ensures again { (mark : ℕ) (prefix rest : Text) → Lacks mark prefix
+        → cut_at mark (prefix ++ (mark ∷ rest)) ≡ Some (prefix, rest) }
 {}

@@ -1,5 +1,5 @@
 use Rattle.tls_wire.proofs.Decimals.{refused}
 use Rattle.tls_wire.proofs.decimal.parsed.Goals as goal
 
-pub returns-in_default-2 : goal.returns-in_default-2
-returns-in_default-2 c = refused c.args.digits.now c.in_default.field-0 c.in_default.ensures.value.0
+pub returns-in-Err : goal.returns-in-Err
+returns-in-Err c = refused c.args.digits.now c.in-Err.field-0 c.in-Err.ensures.value.0 c.requires

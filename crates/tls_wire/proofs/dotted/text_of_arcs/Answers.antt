@@ -1,23 +1,28 @@
-use Rattle.std.proofs.Common.{ap, ◌∙◌, string_bytes, vec_items}
-use Rattle.tls_wire.proofs.TextLoops.{arcs_from, arcs_more, arcs_never_fail, arcs_done}
+use Rattle.std.proofs.Common.{ap, sym, ◌∙◌, arith, string_bytes, vec_items}
+use Rattle.tls_wire.specs.Anchors.{arc_at, text_of}
+use Rattle.tls_wire.proofs.TextLoops.{first_is_read, arcs_from, next_is_read, arcs_more, arcs_end}
 use Rattle.tls_wire.proofs.dotted.text_of_arcs.Goals as goal
 
-pub loop-place-init : goal.loop-place-init
-loop-place-init c = rw c.new-text.ensures.bytes (arcs_from c.args.bytes.now c.requires)
+pub arc_here-first-requires : goal.arc_here-first-requires
+arc_here-first-requires c = rw c.new-input.ensures (first_is_read c.args.bytes.now c.requires)
 
-pub loop-place-preserved : goal.loop-place-preserved
-loop-place-preserved c =
-    arcs_more c.args.bytes.now (string_bytes c.loop-place.text) c.loop-place.place c.in-Ok.n
-    c.in-Ok.behind (string_bytes c.put_number.new.text) c.loop-place-test.true
-    c.in-Ok.ensures.exact c.in-Ok.ensures.forward.0 c.in_ok-put_number-in-Ok.ensures
-    c.loop-place.invariant
+pub loop-input-init : goal.loop-input-init
+loop-input-init c =
+    rw (c.in_ok-write.ensures.bytes, c.new-text.ensures.bytes) (arcs_from c.args.bytes.now
+    c.arc_here-first.result c.arc_here-first.new.input c.requires
+    (ap arc_at (sym c.new-input.ensures) ∙ c.arc_here-first.ensures.exact))
 
-pub unreachable-requires : goal.unreachable-requires
-unreachable-requires c = arcs_never_fail c.args.bytes.now (string_bytes c.loop-place.text)
-    c.loop-place.place c.in-Err.field-0 c.loop-place-test.true c.in-Err.ensures.exact
-    c.loop-place.invariant
+pub arc_here-n-requires : goal.arc_here-n-requires
+arc_here-n-requires c = next_is_read (text_of c.args.bytes.now) (string_bytes c.loop-input.text)
+    c.loop-input.input (omega arith) c.loop-input.invariant
+
+pub loop-input-preserved : goal.loop-input-preserved
+loop-input-preserved c =
+    arcs_more (text_of c.args.bytes.now) (string_bytes c.loop-input.text) c.loop-input.input
+    c.arc_here-n.result c.arc_here-n.new.input (string_bytes c.write-in-loop-input.new.self)
+    (omega arith) c.arc_here-n.ensures.exact c.in_ok-write-2.ensures.bytes c.loop-input.invariant
 
 pub returns : goal.returns
 returns c = c.from_vec.ensures ∙ (ap vec_items c.into_bytes.ensures.value
-    ∙ arcs_done c.args.bytes.now (string_bytes c.loop-place.text) c.loop-place.place
-    c.loop-place-test.false c.loop-place.invariant)
+    ∙ arcs_end (text_of c.args.bytes.now) (string_bytes c.loop-input.text) c.loop-input.input
+    (omega arith) c.loop-input.invariant)
