@@ -12,7 +12,7 @@ Usage: tests/documents.py [CHECK ..]      the checks of these names alone
 import sys
 
 import beliefs
-from checks import citations, house, ledger, pages
+from checks import citations, house, ledger, pages, secrets
 from checks.sources import ROOT
 
 
@@ -27,7 +27,7 @@ CHECKS = [
     citations.check_architecture, citations.check_commands, citations.check_refusals,
     citations.check_order, check_beliefs, house.check_lengths, house.check_errors,
     house.check_columns, house.check_imports, house.check_heads, house.check_vocabulary, house.check_edits, ledger.check_ledger,
-    pages.check_paths,
+    secrets.check_secrets, pages.check_paths,
 ]
 
 
