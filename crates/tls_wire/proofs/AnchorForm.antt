@@ -171,10 +171,6 @@ text_again bytes id =
 
 -- ---- what a call that made an anchor id knows
 
-pub length_some : (n : ℕ) → (n == 0) ≡ false → 0 < n
-length_some n test = let some : n ≢ 0 = λ none. true≢false (sym (eq-eqb n 0 none)
-    ∙ test) in omega arith
-
 -- The arcs of a text that aren't too many are an anchor id.
 pub arcs_in_is_id : (text bytes : List ℕ) → IsBytes text → arcs_in text ≡ Ok bytes
     → length bytes ≤ 255 → IsAnchorId bytes

@@ -1,8 +1,9 @@
 -- Arcs as a form.
-use Rattle.std.proofs.Common.{◌≡◌, ◌≢◌, ℕ, zero, suc, ◌+◌, ◌*◌, ◌/◌, ◌%◌, ◌^◌, ◌<◌, ◌≤◌, true, false}
-use Rattle.std.proofs.Common.{List, [], ◌∷◌, ◌++◌, length, map, get_or, take, drop, Result, Ok, Err}
-use Rattle.std.proofs.Common.{refl, sym, ap, subst, ◌∙◌, append_assoc, arith, ne_eqb, Bool}
-use Rattle.std.proofs.Common.{leb-true, leb-false, le-leb, le-ltb, mod-lt, mod-eq_of_lt, div-add-mod'}
+use Rattle.std.proofs.Common.{◌≡◌, ◌≢◌, ℕ, zero, suc, ◌+◌, ◌*◌, ◌/◌, ◌%◌, ◌^◌, ◌<◌, ◌≤◌, true}
+use Rattle.std.proofs.Common.{false, List, [], ◌∷◌, ◌++◌, length, map, get_or, take, drop, Result}
+use Rattle.std.proofs.Common.{Ok, Err, refl, sym, ap, subst, ◌∙◌, append_assoc, arith, ne_eqb, Bool}
+use Rattle.std.proofs.Common.{leb-true, leb-false, le-leb, le-ltb, mod-lt, mod-eq_of_lt}
+use Rattle.std.proofs.Common.{div-add-mod'}
 use Rattle.std.specs.Prelude.{if◌then◌else◌, cond, nat_le, nat_lt, ◌==◌, Some, None}
 use Rattle.std.specs.List.{flat_map, AllByRecursion, take_while}
 use Rattle.std.specs.Int.Digits.{digits_of, number_from_digits, number_from_digits_after}

@@ -53,7 +53,8 @@ decimal_takes a m b h e =
     let last = pass_ok (ends_number (drop (length digits) a.rest)) end
     (NotDecimal (a.place + length digits)) (m, b) small.1 in
     let less : value < 2 ^ 64 = leb-false _ _ small.0 in
-    let same : decimal value ≡ digits = decimal_is digits (not-false (is_decimal digits) form.0) less in
+    let in_form = not-false (is_decimal digits) form.0 in
+    let same : decimal value ≡ digits = decimal_is digits in_form less in
     let within = prefix_len-le-length is_ascii_digit a.rest in
     let P : ℕ × At → Type 0 = λ v. IsNumber a v.0 v.1 in
     subst P (ok_is AnchorError (value, after (length digits) a) (m, b) last.1) (record {
@@ -180,7 +181,8 @@ pub arcs_in_takes : (text bytes : Text) → IsBytes text → arcs_in text ≡ Ok
 unfolding arcs_in
 arcs_in_takes text bytes h e =
     let one = bind_ok (decimal_at (at text 0)) (λ (n : ℕ × At).
-    up_to_end dot_decimal_at n.1 >>= λ (ns : List ℕ × At). Ok (flat_map arc (n.0 ∷ ns.0))) bytes e in
+    up_to_end dot_decimal_at n.1 >>= λ (ns : List ℕ × At). Ok (flat_map arc (n.0 ∷ ns.0))) bytes e
+    in
     let n : ℕ = one.0.0 in
     let two = bind_ok (up_to_end dot_decimal_at one.0.1)
     (λ (ns : List ℕ × At). Ok (flat_map arc (n ∷ ns.0))) bytes one.2 in

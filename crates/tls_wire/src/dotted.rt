@@ -1,13 +1,12 @@
 //! Numbers in dotted decimal.
 
-ghost use Rattle.std.specs.Prelude.{◌≡◌, ◌<◌, ◌≤◌, ◌++◌, true, length, decimal, string_bytes};
-ghost use Rattle.std.specs.Prelude.{IfOk, OnOk};
+ghost use Rattle.std.specs.Prelude.{◌≡◌, ◌<◌, ◌≤◌, true, length, IfOk, OnOk};
 ghost use Rattle.std.specs.Char.{is_ascii_digit};
 ghost use Rattle.std.specs.List.{prefix_len};
 ghost use Rattle.byte_formats.specs.Readings.{Answers, Moves, is_read};
 ghost use Rattle.tls_wire.specs.Anchors.{arc_at, decimal_at, dot_decimal_at, ends_number, arcs_in};
 ghost use Rattle.tls_wire.specs.Anchors.{is_anchor_text, text_of};
-ghost use Rattle.tls_wire.specs.Arcs.{dot_decimal, IsAnchorId};
+ghost use Rattle.tls_wire.specs.Arcs.{IsAnchorId};
 
 use crate::arcs::{arc_length, put_arc, read_arc};
 use crate::cursor::Cursor;

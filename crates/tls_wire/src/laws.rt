@@ -60,7 +60,7 @@ pub fn law_numbers_in_decimal_are_read_as_written()
         → (decimal n ≡ text) × (n < 2 ^ 63) }
 {}
 
-/// What is cut at a byte is what stands before the first one and behind it, and a text is cut there
+/// What is cut at a byte is what stands before the first one and after it, and a text is cut there
 /// again.
 pub fn law_texts_are_cut_at_their_first_byte()
     ensures parts { (mark : ℕ) (text : Text) (cut : Text × Text) → cut_at mark text ≡ Some cut

@@ -12,7 +12,7 @@ fn place_of(text: &[u8], mark: u8) -> Option<usize>
     text.iter().position(|byte| *byte == mark)
 }
 
-/// What stands before the first such byte, and what stands behind it; `None` where there is none.
+/// What stands before the first such byte, and what stands after it; `None` where there is none.
 pub fn cut_at(text: &[u8], mark: u8) -> Option<(&[u8], &[u8])>
     ensures { option_map (λ cut. (cut.0.now, cut.1.now)) result ≡ cut_at mark text.now }
 {
@@ -22,7 +22,7 @@ pub fn cut_at(text: &[u8], mark: u8) -> Option<(&[u8], &[u8])>
     }
 }
 
-/// The first line without its newline, and what is behind it; `None` where no newline stands.
+/// The first line without its newline, and what is after it; `None` where no newline stands.
 pub fn first_line(text: &[u8]) -> Option<(&[u8], &[u8])>
     ensures { option_map (λ cut. (cut.0.now, cut.1.now)) result ≡ first_line text.now }
 {
