@@ -12,15 +12,16 @@ use Rattle.byte_formats.specs.Types.{Text}
 use Rattle.byte_formats.specs.Readings.{◌>>=◌, some_or}
 use Rattle.byte_formats.proofs.Steps.{bind_ok, guard_ok, ok_is, pass_ok, some_or_ok}
 use Rattle.landmarks.specs.Landmarks.{IsAllowed, IsLandmarks, LandmarkList, active_count}
-use Rattle.landmarks.specs.Texts.{ListHead, cut_at, head_line, head_of, line, line_at, list_of}
+use Rattle.landmarks.specs.Texts.{ListHead, head_line, head_of, line, line_at, list_of}
 use Rattle.landmarks.specs.Texts.{list_text, number_line, size_line, size_lines, sizes_of}
 use Rattle.landmarks.specs.declared.error.ListError.{ListError}
 use Rattle.landmarks.specs.declared.error.ListError.TheVariants.{BadLine, BeyondLog, NotFalling}
 use Rattle.landmarks.specs.declared.error.ListError.TheVariants.{TooManyActive}
-use Rattle.landmarks.proofs.Lines.{cut_again, cut_parts, decimal_lacks, head_lacks, number_again}
-use Rattle.landmarks.proofs.Lines.{number_read}
+use Rattle.landmarks.proofs.Lines.{head_lacks, number_again, number_read}
 use Rattle.tls_wire.specs.Decimal.{number_of}
+use Rattle.tls_wire.specs.Lines.{cut_at}
 use Rattle.tls_wire.proofs.Decimals.{decimal_is_number, number_is_decimal}
+use Rattle.tls_wire.proofs.Cuts.{cut_again, cut_parts, decimal_lacks}
 
 -- sizes of landmarks from this number down, all below this size
 pub record AreSizes (number before : ℕ) (sizes : List ℕ) : Type 0 where

@@ -1,12 +1,12 @@
 -- The text in which landmarks are handed out (the draft on Merkle Tree Certificates, where it
 -- defines landmarks): how it is written, and reading it with its faults in their order.
 use Rattle.std.specs.Prelude.{ℕ, zero, suc, ◌+◌, ◌-◌, ◌^◌, ◌==◌, ◌&&◌, ◌||◌, not, nat_lt, List}
-use Rattle.std.specs.Prelude.{[], ◌∷◌, ◌++◌, length, take, drop, slice_index, decimal, flat_map}
-use Rattle.std.specs.Prelude.{Option, option_map, Result, Ok, Err, if◌then◌else◌}
-use Rattle.std.specs.List.{position}
+use Rattle.std.specs.Prelude.{[], ◌∷◌, ◌++◌, length, slice_index, decimal, flat_map, Result, Ok}
+use Rattle.std.specs.Prelude.{Err, if◌then◌else◌}
 use Rattle.byte_formats.specs.Types.{Text}
 use Rattle.byte_formats.specs.Readings.{◌>>=◌, some_or}
 use Rattle.tls_wire.specs.Decimal.{number_of}
+use Rattle.tls_wire.specs.Lines.{cut_at, first_line}
 use Rattle.landmarks.specs.Landmarks.{LandmarkList, active_count}
 use Rattle.landmarks.specs.declared.error.ListError.{ListError}
 use Rattle.landmarks.specs.declared.error.ListError.TheVariants.{BadLine, NotFalling}
@@ -24,15 +24,9 @@ list_text l = decimal l.last ++ (0x20 ∷ line (active_count l) ++ flat_map line
 
 -- ---- read
 
--- What stands before the first such byte, and what stands behind it.
-abbrev pub cut_at : ℕ → Text → Option (Text × Text)
-cut_at mark text =
-    option_map (λ place. (take place text, drop (place + 1) text))
-    (position (λ byte. byte == mark) text)
-
 -- A line with this number, without its end, and what is behind it.
 abbrev pub line_at : ℕ → Text → Result (Text × Text) ListError
-line_at n text = some_or (BadLine n) (cut_at 0x0A text)
+line_at n text = some_or (BadLine n) (first_line text)
 
 -- The number in a line.
 abbrev pub number_line : ℕ → Text → Result (ℕ × Text) ListError

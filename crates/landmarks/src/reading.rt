@@ -1,10 +1,9 @@
 //! Reading the text in which landmarks are handed out.
 
-ghost use Rattle.std.specs.Prelude.{◌≡◌, ◌≢◌, ◌+◌, ◌^◌, ◌<◌, ◌≤◌, [], ◌∷◌, ◌++◌, ◌==◌, length, Ok};
-ghost use Rattle.std.specs.Prelude.{Err, IfOk, IfErr, IfSome, OnOk, option_map};
-ghost use Rattle.std.specs.List.{position};
+ghost use Rattle.std.specs.Prelude.{◌≡◌, ◌≢◌, ◌^◌, ◌<◌, ◌≤◌, [], ◌∷◌, ◌++◌, Ok, Err, IfOk, IfErr};
+ghost use Rattle.std.specs.Prelude.{OnOk};
 ghost use Rattle.byte_formats.specs.Readings.{Answers, Gives};
-ghost use Rattle.landmarks.specs.Texts.{cut_at, head_line, head_of, line_at, list_of, number_line};
+ghost use Rattle.landmarks.specs.Texts.{head_line, head_of, line_at, list_of, number_line};
 ghost use Rattle.landmarks.specs.Texts.{size_line, sizes_of};
 ghost use Rattle.landmarks.specs.declared.error.ListError.TheVariants.{Memory as NoCapacity};
 ghost use Rattle.landmarks.specs.Views.{list_head};
@@ -13,30 +12,13 @@ use crate::error::ListError;
 use crate::list::Landmarks;
 use mtc_io::Memory;
 use std::alloc::Global;
-use tls_wire::read_number;
-
-fn place_of(text: &[u8], mark: u8) -> Option<usize>
-    ensures place { result ≡ position (λ byte. byte == mark) text.now }
-    ensures within { IfSome result (λ place. place < length text.now) }
-{
-    text.iter().position(|byte| *byte == mark)
-}
-
-// What stands before the first such byte, and what stands behind it.
-fn cut_at(text: &[u8], mark: u8) -> Option<(&[u8], &[u8])>
-    ensures { option_map (λ cut. (cut.0.now, cut.1.now)) result ≡ cut_at mark text.now }
-{
-    match place_of(text, mark) {
-        Some(place) => Some((&text[..place], &text[place + 1..])),
-        None => None,
-    }
-}
+use tls_wire::{cut_at, first_line, read_number};
 
 // A line with this number, without its end, and what is behind it.
 fn line_at(text: &[u8], n: usize) -> Result<(&[u8], &[u8]), ListError>
     ensures { Gives (λ cut. (cut.0.now, cut.1.now)) result (line_at n text.now) }
 {
-    cut_at(text, b'\n').ok_or(ListError::BadLine(n))
+    first_line(text).ok_or(ListError::BadLine(n))
 }
 
 // The number in a line.

@@ -1,5 +1,0 @@
-use Rattle.landmarks.proofs.Lines.{cut_is}
-use Rattle.landmarks.proofs.reading.cut_at.Goals as goal
-
-pub returns-in-Some : goal.returns-in-Some
-returns-in-Some c = cut_is c.args.mark c.args.text.now c.in-Some.place c.in-Some.ensures.place
