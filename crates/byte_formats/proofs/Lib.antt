@@ -1,6 +1,9 @@
 pub mod Steps
 pub mod Forms
 pub mod Lists
+pub mod FormLaws
+pub mod FormLists
+pub mod Left
 pub mod Loops
 pub mod Digits
 pub mod Values

@@ -2,6 +2,7 @@ pub mod Types
 pub mod Places
 pub mod Readings
 pub mod Lists
+pub mod Left
 pub mod Forms
 pub mod Numbers
 pub mod Refusals
