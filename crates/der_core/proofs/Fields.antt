@@ -53,18 +53,18 @@ end_ok a done e =
 
 -- ---- an element by its contents
 
-contents_takes : (tag : ℕ) (a : At) (e : Item) (b : At) → IsBytes a.rest
+pub contents_takes : (tag : ℕ) (a : At) (e : Item) (b : At) → IsBytes a.rest
     → der (wanted_at tag a) ≡ Ok (e, b)
     → IsRead a e b × (e.tag ≡ tag)
 contents_takes tag a e b h read = wanted_takes tag a e b h (der_ok (wanted_at tag a) (e, b) read)
 
 -- The text of an element that was wanted.
-stands_wanted : (tag : ℕ) (a : At) (e : Item) (b : At) → IsRead a e b × (e.tag ≡ tag)
+pub stands_wanted : (tag : ℕ) (a : At) (e : Item) (b : At) → IsRead a e b × (e.tag ≡ tag)
     → Stands a (element tag e.contents) b
 stands_wanted tag a e b (read, same) = let P : ℕ → Type 0 =
     λ t. Stands a (element t e.contents) b in subst P same read.stands
 
-whole_wanted : (tag : ℕ) (a : At) (e : Item) (b : At) → IsRead a e b × (e.tag ≡ tag)
+pub whole_wanted : (tag : ℕ) (a : At) (e : Item) (b : At) → IsRead a e b × (e.tag ≡ tag)
     → e.whole ≡ element tag e.contents
 whole_wanted tag a e b (read, same) = let P : ℕ → Type 0 =
     λ t. e.whole ≡ element t e.contents in subst P same read.whole

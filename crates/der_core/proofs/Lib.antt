@@ -4,3 +4,5 @@ pub mod Sets
 pub mod Elements
 pub mod Rules
 pub mod Fields
+pub mod FieldLaws
+pub mod Takes
