@@ -9,9 +9,8 @@ use Rattle.std.proofs.lemmas.List.{length-append}
 use Rattle.byte_formats.specs.Places.{At, at, IsBytes}
 use Rattle.byte_formats.specs.Readings.{◌>>=◌, discarded}
 use Rattle.byte_formats.specs.Lists.{up_to_end}
-use Rattle.byte_formats.specs.Forms.{Anything}
 use Rattle.byte_formats.proofs.Steps.{bind_ok, discarded_ok, guard_ok, ok_is}
-use Rattle.byte_formats.proofs.Lists.{up_to_end_drains}
+use Rattle.byte_formats.proofs.FormLists.{up_to_end_drains}
 use Rattle.tls_wire.specs.declared.fault.AnchorError.{AnchorError}
 use Rattle.tls_wire.specs.declared.fault.AnchorError.TheVariants as text_faults
 use Rattle.tls_wire.specs.declared.fault.AnchorBytesError.{AnchorBytesError}
@@ -32,8 +31,7 @@ arcs_only_takes bytes done h some short e =
     let s = bind_ok (discarded (up_to_end arc_at (at bytes 0))) (λ (end : At). Ok tt) done e in
     let read = discarded_ok (up_to_end arc_at (at bytes 0)) s.0 s.1 in
     let found = arcs_form.takes (at bytes 0) read.0 s.0 h read.1 in
-    let nothing = up_to_end_drains arc IsArc Anything arc_at arc_some arc_form (at bytes 0) read.0
-    s.0 h read.1 in
+    let nothing = up_to_end_drains arc_form arc_some (at bytes 0) read.0 s.0 h read.1 in
     record {
       arcs = read.0;
       are_arcs = found.1;

@@ -21,7 +21,7 @@ use Rattle.byte_formats.specs.Places.{At, IsBytes, after, begins_with}
 use Rattle.byte_formats.specs.Forms.{Stands, IsForm, Anything, Nothing}
 use Rattle.byte_formats.specs.Lists.{up_to_end}
 use Rattle.byte_formats.proofs.Steps.{guard_ok, ok_is, IsBytes-rest, Stands-prefix}
-use Rattle.byte_formats.proofs.Lists.{many_form}
+use Rattle.byte_formats.proofs.FormLists.{many_form}
 use Rattle.tls_wire.specs.declared.fault.AnchorBytesError.{AnchorBytesError}
 use Rattle.tls_wire.specs.declared.fault.AnchorBytesError.TheVariants.{Padding, ArcTooLarge}
 use Rattle.tls_wire.specs.declared.fault.AnchorBytesError.TheVariants.{Unfinished}
@@ -235,7 +235,7 @@ arc_some n small = omega (arith, length-append (high_digits (n / 128)) (n % 128 
 
 -- Arcs one behind the other.
 pub arcs_form : IsForm (flat_map arc) (AllByRecursion IsArc) Nothing (up_to_end arc_at)
-arcs_form = many_form arc IsArc arc_at arc_some arc_form
+arcs_form = many_form arc_form arc_some
 
 -- One digit more behind the others.
 pub digits_put : (old mid new : List ℕ) (n : ℕ) → n ≢ 0 → mid ≡ old ++ high_digits (n / 128)

@@ -9,7 +9,8 @@ use Rattle.byte_formats.specs.Places.{At, after}
 use Rattle.byte_formats.specs.Readings.{blamed, Reads}
 use Rattle.byte_formats.specs.Forms.{Stands, IsForm, Anything, itself}
 use Rattle.byte_formats.proofs.Steps.{bind_ok, blamed_ok, guard_ok, ok_is, Stands-then}
-use Rattle.byte_formats.proofs.Forms.{blamed_form}
+use Rattle.byte_formats.proofs.FormLaws.{blamed_form}
+use Rattle.byte_formats.proofs.Left.{Takes}
 use Rattle.tls_wire.specs.declared.cursor.Short.{Short}
 use Rattle.tls_wire.specs.Reading.{short, bytes_at, number_at, vector_at, inner_at}
 use Rattle.tls_wire.specs.Encoding.{number, vector}
@@ -17,8 +18,7 @@ use Rattle.tls_wire.proofs.Numbers.{IsWide, bytes_form, number_form}
 
 blamed_bytes : (s : Short) (count : ℕ)
     → IsForm itself (λ bytes. length bytes ≡ count) Anything (λ a. blamed s (bytes_at count a))
-blamed_bytes s count = blamed_form itself (λ bytes. length bytes ≡ count) Anything
-    (bytes_at count) s (bytes_form count)
+blamed_bytes s count = blamed_form (bytes_form count) s
 
 pub vector_form : (w : Width) (limit : ℕ) → IsWide w limit
     → IsForm (vector w) (λ bytes. length bytes < limit) Anything (vector_at w)
@@ -89,6 +89,9 @@ vector_moves w a bytes b e =
 pub vector_forward : (w : Width) (a : At) (bytes : Text) (b : At) → vector_at w a ≡ Ok (bytes, b)
     → length b.rest + byte_len w ≤ length a.rest
 vector_forward w a bytes b e = (vector_moves w a bytes b e).less
+
+pub vector_takes : (w : Width) → Takes (byte_len w) (vector_at w)
+vector_takes w = record { less = vector_forward w }
 
 -- A vector's bytes, read as a place of their own, end where the vector does.
 pub inner_end : (w : Width) (a b : At) (r : Result At Short)
