@@ -7,25 +7,20 @@ use Rattle.std.proofs.lemmas.List.{length-append}
 use Rattle.std.proofs.lemmas.Slice.Eq.{bytes_eq-Decides}
 use Rattle.byte_formats.specs.Types.{Text}
 use Rattle.byte_formats.specs.Places.{IsBytes}
-use Rattle.byte_formats.specs.Readings.{both_at, mapped_at, tested_at, headed_at, refused_at, Gives}
-use Rattle.byte_formats.specs.Readings.{Reading}
-use Rattle.byte_formats.specs.Forms.{IsForm, Anything, Nothing, OtherThan, IsEncoding, itself, both}
+use Rattle.byte_formats.specs.Readings.{refused_at, Gives}
+use Rattle.byte_formats.specs.Forms.{IsForm, Anything, Nothing, IsEncoding, itself, both}
 use Rattle.byte_formats.specs.Forms.{FitsBoth}
-use Rattle.byte_formats.proofs.Forms.{said_form, encoded_form, ended_form, both_form, mapped_form}
-use Rattle.byte_formats.proofs.Forms.{tested_form, headed_form, refused_form, one_form}
+use Rattle.byte_formats.proofs.FormLaws.{fits_form, encoded_form, ended_form, then_form, mapped_form}
+use Rattle.byte_formats.proofs.FormLaws.{tested_form, headed_form, refused_form, one_form}
 use Rattle.der_core.specs.Elements.{element}
 use Rattle.der_core.specs.Integers.{integer}
-use Rattle.der_core.specs.Fields.{inside_at, element_with_at, unsigned_at}
 use Rattle.der_core.specs.declared.fault.CertError.{CertError}
 use Rattle.der_core.specs.declared.fault.CertError.TheVariants.{BadVersion, BadSerial}
 use Rattle.der_core.specs.declared.fault.CertError.TheVariants.{AlgorithmsDiffer, UniqueId}
 use Rattle.der_core.proofs.Elements.{element-longer, begins_with-element}
-use Rattle.der_core.proofs.Fields.{tag_of, all_takes, all_again, inside_form, element_with_form}
-use Rattle.der_core.proofs.Fields.{unsigned_form}
+use Rattle.der_core.proofs.Fields.{tag_of, element_with_form, unsigned_form}
+use Rattle.der_core.proofs.FieldLaws.{all_takes, all_again, inside_form}
 use Rattle.cert_time.specs.Calendar.{Period}
-use Rattle.cert_fields.specs.Keys.{algorithm_at, spki_at, signature_at}
-use Rattle.cert_fields.specs.Names.{name_at}
-use Rattle.cert_fields.specs.Times.{validity_at}
 use Rattle.cert_fields.specs.Extensions.{extensions_at}
 use Rattle.cert_fields.specs.Certificate.{Parts, Body, nothing, version_at, serial_at, is_unique_id}
 use Rattle.cert_fields.specs.Certificate.{behind_serial_at, tbs_at, same_algorithm, signed_at}
@@ -64,29 +59,18 @@ version-short = lit< tt
 pub version_form : IsForm version_text NoValue Anything version_at
 unfolding version_at
 version_form =
-    let read : Reading ℕ CertError = tested_at (λ n. n == 2) BadVersion (unsigned_at BadVersion) in
-    let Fits : ℕ → Type 0 = λ n. IsVersion n × (length (number n) < 2 ^ 24) in
-    let encode : ℕ → Text = λ n. element 0xA0 (number n) in
-    let two : Unit {0} → ℕ = λ x. 2 in
-    encoded_form (λ x. encode (two x)) version_text NoValue Anything version_at (λ x f. version_is)
-    (said_form (λ x. encode (two x)) (λ x. Fits (two x)) NoValue Anything Anything version_at
-    (λ x f. tt) (λ x f. ((lit< tt, refl), version-short)) (λ rest q. q)
-    (mapped_form encode Fits Anything (headed_at 0xA0 BadVersion (inside_at 0xA0 read)) nothing two
-    (λ n f. sym (eqb-true n 2 f.0.1)) (λ y f. refl)
-    (headed_form encode Fits Anything (inside_at 0xA0 read) 160 BadVersion
-    (λ n rest f. begins_with-element 0xA0 (number n) rest)
-    (inside_form 0xA0 number IsVersion read (tag_of 0xA0 (lit< tt) refl)
-    (ended_form number IsVersion Anything read tt
-    (tested_form number (λ n. n < 2 ^ 64) Anything (unsigned_at BadVersion) (λ n. n == 2) BadVersion
-    (unsigned_form BadVersion)))))))
+    encoded_form (fits_form (mapped_form (headed_form (inside_form (ended_form
+    (tested_form (unsigned_form BadVersion) (λ n. n == 2) BadVersion) tt) 0xA0
+    (tag_of 0xA0 (lit< tt) refl)) 160 (λ n rest f. begins_with-element 0xA0 (number n) rest)
+    BadVersion) nothing (λ x. 2) (λ n f. sym (eqb-true n 2 f.0.1)) (λ y f. refl))
+    (λ x f. tt) (λ x f. ((lit< tt, refl), version-short))) (λ x f. version_is)
 
 abbrev pub IsSerial : ℕ → Type 0
 IsSerial n = (n < 2 ^ 64) × (nat_lt 0 n ≡ true)
 
 serial_form : IsForm number IsSerial Anything serial_at
 unfolding serial_at
-serial_form = tested_form number (λ n. n < 2 ^ 64) Anything (unsigned_at BadSerial)
-    (λ n. nat_lt 0 n) BadSerial (unsigned_form BadSerial)
+serial_form = tested_form (unsigned_form BadSerial) (λ n. nat_lt 0 n) BadSerial
 
 -- ---- the fields behind the serial number
 
@@ -104,12 +88,7 @@ no_unique_id bytes rest (inr field) end =
     subst P (sym field.2) refl
 
 last_field : IsForm itself IsExtensions Nothing (refused_at is_unique_id UniqueId extensions_at)
-last_field =
-    refused_form itself IsExtensions Nothing extensions_at is_unique_id UniqueId no_unique_id
-    (ended_form itself IsExtensions (λ rest. Anything rest × OtherThan 0xA3 rest) extensions_at (
-      tt,
-      tt,
-    ) extensions_form)
+last_field = refused_form (ended_form extensions_form (tt, tt)) is_unique_id UniqueId no_unique_id
 
 abbrev pub body_text : Body → Text
 body_text = both itself (both itself (both moments_text (both itself (both itself itself))))
@@ -121,27 +100,8 @@ IsBody = FitsBoth IsAlgorithm (FitsBoth IsName
 body_form : IsForm body_text IsBody Nothing behind_serial_at
 unfolding behind_serial_at
 body_form =
-    let last : Reading Text CertError = refused_at is_unique_id UniqueId extensions_at in
-    both_form itself IsAlgorithm Anything algorithm_at
-    (both itself (both moments_text (both itself (both itself itself))))
-    (FitsBoth IsName (FitsBoth IsValidity
-    (FitsBoth IsName (FitsBoth IsPublicKey IsExtensions)))) Nothing
-    (both_at name_at (both_at validity_at (both_at name_at (both_at spki_at last)))) algorithm_form
-    (both_form itself IsName Anything name_at
-    (both moments_text (both itself (both itself itself)))
-    (FitsBoth IsValidity (FitsBoth IsName (FitsBoth IsPublicKey IsExtensions))) Nothing
-    (both_at validity_at (both_at name_at (both_at spki_at last))) name_form
-    (both_form moments_text IsValidity Anything validity_at
-    (both itself (both itself itself)) (FitsBoth IsName (FitsBoth IsPublicKey IsExtensions)) Nothing
-    (both_at name_at (both_at spki_at last)) validity_form
-    (both_form itself IsName Anything name_at (both itself itself)
-    (FitsBoth IsPublicKey IsExtensions) Nothing (both_at spki_at last) name_form
-    (both_form itself IsPublicKey Anything spki_at itself IsExtensions Nothing last spki_form
-    last_field (λ y rest f q. tt))
-    (λ y rest f q. tt))
-    (λ y rest f q. tt))
-    (λ y rest f q. tt))
-    (λ y rest f q. tt)
+    then_form algorithm_form (then_form name_form (then_form validity_form
+    (then_form name_form (then_form spki_form last_field))))
 
 -- ---- what is signed, and the whole
 
@@ -162,14 +122,8 @@ IsTbs x = IsSigned x × (length (signed_text x) < 2 ^ 24)
 
 tbs_form : IsForm tbs_text IsTbs Anything tbs_at
 unfolding tbs_at
-tbs_form =
-    inside_form 0x30 signed_text IsSigned (both_at version_at (both_at serial_at behind_serial_at))
+tbs_form = inside_form (then_form version_form (then_form serial_form body_form)) 0x30
     (tag_of 0x30 (lit< tt) refl)
-    (both_form version_text NoValue Anything version_at (both number body_text)
-    (FitsBoth IsSerial IsBody) Nothing (both_at serial_at behind_serial_at) version_form
-    (both_form number IsSerial Anything serial_at body_text IsBody Nothing behind_serial_at
-    serial_form body_form (λ y rest f q. tt))
-    (λ y rest f q. tt))
 
 abbrev IsSequence : Text → Type 0
 IsSequence = IsEncoding (element 0x30) (λ contents. length contents < 2 ^ 24)
@@ -180,10 +134,8 @@ IsPair x = FitsBoth IsTbs IsSequence x × (same_algorithm x ≡ true)
 signed_form : IsForm (both tbs_text itself) IsPair Anything signed_at
 unfolding signed_at
 signed_form =
-    tested_form (both tbs_text itself) (FitsBoth IsTbs IsSequence) Anything
-    (both_at tbs_at (element_with_at 0x30)) same_algorithm AlgorithmsDiffer
-    (both_form tbs_text IsTbs Anything tbs_at itself IsSequence Anything (element_with_at 0x30)
-    tbs_form (element_with_form 0x30 (tag_of 0x30 (lit< tt) refl)) (λ y rest f q. tt))
+    tested_form (then_form tbs_form (element_with_form 0x30 (tag_of 0x30 (lit< tt) refl)))
+    same_algorithm AlgorithmsDiffer
 
 abbrev signature_text : Text → Text
 signature_text proof = element 0x03 (0 ∷ proof)
@@ -273,32 +225,23 @@ parts_from p f =
 pub certificate_form : IsForm certificate IsCertificate Anything certificate_at
 unfolding certificate_at certificate
 certificate_form =
-    let read : Reading Whole CertError = both_at signed_at signature_at in
-    let Known : Whole → Type 0 = λ x. IsWhole x × (length (whole_text x) < 2 ^ 24) in
-    let encode : Whole → Text = λ x. element 0x30 (whole_text x) in
-    said_form (λ p. encode (from_parts p)) (λ p. Known (from_parts p)) IsCertificate Anything
-    Anything (mapped_at to_parts (inside_at 0x30 read)) parts_to parts_from (λ rest q. q)
-    (mapped_form encode Known Anything (inside_at 0x30 read) to_parts from_parts
-    (λ x f. same_ways x f.0) (λ p f. refl)
-    (inside_form 0x30 whole_text IsWhole read (tag_of 0x30 (lit< tt) refl)
-    (ended_form whole_text IsWhole Anything read tt
-    (both_form (both tbs_text itself) IsPair Anything signed_at signature_text IsSignatureValue
-    Anything signature_at signed_form signature_form (λ y rest f q. tt)))))
+    fits_form (mapped_form (inside_form (ended_form (then_form signed_form signature_form) tt) 0x30
+    (tag_of 0x30 (lit< tt) refl)) to_parts from_parts (λ x f. same_ways x f.0) (λ p f. refl))
+    parts_to parts_from
 
 -- What parse reads is the certificate of its parts, and only a certificate is read.
 pub parts_only : (bytes : Text) (p : Parts) → IsBytes bytes → parts_of bytes ≡ Ok p
     → (bytes ≡ certificate p) × IsCertificate p
 unfolding parts_of
-parts_only bytes p h e = all_takes certificate IsCertificate certificate_at certificate_form
-    bytes p h e
+parts_only = all_takes certificate_form
 
 pub parts_again : (p : Parts) → IsCertificate p → parts_of (certificate p) ≡ Ok p
 unfolding parts_of
-parts_again p f = all_again certificate IsCertificate certificate_at certificate_form p f
+parts_again = all_again certificate_form
 
 pub one_certificate : (p q : Parts) (s t : Text) → IsCertificate p → IsCertificate q
     → certificate p ++ s ≡ certificate q ++ t → (p ≡ q) × (s ≡ t)
-one_certificate p q s t = one_form certificate IsCertificate certificate_at certificate_form p q s t
+one_certificate = one_form certificate_form
 
 -- ---- an answer that is exactly what is wanted
 

@@ -3,34 +3,33 @@ use Rattle.std.proofs.Common.{◌≡◌, ◌≢◌, ℕ, ◌+◌, ◌^◌, ◌<�
 use Rattle.std.proofs.Common.{length, Ok, Err, Option, Some, None, IfSome, refl, sym, ap, subst}
 use Rattle.std.proofs.Common.{arith, ◌⊎◌, lit<}
 use Rattle.std.specs.Prelude.{if◌then◌else◌, not, is_some}
-use Rattle.std.specs.List.{flat_map, AllByRecursion}
+use Rattle.std.specs.List.{flat_map}
 use Rattle.std.proofs.lemmas.List.{length-append}
 use Rattle.byte_formats.specs.Types.{Text}
 use Rattle.byte_formats.specs.Places.{At, IsBytes, begins_with}
-use Rattle.byte_formats.specs.Readings.{both_at, mapped_at, tested_at, optional_at, some_at}
+use Rattle.byte_formats.specs.Readings.{tested_at}
 use Rattle.byte_formats.specs.Readings.{is_read}
 use Rattle.byte_formats.specs.Readings.{Reading}
-use Rattle.byte_formats.specs.Forms.{Stands, IsForm, Anything, Nothing, OtherThan, itself, both}
-use Rattle.byte_formats.specs.Forms.{FitsBoth, optional, FitsEach}
-use Rattle.byte_formats.specs.Lists.{up_to_end}
+use Rattle.byte_formats.specs.Forms.{Stands, IsForm, Anything, Nothing, OtherThan, itself}
+use Rattle.byte_formats.specs.Forms.{optional, FitsEach}
 use Rattle.byte_formats.proofs.Steps.{bind_ok, pass_ok, ok_is, read_ok, IsBytes-prefix}
 use Rattle.byte_formats.proofs.Steps.{IsBytes-back}
-use Rattle.byte_formats.proofs.Forms.{said_form, encoded_form, ended_form, both_form, mapped_form}
-use Rattle.byte_formats.proofs.Forms.{tested_form, optional_form, or_nothing_form, some_form}
-use Rattle.byte_formats.proofs.Lists.{many_form, up_to_end_drains, each_form, each_drains}
+use Rattle.byte_formats.proofs.FormLaws.{said_form, fits_form, encoded_form, ended_form, both_form}
+use Rattle.byte_formats.proofs.FormLaws.{then_form, mapped_form, tested_form, optional_form}
+use Rattle.byte_formats.proofs.FormLaws.{or_nothing_form, some_form}
+use Rattle.byte_formats.proofs.FormLists.{many_form, up_to_end_drains, each_form, each_drains}
 use Rattle.der_core.specs.Elements.{element, length_octets}
 use Rattle.der_core.specs.Items.{Item}
 use Rattle.der_core.specs.Reading.{element_at}
-use Rattle.der_core.specs.Contents.{boolean_of, oid_of}
-use Rattle.der_core.specs.Fields.{der, decoded_at, contents_at, all_of, whole_at}
+use Rattle.der_core.specs.Fields.{der, all_of}
 use Rattle.der_core.specs.Forms.{boolean, FitsBoolean}
 use Rattle.der_core.specs.declared.fault.CertError.{CertError}
 use Rattle.der_core.specs.declared.fault.CertError.TheVariants.{BadExtension, RepeatedExtension}
 use Rattle.der_core.proofs.Elements.{element_takes, element_again, element-longer}
 use Rattle.der_core.proofs.Elements.{begins_with-element}
 use Rattle.der_core.proofs.Rules.{boolean_contents}
-use Rattle.der_core.proofs.Fields.{tag_of, der_ok, all_takes, all_again, decoded_form}
-use Rattle.der_core.proofs.Fields.{contents_form, inside_form, whole_form}
+use Rattle.der_core.proofs.Fields.{tag_of, der_ok, contents_form}
+use Rattle.der_core.proofs.FieldLaws.{all_takes, all_again, decoded_form, inside_form, whole_form}
 use Rattle.cert_fields.specs.AltNames.{is_general_name, general_name_at, general_names_at}
 use Rattle.cert_fields.specs.AltNames.{are_general_names}
 use Rattle.cert_fields.specs.Extensions.{ExtensionFields, is_among, is_alt_name, new_identifier_at}
@@ -38,7 +37,7 @@ use Rattle.cert_fields.specs.Extensions.{critical_at, to_extension, has_its_form
 use Rattle.cert_fields.specs.Extensions.{extension_at, extension_list_at, extension_sequence_at}
 use Rattle.cert_fields.specs.Extensions.{extensions_at}
 use Rattle.cert_fields.specs.Grammar.{IsIdentifier, IsGeneralName, IsGeneralNames, mark}
-use Rattle.cert_fields.specs.Grammar.{extension_contents, IsExtension, extension, AreExtensions}
+use Rattle.cert_fields.specs.Grammar.{extension_contents, IsExtension, extension}
 use Rattle.cert_fields.specs.Grammar.{IsExtensionSequence, IsExtensionsField}
 use Rattle.cert_fields.proofs.FieldForms.{identifier_form}
 
@@ -80,14 +79,8 @@ general_name_some bytes f = omega (arith, ap length f.encoded, element-longer f.
 general_names_form : IsForm itself IsGeneralNames Anything general_names_at
 unfolding general_names_at
 general_names_form =
-    whole_form 0x30 (flat_map itself) (λ names. AllByRecursion IsGeneralName names
-    × (0 < length (flat_map itself names))) (some_at BadExtension (up_to_end general_name_at))
-    (tag_of 0x30 (lit< tt) refl)
-    (some_form (flat_map itself) (AllByRecursion IsGeneralName) (up_to_end general_name_at)
-    BadExtension
-    (up_to_end_drains itself IsGeneralName Anything general_name_at general_name_some
-    general_name_form)
-    (many_form itself IsGeneralName general_name_at general_name_some general_name_form))
+    whole_form (some_form (many_form general_name_form general_name_some) BadExtension
+    (up_to_end_drains general_name_form general_name_some)) 0x30 (tag_of 0x30 (lit< tt) refl)
 
 -- The test of the octets passes exactly general names.
 pub general_names_only : (octets : Text) → IsBytes octets → are_general_names octets ≡ true
@@ -95,25 +88,23 @@ pub general_names_only : (octets : Text) → IsBytes octets → are_general_name
 unfolding are_general_names
 general_names_only octets h e =
     let r = read_ok (all_of general_names_at octets) e in
-    let known = all_takes itself IsGeneralNames general_names_at general_names_form octets
-    r.0 h r.1 in
+    let known = all_takes general_names_form octets r.0 h r.1 in
     subst IsGeneralNames (sym known.0) known.1
 
 pub general_names_again : (octets : Text) → IsGeneralNames octets → are_general_names octets ≡ true
 unfolding are_general_names
-general_names_again octets f = ap is_read
-    (all_again itself IsGeneralNames general_names_at general_names_form octets f)
+general_names_again octets f = ap is_read (all_again general_names_form octets f)
 
 -- ---- one extension
 
 -- A test that looks at the bytes of a value, said otherwise.
-tested_as : {X E : Type 0} (encode : X → Text) (Fits : X → Type 0) (Follows : Text
-    → Type 0) (read : Reading X E) (test : X → Bool) (fault : E) (Says : X → Type 0)
+tested_as : {X E : Type 0} {encode : X → Text} {Fits : X → Type 0} {Follows : Text → Type 0}
+    {read : Reading X E} {Says : X → Type 0}
+    → IsForm encode Fits Follows read → (test : X → Bool) (fault : E)
     → ((x : X) → IsBytes (encode x) → test x ≡ true → Says x) → ((x : X) → Says x → test x ≡ true)
-    → IsForm encode Fits Follows read → IsForm encode (λ x. Fits x
-    × Says x) Follows (tested_at test fault read)
-tested_as encode Fits Follows read test fault Says to from form =
-    let tested = tested_form encode Fits Follows read test fault form in
+    → IsForm encode (λ x. Fits x × Says x) Follows (tested_at test fault read)
+tested_as {X} {E} {encode} form test fault to from =
+    let tested = tested_form form test fault in
     record {
       takes = λ a x b h e.
           let t = tested.takes a x b h e in
@@ -126,8 +117,8 @@ new_identifier_form : (seen : List Text)
     → IsForm (element 0x06) (λ identifier. IsIdentifier identifier
     × (not (is_among identifier seen) ≡ true)) Anything (new_identifier_at seen)
 unfolding new_identifier_at
-new_identifier_form seen = tested_form (element 0x06) IsIdentifier Anything (decoded_at 0x06 oid_of)
-    (λ identifier. not (is_among identifier seen)) RepeatedExtension identifier_form
+new_identifier_form seen =
+    tested_form identifier_form (λ identifier. not (is_among identifier seen)) RepeatedExtension
 
 abbrev AnyMark : Bool → Type 0
 AnyMark b = Unit {0}
@@ -162,22 +153,10 @@ marked_fits false = tt
 critical_form : IsForm mark AnyMark (OtherThan 0x01) critical_at
 unfolding critical_at
 critical_form =
-    let read : Reading Bool CertError =
-    tested_at (λ b. b) BadExtension (decoded_at 0x01 boolean_of) in
-    encoded_form (λ b. optional truth (marked b)) mark AnyMark (OtherThan 0x01)
-    (mapped_at is_some (optional_at 0x01 read)) (λ b f. mark_is b)
-    (said_form (λ b. optional truth (marked b)) (λ b. IfSome (marked b) IsTruth) AnyMark
-    (λ rest. Anything rest × OtherThan 0x01 rest) (OtherThan 0x01)
-    (mapped_at is_some (optional_at 0x01 read))
-    (λ b f. tt) (λ b f. marked_fits b) (λ rest q. (tt, q))
-    (mapped_form (optional truth) (λ o. IfSome o IsTruth) (λ rest. Anything rest
-    × OtherThan 0x01 rest) (optional_at 0x01 read) is_some marked marked_back marked_there
-    (optional_form truth IsTruth Anything read 1 (λ b rest f. begins_with-element 0x01
-    (boolean b) rest)
-    (tested_form truth (λ b. FitsBoolean b
-    × (length (boolean b) < 2 ^ 24)) Anything (decoded_at 0x01 boolean_of) (λ b. b) BadExtension
-    (decoded_form 0x01 boolean FitsBoolean boolean_of (tag_of 0x01 (lit< tt) refl)
-    boolean_contents)))))
+    encoded_form (said_form (mapped_form (optional_form (tested_form
+    (decoded_form boolean_contents 0x01 (tag_of 0x01 (lit< tt) refl)) (λ b. b) BadExtension) 1
+    (λ b rest f. begins_with-element 0x01 (boolean b) rest)) is_some marked marked_back marked_there)
+    (λ b f. tt) (λ b f. marked_fits b) (λ rest q. (tt, q))) (λ b f. mark_is b)
 
 other_element : (byte tag : ℕ) (contents rest : Text) → tag ≢ byte
     → OtherThan byte (element tag contents ++ rest)
@@ -223,10 +202,6 @@ not_false : (b : Bool) → b ≡ false → not b ≡ true
 not_false true e = absurd cc
 not_false false e = refl
 
-abbrev Fields : List Text → Text × (Bool × Text) → Type 0
-Fields seen = FitsBoth (λ (identifier : Text). IsIdentifier identifier
-    × (not (is_among identifier seen) ≡ true)) (FitsBoth AnyMark Octets)
-
 contents_short : (seen : List Text) (x : ExtensionFields) → IsExtension seen x
     → (length x.identifier < 2 ^ 24) × (length x.octets < 2 ^ 24)
 contents_short seen x f =
@@ -241,16 +216,14 @@ pub extension_form : (seen : List Text)
     → IsForm extension (IsExtension seen) Anything (extension_at seen)
 unfolding extension_at
 extension_form seen =
-    let fields : Reading (Text × (Bool × Text)) CertError =
-    both_at (new_identifier_at seen) (both_at critical_at (contents_at 0x04)) in
-    let read : Reading ExtensionFields CertError = mapped_at to_extension fields in
-    let Known : ExtensionFields → Type 0 = λ x. (Fields seen (from_extension x) × HasNames x)
-    × (length (extension_contents x) < 2 ^ 24) in
-    said_form extension Known (IsExtension seen) Anything Anything (extension_at seen)
+    fits_form (inside_form (ended_form (tested_as (mapped_form (then_form (new_identifier_form seen)
+    (both_form critical_form (contents_form 0x04 (tag_of 0x04 (lit< tt) refl))
+    (λ y rest f q. other_element 0x01 0x04 y rest (λ e. absurd (omega arith))))) to_extension
+    from_extension (λ x f. refl) (λ y f. refl)) has_its_form BadExtension names_to names_from) tt)
+    0x30 (tag_of 0x30 (lit< tt) refl))
     (λ x f. record {
       identifier = f.0.0.0.0.0;
-      new =
-          not_true (is_among x.identifier seen) f.0.0.0.1;
+      new = not_true (is_among x.identifier seen) f.0.0.0.1;
       names = f.0.1;
       short = f.1;
     })
@@ -262,24 +235,6 @@ extension_form seen =
       ),
       f.short,
     ))
-    (λ rest q. q)
-    (inside_form 0x30 extension_contents (λ x. Fields seen (from_extension x)
-    × HasNames x) (tested_at has_its_form BadExtension read) (tag_of 0x30 (lit< tt) refl)
-    (ended_form extension_contents (λ x. Fields seen (from_extension x)
-    × HasNames x) Anything (tested_at has_its_form BadExtension read) tt
-    (tested_as extension_contents (λ x. Fields seen (from_extension x)) Anything read has_its_form
-    BadExtension HasNames names_to names_from
-    (mapped_form (both (element 0x06) (both mark (element 0x04))) (Fields seen) Anything fields
-    to_extension from_extension (λ x f. refl) (λ y f. refl)
-    (both_form (element 0x06) (λ identifier. IsIdentifier identifier
-    × (not (is_among identifier seen) ≡ true)) Anything (new_identifier_at seen)
-    (both mark (element 0x04)) (FitsBoth AnyMark Octets) Anything
-    (both_at critical_at (contents_at 0x04))
-    (new_identifier_form seen)
-    (both_form mark AnyMark (OtherThan 0x01) critical_at (element 0x04) Octets Anything
-    (contents_at 0x04) critical_form (contents_form 0x04 (tag_of 0x04 (lit< tt) refl))
-    (λ y rest f q. other_element 0x01 0x04 y rest (λ e. absurd (omega arith))))
-    (λ y rest f q. tt))))))
 
 -- ---- the field
 
@@ -290,27 +245,19 @@ extension_some seen x f = omega (arith, element-longer 0x30 (extension_contents 
 list_form : IsForm (flat_map extension) (FitsEach identifier_of IsExtension []) Nothing
     extension_list_at
 unfolding extension_list_at
-list_form = each_form identifier_of extension IsExtension extension_at [] extension_some
-    extension_form
+list_form = each_form identifier_of extension_form extension_some []
 
 list_drains : (a : At) (xs : List ExtensionFields) (b : At) → IsBytes a.rest
     → extension_list_at a ≡ Ok (xs, b) → b.rest ≡ []
 unfolding extension_list_at
-list_drains a xs b h e =
-    each_drains identifier_of extension IsExtension extension_at extension_some extension_form
-    (length a.rest) [] a xs b h (omega arith) e
+list_drains = each_drains identifier_of extension_form extension_some []
 
 sequence_form : IsForm itself IsExtensionSequence Anything extension_sequence_at
 unfolding extension_sequence_at
 sequence_form =
-    whole_form 0x30 (flat_map extension) AreExtensions (some_at BadExtension extension_list_at)
+    whole_form (fits_form (some_form list_form BadExtension list_drains)
+    (λ xs f. record { some = f.1; each = f.0 }) (λ xs f. (f.each, f.some))) 0x30
     (tag_of 0x30 (lit< tt) refl)
-    (said_form (flat_map extension) (λ xs. FitsEach identifier_of IsExtension [] xs
-    × (0 < length (flat_map extension xs))) AreExtensions Nothing Nothing
-    (some_at BadExtension extension_list_at)
-    (λ xs f. record { some = f.1; each = f.0 }) (λ xs f. (f.each, f.some)) (λ rest q. q)
-    (some_form (flat_map extension) (FitsEach identifier_of IsExtension []) extension_list_at
-    BadExtension list_drains list_form))
 
 abbrev pub IsExtensions : Text → Type 0
 IsExtensions bytes = (bytes ≡ []) ⊎ IsExtensionsField bytes
@@ -319,9 +266,7 @@ pub extensions_form : IsForm itself IsExtensions (λ rest. Anything rest
     × OtherThan 0xA3 rest) extensions_at
 unfolding extensions_at
 extensions_form =
-    or_nothing_form IsExtensionsField Anything (whole_at 0xA3 extension_sequence_at) 163
+    or_nothing_form (whole_form (ended_form sequence_form tt) 0xA3 (tag_of 0xA3 (lit< tt) refl)) 163
     (λ bytes rest f.
     let P : Text → Type 0 = λ t. begins_with 0xA3 (t ++ rest) ≡ true in
     subst P (sym f.2) (begins_with-element 0xA3 f.0 rest))
-    (whole_form 0xA3 itself IsExtensionSequence extension_sequence_at (tag_of 0xA3 (lit< tt) refl)
-    (ended_form itself IsExtensionSequence Anything extension_sequence_at tt sequence_form))

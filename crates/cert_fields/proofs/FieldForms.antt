@@ -1,38 +1,38 @@
 -- The fields of a certificate but its extensions: what is read is spelled so, and what is spelled
 -- so is read again.
-use Rattle.std.proofs.Common.{◌≡◌, ◌≢◌, ℕ, ◌+◌, ◌-◌, ◌%◌, ◌^◌, ◌<◌, ◌≤◌, true, false}
+use Rattle.std.proofs.Common.{◌≡◌, ◌≢◌, ℕ, ◌+◌, ◌-◌, ◌%◌, ◌<◌, ◌≤◌, true, false}
 use Rattle.std.proofs.Common.{List, [], ◌∷◌, ◌++◌, length, slice_index, Result, Ok, Err, refl, sym}
-use Rattle.std.proofs.Common.{ap, subst, ◌∙◌, append-nil, arith, inl, inr, ◌⊎◌, lit<, lit≤}
+use Rattle.std.proofs.Common.{ap, subst, ◌∙◌, arith, inl, inr, ◌⊎◌, lit<, lit≤}
 use Rattle.std.proofs.Common.{eqb-true, ne_eqb, lt-ltb}
 use Rattle.std.specs.Prelude.{if◌then◌else◌, ◌==◌, ℤ}
 use Rattle.std.specs.List.{flat_map, AllByRecursion}
 use Rattle.std.proofs.lemmas.List.{length-append}
 use Rattle.byte_formats.specs.Types.{Text}
 use Rattle.byte_formats.specs.Places.{At, IsBytes}
-use Rattle.byte_formats.specs.Readings.{◌>>=◌, some_or, discarded, both_at, mapped_at, last_at}
-use Rattle.byte_formats.specs.Forms.{Stands, IsForm, Anything, Nothing, itself, both, FitsBoth}
+use Rattle.byte_formats.specs.Readings.{◌>>=◌, some_or, discarded}
+use Rattle.byte_formats.specs.Forms.{Stands, IsForm, Anything, Nothing, itself, both}
 use Rattle.byte_formats.specs.Forms.{FitsEach}
 use Rattle.byte_formats.specs.Lists.{up_to_end}
 use Rattle.byte_formats.proofs.Steps.{bind_ok, guard_ok, pass_ok, ok_is, discarded_ok}
 use Rattle.byte_formats.proofs.Steps.{some_or_ok}
-use Rattle.byte_formats.proofs.Forms.{said_form, ended_form, both_form, mapped_form, last_form}
-use Rattle.byte_formats.proofs.Forms.{one_value}
-use Rattle.byte_formats.proofs.Lists.{many_form, up_to_end_drains, each_drains}
+use Rattle.byte_formats.proofs.FormLaws.{fits_form, ended_form, then_form, mapped_form, last_form}
+use Rattle.byte_formats.proofs.FormLaws.{one_value, to_end_takes, to_end_again}
+use Rattle.byte_formats.proofs.FormLists.{many_form, up_to_end_drains, each_drains}
 use Rattle.der_core.specs.Elements.{element, IsTag, FitsElement}
 use Rattle.der_core.specs.Items.{Item, inside}
 use Rattle.der_core.specs.Reading.{wanted_at, end_at}
 use Rattle.der_core.specs.Contents.{oid_of, bits_of, are_unused}
-use Rattle.der_core.specs.Fields.{der, decoded_at, any_at}
-use Rattle.der_core.specs.Sets.{risen_at, last_of, rising_at, finished, order_of}
-use Rattle.der_core.specs.Forms.{IsElement, IsContents, IsOid, bit_string, IsBitString, IsRisen}
+use Rattle.der_core.specs.Fields.{der, decoded_at}
+use Rattle.der_core.specs.Sets.{rising_at, finished, order_of}
+use Rattle.der_core.specs.Forms.{IsElement, IsContents, bit_string, IsRisen}
 use Rattle.der_core.specs.declared.fault.DerError.{DerError}
 use Rattle.der_core.specs.declared.fault.DerError.TheVariants.{BadBits}
 use Rattle.der_core.specs.declared.fault.CertError.{CertError}
 use Rattle.der_core.specs.declared.fault.CertError.TheVariants.{BadTime, BadName}
 use Rattle.der_core.proofs.Elements.{wanted_takes, wanted_again, element-longer}
 use Rattle.der_core.proofs.Rules.{oid_contents, bits_contents}
-use Rattle.der_core.proofs.Fields.{tag_of, der_ok, decoded_form, any_form, whole_form, noted_form}
-use Rattle.der_core.proofs.Fields.{next_some, risen_form, rising_form}
+use Rattle.der_core.proofs.Fields.{tag_of, der_ok, any_form, next_some, risen_form, rising_form}
+use Rattle.der_core.proofs.FieldLaws.{decoded_form, whole_form, noted_form}
 use Rattle.cert_time.specs.Calendar.{IsMoment, Period}
 use Rattle.cert_time.specs.Times.{time_tag, time_contents, time_moment, short_element}
 use Rattle.cert_time.specs.Times.{validity_element}
@@ -40,7 +40,7 @@ use Rattle.cert_time.proofs.BothWays.{time_moment-only, time_moment-time, time_s
 use Rattle.cert_fields.specs.Keys.{algorithm_at, spki_at, whole_bits_of, signature_at}
 use Rattle.cert_fields.specs.Names.{attribute_at, set_at, name_at}
 use Rattle.cert_fields.specs.Times.{tag_wanted, time_at, from_to, validity_at}
-use Rattle.cert_fields.specs.Grammar.{IsIdentifier, IsElementOrNothing, IsAlgorithm, IsBits}
+use Rattle.cert_fields.specs.Grammar.{IsIdentifier, IsAlgorithm, IsBits}
 use Rattle.cert_fields.specs.Grammar.{IsPublicKey, IsAttribute, IsSet, IsName, IsValidity}
 use Rattle.cert_fields.specs.Grammar.{IsSignatureValue}
 use Rattle.cert_fields.proofs.Sizes.{time-short}
@@ -48,7 +48,7 @@ use Rattle.cert_fields.proofs.Sizes.{time-short}
 -- ---- algorithms and keys
 
 pub identifier_form : IsForm (element 0x06) IsIdentifier Anything (decoded_at 0x06 oid_of)
-identifier_form = decoded_form 0x06 itself IsOid oid_of (tag_of 0x06 (lit< tt) refl) oid_contents
+identifier_form = decoded_form oid_contents 0x06 (tag_of 0x06 (lit< tt) refl)
 
 pub element_some : (bytes : Text) → IsElement bytes → 0 < length bytes
 element_some bytes f = omega (arith, ap length f.encoded, element-longer f.tag f.contents)
@@ -56,27 +56,16 @@ element_some bytes f = omega (arith, ap length f.encoded, element-longer f.tag f
 pub algorithm_form : IsForm itself IsAlgorithm Anything algorithm_at
 unfolding algorithm_at
 algorithm_form =
-    whole_form 0x30 (both (element 0x06) itself) (FitsBoth IsIdentifier IsElementOrNothing)
-    (both_at (decoded_at 0x06 oid_of) (last_at any_at)) (tag_of 0x30 (lit< tt) refl)
-    (both_form (element 0x06) IsIdentifier Anything (decoded_at 0x06 oid_of) itself
-    IsElementOrNothing Nothing (last_at any_at)
-    identifier_form (last_form IsElement Anything any_at element_some tt any_form)
-    (λ y rest f q. tt))
+    whole_form (then_form identifier_form (last_form any_form element_some tt)) 0x30
+    (tag_of 0x30 (lit< tt) refl)
 
 bits_form : IsForm (λ b. element 0x03 (bit_string b)) IsBits Anything (decoded_at 0x03 bits_of)
-bits_form = decoded_form 0x03 bit_string IsBitString bits_of (tag_of 0x03 (lit< tt) refl)
-    bits_contents
+bits_form = decoded_form bits_contents 0x03 (tag_of 0x03 (lit< tt) refl)
 
 pub spki_form : IsForm itself IsPublicKey Anything spki_at
 unfolding spki_at
-spki_form =
-    whole_form 0x30 (both itself (λ b. element 0x03 (bit_string b))) (FitsBoth IsAlgorithm IsBits)
-    (both_at algorithm_at (decoded_at 0x03 bits_of)) (tag_of 0x30 (lit< tt) refl)
-    (ended_form (both itself (λ b. element 0x03 (bit_string b))) (FitsBoth IsAlgorithm IsBits)
-    Anything (both_at algorithm_at (decoded_at 0x03 bits_of)) tt
-    (both_form itself IsAlgorithm Anything algorithm_at (λ b. element 0x03 (bit_string b)) IsBits
-    Anything (decoded_at 0x03 bits_of)
-    algorithm_form bits_form (λ y rest f q. tt)))
+spki_form = whole_form (ended_form (then_form algorithm_form bits_form) tt) 0x30
+    (tag_of 0x30 (lit< tt) refl)
 
 -- ---- the signature
 
@@ -114,24 +103,15 @@ pub signature_form : IsForm (λ (proof : Text). element 0x03 (0 ∷ proof)) IsSi
     signature_at
 unfolding signature_at
 signature_form =
-    let encode : Text → Text = λ proof. element 0x03 (0 ∷ proof) in
-    said_form encode (λ proof. AnyBytes proof
-    × IsSignatureValue proof) IsSignatureValue Anything Anything (decoded_at 0x03 whole_bits_of)
-    (λ x f. f.1) (λ x f. (tt, f)) (λ rest q. q)
-    (decoded_form 0x03 (λ (proof : Text). 0 ∷ proof) AnyBytes whole_bits_of
-    (tag_of 0x03 (lit< tt) refl) whole_bits)
+    fits_form (decoded_form whole_bits 0x03 (tag_of 0x03 (lit< tt) refl)) (λ x f. f.1)
+    (λ x f. (tt, f))
 
 -- ---- names
 
 pub attribute_form : IsForm itself IsAttribute Anything attribute_at
 unfolding attribute_at
-attribute_form =
-    whole_form 0x30 (both (element 0x06) itself) (FitsBoth IsIdentifier IsElement)
-    (both_at (decoded_at 0x06 oid_of) any_at) (tag_of 0x30 (lit< tt) refl)
-    (ended_form (both (element 0x06) itself) (FitsBoth IsIdentifier IsElement) Anything
-    (both_at (decoded_at 0x06 oid_of) any_at) tt
-    (both_form (element 0x06) IsIdentifier Anything (decoded_at 0x06 oid_of) itself IsElement
-    Anything any_at identifier_form any_form (λ y rest f q. tt)))
+attribute_form = whole_form (ended_form (then_form identifier_form any_form) tt) 0x30
+    (tag_of 0x30 (lit< tt) refl)
 
 -- An element of some kind is an element.
 attribute_is : (bytes : Text) → IsAttribute bytes → IsElement bytes
@@ -166,12 +146,11 @@ checked_ok (Err d) done e = absurd cc
 same_elements : (xs ys : List Text) → AllByRecursion IsElement xs → AllByRecursion IsElement ys
     → flat_map itself xs ≡ flat_map itself ys → xs ≡ ys
 same_elements xs ys f g same =
-    one_value (flat_map itself) (AllByRecursion IsElement) Nothing (up_to_end any_at) refl
-    (many_form itself IsElement any_at element_some any_form) xs ys f g same
+    one_value (many_form any_form element_some) refl xs ys f g same
 
 attributes_form : IsForm (flat_map itself) (AllByRecursion IsAttribute) Nothing
     (up_to_end attribute_at)
-attributes_form = many_form itself IsAttribute attribute_at attribute_some attribute_form
+attributes_form = many_form attribute_form attribute_some
 
 -- The encodings that were found to rise are the attributes.
 attributes_rise : (e : Item) (xs : List Text) (done : Unit {0}) → IsBytes e.contents
@@ -180,14 +159,11 @@ attributes_rise : (e : Item) (xs : List Text) (done : Unit {0}) → IsBytes e.co
 attributes_rise e xs done h parts each order =
     let c = checked_ok (discarded (rising_at e.place (inside e))) done order in
     let d = discarded_ok (rising_at e.place (inside e)) c.0 c.1 in
-    let rise = (rising_form e.place).takes (inside e) d.0 c.0 h d.1 in
-    let end : c.0.rest ≡ [] = each_drains itself itself IsRisen
-    (λ (seen : List Text). risen_at e.place (last_of seen)) next_some (risen_form e.place)
-    (length e.contents) [] (inside e) d.0 c.0 h (omega arith) d.1 in
-    let all : e.contents ≡ flat_map itself d.0 = rise.0.parts
-    ∙ ap (λ (t : Text). flat_map itself d.0 ++ t) end ∙ append-nil (flat_map itself d.0) in
+    let end : c.0.rest ≡ [] = each_drains itself (risen_form e.place) next_some [] (inside e) d.0 c.0
+    h d.1 in
+    let rise = to_end_takes (rising_form e.place) (inside e) d.0 c.0 h d.1 end in
     subst (FitsEach itself IsRisen []) (same_elements d.0 xs (each_elements [] d.0 rise.1)
-    (all_elements xs each) (sym all ∙ parts)) rise.1
+    (all_elements xs each) (sym rise.0 ∙ parts)) rise.1
 
 set_takes : (a : At) (x : Text) (b : At) → IsBytes a.rest → set_at a ≡ Ok (x, b)
     → Stands a x b × IsSet x
@@ -210,16 +186,13 @@ set_takes a x b h e =
     let step = discarded_ok (up_to_end attribute_at (inside i)) t.0 t.1 in
     let xs : List Text = step.0 in
     let read = wanted_takes 0x31 a i s.0.1 h (der_ok (wanted_at 0x31 a) s.0 s.1) in
-    let inner = attributes_form.takes (inside i) xs t.0 read.0.bytes step.1 in
-    let end : t.0.rest ≡ [] = up_to_end_drains itself IsAttribute Anything attribute_at
-    attribute_some attribute_form (inside i) xs t.0 read.0.bytes step.1 in
-    let all : i.contents ≡ flat_map itself xs = inner.0.parts
-    ∙ ap (λ (c : Text). flat_map itself xs ++ c) end ∙ append-nil (flat_map itself xs) in
-    let rise = attributes_rise i xs r.0 read.0.bytes all inner.1 (der_ok (order_of i) r.0 r.1) in
+    let all = to_end_takes attributes_form (inside i) xs t.0 read.0.bytes step.1
+    (up_to_end_drains attribute_form attribute_some (inside i) xs t.0 read.0.bytes step.1) in
+    let rise = attributes_rise i xs r.0 read.0.bytes all.0 all.1 (der_ok (order_of i) r.0 r.1) in
     let some : length i.contents ≢ 0 = λ none. absurd (differ (length i.contents) none g.0) in
     let text : element i.tag i.contents ≡ element 0x31 (flat_map itself xs) =
-    ap (λ (n : ℕ). element n i.contents) read.1 ∙ ap (element 0x31) all in
-    let size : length i.contents ≡ length (flat_map itself xs) = ap length all in
+    ap (λ (n : ℕ). element n i.contents) read.1 ∙ ap (element 0x31) all.0 in
+    let size : length i.contents ≡ length (flat_map itself xs) = ap length all.0 in
     let P : Text × At → Type 0 = λ v. Stands a v.0 v.1 × IsSet v.0 in
     let Q : Text → Type 0 = λ w. Stands a w s.0.1 in
     subst P (ok_is CertError (i.whole, s.0.1) (x, b) u.2) (
@@ -227,7 +200,7 @@ set_takes a x b h e =
       (
         xs,
         (
-          record { some = omega (arith, some, size); each = inner.1; rise = rise },
+          record { some = omega (arith, some, size); each = all.1; rise = rise },
           omega (arith, read.0.fits.short, size),
         ),
         read.0.whole ∙ text,
@@ -260,20 +233,8 @@ set_again bytes p rest f =
           f.1.1;
     } in
     let some : length cs ≢ 0 = omega (arith, f.1.0.some) in
-    let rising : rising_at p (record { place = inner; rest = cs }) ≡ Ok (
-      xs,
-      record {
-        place =
-            inner + length cs;
-        rest = [];
-      },
-    ) =
-    ap (λ (c : Text). rising_at p (record { place = inner; rest = c })) (sym (append-nil cs))
-    ∙ (rising_form p).again xs inner [] f.1.0.rise refl in
-    let attributes : up_to_end attribute_at (record { place = inner; rest = cs })
-    ≡ Ok (xs, record { place = inner + length cs; rest = [] }) =
-    ap (λ (c : Text). up_to_end attribute_at (record { place = inner; rest = c }))
-    (sym (append-nil cs)) ∙ attributes_form.again xs inner [] f.1.0.each refl in
+    let rising = to_end_again (rising_form p) refl xs inner f.1.0.rise in
+    let attributes = to_end_again attributes_form refl xs inner f.1.0.each in
     let P : Text → Type 0 = λ t. set_at (record { place = p; rest = t ++ rest })
     ≡ Ok (t, record { place = p + length t; rest = rest }) in
     subst P (sym f.2) (rw (
@@ -288,9 +249,7 @@ set_form = record { takes = set_takes; again = λ x p rest f q. set_again x p re
 
 pub name_form : IsForm itself IsName Anything name_at
 unfolding name_at
-name_form =
-    whole_form 0x30 (flat_map itself) (AllByRecursion IsSet) (up_to_end set_at)
-    (tag_of 0x30 (lit< tt) refl) (many_form itself IsSet set_at set_some set_form)
+name_form = whole_form (many_form set_form set_some) 0x30 (tag_of 0x30 (lit< tt) refl)
 
 -- ---- times
 
@@ -396,14 +355,11 @@ validity_is v =
 pub validity_form : IsForm (λ (v : Text × Period). v.0) IsValidity Anything validity_at
 unfolding validity_at
 validity_form =
-    let Moments : Period → Type 0 = λ v. FitsBoth IsMoment IsMoment (from_and_to v) in
-    let Known : Text × Period → Type 0 = λ v. (v.0 ≡ element 0x30 (times_text v.1))
-    × (Moments v.1 × (length (times_text v.1) < 2 ^ 24)) in
-    said_form (λ (v : Text × Period). v.0) Known IsValidity Anything Anything validity_at
+    fits_form (noted_form (ended_form (mapped_form (then_form time_form time_form) from_to
+    from_and_to (λ x f. refl) (λ y f. refl)) tt) 0x30 (tag_of 0x30 (lit< tt) refl))
     (λ v f. record {
       period = record { not_before = f.1.0.0; not_after = f.1.0.1 };
-      encoded = f.0
-          ∙ validity_is v.1;
+      encoded = f.0 ∙ validity_is v.1;
     })
     (λ v f. (
       f.encoded ∙ sym (validity_is v.1),
@@ -412,11 +368,3 @@ validity_form =
         omega (arith, times-short v.1),
       ),
     ))
-    (λ rest q. q)
-    (noted_form 0x30 times_text Moments (mapped_at from_to (both_at time_at time_at))
-    (tag_of 0x30 (lit< tt) refl)
-    (ended_form times_text Moments Anything (mapped_at from_to (both_at time_at time_at)) tt
-    (mapped_form (both time_text time_text) (FitsBoth IsMoment IsMoment) Anything
-    (both_at time_at time_at) from_to from_and_to (λ x f. refl) (λ y f. refl)
-    (both_form time_text IsMoment Anything time_at time_text IsMoment Anything time_at time_form
-    time_form (λ y rest f q. tt)))))

@@ -1,35 +1,33 @@
 -- What is looked for in the extensions field of a certificate is found there.
-use Rattle.std.proofs.Common.{◌≡◌, ℕ, zero, suc, ◌+◌, ◌-◌, ◌^◌, ◌<◌, ◌≤◌, Bool, true, false, List}
-use Rattle.std.proofs.Common.{[], ◌∷◌, ◌++◌, length, slice_index_or, Contains, Result, Ok, refl}
+use Rattle.std.proofs.Common.{◌≡◌, ℕ, zero, suc, ◌+◌, ◌-◌, ◌^◌, ◌<◌, Bool, true, false, List}
+use Rattle.std.proofs.Common.{[], ◌∷◌, ◌++◌, length, slice_index_or, Contains, Ok, refl}
 use Rattle.std.proofs.Common.{sym, ap, subst, ◌∙◌, append-nil, arith, lit<, inl, inr, true≢false}
 use Rattle.std.specs.Prelude.{if◌then◌else◌, ◌==◌}
 use Rattle.std.specs.Str.{bytes_eq}
 use Rattle.std.specs.List.{flat_map, list_any, AllByRecursion}
 use Rattle.std.proofs.lemmas.Bool.{or_parts}
-use Rattle.std.proofs.lemmas.List.{length-append}
 use Rattle.std.proofs.lemmas.List.Folds.{list_any-append}
 use Rattle.std.proofs.lemmas.Slice.Eq.{bytes_eq-Decides}
 use Rattle.byte_formats.specs.Types.{Text}
-use Rattle.byte_formats.specs.Places.{At}
 use Rattle.byte_formats.specs.Forms.{itself, FitsEach}
-use Rattle.byte_formats.specs.Lists.{value_then}
+use Rattle.byte_formats.specs.Left.{first_at}
 use Rattle.der_core.specs.Elements.{element, FitsElement}
 use Rattle.der_core.specs.Reading.{wanted_at}
 use Rattle.der_core.specs.Forms.{element_item}
-use Rattle.der_core.specs.declared.fault.CertError.{CertError}
 use Rattle.der_core.proofs.Elements.{element_again, wanted_again, element-longer}
 use Rattle.der_core.proofs.Fields.{tag_of}
-use Rattle.cert_fields.specs.AltNames.{dns_name, names_from, names_left, names_inside, names_in}
+use Rattle.cert_fields.specs.AltNames.{dns_name, names_left, names_inside, names_in}
 use Rattle.cert_fields.specs.Extensions.{ExtensionFields, is_among, is_alt_name, identifier_of}
-use Rattle.cert_fields.specs.Extensions.{extension_at, extensions_from, list_in}
+use Rattle.cert_fields.specs.Extensions.{extensions_left, list_in}
 use Rattle.cert_fields.specs.Extensions.{extensions_behind, extensions_in, is_unknown_critical}
 use Rattle.cert_fields.specs.Extensions.{has_unknown_critical, alt_name_octets, dns_names_in}
 use Rattle.cert_fields.specs.Identifiers.{subject_alt_name}
 use Rattle.cert_fields.specs.Grammar.{IsGeneralName, IsGeneralNames, IsExtension}
-use Rattle.cert_fields.specs.Grammar.{extension_contents, extension, AreExtensions}
+use Rattle.cert_fields.specs.Grammar.{extension, AreExtensions}
 use Rattle.cert_fields.specs.Found.{sequence_text, extensions_text, AreExtensionsOf, name_text}
 use Rattle.cert_fields.specs.Found.{FitsName, AreNamesOf, dns_only}
-use Rattle.cert_fields.proofs.Walks.{names_step}
+use Rattle.byte_formats.proofs.Left.{left_found}
+use Rattle.cert_fields.proofs.Walks.{names_step, extension_takes}
 use Rattle.cert_fields.proofs.ExtensionForms.{IsExtensions, extension_form}
 
 -- An extension whose identifier is new is new where none came before.
@@ -42,34 +40,15 @@ first_fits seen x f = record {
   short = f.short;
 }
 
-none_left : (n p : ℕ) → extensions_from n (record { place = p; rest = [] }) ≡ []
-unfolding extensions_from extension_at wanted_at
-none_left zero p = refl
-none_left (suc n) p = refl
-
-extensions_again : (n : ℕ) (seen : List Text) (xs : List ExtensionFields) (p : ℕ)
-    → FitsEach identifier_of IsExtension seen xs → length (flat_map extension xs) ≤ n
-    → extensions_from n (record { place = p; rest = flat_map extension xs }) ≡ xs
-unfolding extensions_from
-extensions_again n seen [] p f le = none_left n p
-extensions_again zero seen (x ∷ xs) p f le =
-    absurd (omega (
-      arith,
-      element-longer 0x30 (extension_contents x),
-      length-append (extension x) (flat_map extension xs),
-    ))
-extensions_again (suc n) seen (x ∷ xs) p f le =
-    let one = (extension_form []).again x p (flat_map extension xs) (first_fits seen x f.0) tt in
-    let others = extensions_again n (seen ++ x.identifier ∷ []) xs (p + length (extension x)) f.1
-    (omega (
-      arith,
-      le,
-      element-longer 0x30 (extension_contents x),
-      length-append (extension x) (flat_map extension xs),
-    )) in
-    ap (λ (r : Result (ExtensionFields × At) CertError). value_then r
-    (λ (b : At). extensions_from n b)) one
-    ∙ ap (λ (ys : List ExtensionFields). x ∷ ys) others
+extensions_again : (seen : List Text) (xs : List ExtensionFields) (p : ℕ)
+    → FitsEach identifier_of IsExtension seen xs
+    → extensions_left (record { place = p; rest = flat_map extension xs }) ≡ xs
+extensions_again seen xs p f = left_found extension_takes (extension_form []) xs p (all seen xs f)
+  where
+    all : (seen : List Text) (xs : List ExtensionFields)
+        → FitsEach identifier_of IsExtension seen xs → AllByRecursion (IsExtension []) xs
+    all seen [] f = tt
+    all seen (x ∷ xs) f = (first_fits seen x f.0, all (seen ++ x.identifier ∷ []) xs f.1)
 
 -- One element that is all that is left.
 alone : (tag : ℕ) (contents : Text) (p : ℕ) → FitsElement tag contents
@@ -109,12 +88,11 @@ extensions_found xs f short =
           place + (length sequence - length cs);
       rest = cs;
     }) = rw (field, list) refl in
-    ap extensions_behind found ∙ extensions_again (length cs) [] xs
-    (place + (length sequence - length cs)) f.each (omega arith)
+    ap extensions_behind found ∙ extensions_again [] xs (place + (length sequence - length cs)) f.each
 
 names_again : (ns : List (ℕ × Text)) (p : ℕ) → AllByRecursion FitsName ns
     → names_left (record { place = p; rest = flat_map name_text ns }) ≡ dns_only ns
-unfolding names_from
+unfolding first_at
 names_again [] p f = refl
 names_again (n ∷ ns) p f =
     let one = element_again n.0 n.1 p (flat_map name_text ns) f.0 in

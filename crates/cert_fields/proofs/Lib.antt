@@ -1,4 +1,3 @@
-pub mod Forward
 pub mod Sizes
 pub mod Steps
 pub mod Walks

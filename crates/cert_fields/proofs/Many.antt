@@ -20,10 +20,12 @@ use Rattle.der_core.specs.declared.fault.DerError.{DerError}
 use Rattle.der_core.specs.declared.fault.DerError.TheVariants.{BadOid}
 use Rattle.der_core.specs.declared.fault.CertError.{CertError}
 use Rattle.der_core.specs.declared.fault.CertError.TheVariants.{Der, RepeatedExtension}
+use Rattle.byte_formats.specs.Left.{first_at}
 use Rattle.cert_fields.specs.Extensions.{ExtensionFields, is_among, new_identifier_at}
 use Rattle.cert_fields.specs.Extensions.{identifier_of, extension_at, extension_list_at, head_at}
 use Rattle.cert_fields.specs.Extensions.{identifiers, are_repeated}
-use Rattle.cert_fields.proofs.Walks.{oid_same, head_of, identifiers_more, identifiers_end, Taken}
+use Rattle.byte_formats.proofs.Left.{first_next, first_end}
+use Rattle.cert_fields.proofs.Walks.{oid_same, head_of, Taken}
 use Rattle.cert_fields.proofs.Walks.{taken_none, taken_more, all_taken}
 use Rattle.cert_fields.proofs.Twice.{repeated_prefix, repeated_push}
 
@@ -268,7 +270,7 @@ pub reaches_fails : (total : Result At CertError) (list : At) (count : ℕ) (a :
     (fault : CertError) → extension_at [] a ≡ Err fault
     → (length a.rest == 0) ≡ false → Reaches total list count a
     → total ≡ Err (or_repeated (are_repeated (identifiers (count + 1) list)) fault)
-unfolding identifiers
+unfolding first_at
 reaches_fails total list count a fault step some r = go (first_part a)
   where
     all : are_repeated (identifiers (count + 1) list) ≡ are_repeated (r.seen ++ identifiers 1 a)
@@ -286,9 +288,9 @@ reaches_fails total list count a fault step some r = go (first_part a)
     stopped : (s : Stops a) (h : Result (Text × At) DerError) → head_at a ≡ h
         → are_repeated r.seen ≡ false → are_repeated (r.seen ++ identifiers 1 a) ≡ false
     stopped s (Err d) e none = ap (λ (ids : List Text). are_repeated (r.seen ++ ids))
-        (identifiers_end 1 a d e) ∙ (ap are_repeated (append-nil r.seen) ∙ none)
+        (first_end head_at 1 a d e) ∙ (ap are_repeated (append-nil r.seen) ∙ none)
     stopped s (Ok h) e none =
-        ap (λ (ids : List Text). are_repeated (r.seen ++ ids)) (identifiers_more 0 a h.0 h.1 e)
+        ap (λ (ids : List Text). are_repeated (r.seen ++ ids)) (first_next head_at 0 a h.0 h.1 e)
         ∙ (repeated_push r.seen h.0 ∙ (ap (λ (b : Bool). b || is_among h.0 r.seen) none
         ∙ s.apart h.0 h.1 e r.seen r.reads))
 
@@ -304,13 +306,13 @@ reaches_fails total list count a fault step some r = go (first_part a)
         → total ≡ Err (or_repeated (are_repeated (identifiers (count + 1) list)) fault)
     begun g true e =
         told true (all ∙ (ap (λ (ids : List Text). are_repeated (r.seen ++ ids))
-        (identifiers_more 0 a g.identifier g.behind g.head)
+        (first_next head_at 0 a g.identifier g.behind g.head)
         ∙ e)) (repeats_here total list count a r g some e)
     begun g false e =
         let (none, away) = or_parts (are_repeated r.seen) (is_among g.identifier r.seen)
         (sym (repeated_push r.seen g.identifier) ∙ e) in
         told false (all ∙ (ap (λ (ids : List Text). are_repeated (r.seen ++ ids))
-        (identifiers_more 0 a g.identifier g.behind g.head) ∙ e))
+        (first_next head_at 0 a g.identifier g.behind g.head) ∙ e))
         (fails none (g.new r.seen away ∙ step))
 
     go : Stops a ⊎ Begins a → total ≡ Err

@@ -1,6 +1,6 @@
 -- Loops over names and extensions: what is left decides as the whole does.
 use Rattle.std.proofs.Common.{◌≡◌, ◌≢◌, ℕ, zero, suc, ◌+◌, ◌-◌, ◌<◌, ◌≤◌, Bool, true, false, ◌||◌}
-use Rattle.std.proofs.Common.{List, [], ◌∷◌, ◌++◌, length, take, Result, Ok, Err, refl, sym, ap}
+use Rattle.std.proofs.Common.{List, [], ◌∷◌, ◌++◌, length, take, Ok, Err, refl, sym, ap}
 use Rattle.std.proofs.Common.{◌∙◌, append_assoc, ne_eqb, arith}
 use Rattle.std.proofs.lemmas.List.{append-nil}
 use Rattle.std.specs.Prelude.{if◌then◌else◌, ◌==◌, not}
@@ -10,7 +10,6 @@ use Rattle.byte_formats.specs.Types.{Text}
 use Rattle.cert_fields.specs.Views.{texts}
 use Rattle.byte_formats.specs.Places.{At}
 use Rattle.byte_formats.specs.Readings.{both_at, mapped_at, tested_at, Reading}
-use Rattle.byte_formats.specs.Lists.{value_then}
 use Rattle.byte_formats.proofs.Steps.{guard_ok, pass_ok, ok_is}
 use Rattle.der_core.specs.Items.{Item, inside}
 use Rattle.der_core.specs.Reading.{element_at}
@@ -20,62 +19,20 @@ use Rattle.der_core.specs.declared.fault.DerError.{DerError}
 use Rattle.der_core.specs.declared.fault.DerError.TheVariants.{BadOid}
 use Rattle.der_core.specs.declared.fault.CertError.{CertError}
 use Rattle.der_core.specs.declared.fault.CertError.TheVariants.{BadExtension, RepeatedExtension}
-use Rattle.cert_fields.specs.AltNames.{dns_name, name_then, names_from, names_left}
+use Rattle.cert_fields.specs.AltNames.{dns_name, dns_among, names_left}
 use Rattle.cert_fields.specs.Extensions.{ExtensionFields, is_among, new_identifier_at, critical_at}
 use Rattle.cert_fields.specs.Extensions.{to_extension, has_its_form, identifier_of, extension_at}
 use Rattle.cert_fields.specs.Extensions.{head_at, identifiers}
-use Rattle.cert_fields.specs.Extensions.{extensions_from, extensions_left}
-use Rattle.cert_fields.proofs.Forward.{element_forward}
+use Rattle.cert_fields.specs.Extensions.{extensions_left}
+use Rattle.byte_formats.proofs.Left.{Takes, first_next, first_end, first_none, left_next, left_end}
+use Rattle.der_core.proofs.Takes.{takes_element, takes_inside}
 use Rattle.cert_fields.proofs.Steps.{inside_ok, first_ok, mapped_ok, tested_ok, decoded_ok}
 
 -- ---- dNSNames
 
-names_one : (n : ℕ) (a : At) → length a.rest ≤ n → names_from (suc n) a ≡ names_from n a
-unfolding names_from
-names_one zero a le = go (element_at a) refl
-  where
-    go : (r : Result (Item × At) DerError) → element_at a ≡ r
-        → name_then r (λ (b : At). names_from zero b) ≡ []
-    go (Ok x) e = let less : length x.1.rest < length a.rest =
-        element_forward a x e in absurd (omega arith)
-    go (Err fault) e = refl
-names_one (suc n) a le = go (element_at a) refl (λ b le'. names_one n b le')
-  where
-    go : (r : Result (Item × At) DerError) → element_at a ≡ r → ((b : At) → length b.rest ≤ n
-        → names_from (suc n) b ≡ names_from n b)
-        → name_then r (λ (b : At). names_from (suc n) b) ≡ name_then r (λ (b : At). names_from n b)
-    go (Ok x) e next =
-        let less : length x.1.rest < length a.rest = element_forward a x e in
-        let same = next x.1 (omega arith) in
-        ap (λ (ns : List Text). if x.0.tag == dns_name then x.0.contents ∷ ns else ns) same
-    go (Err fault) e next = refl
-
-names_plus : (k : ℕ) (a : At) → names_from (length a.rest + k) a ≡ names_left a
-names_plus zero a = ap (λ (n : ℕ). names_from n a) (omega arith)
-names_plus (suc k) a =
-    let e : length a.rest + suc k ≡ suc (length a.rest + k) = omega arith in
-    ap (λ (n : ℕ). names_from n a) e ∙ names_one (length a.rest + k) a (omega arith)
-    ∙ names_plus k a
-
--- A larger number than that of the bytes that are left makes no difference.
-names_enough : (n : ℕ) (a : At) → length a.rest ≤ n → names_from n a ≡ names_left a
-names_enough n a le =
-    let e : n ≡ length a.rest + (n - length a.rest) = omega arith in
-    ap (λ (m : ℕ). names_from m a) e ∙ names_plus (n - length a.rest) a
-
 pub names_step : (a : At) (e : Item) (b : At) → element_at a ≡ Ok (e, b)
     → names_left a ≡ (if e.tag == dns_name then e.contents ∷ names_left b else names_left b)
-unfolding names_from
-names_step a e b step =
-    let less : length b.rest < length a.rest = element_forward a (e, b) step in
-    let more : names_left a ≡ names_from (suc (length a.rest)) a =
-    sym (names_one (length a.rest) a (omega arith)) in
-    let read : names_from (suc (length a.rest)) a
-    ≡ name_then (Ok (e, b)) (λ (c : At). names_from (length a.rest) c) =
-    ap (λ (r : Result (Item × At) DerError). name_then r (λ (c : At). names_from (length a.rest) c))
-    step in
-    more ∙ read ∙ ap (λ (ns : List Text). if e.tag == dns_name then e.contents ∷ ns else ns)
-    (names_enough (length a.rest) b (omega arith))
+names_step a e b step = ap dns_among (left_next takes_element a e b step)
 
 -- An element with another tag.
 pub names_more : (total : List Text) (a : At) (e : Item) (b : At) → element_at a ≡ Ok (e, b)
@@ -90,32 +47,13 @@ names_found total a e b step same so_far = so_far ∙ names_step a e b step ∙ 
 
 -- No element is left that reads.
 pub names_end : (a : At) (fault : DerError) → element_at a ≡ Err fault → names_left a ≡ []
-unfolding names_from
-names_end a fault step =
-    let more : names_left a ≡ names_from (suc (length a.rest)) a =
-    sym (names_one (length a.rest) a (omega arith)) in
-    more ∙ ap (λ (r : Result (Item × At) DerError). name_then r
-    (λ (c : At). names_from (length a.rest) c)) step
+names_end a fault step = ap dns_among (left_end element_at a fault step)
 
 -- ---- the identifiers of extensions
 
 -- One of the first n extensions here passes the test where one of the whole list does.
 abbrev pub StillAny : Bool → (Text → Bool) → ℕ → At → Type 0
 StillAny total test n a = list_any test (identifiers n a) ≡ total
-
-pub identifiers_more : (n : ℕ) (a : At) (identifier : Text) (b : At)
-    → head_at a ≡ Ok (identifier, b) → identifiers (suc n) a ≡ identifier ∷ identifiers n b
-unfolding identifiers
-identifiers_more n a identifier b step =
-    ap (λ (r : Result (Text × At) DerError). value_then r (λ (c : At). identifiers n c)) step
-
--- No extension is left that reads.
-pub identifiers_end : (n : ℕ) (a : At) (fault : DerError) → head_at a ≡ Err fault
-    → identifiers n a ≡ []
-unfolding identifiers
-identifiers_end zero a fault step = refl
-identifiers_end (suc n) a fault step =
-    ap (λ (r : Result (Text × At) DerError). value_then r (λ (c : At). identifiers n c)) step
 
 -- An extension that doesn't pass.
 pub any_more : (total : Bool) (test : Text → Bool) (n : ℕ) (a : At) (other : Text) (b : At) → 0 < n
@@ -124,7 +62,7 @@ pub any_more : (total : Bool) (test : Text → Bool) (n : ℕ) (a : At) (other :
 any_more total test zero a other b pos step differs so_far = absurd (omega arith)
 any_more total test (suc n) a other b pos step differs so_far =
     let one : suc n - 1 ≡ n = omega arith in
-    rw one (sym (ap (list_any test) (identifiers_more n a other b step)
+    rw one (sym (ap (list_any test) (first_next head_at n a other b step)
     ∙ ap (λ (t : Bool). t || list_any test (identifiers n b)) (sym differs)) ∙ so_far)
 
 -- An extension that passes.
@@ -133,23 +71,17 @@ pub any_found : (total : Bool) (test : Text → Bool) (n : ℕ) (a : At) (other 
     → true ≡ test other → StillAny total test n a → true ≡ total
 any_found total test zero a other b pos step same so_far = absurd (omega arith)
 any_found total test (suc n) a other b pos step same so_far =
-    sym (ap (list_any test) (identifiers_more n a other b step)
+    sym (ap (list_any test) (first_next head_at n a other b step)
     ∙ ap (λ (t : Bool). t || list_any test (identifiers n b)) (sym same)) ∙ so_far
 
 pub any_fails : (total : Bool) (test : Text → Bool) (n : ℕ) (a : At) (fault : DerError)
     → head_at a ≡ Err fault → StillAny total test n a → false ≡ total
 any_fails total test n a fault step so_far =
-    sym (ap (list_any test) (identifiers_end n a fault step)) ∙ so_far
-
--- No extension is to be looked at.
-pub identifiers_none : (n : ℕ) (a : At) → n ≤ 0 → identifiers n a ≡ []
-unfolding identifiers
-identifiers_none zero a le = refl
-identifiers_none (suc n) a le = absurd (omega (arith, le))
+    sym (ap (list_any test) (first_end head_at n a fault step)) ∙ so_far
 
 pub any_end : (total : Bool) (test : Text → Bool) (n : ℕ) (a : At) → n ≤ 0 → StillAny total test n a
     → false ≡ total
-any_end total test n a le so_far = sym (ap (list_any test) (identifiers_none n a le)) ∙ so_far
+any_end total test n a le so_far = sym (ap (list_any test) (first_none head_at n a le)) ∙ so_far
 
 -- ---- a block of identifiers
 
@@ -169,16 +101,16 @@ taken_more old count seen a identifier b step so_far n =
     let e : count + 1 + n ≡ count + suc n = omega arith in
     ap (λ (m : ℕ). identifiers m old) e
     ∙ (so_far (suc n) ∙ (ap (λ (ids : List Text). seen
-    ++ ids) (identifiers_more n a identifier b step)
+    ++ ids) (first_next head_at n a identifier b step)
     ∙ sym (append_assoc seen (identifier ∷ []) (identifiers n b))))
 
 -- All that were taken.
 pub all_taken : (old : At) (count : ℕ) (seen : List Text) (a : At) → Taken old count seen a
     → identifiers count old ≡ seen
-unfolding identifiers
 all_taken old count seen a so_far =
     let e : count ≡ count + 0 = omega arith in
-    ap (λ (n : ℕ). identifiers n old) e ∙ so_far 0 ∙ append-nil seen
+    ap (λ (n : ℕ). identifiers n old) e ∙ so_far 0
+    ∙ (ap (λ (ids : List Text). seen ++ ids) (first_none head_at 0 a (omega arith)) ∙ append-nil seen)
 
 pub taken_of : (old : At) (count : ℕ) (seen : List Text) (a : At) (n : ℕ) → count ≤ n
     → Taken old count seen a → identifiers n old ≡ seen ++ identifiers (n - count) a
@@ -192,7 +124,7 @@ pub taken_ends : (old : At) (count : ℕ) (slices : List (Bor Text)) (a : At) (f
     → head_at a ≡ Err fault → count ≡ 0 → (n : ℕ) → identifiers n old ≡ []
 taken_ends old zero slices a fault so_far step same n =
     let e : n ≡ 0 + n = omega arith in
-    ap (λ (m : ℕ). identifiers m old) e ∙ (so_far n ∙ identifiers_end n a fault step)
+    ap (λ (m : ℕ). identifiers m old) e ∙ (so_far n ∙ first_end head_at n a fault step)
 taken_ends old (suc k) slices a fault so_far step same n = absurd (omega (arith, same))
 
 -- ---- the list of extensions
@@ -228,56 +160,31 @@ head_of seen a x b h =
 
 -- ---- looking for an extension
 
+pub extension_takes : Takes 1 (extension_at [])
+unfolding extension_at
+extension_takes =
+    takes_inside 0x30 (tested_at has_its_form BadExtension (mapped_at to_extension
+    (both_at (new_identifier_at []) (both_at critical_at (contents_at 0x04)))))
+
 -- What is left gives f as the whole does.
-pub record Seeks {A : Type 0} (f : List ExtensionFields → A) (total : A) (a : At) : Type 0 where
-  pub fuel : ℕ
-  pub enough : length a.rest ≤ fuel
-  pub rest : f (extensions_from fuel a) ≡ total
-
-pub seeks_from : {A : Type 0} (f : List ExtensionFields → A) (a : At)
-    → Seeks f (f (extensions_left a)) a
-seeks_from f a = record { fuel = length a.rest; enough = omega arith; rest = refl }
-
-seeks_step : {A : Type 0} (f : List ExtensionFields
-    → A) (n : ℕ) (a : At) (r : Result (ExtensionFields × At) CertError) → extension_at [] a ≡ r
-    → f (extensions_from (suc n) a) ≡ f (value_then r (λ (b : At). extensions_from n b))
-unfolding extensions_from
-seeks_step f n a r step = ap (λ (s : Result (ExtensionFields × At) CertError). f
-    (value_then s (λ (b : At). extensions_from n b))) step
+abbrev pub Seeks : {A : Type 0} → (List ExtensionFields → A) → A → At → Type 0
+Seeks f total a = f (extensions_left a) ≡ total
 
 -- An extension that doesn't decide.
-pub seeks_more : {A : Type 0} (f : List ExtensionFields
-    → A) (total : A) (a : At) (x : ExtensionFields) (b : At) → extension_at [] a ≡ Ok (x, b)
-    → length b.rest < length a.rest → ((xs : List ExtensionFields) → f (x ∷ xs) ≡ f xs)
-    → Seeks f total a → Seeks f total b
-seeks_more {A} f total a x b step less passes s = go s.fuel s.enough s.rest
-  where
-    go : (n : ℕ) → length a.rest ≤ n → f (extensions_from n a) ≡ total → Seeks f total b
-    go zero le e = absurd (omega arith)
-    go (suc n) le e = record {
-      fuel = n;
-      enough = omega arith;
-      rest =
-          sym (seeks_step f n a (Ok (x, b)) step ∙ passes (extensions_from n b)) ∙ e;
-    }
+pub seeks_more : {A : Type 0} (f : List ExtensionFields → A) (total : A) (a : At)
+    (x : ExtensionFields) (b : At) → extension_at [] a ≡ Ok (x, b)
+    → ((xs : List ExtensionFields) → f (x ∷ xs) ≡ f xs) → Seeks f total a → Seeks f total b
+seeks_more f total a x b step passes so_far =
+    sym (ap f (left_next extension_takes a x b step) ∙ passes (extensions_left b)) ∙ so_far
 
 -- An extension that decides.
-pub seeks_found : {A : Type 0} (f : List ExtensionFields
-    → A) (total : A) (a : At) (x : ExtensionFields) (b : At) (y : A) → extension_at [] a ≡ Ok (x, b)
-    → length b.rest < length a.rest → ((xs : List ExtensionFields) → f (x ∷ xs) ≡ y)
-    → Seeks f total a → y ≡ total
-seeks_found {A} f total a x b y step less found s = go s.fuel s.enough s.rest
-  where
-    go : (n : ℕ) → length a.rest ≤ n → f (extensions_from n a) ≡ total → y ≡ total
-    go zero le e = absurd (omega arith)
-    go (suc n) le e = sym (seeks_step f n a (Ok (x, b)) step ∙ found (extensions_from n b)) ∙ e
+pub seeks_found : {A : Type 0} (f : List ExtensionFields → A) (total : A) (a : At)
+    (x : ExtensionFields) (b : At) (y : A) → extension_at [] a ≡ Ok (x, b)
+    → ((xs : List ExtensionFields) → f (x ∷ xs) ≡ y) → Seeks f total a → y ≡ total
+seeks_found f total a x b y step found so_far =
+    sym (ap f (left_next extension_takes a x b step) ∙ found (extensions_left b)) ∙ so_far
 
 -- No extension is left that reads.
 pub seeks_end : {A : Type 0} (f : List ExtensionFields → A) (total : A) (a : At) (fault : CertError)
     → extension_at [] a ≡ Err fault → Seeks f total a → f [] ≡ total
-unfolding extensions_from
-seeks_end {A} f total a fault step s = go s.fuel s.rest
-  where
-    go : (n : ℕ) → f (extensions_from n a) ≡ total → f [] ≡ total
-    go zero e = e
-    go (suc n) e = sym (seeks_step f n a (Err fault) step) ∙ e
+seeks_end f total a fault step so_far = sym (ap f (left_end (extension_at []) a fault step)) ∙ so_far

@@ -1,11 +1,12 @@
 -- The names in a subjectAltName (RFC 5280, section 4.2.1.6).
-use Rattle.std.specs.Prelude.{ℕ, zero, suc, nat_lt, ◌==◌, ◌&&◌, ◌||◌, Bool, true, List, [], ◌∷◌}
-use Rattle.std.specs.Prelude.{length, Result, Ok, Err, if◌then◌else◌}
+use Rattle.std.specs.Prelude.{ℕ, nat_lt, ◌==◌, ◌&&◌, ◌||◌, Bool, true, List, [], ◌∷◌, Result, Ok}
+use Rattle.std.specs.Prelude.{Err, if◌then◌else◌}
 use Rattle.std.specs.List.{list_all}
 use Rattle.byte_formats.specs.Types.{Text}
 use Rattle.byte_formats.specs.Places.{At, at}
 use Rattle.byte_formats.specs.Readings.{◌>>=◌, some_at, is_read, Reading}
 use Rattle.byte_formats.specs.Lists.{up_to_end}
+use Rattle.byte_formats.specs.Left.{left_at}
 use Rattle.der_core.specs.Items.{Item, inside}
 use Rattle.der_core.specs.Reading.{element_at, wanted_at}
 use Rattle.der_core.specs.Fields.{der, whole_at, all_of}
@@ -47,19 +48,14 @@ general_names_at = whole_at 0x30 (some_at BadExtension (up_to_end general_name_a
 unfoldable pub are_general_names : Text → Bool
 are_general_names octets = is_read (all_of general_names_at octets)
 
--- An element, and the names behind it: the contents of a dNSName.
-abbrev pub name_then : Result (Item × At) DerError → (At → List Text) → List Text
-name_then (Ok e) behind = if e.0.tag == dns_name then e.0.contents ∷ behind e.1 else behind e.1
-name_then (Err fault) behind = []
+-- The contents of the dNSNames among elements.
+abbrev pub dns_among : List Item → List Text
+dns_among [] = []
+dns_among (e ∷ es) = if e.tag == dns_name then e.contents ∷ dns_among es else dns_among es
 
--- The dNSNames among elements one behind the other, up to the first that doesn't read. The number
--- is at least that of the bytes that are left.
-unfoldable pub names_from : ℕ → At → List Text
-names_from zero a = []
-names_from (suc n) a = name_then (element_at a) (λ b. names_from n b)
-
+-- The dNSNames among elements one behind the other, up to the first that doesn't read.
 abbrev pub names_left : At → List Text
-names_left a = names_from (length a.rest) a
+names_left a = dns_among (left_at element_at a)
 
 abbrev pub names_inside : Result (Item × At) DerError → List Text
 names_inside (Ok e) = names_left (inside e.0)

@@ -1,5 +1,5 @@
 -- Extensions (RFC 5280, sections 4.1 and 4.2).
-use Rattle.std.specs.Prelude.{ℕ, zero, suc, ◌&&◌, ◌||◌, Bool, true, false, not, List, [], ◌∷◌}
+use Rattle.std.specs.Prelude.{ℕ, ◌&&◌, ◌||◌, Bool, true, false, not, List, [], ◌∷◌}
 use Rattle.std.specs.Prelude.{length, is_some, Result, Ok, Err, if◌then◌else◌}
 use Rattle.std.specs.List.{list_any}
 use Rattle.std.specs.Str.{bytes_eq}
@@ -7,7 +7,8 @@ use Rattle.byte_formats.specs.Types.{Text}
 use Rattle.byte_formats.specs.Places.{At, at}
 use Rattle.byte_formats.specs.Readings.{◌>>=◌, both_at, mapped_at, tested_at, optional_at}
 use Rattle.byte_formats.specs.Readings.{or_nothing_at, some_at, Reading}
-use Rattle.byte_formats.specs.Lists.{each_at, value_then}
+use Rattle.byte_formats.specs.Lists.{each_at}
+use Rattle.byte_formats.specs.Left.{first_at, left_at}
 use Rattle.der_core.specs.Items.{inside}
 use Rattle.der_core.specs.Reading.{wanted_at}
 use Rattle.der_core.specs.Contents.{boolean_of, oid_of}
@@ -82,9 +83,8 @@ head_at a =
     wanted_at 0x06 (inside e.0) >>= λ identifier. Ok (identifier.0.contents, e.1)
 
 -- The identifiers of the first n extensions.
-unfoldable pub identifiers : ℕ → At → List Text
-identifiers zero a = []
-identifiers (suc n) a = value_then (head_at a) (λ b. identifiers n b)
+abbrev pub identifiers : ℕ → At → List Text
+identifiers = first_at head_at
 
 -- One of them stands twice.
 abbrev pub are_repeated : List Text → Bool
@@ -95,13 +95,9 @@ are_repeated (identifier ∷ others) = is_among identifier others || are_repeate
 abbrev pub any_among : List Text → List Text → Bool
 any_among seen identifiers = list_any (λ identifier. is_among identifier seen) identifiers
 
--- The first n extensions, up to the first that doesn't read.
-unfoldable pub extensions_from : ℕ → At → List ExtensionFields
-extensions_from zero a = []
-extensions_from (suc n) a = value_then (extension_at [] a) (λ b. extensions_from n b)
-
+-- The extensions, up to the first that doesn't read.
 abbrev pub extensions_left : At → List ExtensionFields
-extensions_left a = extensions_from (length a.rest) a
+extensions_left = left_at (extension_at [])
 
 -- The place of the first extension in the bytes of the field.
 unfoldable pub list_in : Text → Result At DerError

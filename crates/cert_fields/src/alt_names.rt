@@ -104,7 +104,7 @@ impl<'a> Model for DnsNames<'a> {
 
 impl<'a> DnsNames<'a> {
     /// Those in the octets of a subjectAltName.
-    #[tactic(auto, unfolding(crate::specs::AltNames::names_from))]
+    #[tactic(auto, unfolding(byte_formats::specs::Left::first_at))]
     pub(crate) fn of(octets: &'a [u8]) -> DnsNames<'a>
         ensures { result ≡ names_in octets.now }
     {

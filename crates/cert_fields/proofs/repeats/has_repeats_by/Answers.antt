@@ -1,7 +1,8 @@
 use Rattle.std.proofs.Common.{ap, sym, ◌∙◌, ◌-◌, take}
-use Rattle.cert_fields.specs.Extensions.{are_repeated, identifiers}
+use Rattle.cert_fields.specs.Extensions.{are_repeated, head_at, identifiers}
 use Rattle.cert_fields.specs.Views.{texts}
-use Rattle.cert_fields.proofs.Walks.{taken_of, identifiers_none}
+use Rattle.byte_formats.proofs.Left.{first_none}
+use Rattle.cert_fields.proofs.Walks.{taken_of}
 use Rattle.cert_fields.proofs.Twice.{repeated_prefix, repeated_across, repeated_behind}
 use Rattle.cert_fields.proofs.Twice.{among_prefix}
 use Rattle.cert_fields.proofs.repeats.has_repeats_by.Goals.{then-sort_block-via-then-sort_block}
@@ -44,5 +45,5 @@ loop-left-preserved c =
     ∙ (ap are_repeated (sym split) ∙ c.loop-left.invariant)
 
 pub returns : goal.returns
-returns c = sym (ap are_repeated (identifiers_none c.loop-left.left c.loop-left.reader
+returns c = sym (ap are_repeated (first_none head_at c.loop-left.left c.loop-left.reader
     c.loop-left-test.false)) ∙ c.loop-left.invariant
