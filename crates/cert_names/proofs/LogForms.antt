@@ -8,15 +8,16 @@ use Rattle.std.proofs.lemmas.List.{length-append}
 use Rattle.std.proofs.lemmas.Slice.Eq.{bytes_eq-Decides}
 use Rattle.byte_formats.specs.Types.{Text}
 use Rattle.byte_formats.specs.Places.{IsBytes}
-use Rattle.byte_formats.specs.Readings.{is_read, both_at, tested_at, Reading}
-use Rattle.byte_formats.specs.Forms.{IsForm, Anything, both, FitsBoth}
-use Rattle.byte_formats.proofs.Forms.{said_form, ended_form, both_form, mapped_form, tested_form}
+use Rattle.byte_formats.specs.Readings.{is_read, Reading}
+use Rattle.byte_formats.specs.Forms.{IsForm, Anything, FitsBoth}
+use Rattle.byte_formats.proofs.FormLaws.{fits_form, ended_form, then_form, mapped_form, tested_form}
 use Rattle.der_core.specs.Elements.{element}
-use Rattle.der_core.specs.Fields.{inside_at, contents_at, all_of}
+use Rattle.der_core.specs.Fields.{inside_at, all_of}
 use Rattle.der_core.specs.declared.fault.CertError.{CertError}
 use Rattle.der_core.specs.declared.fault.CertError.TheVariants.{BadName}
 use Rattle.der_core.proofs.Elements.{element-longer}
-use Rattle.der_core.proofs.Fields.{tag_of, contents_form, inside_form, all_takes, all_again}
+use Rattle.der_core.proofs.Fields.{tag_of, contents_form}
+use Rattle.der_core.proofs.FieldLaws.{inside_form, all_takes, all_again}
 use Rattle.tls_wire.specs.Arcs.{IsAnchorId}
 use Rattle.tls_wire.specs.Anchors.{is_anchor_text, text_of}
 use Rattle.tls_wire.proofs.AnchorForm.{text_again}
@@ -35,49 +36,31 @@ Pair = Text × Text
 abbrev with_id : Text → Pair
 with_id text = (log_id, text)
 
-abbrev pair_text : Pair → Text
-pair_text = both (element 6) (element 12)
-
 abbrev IsPair : Pair → Type 0
 IsPair x = FitsBoth Short Short x × (is_log_id x ≡ true)
-
--- What the four elements around the text need.
-abbrev IsText : Text → Type 0
-IsText text = IsPair (with_id text)
 
 id_back : (x : Pair) → IsPair x → with_id (second x) ≡ x
 id_back x f = ap (λ (id : Text). (id, x.1)) (sym ((bytes_eq-Decides x.0 log_id).0 f.1))
 
-parts_form : IsForm (attribute_contents log_id) IsText Anything log_text_at
+parts_form : IsForm (attribute_contents log_id) (λ text. IsPair (with_id text)) Anything log_text_at
 unfolding log_text_at
 parts_form =
-    let fields : Reading Pair CertError = both_at (contents_at 6) (contents_at 12) in
-    mapped_form pair_text IsPair Anything (tested_at is_log_id BadName fields) second with_id
-    id_back (λ y f. refl)
-    (tested_form pair_text (FitsBoth Short Short) Anything fields is_log_id BadName
-    (both_form (element 6) Short Anything (contents_at 6) (element 12) Short Anything
-    (contents_at 12)
-    (contents_form 6 (tag_of 6 (lit< tt) refl)) (contents_form 12 (tag_of 12 (lit< tt) refl))
-    (λ y rest f q. tt)))
+    mapped_form (tested_form (then_form (contents_form 6 (tag_of 6 (lit< tt) refl))
+    (contents_form 12 (tag_of 12 (lit< tt) refl))) is_log_id BadName) second with_id id_back
+    (λ y f. refl)
 
 -- An element around a text.
-around : (tag : ℕ) (encode : Text → Text) (Fits : Text → Type 0) (read : Reading Text CertError)
-    → tag < 256 → (tag % 32 == 31) ≡ false
-    → IsForm encode Fits Anything read
-    → IsForm (λ text. element tag (encode text)) (λ text. Fits text
-    × Short (encode text)) Anything (inside_at tag read)
-around tag encode Fits read byte low form =
-    inside_form tag encode Fits read (tag_of tag byte low)
-    (ended_form encode Fits Anything read tt form)
+around : {encode : Text → Text} {Fits : Text → Type 0} {read : Reading Text CertError}
+    → IsForm encode Fits Anything read → (tag : ℕ) → tag < 256 → (tag % 32 == 31) ≡ false
+    → IsForm (λ text. element tag (encode text)) (λ text. Fits text × Short (encode text)) Anything
+    (inside_at tag read)
+around form tag byte low = inside_form (ended_form form tt) tag (tag_of tag byte low)
 
 name_form : IsForm name_with (λ text. Short (name_contents log_id text)) Anything log_name_at
 unfolding log_name_at log_set_at log_attribute_at name_with
 name_form =
-    let Known : Text → Type 0 = λ text. ((IsText text × Short (attribute_contents log_id text))
-    × Short (set_contents log_id text)) × Short (name_contents log_id text) in
-    said_form name_with Known (λ text. Short (name_contents log_id text)) Anything Anything
-    (inside_at 48 (inside_at 49 (inside_at 48 log_text_at)))
-    (λ text f. f.1)
+    fits_form (around (around (around parts_form 48 (lit< tt) refl) 49 (lit< tt) refl) 48 (lit< tt)
+    refl) (λ text f. f.1)
     (λ text short.
     let set : Short (set_contents log_id text) =
     omega (arith, short, element-longer 49 (set_contents log_id text)) in
@@ -90,23 +73,6 @@ name_form =
       element-longer 12 text,
     ) in
     (((((lit< tt, own), refl), attribute), set), short))
-    (λ rest q. q)
-    (around 48 (name_contents log_id) (λ text. (IsText text
-    × Short (attribute_contents log_id text))
-    × Short (set_contents log_id text)) (inside_at 49 (inside_at 48 log_text_at)) (lit< tt) refl
-    (around 49 (set_contents log_id) (λ text. IsText text
-    × Short (attribute_contents log_id text)) (inside_at 48 log_text_at) (lit< tt) refl
-    (around 48 (attribute_contents log_id) IsText log_text_at (lit< tt) refl parts_form)))
-
-whole_takes : (name text : Text) → IsBytes name → all_of log_name_at name ≡ Ok text
-    → (name ≡ name_with text) × Short (name_contents log_id text)
-whole_takes name text h e = all_takes name_with (λ t. Short (name_contents log_id t)) log_name_at
-    name_form name text h e
-
-whole_again : (text : Text) → Short (name_contents log_id text)
-    → all_of log_name_at (name_with text) ≡ Ok text
-whole_again text short = all_again name_with (λ t. Short (name_contents log_id t)) log_name_at
-    name_form text short
 
 pub log_only : (name text : Text) → IsBytes name → log_in name ≡ Some text → IsLogName name text
 unfolding log_in
@@ -119,19 +85,17 @@ log_only name text h e = go (all_of log_name_at name) refl e
         chosen_text : (t : Text) (b : Bool) → is_anchor_text t ≡ b → all_of log_name_at name ≡ Ok t
             → (if b then Some t else None) ≡ Some text → IsLogName name text
         chosen_text t true id read found =
-            let known = whole_takes name t h read in
+            let known = all_takes name_form name t h read in
             let P : Text → Type 0 = IsLogName name in
-            subst P (some_is t text found) (record { id = id; short = known.1; encoded = known.0 })
-          where
-            some_is : (x y : Text) → Some x ≡ Some y → x ≡ y
-            some_is x y e = cc
+            let same : t ≡ text = cc in
+            subst P same (record { id = id; short = known.1; encoded = known.0 })
         chosen_text t false id read found = absurd cc
     go (Err fault) read found = absurd cc
 
 pub log_again : (name text : Text) → IsLogName name text → log_in name ≡ Some text
 unfolding log_in
 log_again name text f = ap (λ (n : Text). id_only (all_of log_name_at n)) f.encoded
-    ∙ rw (whole_again text f.short, f.id) refl
+    ∙ rw (all_again name_form text f.short, f.id) refl
 
 -- ---- an answer that is exactly the text
 
@@ -145,10 +109,7 @@ found name None h e = tt
 
 pub only : (name : Text) (r : Option (Bor Text)) → Exactly name r → (text : Text)
     → IsLogName name text → MatchOption r ⊥ (λ id. id.now ≡ text)
-only name (Some id) e text f = some_is id.now text (sym e ∙ log_again name text f)
-  where
-    some_is : (x y : Text) → Some x ≡ Some y → x ≡ y
-    some_is x y e = cc
+only name (Some id) e text f = cc (sym e ∙ log_again name text f)
 only name None e text f = absurd (none (sym e ∙ log_again name text f))
   where
     none : None ≡ Some text → ⊥
