@@ -1,6 +1,6 @@
--- The readings of fields are forms.
-use Rattle.std.proofs.Common.{◌≡◌, ℕ, ◌+◌, ◌-◌, ◌%◌, ◌^◌, ◌<◌, false, List, [], ◌++◌, length}
-use Rattle.std.proofs.Common.{Option, Result, Ok, Err, refl, sym, ap, subst, ◌∙◌, append-nil, arith}
+-- The readings of elements as fields are forms.
+use Rattle.std.proofs.Common.{◌≡◌, ℕ, ◌+◌, ◌%◌, ◌^◌, ◌<◌, false, List, [], ◌++◌, length}
+use Rattle.std.proofs.Common.{Option, Result, Ok, Err, refl, sym, ap, subst, ◌∙◌, arith}
 use Rattle.std.proofs.Common.{eq-eqb, eqb-true, true≢false}
 use Rattle.std.specs.Prelude.{if◌then◌else◌, ◌==◌}
 use Rattle.std.specs.List.{flat_map}
@@ -8,27 +8,27 @@ use Rattle.std.specs.Ordering.{nat_cmp, is_gt}
 use Rattle.std.specs.Cmp.Lexicographic.{slice_cmp}
 use Rattle.std.proofs.lemmas.List.{nil_from_length}
 use Rattle.byte_formats.specs.Types.{Text}
-use Rattle.byte_formats.specs.Places.{At, IsBytes, at}
-use Rattle.byte_formats.specs.Readings.{◌>>=◌, discarded, some_or, Reading}
+use Rattle.byte_formats.specs.Places.{At, IsBytes}
+use Rattle.byte_formats.specs.Readings.{◌>>=◌, some_or}
 use Rattle.byte_formats.specs.Forms.{Stands, IsForm, Anything, Nothing, IsEncoding, itself}
 use Rattle.byte_formats.specs.Forms.{FitsEach}
-use Rattle.byte_formats.proofs.Steps.{bind_ok, discarded_ok, guard_ok, lifted_ok, pass_ok, ok_is}
+use Rattle.byte_formats.proofs.Steps.{bind_ok, guard_ok, lifted_ok, pass_ok, ok_is}
 use Rattle.byte_formats.proofs.Steps.{some_or_ok}
-use Rattle.byte_formats.proofs.Forms.{said_form}
-use Rattle.byte_formats.proofs.Lists.{each_form}
+use Rattle.byte_formats.proofs.FormLaws.{fits_form}
+use Rattle.byte_formats.proofs.FormLists.{each_form}
 use Rattle.der_core.specs.declared.fault.DerError.{DerError}
 use Rattle.der_core.specs.declared.fault.DerError.TheVariants.{Trailing, SetOrder}
 use Rattle.der_core.specs.declared.fault.CertError.{CertError}
 use Rattle.der_core.specs.declared.fault.CertError.TheVariants.{Der}
 use Rattle.der_core.specs.Elements.{element, IsTag}
-use Rattle.der_core.specs.Items.{Item, inside}
+use Rattle.der_core.specs.Items.{Item}
 use Rattle.der_core.specs.Integers.{integer}
 use Rattle.der_core.specs.Reading.{element_at, wanted_at, end_at}
 use Rattle.der_core.specs.Contents.{unsigned_of}
 use Rattle.der_core.specs.Sets.{risen_at, last_of, rising_at}
-use Rattle.der_core.specs.Fields.{der, inside_at, whole_at, noted_at, decoded_at, contents_at}
-use Rattle.der_core.specs.Fields.{element_with_at, any_at, unsigned_at, all_of}
-use Rattle.der_core.specs.Forms.{IsRead, IsElement, IsContents, IsRisen}
+use Rattle.der_core.specs.Fields.{der, contents_at}
+use Rattle.der_core.specs.Fields.{element_with_at, any_at, unsigned_at}
+use Rattle.der_core.specs.Forms.{IsRead, IsElement, IsRisen}
 use Rattle.der_core.proofs.Elements.{element_takes, wanted_takes, element_again, wanted_again}
 use Rattle.der_core.proofs.Elements.{element-longer}
 use Rattle.der_core.proofs.Integers.{unsigned_takes, unsigned_again, length-integer}
@@ -138,35 +138,6 @@ any_form = record {
       subst P (sym f.encoded) (rw (element_again f.tag f.contents p rest f.fits) refl);
 }
 
--- The value of an element, by the rule for its contents.
-pub decoded_form : {X : Type 0} (tag : ℕ) (encode : X → Text) (Fits : X → Type 0) (decode : ℕ → Text
-    → Result X DerError)
-    → IsTag tag → IsContents encode Fits decode
-    → IsForm (λ x. element tag (encode x)) (λ x. Fits x
-    × (length (encode x) < 2 ^ 24)) Anything (decoded_at tag decode)
-decoded_form {X} tag encode Fits decode is_tag rule = record {
-  takes = λ a x b h e.
-      let s = bind_ok (der (wanted_at tag a)) (λ (v : Item
-      × At). der (decode v.0.place v.0.contents) >>= λ (y : X). Ok (y, v.1)) (x, b) e in
-      let t = bind_ok (der (decode s.0.0.place s.0.0.contents)) (λ (y : X). Ok (y, s.0.1)) (
-        x,
-        b,
-      ) s.2 in
-      let read = contents_takes tag a s.0.0 s.0.1 h s.1 in
-      let known = rule.takes s.0.0.place s.0.0.contents t.0 read.0.bytes
-      (der_ok (decode s.0.0.place s.0.0.contents) t.0 t.1) in
-      let P : X × At → Type 0 = λ v. Stands a (element tag (encode v.0)) v.1
-      × (Fits v.0 × (length (encode v.0) < 2 ^ 24)) in
-      let Q : Text → Type 0 = λ c. Stands a (element tag c) s.0.1 × (length c < 2 ^ 24) in
-      let text = subst Q known.0 (stands_wanted tag a s.0.0 s.0.1 read, read.0.fits.short) in
-      subst P (ok_is CertError (t.0, s.0.1) (x, b) t.2) (text.0, (known.1, text.1));
-  again = λ x p rest f q.
-      rw (
-        wanted_again tag (encode x) p rest (record { is_tag = is_tag; short = f.1 }),
-        rule.again p x f.0,
-      ) refl;
-}
-
 number_form : (fault : CertError) → IsForm (λ n. element 2 (integer n)) (λ n. (n < 2 ^ 64)
     × (length (integer n) < 2 ^ 24)) Anything (unsigned_at fault)
 number_form fault = record {
@@ -198,145 +169,8 @@ number_form fault = record {
 -- A number below 2 ^ 64.
 pub unsigned_form : (fault : CertError)
     → IsForm (λ n. element 2 (integer n)) (λ n. n < 2 ^ 64) Anything (unsigned_at fault)
-unsigned_form fault =
-    said_form (λ n. element 2 (integer n)) (λ n. (n < 2 ^ 64)
-    × (length (integer n) < 2 ^ 24)) (λ n. n < 2 ^ 64) Anything Anything (unsigned_at fault)
-    (λ n f. f.0) (λ n f. (f, omega (arith, length-integer n f))) (λ rest q. q) (number_form fault)
-
--- ---- what stands inside an element
-
--- What was read inside is all of the contents.
-inner_takes : {X : Type 0} (encode : X → Text) (Fits : X → Type 0) (read : Reading X CertError)
-    → IsForm encode Fits Nothing read
-    → (e : Item) (x : X) (b : At) (done : Unit {0}) → IsBytes e.contents
-    → read (inside e) ≡ Ok (x, b) → der (end_at b) ≡ Ok done
-    → (e.contents ≡ encode x) × Fits x
-inner_takes encode Fits read form e x b done h step end =
-    let t = form.takes (inside e) x b h step in
-    let nothing = end_ok b done (der_ok (end_at b) done end) in
-    (t.0.parts ∙ (ap (λ (c : Text). encode x ++ c) nothing ∙ append-nil (encode x)), t.1)
-
-inner_again : {X : Type 0} (encode : X → Text) (Fits : X → Type 0) (read : Reading X CertError)
-    → IsForm encode Fits Nothing read
-    → (x : X) (place : ℕ) → Fits x → read (record { place = place; rest = encode x })
-    ≡ Ok (x, record { place = place + length (encode x); rest = [] })
-inner_again encode Fits read form x place f =
-    ap (λ (c : Text). read (record { place = place; rest = c })) (sym (append-nil (encode x)))
-    ∙ form.again x place [] f refl
-
--- What is read inside an element.
-pub inside_form : {X : Type 0} (tag : ℕ) (encode : X → Text) (Fits : X
-    → Type 0) (read : Reading X CertError)
-    → IsTag tag → IsForm encode Fits Nothing read
-    → IsForm (λ x. element tag (encode x)) (λ x. Fits x
-    × (length (encode x) < 2 ^ 24)) Anything (inside_at tag read)
-inside_form {X} tag encode Fits read is_tag form = record {
-  takes = λ a x b h e.
-      let s = bind_ok (der (wanted_at tag a)) (λ (v : Item × At). read (inside v.0) >>= λ (y : X
-      × At). der (end_at y.1) >>= λ (done : Unit {0}). Ok (y.0, v.1)) (x, b) e in
-      let t = bind_ok (read (inside s.0.0)) (λ (y : X
-      × At). der (end_at y.1) >>= λ (done : Unit {0}). Ok (y.0, s.0.1)) (x, b) s.2 in
-      let u = bind_ok (der (end_at t.0.1)) (λ (done : Unit {0}). Ok (t.0.0, s.0.1)) (x, b) t.2 in
-      let whole = contents_takes tag a s.0.0 s.0.1 h s.1 in
-      let known = inner_takes encode Fits read form s.0.0 t.0.0 t.0.1 u.0 whole.0.bytes t.1 u.1 in
-      let P : X × At → Type 0 = λ v. Stands a (element tag (encode v.0)) v.1
-      × (Fits v.0 × (length (encode v.0) < 2 ^ 24)) in
-      let Q : Text → Type 0 = λ c. Stands a (element tag c) s.0.1 × (length c < 2 ^ 24) in
-      let text = subst Q known.0 (stands_wanted tag a s.0.0 s.0.1 whole, whole.0.fits.short) in
-      subst P (ok_is CertError (t.0.0, s.0.1) (x, b) u.2) (text.0, (known.1, text.1));
-  again = λ x p rest f q.
-      rw (
-        wanted_again tag (encode x) p rest (record { is_tag = is_tag; short = f.1 }),
-        inner_again encode Fits read form x
-            (p + (length (element tag (encode x)) - length (encode x))) f.0,
-      ) refl;
-}
-
--- The bytes of an element and what is read inside it.
-pub noted_form : {X : Type 0} (tag : ℕ) (encode : X → Text) (Fits : X
-    → Type 0) (read : Reading X CertError)
-    → IsTag tag → IsForm encode Fits Nothing read
-    → IsForm (λ v. v.0) (λ (v : Text × X). (v.0 ≡ element tag (encode v.1))
-    × (Fits v.1 × (length (encode v.1) < 2 ^ 24))) Anything (noted_at tag read)
-noted_form {X} tag encode Fits read is_tag form = record {
-  takes = λ a x b h e.
-      let s = bind_ok (der (wanted_at tag a)) (λ (v : Item × At). read (inside v.0) >>= λ (y : X
-      × At). der (end_at y.1) >>= λ (done : Unit {0}). Ok ((v.0.whole, y.0), v.1)) (x, b) e in
-      let t = bind_ok (read (inside s.0.0)) (λ (y : X
-      × At). der (end_at y.1) >>= λ (done : Unit {0}). Ok ((s.0.0.whole, y.0), s.0.1)) (
-        x,
-        b,
-      ) s.2 in
-      let u = bind_ok (der (end_at t.0.1)) (λ (done : Unit {0}). Ok ((s.0.0.whole, t.0.0), s.0.1))
-      (x, b) t.2 in
-      let whole = contents_takes tag a s.0.0 s.0.1 h s.1 in
-      let known = inner_takes encode Fits read form s.0.0 t.0.0 t.0.1 u.0 whole.0.bytes t.1 u.1 in
-      let same = whole_wanted tag a s.0.0 s.0.1 whole in
-      let P : (Text × X) × At → Type 0 = λ v. Stands a v.0.0 v.1
-      × ((v.0.0 ≡ element tag (encode v.0.1))
-      × (Fits v.0.1 × (length (encode v.0.1) < 2 ^ 24))) in
-      let Q : Text → Type 0 = λ c. (s.0.0.whole ≡ element tag c) × (length c < 2 ^ 24) in
-      let text = subst Q known.0 (same, whole.0.fits.short) in
-      subst P (ok_is CertError ((s.0.0.whole, t.0.0), s.0.1) (x, b) u.2)
-      (rw same (stands_wanted tag a s.0.0 s.0.1 whole), (text.0, (known.1, text.1)));
-  again = λ x p rest f q.
-      let P : Text → Type 0 = λ t. noted_at tag read (record { place = p; rest = t ++ rest })
-      ≡ Ok ((t, x.1), record { place = p + length t; rest = rest }) in
-      subst P (sym f.0) (rw (
-        wanted_again tag (encode x.1) p rest (record {
-          is_tag = is_tag;
-          short =
-              f.1.1;
-        }),
-        inner_again encode Fits read form x.1
-            (p + (length (element tag (encode x.1)) - length (encode x.1))) f.1.0,
-      ) refl);
-}
-
--- The bytes of an element whose contents are read.
-pub whole_form : {X : Type 0} (tag : ℕ) (encode : X → Text) (Fits : X
-    → Type 0) (read : Reading X CertError)
-    → IsTag tag → IsForm encode Fits Nothing read
-    → IsForm itself (IsEncoding (λ x. element tag (encode x)) (λ x. Fits x
-    × (length (encode x) < 2 ^ 24))) Anything (whole_at tag read)
-whole_form {X} tag encode Fits read is_tag form = record {
-  takes = λ a x b h e.
-      let s = bind_ok (der (wanted_at tag a)) (λ (v : Item
-      × At). discarded (read (inside v.0)) >>= λ (c : At). der
-      (end_at c) >>= λ (done : Unit {0}). Ok (v.0.whole, v.1)) (x, b) e in
-      let t = bind_ok (discarded (read (inside s.0.0)))
-      (λ (c : At). der (end_at c) >>= λ (done : Unit {0}). Ok (s.0.0.whole, s.0.1)) (
-        x,
-        b,
-      ) s.2 in
-      let u = bind_ok (der (end_at t.0)) (λ (done : Unit {0}). Ok (s.0.0.whole, s.0.1)) (
-        x,
-        b,
-      ) t.2 in
-      let step = discarded_ok (read (inside s.0.0)) t.0 t.1 in
-      let whole = contents_takes tag a s.0.0 s.0.1 h s.1 in
-      let known = inner_takes encode Fits read form s.0.0 step.0 t.0 u.0 whole.0.bytes step.1 u.1 in
-      let same = whole_wanted tag a s.0.0 s.0.1 whole in
-      let P : Text × At → Type 0 = λ v. Stands a v.0 v.1
-      × IsEncoding (λ x. element tag (encode x)) (λ x. Fits x
-      × (length (encode x) < 2 ^ 24)) v.0 in
-      let Q : Text → Type 0 = λ c. (s.0.0.whole ≡ element tag c) × (length c < 2 ^ 24) in
-      let text = subst Q known.0 (same, whole.0.fits.short) in
-      subst P (ok_is CertError (s.0.0.whole, s.0.1) (x, b) u.2)
-      (rw same (stands_wanted tag a s.0.0 s.0.1 whole), (step.0, (known.1, text.1), text.0));
-  again = λ bytes p rest f q.
-      let P : Text → Type 0 = λ t. whole_at tag read (record { place = p; rest = t ++ rest })
-      ≡ Ok (t, record { place = p + length t; rest = rest }) in
-      subst P (sym f.2) (rw (
-        wanted_again tag (encode f.0) p rest (record {
-          is_tag = is_tag;
-          short =
-              f.1.1;
-        }),
-        inner_again encode Fits read form f.0
-            (p + (length (element tag (encode f.0)) - length (encode f.0))) f.1.0,
-      ) refl);
-}
+unsigned_form fault = fits_form (number_form fault) (λ n f. f.0)
+    (λ n f. (f, omega (arith, length-integer n f)))
 
 -- ---- sets
 
@@ -388,36 +222,4 @@ next_some seen bytes f = omega (
 -- The elements of a set, in rising order.
 pub rising_form : (place : ℕ) → IsForm (flat_map itself) (FitsEach itself IsRisen []) Nothing
     (rising_at place)
-rising_form place = each_form itself itself IsRisen (λ seen. risen_at place (last_of seen)) []
-    next_some (risen_form place)
-
--- ---- whole inputs
-
--- Bytes that read up to their end are the spelling of what was read.
-pub all_takes : {X : Type 0} (encode : X → Text) (Fits : X → Type 0) (read : Reading X CertError)
-    → IsForm encode Fits Anything read
-    → (bytes : Text) (x : X) → IsBytes bytes → all_of read bytes ≡ Ok x
-    → (bytes ≡ encode x) × Fits x
-all_takes {X} encode Fits read form bytes x h e =
-    let s = bind_ok (read (at bytes 0)) (λ (v : X × At). der (end_at v.1) >>= λ (done : Unit {0}).
-    Ok v.0) x e in
-    let t = bind_ok (der (end_at s.0.1)) (λ (done : Unit {0}). Ok s.0.0) x s.2 in
-    let known = form.takes (at bytes 0) s.0.0 s.0.1 h s.1 in
-    let nothing = end_ok s.0.1 t.0 (der_ok (end_at s.0.1) t.0 t.1) in
-    let P : X → Type 0 = λ v. (bytes ≡ encode v) × Fits v in
-    subst P (ok_is CertError s.0.0 x t.2) (
-      known.0.parts
-          ∙ (ap (λ (c : Text). encode s.0.0 ++ c) nothing ∙ append-nil (encode s.0.0)),
-      known.1,
-    )
-
--- A spelling reads up to its end.
-pub all_again : {X : Type 0} (encode : X → Text) (Fits : X → Type 0) (read : Reading X CertError)
-    → IsForm encode Fits Anything read
-    → (x : X) → Fits x → all_of read (encode x) ≡ Ok x
-all_again encode Fits read form x f =
-    let step : read (at (encode x) 0)
-    ≡ Ok (x, record { place = 0 + length (encode x); rest = [] }) =
-    ap (λ (c : Text). read (record { place = 0; rest = c })) (sym (append-nil (encode x)))
-    ∙ form.again x 0 [] f tt in
-    rw step refl
+rising_form place = each_form itself (risen_form place) next_some []
