@@ -1,32 +1,28 @@
 -- A whole entry: what is read is spelled so, and what is spelled so is read again.
-use Rattle.std.proofs.Common.{◌≡◌, ℕ, ◌+◌, ◌*◌, ◌^◌, ◌<◌, true, [], ◌∷◌, ◌++◌, length, Option, Some}
-use Rattle.std.proofs.Common.{None, Result, Ok, Err, IfOk, refl, sym, ap, subst, ◌∙◌, append-nil}
+use Rattle.std.proofs.Common.{◌≡◌, ℕ, ◌+◌, ◌*◌, ◌<◌, [], ◌∷◌, length, Option, Some}
+use Rattle.std.proofs.Common.{None, Result, Ok, Err, IfOk, refl, sym, ap, subst, ◌∙◌}
 use Rattle.std.proofs.Common.{arith, inl, inr, lit<, eqb-true, eq-eqb}
 use Rattle.std.specs.Prelude.{◌==◌, if◌then◌else◌}
 use Rattle.std.proofs.lemmas.List.{nil_from_length}
 use Rattle.byte_formats.specs.Types.{Text}
 use Rattle.byte_formats.specs.Places.{At, IsBytes, at}
-use Rattle.byte_formats.specs.Readings.{◌>>=◌, lifted, both_at, mapped_at, Gives}
-use Rattle.byte_formats.specs.Forms.{IsForm, Anything, Nothing, OtherThan, itself, both, FitsBoth}
+use Rattle.byte_formats.specs.Readings.{◌>>=◌, lifted, mapped_at, Gives}
+use Rattle.byte_formats.specs.Forms.{IsForm, Anything, Nothing, itself, both, FitsBoth}
 use Rattle.byte_formats.proofs.Steps.{bind_ok, chosen, pass_ok, ok_is, lifted_ok, IsBytes-rest}
-use Rattle.byte_formats.proofs.Forms.{said_form, encoded_form, ended_form, both_form, mapped_form}
-use Rattle.byte_formats.proofs.Forms.{tested_form, lifted_form}
+use Rattle.byte_formats.proofs.FormLaws.{fits_form, encoded_form, ended_form, then_form, mapped_form}
+use Rattle.byte_formats.proofs.FormLaws.{tested_form, lifted_form, to_end_takes, to_end_again}
 use Rattle.der_core.specs.Elements.{element}
 use Rattle.der_core.specs.Reading.{end_at}
-use Rattle.der_core.specs.Fields.{der, contents_at}
+use Rattle.der_core.specs.Fields.{der}
 use Rattle.der_core.proofs.Fields.{der_ok, end_ok, tag_of, contents_form}
 use Rattle.cert_time.specs.Calendar.{Period}
-use Rattle.cert_fields.specs.Certificate.{version_at}
-use Rattle.cert_fields.specs.Names.{name_at}
-use Rattle.cert_fields.specs.Times.{validity_at}
-use Rattle.cert_fields.specs.Extensions.{extensions_at}
 use Rattle.cert_fields.specs.Grammar.{IsName, IsValidity}
 use Rattle.cert_fields.proofs.FieldForms.{name_form, validity_form}
 use Rattle.cert_fields.proofs.CertificateForm.{NoValue, version_text, version_form}
 use Rattle.cert_fields.proofs.ExtensionForms.{IsExtensions, extensions_form}
 use Rattle.log_entry.specs.Entries.{TbsParts, key_hash_text, body_text, tbs_text, entry_text, IsTbs}
 use Rattle.log_entry.specs.Entries.{IsEntry}
-use Rattle.log_entry.specs.Reading.{field_at, has_hash_length, key_hash_at, Fields, to_tbs}
+use Rattle.log_entry.specs.Reading.{has_hash_length, key_hash_at, Fields, to_tbs}
 use Rattle.log_entry.specs.Reading.{fields_at, body_of, as_tbs, typed, entry_in}
 use Rattle.log_entry.specs.Views.{entry_parts}
 use Rattle.log_entry.specs.declared.entry.Entry.{Entry}
@@ -46,16 +42,9 @@ hash_is hash e = rw e refl
 pub key_hash_form : IsForm key_hash_text IsHash Anything key_hash_at
 unfolding key_hash_at
 key_hash_form =
-    let Short : Text → Type 0 = λ contents. length contents < 2 ^ 24 in
-    let Fits : Text → Type 0 = λ hash. Short hash × (has_hash_length hash ≡ true) in
-    encoded_form (element 0x04) key_hash_text IsHash Anything key_hash_at hash_is
-    (said_form (element 0x04) Fits IsHash Anything Anything key_hash_at
-    (λ hash f. eqb-true (length hash) 32 f.1) (λ hash e. (omega arith, eq-eqb (length hash) 32 e))
-    (λ rest q. q)
-    (tested_form (element 0x04) Short Anything (field_at (contents_at 0x04)) has_hash_length
-    BadHashLength
-    (lifted_form (element 0x04) Short Anything (contents_at 0x04) Body
-    (contents_form 0x04 (tag_of 0x04 (lit< tt) refl)))))
+    encoded_form (fits_form (tested_form (lifted_form (contents_form 0x04 (tag_of 0x04 (lit< tt)
+    refl)) Body) has_hash_length BadHashLength) (λ hash f. eqb-true (length hash) 32 f.1)
+    (λ hash e. (omega arith, eq-eqb (length hash) 32 e))) hash_is
 
 -- ---- the body
 
@@ -72,40 +61,9 @@ AreFields = FitsBoth NoValue (FitsBoth IsName
 
 fields_form : IsForm fields_text AreFields Nothing fields_at
 fields_form =
-    both_form version_text NoValue Anything (field_at version_at)
-    (both itself (both moments_text (both itself (both key_hash_text itself))))
-    (FitsBoth IsName (FitsBoth IsValidity (FitsBoth IsName (FitsBoth IsHash IsExtensions))))
-    Nothing
-    (both_at (field_at name_at) (both_at (field_at validity_at)
-    (both_at (field_at name_at) (both_at key_hash_at (field_at extensions_at)))))
-    (lifted_form version_text NoValue Anything version_at Body version_form)
-    (both_form itself IsName Anything (field_at name_at)
-    (both moments_text (both itself (both key_hash_text itself)))
-    (FitsBoth IsValidity (FitsBoth IsName (FitsBoth IsHash IsExtensions))) Nothing
-    (both_at (field_at validity_at) (both_at (field_at name_at)
-    (both_at key_hash_at (field_at extensions_at))))
-    (lifted_form itself IsName Anything name_at Body name_form)
-    (both_form moments_text IsValidity Anything (field_at validity_at)
-    (both itself (both key_hash_text itself)) (FitsBoth IsName (FitsBoth IsHash IsExtensions))
-    Nothing
-    (both_at (field_at name_at) (both_at key_hash_at (field_at extensions_at)))
-    (lifted_form moments_text IsValidity Anything validity_at Body validity_form)
-    (both_form itself IsName Anything (field_at name_at)
-    (both key_hash_text itself) (FitsBoth IsHash IsExtensions) Nothing
-    (both_at key_hash_at (field_at extensions_at))
-    (lifted_form itself IsName Anything name_at Body name_form)
-    (both_form key_hash_text IsHash Anything key_hash_at itself IsExtensions Nothing
-    (field_at extensions_at) key_hash_form
-    (lifted_form itself IsExtensions Nothing extensions_at Body
-    (ended_form itself IsExtensions (λ rest. Anything rest × OtherThan 0xA3 rest) extensions_at (
-      tt,
-      tt,
-    ) extensions_form))
-    (λ y rest f q. tt))
-    (λ y rest f q. tt))
-    (λ y rest f q. tt))
-    (λ y rest f q. tt))
-    (λ y rest f q. tt)
+    then_form (lifted_form version_form Body) (then_form (lifted_form name_form Body)
+    (then_form (lifted_form validity_form Body) (then_form (lifted_form name_form Body)
+    (then_form key_hash_form (lifted_form (ended_form extensions_form (tt, tt)) Body)))))
 
 abbrev from_tbs : TbsParts → Fields
 from_tbs p = (
@@ -134,10 +92,7 @@ tbs_from p f = (tt, (f.issuer, (f.validity, (f.subject, (f.key_hash, f.extension
 
 tbs_form : IsForm body_text IsTbs Nothing (mapped_at to_tbs fields_at)
 tbs_form =
-    said_form (λ p. fields_text (from_tbs p)) (λ p. AreFields (from_tbs p)) IsTbs Nothing Nothing
-    (mapped_at to_tbs fields_at) tbs_to tbs_from (λ rest q. q)
-    (mapped_form fields_text AreFields Nothing fields_at to_tbs from_tbs (λ x f. refl)
-    (λ p f. refl) fields_form)
+    fits_form (mapped_form fields_form to_tbs from_tbs (λ x f. refl) (λ p f. refl)) tbs_to tbs_from
 
 body_takes : (a : At) (p : TbsParts) → IsBytes a.rest → body_of a ≡ Ok p → (a.rest ≡ body_text p)
     × IsTbs p
@@ -146,25 +101,14 @@ body_takes a p h e =
     let s = bind_ok (mapped_at to_tbs fields_at a) (λ (v : TbsParts
     × At). lifted Body (der (end_at v.1)) >>= λ (done : Unit {0}). Ok v.0) p e in
     let t = bind_ok (lifted Body (der (end_at s.0.1))) (λ (done : Unit {0}). Ok s.0.0) p s.2 in
-    let known = tbs_form.takes a s.0.0 s.0.1 h s.1 in
-    let nothing = end_ok s.0.1 t.0 (der_ok (end_at s.0.1) t.0
-    (lifted_ok Body (der (end_at s.0.1)) t.0 t.1)) in
     let P : TbsParts → Type 0 = λ v. (a.rest ≡ body_text v) × IsTbs v in
-    subst P (ok_is EntryError s.0.0 p t.2) (
-      known.0.parts
-          ∙ (ap (λ (c : Text). body_text s.0.0 ++ c) nothing ∙ append-nil (body_text s.0.0)),
-      known.1,
-    )
+    subst P (ok_is EntryError s.0.0 p t.2) (to_end_takes tbs_form a s.0.0 s.0.1 h s.1
+    (end_ok s.0.1 t.0 (der_ok (end_at s.0.1) t.0 (lifted_ok Body (der (end_at s.0.1)) t.0 t.1))))
 
 body_again : (place : ℕ) (p : TbsParts) → IsTbs p
     → body_of (record { place = place; rest = body_text p }) ≡ Ok p
 unfolding body_of
-body_again place p f =
-    let step : mapped_at to_tbs fields_at (record { place = place; rest = body_text p })
-    ≡ Ok (p, record { place = place + length (body_text p); rest = [] }) =
-    ap (λ (c : Text). mapped_at to_tbs fields_at (record { place = place; rest = c }))
-    (sym (append-nil (body_text p))) ∙ tbs_form.again p place [] f refl in
-    rw step refl
+body_again place p f = rw (to_end_again tbs_form refl p place f) refl
 
 -- ---- by the type
 
