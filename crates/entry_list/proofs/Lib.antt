@@ -1,3 +1,2 @@
-pub mod Forward
 pub mod Loops
 pub mod Written

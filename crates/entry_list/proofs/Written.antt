@@ -1,26 +1,24 @@
 -- Files of entries: what is read is the text of its items, and that text is read as them.
 use Rattle.std.proofs.Common.{◌≡◌, ℕ, zero, suc, ◌+◌, ◌<◌, ◌≤◌, true, List, [], ◌∷◌, ◌++◌, length}
 use Rattle.std.proofs.Common.{get_or, map, take, Result, Ok, refl, sym, ap, subst, ◌∙◌}
-use Rattle.std.proofs.Common.{append-nil, arith, eqb-true, inl, inr}
-use Rattle.std.specs.Prelude.{◌==◌}
+use Rattle.std.proofs.Common.{arith}
 use Rattle.std.specs.Int.{w16, to_be_bytes}
 use Rattle.std.specs.List.{concat, range_with_len, flat_map}
 use Rattle.std.proofs.lemmas.List.{get_or-map, get_or-take, length-append, length-map}
-use Rattle.std.proofs.lemmas.List.{length-take-le, nil_from_length, take-map}
+use Rattle.std.proofs.lemmas.List.{length-take-le, take-map}
 use Rattle.std.proofs.Math.Seq.{take-length}
 use Rattle.byte_formats.specs.Types.{HashFunction, Text}
 use Rattle.byte_formats.specs.Places.{At, IsBytes, at}
-use Rattle.byte_formats.specs.Readings.{◌>>=◌, both_at}
+use Rattle.byte_formats.specs.Readings.{◌>>=◌}
 use Rattle.byte_formats.specs.Forms.{Anything, FitsBoth, FitsEach, IsForm, Nothing, both}
 use Rattle.byte_formats.specs.Lists.{each_at}
-use Rattle.byte_formats.proofs.Forms.{both_form, lifted_form, tested_form}
-use Rattle.byte_formats.proofs.Lists.{each_form}
-use Rattle.byte_formats.proofs.Steps.{bind_ok, chosen, ok_is}
-use Rattle.tls_wire.specs.Reading.{vector_at}
+use Rattle.byte_formats.proofs.FormLaws.{lifted_form, tested_form, then_form, to_end_again}
+use Rattle.byte_formats.proofs.FormLaws.{to_end_takes}
+use Rattle.byte_formats.proofs.FormLists.{each_drains, each_form}
+use Rattle.byte_formats.proofs.Steps.{bind_ok, ok_is}
 use Rattle.tls_wire.specs.Encoding.{vector}
 use Rattle.tls_wire.proofs.Numbers.{wide16}
 use Rattle.tls_wire.proofs.Vectors.{vector_form}
-use Rattle.entry_list.proofs.Forward.{item_forward}
 use Rattle.entry_list.specs.Items.{AreItems, FitsFile, ItemLists, file_text, first_items}
 use Rattle.entry_list.specs.Items.{is_key_of, listed_text, lists_of}
 use Rattle.entry_list.specs.Reading.{listed_at, item_behind, all_listed_at, items_in, short_item}
@@ -30,30 +28,25 @@ use Rattle.entry_list.specs.declared.error.ItemsError.TheVariants.{BadItem}
 
 -- ---- one item
 
-abbrev Pair : Type 0
+abbrev pub Pair : Type 0
 Pair = Text × Text
 
-abbrev IsShort : Text → Type 0
+abbrev pub IsShort : Text → Type 0
 IsShort bytes = length bytes < 65536
 
-abbrev pair_text : Pair → Text
+abbrev pub pair_text : Pair → Text
 pair_text = both (vector w16) (vector w16)
 
-abbrev Fits : HashFunction → Pair → Type 0
+abbrev pub Fits : HashFunction → Pair → Type 0
 Fits h x = FitsBoth IsShort IsShort x × (is_key_of h x.0 x.1 ≡ true)
 
 vector_item_form : IsForm (vector w16) IsShort Anything vector_item
-vector_item_form =
-    lifted_form (vector w16) IsShort Anything (vector_at w16) short_item
-    (vector_form w16 65536 wide16)
+vector_item_form = lifted_form (vector_form w16 65536 wide16) short_item
 
-item_form : (h : HashFunction) (n : ℕ) → IsForm pair_text (Fits h) Anything (listed_at h n)
+pub item_form : (h : HashFunction) (n : ℕ) → IsForm pair_text (Fits h) Anything (listed_at h n)
 unfolding listed_at
 item_form h n =
-    tested_form pair_text (FitsBoth IsShort IsShort) Anything (both_at vector_item vector_item)
-    (λ x. is_key_of h x.0 x.1) (BadItem n)
-    (both_form (vector w16) IsShort Anything vector_item (vector w16) IsShort Anything vector_item
-    vector_item_form vector_item_form (λ y rest f q. tt))
+    tested_form (then_form vector_item_form vector_item_form) (λ x. is_key_of h x.0 x.1) (BadItem n)
 
 some_bytes : (x : Pair) → 0 < length (pair_text x)
 some_bytes x =
@@ -75,36 +68,11 @@ EachFits h = FitsEach itself (λ seen. Fits h)
 
 items_form : (h : HashFunction) → IsForm (flat_map pair_text) (EachFits h []) Nothing
     (λ a. each_at itself (item_behind h) (length a.rest) [] a)
-items_form h =
-    each_form itself pair_text (λ seen. Fits h) (item_behind h) [] (λ seen x f. some_bytes x)
-    (λ seen. item_form h (length seen))
+items_form h = each_form itself (λ seen. item_form h (length seen)) (λ seen x f. some_bytes x) []
 
-drains : (h : HashFunction) (n : ℕ) (seen : List Pair) (a : At) (xs : List Pair) (b : At)
-    → length a.rest ≤ n → each_at itself (item_behind h) n seen a ≡ Ok (xs, b) → b.rest ≡ []
-unfolding each_at
-drains h zero seen a xs b le e =
-    let P : List Pair × At → Type 0 = λ v. v.1.rest ≡ [] in
-    subst P (ok_is ItemsError ([], a) (xs, b) e) (nil_from_length a.rest (omega arith))
-drains h (suc n) seen a xs b le e =
-    let P : List Pair × At → Type 0 = λ v. v.1.rest ≡ [] in
-    let more : Result (List Pair × At) ItemsError =
-    listed_at h (length seen) a >>= λ (x : Pair × At). each_at itself (item_behind h) n (seen
-    ++ x.0 ∷ []) x.1 >>= λ (ys : List Pair × At). Ok (x.0 ∷ ys.0, ys.1) in
-    elim (chosen (length a.rest == 0) (Ok ([], a)) more (Ok (xs, b)) e) [
-      | inl c ↦
-          subst P (ok_is ItemsError ([], a) (xs, b) c.1)
-          (nil_from_length a.rest (eqb-true (length a.rest) 0 c.0))
-      | inr c ↦
-          let s = bind_ok (listed_at h (length seen) a) (λ (x : Pair
-          × At). each_at itself (item_behind h) n (seen ++ x.0 ∷ []) x.1 >>= λ (ys : List Pair
-          × At). Ok (x.0 ∷ ys.0, ys.1)) (xs, b) c.1 in
-          let t = bind_ok (each_at itself (item_behind h) n (seen ++ s.0.0 ∷ []) s.0.1) (λ (ys
-          : List Pair × At). Ok (s.0.0 ∷ ys.0, ys.1)) (xs, b) s.2 in
-          let less : length s.0.1.rest < length a.rest =
-          item_forward h (length seen) a s.0 s.1 in
-          subst P (ok_is ItemsError (s.0.0 ∷ t.0.0, t.0.1) (xs, b) t.2)
-          (drains h n (seen ++ s.0.0 ∷ []) s.0.1 t.0.0 t.0.1 (omega arith) t.1)
-    ]
+drains : (h : HashFunction) (a : At) (xs : List Pair) (b : At) → IsBytes a.rest
+    → each_at itself (item_behind h) (length a.rest) [] a ≡ Ok (xs, b) → b.rest ≡ []
+drains h = each_drains itself (λ seen. item_form h (length seen)) (λ seen x f. some_bytes x) []
 
 -- ---- two lists as one of pairs
 
@@ -223,11 +191,7 @@ items_only h bytes items are e =
     let s = bind_ok (each_at itself (item_behind h) (length a.rest) [] a) (λ (x : List Pair
     × At). Ok (lists_of x.0)) items e in
     let pairs : List Pair = s.0.0 in
-    let known = (items_form h).takes a pairs s.0.1 are s.1 in
-    let none_left = drains h (length a.rest) [] a pairs s.0.1 (omega arith) s.1 in
-    let whole : bytes ≡ flat_map pair_text pairs = known.0.parts
-    ∙ (ap (λ (t : Text). flat_map pair_text pairs ++ t) none_left
-    ∙ append-nil (flat_map pair_text pairs)) in
+    let known = to_end_takes (items_form h) a pairs s.0.1 are s.1 (drains h a pairs s.0.1 are s.1) in
     let count : length (map (λ (x : Pair). x.0) pairs) ≡ length pairs =
     length-map pairs (λ (x : Pair). x.0) in
     let text : file_text (lists_of pairs) (length (lists_of pairs).entries)
@@ -238,7 +202,7 @@ items_only h bytes items are e =
     let P : ItemLists → Type 0 = λ l. (bytes ≡ file_text l (length l.entries))
     × (AreItems h l × FitsFile l) in
     subst P (ok_is ItemsError (lists_of pairs) items s.2)
-    (whole ∙ sym text, are_items h pairs known.1)
+    (known.0 ∙ sym text, are_items h pairs known.1)
 
 fits_all : (h : HashFunction) (pairs : List Pair) → AreItems h (lists_of pairs)
     → FitsFile (lists_of pairs) → (i : ℕ) → i < length pairs → Fits h (get_or pairs i none)
@@ -267,13 +231,10 @@ again_pairs h pairs count are short le =
     let inside : i < length pairs = omega arith in
     subst (Fits h) (sym (get_or-take count pairs i none small))
     (fits_all h pairs are short i inside)) in
-    let read = (items_form h).again first 0 [] fits refl in
-    let same : flat_map pair_text first ++ [] ≡ file_text (lists_of pairs) count =
-    append-nil (flat_map pair_text first) ∙ sym (text_is pairs count le) in
     let whole = ap (λ (t : Text). each_at itself (item_behind h) (length t) [] (record {
       place = 0;
       rest = t;
-    })) (sym same) ∙ read in
+    })) (text_is pairs count le) ∙ to_end_again (items_form h) refl first 0 fits in
     ap (λ (r : Result (List Pair × At) ItemsError). r >>= λ (x : List Pair
     × At). Ok (lists_of x.0)) whole
     ∙ rw (take-map (λ (x : Pair). x.0) count pairs, take-map (λ (x : Pair). x.1) count pairs) refl
