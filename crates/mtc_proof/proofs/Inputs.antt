@@ -3,8 +3,7 @@ use Rattle.std.proofs.Common.{◌≡◌, ℕ, ◌^◌, ◌<◌, ◌++◌, length
 use Rattle.std.specs.Int.{w8, w64}
 use Rattle.std.proofs.lemmas.List.{append_cancel_left}
 use Rattle.byte_formats.specs.Types.{Hash, Text}
-use Rattle.byte_formats.proofs.Forms.{one_form}
-use Rattle.tls_wire.specs.Reading.{number_at, vector_at}
+use Rattle.byte_formats.proofs.FormLaws.{one_form}
 use Rattle.tls_wire.specs.Encoding.{number, vector}
 use Rattle.tls_wire.proofs.Numbers.{wide8, word_form}
 use Rattle.tls_wire.proofs.Vectors.{vector_form}
@@ -30,12 +29,11 @@ same_parts c d g h s t e f x y cosigners logs starts ends hashes =
 
 same_id : (c d x y : Text) → length c < 2 ^ 8 → length d < 2 ^ 8
     → vector w8 c ++ x ≡ vector w8 d ++ y → (c ≡ d) × (x ≡ y)
-same_id = one_form (vector w8) (λ id. length id < 2 ^ 8) (vector_at w8)
-    (vector_form w8 (2 ^ 8) wide8)
+same_id = one_form (vector_form w8 (2 ^ 8) wide8)
 
 same_word : (m n : ℕ) (x y : Text) → m < 2 ^ 64 → n < 2 ^ 64
     → number w64 m ++ x ≡ number w64 n ++ y → (m ≡ n) × (x ≡ y)
-same_word = one_form (number w64) (λ n. n < 2 ^ 64) (number_at w64) word_form
+same_word = one_form word_form
 
 pub one_input : (p q : InputParts) → IsInput p → IsInput q → input_text p ≡ input_text q → p ≡ q
 unfolding input_text

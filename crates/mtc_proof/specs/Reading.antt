@@ -1,12 +1,13 @@
 -- Reading a proof, with its faults in their order.
-use Rattle.std.specs.Prelude.{ℕ, zero, suc, ◌-◌, ◌==◌, List, [], length, Result, Ok, Err}
+use Rattle.std.specs.Prelude.{ℕ, ◌-◌, ◌==◌, List, length, Result, Ok, Err}
 use Rattle.std.specs.Prelude.{if◌then◌else◌}
 use Rattle.std.specs.Int.{Width, w8, w16, w64}
 use Rattle.byte_formats.specs.Types.{Hash, Text}
 use Rattle.byte_formats.specs.Places.{At, at, has_bytes}
 use Rattle.byte_formats.specs.Readings.{Reading, ◌>>=◌, lifted_at, discarded, both_at, mapped_at}
 use Rattle.byte_formats.specs.Readings.{tested_at}
-use Rattle.byte_formats.specs.Lists.{up_to_end, value_then}
+use Rattle.byte_formats.specs.Lists.{up_to_end}
+use Rattle.byte_formats.specs.Left.{left_at}
 use Rattle.tls_wire.specs.Reading.{number_at, vector_at, hashes_at}
 use Rattle.tls_wire.specs.declared.cursor.HashesError.{HashesError}
 use Rattle.tls_wire.specs.declared.cursor.HashesError.TheVariants.{Short as NotFitting}
@@ -54,14 +55,9 @@ mtc_signature_at = mapped_at to_signature (both_at id_at (text_at w16))
 abbrev pub checked_signatures : At → Result (Unit {0}) ProofError
 checked_signatures a = discarded (up_to_end mtc_signature_at a) >>= λ end. Ok tt
 
--- The signatures from here on, up to the first that doesn't read. The number is at least that of
--- the bytes that are left.
-unfoldable pub signatures_from : ℕ → At → List SigParts
-signatures_from zero a = []
-signatures_from (suc n) a = value_then (mtc_signature_at a) (λ b. signatures_from n b)
-
+-- The signatures from here on, up to the first that doesn't read.
 abbrev pub signatures_left : At → List SigParts
-signatures_left a = signatures_from (length a.rest) a
+signatures_left = left_at mtc_signature_at
 
 -- ---- proofs
 
