@@ -8,8 +8,8 @@ use Rattle.std.specs.Int.{w8, w32, w64}
 use Rattle.byte_formats.specs.Types.{Hash, HashFunction, Text}
 use Rattle.byte_formats.specs.Places.{At, at, IsBytes}
 use Rattle.byte_formats.specs.Forms.{Anything, FitsBoth, IsForm, both, itself}
-use Rattle.byte_formats.specs.Readings.{both_at, whole_of}
-use Rattle.byte_formats.proofs.Forms.{both_form, lifted_form}
+use Rattle.byte_formats.specs.Readings.{whole_of}
+use Rattle.byte_formats.proofs.FormLaws.{lifted_form, then_form, whole_again, whole_takes}
 use Rattle.journal_core.proofs.Folds.{state_begins, state_next}
 use Rattle.lmots_core.specs.Parameters.{type_of_code, typecode}
 use Rattle.lmots_core.specs.declared.parameters.OtsType.{OtsType}
@@ -17,7 +17,7 @@ use Rattle.lmots_core.specs.declared.parameters.OtsType.TheVariants.{W1, W2, W4,
 use Rattle.lms_core.specs.Heights.{height, lms_code}
 use Rattle.lms_core.specs.declared.heights.LmsType.{LmsType}
 use Rattle.lms_core.specs.declared.heights.LmsType.TheVariants.{H5, H10, H15, H20, H25}
-use Rattle.tls_wire.specs.Reading.{bytes_at, number_at, vector_at}
+use Rattle.tls_wire.specs.Reading.{number_at}
 use Rattle.tls_wire.specs.Encoding.{number, vector}
 use Rattle.tls_wire.specs.declared.cursor.Short.{Short}
 use Rattle.tls_wire.proofs.AnchorForm.{anchor_again}
@@ -26,7 +26,7 @@ use Rattle.tls_wire.proofs.Vectors.{vector_form}
 use Rattle.cosigner_core.specs.Folds.{CosignerState, after_step, begun_cosigner, cosigner_fold}
 use Rattle.cosigner_core.specs.Folds.{cosigner_of}
 use Rattle.cosigner_core.specs.Folds.{new_cosigner, next_state}
-use Rattle.cosigner_core.specs.Reading.{hash_at, proof_at, short_fault, u64_at}
+use Rattle.cosigner_core.specs.Reading.{short_fault}
 use Rattle.cosigner_core.specs.Records.{FitsCosigner, FitsStep}
 use Rattle.cosigner_core.specs.declared.step.Step.TheVariants.{Advance, Sign}
 use Rattle.cosigner_core.specs.Records.{advance_record, advance_step_at, cosigner_at}
@@ -35,11 +35,9 @@ use Rattle.cosigner_core.specs.Records.{cosigner_in, cosigner_record, first_by_t
 use Rattle.cosigner_core.specs.Records.{cosigner_settings_with, sign_record, sign_step_at}
 use Rattle.cosigner_core.specs.Records.{signing_type}
 use Rattle.cosigner_core.specs.Records.{step_by_tag, step_in, step_record, advance_of, sign_of}
-use Rattle.cosigner_core.specs.Records.{index_at}
 use Rattle.cosigner_core.specs.declared.settings.CosignerSettings.{CosignerSettings}
 use Rattle.cosigner_core.proofs.Forms.{IsRoot, IsWord, Root, root_text, sized_form, spanned_form}
-use Rattle.cosigner_core.proofs.Tagged.{some_value, tag_again, tag_takes, whole_again}
-use Rattle.cosigner_core.proofs.Tagged.{whole_takes}
+use Rattle.cosigner_core.proofs.Tagged.{some_value, tag_again, tag_takes}
 
 -- ---- how long they are
 
@@ -89,12 +87,7 @@ FitSign = FitsBoth IsShortWord (FitsBoth IsWord (FitsBoth IsWord IsRoot))
 
 sign_form : IsForm sign_fields FitSign Anything sign_step_at
 unfolding sign_step_at
-sign_form =
-    both_form (number w32) IsShortWord Anything index_at (both (number w64) (both (number w64)
-    root_text)) (FitsBoth IsWord (FitsBoth IsWord IsRoot)) Anything
-    (both_at u64_at (both_at u64_at (both_at hash_at proof_at)))
-    (lifted_form (number w32) IsShortWord Anything (number_at w32) short_fault
-    (number_form w32 (2 ^ 32) wide32)) spanned_form (λ y rest f q. tt)
+sign_form = then_form (lifted_form (number_form w32 (2 ^ 32) wide32) short_fault) spanned_form
 
 -- ---- either
 
@@ -102,13 +95,12 @@ pub step_again : (step : Step) → FitsStep step → step_in (step_record step) 
 unfolding step_in advance_record sign_record
 step_again (Advance size root proof) fits =
     ap step_by_tag (tag_again 0x12 (advance_fields (size, (root, proof))) (omega arith))
-    ∙ ap (option_map advance_of) (whole_again advance_fields FitAdvance advance_step_at advance_form
-    1 (size, (root, proof)) (fits.word, (fits.sized, fits.all_hashes)))
+    ∙ ap (option_map advance_of) (whole_again advance_form tt (size, (root, proof)) 1
+    (fits.word, (fits.sized, fits.all_hashes)))
 step_again (Sign index start end hash proof) fits =
     ap step_by_tag (tag_again 0x13 (sign_fields (index, (start, (end, (hash, proof)))))
     (omega arith))
-    ∙ ap (option_map sign_of) (whole_again sign_fields FitSign sign_step_at sign_form 1
-    (index, (start, (end, (hash, proof)))) (
+    ∙ ap (option_map sign_of) (whole_again sign_form tt (index, (start, (end, (hash, proof)))) 1 (
       fits.short_word,
       (
         fits.start_word,
@@ -136,8 +128,7 @@ step_takes body step bytes is = go (number_at w8 (at body 0)) refl is
         → whole_of (advance_step_at a) ≡ Some x → (body ≡ step_record (advance_of x))
         × FitsStep (advance_of x)
     advance_is a x begins rest is =
-        let took = whole_takes advance_fields FitAdvance advance_step_at advance_form a x
-        rest is in (
+        let took = whole_takes advance_form a x rest is in (
           begins ∙ ap (λ (t : Text). number w8 0x12 ++ t) took.0,
           record { word = took.1.0; sized = took.1.1.0; all_hashes = took.1.1.1 },
         )
@@ -146,7 +137,7 @@ step_takes body step bytes is = go (number_at w8 (at body 0)) refl is
         → whole_of (sign_step_at a) ≡ Some x → (body ≡ step_record (sign_of x))
         × FitsStep (sign_of x)
     sign_is a x begins rest is =
-        let took = whole_takes sign_fields FitSign sign_step_at sign_form a x rest is in (
+        let took = whole_takes sign_form a x rest is in (
           begins ∙ ap (λ (t : Text). number w8 0x13 ++ t) took.0,
           record {
             short_word = took.1.0;
@@ -207,21 +198,7 @@ unfolding cosigner_at
 cosigner_form =
     let id = vector_form w8 (2 ^ 8) wide8 in
     let code = number_form w32 (2 ^ 32) wide32 in
-    let last = both_form (number w32) IsShortWord Anything (number_at w32) itself IsSecret Anything
-    (bytes_at 48) code (bytes_form 48) (λ y rest f q. tt) in
-    let codes = both_form (number w32) IsShortWord Anything (number_at w32)
-    (both (number w32) itself) (FitsBoth IsShortWord IsSecret) Anything
-    (both_at (number_at w32) (bytes_at 48)) code last (λ y rest f q. tt) in
-    let log = both_form (vector w8) ShortId Anything (vector_at w8)
-    (both (number w32) (both (number w32) itself))
-    (FitsBoth IsShortWord (FitsBoth IsShortWord IsSecret)) Anything
-    (both_at (number_at w32) (both_at (number_at w32) (bytes_at 48))) id codes
-    (λ y rest f q. tt) in
-    both_form (vector w8) ShortId Anything (vector_at w8)
-    (both (vector w8) (both (number w32) (both (number w32) itself)))
-    (FitsBoth ShortId (FitsBoth IsShortWord (FitsBoth IsShortWord IsSecret))) Anything
-    (both_at (vector_at w8) (both_at (number_at w32) (both_at (number_at w32) (bytes_at 48)))) id
-    log (λ y rest f q. tt)
+    then_form id (then_form id (then_form code (then_form code (bytes_form 48))))
 
 type_again : (l : LmsType) → height l ≤ 10 → signing_type (lms_code l) ≡ Some l
 type_again H5 small = refl
@@ -270,7 +247,7 @@ cosigner_again s secret fits =
     (omega arith, (omega arith, (code_short s.lms, (width_short s.ots, fits.sized)))) in
     ap first_by_tag (tag_again 0x11 (cosigner_fields x) (omega arith))
     ∙ ap (option_and_then founded)
-    (whole_again cosigner_fields FitCosigner cosigner_at cosigner_form 1 x fit)
+    (whole_again cosigner_form tt x 1 fit)
     ∙ ap (option_map (λ (t : CosignerSettings). (t, secret))) (settings_again s secret fits)
 
 -- ---- a journal of records as they are spelled

@@ -5,6 +5,7 @@ use Rattle.std.proofs.Common.{ap, ◌∙◌, subst, arith}
 use Rattle.std.specs.Prelude.{if◌then◌else◌}
 use Rattle.std.specs.Int.{w8, w32}
 use Rattle.std.proofs.lemmas.Bool.{eqb-true}
+use Rattle.byte_formats.proofs.FormLaws.{whole_takes}
 use Rattle.byte_formats.specs.Types.{Text}
 use Rattle.byte_formats.specs.Places.{At, at, IsBytes}
 use Rattle.byte_formats.specs.Forms.{both, itself}
@@ -26,9 +27,9 @@ use Rattle.cosigner_core.specs.Records.{FitsCosigner, cosigner_at, cosigner_in, 
 use Rattle.cosigner_core.specs.Records.{first_by_tag, founded, cosigner_settings_with, signing_type}
 use Rattle.cosigner_core.specs.Records.{with_ids}
 use Rattle.cosigner_core.specs.declared.settings.CosignerSettings.{CosignerSettings}
-use Rattle.cosigner_core.proofs.Encoded.{CosignerFields, FitCosigner, cosigner_fields}
+use Rattle.cosigner_core.proofs.Encoded.{CosignerFields, cosigner_fields}
 use Rattle.cosigner_core.proofs.Encoded.{cosigner_form}
-use Rattle.cosigner_core.proofs.Tagged.{some_value, tag_takes, when_some, whole_takes}
+use Rattle.cosigner_core.proofs.Tagged.{some_value, tag_takes, when_some}
 
 pub then_some : {X Y : Type 0} (f : X → Option Y) (o : Option X) (y : Y)
     → option_and_then f o ≡ Some y → (x : X) × (o ≡ Some x) × (f x ≡ Some y)
@@ -148,8 +149,7 @@ cosigner_takes body s secret bytes is = go (number_at w8 (at body 0)) refl is
           ),
         )) × FitsCosigner s secret
     encoded a x begins rest read is =
-        let took = whole_takes cosigner_fields FitCosigner cosigner_at cosigner_form a x
-        rest read in
+        let took = whole_takes cosigner_form a x rest read in
         let text : IsBytes (cosigner_fields x) = subst IsBytes took.0 rest in
         let later : IsBytes (both (vector w8) (both (number w32) (both (number w32) itself)) x.1) =
         IsBytes-back (vector w8 x.0)

@@ -1,16 +1,16 @@
 -- Requests: what is read is spelled so, and what is spelled so is read again.
-use Rattle.std.proofs.Common.{◌≡◌, ℕ, ◌^◌, ◌<◌, true, List, [], ◌++◌, length, Result, Ok, Err, refl}
-use Rattle.std.proofs.Common.{sym, ap, subst, ◌∙◌, append-nil, eqb-true}
+use Rattle.std.proofs.Common.{◌≡◌, ℕ, ◌^◌, ◌<◌, true, List, length, Ok, Err, refl}
+use Rattle.std.proofs.Common.{subst, eqb-true}
 use Rattle.std.specs.Prelude.{if◌then◌else◌, ◌==◌}
 use Rattle.std.specs.Int.{w8, w64}
 use Rattle.std.proofs.lemmas.List.{nil_from_length}
 use Rattle.byte_formats.specs.Types.{Hash, Text}
 use Rattle.byte_formats.specs.Places.{At, IsBytes, at, has_bytes}
-use Rattle.byte_formats.specs.Readings.{◌>>=◌, both_at, lifted_at, mapped_at}
+use Rattle.byte_formats.specs.Readings.{Reading, both_at}
 use Rattle.byte_formats.specs.Forms.{Anything, FitsBoth, IsForm, both, itself}
 use Rattle.byte_formats.proofs.Steps.{bind_ok, has_bytes-some, ok_is, pass_ok, some-has_bytes}
-use Rattle.byte_formats.proofs.Forms.{both_form, lifted_form, mapped_form, said_form, tested_form}
-use Rattle.tls_wire.specs.Reading.{bytes_at, hashes_at, number_at, vector_at}
+use Rattle.byte_formats.proofs.FormLaws.{fits_form, lifted_form, mapped_form, tested_form, then_form}
+use Rattle.byte_formats.proofs.FormLaws.{to_end_again, to_end_takes}
 use Rattle.tls_wire.specs.Encoding.{AreHashes, hashes, number, vector}
 use Rattle.tls_wire.proofs.Hashes.{hashes_form}
 use Rattle.tls_wire.proofs.Numbers.{bytes_form, wide8, word_form}
@@ -35,20 +35,16 @@ abbrev pub IsHash : Text → Type 0
 IsHash hash = length hash ≡ 32
 
 id_form : IsForm (vector w8) IsId Anything log_id_at
-id_form =
-    tested_form (vector w8) (λ id. length id < 2 ^ 8) Anything
-    (lifted_at short_fault (vector_at w8)) has_bytes EmptyId
-    (lifted_form (vector w8) (λ id. length id < 2 ^ 8) Anything (vector_at w8) short_fault
-    (vector_form w8 (2 ^ 8) wide8))
+id_form = tested_form (lifted_form (vector_form w8 (2 ^ 8) wide8) short_fault) has_bytes EmptyId
 
 pub size_form : IsForm (number w64) IsWord Anything u64_at
-size_form = lifted_form (number w64) IsWord Anything (number_at w64) short_fault word_form
+size_form = lifted_form word_form short_fault
 
 pub hash_form : IsForm itself IsHash Anything hash_at
-hash_form = lifted_form itself IsHash Anything (bytes_at 32) short_fault (bytes_form 32)
+hash_form = lifted_form (bytes_form 32) short_fault
 
 pub proof_form : IsForm hashes AreHashes Anything proof_at
-proof_form = lifted_form hashes AreHashes Anything hashes_at hashes_fault hashes_form
+proof_form = lifted_form hashes_form hashes_fault
 
 -- ---- to hold a larger log
 
@@ -61,23 +57,15 @@ root_text = both itself hashes
 abbrev pub IsRoot : Root → Type 0
 IsRoot = FitsBoth IsHash AreHashes
 
-root_form : IsForm root_text IsRoot Anything (both_at hash_at proof_at)
-root_form = both_form itself IsHash Anything hash_at hashes AreHashes Anything proof_at hash_form
-    proof_form (λ y rest f q. tt)
-
 pub sized_form : IsForm (both (number w64) root_text) (FitsBoth IsWord IsRoot) Anything
     (both_at u64_at (both_at hash_at proof_at))
-sized_form = both_form (number w64) IsWord Anything u64_at root_text IsRoot Anything
-    (both_at hash_at proof_at) size_form root_form (λ y rest f q. tt)
+sized_form = then_form size_form (then_form hash_form proof_form)
 
 abbrev Advance : Type 0
 Advance = Text × (ℕ × Root)
 
 abbrev from_advance : AdvanceParts → Advance
 from_advance r = (r.log, (r.size, (r.root, r.proof)))
-
-abbrev advance_encoded : Advance → Text
-advance_encoded = both (vector w8) (both (number w64) root_text)
 
 abbrev AreAdvance : Advance → Type 0
 AreAdvance = FitsBoth IsId (FitsBoth IsWord IsRoot)
@@ -97,34 +85,21 @@ advance_from r f = ((f.log, some-has_bytes r.log f.some), (f.size, (f.root, f.pr
 pub advance_form : IsForm advance_text IsAdvance Anything advance_at
 unfolding advance_at
 advance_form =
-    let read : At → Result (Advance × At) FormError =
-    both_at log_id_at (both_at u64_at (both_at hash_at proof_at)) in
-    said_form (λ r. advance_encoded (from_advance r)) (λ r. AreAdvance (from_advance r)) IsAdvance
-    Anything Anything
-    (mapped_at to_advance read) advance_to advance_from (λ rest q. q)
-    (mapped_form advance_encoded AreAdvance Anything read to_advance from_advance (λ x f. refl)
-    (λ r f. refl)
-    (both_form (vector w8) IsId Anything log_id_at (both (number w64) root_text)
-    (FitsBoth IsWord IsRoot) Anything
-    (both_at u64_at (both_at hash_at proof_at)) id_form sized_form (λ y rest f q. tt)))
+    fits_form (mapped_form (then_form id_form sized_form) to_advance from_advance (λ x f. refl)
+    (λ r f. refl)) advance_to advance_from
 
 -- ---- to sign a subtree
 
 pub spanned_form : IsForm (both (number w64) (both (number w64) root_text))
     (FitsBoth IsWord (FitsBoth IsWord IsRoot)) Anything
     (both_at u64_at (both_at u64_at (both_at hash_at proof_at)))
-spanned_form = both_form (number w64) IsWord Anything u64_at (both (number w64) root_text)
-    (FitsBoth IsWord IsRoot) Anything
-    (both_at u64_at (both_at hash_at proof_at)) size_form sized_form (λ y rest f q. tt)
+spanned_form = then_form size_form sized_form
 
 abbrev Subtree : Type 0
 Subtree = Text × (ℕ × (ℕ × Root))
 
 abbrev from_subtree : SubtreeParts → Subtree
 from_subtree r = (r.log, (r.start, (r.end, (r.hash, r.proof))))
-
-abbrev subtree_encoded : Subtree → Text
-subtree_encoded = both (vector w8) (both (number w64) (both (number w64) root_text))
 
 abbrev AreSubtree : Subtree → Type 0
 AreSubtree = FitsBoth IsId (FitsBoth IsWord (FitsBoth IsWord IsRoot))
@@ -145,60 +120,40 @@ subtree_from r f = ((f.log, some-has_bytes r.log f.some), (f.start, (f.end, (f.h
 pub subtree_form : IsForm subtree_text IsSubtreeRequest Anything subtree_at
 unfolding subtree_at
 subtree_form =
-    let read : At → Result (Subtree × At) FormError =
-    both_at log_id_at (both_at u64_at (both_at u64_at (both_at hash_at proof_at))) in
-    said_form (λ r. subtree_encoded (from_subtree r)) (λ r. AreSubtree (from_subtree r))
-    IsSubtreeRequest Anything Anything
-    (mapped_at to_subtree read) subtree_to subtree_from (λ rest q. q)
-    (mapped_form subtree_encoded AreSubtree Anything read to_subtree from_subtree (λ x f. refl)
-    (λ r f. refl)
-    (both_form (vector w8) IsId Anything log_id_at (both (number w64) (both (number w64) root_text))
-    (FitsBoth IsWord (FitsBoth IsWord IsRoot)) Anything
-    (both_at u64_at (both_at u64_at (both_at hash_at proof_at))) id_form spanned_form
-    (λ y rest f q. tt)))
+    fits_form (mapped_form (then_form id_form spanned_form) to_subtree from_subtree (λ x f. refl)
+    (λ r f. refl)) subtree_to subtree_from
 
 -- ---- all of the bytes
 
-whole_only : {X : Type 0} (encode : X → Text) (Fits : X → Type 0) (read : At
-    → Result (X × At) FormError)
-    → IsForm encode Fits Anything read
-    → (bytes : Text) (r : X) → IsBytes bytes → whole_in read bytes ≡ Ok r
-    → (bytes ≡ encode r) × Fits r
-whole_only {X} encode Fits read form bytes r h e =
-    let s = bind_ok (read (at bytes 0)) (λ (x : X × At). if length x.1.rest == 0 then Ok x.0
-    else Err Trailing) r e in
-    let g = pass_ok (length s.0.1.rest == 0) (Ok s.0.0) Trailing r s.2 in
-    let known = form.takes (at bytes 0) s.0.0 s.0.1 h s.1 in
-    let none : s.0.1.rest ≡ [] = nil_from_length s.0.1.rest (eqb-true (length s.0.1.rest) 0 g.0) in
-    let all : bytes ≡ encode s.0.0 = known.0.parts ∙ ap (λ rest. encode s.0.0 ++ rest) none
-    ∙ append-nil (encode s.0.0) in
-    let P : X → Type 0 = λ x. (bytes ≡ encode x) × Fits x in
-    subst P (ok_is FormError s.0.0 r g.1) (all, known.1)
+module _ {X : Type 0} {encode : X → Text} {Fits : X → Type 0} {read : Reading X FormError}
+    (form : IsForm encode Fits Anything read) where
+  whole_only : (bytes : Text) (r : X) → IsBytes bytes → whole_in read bytes ≡ Ok r
+      → (bytes ≡ encode r) × Fits r
+  whole_only bytes r h e =
+      let s = bind_ok (read (at bytes 0)) (λ (x : X × At). if length x.1.rest == 0 then Ok x.0
+      else Err Trailing) r e in
+      let g = pass_ok (length s.0.1.rest == 0) (Ok s.0.0) Trailing r s.2 in
+      let P : X → Type 0 = λ x. (bytes ≡ encode x) × Fits x in
+      subst P (ok_is FormError s.0.0 r g.1) (to_end_takes form (at bytes 0) s.0.0 s.0.1 h s.1
+      (nil_from_length s.0.1.rest (eqb-true (length s.0.1.rest) 0 g.0)))
 
-whole_again : {X : Type 0} (encode : X → Text) (Fits : X → Type 0) (read : At
-    → Result (X × At) FormError)
-    → IsForm encode Fits Anything read → (r : X) → Fits r → whole_in read (encode r) ≡ Ok r
-whole_again {X} encode Fits read form r f =
-    let step = form.again r 0 [] f tt in
-    let same : encode r ≡ encode r ++ [] = sym (append-nil (encode r)) in
-    ap (λ (c : Text). read (record { place = 0; rest = c }) >>= λ (x : X
-    × At). if length x.1.rest == 0 then Ok x.0 else Err Trailing) same
-    ∙ rw step refl
+  whole_again : (r : X) → Fits r → whole_in read (encode r) ≡ Ok r
+  whole_again r f = rw (to_end_again form tt r 0 f) refl
 
 pub advance_only : (bytes : Text) (r : AdvanceParts) → IsBytes bytes → advance_in bytes ≡ Ok r
     → (bytes ≡ advance_text r) × IsAdvance r
 unfolding advance_in
-advance_only = whole_only advance_text IsAdvance advance_at advance_form
+advance_only = whole_only advance_form
 
 pub advance_again : (r : AdvanceParts) → IsAdvance r → advance_in (advance_text r) ≡ Ok r
 unfolding advance_in
-advance_again = whole_again advance_text IsAdvance advance_at advance_form
+advance_again = whole_again advance_form
 
 pub subtree_only : (bytes : Text) (r : SubtreeParts) → IsBytes bytes → subtree_in bytes ≡ Ok r
     → (bytes ≡ subtree_text r) × IsSubtreeRequest r
 unfolding subtree_in
-subtree_only = whole_only subtree_text IsSubtreeRequest subtree_at subtree_form
+subtree_only = whole_only subtree_form
 
 pub subtree_again : (r : SubtreeParts) → IsSubtreeRequest r → subtree_in (subtree_text r) ≡ Ok r
 unfolding subtree_in
-subtree_again = whole_again subtree_text IsSubtreeRequest subtree_at subtree_form
+subtree_again = whole_again subtree_form
