@@ -1,23 +1,22 @@
 -- The records of a log are read as they are spelled.
 use Rattle.std.proofs.Common.{◌≡◌, ℕ, ◌+◌, ◌%◌, ◌^◌, ◌==◌, ◌<◌, ◌≤◌, if◌then◌else◌, Bool}
 use Rattle.std.proofs.Common.{true, false, List, [], ◌∷◌, ◌++◌, length, Option, Some, None}
-use Rattle.std.proofs.Common.{option_map, option_and_then, Result, Ok, Err, refl, ap, sym, ◌∙◌}
+use Rattle.std.proofs.Common.{option_map, option_and_then, Result, Ok, Err, refl, ap, ◌∙◌}
 use Rattle.std.proofs.Common.{arith}
 use Rattle.std.specs.Borrow.{Bor}
 use Rattle.std.specs.Int.{w8, w16, w32, w64}
 use Rattle.std.proofs.lemmas.Bool.{eq-eqb, le-leb, lt-ltb, eqb-true}
-use Rattle.std.proofs.lemmas.List.{length-append, append-nil, nil_from_length}
+use Rattle.std.proofs.lemmas.List.{length-append}
 use Rattle.byte_formats.specs.Places.{At, at, IsBytes}
-use Rattle.byte_formats.specs.Forms.{Stands, IsForm, Anything, both, FitsBoth}
-use Rattle.byte_formats.specs.Readings.{both_at, whole_of}
-use Rattle.byte_formats.proofs.Forms.{both_form}
-use Rattle.byte_formats.proofs.Steps.{Stands-then}
+use Rattle.byte_formats.specs.Forms.{IsForm, Anything, both, FitsBoth}
+use Rattle.byte_formats.specs.Readings.{whole_of}
+use Rattle.byte_formats.proofs.FormLaws.{then_form, whole_again, whole_takes}
 use Rattle.tls_wire.specs.Arcs.{IsAnchorId}
 use Rattle.tls_wire.specs.Anchors.{anchor_of}
-use Rattle.tls_wire.specs.Reading.{number_at, vector_at}
+use Rattle.tls_wire.specs.Reading.{number_at}
 use Rattle.tls_wire.specs.Encoding.{number, vector}
 use Rattle.tls_wire.specs.declared.cursor.Short.{Short}
-use Rattle.tls_wire.proofs.Numbers.{wide8, wide16, wide32, wide64, number_form}
+use Rattle.tls_wire.proofs.Numbers.{wide8, wide16, wide32, number_form, word_form}
 use Rattle.tls_wire.proofs.Vectors.{vector_form}
 use Rattle.tls_wire.proofs.AnchorForm.{anchor_again}
 use Rattle.landmarks.specs.Limits.{most_active, most_entries}
@@ -60,50 +59,19 @@ length-landmark size = simp length-append (omega arith)
 pub some_value : {X : Type 0} (y x : X) → Some y ≡ Some x → y ≡ x
 some_value {X} y x is = cc
 
-all_is : {X : Type 0} (r : Result (X × At) Short) (x : X) → whole_of r ≡ Some x → (b : At)
-    × (r ≡ Ok (x, b)) × (b.rest ≡ [])
-all_is {X} (Err short) x is = let wrong : None ≡ Some x = is in cc
-all_is {X} (Ok v) x is =
-    let test = when_some (length v.1.rest == 0) v.0 x is in (
-      v.1,
-      ap (λ (y : X). Ok (y, v.1)) test.1,
-      nil_from_length v.1.rest (eqb-true (length v.1.rest) 0 test.0),
-    )
-  where
-    when_some : (b : Bool) (y x : X) → (if b then Some y else None) ≡ Some x → (b ≡ true) × (y ≡ x)
-    when_some true y x is = (refl, some_value y x is)
-    when_some false y x is = let wrong : None ≡ Some x = is in cc
-
-module _ {X : Type 0} (wanted : ℕ) (small : wanted < 256) (encode : X → List ℕ) (Fits : X
-    → Type 0) (read : At → Result (X × At) Short) (form : IsForm encode Fits Anything read) where
-  pub read_again : (x : X) → Fits x → whole_of (read (record { place = 1; rest = encode x }))
-      ≡ Some x
-  read_again x fits =
-      ap (λ (text : List ℕ). whole_of (read (record { place = 1; rest = text })))
-      (sym (append-nil (encode x)))
-      ∙ ap whole_of (form.again x 1 [] fits tt)
-
+module _ {X : Type 0} (wanted : ℕ) (small : wanted < 256) {encode : X → List ℕ} {Fits : X
+    → Type 0} {read : At → Result (X × At) Short} (form : IsForm encode Fits Anything read) where
   pub tagged_again : (x : X) → Fits x
       → tagged wanted read (number_at w8 (at (number w8 wanted ++ encode x) 0)) ≡ Some x
   tagged_again x fits =
       let tag = (number_form w8 (2 ^ 8) wide8).again wanted 0 (encode x) small tt in
-      let test : (wanted == wanted) ≡ true = eq-eqb wanted wanted refl in
-      ap (tagged wanted read) tag
-      ∙ ap (λ (b : Bool). if b then whole_of (read (record { place = 1; rest = encode x }))
-      else None) test
-      ∙ read_again x fits
+      ap (tagged wanted read) tag ∙ rw (eq-eqb wanted wanted refl) (whole_again form tt x 1 fits)
 
   pub tagged_takes : (body : List ℕ) (x : X) → IsBytes body
       → tagged wanted read (number_at w8 (at body 0)) ≡ Some x
       → (body ≡ number w8 wanted ++ encode x) × Fits x
   tagged_takes body x bytes is = go (number_at w8 (at body 0)) refl is
     where
-      encoded : (n : ℕ) (b : At) → Stands (at body 0) (number w8 n ++ encode x) b → b.rest ≡ []
-          → n ≡ wanted → body ≡ number w8 wanted ++ encode x
-      encoded n b stands none same =
-          stands.parts ∙ ap (λ (rest : List ℕ). (number w8 n ++ encode x) ++ rest) none
-          ∙ append-nil (number w8 n ++ encode x) ∙ ap (λ (m : ℕ). number w8 m ++ encode x) same
-
       chosen_some : (b : Bool) (o : Option X) → (if b then o else None) ≡ Some x → (b ≡ true)
           × (o ≡ Some x)
       chosen_some true o is = (refl, is)
@@ -114,36 +82,31 @@ module _ {X : Type 0} (wanted : ℕ) (small : wanted < 256) (encode : X → List
       go (Err short) was is = let wrong : None ≡ Some x = is in cc
       go (Ok tag) was is =
           let test = chosen_some (tag.0 == wanted) (whole_of (read tag.1)) is in
-          let rest = all_is (read tag.1) x test.1 in
           let one = (number_form w8 (2 ^ 8) wide8).takes (at body 0) tag.0 tag.1 bytes was in
-          let two = form.takes tag.1 x rest.0 one.0.bytes rest.1 in
-          let both =
-          Stands-then (at body 0) (number w8 tag.0) tag.1 (encode x) rest.0 one.0 two.0 in
-          (encoded tag.0 rest.0 both rest.2 (eqb-true tag.0 wanted test.0), two.1)
+          let two = whole_takes form tag.1 x one.0.bytes test.1 in (
+            one.0.parts ∙ ap (λ (rest : List ℕ). number w8 tag.0 ++ rest) two.0
+                ∙ ap (λ (m : ℕ). number w8 m ++ encode x) (eqb-true tag.0 wanted test.0),
+            two.1,
+          )
 
 -- ---- an Entry
 
 entry_form : IsForm (both (vector w16) (vector w16)) (FitsBoth IsShort IsShort)
     Anything entry_at
 unfolding entry_at
-entry_form =
-    let vectors = vector_form w16 (2 ^ 16) wide16 in
-    both_form (vector w16) IsShort Anything (vector_at w16) (vector w16) IsShort Anything
-    (vector_at w16) vectors vectors (λ y rest f q. tt)
+entry_form = then_form (vector_form w16 (2 ^ 16) wide16) (vector_form w16 (2 ^ 16) wide16)
 
 pub item_again : (entry key : List ℕ) → IsShort entry → IsShort key
     → item_in (entry_record entry key) ≡ Some (entry, key)
 unfolding item_in entry_record
 item_again entry key few_entry few_key =
-    tagged_again entry_tag (omega arith) (both (vector w16) (vector w16)) (FitsBoth IsShort IsShort)
-    entry_at entry_form (entry, key) (few_entry, few_key)
+    tagged_again entry_tag (omega arith) entry_form (entry, key) (few_entry, few_key)
 
 pub item_takes : (body entry key : List ℕ) → IsBytes body → item_in body ≡ Some (entry, key)
     → (body ≡ entry_record entry key) × IsShort entry × IsShort key
 unfolding item_in entry_record
 item_takes body entry key bytes is =
-    let taken = tagged_takes entry_tag (omega arith) (both (vector w16) (vector w16))
-    (FitsBoth IsShort IsShort) entry_at entry_form body (entry, key) bytes is in
+    let taken = tagged_takes entry_tag (omega arith) entry_form body (entry, key) bytes is in
     (taken.0, taken.1.0, taken.1.1)
 
 -- a record in which no item is found
@@ -177,14 +140,12 @@ IsLong n = n < 2 ^ 64
 
 pub mark_again : (size : ℕ) → size < 2 ^ 64 → mark_in (landmark_record size) ≡ Some size
 unfolding mark_in landmark_record
-mark_again size fits = tagged_again landmark_tag (omega arith) (number w64) IsLong (number_at w64)
-    (number_form w64 (2 ^ 64) wide64) size fits
+mark_again = tagged_again landmark_tag (omega arith) word_form
 
 pub mark_takes : (body : List ℕ) (size : ℕ) → IsBytes body → mark_in body ≡ Some size
     → (body ≡ landmark_record size) × (size < 2 ^ 64)
 unfolding mark_in landmark_record
-mark_takes body size bytes is = tagged_takes landmark_tag (omega arith) (number w64) IsLong
-    (number_at w64) (number_form w64 (2 ^ 64) wide64) body size bytes is
+mark_takes = tagged_takes landmark_tag (omega arith) word_form
 
 -- a Landmark is no Entry
 pub mark_alone : (size : ℕ) → item_in (landmark_record size) ≡ None
@@ -196,14 +157,12 @@ mark_alone size = ap (tagged entry_tag entry_at)
 
 pub tiled_again : (size : ℕ) → size < 2 ^ 64 → tiled_in (tiles_record size) ≡ Some size
 unfolding tiled_in tiles_record
-tiled_again size fits = tagged_again tiles_tag (omega arith) (number w64) IsLong (number_at w64)
-    (number_form w64 (2 ^ 64) wide64) size fits
+tiled_again = tagged_again tiles_tag (omega arith) word_form
 
 pub tiled_takes : (body : List ℕ) (size : ℕ) → IsBytes body → tiled_in body ≡ Some size
     → (body ≡ tiles_record size) × (size < 2 ^ 64)
 unfolding tiled_in tiles_record
-tiled_takes body size bytes is = tagged_takes tiles_tag (omega arith) (number w64) IsLong
-    (number_at w64) (number_form w64 (2 ^ 64) wide64) body size bytes is
+tiled_takes = tagged_takes tiles_tag (omega arith) word_form
 
 -- a Tiles is neither an Entry nor a Landmark
 pub tiles_no_item : (size : ℕ) → item_in (tiles_record size) ≡ None
@@ -234,11 +193,7 @@ pub settings_form : IsForm settings_text FitSettings Anything settings_at
 unfolding settings_at
 settings_form =
     let numbers = number_form w32 (2 ^ 32) wide32 in
-    let pair = both_form (number w32) IsWord Anything (number_at w32) (number w32) IsWord Anything
-    (number_at w32) numbers numbers (λ y rest f q. tt) in
-    both_form (vector w8) ShortId Anything (vector_at w8) (both (number w32) (number w32))
-    (FitsBoth IsWord IsWord) Anything (both_at (number_at w32) (number_at w32))
-    (vector_form w8 (2 ^ 8) wide8) pair (λ y rest f q. tt)
+    then_form (vector_form w8 (2 ^ 8) wide8) (then_form numbers numbers)
 
 tests_allowed : (active limit : ℕ) → AreAllowed active limit → are_allowed active limit ≡ true
 tests_allowed active limit is =
@@ -258,9 +213,8 @@ settings_again s id allowed =
     let short = id.short in
     let fits : FitSettings (s.id, (s.max_active, s.limit)) =
     (omega arith, (omega arith, omega arith)) in
-    ap (option_and_then log_settings_with) (tagged_again log_tag
-    (omega arith) settings_text FitSettings
-    settings_at settings_form (s.id, (s.max_active, s.limit)) fits)
+    ap (option_and_then log_settings_with) (tagged_again log_tag (omega arith) settings_form
+    (s.id, (s.max_active, s.limit)) fits)
     ∙ ap (λ (b : Bool). if b then with_id s.max_active s.limit (anchor_of s.id) else None)
     (tests_allowed s.max_active s.limit allowed)
     ∙ ap (with_id s.max_active s.limit) (anchor_again s.id id)

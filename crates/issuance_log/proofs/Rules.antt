@@ -22,7 +22,7 @@ use Rattle.issuance_log.specs.Records.{settings_in, item_in, mark_in, tiled_in, 
 use Rattle.issuance_log.specs.Records.{landmark_record}
 use Rattle.issuance_log.specs.Rules.{IsFirst, IsNext}
 use Rattle.issuance_log.specs.Settings.{Settings, are_allowed, AreAllowed}
-use Rattle.issuance_log.proofs.Encoded.{some_value, FitSettings, settings_text, settings_form}
+use Rattle.issuance_log.proofs.Encoded.{some_value, settings_text, settings_form}
 use Rattle.issuance_log.proofs.Encoded.{settings_again, item_takes, mark_takes, tagged_takes}
 use Rattle.issuance_log.proofs.Encoded.{changed_log, next_added, next_marked, next_tiled}
 use Rattle.issuance_log.proofs.Encoded.{tiled_takes}
@@ -110,8 +110,7 @@ first_is body s bytes is =
     let found = map_from (settings_in body) is in
     let read = option_from_settings (tagged log_tag settings_at (number_at w8 (at body 0)))
     found.0 found.1 in
-    let encoded = tagged_takes log_tag (omega arith) settings_text FitSettings settings_at
-    settings_form body read.0 bytes read.1 in
+    let encoded = tagged_takes log_tag (omega arith) settings_form body read.0 bytes read.1 in
     let tests = test_from (are_allowed read.0.1.0 read.0.1.1)
     (with_id read.0.1.0 read.0.1.1 (anchor_of read.0.0)) found.0 read.2 in
     let made = id_from read.0.1.0 read.0.1.1 (anchor_of read.0.0) found.0 tests.1 in
