@@ -1,6 +1,4 @@
 pub mod Steps
-pub mod Forms
-pub mod Lists
 pub mod FormLaws
 pub mod FormLists
 pub mod Left
