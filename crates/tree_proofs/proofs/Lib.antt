@@ -1,4 +1,5 @@
 pub mod Splits
+pub mod Halving
 pub mod Aligned
 pub mod Parts
 pub mod Made

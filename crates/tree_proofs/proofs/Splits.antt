@@ -1,9 +1,9 @@
 -- Where code splits a list, and the roots of what it splits.
 use Rattle.std.proofs.Common.{◌≡◌, ℕ, ◌-◌, ◌*◌, ◌%◌, ◌^◌, ◌<◌, ◌≤◌, List, [], ◌∷◌, length, take}
-use Rattle.std.proofs.Common.{drop, get_or, sym, ◌∙◌, ap, arith}
+use Rattle.std.proofs.Common.{drop, get_or, refl, sym, ◌∙◌, ap, arith}
 use Rattle.std.proofs.lemmas.Nat.{one_shl}
 use Rattle.tree_core.proofs.Powers.{split_bounds, split_unique}
-use Rattle.tree_core.proofs.Roots.{root_of-none, root_of-one, root_of-split, tree_hash-split}
+use Rattle.tree_core.proofs.Roots.{root_of-none, root_of-one, root_of-split}
 use Rattle.tree_core.specs.Split.{split_of}
 use Rattle.tree_core.specs.Tree.{leaf_hash, pair_hash, root_of, tree_hash}
 
@@ -29,22 +29,16 @@ pub tree-none : (h : List ℕ → List ℕ) (entries : List (List ℕ)) → leng
 tree-none h [] none = sym (root_of-none h)
 tree-none h (x ∷ rest) none = let no : ⊥ = omega arith in absurd no
 
-pub tree-one : (h : List ℕ → List ℕ) (entries : List (List ℕ)) (x : List ℕ) → 1 ≤ length entries
-    → length entries < 2 → x ≡ get_or entries 0 x → leaf_hash h x ≡ tree_hash h entries
-tree-one h [] x some one is = let no : ⊥ = omega arith in absurd no
-tree-one h (y ∷ []) x some one is = ap (leaf_hash h) is ∙ sym (root_of-one h (leaf_hash h y))
-tree-one h (y ∷ z ∷ rest) x some one is = let no : ⊥ = omega arith in absurd no
+pub only_one : (entries : List (List ℕ)) → length entries ≡ 1 → entries ≡ get_or entries 0 [] ∷ []
+only_one [] one = let no : ⊥ = omega arith in absurd no
+only_one (x ∷ []) one = refl
+only_one (x ∷ y ∷ rest) one = let no : ⊥ = omega arith in absurd no
 
-pub tree-more : (h : List ℕ → List ℕ) (entries left right : List (List ℕ)) (k : ℕ)
-    → 2 ≤ length entries
-    → k ≡ split_of (length entries) → left ≡ take k entries → right ≡ drop k entries
-    → pair_hash h (tree_hash h left) (tree_hash h right) ≡ tree_hash h entries
-tree-more h entries left right k more is left_is right_is =
-    ap (λ l. pair_hash h (tree_hash h l) (tree_hash h right)) (left_is
-    ∙ ap (λ k. take k entries) is)
-    ∙ ap (λ r. pair_hash h (tree_hash h (take (split_of (length entries)) entries)) (tree_hash h r))
-    (right_is ∙ ap (λ k. drop k entries) is)
-    ∙ sym (tree_hash-split h entries more)
+pub tree-one : (h : List ℕ → List ℕ) (entries : List (List ℕ)) → length entries ≡ 1
+    → leaf_hash h (get_or entries 0 []) ≡ tree_hash h entries
+tree-one h entries one =
+    sym (root_of-one h (leaf_hash h (get_or entries 0 [])))
+    ∙ ap (tree_hash h) (sym (only_one entries one))
 
 pub root-none : (h : List ℕ → List ℕ) (leaves : List (List ℕ)) → length leaves < 1
     → h [] ≡ root_of h leaves

@@ -6,3 +6,4 @@ pub mod Modelled
 pub mod Listed
 pub mod ProofLaws
 pub mod Full
+pub mod Halves
