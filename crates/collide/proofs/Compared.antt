@@ -7,11 +7,12 @@ use Rattle.byte_formats.specs.Types.{Hash, HashFunction, Text}
 use Rattle.tree_core.proofs.Roots.{root_of-one}
 use Rattle.tree_core.specs.Split.{split_of}
 use Rattle.tree_core.specs.Tree.{leaf_hash, pair_hash, tree_hash}
-use Rattle.collide.proofs.Halving.{halves_same}
-use Rattle.collide.proofs.Hashed.{first_in, halves_hash, inputs_of-one, left_in, only_in, right_in}
+use Rattle.tree_proofs.proofs.Halving.{halves_same}
+use Rattle.collide.proofs.Hashed.{first_in, inputs_of-one, left_in, only_in, right_in}
+use Rattle.tree_proofs.proofs.Halving.{halves_hash}
 use Rattle.collide.proofs.Hashed.{root_in}
 use Rattle.collide.specs.Comparison.{AreRoots, Compares, WhereFound}
-use Rattle.collide.specs.Halves.{AreHalves}
+use Rattle.tree_proofs.specs.Halves.{AreHalves}
 use Rattle.collide.specs.Inputs.{inputs_of, leaf_input, pair_input}
 use Rattle.collide.specs.declared.comparing.Halt.{Halt}
 use Rattle.collide.specs.declared.comparing.Halt.TheVariants.{Found, Memory}

@@ -15,13 +15,14 @@ use Rattle.tree_core.specs.Evaluation.{eval_from_root, eval_of}
 use Rattle.tree_core.specs.Split.{split_of}
 use Rattle.tree_core.specs.Tree.{leaf_hash, pair_hash, tree_hash}
 use Rattle.collide.proofs.Compared.{collision_widened, compares_widened}
-use Rattle.collide.proofs.Hashed.{first_in, halves_hash, inputs_of-one, later_in, left_in, only_in}
+use Rattle.collide.proofs.Hashed.{first_in, inputs_of-one, later_in, left_in, only_in}
+use Rattle.tree_proofs.proofs.Halving.{halves_hash}
 use Rattle.collide.proofs.Hashed.{right_in, root_in}
 use Rattle.collide.specs.Comparison.{Compares}
 use Rattle.collide.specs.declared.comparing.Halt.{Halt}
 use Rattle.collide.specs.declared.comparing.Halt.TheVariants.{Found, Memory}
 use Rattle.collide.specs.declared.comparing.Roots.{Roots}
-use Rattle.collide.specs.Halves.{AreHalves}
+use Rattle.tree_proofs.specs.Halves.{AreHalves}
 use Rattle.collide.specs.Inputs.{eval_inputs_from_root, eval_inputs_of, input_before, input_behind}
 use Rattle.collide.specs.Inputs.{inputs_of, leaf_input, pair_input}
 

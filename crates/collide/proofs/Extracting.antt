@@ -21,7 +21,7 @@ use Rattle.tree_proofs.specs.declared.outcome.Opened.{Opened}
 use Rattle.tree_proofs.specs.Open.{open_of, opened_at}
 use Rattle.collide.proofs.Compared.{collision_widened}
 use Rattle.collide.proofs.Hashed.{parts_left, parts_right, unprefixed}
-use Rattle.collide.proofs.Halving.{halves_of}
+use Rattle.tree_proofs.proofs.Halving.{halves_of}
 use Rattle.collide.proofs.Levels.{IsLevel}
 use Rattle.collide.proofs.OpenSteps.{StepsRight, proof_whole, step_left, step_over, step_right}
 use Rattle.collide.specs.Extraction.{HasCollision}

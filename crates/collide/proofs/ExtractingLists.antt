@@ -11,9 +11,10 @@ use Rattle.tree_core.specs.Tree.{leaf_hash, tree_hash}
 use Rattle.collide.proofs.Extracting.{Agrees, IsSized, found_wider, level_agrees, pair_left}
 use Rattle.collide.proofs.Extracting.{pair_right, tree_hash-sized}
 use Rattle.collide.proofs.ExtractingPaths.{leaves_agree}
-use Rattle.collide.proofs.Halving.{halves_of, halves_same}
-use Rattle.collide.proofs.Hashed.{first_in, halves_hash, inputs_of-one, left_in, right_in, root_in}
-use Rattle.collide.specs.Halves.{AreHalves}
+use Rattle.tree_proofs.proofs.Halving.{halves_of, halves_same}
+use Rattle.collide.proofs.Hashed.{first_in, inputs_of-one, left_in, right_in, root_in}
+use Rattle.tree_proofs.proofs.Halving.{halves_hash}
+use Rattle.tree_proofs.specs.Halves.{AreHalves}
 use Rattle.collide.specs.Inputs.{inputs_of, leaf_input}
 use Rattle.collide.specs.Laws.{ListsExtract}
 

@@ -1,6 +1,6 @@
 -- A list and an inclusion path, whatever they are: the entry is the list's own, or there are two
 -- texts with one hash.
-use Rattle.std.proofs.Common.{◌≡◌, ℕ, ◌+◌, ◌-◌, ◌<◌, ◌≤◌, ◌⊎◌, ⊎_elim, inl, inr, List, [], ◌∷◌}
+use Rattle.std.proofs.Common.{◌≡◌, ℕ, ◌+◌, ◌-◌, ◌<◌, ◌≤◌, ⊎_elim, inl, inr, List, [], ◌∷◌}
 use Rattle.std.proofs.Common.{◌++◌, length, take, drop, get_or, Some, sym, ◌∙◌, ap, refl, subst}
 use Rattle.std.proofs.Common.{arith}
 use Rattle.std.specs.Prelude.{IsSome, is_some, reverse}
@@ -18,12 +18,12 @@ use Rattle.collide.proofs.Evaluated.{eval_texts-left, eval_texts-right, item_lef
 use Rattle.collide.proofs.Evaluated.{path_leaf, path_more, value_below, value_left, value_right}
 use Rattle.collide.proofs.Extracting.{Agrees, IsSized, all_reversed, level_agrees, pair_left}
 use Rattle.collide.proofs.Extracting.{tree_hash-sized}
-use Rattle.collide.proofs.Halving.{halves_of, part_item, part_length}
-use Rattle.collide.proofs.Hashed.{first_in, halves_hash, inputs_of-one, left_in, right_in, root_in}
+use Rattle.tree_proofs.proofs.Halving.{halves_of, part_item, part_length}
+use Rattle.collide.proofs.Hashed.{first_in, inputs_of-one, left_in, right_in, root_in}
+use Rattle.tree_proofs.proofs.Halving.{halves_hash}
 use Rattle.collide.proofs.Hashed.{parts_right, unprefixed}
-use Rattle.collide.proofs.Levels.{IsLevel}
-use Rattle.collide.specs.Halves.{AreHalves}
-use Rattle.collide.specs.Inputs.{eval_inputs_of, inputs_of, leaf_input, pair_input}
+use Rattle.tree_proofs.specs.Halves.{AreHalves}
+use Rattle.collide.specs.Inputs.{eval_inputs_of, inputs_of, leaf_input}
 use Rattle.collide.specs.Laws.{PathsExtract}
 
 none_in : (xs : List Text) (t : Text) → Contains [] t → Contains xs t

@@ -1,7 +1,6 @@
 -- The texts in a tree hash, by the parts of its list, and hashes by their length.
 use Rattle.std.proofs.Common.{◌≡◌, ℕ, zero, suc, ◌<◌, ◌≤◌, ⊎_elim, List, [], ◌∷◌, ◌++◌}
-use Rattle.std.proofs.Common.{length, take, drop, get_or, sym, ◌∙◌, ap, refl, subst, arith}
-use Rattle.std.specs.Prelude.{map}
+use Rattle.std.proofs.Common.{length, take, drop, sym, ◌∙◌, ap, refl, subst, arith}
 use Rattle.std.specs.List.{Contains}
 use Rattle.std.proofs.lemmas.List.{length-drop, length-take}
 use Rattle.std.proofs.lemmas.List.Elements.{Contains-append_left, Contains-append_right}
@@ -10,11 +9,11 @@ use Rattle.std.proofs.lemmas.Nat.{pow_pos}
 use Rattle.std.proofs.Math.Seq.{drop-append_seam, take-append_seam}
 use Rattle.byte_formats.specs.Types.{HashFunction, Text}
 use Rattle.tree_core.proofs.Powers.{largest_unique, split_bounds}
-use Rattle.tree_core.proofs.Roots.{part_sizes, root_of-none, root_of-one, tree_hash-split}
+use Rattle.tree_core.proofs.Roots.{part_sizes}
 use Rattle.tree_core.specs.Laws.{IsLargestPowerBelow}
 use Rattle.tree_core.specs.Split.{split_of}
-use Rattle.tree_core.specs.Tree.{leaf_hash, pair_hash, tree_hash}
-use Rattle.collide.specs.Halves.{AreHalves}
+use Rattle.tree_core.specs.Tree.{tree_hash}
+use Rattle.tree_proofs.specs.Halves.{AreHalves}
 use Rattle.collide.specs.Inputs.{inputs_of, inputs_within, leaf_input, pair_input}
 use Rattle.collide.specs.Laws.{AreInputs}
 
@@ -117,17 +116,6 @@ AreInputs_always h = record {
 
 -- The same for the parts of a list.
 
-pub halves_hash : (h : HashFunction) (xs l r : List Text) → AreHalves xs l r
-    → tree_hash h xs ≡ pair_hash h (tree_hash h l) (tree_hash h r)
-halves_hash h xs l r halves =
-    let some = halves.some in
-    let rest = halves.rest in
-    let all = halves.all in
-    tree_hash-split h xs (omega arith)
-    ∙ ap (λ a. pair_hash h (tree_hash h a) (tree_hash h (drop (split_of (length xs)) xs)))
-    (sym halves.left)
-    ∙ ap (λ b. pair_hash h (tree_hash h l) (tree_hash h b)) (sym halves.right)
-
 pub halves_inputs : (h : HashFunction) (xs l r : List Text) → AreHalves xs l r
     → inputs_of h xs ≡ pair_input (tree_hash h l) (tree_hash h r) ∷ inputs_of h l ++ inputs_of h r
 halves_inputs h xs l r halves =
@@ -169,27 +157,6 @@ pub parts_right : (a b c d : Text) → length a ≡ length c → a ++ b ≡ c ++
 parts_right a b c d size same =
     sym (drop-append_seam a b) ∙ ap (drop (length a)) same ∙ ap (λ n. drop n (c ++ d)) size
     ∙ drop-append_seam c d
-
--- The hashes of the first entries of items.
-
-pub map-none : {T : Type 0} (f : T → Text) (h : HashFunction) (items : List T) → length items < 1
-    → h [] ≡ tree_hash h (map f items)
-map-none f h [] none = sym (root_of-none h)
-map-none f h (x ∷ rest) none = let no : ⊥ = omega arith in absurd no
-
--- a list of one item
-pub map-one : {T : Type 0} (f : T → Text) (items : List T) (d : T) → length items ≡ 1
-    → map f items ≡ f (get_or items 0 d) ∷ []
-map-one f [] d one = let no : ⊥ = omega arith in absurd no
-map-one f (x ∷ []) d one = refl
-map-one f (x ∷ y ∷ rest) d one = let no : ⊥ = omega arith in absurd no
-
-pub map-leaf : {T : Type 0} (f : T → Text) (h : HashFunction) (items : List T) (x : T)
-    → 1 ≤ length items → length items < 2 → x ≡ get_or items 0 x
-    → leaf_hash h (f x) ≡ tree_hash h (map f items)
-map-leaf f h items x some few is =
-    ap (λ y. leaf_hash h (f y)) is ∙ sym (root_of-one h (leaf_hash h (f (get_or items 0 x))))
-    ∙ ap (tree_hash h) (sym (map-one f items x (omega arith)))
 
 pub unprefixed : (x : ℕ) (a b : Text) → x ∷ a ≡ x ∷ b → a ≡ b
 unprefixed x a b same = ap (drop 1) same

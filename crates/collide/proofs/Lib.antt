@@ -1,4 +1,3 @@
-pub mod Halving
 pub mod Hashed
 pub mod Compared
 pub mod Evaluated

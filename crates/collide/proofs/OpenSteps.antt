@@ -10,7 +10,7 @@ use Rattle.tree_core.specs.Path.{part_of}
 use Rattle.tree_core.specs.Split.{split_of}
 use Rattle.tree_core.specs.Tree.{pair_hash, tree_hash}
 use Rattle.tree_proofs.proofs.Opens.{open_of-left, open_of-none, open_of-over, open_of-right}
-use Rattle.tree_proofs.proofs.Opens.{open_of-whole}
+use Rattle.tree_proofs.proofs.Opens.{open_of-whole, part_from}
 use Rattle.tree_proofs.proofs.Parts.{part-whole}
 use Rattle.tree_proofs.specs.declared.outcome.Opened.{Opened}
 use Rattle.tree_proofs.specs.Open.{both_right_of, open_of, open_whole, opened_at}
@@ -21,9 +21,17 @@ use Rattle.collide.proofs.Opening.{subtree_left, subtree_right, subtree_over}
 use Rattle.collide.specs.Comparison.{Compares}
 use Rattle.collide.specs.declared.comparing.Halt.{Halt}
 use Rattle.collide.specs.declared.comparing.Roots.{Roots}
-use Rattle.collide.specs.Halves.{AreHalves, IsBehind}
+use Rattle.collide.specs.Behind.{IsBehind}
+use Rattle.tree_proofs.specs.Halves.{AreHalves}
 use Rattle.collide.specs.Inputs.{inputs_of}
 use Rattle.collide.specs.Inputs.{open_inputs_of, pair_input}
+
+-- an interval that isn't the whole of a list, of which the length was counted
+pub part_counted : (s e m n : ℕ) → m ≡ n → e ≤ n
+    → ((s ≡ 0) × (e ≡ m → ⊥)) ⊎ (s ≡ 0 → ⊥) → (0 < s) ⊎ (e < n)
+part_counted s e m n is within other =
+    part_from s e n within
+    (subst (λ k. ((s ≡ 0) × (e ≡ k → ⊥)) ⊎ (s ≡ 0 → ⊥)) is other)
 
 -- One step down a proof: what it gave of a part of the list, and what that shows.
 pub record HasStep (h : HashFunction) (xs part : List Text) (s e from to : ℕ) (given : Opened)

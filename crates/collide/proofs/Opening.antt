@@ -17,9 +17,10 @@ use Rattle.tree_proofs.proofs.Parts.{part_of-drop, part_of-take, part_of-zero}
 use Rattle.tree_proofs.specs.declared.outcome.Opened.{Opened}
 use Rattle.tree_proofs.specs.Open.{both_right_of, open_from_root, open_of}
 use Rattle.tree_proofs.specs.Open.{root_left_of, root_right_of}
-use Rattle.collide.proofs.Hashed.{first_in, halves_hash, left_in, right_in, root_in}
+use Rattle.collide.proofs.Hashed.{first_in, left_in, right_in, root_in}
+use Rattle.tree_proofs.proofs.Halving.{halves_hash}
 use Rattle.collide.proofs.Levels.{IsLevel}
-use Rattle.collide.specs.Halves.{AreHalves}
+use Rattle.tree_proofs.specs.Halves.{AreHalves}
 use Rattle.collide.specs.Inputs.{inputs_left, inputs_of, inputs_over, inputs_right}
 use Rattle.collide.specs.Inputs.{open_inputs_from_root, open_inputs_of, pair_input}
 

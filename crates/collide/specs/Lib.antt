@@ -1,5 +1,5 @@
 pub mod Inputs
 pub mod Extraction
-pub mod Halves
+pub mod Behind
 pub mod Comparison
 pub mod Laws

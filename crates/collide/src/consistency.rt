@@ -1,6 +1,6 @@
 //! A list and a consistency proof with one root.
 
-ghost use Rattle.std.specs.Prelude.{◌≡◌, ◌<◌, ◌≤◌, true, length, map, IfOk, IsSome, Some};
+ghost use Rattle.std.specs.Prelude.{◌≡◌, ◌<◌, ◌≤◌, true, length, IfOk, IsSome, Some};
 ghost use Rattle.tree_core.specs.Path.{part_of};
 ghost use Rattle.tree_core.specs.Tree.{tree_hash};
 ghost use Rattle.tree_proofs.specs.Consistency.{Checks};
@@ -8,16 +8,15 @@ ghost use Rattle.tree_proofs.specs.Open.{open_of};
 ghost use Rattle.tree_proofs.specs.declared.outcome.Opened.{Opened};
 ghost use Rattle.collide.specs.Comparison.{AreRoots, Compares};
 ghost use Rattle.collide.specs.Extraction.{Extracts};
-ghost use Rattle.collide.specs.Halves.{IsBehind};
+ghost use Rattle.collide.specs.Behind.{IsBehind};
 ghost use Rattle.collide.specs.Inputs.{inputs_of, open_inputs_of};
 
+use crate::Finding;
 use crate::comparing::{Halt, Roots, compare_pairs};
-use crate::entry::{halves, part_between};
-use crate::{AsEntry, Finding, list_hash};
 use mtc_io::Memory;
 use std::alloc::Global;
 use tree_core::TreeHash;
-use tree_proofs::opened;
+use tree_proofs::{EntryList, halves, list_hash, opened, part_between};
 
 // What an interval that ends behind a split is there, counted from the split, and whether its hash
 // is still known.
@@ -33,40 +32,41 @@ fn behind(middle: u64, start: u64, end: u64, known: bool) -> (u64, u64, bool)
 }
 
 // The tree hash of a list, and the root that the consistency proof of the whole list gives.
-fn compare_whole<H: TreeHash, T: AsEntry>(
-    items: &[T],
+fn compare_whole<H: TreeHash, L: EntryList>(
+    items: &L,
     start: u64,
     end: u64,
     known: bool,
     node: &[u8; 32],
     proof: &[[u8; 32]],
 ) -> Roots
-    requires some { 0 < length items.now }
+    requires some { 0 < length (L.texts items.now) }
     requires first { start ≡ 0 }
-    requires last { end ≡ length items.now }
+    requires last { end ≡ length (L.texts items.now) }
     requires gives { IsSome
-        (open_of H.hash start end (length items.now) known node.now proof.now) }
+        (open_of H.hash start end (length (L.texts items.now)) known node.now proof.now) }
     ensures { (given : Opened)
-        → open_of H.hash start end (length items.now) known node.now proof.now ≡ Some given
+        → open_of H.hash start end (length (L.texts items.now)) known node.now proof.now
+        ≡ Some given
         → AreRoots
-        (tree_hash H.hash (part_of (map T.entry items.now) start end) ≡ given.subtree)
-        (tree_hash H.hash (map T.entry items.now)) given.root result }
+        (tree_hash H.hash (part_of (L.texts items.now) start end) ≡ given.subtree)
+        (tree_hash H.hash (L.texts items.now)) given.root result }
 {
     let Some(given) = opened::<H>(start, end, items.len() as u64, known, node, proof) else {
         unreachable!()
     };
     let root = given.root;
     Roots {
-        first: list_hash::<H, T>(items),
+        first: list_hash::<H, L>(items),
         second: root,
     }
 }
 
 // The tree hash of a list, and the root that the consistency proof of its part `[start, end)`
 // gives, whose hash is `node` where it is `known`.
-fn compare_proof<H: TreeHash, T: AsEntry>(
+fn compare_proof<H: TreeHash, L: EntryList>(
     alloc: Global,
-    items: &[T],
+    items: &L,
     start: u64,
     end: u64,
     known: bool,
@@ -74,19 +74,22 @@ fn compare_proof<H: TreeHash, T: AsEntry>(
     proof: &[[u8; 32]],
 ) -> Result<Roots, Halt>
     requires order { start < end }
-    requires within { end ≤ length items.now }
+    requires within { end ≤ length (L.texts items.now) }
     requires gives { IsSome
-        (open_of H.hash start end (length items.now) known node.now proof.now) }
+        (open_of H.hash start end (length (L.texts items.now)) known node.now proof.now) }
     ensures { (given : Opened)
-        → open_of H.hash start end (length items.now) known node.now proof.now ≡ Some given
+        → open_of H.hash start end (length (L.texts items.now)) known node.now proof.now
+        ≡ Some given
         → Compares H.hash
-        (tree_hash H.hash (part_of (map T.entry items.now) start end) ≡ given.subtree)
-        (tree_hash H.hash (map T.entry items.now)) given.root
-        (inputs_of H.hash (map T.entry items.now))
-        (open_inputs_of H.hash start end (length items.now) known node.now proof.now) result }
+        (tree_hash H.hash (part_of (L.texts items.now) start end) ≡ given.subtree)
+        (tree_hash H.hash (L.texts items.now)) given.root
+        (inputs_of H.hash (L.texts items.now))
+        (open_inputs_of H.hash start end (length (L.texts items.now)) known node.now proof.now)
+        result }
 {
-    if start == 0 && end == items.len() as u64 {
-        return Ok(compare_whole::<H, T>(items, start, end, known, node, proof));
+    let count = items.len() as u64;
+    if start == 0 && end == count {
+        return Ok(compare_whole::<H, L>(items, start, end, known, node, proof));
     }
     let Some((sibling, rest)) = proof.split_last() else {
         unreachable!()
@@ -95,18 +98,18 @@ fn compare_proof<H: TreeHash, T: AsEntry>(
     let middle = left.len() as u64;
     if end <= middle {
         let beside = Roots {
-            first: list_hash::<H, T>(right),
+            first: list_hash::<H, L>(&right),
             second: *sibling,
         };
-        let below = compare_proof::<H, T>(alloc, left, start, end, known, node, rest)?;
+        let below = compare_proof::<H, L>(alloc, &left, start, end, known, node, rest)?;
         return compare_pairs::<H>(alloc, &below, &beside);
     }
     let beside = Roots {
-        first: list_hash::<H, T>(left),
+        first: list_hash::<H, L>(&left),
         second: *sibling,
     };
     let (from, to, still) = behind(middle, start, end, known);
-    let below = compare_proof::<H, T>(alloc, right, from, to, still, node, rest)?;
+    let below = compare_proof::<H, L>(alloc, &right, from, to, still, node, rest)?;
     compare_pairs::<H>(alloc, &beside, &below)
 }
 
@@ -116,25 +119,25 @@ fn compare_proof<H: TreeHash, T: AsEntry>(
 /// the opening of the proof. The proof's lowest hash comes first.
 ///
 /// Each item is hashed at most twice.
-pub fn in_consistency<H: TreeHash, T: AsEntry>(
+pub fn in_consistency<H: TreeHash, L: EntryList>(
     alloc: Global,
-    items: &[T],
+    items: &L,
     start: u64,
     end: u64,
     node: &[u8; 32],
     proof: &[[u8; 32]],
 ) -> Result<Finding, Memory>
-    requires { Checks H.hash start end (length items.now) node.now
-        (tree_hash H.hash (map T.entry items.now)) proof.now }
+    requires { Checks H.hash start end (length (L.texts items.now)) node.now
+        (tree_hash H.hash (L.texts items.now)) proof.now }
     ensures { IfOk result (Extracts H.hash
-        (tree_hash H.hash (part_of (map T.entry items.now) start end) ≡ node.now)
-        (inputs_of H.hash (map T.entry items.now))
-        (open_inputs_of H.hash start end (length items.now) true node.now proof.now)) }
+        (tree_hash H.hash (part_of (L.texts items.now) start end) ≡ node.now)
+        (inputs_of H.hash (L.texts items.now))
+        (open_inputs_of H.hash start end (length (L.texts items.now)) true node.now proof.now)) }
 {
-    if list_hash::<H, T>(part_between(items, start, end)) == *node {
+    if list_hash::<H, L>(&part_between(items, start, end)) == *node {
         return Ok(Finding::Same);
     }
-    match compare_proof::<H, T>(alloc, items, start, end, true, node, proof) {
+    match compare_proof::<H, L>(alloc, items, start, end, true, node, proof) {
         Ok(_roots) => Ok(Finding::Same),
         Err(Halt::Found(one, other)) => Ok(Finding::Pair(one, other)),
         Err(Halt::Memory) => Err(Memory),

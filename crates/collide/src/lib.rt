@@ -13,7 +13,7 @@
 //! use tree_core::Sha;
 //!
 //! // the path was tested: it gives the tree hash of the list's entries 4 and 5
-//! match in_list::<Sha, _>(alloc, entries, 4, 6, 5, entry, path)? {
+//! match in_list::<Sha, _>(alloc, &entries, 4, 6, 5, entry, path)? {
 //!     Finding::Same => println!(rt; "the list has the entry")?,
 //!     Finding::Pair(first, second) => println!(rt; "two strings with one hash")?,
 //! }
@@ -22,14 +22,12 @@
 
 mod comparing;
 mod consistency;
-mod entry;
 mod finding;
 pub mod laws;
 mod lists;
 mod paths;
 
 pub use consistency::in_consistency;
-pub use entry::{AsEntry, list_hash};
 pub use finding::Finding;
 pub use lists::two_lists;
 pub use paths::in_list;

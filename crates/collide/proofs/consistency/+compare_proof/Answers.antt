@@ -1,130 +1,147 @@
-use Rattle.std.proofs.Common.{◌≡◌, ◌<◌, length, Err, sym, ◌∙◌, ap}
+use Rattle.std.proofs.Common.{◌≡◌, ℕ, ◌<◌, length, Err, refl, sym, ◌∙◌, ap, arith}
 use Rattle.std.proofs.Common.{subst, rules}
-use Rattle.std.specs.Prelude.{IsSome, is_some, map}
+use Rattle.std.specs.Prelude.{IsSome, is_some}
 use Rattle.std.proofs.lemmas.Bool.{false≢true}
-use Rattle.std.proofs.lemmas.List.{length-map}
-use Rattle.tree_proofs.proofs.Opens.{open_of-short, part_from}
+use Rattle.tree_proofs.proofs.Opens.{open_of-short}
 use Rattle.tree_proofs.specs.Open.{open_of}
-use Rattle.collide.proofs.Halving.{halves_map}
-use Rattle.collide.proofs.OpenSteps.{ComparesProof, behind_order, proof_found, proof_left}
-use Rattle.collide.proofs.OpenSteps.{proof_right, step_behind, step_left, step_some}
+use Rattle.collide.proofs.OpenSteps.{ComparesProof, behind_order, part_counted, proof_found}
+use Rattle.collide.proofs.OpenSteps.{proof_left, proof_right, step_behind, step_left, step_some}
+use Rattle.collide.specs.Behind.{IsBehind}
 use Rattle.collide.proofs.consistency.+compare_proof.Goals as goal
 
 pub unreachable-requires : goal.unreachable-requires
 unreachable-requires g t c =
-    let part = part_from c.args.start c.args.end (length c.args.items.now) c.requires.within
-    c.else-start-eq0.either in
+    let items = g.L.EntryList.texts c.args.items.now in
+    let part = part_counted c.args.start c.args.end _ (length items) c.len-count.ensures
+    c.requires.within c.else-start-eq0.either in
     let none : length c.args.proof.now ≡ 0 = search rules in
     false≢true (sym (ap is_some (open_of-short g.H.TreeHash.hash c.args.start c.args.end
-    (length c.args.items.now) c.args.known c.args.node.now c.args.proof.now part none))
+    (length items) c.args.known c.args.node.now c.args.proof.now part none))
     ∙ c.requires.gives)
 
 pub compare_proof-requires : goal.compare_proof-requires
 compare_proof-requires g t c κs within =
+    let items = g.L.EntryList.texts c.args.items.now in
+    let left = g.L.EntryList.texts c.halves-left.result.0 in
     let h = g.H.TreeHash.hash in
-    let f = g.T.AsEntry.entry in
-    let some : IsSome (open_of h c.args.start c.args.end (length c.halves.result.0.now)
+    let some : IsSome (open_of h c.args.start c.args.end (length left)
     c.args.known c.args.node.now c.in-Some.rest.now) =
     step_some _ _ (λ given gives.
-    let step = step_left h _ _ _ c.args.start c.args.end (length c.args.items.now)
-    (length c.halves.result.0.now) c.args.known c.args.node.now c.in-Some.sibling.now
+    let step = step_left h _ _ _ c.args.start c.args.end (length items)
+    (length left) c.args.known c.args.node.now c.in-Some.sibling.now
     c.args.proof.now c.in-Some.rest.now
-    (halves_map f c.args.items.now c.halves.result.0.now c.halves.result.1.now c.halves.ensures)
-    c.in-Some.ensures.cases.0 (sym (length-map c.args.items.now f))
-    (sym (length-map c.halves.result.0.now f)) c.requires.order c.if-end-middle.true given gives in
+    c.halves-left.ensures
+    c.in-Some.ensures.cases.0 refl
+    refl c.requires.order (omega (arith, c.len-middle.ensures, c.if-end-middle.true)) given gives in
     (step.below, step.gives)) c.requires.gives in
     search rules
 
 pub returns-in_err-below : goal.returns-in_err-below
 returns-in_err-below g t c =
+    let items = g.L.EntryList.texts c.args.items.now in
+    let left = g.L.EntryList.texts c.halves-left.result.0 in
     let h = g.H.TreeHash.hash in
-    let f = g.T.AsEntry.entry in
     let is : Err c.in_err-below.field-0.0 ≡ c.from_residual.result = search rules in
-    subst (ComparesProof h (map f c.args.items.now) c.args.start c.args.end
-    (length c.args.items.now) c.args.known c.args.node.now c.args.proof.now) is
+    subst (ComparesProof h items c.args.start c.args.end
+    (length items) c.args.known c.args.node.now c.args.proof.now) is
     (proof_found h _ _ _ _ _ _ _ _ _ _ _ _ _ _ _ _ _ c.in_err-below.field-0.0
-    (step_left h _ _ _ c.args.start c.args.end (length c.args.items.now)
-    (length c.halves.result.0.now) c.args.known c.args.node.now c.in-Some.sibling.now
+    (step_left h _ _ _ c.args.start c.args.end (length items)
+    (length left) c.args.known c.args.node.now c.in-Some.sibling.now
     c.args.proof.now c.in-Some.rest.now
-    (halves_map f c.args.items.now c.halves.result.0.now c.halves.result.1.now c.halves.ensures)
-    c.in-Some.ensures.cases.0 (sym (length-map c.args.items.now f))
-    (sym (length-map c.halves.result.0.now f)) c.requires.order c.if-end-middle.true)
+    c.halves-left.ensures
+    c.in-Some.ensures.cases.0 refl
+    refl c.requires.order (omega (arith, c.len-middle.ensures, c.if-end-middle.true)))
     c.in_err-below.ensures)
 
 pub returns-then-end-middle : goal.returns-then-end-middle
 returns-then-end-middle g t c =
+    let items = g.L.EntryList.texts c.args.items.now in
+    let left = g.L.EntryList.texts c.halves-left.result.0 in
     let h = g.H.TreeHash.hash in
-    let f = g.T.AsEntry.entry in
     proof_left h _ _ _ _ _ _ _ _ _ c.list_hash.result
     c.in-Some.sibling.now _ _ c.in_ok-below.below _
-    (step_left h _ _ _ c.args.start c.args.end (length c.args.items.now)
-    (length c.halves.result.0.now) c.args.known c.args.node.now c.in-Some.sibling.now
+    (step_left h _ _ _ c.args.start c.args.end (length items)
+    (length left) c.args.known c.args.node.now c.in-Some.sibling.now
     c.args.proof.now c.in-Some.rest.now
-    (halves_map f c.args.items.now c.halves.result.0.now c.halves.result.1.now c.halves.ensures)
-    c.in-Some.ensures.cases.0 (sym (length-map c.args.items.now f))
-    (sym (length-map c.halves.result.0.now f)) c.requires.order c.if-end-middle.true)
+    c.halves-left.ensures
+    c.in-Some.ensures.cases.0 refl
+    refl c.requires.order (omega (arith, c.len-middle.ensures, c.if-end-middle.true)))
     c.list_hash.ensures c.in_ok-below.ensures c.compare_pairs.ensures
 
 pub compare_proof-requires-2 : goal.compare_proof-requires-2
 compare_proof-requires-2 g t c κs within =
+    let items = g.L.EntryList.texts c.args.items.now in
+    let left = g.L.EntryList.texts c.halves-left.result.0 in
+    let right = g.L.EntryList.texts c.halves-left.result.1 in
     let h = g.H.TreeHash.hash in
-    let f = g.T.AsEntry.entry in
-    let part = part_from c.args.start c.args.end (length c.args.items.now) c.requires.within
-    c.else-start-eq0.either in
-    let all = c.halves.ensures.all in
+    let part = part_counted c.args.start c.args.end _ (length items) c.len-count.ensures
+    c.requires.within c.else-start-eq0.either in
+    let all = c.halves-left.ensures.all in
     let some : IsSome (open_of h c.behind-from.result.0 c.behind-from.result.1
-    (length c.halves.result.1.now) c.behind-from.result.2 c.args.node.now
+    (length right) c.behind-from.result.2 c.args.node.now
     c.in-Some.rest.now) =
     step_some _ _ (λ given gives.
-    let step = step_behind h _ _ _ c.args.start c.args.end (length c.args.items.now)
-    (length c.halves.result.0.now) (length c.halves.result.1.now) c.behind-from.result.0
+    let step = step_behind h _ _ _ c.args.start c.args.end (length items)
+    (length left) (length right) c.behind-from.result.0
     c.behind-from.result.1 c.args.known c.behind-from.result.2 c.args.node.now
     c.in-Some.sibling.now c.args.proof.now c.in-Some.rest.now
-    (halves_map f c.args.items.now c.halves.result.0.now c.halves.result.1.now c.halves.ensures)
-    c.in-Some.ensures.cases.0 (sym (length-map c.args.items.now f))
-    (sym (length-map c.halves.result.0.now f)) (sym (length-map c.halves.result.1.now f))
-    c.requires.within c.if-end-middle.false part c.behind-from.ensures given gives in
+    c.halves-left.ensures
+    c.in-Some.ensures.cases.0 refl
+    refl refl
+    c.requires.within (omega (arith, c.len-middle.ensures, c.if-end-middle.false)) part
+    (subst (λ (m : ℕ). IsBehind m c.args.start c.args.end c.args.known c.behind-from.result.0
+    c.behind-from.result.1 c.behind-from.result.2) c.len-middle.ensures c.behind-from.ensures)
+    given gives in
     (step.below, step.gives)) c.requires.gives in
     let last = c.behind-from.ensures.last in
     let order : c.behind-from.result.0 < c.behind-from.result.1 =
-    behind_order c.behind-from.ensures c.requires.order c.if-end-middle.false in
+    behind_order c.behind-from.ensures c.requires.order
+    (omega (arith, c.len-middle.ensures, c.if-end-middle.false)) in
     search rules
 
 pub returns-in_err-below-2 : goal.returns-in_err-below-2
 returns-in_err-below-2 g t c =
+    let items = g.L.EntryList.texts c.args.items.now in
+    let left = g.L.EntryList.texts c.halves-left.result.0 in
+    let right = g.L.EntryList.texts c.halves-left.result.1 in
     let h = g.H.TreeHash.hash in
-    let f = g.T.AsEntry.entry in
-    let part = part_from c.args.start c.args.end (length c.args.items.now) c.requires.within
-    c.else-start-eq0.either in
+    let part = part_counted c.args.start c.args.end _ (length items) c.len-count.ensures
+    c.requires.within c.else-start-eq0.either in
     let is : Err c.in_err-below-2.field-0.0 ≡ c.from_residual-in_err-below-2.result = search rules
     in
-    subst (ComparesProof h (map f c.args.items.now) c.args.start c.args.end
-    (length c.args.items.now) c.args.known c.args.node.now c.args.proof.now) is
+    subst (ComparesProof h items c.args.start c.args.end
+    (length items) c.args.known c.args.node.now c.args.proof.now) is
     (proof_found h _ _ _ _ _ _ _ _ _ _ _ _ _ _ _ _ _ c.in_err-below-2.field-0.0
-    (step_behind h _ _ _ c.args.start c.args.end (length c.args.items.now)
-    (length c.halves.result.0.now) (length c.halves.result.1.now) c.behind-from.result.0
+    (step_behind h _ _ _ c.args.start c.args.end (length items)
+    (length left) (length right) c.behind-from.result.0
     c.behind-from.result.1 c.args.known c.behind-from.result.2 c.args.node.now
     c.in-Some.sibling.now c.args.proof.now c.in-Some.rest.now
-    (halves_map f c.args.items.now c.halves.result.0.now c.halves.result.1.now c.halves.ensures)
-    c.in-Some.ensures.cases.0 (sym (length-map c.args.items.now f))
-    (sym (length-map c.halves.result.0.now f)) (sym (length-map c.halves.result.1.now f))
-    c.requires.within c.if-end-middle.false part c.behind-from.ensures)
+    c.halves-left.ensures
+    c.in-Some.ensures.cases.0 refl
+    refl refl
+    c.requires.within (omega (arith, c.len-middle.ensures, c.if-end-middle.false)) part
+    (subst (λ (m : ℕ). IsBehind m c.args.start c.args.end c.args.known c.behind-from.result.0
+    c.behind-from.result.1 c.behind-from.result.2) c.len-middle.ensures c.behind-from.ensures))
     c.in_err-below-2.ensures)
 
 pub returns : goal.returns
 returns g t c =
+    let items = g.L.EntryList.texts c.args.items.now in
+    let left = g.L.EntryList.texts c.halves-left.result.0 in
+    let right = g.L.EntryList.texts c.halves-left.result.1 in
     let h = g.H.TreeHash.hash in
-    let f = g.T.AsEntry.entry in
-    let part = part_from c.args.start c.args.end (length c.args.items.now) c.requires.within
-    c.else-start-eq0.either in
+    let part = part_counted c.args.start c.args.end _ (length items) c.len-count.ensures
+    c.requires.within c.else-start-eq0.either in
     proof_right h _ _ _ _ _ _ _ _ _ _ _ _ c.list_hash-2.result
     c.in-Some.sibling.now _ _ c.in_ok-below-2.below _
-    (step_behind h _ _ _ c.args.start c.args.end (length c.args.items.now)
-    (length c.halves.result.0.now) (length c.halves.result.1.now) c.behind-from.result.0
+    (step_behind h _ _ _ c.args.start c.args.end (length items)
+    (length left) (length right) c.behind-from.result.0
     c.behind-from.result.1 c.args.known c.behind-from.result.2 c.args.node.now
     c.in-Some.sibling.now c.args.proof.now c.in-Some.rest.now
-    (halves_map f c.args.items.now c.halves.result.0.now c.halves.result.1.now c.halves.ensures)
-    c.in-Some.ensures.cases.0 (sym (length-map c.args.items.now f))
-    (sym (length-map c.halves.result.0.now f)) (sym (length-map c.halves.result.1.now f))
-    c.requires.within c.if-end-middle.false part c.behind-from.ensures)
+    c.halves-left.ensures
+    c.in-Some.ensures.cases.0 refl
+    refl refl
+    c.requires.within (omega (arith, c.len-middle.ensures, c.if-end-middle.false)) part
+    (subst (λ (m : ℕ). IsBehind m c.args.start c.args.end c.args.known c.behind-from.result.0
+    c.behind-from.result.1 c.behind-from.result.2) c.len-middle.ensures c.behind-from.ensures))
     c.list_hash-2.ensures c.in_ok-below-2.ensures c.compare_pairs-2.ensures
