@@ -34,7 +34,7 @@ use Rattle.log_entry.proofs.EntryForm.{entries_again}
 use Rattle.log_entry.proofs.Matches.{written_matches}
 use Rattle.issuance_log.specs.Folds.{LogState, with_item}
 use Rattle.authority_core.specs.Acceptance.{IsOwnEntry}
-use Rattle.authority_core.specs.Hosts.{IsHostName}
+use Rattle.cert_names.specs.Hosts.{IsHostName}
 use Rattle.authority_core.specs.Requests.{IsCommonName, CanBeIssued, RequestParts}
 use Rattle.authority_core.specs.Issuing.{common_name_id, subject_of, dns_names, alt_name_of}
 use Rattle.authority_core.specs.Issuing.{extensions_of, tbs_for, entry_for}

@@ -7,7 +7,8 @@ use Rattle.der_core.specs.Elements.{element}
 use Rattle.der_core.proofs.Elements.{element-short}
 use Rattle.cert_fields.specs.Extensions.{ExtensionFields}
 use Rattle.cert_fields.specs.Grammar.{mark, extension, extension_contents}
-use Rattle.authority_core.specs.Hosts.{AreHostNames, IsHostName}
+use Rattle.authority_core.specs.Hosts.{AreHostNames}
+use Rattle.cert_names.specs.Hosts.{IsHostName}
 use Rattle.authority_core.specs.Requests.{CanBeIssued, RequestParts}
 use Rattle.authority_core.specs.Issuing.{dns_names, alt_name_of}
 use Rattle.authority_core.proofs.Labels.{host-short}

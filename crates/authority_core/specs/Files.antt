@@ -11,7 +11,7 @@ use Rattle.toml.specs.Data.{Data, Items, no_items, item, Members, as_array, as_s
 use Rattle.toml_fields.specs.Tree.{tree_of, has_only}
 use Rattle.toml_fields.specs.Fields.{required_field, optional_field}
 use Rattle.toml_fields.specs.Codes.{bytes_data}
-use Rattle.authority_core.specs.Hosts.{is_host_name}
+use Rattle.cert_names.specs.Hosts.{is_host_name}
 use Rattle.authority_core.specs.Requests.{RequestParts}
 use Rattle.authority_core.specs.declared.requests.error.Field.{Field}
 use Rattle.authority_core.specs.declared.requests.error.Field.TheVariants.{NotBefore, NotAfter, Dns}

@@ -15,7 +15,5 @@ pub use issuing::{
     IssueError, entry_of_request, issue, law_entries_say_what_was_asked,
     law_issued_entries_keep_to_the_rules,
 };
-pub use requests::{
-    Field, Names, Request, RequestError, is_host, law_host_names_are_joined_labels, read_request,
-};
+pub use requests::{Field, Names, Request, RequestError, read_request};
 pub use writing::{WriteError, cert, light_cert};

@@ -12,7 +12,7 @@ use Rattle.byte_formats.specs.Types.{HashFunction, Text}
 use Rattle.tls_wire.specs.Arcs.{IsAnchorId, arc}
 use Rattle.der_core.specs.Elements.{element}
 use Rattle.cert_fields.specs.Grammar.{IsAlgorithm, IsBits, IsPublicKey}
-use Rattle.authority_core.specs.Hosts.{is_host_name, is_label, labels_of}
+use Rattle.cert_names.specs.Hosts.{is_host_name, is_label, labels_of}
 use Rattle.authority_core.specs.Requests.{CanBeIssued}
 use Rattle.drill_nodes.specs.Ids.{drill_log_id}
 use Rattle.drill_core.specs.Entries.{drill_entry, entries_to, host_of, key_of, log_with}

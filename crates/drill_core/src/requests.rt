@@ -1,11 +1,12 @@
 //! What is asked of the log: its entries.
 
 ghost use Rattle.std.specs.Prelude.{◌≡◌, ◌∷◌, [], IfOk};
-ghost use Rattle.authority_core.specs.Hosts.{IsHostName};
+ghost use Rattle.cert_names.specs.Hosts.{IsHostName};
 ghost use Rattle.drill_core.specs.Entries.{host_of, key_of, request_for};
 
-use authority_core::{Names, Request, is_host};
+use authority_core::{Names, Request};
 use cert_fields::is_public_key;
+use cert_names::is_host;
 use cert_time::Validity;
 use mtc_io::{Bytes, Memory};
 use std::alloc::Global;

@@ -1,7 +1,8 @@
 //! Request files: what is wrong with them, and two that are whole; and host names.
 
 use crate::texts::{headed, joined};
-use authority_core::{Field, Request, RequestError, is_host, read_request};
+use authority_core::{Field, Request, RequestError, read_request};
+use cert_names::is_host;
 use std::alloc::Global;
 use std::test::Fail;
 

@@ -8,13 +8,13 @@ ghost use Rattle.toml.specs.Data.{get_member};
 ghost use Rattle.toml.specs.View.{items_view, table_view, view};
 ghost use Rattle.authority_core.specs.Files.{common_name_data, field, field_or_none, host_data};
 ghost use Rattle.authority_core.specs.Files.{hosts_in, public_key_data, names_data, time_data};
-ghost use Rattle.authority_core.specs.Hosts.{IsHostName};
+ghost use Rattle.cert_names.specs.Hosts.{IsHostName};
 ghost use Rattle.authority_core.specs.Requests.{IsCommonName};
 
 use crate::requests::error::{Field, RequestError};
-use crate::requests::hosts::is_host;
 use crate::requests::names::Names;
 use cert_fields::is_public_key;
+use cert_names::is_host;
 use cert_time::text_to_seconds;
 use mtc_io::{Bytes, Memory};
 use std::alloc::Global;

@@ -1,7 +1,7 @@
 use Rattle.std.proofs.Common.{◌≡◌, ◌<◌, length, get_or, ap, ◌∙◌, arith}
 use Rattle.std.specs.List.{AllByRecursion}
 use Rattle.std.proofs.lemmas.List.{length-append}
-use Rattle.authority_core.specs.Hosts.{IsHostName}
+use Rattle.cert_names.specs.Hosts.{IsHostName}
 use Rattle.authority_core.proofs.Items.{AllByRecursion-at}
 use Rattle.authority_core.proofs.Labels.{host-short}
 use Rattle.authority_core.proofs.Sizes.{names-short}

@@ -5,7 +5,7 @@ use Rattle.std.specs.List.{AllByRecursion}
 use Rattle.byte_formats.specs.Types.{Text}
 use Rattle.toml.specs.View.{items_view}
 use Rattle.authority_core.specs.Files.{hosts_in}
-use Rattle.authority_core.specs.Hosts.{IsHostName}
+use Rattle.cert_names.specs.Hosts.{IsHostName}
 use Rattle.authority_core.proofs.Items.{AllByRecursion-push, hosts_next, hosts_not}
 use Rattle.authority_core.proofs.requests.values.hosts_of.Goals as goal
 

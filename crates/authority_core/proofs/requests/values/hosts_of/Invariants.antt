@@ -2,7 +2,7 @@ use Rattle.std.proofs.Common.{◌≡◌, ◌++◌, length, drop, option_map}
 use Rattle.std.specs.List.{AllByRecursion}
 use Rattle.toml.specs.View.{items_view}
 use Rattle.authority_core.specs.Files.{hosts_in}
-use Rattle.authority_core.specs.Hosts.{IsHostName}
+use Rattle.cert_names.specs.Hosts.{IsHostName}
 use Rattle.authority_core.proofs.requests.values.hosts_of.Given as goal
 
 -- the names so far are host names, and with those that the rest says they make the whole

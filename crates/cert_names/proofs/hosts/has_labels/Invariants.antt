@@ -1,6 +1,6 @@
 use Rattle.std.proofs.Common.{◌≡◌, true, length}
-use Rattle.authority_core.specs.Hosts.{are_labels, labels_of}
-use Rattle.authority_core.proofs.requests.hosts.has_labels.Given as goal
+use Rattle.cert_names.specs.Hosts.{are_labels, labels_of}
+use Rattle.cert_names.proofs.hosts.has_labels.Given as goal
 
 -- the labels that are left are in their form where all are
 abbrev pub invariant-loop-label : goal.invariant-loop-label

@@ -1,7 +1,7 @@
 use Rattle.std.proofs.Common.{◌≡◌, ℕ, ◌+◌, ◌-◌, List, length, take, drop, arith, length-drop, sym}
 use Rattle.std.proofs.lemmas.List.{take_all}
-use Rattle.authority_core.proofs.Labels.{labels_of-dot, labels_of-last}
-use Rattle.authority_core.proofs.requests.hosts.cut.Goals as goal
+use Rattle.cert_names.proofs.Labels.{labels_of-dot, labels_of-last}
+use Rattle.cert_names.proofs.hosts.cut.Goals as goal
 
 -- a slice up to the end is all that is left
 rest : (n : ℕ) (xs : List ℕ) → take (length xs - n) (drop n xs) ≡ drop n xs

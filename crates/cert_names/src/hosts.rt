@@ -2,8 +2,8 @@
 
 ghost use Rattle.std.specs.Prelude.{◌≡◌, ◌<◌, true, [], ◌∷◌, length, IfNone, IfSome};
 ghost use Rattle.std.specs.List.{list_all, position};
-ghost use Rattle.authority_core.specs.Hosts.{are_labels, is_dot, is_host_name, is_label};
-ghost use Rattle.authority_core.specs.Hosts.{is_label_at, is_label_byte, labels_of};
+ghost use Rattle.cert_names.specs.Hosts.{are_labels, is_dot, is_host_name, is_label};
+ghost use Rattle.cert_names.specs.Hosts.{is_label_at, is_label_byte, labels_of};
 
 // A letter, a digit or a hyphen.
 fn is_label_byte(byte: u8) -> bool
@@ -51,7 +51,7 @@ fn dot_in(text: &[u8]) -> Option<usize>
     text.iter().position(|byte| *byte == b'.')
 }
 
-// The first label and what stands behind its dot; none where there is no dot.
+// The first label and what stands after its dot; none where there is no dot.
 fn cut(text: &[u8]) -> Option<(&[u8], &[u8])>
     ensures last { IfNone result (labels_of text.now ≡ text.now ∷ []) }
     ensures parts { IfSome result (λ p. labels_of text.now ≡ p.0.now ∷ labels_of p.1.now) }
