@@ -1,6 +1,6 @@
 -- The rules that a store file says are rules over its cosigners.
 use Rattle.std.proofs.Common.{◌≡◌, ℕ, ◌<◌, ◌≤◌, ◌&&◌, Bool, true, false, not, nat_le, List, [], ◌∷◌}
-use Rattle.std.proofs.Common.{length, Option, Some, None, Ok, cond, nat_lt, refl, sym, subst, arith}
+use Rattle.std.proofs.Common.{length, Option, Some, None, Ok, cond, nat_lt, refl, subst, arith}
 use Rattle.std.proofs.lemmas.Bool.{and_parts}
 use Rattle.std.proofs.lemmas.Bool.Decides.{nat_tests}
 use Rattle.std.specs.List.{AllByRecursion, IsDistinct, position, position_or_len}
@@ -9,6 +9,7 @@ use Rattle.std.specs.Prelude.{codes, option_map}
 use Rattle.byte_formats.specs.Readings.{◌>>=◌}
 use Rattle.byte_formats.proofs.Steps.{bind_ok, ok_is, some_or_ok}
 use Rattle.std.specs.Str.{bytes_eq}
+use Rattle.std.proofs.lemmas.Bool.{not-true}
 use Rattle.toml.specs.Data.{Data, Items, no_items, item, Members, as_array, get_member}
 use Rattle.toml_fields.specs.Codes.{number_data}
 use Rattle.policy_core.specs.declared.cosigners.Known.{Known}
@@ -95,10 +96,6 @@ pub record ArePlaces (known : ℕ) (ns : List ℕ) : Type 0 where
   pub below : AllByRecursion (λ n. n < known) ns
   pub differ : IsDistinct is_same_place ns
 
-was_false : (b : Bool) → not b ≡ true → b ≡ false
-was_false true e = sym e
-was_false false e = refl
-
 apart : (known : ℕ) (ns : List ℕ) (ms : List ℕ) → if_different known ns ≡ Some ms
     → (ns ≡ ms) × IsDistinct is_same_place ns
 apart known ns ms e =
@@ -108,7 +105,7 @@ apart known ns ms e =
         → cond b (Some ns) None ≡ Some ms → (ns ≡ ms) × IsDistinct is_same_place ns
     go true test e =
         let parts = and_parts (nat_le (length ns) known) (not (has_repeat is_same_place ns)) test in
-        (cc, different is_same_place ns (was_false (has_repeat is_same_place ns) parts.1))
+        (cc, different is_same_place ns (not-true (has_repeat is_same_place ns) parts.1))
     go false test e = absurd cc
 
 places_are : (known : List Known) (d : Data) (ns : List ℕ) → places_data known d ≡ Some ns

@@ -4,6 +4,7 @@ use Rattle.std.proofs.Common.{List, [], ◌∷◌, length, Option, Some, None, c
 use Rattle.std.proofs.lemmas.Bool.Decides.{nat_tests}
 use Rattle.std.specs.List.{AllByRecursion, position, position_or_len}
 use Rattle.std.specs.Prelude.{option_map}
+use Rattle.byte_formats.proofs.Values.{not_zero}
 use Rattle.policy_core.specs.declared.rules.Rule.{Rule}
 use Rattle.policy_core.specs.Counting.{is_met, first_unmet}
 use Rattle.policy_core.specs.Acceptance.{IsMet}
@@ -76,9 +77,6 @@ no_rule_fails : (b : Bool) (o : Option ℕ) → cond b (Some 0) o ≡ None → (
 no_rule_fails true o e = absurd cc
 no_rule_fails false o e = (refl, e)
 
-some_length : (n : ℕ) → (n == 0) ≡ false → 0 < n
-some_length n e = grind (arith, nat_tests, e)
-
 length_some : (n : ℕ) → 0 < n → (n == 0) ≡ false
 length_some n lt = grind (arith, nat_tests, lt)
 
@@ -91,7 +89,7 @@ all_met set rules e =
     let place : Option ℕ = position (is_unmet set) rules in
     let two = no_rule_fails (length rules == 0) (option_map (λ (i : ℕ). i + 1) place) e in
     let none = none_of (λ (i : ℕ). i + 1) place two.1 in
-    (some_length (length rules) two.0, meets set rules (no_position (is_unmet set) rules none))
+    (not_zero (length rules) two.0, meets set rules (no_position (is_unmet set) rules none))
 
 pub met_all : (set : ℕ) (rules : List Rule) → 0 < length rules → AllByRecursion (IsMet set) rules
     → first_unmet set rules ≡ None

@@ -9,6 +9,9 @@ use Rattle.std.specs.BTreeMap.{is_at}
 use Rattle.std.specs.BTreeSet.{BTreeSet, contains, Updates, IsEmpty}
 use Rattle.std.specs.List.{list_any}
 use Rattle.std.specs.Ordering.{ordering_then}
+use Rattle.std.proofs.lemmas.Bool.{not-true}
+use Rattle.std.proofs.lemmas.Bool.{not-false}
+use Rattle.byte_formats.proofs.Values.{or_swap}
 use Rattle.policy_core.specs.declared.lists.Trusted.{Trusted}
 use Rattle.policy_core.specs.Stores.{has_repeat, has_same_interval}
 
@@ -24,12 +27,6 @@ pub record Holds (set : BTreeSet (ℕ × ℕ)) (xs : List Trusted) : Type 0 wher
   pub each : (k : ℕ × ℕ) → contains by_interval set k ≡ list_any (has_interval k) xs
 
 -- ---- lists
-
-shuffled : (a b c d : Bool) → ((a || b) || (c || d)) ≡ ((a || c) || (b || d))
-shuffled true b c d = refl
-shuffled false true true d = refl
-shuffled false true false d = refl
-shuffled false false c d = refl
 
 or_nothing : (b : Bool) → (b || false) ≡ b
 or_nothing true = refl
@@ -55,7 +52,7 @@ has_repeat-push (y ∷ ys) x =
     (list_any-push (has_same_interval y) ys x)
     ∙ (ap (λ (b : Bool). (list_any (has_same_interval y) ys || has_same_interval y x) || b)
     (has_repeat-push ys x)
-    ∙ shuffled (list_any (has_same_interval y) ys) (has_same_interval y x)
+    ∙ or_swap (list_any (has_same_interval y) ys) (has_same_interval y x)
     (has_repeat has_same_interval ys)
     (list_any (has_interval (x.start, x.end)) ys))
 
@@ -153,14 +150,6 @@ holds_next set xs i d b lt holds whole found =
     ∙ holds.each key)
     ∙ (sym (repeats_behind-step xs i d lt) ∙ whole)
 
-was_there : (b : Bool) → not b ≡ false → b ≡ true
-was_there true h = refl
-was_there false h = sym h
-
-was_new : (b : Bool) → not b ≡ true → b ≡ false
-was_new true h = sym h
-was_new false h = refl
-
 -- an interval that is there already repeats
 pub repeats_there : (set : BTreeSet (ℕ × ℕ)) (xs : List Trusted) (i : ℕ) (d : Trusted)
     → i < length xs → Holds set (take i xs)
@@ -168,7 +157,7 @@ pub repeats_there : (set : BTreeSet (ℕ × ℕ)) (xs : List Trusted) (i : ℕ) 
     → not (contains by_interval set ((get_or xs i d).start, (get_or xs i d).end)) ≡ false
     → true ≡ has_repeat has_same_interval xs
 repeats_there set xs i d lt holds whole h =
-    holds_next set xs i d true lt holds whole (was_there _ h)
+    holds_next set xs i d true lt holds whole (not-false _ h)
 
 -- a new one leaves the question to those behind it
 pub repeats_later : (set : BTreeSet (ℕ × ℕ)) (xs : List Trusted) (i : ℕ) (d : Trusted)
@@ -176,7 +165,8 @@ pub repeats_later : (set : BTreeSet (ℕ × ℕ)) (xs : List Trusted) (i : ℕ) 
     → repeats_behind (take i xs) (drop i xs) ≡ has_repeat has_same_interval xs
     → not (contains by_interval set ((get_or xs i d).start, (get_or xs i d).end)) ≡ true
     → repeats_behind (take (i + 1) xs) (drop (i + 1) xs) ≡ has_repeat has_same_interval xs
-repeats_later set xs i d lt holds whole h = holds_next set xs i d false lt holds whole (was_new _ h)
+repeats_later set xs i d lt holds whole h =
+    holds_next set xs i d false lt holds whole (not-true _ h)
 
 -- the set with one more
 pub holds_next_one : (old new : BTreeSet (ℕ × ℕ)) (xs : List Trusted) (i : ℕ) (d : Trusted)
