@@ -16,12 +16,6 @@ use Rattle.cosigner_core.proofs.Tagged.{some_value}
 use Rattle.drill_nodes.specs.CosignerNodes.{IsCosignerDisk}
 use Rattle.drill_nodes.specs.Disks.{records_on}
 
-pub same_text : (x y : Text) → Some x ≡ Some y → x ≡ y
-same_text x y e = cc
-
-pub same_list : (x y : List Text) → Some x ≡ Some y → x ≡ y
-same_list x y e = cc
-
 -- a disk that tells the same, and may leave nothing new
 pub only_read_on : (h : HashFunction) (s t : CosignerState) (old new : MemDisk)
     → bytes_of new ≡ bytes_of old → ((c : Text) → images_of new c → images_of old c) → t ≡ s

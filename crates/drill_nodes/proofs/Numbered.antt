@@ -3,6 +3,7 @@ use Rattle.std.proofs.Common.{◌≡◌, ◌<◌, ◌≤◌, ◌^◌, Bool, true
 use Rattle.std.proofs.Common.{refl, ltb-true}
 use Rattle.std.specs.Prelude.{nat_lt, not, if◌then◌else◌}
 use Rattle.std.specs.Str.{bytes_eq}
+use Rattle.std.proofs.lemmas.Bool.{not-false}
 use Rattle.byte_formats.specs.Types.{HashFunction}
 use Rattle.tree_core.specs.Subtree.{is_subtree}
 use Rattle.tree_proofs.specs.Checkpoints.{has_subtree}
@@ -23,10 +24,6 @@ passed : (b : Bool) (why : CosignError) (o : Option CosignError)
 passed true why o is = let wrong : Some why ≡ None = is in cc
 passed false why o is = (refl, is)
 
-not_no : (b : Bool) → not b ≡ false → b ≡ true
-not_no true e = refl
-not_no false e = absurd cc
-
 pub few_keys : (lms : LmsType) → 2 ^ height lms ≤ 2 ^ 25
 few_keys H5 = omega arith
 few_keys H10 = omega arith
@@ -43,7 +40,7 @@ below h s r is =
     let within = passed (nat_lt s.held.size r.end) _ _ whole.1 in
     let shown = passed (not (has_subtree h s.held r.start r.end r.hash r.proof)) _ _ within.1 in
     let left = passed (not (nat_lt s.key.next (key_count s))) _ _ shown.1 in
-    ltb-true s.key.next (key_count s) (not_no (nat_lt s.key.next (key_count s)) left.0)
+    ltb-true s.key.next (key_count s) (not-false (nat_lt s.key.next (key_count s)) left.0)
 
 -- the number of a Sign that is not refused fits in four bytes
 pub numbered : (h : HashFunction) (s : CosignerState) (r : SubtreeParts)

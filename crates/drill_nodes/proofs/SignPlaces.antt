@@ -1,22 +1,18 @@
 -- Where the steps of a cosigner have a Sign that its records say.
 use Rattle.std.proofs.Common.{◌≡◌, ◌∙◌, ◌<◌, ℕ, zero, suc, Bool, true, false, List, [], ◌∷◌}
-use Rattle.std.proofs.Common.{length, Option, Some, None, refl, sym, ap, subst, arith, get_or}
+use Rattle.std.proofs.Common.{length, Some, refl, sym, ap, subst, arith, get_or}
 use Rattle.std.proofs.Common.{ltb-true, ltb-false, lt-ltb, slice_index_or}
 use Rattle.std.specs.Prelude.{nat_lt, option_map}
 use Rattle.std.specs.List.{Contains, position, position_or_len}
 use Rattle.std.specs.Option.{is_some}
 use Rattle.std.proofs.lemmas.List.Sums.{fails_before_first}
 use Rattle.byte_formats.specs.Types.{Text}
+use Rattle.byte_formats.proofs.Values.{map_some}
 use Rattle.cosigner_core.specs.Progress.{steps_in}
 use Rattle.cosigner_core.specs.Records.{step_in}
 use Rattle.cosigner_core.specs.declared.step.Step.{Step}
 use Rattle.cosigner_core.proofs.FirstRecords.{then_some}
 use Rattle.cosigner_core.proofs.Tagged.{some_value}
-
-pub map_some : (f : List Step → List Step) (o : Option (List Step)) (y : List Step)
-    → option_map f o ≡ Some y → (x : List Step) × (o ≡ Some x) × (f x ≡ y)
-map_some f None y is = let wrong : None ≡ Some y = is in cc
-map_some f (Some x) y is = (x, refl, some_value (f x) y is)
 
 -- ---- a step among steps
 

@@ -6,6 +6,7 @@ use Rattle.std.specs.List.{count_by}
 use Rattle.std.proofs.lemmas.List.Sums.{sum_by-cons}
 use Rattle.byte_formats.specs.Types.{HashFunction, Text}
 use Rattle.byte_formats.proofs.Steps.{ok_is}
+use Rattle.byte_formats.proofs.Values.{map_some}
 use Rattle.disk_core.specs.declared.memory.mem_disk.MemDisk.{MemDisk}
 use Rattle.cosigner_core.specs.Counts.{index_before, indices_in, indices_of}
 use Rattle.cosigner_core.specs.ExportReading.{export_in, export_of}
@@ -23,7 +24,6 @@ use Rattle.drill_nodes.specs.Disks.{is_sign}
 use Rattle.drill_nodes.specs.Disks.{records_on}
 use Rattle.drill_nodes.proofs.Exported.{steps_again}
 use Rattle.drill_nodes.proofs.Numbered.{few_keys}
-use Rattle.drill_nodes.proofs.SignPlaces.{map_some}
 
 -- a step before others
 one_step : (step : Step) (said : Option Step) (rest : List Step) (indices : List ℕ)

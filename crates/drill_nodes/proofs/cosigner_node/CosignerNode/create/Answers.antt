@@ -1,4 +1,5 @@
-use Rattle.std.proofs.Common.{◌≡◌, ◌∙◌, List, [], ◌∷◌, Ok, Some, sym, subst, ap, refl}
+use Rattle.std.proofs.Common.{◌≡◌, ◌∙◌, [], ◌∷◌, Ok, sym, subst, ap, refl}
+use Rattle.std.proofs.lemmas.Option.{same_Some}
 use Rattle.byte_formats.specs.Types.{Text}
 use Rattle.disk_core.specs.Memory.{bytes_of}
 use Rattle.disk_core.specs.declared.memory.mem_disk.MemDisk.{MemDisk}
@@ -12,9 +13,6 @@ use Rattle.drill_nodes.specs.CosignerNodes.{cosigner_settings, secret_of}
 use Rattle.drill_nodes.specs.Ids.{id_of}
 use Rattle.drill_nodes.specs.Disks.{records_on}
 use Rattle.drill_nodes.proofs.cosigner_node.CosignerNode.create.Goals as goal
-
-some_is : (xs ys : List Text) → Some xs ≡ Some ys → xs ≡ ys
-some_is xs ys e = cc
 
 abbrev settings_with : Text → Text → CosignerSettings
 settings_with id log = record { id = id; log = log; lms = H5; ots = W4 }
@@ -33,7 +31,7 @@ returns-in-Ok-clause-state g c =
     let first : records_on c.into_disk.result
     ≡ cosigner_record (settings_with id log) c.in_ok-secret.secret ∷ [] =
     ap records_on c.into_disk.ensures
-    ∙ some_is (records_on c.in-Ok.journal.disk)
+    ∙ same_Some (records_on c.in-Ok.journal.disk)
     (cosigner_record (settings_with id log) c.in_ok-secret.secret ∷ [])
     c.in-Ok.ensures.ok.list in
     (c.in_ok-node-in-Ok.ensures.state (records_on c.into_disk.result)

@@ -1,4 +1,5 @@
-use Rattle.std.proofs.Common.{◌≡◌, ◌∙◌, List, [], ◌∷◌, ◌++◌, Some, sym, subst, ap, refl}
+use Rattle.std.proofs.Common.{◌∙◌, List, [], ◌∷◌, ◌++◌, Some, sym, subst, ap, refl}
+use Rattle.std.proofs.lemmas.Option.{same_Some}
 use Rattle.byte_formats.specs.Types.{Text}
 use Rattle.disk_core.specs.Memory.{bytes_of}
 use Rattle.cosigner_core.specs.Folds.{CosignerState}
@@ -9,9 +10,6 @@ use Rattle.drill_nodes.specs.CosignerNodes.{IsCosignerDisk}
 use Rattle.drill_nodes.specs.CosignerViews.{cosigner_shown, records_shown}
 use Rattle.drill_nodes.proofs.GrownDisks.{is_disk, records_grown}
 use Rattle.drill_nodes.proofs.cosigner_node.CosignerNode.done.Goals as goal
-
-some_is : (xs ys : List Text) → Some xs ≡ Some ys → xs ≡ ys
-some_is xs ys e = cc
 
 pub invariant_of-result : goal.invariant_of-result
 invariant_of-result g c =
@@ -41,7 +39,7 @@ returns-then-branch-clause-records g c =
     records_grown (cosigner_disk c.call_cosigner.new.cosigner) (list ++ body ∷ []) called.reads
     (called.kept c.if-branch.true)
     ∙ ap (λ (xs : List Text). xs ++ body ∷ [])
-    (some_is list (records_shown c.args.self) c.args.self.settled)
+    (same_Some list (records_shown c.args.self) c.args.self.settled)
 
 pub returns-then-branch-clause-state : goal.returns-then-branch-clause-state
 returns-then-branch-clause-state g c = (c.in_ok-call_cosigner.ensures.grown c.if-branch.true).state

@@ -1,4 +1,5 @@
 use Rattle.std.proofs.Common.{◌≡◌, ◌∙◌, ◌++◌, List, Some, sym, ap, refl}
+use Rattle.std.proofs.lemmas.Option.{same_Some}
 use Rattle.byte_formats.specs.Types.{Text}
 use Rattle.mtc_io.specs.Memory.{SinkState}
 use Rattle.disk_core.specs.Memory.{bytes_of}
@@ -8,7 +9,7 @@ use Rattle.cosigner_core.specs.Exports.{export_text}
 use Rattle.journal_core.specs.Ends.{durable_of}
 use Rattle.cosigner_core.specs.Words.{cosigner_disk, cosigner_end}
 use Rattle.drill_nodes.specs.CosignerViews.{cosigner_shown, records_shown}
-use Rattle.drill_nodes.proofs.Exported.{only_read_on, reads_again, same_list, same_text}
+use Rattle.drill_nodes.proofs.Exported.{only_read_on, reads_again}
 use Rattle.drill_nodes.proofs.cosigner_node.CosignerNode.export.Goals as goal
 
 pub invariant_of-self : goal.invariant_of-self
@@ -17,7 +18,7 @@ invariant_of-self g c =
     let old = cosigner_disk c.args.self.now.cosigner in
     let new = cosigner_disk c.export.new.self in
     let bytes : bytes_of new ≡ bytes_of old =
-    same_text (bytes_of new) (bytes_of old) e.only_reads.contents in
+    same_Some (bytes_of new) (bytes_of old) e.only_reads.contents in
     record {
       sound = e.same.broken ∙ c.args.self.now.sound;
       settled = e.same.list ∙ c.args.self.now.settled
@@ -31,7 +32,7 @@ returns-clause-same g c =
     let e = c.export.ensures in
     record {
       state = e.same.state;
-      records = ap records_of (same_text (bytes_of (cosigner_disk c.export.new.self))
+      records = ap records_of (same_Some (bytes_of (cosigner_disk c.export.new.self))
           (bytes_of (cosigner_disk c.args.self.now.cosigner)) e.only_reads.contents);
       stops = refl;
     }
@@ -45,6 +46,6 @@ returns-clause-read g c = λ steps said.
     c.in_ok-text.ensures ∙ c.taken.ensures ∙ c.in-Ok.ensures.written
     ∙ ap (λ (x : SinkState). x.taken ++ export_text (cosigner_shown self) list) c.new-out.ensures in
     ap (export_in g.H.TreeHash.hash) (written
-    ∙ ap (export_text (cosigner_shown self)) (same_list list (records_shown self) self.settled))
+    ∙ ap (export_text (cosigner_shown self)) (same_Some list (records_shown self) self.settled))
     ∙ reads_again g.H.TreeHash.hash (cosigner_shown self) (cosigner_disk self.cosigner) self.stands
     steps said
