@@ -1,14 +1,16 @@
 -- Rows whose nodes in full tiles are gone.
 use Rattle.std.proofs.Common.{◌≡◌, ℕ, zero, suc, ◌+◌, ◌-◌, ◌*◌, ◌/◌, ◌%◌, ◌^◌, ◌<◌, ◌≤◌}
 use Rattle.std.proofs.Common.{List, [], ◌∷◌, length, take, drop, ◌++◌, sym, ◌∙◌, ap, refl}
-use Rattle.std.proofs.Common.{◌⊎◌, inl, inr, subst, arith}
+use Rattle.std.proofs.Common.{◌⊎◌, ⊎_elim, subst, arith}
 use Rattle.std.proofs.Math.Nat.{div-div-eq-div-mul, div-eq_of_lt, div-mul-le_self}
 use Rattle.std.proofs.Math.Nat.{pow-le-pow_right, pow-succ'}
+use Rattle.std.proofs.lemmas.Bool.{cases_lt}
 use Rattle.std.proofs.lemmas.List.{drop-drop, length-drop}
 use Rattle.std.proofs.lemmas.Nat.{pow-add, pow_pos}
 use Rattle.tree_cache.proofs.Pushes.{count-long, written-whole}
-use Rattle.tree_cache.specs.Rows.{AreLong, AreRowsOf, AreSound, HoldUpTo, IsLong, IsRowOf}
-use Rattle.tree_cache.specs.Rows.{RowState, count_of, gone_at, paired, row_count}
+use Rattle.tree_cache.specs.Rows.{AreFullRowsOf, AreLong, AreRowsOf, AreSound, HoldUpTo, IsLong}
+use Rattle.tree_cache.specs.Rows.{IsRowOf, RowState, RowsState, count_of, filled_of, gone_at, gone_in}
+use Rattle.tree_cache.specs.Rows.{length_of, paired, row_count}
 use Rattle.tree_cache.specs.Tiled.{CanForget, CanForgetAll, HasForgotten, gone_of}
 
 -- a power of 256 as one of 2
@@ -45,7 +47,7 @@ gone-within size level =
     (div-mul-le_self (size / 2 ^ level) (2 ^ (8 - level % 8)))
 
 -- one row
-row-forgotten : (hashes : List (List ℕ)) (gone : ℕ) (old new : RowState) → CanForget gone old
+pub row-forgotten : (hashes : List (List ℕ)) (gone : ℕ) (old new : RowState) → CanForget gone old
     → HasForgotten gone old new → gone % 2 ≡ 0 → IsRowOf hashes old → IsRowOf hashes new
 row-forgotten hashes gone old new can done even is =
     let before = can.before in
@@ -62,7 +64,7 @@ row-forgotten hashes gone old new can done even is =
       even = ap (λ g. g % 2) done.gone_is ∙ even;
     }
 
-length-forgotten : (gone : ℕ) (old new : RowState) → CanForget gone old
+pub length-forgotten : (gone : ℕ) (old new : RowState) → CanForget gone old
     → HasForgotten gone old new → row_count new ≡ row_count old
 length-forgotten gone old new can done =
     let before = can.before in
@@ -90,13 +92,13 @@ can-above size level rows row above is can =
 pub same-forgotten : (size level : ℕ) (rows : List RowState) (row new : RowState)
     (above raised : List RowState) → rows ≡ row ∷ above → CanForgetAll size level rows
     → HasForgotten (gone_of size level) row new
-    → ((h : List ℕ → List ℕ) (leaves : List (List ℕ)) → AreRowsOf h leaves above
-    → AreRowsOf h leaves raised)
-    → (h : List ℕ → List ℕ) (leaves : List (List ℕ)) → AreRowsOf h leaves rows
-    → AreRowsOf h leaves (new ∷ raised)
-unfolding AreRowsOf
+    → ((h : List ℕ → List ℕ) (leaves : List (List ℕ)) → AreFullRowsOf h leaves above
+    → AreFullRowsOf h leaves raised)
+    → (h : List ℕ → List ℕ) (leaves : List (List ℕ)) → AreFullRowsOf h leaves rows
+    → AreFullRowsOf h leaves (new ∷ raised)
+unfolding AreFullRowsOf
 same-forgotten size level rows row new above raised is can done up h leaves are =
-    let here : AreRowsOf h leaves (row ∷ above) = subst (AreRowsOf h leaves) is are in (
+    let here : AreFullRowsOf h leaves (row ∷ above) = subst (AreFullRowsOf h leaves) is are in (
       row-forgotten leaves (gone_of size level) row new (can-row size level rows row above is can)
           done (gone-even size level) here.0,
       up h (paired h leaves) here.1,
@@ -134,9 +136,9 @@ holds-forgotten size level rows row new above raised is can done up capacity hol
 pub gone-forgotten : (size level : ℕ) (rows : List RowState) (row new : RowState)
     (above raised : List RowState) → rows ≡ row ∷ above
     → HasForgotten (gone_of size level) row new
-    → ((at : ℕ) → at < length above → gone_at raised at ≡ gone_of size (level + 1 + at))
-    → (at : ℕ) → at < length rows → gone_at (new ∷ raised) at ≡ gone_of size (level + at)
-unfolding gone_at
+    → ((at : ℕ) → at < length above → gone_in raised at ≡ gone_of size (level + 1 + at))
+    → (at : ℕ) → at < length rows → gone_in (new ∷ raised) at ≡ gone_of size (level + at)
+unfolding gone_in
 gone-forgotten size level rows row new above raised is done up zero inside =
     let same : level ≡ level + 0 = omega arith in
     done.gone_is ∙ ap (gone_of size) same
@@ -152,10 +154,10 @@ can-none size level [] none = tt
 can-none size level (row ∷ rows) none = let no : ⊥ = omega arith in absurd no
 
 -- rows of at least so many leaves can let go what stands in the tiles that these fill
-can-from : (size level count : ℕ) (rows : List RowState) → AreLong count rows
+pub can-from : (size level count : ℕ) (rows : List RowState) → AreLong count rows
     → size / 2 ^ level ≤ count
-    → ((at : ℕ) → gone_at rows at ≤ gone_of size (level + at)) → CanForgetAll size level rows
-unfolding CanForgetAll AreLong gone_at
+    → ((at : ℕ) → gone_in rows at ≤ gone_of size (level + at)) → CanForgetAll size level rows
+unfolding CanForgetAll AreLong gone_in
 can-from size level count [] long within before = tt
 can-from size level count (row ∷ rows) long within before =
     let none : level + 0 ≡ level = omega arith in
@@ -170,114 +172,160 @@ can-from size level count (row ∷ rows) long within before =
       },
       can-from size (level + 1) (count / 2) rows long.1 (omega arith)
           (λ at. let next : level + suc at ≡ level + 1 + at = omega arith in
-          subst (λ l. gone_at rows at ≤ gone_of size l) next (before (suc at))),
+          subst (λ l. gone_in rows at ≤ gone_of size l) next (before (suc at))),
     )
 
-pub can-all : (size : ℕ) (rows : List RowState) → AreLong (count_of rows) rows
-    → size ≤ count_of rows → ((level : ℕ) → gone_at rows level ≤ gone_of size level)
-    → CanForgetAll size 0 rows
-can-all size rows long within before =
-    let one : size / 2 ^ 0 ≡ size = omega arith in
-    can-from size 0 (count_of rows) rows long (omega arith)
-    (λ at. let none : 0 + at ≡ at = omega arith in
-    subst (λ l. gone_at rows at ≤ gone_of size l) (sym none) (before at))
-
 -- above the rows none is gone, and none stands in tiles
-gone-over : (rows : List RowState) (level : ℕ) → length rows ≤ level → gone_at rows level ≡ 0
-unfolding gone_at
+pub gone-over : (rows : List RowState) (level : ℕ) → length rows ≤ level → gone_in rows level ≡ 0
+unfolding gone_in
 gone-over [] level outside = refl
 gone-over (row ∷ rows) zero outside = let no : ⊥ = omega arith in absurd no
 gone-over (row ∷ rows) (suc level) outside = gone-over rows level (omega arith)
 
-none-over : (size level : ℕ) → size < 2 ^ 32 → 32 ≤ level → gone_of size level ≡ 0
-none-over size level few high =
-    let up : 2 ^ 32 ≤ 2 ^ level = pow-le-pow_right {n = 2} (omega arith) high in
-    let none : size / 2 ^ level ≡ 0 = div-eq_of_lt {n = size} {m = 2 ^ level} (omega arith) in
+-- fewer leaves than stand below a node of a level fill none of its tiles
+none-under : (size level : ℕ) → size < 2 ^ level → gone_of size level ≡ 0
+none-under size level few =
+    let none : size / 2 ^ level ≡ 0 = div-eq_of_lt {n = size} {m = 2 ^ level} few in
     let most = gone-within size level in
     omega arith
 
-none-in : (size level : ℕ) → size ≡ 0 → gone_of size level ≡ 0
-none-in size level none =
-    let positive = pow_pos level in
-    let few : size < 2 ^ level = omega arith in
-    let most = gone-within size level in
-    let nothing : size / 2 ^ level ≡ 0 = div-eq_of_lt {n = size} {m = 2 ^ level} few in
+no-hashes : (rows : List RowState) → length rows ≡ 0 → length_of rows ≡ 0
+no-hashes [] none = refl
+no-hashes (row ∷ rows) none = let no : ⊥ = omega arith in absurd no
+
+-- Rows of leaves.
+
+pub gone-first : (size : ℕ) → gone_of size 0 ≤ size
+gone-first size =
+    let most = gone-within size 0 in
+    let one : size / 2 ^ 0 ≡ size = omega arith in
     omega arith
 
--- nodes let go from rows, through the slice of their vector
-pub record IsForgotten (size capacity : ℕ) (old new : List RowState) : Type 0 where
-  pub sound : AreSound capacity new
+module _ (size : ℕ) (r : RowsState) (sound : AreSound r) (few : size < 2 ^ 32)
+    (within : size ≤ filled_of r) where
+  pub can-first : ((level : ℕ) → gone_at r level ≤ gone_of size level)
+      → CanForget (gone_of size 0) r.first
+  unfolding gone_at
+  can-first before =
+      let most = gone-first size in
+      record { before = before 0; within = omega arith }
+
+  pub can-nodes : ((level : ℕ) → gone_at r level ≤ gone_of size level)
+      → CanForgetAll size 1 r.above
+  unfolding gone_at
+  can-nodes before =
+      can-from size 1 (length_of r.above) r.above sound.long (omega arith)
+      (λ at. let next : suc at ≡ 1 + at = omega arith in
+      subst (λ l. gone_in r.above at ≤ gone_of size l) next (before (suc at)))
+
+  none-left : (level : ℕ) → length r.above ≤ level → gone_of size (suc level) ≡ 0
+  none-left level outside =
+      ⊎_elim
+      (λ (empty : length r.above ≡ 0).
+      let none = no-hashes r.above empty in
+      let double : 2 ^ suc level ≡ 2 * 2 ^ level = pow-succ' 2 level in
+      let positive = pow_pos level in
+      none-under size (suc level) (omega arith))
+      (λ (whole : length r.above ≡ 63).
+      let high : 32 ≤ suc level = omega arith in
+      let up : 2 ^ 32 ≤ 2 ^ suc level = pow-le-pow_right {n = 2} (omega arith) high in
+      none-under size (suc level) (omega arith))
+      sound.levels
+
+  gone-all : (first : RowState) (above : List RowState) → length above ≡ length r.above
+      → first.gone ≡ gone_of size 0
+      → ((at : ℕ) → at < length r.above → gone_in above at ≡ gone_of size (1 + at))
+      → (level : ℕ)
+      → gone_at (record { first = first; above = above; capacity = r.capacity }) level
+      ≡ gone_of size level
+  unfolding gone_at
+  gone-all first above count here gone zero = here
+  gone-all first above count here gone (suc at) =
+      ⊎_elim
+      (λ (inside : at < length r.above).
+      let next : 1 + at ≡ suc at = omega arith in
+      gone at inside ∙ ap (gone_of size) next)
+      (λ (outside : length r.above ≤ at).
+      gone-over above at (omega arith) ∙ sym (none-left at outside))
+      (cases_lt at (length r.above))
+
+-- nodes let go from rows
+pub record IsForgotten (size : ℕ) (old new : RowsState) : Type 0 where
+  pub sound : AreSound new
   pub rows_of : (h : List ℕ → List ℕ) (leaves : List (List ℕ)) → AreRowsOf h leaves old
       → AreRowsOf h leaves new
   pub count : count_of new ≡ count_of old
   pub gone : (level : ℕ) → gone_at new level ≡ gone_of size level
 
-sound-forgotten : (old new : List RowState) (capacity : ℕ) → AreSound capacity old
-    → length new ≡ length old → AreLong (count_of old) new → HoldUpTo capacity new
-    → AreSound capacity new
-sound-forgotten old new capacity sound count long holds =
-    let all : count_of new ≡ count_of old = count-long (count_of old) new long in
-    let within = sound.within in
+forgotten : (size : ℕ) (old : RowsState) (first : RowState) (above : List RowState)
+    → AreSound old → size < 2 ^ 32 → size ≤ filled_of old
+    → ((level : ℕ) → gone_at old level ≤ gone_of size level)
+    → HasForgotten (gone_of size 0) old.first first → length above ≡ length old.above
+    → ((h : List ℕ → List ℕ) (hashes : List (List ℕ)) → AreFullRowsOf h hashes old.above
+    → AreFullRowsOf h hashes above)
+    → ((count : ℕ) → AreLong count old.above → AreLong count above)
+    → ((capacity : ℕ) → HoldUpTo capacity old.above → HoldUpTo capacity above)
+    → ((at : ℕ) → at < length old.above → gone_in above at ≡ gone_of size (1 + at))
+    → IsForgotten size old (record { first = first; above = above; capacity = old.capacity })
+forgotten size old first above sound few within before done count rows long holds gone =
+    let can = can-first size old sound few within before in
+    let same = length-forgotten (gone_of size 0) old.first first can done in
+    let longer = long (length_of old.above) sound.long in
+    let nodes : length_of above ≡ length_of old.above =
+    count-long (length_of old.above) above longer in
+    let most = gone-first size in
+    let even = gone-even size 0 in
+    let here = done.gone_is in
+    let spare = done.spare in
+    let made = sound.made in
+    let leaves = sound.leaves in
+    let inside = sound.within in
     record {
-      levels = subst (λ n. (n ≡ 0) ⊎ (n ≡ 64)) (sym count) sound.levels;
-      long = subst (λ n. AreLong n new) (sym all) long;
-      holds = holds;
-      within = omega arith;
+      sound = record {
+        levels = subst (λ n. (n ≡ 0) ⊎ (n ≡ 63)) (sym count) sound.levels;
+        even = omega arith;
+        long = subst (λ n. AreLong n above) (sym nodes) longer;
+        made = omega arith;
+        behind = omega arith;
+        leaves = omega arith;
+        nodes = holds (old.capacity / 2) sound.nodes;
+        within = omega arith;
+      };
+      rows_of = λ h leaves are. record {
+        first = row-forgotten leaves (gone_of size 0) old.first first can done even are.first;
+        above = subst (λ n. AreFullRowsOf h (take n (paired h leaves)) above) (sym nodes)
+            (rows h (take (length_of old.above) (paired h leaves)) are.above);
+      };
+      count = same;
+      gone = gone-all size old sound few within first above count here gone;
     }
 
-no-leaves : (rows : List RowState) → length rows ≡ 0 → count_of rows ≡ 0
-no-leaves [] none = refl
-no-leaves (row ∷ rows) none = let no : ⊥ = omega arith in absurd no
-
-none-left : (size level : ℕ) (rows : List RowState) → size < 2 ^ 32 → size ≤ count_of rows
-    → (length rows ≡ 0) ⊎ (length rows ≡ 64) → length rows ≤ level → gone_of size level ≡ 0
-none-left size level rows few within (inl empty) outside =
-    let none = no-leaves rows empty in
-    none-in size level (omega arith)
-none-left size level rows few within (inr whole) outside =
-    none-over size level few (omega arith)
-
-at-or-over : (level count : ℕ) → (level < count) ⊎ (count ≤ level)
-at-or-over level zero = inr (omega arith)
-at-or-over zero (suc count) = inl (omega arith)
-at-or-over (suc level) (suc count) = up (at-or-over level count)
-  where
-    up : (level < count) ⊎ (count ≤ level) → (suc level < suc count) ⊎ (suc count ≤ suc level)
-    up (inl below) = inl (omega arith)
-    up (inr over) = inr (omega arith)
-
-gone-all : (size : ℕ) (old new : List RowState) (capacity : ℕ) → AreSound capacity old
-    → size < 2 ^ 32 → size ≤ count_of old → length new ≡ length old
-    → ((at : ℕ) → at < length old → gone_at new at ≡ gone_of size (0 + at))
-    → (level : ℕ) → (level < length old) ⊎ (length old ≤ level)
-    → gone_at new level ≡ gone_of size level
-gone-all size old new capacity sound few within count gone level (inl inside) =
-    let none : 0 + level ≡ level = omega arith in
-    gone level inside ∙ ap (gone_of size) none
-gone-all size old new capacity sound few within count gone level (inr outside) =
-    gone-over new level (omega arith)
-    ∙ sym (none-left size level old few within sound.levels outside)
-
-pub forgotten_whole : (size : ℕ) (old slice new : List RowState) (len capacity : ℕ)
-    → AreSound capacity old → size < 2 ^ 32 → size ≤ count_of old → slice ≡ old
-    → len ≡ length old → length new ≡ length slice
-    → ((h : List ℕ → List ℕ) (leaves : List (List ℕ)) → AreRowsOf h leaves slice
-    → AreRowsOf h leaves new)
+-- through the slice of the vector of the rows above the leaves
+pub forgotten_whole : (size : ℕ) (old : RowsState) (first : RowState)
+    (slice new : List RowState) (len : ℕ) → AreSound old → size < 2 ^ 32
+    → size ≤ filled_of old → ((level : ℕ) → gone_at old level ≤ gone_of size level)
+    → HasForgotten (gone_of size 0) old.first first → slice ≡ old.above
+    → len ≡ length old.above → length new ≡ length slice
+    → ((h : List ℕ → List ℕ) (hashes : List (List ℕ)) → AreFullRowsOf h hashes slice
+    → AreFullRowsOf h hashes new)
     → ((count : ℕ) → AreLong count slice → AreLong count new)
-    → ((before : ℕ) → HoldUpTo before slice → HoldUpTo before new)
-    → ((at : ℕ) → at < length slice → gone_at new at ≡ gone_of size (0 + at))
-    → IsForgotten size capacity old (take len (new ++ drop (length new) old))
-forgotten_whole size old slice new len capacity sound few within is same count rows long holds
-    gone =
-    let equal : length new ≡ length old = count ∙ ap length is in
-    let longer : AreLong (count_of old) new =
-    long (count_of old) (subst (AreLong (count_of old)) (sym is) sound.long) in
-    subst (IsForgotten size capacity old) (sym (written-whole len new old same equal)) (record {
-      sound = sound-forgotten old new capacity sound equal longer
-          (holds capacity (subst (HoldUpTo capacity) (sym is) sound.holds));
-      rows_of = λ h leaves are. rows h leaves (subst (AreRowsOf h leaves) (sym is) are);
-      count = count-long (count_of old) new longer;
-      gone = λ level. gone-all size old new capacity sound few within equal
-          (subst (λ l. (at : ℕ) → at < length l → gone_at new at ≡ gone_of size (0 + at)) is gone)
-          level (at-or-over level (length old));
+    → ((capacity : ℕ) → HoldUpTo capacity slice → HoldUpTo capacity new)
+    → ((at : ℕ) → at < length slice → gone_in new at ≡ gone_of size (1 + at))
+    → IsForgotten size old (record {
+      first = first;
+      above = take len (new ++ drop (length new) old.above);
+      capacity = old.capacity;
     })
+forgotten_whole size old first slice new len sound few within before done is same count rows long
+    holds gone =
+    let equal : length new ≡ length old.above = count ∙ ap length is in
+    subst (λ a. IsForgotten size old (record {
+      first = first;
+      above = a;
+      capacity = old.capacity;
+    })) (sym (written-whole len new old.above same equal))
+    (forgotten size old first new sound few within before done equal
+    (λ h hashes are. rows h hashes (subst (AreFullRowsOf h hashes) (sym is) are))
+    (λ n are. long n (subst (AreLong n) (sym is) are))
+    (λ n fits. holds n (subst (HoldUpTo n) (sym is) fits))
+    (subst (λ l. (at : ℕ) → at < length l → gone_in new at ≡ gone_of size (1 + at)) is gone))

@@ -9,15 +9,17 @@ use Rattle.std.proofs.lemmas.Nat.{le-div, pow_pos}
 use Rattle.byte_formats.specs.Types.{Hash, HashFunction}
 use Rattle.tree_cache.proofs.Pairs.{drop-paired, length-paired, part-paired, take-paired}
 use Rattle.tree_cache.specs.Cached.{AreFulls}
+use Rattle.tree_cache.proofs.Filled.{count-rows, rows-full}
 use Rattle.tree_cache.proofs.Pushes.{long-of}
-use Rattle.tree_cache.specs.Rows.{AreLong, AreRowsOf, IsRowOf, RowState, gone_at, row_count}
-use Rattle.tree_cache.specs.Rows.{paired}
+use Rattle.tree_cache.specs.Rows.{AreFullRowsOf, AreLong, AreRowsOf, AreSound, IsRowAt, IsRowOf}
+use Rattle.tree_cache.specs.Rows.{RowState, RowsState, count_of, filled_of, gone_at, gone_in}
+use Rattle.tree_cache.specs.Rows.{length_of, levels_of, paired, row_count}
 use Rattle.tree_core.proofs.Powers.{split_unique}
 use Rattle.tree_core.proofs.Roots.{root_of-none, root_of-one, root_of-split}
 use Rattle.tree_core.specs.Path.{part_of}
 use Rattle.tree_core.specs.Split.{split_of}
 use Rattle.tree_core.specs.Tree.{pair_hash, root_of}
-use Rattle.tree_proofs.proofs.Parts.{part-length}
+use Rattle.tree_proofs.proofs.Parts.{part-length, part_of-take}
 
 -- the root over two leaves
 root_of-two : (h : List ℕ → List ℕ) (xs : List (List ℕ)) → length xs ≡ 2
@@ -82,6 +84,23 @@ part-one xs place within =
     ap (λ n. take n (drop place xs)) size
     ∙ ap (take 1) (drop-cons xs place [] within)
 
+-- the root over a part of the pairs is that over the leaves below them
+root-pairs : (h : List ℕ → List ℕ) (level : ℕ) (xs : List (List ℕ)) (place : ℕ)
+    → (place + 1) * 2 ^ suc level ≤ length xs
+    → root_of h (part_of (paired h xs) (place * 2 ^ level) ((place + 1) * 2 ^ level))
+    ≡ root_of h (part_of xs (place * 2 ^ suc level) ((place + 1) * 2 ^ suc level))
+root-pairs h level xs place within =
+    let double : 2 ^ suc level ≡ 2 * 2 ^ level = pow-succ' 2 level in
+    let from : place * 2 ^ suc level ≡ 2 * (place * 2 ^ level) =
+    ap (λ p. place * p) double ∙ omega arith in
+    let to : (place + 1) * 2 ^ suc level ≡ 2 * ((place + 1) * 2 ^ level) =
+    ap (λ p. (place + 1) * p) double ∙ omega arith in
+    let part = part-length xs (place * 2 ^ suc level) ((place + 1) * 2 ^ suc level) within in
+    ap (root_of h) (sym (part-paired h xs (place * 2 ^ level) ((place + 1) * 2 ^ level)
+    (place * 2 ^ suc level) ((place + 1) * 2 ^ suc level) from to))
+    ∙ sym (root_of-paired h level
+    (part_of xs (place * 2 ^ suc level) ((place + 1) * 2 ^ suc level)) (omega arith))
+
 root-row_of : (h : List ℕ → List ℕ) (level : ℕ) (xs : List (List ℕ)) (place : ℕ)
     → (place + 1) * 2 ^ level ≤ length xs
     → get_or (row_of h level xs) place []
@@ -96,17 +115,10 @@ root-row_of h zero xs place within =
     ∙ ap (λ b. root_of h (part_of xs (place * 2 ^ 0) b)) (sym to)
 root-row_of h (suc level) xs place within =
     let double : 2 ^ suc level ≡ 2 * 2 ^ level = pow-succ' 2 level in
-    let from : place * 2 ^ suc level ≡ 2 * (place * 2 ^ level) =
-    ap (λ p. place * p) double ∙ omega arith in
+    let size = length-paired h xs in
     let to : (place + 1) * 2 ^ suc level ≡ 2 * ((place + 1) * 2 ^ level) =
     ap (λ p. (place + 1) * p) double ∙ omega arith in
-    let size = length-paired h xs in
-    let part = part-length xs (place * 2 ^ suc level) ((place + 1) * 2 ^ suc level) within in
-    root-row_of h level (paired h xs) place (omega arith)
-    ∙ ap (root_of h) (sym (part-paired h xs (place * 2 ^ level) ((place + 1) * 2 ^ level)
-    (place * 2 ^ suc level) ((place + 1) * 2 ^ suc level) from to))
-    ∙ sym (root_of-paired h level
-    (part_of xs (place * 2 ^ suc level) ((place + 1) * 2 ^ suc level)) (omega arith))
+    root-row_of h level (paired h xs) place (omega arith) ∙ root-pairs h level xs place within
 
 -- so the row of a level has the hashes of the full subtrees of that level
 row_of-fulls : (h : List ℕ → List ℕ) (level : ℕ) (xs hashes : List (List ℕ))
@@ -122,59 +134,91 @@ row_of-fulls h level xs hashes is = record {
       ap (λ row. get_or row place []) is ∙ root-row_of h level xs place (omega arith);
 }
 
--- the rows of a tree, by their levels
-row_at : (h : List ℕ → List ℕ) (level : ℕ) (leaves : List (List ℕ)) (rows : List RowState)
-    (row : RowState) → AreRowsOf h leaves rows → level < length rows
-    → row ≡ get_or rows level row → IsRowOf (row_of h level leaves) row
-unfolding AreRowsOf row_of
-row_at h level leaves [] row are inside is = let none : ⊥ = omega arith in absurd none
-row_at h zero leaves (first ∷ rows) row are inside is =
-    subst (IsRowOf leaves) (sym is) are.0
-row_at h (suc level) leaves (first ∷ rows) row are inside is =
-    row_at h level (paired h leaves) rows row are.1 (omega arith) is
+-- rows by their levels
+row_at : (h : List ℕ → List ℕ) (level : ℕ) (hashes : List (List ℕ)) (rows : List RowState)
+    (row : RowState) → AreFullRowsOf h hashes rows → level < length rows
+    → row ≡ get_or rows level row → IsRowOf (row_of h level hashes) row
+unfolding AreFullRowsOf row_of
+row_at h level hashes [] row are inside is = let none : ⊥ = omega arith in absurd none
+row_at h zero hashes (first ∷ rows) row are inside is =
+    subst (IsRowOf hashes) (sym is) are.0
+row_at h (suc level) hashes (first ∷ rows) row are inside is =
+    row_at h level (paired h hashes) rows row are.1 (omega arith) is
 
-pub gone-row : (level : ℕ) (rows : List RowState) (row : RowState) → level < length rows
-    → row ≡ get_or rows level row → gone_at rows level ≡ row.gone
-unfolding gone_at
+gone-row : (level : ℕ) (rows : List RowState) (row : RowState) → level < length rows
+    → row ≡ get_or rows level row → gone_in rows level ≡ row.gone
+unfolding gone_in
 gone-row level [] row inside is = let none : ⊥ = omega arith in absurd none
 gone-row zero (first ∷ rows) row inside is = sym (ap (λ r. r.gone) is)
 gone-row (suc level) (first ∷ rows) row inside is = gone-row level rows row (omega arith) is
 
-pub row-fulls : (h : List ℕ → List ℕ) (level : ℕ) (leaves : List (List ℕ)) (rows : List RowState)
-    (row : RowState) (hashes : List (List ℕ)) → level < length rows
-    → row ≡ get_or rows level row → hashes ≡ row.kept → AreRowsOf h leaves rows
-    → gone_at rows level ≡ 0 → AreFulls h level leaves hashes
-row-fulls h level leaves rows row hashes inside is same are whole =
-    let at = row_at h level leaves rows row are inside is in
-    row_of-fulls h level leaves hashes
-    (same ∙ at.kept ∙ ap (λ g. drop g (row_of h level leaves))
-    (sym (gone-row level rows row inside is) ∙ whole))
+pub gone-level : (level : ℕ) (r : RowsState) (row : RowState) → IsRowAt r level row
+    → gone_at r level ≡ row.gone
+unfolding gone_at
+gone-level zero r row at = sym (ap (λ r. r.gone) at.is)
+gone-level (suc level) r row at =
+    let inside = at.inside in gone-row level r.above row (omega arith) at.is
 
--- a kept hash is the root over its part of the leaves
-pub kept-root : (h : List ℕ → List ℕ) (level : ℕ) (leaves : List (List ℕ)) (rows : List RowState)
-    (row : RowState) (place : ℕ) → level < length rows → row ≡ get_or rows level row
-    → AreRowsOf h leaves rows → row.gone ≤ place → (place + 1) * 2 ^ level ≤ length leaves
+-- where all nodes are made a row has the hashes of its level
+pub row-fulls : (h : List ℕ → List ℕ) (level : ℕ) (leaves : List (List ℕ)) (r : RowsState)
+    (row : RowState) (hashes : List (List ℕ)) → IsRowAt r level row → hashes ≡ row.kept
+    → AreRowsOf h leaves r → filled_of r ≡ count_of r → gone_at r level ≡ 0
+    → AreFulls h level leaves hashes
+row-fulls h level leaves r row hashes at same are all whole =
+    let full = row_at h level leaves (levels_of r) row (rows-full h leaves r are all) at.inside
+    at.is in
+    row_of-fulls h level leaves hashes
+    (same ∙ full.kept ∙ ap (λ g. drop g (row_of h level leaves))
+    (sym (gone-level level r row at) ∙ whole))
+
+-- a node that is made is in its row the root over its part of the leaves
+row-root : (h : List ℕ → List ℕ) (level : ℕ) (hashes : List (List ℕ)) (row : RowState)
+    (place : ℕ) → IsRowOf (row_of h level hashes) row → row.gone ≤ place
+    → (place + 1) * 2 ^ level ≤ length hashes
+    → get_or row.kept (place - row.gone) []
+    ≡ root_of h (part_of hashes (place * 2 ^ level) ((place + 1) * 2 ^ level))
+row-root h level hashes row place is behind within =
+    let sum : row.gone + (place - row.gone) ≡ place = omega arith in
+    ap (λ l. get_or l (place - row.gone) []) is.kept
+    ∙ get_or-drop row.gone (row_of h level hashes) (place - row.gone) []
+    ∙ ap (λ i. get_or (row_of h level hashes) i []) sum
+    ∙ root-row_of h level hashes place within
+
+kept-root : (h : List ℕ → List ℕ) (level : ℕ) (leaves : List (List ℕ)) (r : RowsState)
+    (row : RowState) (place : ℕ) → IsRowAt r level row → AreRowsOf h leaves r
+    → row.gone ≤ place → (place + 1) * 2 ^ level ≤ filled_of r
     → get_or row.kept (place - row.gone) []
     ≡ root_of h (part_of leaves (place * 2 ^ level) ((place + 1) * 2 ^ level))
-kept-root h level leaves rows row place inside is are behind within =
-    let at = row_at h level leaves rows row are inside is in
-    let sum : row.gone + (place - row.gone) ≡ place = omega arith in
-    ap (λ l. get_or l (place - row.gone) []) at.kept
-    ∙ get_or-drop row.gone (row_of h level leaves) (place - row.gone) []
-    ∙ ap (λ i. get_or (row_of h level leaves) i []) sum
-    ∙ root-row_of h level leaves place within
+unfolding row_of
+kept-root h zero leaves r row place at are behind within =
+    let count = count-rows h leaves r are in
+    row-root h 0 leaves row place (subst (IsRowOf leaves) (sym at.is) are.first) behind
+    (omega arith)
+kept-root h (suc level) leaves r row place at are behind within =
+    let inside = at.inside in
+    let pairs = take (length_of r.above) (paired h leaves) in
+    let count = count-rows h leaves r are in
+    let size = length-paired h leaves in
+    let cut = length-take (length_of r.above) (paired h leaves) in
+    let double : 2 ^ suc level ≡ 2 * 2 ^ level = pow-succ' 2 level in
+    let to : (place + 1) * 2 ^ suc level ≡ 2 * ((place + 1) * 2 ^ level) =
+    ap (λ p. (place + 1) * p) double ∙ omega arith in
+    let order = mul-le-mul_right {m = place} {n = place + 1} (2 ^ level) (omega arith) in
+    row-root h level (take (length_of r.above) (paired h leaves)) row place
+    (row_at h level (take (length_of r.above) (paired h leaves)) r.above row are.above
+    (omega arith) at.is) behind (omega arith)
+    ∙ ap (root_of h) (part_of-take (paired h leaves) (place * 2 ^ level)
+    ((place + 1) * 2 ^ level) (length_of r.above) order (omega arith))
+    ∙ root-pairs h level leaves place (omega arith)
 
 -- so many hashes of a row, from a place on
-pub kept-roots : (h : List ℕ → List ℕ) (level : ℕ) (leaves : List (List ℕ)) (rows : List RowState)
-    (row : RowState) (from count place : ℕ) (hashes : List (List ℕ)) → level < length rows
-    → row ≡ get_or rows level row
-    → hashes ≡ take count (drop (from - row.gone) row.kept)
-    → AreRowsOf h leaves rows → row.gone ≤ from → (from + count) * 2 ^ level ≤ length leaves
-    → place < count
+pub kept-roots : (h : List ℕ → List ℕ) (level : ℕ) (leaves : List (List ℕ)) (r : RowsState)
+    (row : RowState) (from count place : ℕ) (hashes : List (List ℕ)) → IsRowAt r level row
+    → hashes ≡ take count (drop (from - row.gone) row.kept) → AreRowsOf h leaves r
+    → row.gone ≤ from → (from + count) * 2 ^ level ≤ filled_of r → place < count
     → get_or hashes place []
     ≡ root_of h (part_of leaves ((from + place) * 2 ^ level) ((from + place + 1) * 2 ^ level))
-kept-roots h level leaves rows row from count place hashes inside is same are behind within
-    below =
+kept-roots h level leaves r row from count place hashes at same are behind within below =
     let up = mul-le-mul_right {m = from + place + 1} {n = from + count} (2 ^ level)
     (omega arith) in
     let sum : (from - row.gone) + place ≡ (from + place) - row.gone = omega arith in
@@ -182,10 +226,10 @@ kept-roots h level leaves rows row from count place hashes inside is same are be
     ∙ get_or-take count (drop (from - row.gone) row.kept) place [] below
     ∙ get_or-drop (from - row.gone) row.kept place []
     ∙ ap (λ i. get_or row.kept i []) sum
-    ∙ kept-root h level leaves rows row (from + place) inside is are (omega arith) (omega arith)
+    ∙ kept-root h level leaves r row (from + place) at are (omega arith) (omega arith)
 
 -- how long a row is
-pub row-long : (level count : ℕ) (rows : List RowState) (row : RowState) → AreLong count rows
+row-long : (level count : ℕ) (rows : List RowState) (row : RowState) → AreLong count rows
     → level < length rows → row ≡ get_or rows level row → row_count row ≡ count / 2 ^ level
 unfolding AreLong
 row-long level count [] row long inside is = let none : ⊥ = omega arith in absurd none
@@ -196,6 +240,18 @@ row-long (suc level) count (first ∷ rows) row long inside is =
     row-long level (count / 2) rows row long.1 (omega arith) is
     ∙ div-div-eq-div-mul count 2 (2 ^ level)
     ∙ ap (λ d. count / d) (sym (pow-succ' 2 level))
+
+-- it has the nodes that are made
+pub level-long : (level some : ℕ) (r : RowsState) (row : RowState) → IsRowAt r level row
+    → AreSound r → some * 2 ^ level ≤ filled_of r → some ≤ row_count row
+level-long zero some r row at sound within = subst (λ n. some ≤ n) (sym (ap row_count at.is)) (omega arith)
+level-long (suc level) some r row at sound within =
+    let inside = at.inside in
+    let double : some * 2 ^ suc level ≡ 2 * (some * 2 ^ level) =
+    ap (λ p. some * p) (pow-succ' 2 level) ∙ omega arith in
+    let many = le-div some (length_of r.above) (2 ^ level) (pow_pos level) (omega arith) in
+    let all = row-long level (length_of r.above) r.above row sound.long (omega arith) at.is in
+    omega arith
 
 -- above the last row there are none
 over : (level count : ℕ) (rows : List RowState) → AreLong count rows → length rows ≤ level
@@ -209,20 +265,26 @@ over (suc level) count (first ∷ rows) long outside =
     ∙ sym (div-div-eq-div-mul count 2 (2 ^ level))
     ∙ over level (count / 2) rows long.1 (omega arith)
 
-pub no-fulls : (h : List ℕ → List ℕ) (level : ℕ) (leaves : List (List ℕ)) (rows : List RowState)
-    (hashes : List (List ℕ)) → length rows ≤ level → length hashes ≡ 0 → AreRowsOf h leaves rows
-    → AreFulls h level leaves hashes
-no-fulls h level leaves rows hashes outside none are = record {
-  all = none ∙ sym (over level (length leaves) rows (long-of h leaves rows are) outside);
+pub no-fulls : (h : List ℕ → List ℕ) (level : ℕ) (leaves : List (List ℕ)) (r : RowsState)
+    (hashes : List (List ℕ)) → length (levels_of r) ≤ level → length hashes ≡ 0
+    → AreRowsOf h leaves r → filled_of r ≡ count_of r → AreFulls h level leaves hashes
+no-fulls h level leaves r hashes outside none are all = record {
+  all = none ∙ sym (over level (length leaves) (levels_of r)
+      (long-of h leaves (levels_of r) (rows-full h leaves r are all)) outside);
   each = λ place inside. let no : ⊥ = omega arith in absurd no;
 }
 
--- a level that has some full subtrees has a row
-pub level-inside : (level count some : ℕ) (rows : List RowState) → AreLong count rows → 1 ≤ some
-    → some * 2 ^ level ≤ count → level < length rows
-level-inside level count some rows long one within =
-    let many = le-div some count (2 ^ level) (pow_pos level) within in
-    lt_of_not-le (λ outside. let none = over level count rows long outside in omega arith)
+-- a level that has some of the nodes that are made has a row
+pub level-inside : (level some : ℕ) (r : RowsState) → AreSound r → 1 ≤ some
+    → some * 2 ^ level ≤ filled_of r → level < length (levels_of r)
+level-inside zero some r sound one within = omega arith
+level-inside (suc level) some r sound one within =
+    let double : some * 2 ^ suc level ≡ 2 * (some * 2 ^ level) =
+    ap (λ p. some * p) (pow-succ' 2 level) ∙ omega arith in
+    let many = le-div some (length_of r.above) (2 ^ level) (pow_pos level) (omega arith) in
+    let below : level < length r.above = lt_of_not-le (λ outside.
+    let none = over level (length_of r.above) r.above sound.long outside in omega arith) in
+    omega arith
 
 pub root-none : (h : List ℕ → List ℕ) (leaves : List (List ℕ)) → length leaves ≡ 0
     → root_of h leaves ≡ h []

@@ -1,17 +1,16 @@
--- Rows that were given more room, and rows of no leaves.
+-- Rows that were given more room, and rows of no hashes.
 use Rattle.std.proofs.Common.{◌≡◌, ℕ, zero, suc, ◌+◌, ◌*◌, ◌/◌, ◌%◌, ◌^◌, ◌<◌, ◌≤◌, inl}
-use Rattle.std.proofs.Common.{List, [], ◌∷◌, length, drop}
+use Rattle.std.proofs.Common.{List, [], ◌∷◌, length, take, drop}
 use Rattle.std.proofs.Common.{sym, ◌∙◌, ap, refl, subst, arith}
 use Rattle.std.proofs.Math.Nat.{pow-succ'}
 use Rattle.tree_cache.proofs.Pushes.{gone-on}
-use Rattle.tree_cache.specs.Rows.{AreAllOf, AreLong, AreRowsOf, AreSound, HaveGrown}
-use Rattle.tree_cache.specs.Rows.{HaveLevels}
-use Rattle.tree_cache.specs.Rows.{HaveNone, HoldUpTo, IsLong, IsRowOf, RowState}
-use Rattle.tree_cache.specs.Rows.{count_of, first_row, gone_at, paired, row_count}
+use Rattle.tree_cache.specs.Rows.{AreFullRowsOf, AreLong, AreRowsOf, AreSound, HaveGrown, HaveLevels}
+use Rattle.tree_cache.specs.Rows.{HaveNone, HoldUpTo, IsEmpty, IsLong, IsRowOf, NodesHaveGrown}
+use Rattle.tree_cache.specs.Rows.{RowState, RowsState, count_of, filled_of, gone_at, gone_in}
+use Rattle.tree_cache.specs.Rows.{length_of, paired, row_count}
 
-pub grown-same : (rows : List RowState) → HaveGrown rows rows
+pub grown-same : (rows : List RowState) → NodesHaveGrown rows rows
 grown-same rows = record {
-  first = refl;
   count = refl;
   gone = λ level. refl;
   same = λ h leaves are. are;
@@ -37,16 +36,15 @@ long-same count row grown gone same is =
 
 pub grown-row : (rows : List RowState) (row grown : RowState) (above raised : List RowState)
     → rows ≡ row ∷ above → grown.gone ≡ row.gone → grown.kept ≡ row.kept
-    → row.spare ≤ grown.spare → HaveGrown above raised → HaveGrown rows (grown ∷ raised)
-unfolding AreRowsOf AreLong HoldUpTo
+    → row.spare ≤ grown.spare → NodesHaveGrown above raised → NodesHaveGrown rows (grown ∷ raised)
+unfolding AreFullRowsOf AreLong HoldUpTo
 grown-row rows row grown above raised is gone same spare up = record {
-  first = same ∙ sym (ap first_row is);
   count = let size : length grown.kept ≡ length row.kept = ap length same in
       let all : row_count grown ≡ row_count row = omega arith in
-      all ∙ sym (ap count_of is);
+      all ∙ sym (ap length_of is);
   gone = gone-on rows row grown above raised is gone up.gone;
   same = λ h leaves are.
-      let here : AreRowsOf h leaves (row ∷ above) = subst (AreRowsOf h leaves) is are in
+      let here : AreFullRowsOf h leaves (row ∷ above) = subst (AreFullRowsOf h leaves) is are in
       (row-same leaves row grown gone same here.0, up.same h (paired h leaves) here.1);
   long = λ count long.
       let here : AreLong count (row ∷ above) = subst (AreLong count) is long in
@@ -58,9 +56,8 @@ grown-row rows row grown above raised is gone same spare up = record {
       (omega arith, up.kept (capacity / 2) here.1);
 }
 
-pub grown-on : (a b c : List RowState) → HaveGrown a b → HaveGrown b c → HaveGrown a c
+pub grown-on : (a b c : List RowState) → NodesHaveGrown a b → NodesHaveGrown b c → NodesHaveGrown a c
 grown-on a b c one two = record {
-  first = two.first ∙ one.first;
   count = two.count ∙ one.count;
   gone = λ level. two.gone level ∙ one.gone level;
   same = λ h leaves are. two.same h leaves (one.same h leaves are);
@@ -89,30 +86,19 @@ half-below capacity rows row above is small =
     ap (λ n. 2 ^ n) size ∙ pow-succ' 2 (length above) in
     omega arith
 
--- with more room, or with as much
-pub sound-grown : (old new : List RowState) (before capacity : ℕ)
-    → AreSound before old → HaveGrown old new → HaveLevels new → HoldUpTo capacity new
-    → count_of old ≤ capacity → AreSound capacity new
-sound-grown old new before capacity sound grown levels holds within = record {
-  levels = levels;
-  long = subst (λ n. AreLong n new) (sym grown.count) (grown.long (count_of old) sound.long);
-  holds = holds;
-  within = let count = grown.count in omega arith;
-}
+-- Rows of no hashes.
 
--- Rows of no leaves.
-
-rows-none : (rows : List RowState) → HaveNone rows → (h : List ℕ → List ℕ) → AreRowsOf h [] rows
-unfolding AreRowsOf paired
-rows-none [] none h = refl
-rows-none (row ∷ rows) none h =
+full-none : (rows : List RowState) → HaveNone rows → (h : List ℕ → List ℕ) → AreFullRowsOf h [] rows
+unfolding AreFullRowsOf paired
+full-none [] none h = refl
+full-none (row ∷ rows) none h =
     let empty = none 0 row (omega arith) in (
       record {
         kept = empty.kept ∙ sym (ap (λ g. drop g []) empty.gone);
         within = let gone = empty.gone in omega arith;
         even = ap (λ g. g % 2) empty.gone;
       },
-      rows-none rows (λ k d inside. none (suc k) d (omega arith)) h,
+      full-none rows (λ k d inside. none (suc k) d (omega arith)) h,
     )
 
 long-none : (rows : List RowState) → HaveNone rows → AreLong 0 rows
@@ -131,11 +117,7 @@ unfolding HoldUpTo
 holds-zero [] = refl
 holds-zero (row ∷ rows) = (omega arith, holds-zero rows)
 
-first-none : (rows : List RowState) → HaveNone rows → first_row rows ≡ []
-first-none [] none = refl
-first-none (row ∷ rows) none = let empty = none 0 row (omega arith) in empty.kept
-
-count-none : (rows : List RowState) → HaveNone rows → count_of rows ≡ 0
+count-none : (rows : List RowState) → HaveNone rows → length_of rows ≡ 0
 count-none [] none = refl
 count-none (row ∷ rows) none =
     let empty = none 0 row (omega arith) in
@@ -143,44 +125,100 @@ count-none (row ∷ rows) none =
     let size : length row.kept ≡ 0 = ap length empty.kept in
     omega arith
 
-gone-none : (rows : List RowState) → HaveNone rows → (level : ℕ) → gone_at rows level ≡ 0
-unfolding gone_at
+gone-none : (rows : List RowState) → HaveNone rows → (level : ℕ) → gone_in rows level ≡ 0
+unfolding gone_in
 gone-none [] none level = refl
 gone-none (row ∷ rows) none zero = let empty = none 0 row (omega arith) in empty.gone
 gone-none (row ∷ rows) none (suc level) =
     gone-none rows (λ k d inside. none (suc k) d (omega arith)) level
 
-pub grown-none : (old rows : List RowState) → length old ≡ 0 → HaveNone rows → HaveGrown old rows
-unfolding AreRowsOf AreLong HoldUpTo gone_at
+pub grown-none : (old rows : List RowState) → length old ≡ 0 → HaveNone rows → NodesHaveGrown old rows
+unfolding AreFullRowsOf AreLong HoldUpTo gone_in
 grown-none (row ∷ old) rows is none = let no : ⊥ = omega arith in absurd no
 grown-none [] rows is none = record {
-  first = first-none rows none;
   count = count-none rows none;
   gone = gone-none rows none;
-  same = λ h leaves are. subst (λ l. AreRowsOf h l rows) (sym are) (rows-none rows none h);
+  same = λ h leaves are. subst (λ l. AreFullRowsOf h l rows) (sym are) (full-none rows none h);
   long = λ count long. subst (λ n. AreLong n rows) (sym long) (long-none rows none);
   kept = λ capacity holds. subst (λ n. HoldUpTo n rows) (sym holds) (holds-zero rows);
 }
 
-pub sound-none : AreSound 0 []
+-- Rows of leaves.
+
+pub gone-grown : (old new : RowsState) → new.first.gone ≡ old.first.gone
+    → ((level : ℕ) → gone_in new.above level ≡ gone_in old.above level) → (level : ℕ)
+    → gone_at new level ≡ gone_at old level
+unfolding gone_at
+gone-grown old new first up zero = first
+gone-grown old new first up (suc level) = up level
+
+pub rows-grown : (old new : RowsState) → new.first.gone ≡ old.first.gone
+    → new.first.kept ≡ old.first.kept → NodesHaveGrown old.above new.above → HaveGrown old new
+rows-grown old new gone kept up = record {
+  first = kept;
+  count = let size = ap length kept in omega arith;
+  filled = let size = ap length kept in let count = up.count in omega arith;
+  gone = gone-grown old new gone up.gone;
+  same = λ h leaves are. record {
+    first = row-same leaves old.first new.first gone kept are.first;
+    above = subst (λ n. AreFullRowsOf h (take n (paired h leaves)) new.above) (sym up.count)
+        (up.same h (take (length_of old.above) (paired h leaves)) are.above);
+  };
+}
+
+pub sound-grown : (old new : RowsState) → AreSound old → new.first.gone ≡ old.first.gone
+    → new.first.kept ≡ old.first.kept → NodesHaveGrown old.above new.above
+    → HaveLevels new.above → new.capacity ≤ count_of new + new.first.spare
+    → HoldUpTo (new.capacity / 2) new.above → count_of old ≤ new.capacity → AreSound new
+sound-grown old new sound gone kept up levels leaves nodes within =
+    let size = ap length kept in
+    let count = up.count in
+    let made = sound.made in
+    let behind = sound.behind in
+    record {
+      levels = levels;
+      even = ap (λ g. g % 2) gone ∙ sound.even;
+      long = subst (λ n. AreLong n new.above) (sym up.count)
+          (up.long (length_of old.above) sound.long);
+      made = omega arith;
+      behind = omega arith;
+      leaves = leaves;
+      nodes = nodes;
+      within = omega arith;
+    }
+
+-- rows of no leaves
+pub rows-none : (h : List ℕ → List ℕ) (r : RowsState) → IsEmpty r.first → r.above ≡ []
+    → AreRowsOf h [] r
+unfolding AreFullRowsOf paired
+rows-none h r empty none = record {
+  first = record {
+    kept = empty.kept ∙ sym (ap (λ g. drop g []) empty.gone);
+    within = let gone = empty.gone in omega arith;
+    even = ap (λ g. g % 2) empty.gone;
+  };
+  above = subst (λ a. AreFullRowsOf h (take (length_of a) (paired h [])) a) (sym none) refl;
+}
+
+pub whole-none : (r : RowsState) → IsEmpty r.first → r.above ≡ [] → (level : ℕ)
+    → gone_at r level ≡ 0
+unfolding gone_at gone_in
+whole-none r empty none zero = empty.gone
+whole-none r empty none (suc level) = ap (λ a. gone_in a level) none
+
+pub sound-none : (r : RowsState) → IsEmpty r.first → r.above ≡ [] → r.capacity ≡ 0 → AreSound r
 unfolding AreLong HoldUpTo
-sound-none = record {
-  levels = inl refl;
-  long = refl;
-  holds = refl;
-  within = omega arith;
-}
-
--- All rows of some leaves.
-
-pub all-grown : (h : List ℕ → List ℕ) (old new : List RowState)
-    → AreAllOf h (first_row old) old → HaveGrown old new → AreAllOf h (first_row new) new
-all-grown h old new all grown = record {
-  rows_of = subst (λ l. AreRowsOf h l new) (sym grown.first)
-      (grown.same h (first_row old) all.rows_of);
-  whole = λ level. grown.gone level ∙ all.whole level;
-}
-
-pub all-none : (h : List ℕ → List ℕ) → AreAllOf h [] []
-unfolding AreRowsOf gone_at
-all-none h = record { rows_of = refl; whole = λ level. refl }
+sound-none r empty none capacity =
+    let gone = empty.gone in
+    let kept = ap length empty.kept in
+    let above = ap length_of none in
+    record {
+      levels = inl (ap length none);
+      even = ap (λ g. g % 2) empty.gone;
+      long = subst (λ a. AreLong (length_of a) a) (sym none) refl;
+      made = omega arith;
+      behind = omega arith;
+      leaves = omega arith;
+      nodes = subst (λ a. HoldUpTo (r.capacity / 2) a) (sym none) (ap (λ n. n / 2) capacity);
+      within = omega arith;
+    }

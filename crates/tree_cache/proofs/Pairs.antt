@@ -1,5 +1,5 @@
 -- The pairs of a row: their number, those of a longer row, and those of its parts.
-use Rattle.std.proofs.Common.{◌≡◌, ℕ, zero, suc, ◌+◌, ◌*◌, ◌-◌, ◌/◌, ◌%◌, List, [], ◌∷◌}
+use Rattle.std.proofs.Common.{◌≡◌, ℕ, zero, suc, ◌+◌, ◌*◌, ◌-◌, ◌/◌, ◌%◌, ◌<◌, List, [], ◌∷◌}
 use Rattle.std.proofs.Common.{◌++◌, length, get_or, take, drop, sym, ◌∙◌, ap, refl, arith}
 use Rattle.tree_cache.specs.Rows.{paired}
 use Rattle.tree_core.specs.Path.{part_of}
@@ -33,6 +33,21 @@ paired-joined h (x ∷ y ∷ rest) z (suc zero) odd is = let none : ⊥ = omega 
 paired-joined h (x ∷ y ∷ rest) z (suc (suc last)) odd is =
     ap (λ row. pair_hash h x y ∷ row)
     (paired-joined h rest z last (omega arith) (omega arith))
+
+-- a pair is that of the hashes at its two places
+pub paired-at : (h : List ℕ → List ℕ) (xs : List (List ℕ)) (k : ℕ) → 2 * k + 1 < length xs
+    → get_or (paired h xs) k [] ≡ pair_hash h (get_or xs (2 * k) []) (get_or xs (2 * k + 1) [])
+unfolding paired
+paired-at h [] k inside = let none : ⊥ = omega arith in absurd none
+paired-at h (x ∷ []) k inside = let none : ⊥ = omega arith in absurd none
+paired-at h (x ∷ y ∷ rest) zero inside = refl
+paired-at h (x ∷ y ∷ rest) (suc k) inside =
+    let left : suc (suc (2 * k)) ≡ 2 * suc k = omega arith in
+    let right : suc (suc (2 * k + 1)) ≡ 2 * suc k + 1 = omega arith in
+    paired-at h rest k (omega arith)
+    ∙ ap (λ i. pair_hash h (get_or (x ∷ y ∷ rest) i []) (get_or rest (2 * k + 1) [])) left
+    ∙ ap (λ i. pair_hash h (get_or (x ∷ y ∷ rest) (2 * suc k) [])
+    (get_or (x ∷ y ∷ rest) i [])) right
 
 -- the pairs of a part of even places
 twice : ℕ → ℕ

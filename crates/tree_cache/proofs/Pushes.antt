@@ -1,4 +1,4 @@
--- Rows with one leaf more.
+-- Rows with one hash more.
 use Rattle.std.proofs.Common.{◌≡◌, ℕ, zero, suc, ◌+◌, ◌-◌, ◌/◌, ◌%◌, ◌^◌, ◌<◌, ◌≤◌}
 use Rattle.std.proofs.Common.{◌⊎◌, List, [], ◌∷◌, ◌++◌, length, take, drop}
 use Rattle.std.proofs.Common.{get_or, sym, ◌∙◌, ap, subst, arith}
@@ -6,13 +6,12 @@ use Rattle.std.proofs.Math.ListN.{get_or-append}
 use Rattle.std.proofs.Math.Seq.{get_or-append_seam, take-append_seam}
 use Rattle.std.proofs.lemmas.List.{drop-append-le, get_or-drop, length-drop, length_push}
 use Rattle.tree_cache.proofs.Pairs.{length-paired, paired-alone, paired-joined}
-use Rattle.tree_cache.specs.Rows.{AreAllOf, AreLong, AreRowsOf, AreSound, HaveCount}
-use Rattle.tree_cache.specs.Rows.{HaveCapacity, HoldUpTo, IsLong, IsRowOf, RowState}
-use Rattle.tree_cache.specs.Rows.{count_of, first_row, gone_at, paired, row_count}
+use Rattle.tree_cache.specs.Rows.{AreFullRowsOf, AreLong, HaveCapacity, HaveCount, HoldUpTo, IsLong}
+use Rattle.tree_cache.specs.Rows.{IsRowOf, RowState, gone_in, length_of, paired, row_count}
 use Rattle.tree_core.specs.Tree.{pair_hash}
 
 -- a row of some hashes is as long as these
-is-long : (hashes : List (List ℕ)) (row : RowState) → IsRowOf hashes row
+pub is-long : (hashes : List (List ℕ)) (row : RowState) → IsRowOf hashes row
     → IsLong (length hashes) row
 is-long hashes row is =
     let size : length row.kept ≡ length hashes - row.gone =
@@ -21,8 +20,8 @@ is-long hashes row is =
     record { all = omega arith; even = is.even }
 
 pub long-of : (h : List ℕ → List ℕ) (leaves : List (List ℕ)) (rows : List RowState)
-    → AreRowsOf h leaves rows → AreLong (length leaves) rows
-unfolding AreRowsOf AreLong
+    → AreFullRowsOf h leaves rows → AreLong (length leaves) rows
+unfolding AreFullRowsOf AreLong
 long-of h leaves [] are = ap length are
 long-of h leaves (row ∷ rows) are = (
   is-long leaves row are.0,
@@ -87,7 +86,7 @@ counted-above rows row above is counted =
     record { count = here.count / 2; few = omega arith; long = here.long.1 }
 
 -- one hash more behind a row
-row-pushed : (hashes : List (List ℕ)) (hash : List ℕ) (row pushed : RowState)
+pub row-pushed : (hashes : List (List ℕ)) (hash : List ℕ) (row pushed : RowState)
     → pushed.gone ≡ row.gone → pushed.kept ≡ row.kept ++ hash ∷ [] → IsRowOf hashes row
     → IsRowOf (hashes ++ hash ∷ []) pushed
 row-pushed hashes hash row pushed gone more is =
@@ -106,18 +105,18 @@ row-pushed hashes hash row pushed gone more is =
 pub rows-alone : (h : List ℕ → List ℕ) (rows : List RowState) (row pushed : RowState)
     (above : List RowState) (hash : List ℕ) → rows ≡ row ∷ above → pushed.gone ≡ row.gone
     → pushed.kept ≡ row.kept ++ hash ∷ [] → length pushed.kept % 2 ≡ 1
-    → (leaves : List (List ℕ)) → AreRowsOf h leaves rows
-    → AreRowsOf h (leaves ++ hash ∷ []) (pushed ∷ above)
-unfolding AreRowsOf
+    → (leaves : List (List ℕ)) → AreFullRowsOf h leaves rows
+    → AreFullRowsOf h (leaves ++ hash ∷ []) (pushed ∷ above)
+unfolding AreFullRowsOf
 rows-alone h rows row pushed above hash is gone more odd leaves are =
-    let here : AreRowsOf h leaves (row ∷ above) = subst (AreRowsOf h leaves) is are in
+    let here : AreFullRowsOf h leaves (row ∷ above) = subst (AreFullRowsOf h leaves) is are in
     let long = is-long leaves row here.0 in
     let size : row.gone + length row.kept ≡ length leaves = long.all in
     let even : row.gone % 2 ≡ 0 = long.even in
     let one : length pushed.kept ≡ length row.kept + 1 =
     ap length more ∙ length_push row.kept hash in (
       row-pushed leaves hash row pushed gone more here.0,
-      subst (λ l. AreRowsOf h l above) (sym (paired-alone h leaves hash (omega arith))) here.1,
+      subst (λ l. AreFullRowsOf h l above) (sym (paired-alone h leaves hash (omega arith))) here.1,
     )
 
 -- the last two hashes of a row with one more are the last of it and the one more
@@ -150,14 +149,14 @@ pub rows-joined : (h : List ℕ → List ℕ) (rows : List RowState) (row pushed
     → pushed.kept ≡ row.kept ++ hash ∷ [] → length pushed.kept % 2 ≡ 0
     → parent ≡ pair_hash h (get_or pushed.kept (length pushed.kept - 2) [])
     (get_or pushed.kept (length pushed.kept - 1) [])
-    → ((leaves : List (List ℕ)) → AreRowsOf h leaves above
-    → AreRowsOf h (leaves ++ parent ∷ []) raised)
-    → (leaves : List (List ℕ)) → AreRowsOf h leaves rows
-    → AreRowsOf h (leaves ++ hash ∷ []) (pushed ∷ raised)
-unfolding AreRowsOf
+    → ((leaves : List (List ℕ)) → AreFullRowsOf h leaves above
+    → AreFullRowsOf h (leaves ++ parent ∷ []) raised)
+    → (leaves : List (List ℕ)) → AreFullRowsOf h leaves rows
+    → AreFullRowsOf h (leaves ++ hash ∷ []) (pushed ∷ raised)
+unfolding AreFullRowsOf
 rows-joined h rows row pushed above raised hash parent is gone more even parent_is up leaves
     are =
-    let here : AreRowsOf h leaves (row ∷ above) = subst (AreRowsOf h leaves) is are in
+    let here : AreFullRowsOf h leaves (row ∷ above) = subst (AreFullRowsOf h leaves) is are in
     let long = is-long leaves row here.0 in
     let size : row.gone + length row.kept ≡ length leaves = long.all in
     let whole : row.gone % 2 ≡ 0 = long.even in
@@ -172,7 +171,7 @@ rows-joined h rows row pushed above raised hash parent is gone more even parent_
     paired-joined h leaves hash (length leaves - 1) (omega arith) (omega arith)
     ∙ ap (λ p. paired h leaves ++ p ∷ []) (sym joined) in (
       row-pushed leaves hash row pushed gone more here.0,
-      subst (λ l. AreRowsOf h l raised) (sym pairs) (up (paired h leaves) here.1),
+      subst (λ l. AreFullRowsOf h l raised) (sym pairs) (up (paired h leaves) here.1),
     )
 
 -- the rows are longer by one leaf
@@ -212,12 +211,12 @@ long-joined rows row pushed above raised hash is gone more joined up count long 
 -- what is gone stays gone
 pub gone-on : (rows : List RowState) (row pushed : RowState) (above raised : List RowState)
     → rows ≡ row ∷ above → pushed.gone ≡ row.gone
-    → ((level : ℕ) → gone_at raised level ≡ gone_at above level)
-    → (level : ℕ) → gone_at (pushed ∷ raised) level ≡ gone_at rows level
-unfolding gone_at
-gone-on rows row pushed above raised is same up zero = same ∙ sym (ap (λ r. gone_at r 0) is)
+    → ((level : ℕ) → gone_in raised level ≡ gone_in above level)
+    → (level : ℕ) → gone_in (pushed ∷ raised) level ≡ gone_in rows level
+unfolding gone_in
+gone-on rows row pushed above raised is same up zero = same ∙ sym (ap (λ r. gone_in r 0) is)
 gone-on rows row pushed above raised is same up (suc level) =
-    up level ∙ sym (ap (λ r. gone_at r (suc level)) is)
+    up level ∙ sym (ap (λ r. gone_in r (suc level)) is)
 
 -- the room stays
 pub holds-on : (rows : List RowState) (row pushed : RowState) (above raised : List RowState)
@@ -240,94 +239,7 @@ written-whole len new items is same =
     ap (λ n. take n (new ++ drop (length new) items)) (is ∙ sym same)
     ∙ take-append_seam new (drop (length new) items)
 
--- Sound rows.
-
-pub count-long : (count : ℕ) (rows : List RowState) → AreLong count rows → count_of rows ≡ count
+pub count-long : (count : ℕ) (rows : List RowState) → AreLong count rows → length_of rows ≡ count
 unfolding AreLong
 count-long count [] long = sym long
 count-long count (row ∷ rows) long = long.0.all
-
--- the rows of some leaves stand for so many
-pub count-rows : (h : List ℕ → List ℕ) (leaves : List (List ℕ)) (rows : List RowState)
-    → AreRowsOf h leaves rows → count_of rows ≡ length leaves
-count-rows h leaves rows are = count-long (length leaves) rows (long-of h leaves rows are)
-
-pub sound-pushed : (old new : List RowState) (capacity : ℕ) → AreSound capacity old
-    → count_of old < capacity → length new ≡ length old → AreLong (count_of old + 1) new
-    → HoldUpTo capacity new → AreSound capacity new
-sound-pushed old new capacity sound below count long holds =
-    let all : count_of new ≡ count_of old + 1 = count-long (count_of old + 1) new long in
-    record {
-      levels = subst (λ n. (n ≡ 0) ⊎ (n ≡ 64)) (sym count) sound.levels;
-      long = subst (λ n. AreLong n new) (sym all) long;
-      holds = holds;
-      within = omega arith;
-    }
-
-pub has-capacity : (rows : List RowState) (capacity : ℕ) → AreSound capacity rows
-    → count_of rows < capacity → HaveCapacity rows
-has-capacity rows capacity sound below = record {
-  count = count_of rows;
-  capacity = capacity;
-  long = sound.long;
-  holds = sound.holds;
-  below = below;
-}
-
--- a leaf pushed into rows with room, through the slice of their vector
-pub record IsPushed (h : List ℕ → List ℕ) (leaf : List ℕ) (capacity : ℕ) (old new : List RowState)
-    : Type 0 where
-  pub sound : AreSound capacity new
-  pub rows_of : (leaves : List (List ℕ)) → AreRowsOf h leaves old
-      → AreRowsOf h (leaves ++ leaf ∷ []) new
-  pub count : count_of new ≡ count_of old + 1
-  pub gone : (level : ℕ) → gone_at new level ≡ gone_at old level
-
-pub pushed_whole : (h : List ℕ → List ℕ) (leaf : List ℕ) (old slice new : List RowState)
-    (len capacity : ℕ) → AreSound capacity old → count_of old < capacity → slice ≡ old
-    → len ≡ length old → length new ≡ length slice
-    → ((leaves : List (List ℕ)) → AreRowsOf h leaves slice
-    → AreRowsOf h (leaves ++ leaf ∷ []) new)
-    → ((count : ℕ) → AreLong count slice → AreLong (count + 1) new)
-    → ((level : ℕ) → gone_at new level ≡ gone_at slice level)
-    → ((before : ℕ) → HoldUpTo before slice → HoldUpTo before new)
-    → IsPushed h leaf capacity old (take len (new ++ drop (length new) old))
-pushed_whole h leaf old slice new len capacity sound below is size count pushed long gone holds =
-    let same : length new ≡ length old = count ∙ ap length is in
-    let longer : AreLong (count_of old + 1) new =
-    long (count_of old) (subst (AreLong (count_of old)) (sym is) sound.long) in
-    subst (IsPushed h leaf capacity old) (sym (written-whole len new old size same)) (record {
-      sound = sound-pushed old new capacity sound below same longer
-          (holds capacity (subst (HoldUpTo capacity) (sym is) sound.holds));
-      rows_of = λ leaves are. pushed leaves (subst (AreRowsOf h leaves) (sym is) are);
-      count = count-long (count_of old + 1) new longer;
-      gone = λ level. gone level ∙ ap (λ r. gone_at r level) is;
-    })
-
--- All rows of some leaves.
-
-first-all : (h : List ℕ → List ℕ) (leaves : List (List ℕ)) (rows : List RowState)
-    → AreRowsOf h leaves rows → gone_at rows 0 ≡ 0 → first_row rows ≡ leaves
-unfolding AreRowsOf gone_at
-first-all h leaves [] are whole = sym are
-first-all h leaves (row ∷ rows) are whole = are.0.kept ∙ ap (λ g. drop g leaves) whole
-
-pub first-pushed : (h : List ℕ → List ℕ) (leaf : List ℕ) (old new : List RowState)
-    → AreAllOf h (first_row old) old
-    → ((leaves : List (List ℕ)) → AreRowsOf h leaves old → AreRowsOf h (leaves ++ leaf ∷ []) new)
-    → ((level : ℕ) → gone_at new level ≡ gone_at old level)
-    → first_row new ≡ first_row old ++ leaf ∷ []
-first-pushed h leaf old new all pushed gone =
-    first-all h (first_row old ++ leaf ∷ []) new (pushed (first_row old) all.rows_of)
-    (gone 0 ∙ all.whole 0)
-
-pub all-pushed : (h : List ℕ → List ℕ) (leaf : List ℕ) (old new : List RowState)
-    → AreAllOf h (first_row old) old
-    → ((leaves : List (List ℕ)) → AreRowsOf h leaves old → AreRowsOf h (leaves ++ leaf ∷ []) new)
-    → ((level : ℕ) → gone_at new level ≡ gone_at old level)
-    → AreAllOf h (first_row new) new
-all-pushed h leaf old new all pushed gone = record {
-  rows_of = subst (λ l. AreRowsOf h l new) (sym (first-pushed h leaf old new all pushed gone))
-      (pushed (first_row old) all.rows_of);
-  whole = λ level. gone level ∙ all.whole level;
-}

@@ -1,6 +1,7 @@
 -- The hashes of the full subtrees of a list of leaf hashes, in rows from the leaves up.
-use Rattle.std.specs.Prelude.{◌≡◌, ℕ, zero, suc, ◌+◌, ◌-◌, ◌<◌, ◌≤◌, ◌/◌, ◌%◌, ◌^◌, ◌⊎◌}
-use Rattle.std.specs.Prelude.{List, [], ◌∷◌, length, drop}
+use Rattle.std.specs.Prelude.{◌≡◌, ℕ, zero, suc, ◌+◌, ◌-◌, ◌*◌, ◌<◌, ◌≤◌, ◌/◌, ◌%◌, ◌^◌, ◌⊎◌}
+use Rattle.std.specs.Prelude.{List, [], ◌∷◌, length, take, drop, min}
+use Rattle.std.specs.Prelude.{slice_index_or}
 use Rattle.std.specs.List.{All}
 use Rattle.byte_formats.specs.Types.{Hash, HashFunction}
 use Rattle.tree_core.specs.Tree.{pair_hash}
@@ -28,35 +29,36 @@ pub record IsRowOf (hashes : List Hash) (row : RowState) : Type 0 where
   pub within : row.gone ≤ length hashes
   pub even : row.gone % 2 ≡ 0
 
--- The first row is that of the leaf hashes, and each row that of the pairs of the one below it.
--- Where the rows end no hash is left.
-unfoldable pub AreRowsOf : HashFunction → List Hash → List RowState → Type 0
-AreRowsOf h leaves [] = leaves ≡ []
-AreRowsOf h leaves (row ∷ rows) = IsRowOf leaves row × AreRowsOf h (paired h leaves) rows
+-- The first of these rows is that of these hashes, and each row that of the pairs of the one below
+-- it. Where the rows end no hash is left.
+unfoldable pub AreFullRowsOf : HashFunction → List Hash → List RowState → Type 0
+AreFullRowsOf h hashes [] = hashes ≡ []
+AreFullRowsOf h hashes (row ∷ rows) = IsRowOf hashes row × AreFullRowsOf h (paired h hashes) rows
 
 -- A row stands for so many hashes, of which an even number is gone.
 pub record IsLong (count : ℕ) (row : RowState) : Type 0 where
   pub all : row_count row ≡ count
   pub even : row.gone % 2 ≡ 0
 
--- The first row stands for so many leaves, and each row for half as many as the one below it.
+-- The first of these rows stands for so many hashes, and each row for half as many as the one below
+-- it.
 unfoldable pub AreLong : ℕ → List RowState → Type 0
 AreLong count [] = count ≡ 0
 AreLong count (row ∷ rows) = IsLong count row × AreLong (count / 2) rows
 
--- The rows stand for some number of leaves below 2^64.
+-- The rows stand for some number of hashes below 2^64.
 pub record HaveCount (rows : List RowState) : Type 0 where
   pub count : ℕ
   pub few : count < 2 ^ 64
   pub long : AreLong count rows
 
--- The rows can have so many leaves without more memory.
+-- The rows can have so many hashes, and the nodes above them, without more memory.
 unfoldable pub HoldUpTo : ℕ → List RowState → Type 0
 HoldUpTo capacity [] = capacity ≡ 0
 HoldUpTo capacity (row ∷ rows) =
     (capacity ≤ row_count row + row.spare) × HoldUpTo (capacity / 2) rows
 
--- The rows are those of some leaves, and one leaf more needs no memory.
+-- The rows are those of some hashes, and one hash more needs no memory.
 pub record HaveCapacity (rows : List RowState) : Type 0 where
   pub count : ℕ
   pub capacity : ℕ
@@ -64,30 +66,23 @@ pub record HaveCapacity (rows : List RowState) : Type 0 where
   pub holds : HoldUpTo capacity rows
   pub below : count < capacity
 
--- The hashes that the first row keeps: the leaves, where none is gone.
-abbrev pub first_row : List RowState → List Hash
-first_row [] = []
-first_row (row ∷ rows) = row.kept
+-- The rows are those of so many hashes, and up to so many need no memory.
+pub record CanReach (from to : ℕ) (rows : List RowState) : Type 0 where
+  pub capacity : ℕ
+  pub long : AreLong from rows
+  pub holds : HoldUpTo capacity rows
+  pub within : to ≤ capacity
 
--- How many leaves the rows stand for.
-abbrev pub count_of : List RowState → ℕ
-count_of [] = 0
-count_of (row ∷ rows) = row_count row
+-- How many hashes the first of some rows stands for.
+abbrev pub length_of : List RowState → ℕ
+length_of [] = 0
+length_of (row ∷ rows) = row_count row
 
--- How many hashes are gone from the front of a level.
-unfoldable pub gone_at : List RowState → ℕ → ℕ
-gone_at [] level = 0
-gone_at (row ∷ rows) zero = row.gone
-gone_at (row ∷ rows) (suc level) = gone_at rows level
-
--- No hash is gone.
-abbrev pub AreWhole : List RowState → Type 0
-AreWhole rows = (level : ℕ) → gone_at rows level ≡ 0
-
--- The rows are those of these leaves, and no hash of theirs is gone.
-pub record AreAllOf (h : HashFunction) (leaves : List Hash) (rows : List RowState) : Type 0 where
-  pub rows_of : AreRowsOf h leaves rows
-  pub whole : AreWhole rows
+-- How many hashes are gone from the front of a level of some rows.
+unfoldable pub gone_in : List RowState → ℕ → ℕ
+gone_in [] level = 0
+gone_in (row ∷ rows) zero = row.gone
+gone_in (row ∷ rows) (suc level) = gone_in rows level
 
 -- A row has no hash, and none is gone.
 pub record IsEmpty (row : RowState) : Type 0 where
@@ -98,32 +93,100 @@ pub record IsEmpty (row : RowState) : Type 0 where
 abbrev pub HaveNone : List RowState → Type 0
 HaveNone rows = All IsEmpty rows
 
--- There are no rows yet, or one for each level that a list of fewer than 2^64 leaves can have.
+-- There are no rows yet, or one for each level above the leaves that a list of fewer than 2^64
+-- leaves can have.
 abbrev pub HaveLevels : List RowState → Type 0
-HaveLevels rows = (length rows ≡ 0) ⊎ (length rows ≡ 64)
+HaveLevels rows = (length rows ≡ 0) ⊎ (length rows ≡ 63)
 
--- The rows are as before, but for their room, which is no less.
-pub record HaveGrown (old new : List RowState) : Type 0 where
-  pub first : first_row new ≡ first_row old
-  pub count : count_of new ≡ count_of old
-  pub gone : (level : ℕ) → gone_at new level ≡ gone_at old level
-  pub same : (h : HashFunction) (leaves : List Hash) → AreRowsOf h leaves old
-      → AreRowsOf h leaves new
+-- These rows are as before, but for their room, which is no less.
+pub record NodesHaveGrown (old new : List RowState) : Type 0 where
+  pub count : length_of new ≡ length_of old
+  pub gone : (level : ℕ) → gone_in new level ≡ gone_in old level
+  pub same : (h : HashFunction) (hashes : List Hash) → AreFullRowsOf h hashes old
+      → AreFullRowsOf h hashes new
   pub long : (count : ℕ) → AreLong count old → AreLong count new
   pub kept : (capacity : ℕ) → HoldUpTo capacity old → HoldUpTo capacity new
 
--- The rows stand for as many leaves as the first one, and hold up to so many.
-pub record AreSound (capacity : ℕ) (rows : List RowState) : Type 0 where
-  pub levels : HaveLevels rows
-  pub long : AreLong (count_of rows) rows
-  pub holds : HoldUpTo capacity rows
-  pub within : count_of rows ≤ capacity
-
--- The rows from the leaves up, and how many leaves they can have without more memory.
+-- The row of the leaf hashes, the rows of the nodes above them, and how many leaves these can have
+-- without more memory. The nodes are made over the first leaves alone.
 pub record RowsState : Type 0 where
-  pub rows : List RowState
+  pub first : RowState
+  pub above : List RowState
   pub capacity : ℕ
+
+-- The rows are those of these leaf hashes: the first row has all of them, and the others are those
+-- of the first of their pairs.
+pub record AreRowsOf (h : HashFunction) (leaves : List Hash) (r : RowsState) : Type 0 where
+  pub first : IsRowOf leaves r.first
+  pub above : AreFullRowsOf h (take (length_of r.above) (paired h leaves)) r.above
+
+-- The leaf hashes that are kept: all of them, where none is gone.
+abbrev pub first_row : RowsState → List Hash
+first_row r = r.first.kept
+
+-- How many leaves there are.
+abbrev pub count_of : RowsState → ℕ
+count_of r = row_count r.first
+
+-- The nodes over the first so many leaves are made. A last one of these without a sibling needs
+-- none.
+abbrev pub filled_of : RowsState → ℕ
+filled_of r = min (count_of r) (2 * length_of r.above + 1)
+
+-- How many hashes are gone from the front of a level.
+unfoldable pub gone_at : RowsState → ℕ → ℕ
+gone_at r zero = r.first.gone
+gone_at r (suc level) = gone_in r.above level
+
+-- The rows from the leaves up.
+abbrev pub levels_of : RowsState → List RowState
+levels_of r = r.first ∷ r.above
+
+-- The row is that of a level.
+pub record IsRowAt (r : RowsState) (level : ℕ) (row : RowState) : Type 0 where
+  pub inside : level < length (levels_of r)
+  pub is : row ≡ slice_index_or (levels_of r) level row
+
+-- No hash is gone.
+abbrev pub AreWhole : RowsState → Type 0
+AreWhole r = (level : ℕ) → gone_at r level ≡ 0
+
+-- The rows are those of these leaves with all their nodes, and no hash of theirs is gone.
+pub record AreAllOf (h : HashFunction) (leaves : List Hash) (r : RowsState) : Type 0 where
+  pub rows_of : AreRowsOf h leaves r
+  pub whole : AreWhole r
+  pub filled : filled_of r ≡ count_of r
+
+-- The rows above the leaves are those of the first pairs, the first of which are gone where the
+-- leaves below them are, and all hold up to so many leaves.
+pub record AreSound (r : RowsState) : Type 0 where
+  pub levels : HaveLevels r.above
+  pub even : r.first.gone % 2 ≡ 0
+  pub long : AreLong (length_of r.above) r.above
+  pub made : 2 * length_of r.above ≤ count_of r
+  pub behind : r.first.gone ≤ 2 * length_of r.above
+  pub leaves : r.capacity ≤ count_of r + r.first.spare
+  pub nodes : HoldUpTo (r.capacity / 2) r.above
+  pub within : count_of r ≤ r.capacity
+
+-- The rows are as before, but for their room, which is no less.
+pub record HaveGrown (old new : RowsState) : Type 0 where
+  pub first : first_row new ≡ first_row old
+  pub count : count_of new ≡ count_of old
+  pub filled : filled_of new ≡ filled_of old
+  pub gone : (level : ℕ) → gone_at new level ≡ gone_at old level
+  pub same : (h : HashFunction) (leaves : List Hash) → AreRowsOf h leaves old
+      → AreRowsOf h leaves new
+
+-- The rows are as before, but for nodes over more of the leaves.
+pub record HaveFilled (h : HashFunction) (old new : RowsState) : Type 0 where
+  pub first : first_row new ≡ first_row old
+  pub count : count_of new ≡ count_of old
+  pub capacity : new.capacity ≡ old.capacity
+  pub gone : (level : ℕ) → gone_at new level ≡ gone_at old level
+  pub same : (leaves : List Hash) → AreRowsOf h leaves old → AreRowsOf h leaves new
+  pub more : filled_of old ≤ filled_of new
 
 -- So many leaves more need no memory.
 abbrev pub spare_of : RowsState → ℕ
-spare_of r = r.capacity - count_of r.rows
+spare_of r = r.capacity - count_of r

@@ -28,9 +28,9 @@ pub struct Cache<H: TreeHash> {
 impl<H: TreeHash> Model for Cache<H> {
     ghost Value = { CachedLeaves };
 
-    ghost view = { λ c. record { leaves = first_row c.rows.rows; spare = spare_of c.rows } };
+    ghost view = { λ c. record { leaves = first_row c.rows; spare = spare_of c.rows } };
 
-    ghost invariant = { λ c. AreAllOf H.TreeHash.hash (first_row c.rows.rows) c.rows.rows };
+    ghost invariant = { λ c. AreAllOf H.TreeHash.hash (first_row c.rows) c.rows };
 }
 
 impl<H: TreeHash> Cache<H> {
@@ -71,7 +71,9 @@ impl<H: TreeHash> Cache<H> {
         ensures full { OnErr result (self.old.spare ≡ 0) }
     {
         self.reserve(1)?;
-        self.rows.push::<H>(leaf);
+        self.rows.push(leaf);
+        let size = self.rows.count();
+        self.rows.fill::<H>(size);
         Ok(())
     }
 

@@ -1,8 +1,8 @@
 //! The hashes of one level.
 
-ghost use Rattle.std.specs.Prelude.{◌≡◌, ◌+◌, ◌-◌, ◌%◌, ◌<◌, ◌≤◌, [], ◌∷◌, ◌++◌, length, take};
-ghost use Rattle.std.specs.Prelude.{drop, slice_index_or, vec_len, vec_capacity, MatchOption, OnOk};
-ghost use Rattle.tree_cache.specs.Rows.{RowState};
+ghost use Rattle.std.specs.Prelude.{◌≡◌, ◌+◌, ◌-◌, ◌*◌, ◌%◌, ◌^◌, ◌<◌, ◌≤◌, [], ◌∷◌, ◌++◌};
+ghost use Rattle.std.specs.Prelude.{length, take, drop, slice_index_or, vec_len, vec_capacity, MatchOption, OnOk};
+ghost use Rattle.tree_cache.specs.Rows.{RowState, row_count};
 ghost use Rattle.tree_cache.specs.Tiled.{CanForget, HasForgotten};
 ghost use Rattle.tree_core.specs.Tree.{pair_hash};
 
@@ -40,14 +40,15 @@ impl Row {
         }
     }
 
-    // How many hashes are gone.
-    pub(crate) fn gone(&self) -> u64
-        ensures { result ≡ self.now.gone }
+    // How many hashes the row stands for, those that are gone with them.
+    pub(crate) fn count(&self) -> u64
+        requires { row_count self.now < 2 ^ 64 }
+        ensures { result ≡ row_count self.now }
     {
-        self.gone
+        self.gone + self.hashes.len() as u64
     }
 
-    // The hashes behind them.
+    // The hashes that are kept.
     pub(crate) fn as_slice(&self) -> &[[u8; 32]]
         ensures { result.now ≡ self.now.kept }
     {
@@ -86,6 +87,19 @@ impl Row {
         if self.hashes.push(*hash).is_err() {
             unreachable!()
         }
+    }
+
+    // The hash over the pair of this number, which counts those that are gone.
+    pub(crate) fn pair_at<H: TreeHash>(&self, number: u64) -> [u8; 32]
+        requires few { row_count self.now < 2 ^ 64 }
+        requires gone { self.now.gone ≤ 2 * number }
+        requires within { 2 * number + 2 ≤ row_count self.now }
+        ensures { result ≡ pair_hash H.hash
+            (slice_index_or self.now.kept (2 * number - self.now.gone) [])
+            (slice_index_or self.now.kept (2 * number - self.now.gone + 1) []) }
+    {
+        let two = self.part(2 * number, 2);
+        pair::<H>(&two[0], &two[1])
     }
 
     // Lets hashes go from the front until so many are gone.

@@ -1,12 +1,11 @@
-//! The rows of a tree, from the leaves up.
+//! The rows of the nodes of a tree, from the pairs of leaves up.
 
-ghost use Rattle.std.specs.Prelude.{◌≡◌, ℕ, ◌+◌, ◌^◌, ◌<◌, ◌≤◌, List, [], ◌∷◌, ◌++◌, length, IfOk};
-ghost use Rattle.std.specs.Prelude.{OnOk};
+ghost use Rattle.std.specs.Prelude.{◌≡◌, ℕ, ◌+◌, ◌*◌, ◌^◌, ◌<◌, ◌≤◌, List, [], ◌∷◌, ◌++◌, length};
+ghost use Rattle.std.specs.Prelude.{take, IfOk, OnOk};
 ghost use Rattle.byte_formats.specs.Types.{Hash, HashFunction};
-ghost use Rattle.tree_cache.specs.Rows.{AreLong, AreRowsOf, HaveCount, HaveGrown, HaveLevels};
-ghost use Rattle.tree_cache.specs.Rows.{HaveNone, HaveCapacity, HoldUpTo, count_of, first_row};
-ghost use Rattle.tree_cache.specs.Rows.{gone_at};
-ghost use Rattle.tree_cache.specs.Rows.{row_count};
+ghost use Rattle.tree_cache.specs.Rows.{AreFullRowsOf, AreLong, CanReach, HaveCapacity, HaveCount};
+ghost use Rattle.tree_cache.specs.Rows.{HaveLevels, HaveNone, HoldUpTo, IsRowOf, NodesHaveGrown};
+ghost use Rattle.tree_cache.specs.Rows.{gone_in, length_of, paired, row_count};
 ghost use Rattle.tree_cache.specs.Tiled.{CanForgetAll, gone_of};
 
 use crate::row::Row;
@@ -14,12 +13,12 @@ use mtc_io::Memory;
 use std::alloc::Global;
 use tree_core::TreeHash;
 
-// The levels that a list of fewer than 2^64 leaves has full subtrees of.
-const LEVELS: usize = 64;
+// The levels above the leaves that a list of fewer than 2^64 leaves has full subtrees of.
+const LEVELS: usize = 63;
 
-// The rows of no leaves.
+// The rows of no hashes.
 pub(crate) fn empty_rows(alloc: Global) -> Result<Vec<Row>, Memory>
-    ensures count { IfOk result (λ rows. length rows.items ≡ 64) }
+    ensures count { IfOk result (λ rows. length rows.items ≡ 63) }
     ensures none { IfOk result (λ rows. HaveNone rows.items) }
 {
     let mut rows = Vec::new(alloc);
@@ -29,31 +28,13 @@ pub(crate) fn empty_rows(alloc: Global) -> Result<Vec<Row>, Memory>
     Ok(rows)
 }
 
-// How many hashes a row stands for, those that are gone with them.
-fn row_length(row: &Row) -> u64
-    requires { row_count row.now < 2 ^ 64 }
-    ensures { result ≡ row_count row.now }
-{
-    row.gone() + row.as_slice().len() as u64
-}
-
-// How many leaves there are.
-pub(crate) fn leaf_count(rows: &[Row]) -> u64
-    requires { count_of rows.now < 2 ^ 64 }
-    ensures { result ≡ count_of rows.now }
+// How many hashes the first of some rows stands for.
+pub(crate) fn length_of(rows: &[Row]) -> u64
+    requires { length_of rows.now < 2 ^ 64 }
+    ensures { result ≡ length_of rows.now }
 {
     match rows.first() {
-        Some(row) => row_length(row),
-        None => 0,
-    }
-}
-
-// How many leaves are kept.
-pub(crate) fn kept_count(rows: &[Row]) -> usize
-    ensures { result ≡ length (first_row rows.now) }
-{
-    match rows.first() {
-        Some(row) => row.as_slice().len(),
+        Some(row) => row.count(),
         None => 0,
     }
 }
@@ -61,9 +42,9 @@ pub(crate) fn kept_count(rows: &[Row]) -> usize
 // Makes the rows, where there are none yet.
 fn add_levels(alloc: Global, rows: &mut Vec<Row>) -> Result<(), Memory>
     requires { HaveLevels rows.old.items }
-    ensures grown { HaveGrown rows.old.items rows.new.items }
+    ensures grown { NodesHaveGrown rows.old.items rows.new.items }
     ensures levels { HaveLevels rows.new.items }
-    ensures all { OnOk result (length rows.new.items ≡ 64) }
+    ensures all { OnOk result (length rows.new.items ≡ 63) }
 {
     if rows.is_empty() {
         *rows = empty_rows(alloc)?;
@@ -75,24 +56,25 @@ fn add_levels(alloc: Global, rows: &mut Vec<Row>) -> Result<(), Memory>
 fn grow(rows: &mut [Row], capacity: u64) -> Result<(), Memory>
     requires small { capacity < 2 ^ length rows.old }
     requires counted { HaveCount rows.old }
-    ensures grown { HaveGrown rows.old rows.new }
+    ensures grown { NodesHaveGrown rows.old rows.new }
     ensures holds { OnOk result (HoldUpTo capacity rows.new) }
 {
     match rows.split_first_mut() {
         None => Ok(()),
         Some((row, above)) => {
-            let count = row_length(row);
+            let count = row.count();
             row.reserve(capacity.saturating_sub(count) as usize)?;
             grow(above, capacity / 2)
         }
     }
 }
 
-// Makes room for so many leaves in all.
+// Makes room for so many hashes in the first row, and for the nodes above them.
 pub(crate) fn make_capacity(alloc: Global, rows: &mut Vec<Row>, capacity: u64) -> Result<(), Memory>
+    requires small { capacity < 2 ^ 63 }
     requires levels { HaveLevels rows.old.items }
     requires counted { HaveCount rows.old.items }
-    ensures grown { HaveGrown rows.old.items rows.new.items }
+    ensures grown { NodesHaveGrown rows.old.items rows.new.items }
     ensures levels { HaveLevels rows.new.items }
     ensures holds { OnOk result (HoldUpTo capacity rows.new.items) }
 {
@@ -100,14 +82,14 @@ pub(crate) fn make_capacity(alloc: Global, rows: &mut Vec<Row>, capacity: u64) -
     grow(rows.as_mut_slice(), capacity)
 }
 
-// Puts a leaf, or a node of the first of these rows, behind the others, and above it each node of
-// which it is the last part.
+// Puts a hash behind the others of the first of these rows, and above it each node of which it is
+// the last part.
 pub(crate) fn push_up<H: TreeHash>(rows: &mut [Row], hash: &[u8; 32])
     requires capacity { HaveCapacity rows.old }
-    ensures pushed { (leaves : List Hash)
-        → AreRowsOf H.hash leaves rows.old → AreRowsOf H.hash (leaves ++ hash.now ∷ []) rows.new }
+    ensures pushed { (hashes : List Hash) → AreFullRowsOf H.hash hashes rows.old
+        → AreFullRowsOf H.hash (hashes ++ hash.now ∷ []) rows.new }
     ensures long { (count : ℕ) → AreLong count rows.old → AreLong (count + 1) rows.new }
-    ensures gone { (level : ℕ) → gone_at rows.new level ≡ gone_at rows.old level }
+    ensures gone { (level : ℕ) → gone_in rows.new level ≡ gone_in rows.old level }
     ensures holds { (capacity : ℕ) → HoldUpTo capacity rows.old → HoldUpTo capacity rows.new }
 {
     match rows.split_first_mut() {
@@ -121,8 +103,27 @@ pub(crate) fn push_up<H: TreeHash>(rows: &mut [Row], hash: &[u8; 32])
     }
 }
 
+// Makes the nodes over the pairs of a row, from one of these on up to another.
+pub(crate) fn fill_above<H: TreeHash>(row: &Row, above: &mut [Row], from: u64, to: u64)
+    requires few { row_count row.now < 2 ^ 64 }
+    requires order { from ≤ to }
+    requires gone { row.now.gone ≤ 2 * from }
+    requires within { 2 * to ≤ row_count row.now }
+    requires capacity { CanReach from to above.old }
+    ensures filled { (hashes : List Hash) → IsRowOf hashes row.now
+        → AreFullRowsOf H.hash (take from (paired H.hash hashes)) above.old
+        → AreFullRowsOf H.hash (take to (paired H.hash hashes)) above.new }
+    ensures long { AreLong to above.new }
+    ensures gone { (level : ℕ) → gone_in above.new level ≡ gone_in above.old level }
+    ensures holds { (capacity : ℕ) → HoldUpTo capacity above.old → HoldUpTo capacity above.new }
+{
+    for number in from..to {
+        push_up::<H>(above, &row.pair_at::<H>(number));
+    }
+}
+
 // How many nodes of a level stand in the tiles that the first `size` leaves fill.
-fn nodes_in_tiles(size: u64, level: u32) -> u64
+pub(crate) fn nodes_in_tiles(size: u64, level: u32) -> u64
     requires few { size < 2 ^ 32 }
     requires small { level < 64 }
     ensures { result ≡ gone_of size level }
@@ -139,12 +140,12 @@ pub(crate) fn forget_from(rows: &mut [Row], size: u64, level: u32)
     requires few { size < 2 ^ 32 }
     requires small { level + length rows.old ≤ 64 }
     requires can { CanForgetAll size level rows.old }
-    ensures same { (h : HashFunction) (leaves : List Hash)
-        → AreRowsOf h leaves rows.old → AreRowsOf h leaves rows.new }
+    ensures same { (h : HashFunction) (hashes : List Hash)
+        → AreFullRowsOf h hashes rows.old → AreFullRowsOf h hashes rows.new }
     ensures long { (count : ℕ) → AreLong count rows.old → AreLong count rows.new }
     ensures holds { (capacity : ℕ) → HoldUpTo capacity rows.old → HoldUpTo capacity rows.new }
     ensures gone { (at : ℕ) → at < length rows.old
-        → gone_at rows.new at ≡ gone_of size (level + at) }
+        → gone_in rows.new at ≡ gone_of size (level + at) }
 {
     match rows.split_first_mut() {
         None => (),

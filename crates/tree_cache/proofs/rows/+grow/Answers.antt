@@ -34,8 +34,8 @@ returns-in_ok-reserve-in-Some-clause-holds t c =
     (holds-more c.reserve.new.self c.grow.new.rows c.args.capacity (omega arith))
     c.grow.ensures.holds
 
-pub row_length-count-requires : goal.row_length-count-requires
-row_length-count-requires t c =
+pub count-count-requires : goal.count-count-requires
+count-count-requires t c =
     counted-row c.args.rows.now c.in-Some.row.now c.in-Some.above.now c.in-Some.ensures.cases.0
     c.requires.counted
 

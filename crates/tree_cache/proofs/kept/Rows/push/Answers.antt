@@ -1,26 +1,31 @@
-use Rattle.std.proofs.Common.{◌+◌, ◌<◌, ◌++◌, length, take, drop, sym, ◌∙◌, ap, subst, arith}
-use Rattle.tree_cache.proofs.Pushes.{IsPushed, pushed_whole}
-use Rattle.tree_cache.specs.Rows.{count_of}
-use Rattle.tree_cache.proofs.kept.Rows.push.Given as given
+use Rattle.std.proofs.Common.{sym, ◌∙◌, ap, refl, subst}
+use Rattle.tree_cache.proofs.Filled.{rows-pushed}
+use Rattle.tree_cache.proofs.Grows.{gone-grown}
+use Rattle.tree_cache.specs.Rows.{AreRowsOf, RowsState, gone_at}
 use Rattle.tree_cache.proofs.kept.Rows.push.Goals as goal
 
-pushed : (g : given.Over) (c : goal.After-self-1 g)
-    → IsPushed g.H.TreeHash.hash c.args.leaf.now c.self.inside.capacity c.self.inside.rows.items
-    (take c.self.inside.rows.len
-    (c.push_up.new.rows ++ drop (length c.push_up.new.rows) c.self.inside.rows.items))
-pushed g c =
-    pushed_whole g.H.TreeHash.hash c.args.leaf.now c.self.inside.rows.items
-    c.as_mut_slice.result.now c.push_up.new.rows c.self.inside.rows.len c.self.inside.capacity
-    c.self.invariant (subst (λ r. count_of r.rows < r.capacity) (sym c.self.view_is) c.requires)
-    c.as_mut_slice.ensures.value
-    (omega (arith, c.self.inside.rows.ok.0)) (omega arith)
-    c.push_up.ensures.pushed c.push_up.ensures.long c.push_up.ensures.gone
-    c.push_up.ensures.holds
+before : goal.After-push → RowsState
+before c = record {
+  first = c.self.inside.first;
+  above = c.self.inside.above.items;
+  capacity = c.self.inside.capacity;
+}
 
-pub invariant_of-self : goal.invariant_of-self
-invariant_of-self g c = let done = pushed g c in done.sound
+after : goal.After-push → RowsState
+after c = record {
+  first = c.push.new.self;
+  above = c.self.inside.above.items;
+  capacity = c.self.inside.capacity;
+}
 
-pub returns-clause-count : goal.returns-clause-count
-returns-clause-count g c =
-    let done = pushed g c in
-    done.count ∙ ap (λ r. count_of r.rows + 1) c.self.view_is
+pub returns-clause-pushed : goal.returns-clause-pushed
+unfolding before after
+returns-clause-pushed c = λ h leaves are.
+    rows-pushed h leaves (before c) (after c) c.args.leaf.now c.push.ensures.gone
+    c.push.ensures.hashes refl (subst (AreRowsOf h leaves) (sym c.self.view_is) are)
+
+pub returns-clause-gone : goal.returns-clause-gone
+unfolding before after
+returns-clause-gone c = λ level.
+    gone-grown (before c) (after c) c.push.ensures.gone (λ above. refl) level
+    ∙ ap (λ r. gone_at r level) c.self.view_is
