@@ -14,7 +14,6 @@ use Rattle.disk_core.specs.Disk.{part}
 use Rattle.disk_core.specs.declared.disk.Disk.{Ghosts}
 use Rattle.frame_pool.specs.Frames.{PoolState}
 use Rattle.tile_store.proofs.Bytes.{part-part}
-use Rattle.tile_store.proofs.Grown.{first-is}
 use Rattle.tile_store.proofs.Kept.{sound-stored}
 use Rattle.tile_store.proofs.Numbers.{full-low, full-more, full-number, number-full}
 use Rattle.tile_store.specs.Causes.{HasCauseOf, IsFirstBad, IsNewTile, StandsIn}
@@ -27,7 +26,7 @@ use Rattle.tile_store.specs.Store.{TilesStay, tiles_leaves}
 use Rattle.tile_store.specs.declared.error.TileError.{TileError}
 use Rattle.tile_store.specs.declared.error.TileError.TheVariants.{BadTile, Failed}
 use Rattle.tile_store.specs.declared.store.Tiles.{Tiles}
-use Rattle.tree_cache.proofs.Pushes.{count-rows}
+use Rattle.tree_cache.proofs.Filled.{count-rows, first-is}
 use Rattle.tree_cache.specs.Rows.{AreRowsOf, RowsState, count_of, first_row, gone_at}
 use Rattle.tree_cache.specs.Tiled.{gone_of}
 use Rattle.tree_core.proofs.Roots.{root_of-one}
@@ -110,7 +109,7 @@ module _ {T : Type 0} (g : Ghosts T) where
   pub stand-in : (h : List ℕ → List ℕ) (rows : RowsState) (adopted size : ℕ) (disk : T)
       (pool : PoolState) (b : List ℕ) (leaves : List (List ℕ)) → size < 2 ^ 32
       → HaveMatched g h rows (tiles_in adopted) (tiles_in size) disk pool
-      → g.contents disk ≡ Some b → FramesHold b pool → AreRowsOf h leaves rows.rows
+      → g.contents disk ≡ Some b → FramesHold b pool → AreRowsOf h leaves rows
       → (level place : ℕ) → IsNewTile adopted size level place → StandsIn h leaves b level place
   stand-in h rows adopted size disk pool b leaves few matched contents frames are level place new =
       let is = between adopted size level place few new in
@@ -119,12 +118,15 @@ module _ {T : Type 0} (g : Ghosts T) where
 
 -- why the tiles of a size are not adopted
 pub cause-from : {H T : Type 0} {hashes : Hashes H} {g : Ghosts T}
-    (old : Tiles H T hashes g) (disk : T) (size : ℕ) (e : TileError) → size < 2 ^ 32
-    → HasTileReason g hashes.hash old.rows (tiles_in old.adopted) (tiles_in size) old.disk disk
+    (old : Tiles H T hashes g) (rows : RowsState) (disk : T) (size : ℕ) (e : TileError)
+    → size < 2 ^ 32
+    → ((leaves : List (List ℕ)) → AreRowsOf hashes.hash leaves old.rows
+    → AreRowsOf hashes.hash leaves rows)
+    → HasTileReason g hashes.hash rows (tiles_in old.adopted) (tiles_in size) old.disk disk
     old.pool e
     → HasCauseOf old disk size e
-cause-from old disk size Failed few reason = reason
-cause-from {hashes = hashes} {g = g} old disk size (BadTile level place) few reason = (
+cause-from old rows disk size Failed few still reason = reason
+cause-from {hashes = hashes} {g = g} old rows disk size (BadTile level place) few still reason = (
   reason.0,
   both-contents (g.contents old.disk) (leaves_with old.adopted old.rows)
       (λ bytes leaves. IsFirstBad hashes.hash leaves bytes old.adopted size level place)
@@ -141,11 +143,11 @@ cause-from {hashes = hashes} {g = g} old disk size (BadTile level place) few rea
             let there = standing.there in omega arith)
             (λ (other : IsTile h (leaves_with old.adopted old.rows b) level place
             (part (tile_at level place) 8192 b) → ⊥). other standing.tile)
-            (is.other b contents sound.frames leaves sound.stands);
+            (is.other b contents sound.frames leaves (still leaves sound.stands));
         first = λ l p tile earlier.
             let at = between old.adopted size l p few tile in
             stands h leaves b l p
-            (is.before b contents sound.frames leaves sound.stands l p at.0 at.1.0 earlier);
+            (is.before b contents sound.frames leaves (still leaves sound.stands) l p at.0 at.1.0 earlier);
       }),
 )
 
@@ -211,31 +213,31 @@ first-stored h leaves size b (suc n) tiles whole within upto =
 -- so the list stays where the nodes of these tiles are dropped
 pub list-stays : (h : List ℕ → List ℕ) (leaves : List (List ℕ)) (size : ℕ) (new : RowsState)
     (b : List ℕ) → HoldsTiles h leaves size b → size % 256 ≡ 0 → size ≤ length leaves
-    → AreRowsOf h leaves new.rows → gone_at new.rows 0 ≡ gone_of size 0
+    → AreRowsOf h leaves new → gone_at new 0 ≡ gone_of size 0
     → leaves_with size new b ≡ leaves
 list-stays h leaves size new b tiles whole within are gone =
     let all : gone_of size 0 ≡ size = omega arith in
-    ap (λ l. l ++ first_row new.rows) (first-stored h leaves size b size tiles whole within
+    ap (λ l. l ++ first_row new) (first-stored h leaves size b size tiles whole within
     (omega arith))
     ∙ ap (λ f. take size leaves ++ f)
-    (first-is h leaves new.rows are ∙ ap (λ n. drop n leaves) (gone ∙ all))
+    (first-is h leaves new are ∙ ap (λ n. drop n leaves) (gone ∙ all))
     ∙ take-append-drop size leaves
 
 pub sound-adopted : (h : List ℕ → List ℕ) (adopted stored size most : ℕ) (old new : RowsState)
     (pool : PoolState) (b : List ℕ) → size % 256 ≡ 0 → most ≡ max stored size
-    → size ≤ count_of old.rows
-    → ((leaves : List (List ℕ)) → AreRowsOf h leaves old.rows → AreRowsOf h leaves new.rows)
-    → gone_at new.rows 0 ≡ gone_of size 0 → HoldsTiles h (leaves_with adopted old b) size b
+    → size ≤ count_of old
+    → ((leaves : List (List ℕ)) → AreRowsOf h leaves old → AreRowsOf h leaves new)
+    → gone_at new 0 ≡ gone_of size 0 → HoldsTiles h (leaves_with adopted old b) size b
     → IsSoundOver h adopted stored old pool b → IsSoundOver h size most new pool b
 sound-adopted h adopted stored size most old new pool b whole is within same gone tiles sound =
     let leaves = leaves_with adopted old b in
-    let count = count-rows h (leaves_with adopted old b) old.rows sound.stands in
+    let count = count-rows h (leaves_with adopted old b) old sound.stands in
     let rows = same (leaves_with adopted old b) sound.stands in
     let list = list-stays h (leaves_with adopted old b) size new b tiles whole (omega arith) rows
     gone in
     let more = sound-stored h adopted stored size most old pool b is tiles sound in
     record {
-      stands = subst (λ l. AreRowsOf h l new.rows) (sym list) rows;
+      stands = subst (λ l. AreRowsOf h l new) (sym list) rows;
       tiles = subst (λ l. HoldsTiles h l most b) (sym list) more.tiles;
       frames = sound.frames;
     }
@@ -252,7 +254,7 @@ module _ {H T : Type 0} {hashes : Hashes H} {g : Ghosts T} where
       → leaves_with mid.adopted mid.rows b ≡ leaves_with old.adopted old.rows b
   same-leaves old mid b stays =
       ap (λ a. leaves_with a mid.rows b) stays.adopted
-      ∙ ap (λ r. leaves_with old.adopted r b) stays.rows
+      ∙ ap (λ f. stored_leaves old.adopted b ++ f) stays.rows.first
 
   -- once the new tiles were found, those of the size are in the file
   pub found-tiles : (old mid : Tiles H T hashes g) (size : ℕ) (b : List ℕ) → TilesStay old mid

@@ -16,9 +16,9 @@ use Rattle.tile_store.specs.Contents.{HoldsTiles, IsTile, stored_leaves}
 use Rattle.tile_store.specs.Frames.{HasNoPins}
 use Rattle.tile_store.specs.Layout.{IsFull, tile_at}
 use Rattle.tile_store.specs.Sound.{IsSoundOver, leaves_with}
-use Rattle.tree_cache.proofs.Pushes.{count-rows}
-use Rattle.tree_cache.specs.Rows.{AreRowsOf, HaveGrown, RowState, RowsState, count_of, first_row}
-use Rattle.tree_cache.specs.Rows.{gone_at}
+use Rattle.tree_cache.proofs.Filled.{count-rows, first-is}
+use Rattle.tree_cache.proofs.Grows.{rows-none, whole-none}
+use Rattle.tree_cache.specs.Rows.{AreRowsOf, IsEmpty, RowsState, count_of, first_row, gone_at}
 use Rattle.tree_cache.specs.Tiled.{gone_of}
 use Rattle.tree_core.specs.Path.{part_of}
 use Rattle.tree_core.specs.Tree.{root_of}
@@ -50,50 +50,42 @@ tile-longer h leaves more level place tile full is = record {
       ((256 * place + i + 1) * 256 ^ level) step (omega arith)));
 }
 
--- what the first row keeps
-pub first-is : (h : List ℕ → List ℕ) (leaves : List (List ℕ)) (rows : List RowState)
-    → AreRowsOf h leaves rows → first_row rows ≡ drop (gone_at rows 0) leaves
-unfolding AreRowsOf gone_at
-first-is h leaves [] are = sym are
-first-is h leaves (row ∷ rows) are = are.0.kept
-
-gone-first : (h : List ℕ → List ℕ) (leaves : List (List ℕ)) (rows : List RowState)
+gone-first : (h : List ℕ → List ℕ) (leaves : List (List ℕ)) (rows : RowsState)
     → AreRowsOf h leaves rows → gone_at rows 0 ≤ length leaves
-unfolding AreRowsOf gone_at
-gone-first h leaves [] are = omega arith
-gone-first h leaves (row ∷ rows) are = are.0.within
+unfolding gone_at
+gone-first h leaves rows are = are.first.within
 
 -- a leaf behind the others
 pub leaves-pushed : (h : List ℕ → List ℕ) (adopted : ℕ) (old new : RowsState) (b leaf : List ℕ)
-    → ((leaves : List (List ℕ)) → AreRowsOf h leaves old.rows
-    → AreRowsOf h (leaves ++ leaf ∷ []) new.rows)
-    → ((level : ℕ) → gone_at new.rows level ≡ gone_at old.rows level)
-    → AreRowsOf h (leaves_with adopted old b) old.rows
+    → ((leaves : List (List ℕ)) → AreRowsOf h leaves old
+    → AreRowsOf h (leaves ++ leaf ∷ []) new)
+    → ((level : ℕ) → gone_at new level ≡ gone_at old level)
+    → AreRowsOf h (leaves_with adopted old b) old
     → leaves_with adopted new b ≡ leaves_with adopted old b ++ leaf ∷ []
 leaves-pushed h adopted old new b leaf pushed gone stands =
     let leaves = leaves_with adopted old b in
-    let first : first_row new.rows ≡ first_row old.rows ++ leaf ∷ [] =
-    first-is h (leaves_with adopted old b ++ leaf ∷ []) new.rows
+    let first : first_row new ≡ first_row old ++ leaf ∷ [] =
+    first-is h (leaves_with adopted old b ++ leaf ∷ []) new
     (pushed (leaves_with adopted old b) stands)
     ∙ ap (λ n. drop n (leaves_with adopted old b ++ leaf ∷ [])) (gone 0)
-    ∙ drop-append-le (gone_at old.rows 0) (leaves_with adopted old b) (leaf ∷ [])
-    (gone-first h (leaves_with adopted old b) old.rows stands)
-    ∙ ap (λ l. l ++ leaf ∷ []) (sym (first-is h (leaves_with adopted old b) old.rows stands)) in
+    ∙ drop-append-le (gone_at old 0) (leaves_with adopted old b) (leaf ∷ [])
+    (gone-first h (leaves_with adopted old b) old stands)
+    ∙ ap (λ l. l ++ leaf ∷ []) (sym (first-is h (leaves_with adopted old b) old stands)) in
     ap (λ f. stored_leaves adopted b ++ f) first
-    ∙ sym (append_assoc (stored_leaves adopted b) (first_row old.rows) (leaf ∷ []))
+    ∙ sym (append_assoc (stored_leaves adopted b) (first_row old) (leaf ∷ []))
 
 pub sound-pushed : (h : List ℕ → List ℕ) (adopted stored : ℕ) (old new : RowsState)
     (pool : PoolState) (b leaf : List ℕ)
-    → ((leaves : List (List ℕ)) → AreRowsOf h leaves old.rows
-    → AreRowsOf h (leaves ++ leaf ∷ []) new.rows)
-    → ((level : ℕ) → gone_at new.rows level ≡ gone_at old.rows level)
-    → stored ≤ count_of old.rows → IsSoundOver h adopted stored old pool b
+    → ((leaves : List (List ℕ)) → AreRowsOf h leaves old
+    → AreRowsOf h (leaves ++ leaf ∷ []) new)
+    → ((level : ℕ) → gone_at new level ≡ gone_at old level)
+    → stored ≤ count_of old → IsSoundOver h adopted stored old pool b
     → IsSoundOver h adopted stored new pool b
 sound-pushed h adopted stored old new pool b leaf pushed gone within is =
     let same = leaves-pushed h adopted old new b leaf pushed gone is.stands in
-    let count = count-rows h (leaves_with adopted old b) old.rows is.stands in
+    let count = count-rows h (leaves_with adopted old b) old is.stands in
     record {
-      stands = subst (λ l. AreRowsOf h l new.rows) (sym same)
+      stands = subst (λ l. AreRowsOf h l new) (sym same)
           (pushed (leaves_with adopted old b) is.stands);
       tiles = λ level place full.
           subst (λ l. IsTile h l level place (part (tile_at level place) 8192 b)) (sym same)
@@ -102,16 +94,17 @@ sound-pushed h adopted stored old new pool b leaf pushed gone within is =
       frames = is.frames;
     }
 
--- more room
-pub sound-roomier : (h : List ℕ → List ℕ) (adopted stored : ℕ) (old new : RowsState)
-    (pool : PoolState) (b : List ℕ) → HaveGrown old.rows new.rows
+-- more room, or nodes over more of the leaves
+pub sound-still : (h : List ℕ → List ℕ) (adopted stored : ℕ) (old new : RowsState)
+    (pool : PoolState) (b : List ℕ) → first_row new ≡ first_row old
+    → ((leaves : List (List ℕ)) → AreRowsOf h leaves old → AreRowsOf h leaves new)
     → IsSoundOver h adopted stored old pool b → IsSoundOver h adopted stored new pool b
-sound-roomier h adopted stored old new pool b grown is =
+sound-still h adopted stored old new pool b first still is =
     let same : leaves_with adopted new b ≡ leaves_with adopted old b =
-    ap (λ f. stored_leaves adopted b ++ f) grown.first in
+    ap (λ f. stored_leaves adopted b ++ f) first in
     record {
-      stands = subst (λ l. AreRowsOf h l new.rows) (sym same)
-          (grown.same h (leaves_with adopted old b) is.stands);
+      stands = subst (λ l. AreRowsOf h l new) (sym same)
+          (still (leaves_with adopted old b) is.stands);
       tiles = subst (λ l. HoldsTiles h l stored b) (sym same) is.tiles;
       frames = is.frames;
     }
@@ -124,13 +117,12 @@ contents-same None f k before same = refl
 contents-same (Some b) f k before same = ap Some (same b refl)
 
 -- a store that is new
-pub gone-none : (rows : List RowState) (level : ℕ) → rows ≡ []
+pub gone-none : (rows : RowsState) (level : ℕ) → IsEmpty rows.first → rows.above ≡ []
     → gone_at rows level ≡ gone_of 0 level
-unfolding gone_at
-gone-none rows level none =
+gone-none rows level empty none =
     let zero : 0 / 256 ^ (level / 8 + 1) ≡ 0 = zero-div (256 ^ (level / 8 + 1)) in
     let nothing : 0 * 2 ^ (8 - level % 8) ≡ 0 = omega arith in
-    ap (λ r. gone_at r level) none ∙ sym (ap (λ q. q * 2 ^ (8 - level % 8)) zero ∙ nothing)
+    whole-none rows empty none level ∙ sym (ap (λ q. q * 2 ^ (8 - level % 8)) zero ∙ nothing)
 
 pub no-pins : (pool : PoolState) → IsSoundPool pool
     → ((slot : ℕ) (key : TileKey) → HoldsKey pool slot key → ⊥) → HasNoPins pool
@@ -147,11 +139,12 @@ no-pins pool sound unheld = λ slot. sound.empty slot (none slot (key_at pool sl
         }))
 
 pub sound-new : (h : List ℕ → List ℕ) (rows : RowsState) (pool : PoolState) (b : List ℕ)
-    → rows.rows ≡ [] → ((slot : ℕ) (key : TileKey) → HoldsKey pool slot key → ⊥)
+    → IsEmpty rows.first → rows.above ≡ []
+    → ((slot : ℕ) (key : TileKey) → HoldsKey pool slot key → ⊥)
     → IsSoundOver h 0 0 rows pool b
-unfolding AreRowsOf stored_leaves
-sound-new h rows pool b none unheld = record {
-  stands = subst (λ r. AreRowsOf h (stored_leaves 0 b ++ first_row r) r) (sym none) refl;
+unfolding stored_leaves
+sound-new h rows pool b empty none unheld = record {
+  stands = subst (λ l. AreRowsOf h l rows) (sym empty.kept) (rows-none h rows empty none);
   tiles = λ level place full.
       let positive = power_pos 256 (level + 1) (omega arith) in
       let no : ⊥ = omega arith in
@@ -159,6 +152,7 @@ sound-new h rows pool b none unheld = record {
   frames = λ slot key holds. absurd (unheld slot key holds);
 }
 
-pub leaves-none : (rows : RowsState) (b : List ℕ) → rows.rows ≡ [] → leaves_with 0 rows b ≡ []
+pub leaves-none : (rows : RowsState) (b : List ℕ) → IsEmpty rows.first
+    → leaves_with 0 rows b ≡ []
 unfolding stored_leaves
-leaves-none rows b none = ap first_row none
+leaves-none rows b empty = empty.kept

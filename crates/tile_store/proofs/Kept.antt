@@ -49,7 +49,7 @@ pub leaves-behind : (adopted stored : ℕ) (rows : RowsState) (b after : List �
     → KeepsPrefix (tiles_end stored) b after
     → leaves_with adopted rows after ≡ leaves_with adopted rows b
 leaves-behind adopted stored rows b after whole within there keeps =
-    ap (λ l. l ++ first_row rows.rows)
+    ap (λ l. l ++ first_row rows)
     (leaves-prefix adopted (tiles_end stored) after b
     (λ k below. leaf-tile adopted stored k whole within below)
     (whole-prefix (tiles_end stored) b after there keeps))
@@ -88,7 +88,7 @@ pub sound-behind : (h : List ℕ → List ℕ) (adopted stored : ℕ) (rows : Ro
 sound-behind h adopted stored rows pool b after whole within few there keeps keys is =
     let same = leaves-behind adopted stored rows b after whole within there keeps in
     record {
-      stands = subst (λ l. AreRowsOf h l rows.rows) (sym same) is.stands;
+      stands = subst (λ l. AreRowsOf h l rows) (sym same) is.stands;
       tiles = λ level place full.
           subst (λ l. IsTile h l level place (part (tile_at level place) 8192 after)) (sym same)
           (subst (IsTile h (leaves_with adopted rows b) level place)

@@ -18,7 +18,7 @@ use Rattle.tile_store.specs.Contents.{IsTile}
 use Rattle.tile_store.specs.Layout.{tile_at, tile_number}
 use Rattle.tile_store.specs.Writing.{HoldsFirst, IsImageBehind, IsTileWritten, KeepsPrefix}
 use Rattle.tile_store.specs.Writing.{TilesAreWritten, WritesBehind}
-use Rattle.tree_cache.specs.Rows.{RowState, RowsState}
+use Rattle.tree_cache.specs.Rows.{RowsState}
 use Rattle.byte_formats.specs.Types.{HashFunction, Text}
 
 -- bytes that were written at a place, and those before it
@@ -80,7 +80,7 @@ mapped-some f (Some x) y is = (x, (refl, cc))
 
 module _ {T : Type 0} (g : Ghosts T) where
   -- what was written so far, from one number on up to another
-  pub record HavePut (h : HashFunction) (rows : List RowState) (from to number : ℕ) (old now : T)
+  pub record HavePut (h : HashFunction) (rows : RowsState) (from to number : ℕ) (old now : T)
       : Type 0 where
     pub most : number ≤ max from to
     pub behind : WritesBehind g (8192 * from) old now
@@ -88,7 +88,7 @@ module _ {T : Type 0} (g : Ghosts T) where
     pub faults : g.faults now ≡ g.faults old
 
   -- nothing was written yet
-  pub put-none : (h : HashFunction) (rows : List RowState) (from to : ℕ) (disk : T)
+  pub put-none : (h : HashFunction) (rows : RowsState) (from to : ℕ) (disk : T)
       → ((c : Text) → g.left_since disk (g.moment disk) c → g.may_leave disk c)
       → 8192 * from ≤ g.known disk → HavePut h rows from to from disk disk
   put-none h rows from to disk only_now reach = record {
@@ -153,12 +153,12 @@ module _ {T : Type 0} (g : Ghosts T) where
       → ((t : ℕ) (c : List ℕ) → t ≤ g.moment mid → g.may_leave mid c → g.left_since mid t c)
       → ((b : List ℕ) → g.contents mid ≡ Some b → g.known mid ≤ length b)
       → from ≤ number → number < to → l ≤ 2 → tile_number l p ≡ number
-      → HavePut h rows.rows from to number old mid
+      → HavePut h rows from to number old mid
       → LeavesOnly g mid new (IsImageBehind g mid (tile_at l p))
       → is_some (g.contents new) ≡ is_some (g.contents mid)
       → g.known new ≡ max (tile_at l p + 8192) (g.known mid) → g.faults new ≡ g.faults mid
       → IsTileWritten h rows l p (g.contents mid) (g.contents new)
-      → HavePut h rows.rows from to (number + 1) old new
+      → HavePut h rows from to (number + 1) old new
   put-on h rows from to number l p old mid new counts_now there order less low is sofar moments
       contents
       known faults written =

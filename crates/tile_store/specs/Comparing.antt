@@ -35,7 +35,7 @@ pub record HaveCompared {T : Type 0} (g : Ghosts T) (old new : T) (before after 
 abbrev pub OverEach : {T : Type 0} → Ghosts T → HashFunction → RowsState → T → PoolState
     → (Text → List Hash → Type 0) → Type 0
 OverEach g h rows disk pool P = (b : Text) → g.contents disk ≡ Some b → FramesHold b pool
-    → (leaves : List Hash) → AreRowsOf h leaves rows.rows → P b leaves
+    → (leaves : List Hash) → AreRowsOf h leaves rows → P b leaves
 
 -- The tiles of these numbers are in the file.
 abbrev pub HaveMatched : {T : Type 0} → Ghosts T → HashFunction → RowsState → ℕ → ℕ → T

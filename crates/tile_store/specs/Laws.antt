@@ -7,7 +7,7 @@ use Rattle.frame_pool.specs.Frames.{PoolState}
 use Rattle.tile_store.specs.Sound.{IsSoundOver, leaves_with}
 use Rattle.tile_store.specs.Store.{TilesStay, tiles_count, tiles_leaves}
 use Rattle.tile_store.specs.declared.store.Tiles.{Tiles}
-use Rattle.tree_cache.proofs.Pushes.{count-rows}
+use Rattle.tree_cache.proofs.Filled.{count-rows, filled-on, filled-same}
 use Rattle.tree_cache.specs.Rows.{RowsState, count_of}
 use Rattle.tree_core.specs.declared.hashing.TreeHash.{Ghosts as Hashes}
 
@@ -16,11 +16,11 @@ counted-when : (h : List ℕ → List ℕ) (adopted stored : ℕ) (rows : RowsSt
     (contents : Option (List ℕ))
     → ((b : List ℕ) → contents ≡ Some b → IsSoundOver h adopted stored rows pool b)
     → IfSome (option_map (leaves_with adopted rows) contents)
-    (λ list. count_of rows.rows ≡ length list)
+    (λ list. count_of rows ≡ length list)
 counted-when h adopted stored rows pool None sound = tt
 counted-when h adopted stored rows pool (Some b) sound =
     let over = sound b refl in
-    count-rows h (leaves_with adopted rows b) rows.rows over.stands
+    count-rows h (leaves_with adopted rows b) rows over.stands
 
 module _ {H T : Type 0} {hashes : Hashes H} {g : Ghosts T} where
   pub counted-tiles : (tiles : Tiles H T hashes g)
@@ -34,7 +34,7 @@ module _ {H T : Type 0} {hashes : Hashes H} {g : Ghosts T} where
       → g.may_leave tiles.disk c) → TilesStay tiles tiles
   stay-same tiles only_now = record {
     only_reads = nothing_read g tiles.disk only_now;
-    rows = refl;
+    rows = filled-same hashes.hash tiles.rows;
     adopted = refl;
     stored = refl;
   }
@@ -43,7 +43,7 @@ module _ {H T : Type 0} {hashes : Hashes H} {g : Ghosts T} where
       → TilesStay old new
   stay-on old mid new first second = record {
     only_reads = only_read_on g old.disk mid.disk new.disk first.only_reads second.only_reads;
-    rows = second.rows ∙ first.rows;
+    rows = filled-on hashes.hash old.rows mid.rows new.rows first.rows second.rows;
     adopted = second.adopted ∙ first.adopted;
     stored = second.stored ∙ first.stored;
   }

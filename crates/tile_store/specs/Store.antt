@@ -8,7 +8,7 @@ use Rattle.tile_store.specs.Frames.{IsHeld}
 use Rattle.tile_store.specs.Layout.{IsFull, tile_level, tile_place}
 use Rattle.tile_store.specs.Sound.{leaves_with}
 use Rattle.tile_store.specs.declared.store.Tiles.{Tiles}
-use Rattle.tree_cache.specs.Rows.{count_of, spare_of}
+use Rattle.tree_cache.specs.Rows.{HaveFilled, count_of, spare_of}
 use Rattle.tree_core.specs.declared.hashing.TreeHash.{Ghosts as Hashes}
 
 module _ {H T : Type 0} {hashes : Hashes H} {g : Ghosts T} where
@@ -20,7 +20,7 @@ module _ {H T : Type 0} {hashes : Hashes H} {g : Ghosts T} where
 
   -- how many leaves there are, and how many more need no memory
   abbrev pub tiles_count : Tiles H T hashes g → ℕ
-  tiles_count tiles = count_of tiles.rows.rows
+  tiles_count tiles = count_of tiles.rows
 
   abbrev pub tiles_spare : Tiles H T hashes g → ℕ
   tiles_spare tiles = spare_of tiles.rows
@@ -43,10 +43,10 @@ module _ {H T : Type 0} {hashes : Hashes H} {g : Ghosts T} where
       IsFull tiles.adopted (tile_level level) (tile_place level place)
       → IsHeld tiles.pool (tile_level level) (tile_place level place)
 
-  -- The device was only looked at, and all but it, the frames and the nodes that are kept of their
-  -- tiles is as it was.
+  -- The device was only looked at, and all but it, the frames and the nodes that are made or kept of
+  -- their tiles is as it was.
   pub record TilesStay (old new : Tiles H T hashes g) : Type 0 where
     pub only_reads : OnlyReads g old.disk new.disk
-    pub rows : new.rows ≡ old.rows
+    pub rows : HaveFilled hashes.hash old.rows new.rows
     pub adopted : new.adopted ≡ old.adopted
     pub stored : new.stored ≡ old.stored

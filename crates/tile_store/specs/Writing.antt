@@ -7,7 +7,7 @@ use Rattle.disk_core.specs.Moments.{LeavesOnly}
 use Rattle.disk_core.specs.declared.disk.Disk.{Ghosts}
 use Rattle.tile_store.specs.Contents.{IsTile}
 use Rattle.tile_store.specs.Layout.{IsFull, tile_at, tile_number, tiles_in}
-use Rattle.tree_cache.specs.Rows.{AreRowsOf, RowState, RowsState, count_of, gone_at}
+use Rattle.tree_cache.specs.Rows.{AreRowsOf, RowsState, count_of, filled_of, gone_at}
 use Rattle.tree_cache.specs.Tiled.{gone_of}
 
 -- The bytes before a place stay, and the file gets no shorter.
@@ -28,11 +28,11 @@ pub record WritesBehind {T : Type 0} (g : Ghosts T) (place : ℕ) (old new : T) 
   pub contents : is_some (g.contents new) ≡ is_some (g.contents old)
   pub known : g.known old ≤ g.known new
 
--- The rows fill the tiles of the numbers from one on up to another, and none of their nodes is
+-- The rows have the nodes of the tiles of the numbers from one on up to another, and none of them is
 -- gone: those that are gone stand in the tiles of other leaves, whose numbers are lower.
-pub record HaveTiles (rows : List RowState) (from to : ℕ) : Type 0 where
+pub record HaveTiles (rows : RowsState) (from to : ℕ) : Type 0 where
   pub few : count_of rows < 2 ^ 32
-  pub full : to ≤ tiles_in (count_of rows)
+  pub full : to ≤ tiles_in (filled_of rows)
   pub adopted : ℕ
   pub behind : tiles_in adopted ≤ from
   pub gone : (level : ℕ) → gone_at rows level ≡ gone_of adopted level
@@ -42,7 +42,7 @@ pub record IsTileWritten (h : HashFunction) (rows : RowsState) (level place : �
     (old new : Option Text) : Type 0 where
   pub tile : Text
   pub contents : new ≡ option_map (overwritten (tile_at level place) tile) old
-  pub is : (leaves : List Hash) → AreRowsOf h leaves rows.rows → IsTile h leaves level place tile
+  pub is : (leaves : List Hash) → AreRowsOf h leaves rows → IsTile h leaves level place tile
 
 -- Of the tiles that these leaves fill, those of the first so many numbers are in the file.
 abbrev pub HoldsFirst : HashFunction → List Hash → ℕ → Text → Type 0
@@ -52,7 +52,7 @@ HoldsFirst h leaves count bytes = (level place : ℕ) → level ≤ 2
 
 -- The tiles of the numbers from one on up to another were written, and the known length comes to
 -- their end: where the file had those before them, it has all up to there.
-pub record TilesAreWritten {T : Type 0} (g : Ghosts T) (h : HashFunction) (rows : List RowState)
+pub record TilesAreWritten {T : Type 0} (g : Ghosts T) (h : HashFunction) (rows : RowsState)
     (from to : ℕ) (old new : T) : Type 0 where
   pub known : g.known new ≡ max (8192 * to) (g.known old)
   pub holds : (before after : Text) → g.contents old ≡ Some before → g.contents new ≡ Some after

@@ -12,7 +12,7 @@ ghost use Rattle.tile_store.specs.Frames.{HasNoPins};
 ghost use Rattle.tile_store.specs.declared.error.TileError.TheVariants.{BadTile};
 ghost use Rattle.tile_store.specs.Layout.{IsFull, tile_at, tile_number};
 ghost use Rattle.tile_store.specs.Writing.{HaveTiles};
-ghost use Rattle.tree_cache.specs.Rows.{count_of, gone_at};
+ghost use Rattle.tree_cache.specs.Rows.{count_of, filled_of, gone_at};
 
 use crate::TileError;
 use crate::layout::{TILE, tile_with};
@@ -42,9 +42,9 @@ fn matches<H: TreeHash, T: Disk>(
     key: TileKey,
 ) -> Result<bool, Failed>
     requires low { key.level ≤ 2 }
-    requires few { count_of rows.now.rows < 2 ^ 32 }
-    requires full { IsFull (count_of rows.now.rows) key.level key.place }
-    requires kept { gone_at rows.now.rows (8 * key.level) ≤ 256 * key.place }
+    requires few { count_of rows.now < 2 ^ 32 }
+    requires full { IsFull (filled_of rows.now) key.level key.place }
+    requires kept { gone_at rows.now (8 * key.level) ≤ 256 * key.place }
     requires there { tile_at key.level key.place + 8192 ≤ T.known disk.old }
     requires unheld { IsUnheld pool.old key }
     requires some { 1 ≤ length pool.old.keys }
@@ -70,7 +70,7 @@ fn compare<H: TreeHash, T: Disk>(
     from: u64,
     to: u64,
 ) -> Result<(), TileError>
-    requires rows { HaveTiles rows.now.rows from to }
+    requires rows { HaveTiles rows.now from to }
     requires there { 8192 * to ≤ T.known disk.old }
     requires unheld { (key : Key) → from ≤ tile_number key.level key.place
         → IsUnheld pool.old key }
@@ -99,7 +99,7 @@ pub(crate) fn check<H: TreeHash, T: Disk>(
     from: u64,
     to: u64,
 ) -> Result<(), TileError>
-    requires rows { HaveTiles rows.now.rows from to }
+    requires rows { HaveTiles rows.now from to }
     requires order { from < to }
     requires unheld { (key : Key) → from ≤ tile_number key.level key.place
         → IsUnheld pool.old key }

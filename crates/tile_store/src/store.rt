@@ -12,7 +12,7 @@ ghost use Rattle.mtc_io.specs.Counts.{HasCause, Rose};
 ghost use Rattle.tile_store.specs.Frames.{HasNoPins};
 ghost use Rattle.tile_store.specs.Layout.{IsFull, tiles_end};
 ghost use Rattle.tile_store.specs.Sound.{IsSoundOver, IsSoundOver-prop};
-ghost use Rattle.tree_cache.specs.Rows.{count_of, gone_at};
+ghost use Rattle.tree_cache.specs.Rows.{count_of, filled_of, gone_at};
 ghost use Rattle.tree_cache.specs.Tiled.{gone_of};
 
 use crate::TileError;
@@ -31,7 +31,9 @@ use tree_core::TreeHash;
 use tree_proofs::Nodes;
 
 /// A list of fewer than 2^32 leaf hashes as nodes. Those in adopted tiles come out of the file,
-/// through a frame, and the others are kept in memory.
+/// through a frame, and the others are kept in memory: the leaf hashes at once, and the nodes over
+/// them when one is asked for, and before tiles over them are stored or adopted. The memory for
+/// these is taken with the leaves, so a node takes none.
 ///
 /// Where the device tells its bytes, contracts see the leaf hashes. They always see how many there
 /// are, how many more need no memory, and the sizes of the lists whose full tiles are stored and
@@ -44,12 +46,12 @@ pub struct Tiles<H: TreeHash, T: Disk> {
     pub(crate) adopted: u64,
     pub(crate) stored: u64,
     function: PhantomData<H>,
-    ghost few: { count_of rows.rows < 2 ^ 32 },
+    ghost few: { count_of rows < 2 ^ 32 },
     ghost whole: { adopted % 256 ≡ 0 },
     ghost written: { adopted ≤ stored },
-    ghost within: { stored ≤ count_of rows.rows },
+    ghost within: { stored ≤ count_of rows },
     ghost reach: { tiles_end stored ≤ T.Disk.known disk },
-    ghost gone: { (level : ℕ) → gone_at rows.rows level ≡ gone_of adopted level },
+    ghost gone: { (level : ℕ) → gone_at rows level ≡ gone_of adopted level },
     ghost beside: { length inside.tiles.items ≤ length pool.keys },
     ghost some: { 1 ≤ length pool.keys },
     ghost free: { HasNoPins pool },
@@ -141,7 +143,7 @@ impl<H: TreeHash, T: Disk> Tiles<H, T> {
         ensures full { OnErr result (tiles_spare self.old ≡ 0) }
     {
         self.reserve(1)?;
-        self.rows.push::<H>(leaf);
+        self.rows.push(leaf);
         Ok(())
     }
 
@@ -175,11 +177,28 @@ impl<H: TreeHash, T: Disk> Tiles<H, T> {
     {
         let key = tile_of(level, place);
         if !is_full(self.adopted, key) {
-            return Ok(self.rows.hash_at(level, place));
+            return Ok(self.kept_node(level, place));
         }
         let slot = self.load(key)?;
         let tile = self.pool.frame(slot);
         Ok(self.inside.node(slot.0 as usize, tile, level, place))
+    }
+
+    // A node that stands in no adopted tile. Those over all leaves are made then, in memory that was
+    // taken with the leaves.
+    fn kept_node(&mut self, level: u32, place: u64) -> [u8; 32]
+        requires within { (place + 1) * 2 ^ level ≤ tiles_count self.old }
+        requires kept { gone_at self.old.rows level ≤ place }
+        ensures value { IsRootOf H.hash (tiles_leaves self.old) (place * 2 ^ level)
+            ((place + 1) * 2 ^ level) result }
+        ensures list { tiles_leaves self.new ≡ tiles_leaves self.old }
+        ensures disk { tiles_disk self.new ≡ tiles_disk self.old }
+        ensures pool { tiles_pool self.new ≡ tiles_pool self.old }
+        ensures stays { TilesStay self.old self.new }
+    {
+        let size = self.rows.count();
+        self.rows.fill::<H>(size);
+        self.rows.hash_at(level, place)
     }
 
     // The frame of an adopted tile.
@@ -244,7 +263,7 @@ impl<H: TreeHash, T: Disk> Tiles<H, T> {
         Ok(())
     }
 
-    // Writes the tiles that are to be stored.
+    // Makes the nodes of the tiles that are to be stored, and writes these.
     fn write(&mut self, size: u64) -> Result<(), Failed>
         requires { size ≤ tiles_count self.old }
         ensures list { tiles_leaves self.new ≡ tiles_leaves self.old }
@@ -264,6 +283,7 @@ impl<H: TreeHash, T: Disk> Tiles<H, T> {
         ensures cause { HasCause (T.faults (tiles_disk self.old)) (T.faults (tiles_disk self.new))
             result }
     {
+        self.rows.fill::<H>(size);
         let (from, to) = (count_tiles(self.stored), count_tiles(size));
         write_tiles::<H, T>(&mut self.disk, &self.rows, from, to)
     }
@@ -306,7 +326,7 @@ impl<H: TreeHash, T: Disk> Tiles<H, T> {
         Ok(())
     }
 
-    // Whether the file has the new tiles of so many leaves.
+    // Whether the file has the new tiles of so many leaves, whose nodes are made first.
     fn compare(&mut self, size: u64) -> Result<(), TileError>
         requires multiple { size % 256 ≡ 0 }
         requires within { size ≤ tiles_count self.old }
@@ -316,11 +336,13 @@ impl<H: TreeHash, T: Disk> Tiles<H, T> {
             IfSome (tiles_leaves self.old) (λ leaves. (level place : ℕ)
             → IsNewTile (tiles_adopted self.old) size level place
             → StandsIn H.hash leaves bytes level place))) }
+        ensures filled { size ≤ filled_of self.new.rows }
         ensures reach { OnOk result (tiles_end size ≤ T.known (tiles_disk self.new)) }
         ensures fine { OnOk result (T.faults (tiles_disk self.new)
             ≡ T.faults (tiles_disk self.old)) }
         ensures cause { IfErr result (HasCauseOf self.old (tiles_disk self.new) size) }
     {
+        self.rows.fill::<H>(size);
         let (from, to) = (count_tiles(self.adopted), count_tiles(size));
         check::<H, T>(&mut self.disk, &mut self.pool, &self.rows, from, to)
     }

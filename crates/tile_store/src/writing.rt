@@ -10,7 +10,7 @@ ghost use Rattle.tile_store.specs.Contents.{IsTile, hash_in};
 ghost use Rattle.tile_store.specs.Layout.{IsFull, tile_at};
 ghost use Rattle.tile_store.specs.Writing.{HaveTiles, IsImageBehind, IsTileWritten, KeepsPrefix};
 ghost use Rattle.tile_store.specs.Writing.{TilesAreWritten, WritesBehind};
-ghost use Rattle.tree_cache.specs.Rows.{AreRowsOf, count_of, gone_at};
+ghost use Rattle.tree_cache.specs.Rows.{AreRowsOf, count_of, filled_of, gone_at};
 
 use crate::layout::{place_of, tile_with};
 use disk_core::{Disk, settle};
@@ -31,11 +31,11 @@ pub(crate) fn bytes_of(hashes: &[[u8; 32]]) -> &[u8]
 // The bytes of a tile of the rows.
 pub(crate) fn tile_bytes(rows: &Rows, key: TileKey) -> &[u8]
     requires low { key.level ≤ 2 }
-    requires few { count_of rows.now.rows < 2 ^ 32 }
-    requires full { IsFull (count_of rows.now.rows) key.level key.place }
-    requires kept { gone_at rows.now.rows (8 * key.level) ≤ 256 * key.place }
+    requires few { count_of rows.now < 2 ^ 32 }
+    requires full { IsFull (filled_of rows.now) key.level key.place }
+    requires kept { gone_at rows.now (8 * key.level) ≤ 256 * key.place }
     ensures size { length result.now ≡ 8192 }
-    ensures tile { (h : HashFunction) (leaves : List Hash) → AreRowsOf h leaves rows.now.rows
+    ensures tile { (h : HashFunction) (leaves : List Hash) → AreRowsOf h leaves rows.now
         → IsTile h leaves key.level key.place result.now }
 {
     bytes_of(rows.hashes(8 * key.level as u32, 256 * key.place, 256))
@@ -44,9 +44,9 @@ pub(crate) fn tile_bytes(rows: &Rows, key: TileKey) -> &[u8]
 // Writes one tile.
 fn put<H: TreeHash, T: Disk>(disk: &mut T, rows: &Rows, key: TileKey) -> Result<(), Failed>
     requires low { key.level ≤ 2 }
-    requires few { count_of rows.now.rows < 2 ^ 32 }
-    requires full { IsFull (count_of rows.now.rows) key.level key.place }
-    requires kept { gone_at rows.now.rows (8 * key.level) ≤ 256 * key.place }
+    requires few { count_of rows.now < 2 ^ 32 }
+    requires full { IsFull (filled_of rows.now) key.level key.place }
+    requires kept { gone_at rows.now (8 * key.level) ≤ 256 * key.place }
     requires place { tile_at key.level key.place ≤ T.known disk.old }
     ensures written { OnOk result (IsTileWritten H.hash rows.now key.level key.place
         (T.contents disk.old) (T.contents disk.new)) }
@@ -68,10 +68,10 @@ fn put_all<H: TreeHash, T: Disk>(
     from: u64,
     to: u64,
 ) -> Result<(), Failed>
-    requires rows { HaveTiles rows.now.rows from to }
+    requires rows { HaveTiles rows.now from to }
     requires place { 8192 * from ≤ T.known disk.old }
     ensures written { OnOk result
-        (TilesAreWritten T.Disk H.hash rows.now.rows from to disk.old disk.new) }
+        (TilesAreWritten T.Disk H.hash rows.now from to disk.old disk.new) }
     ensures behind { WritesBehind T.Disk (8192 * from) disk.old disk.new }
     ensures reach { T.known disk.new ≤ max (8192 * to) (T.known disk.old) }
     ensures cause { HasCause (T.faults disk.old) (T.faults disk.new) result }
@@ -89,10 +89,10 @@ pub(crate) fn write_tiles<H: TreeHash, T: Disk>(
     from: u64,
     to: u64,
 ) -> Result<(), Failed>
-    requires rows { HaveTiles rows.now.rows from to }
+    requires rows { HaveTiles rows.now from to }
     requires place { 8192 * from ≤ T.known disk.old }
     ensures written { OnOk result
-        (TilesAreWritten T.Disk H.hash rows.now.rows from to disk.old disk.new) }
+        (TilesAreWritten T.Disk H.hash rows.now from to disk.old disk.new) }
     ensures durable { OnOk result (IfSome (T.contents disk.new)
         (λ bytes. Only bytes (T.may_leave disk.new))) }
     ensures prefix { (before after : Text) → T.contents disk.old ≡ Some before

@@ -5,7 +5,7 @@ use Rattle.tile_store.proofs.Compared.{compared-on, first-other, found-more, fou
 use Rattle.tile_store.proofs.Compared.{unheld-still}
 use Rattle.tile_store.proofs.Numbers.{full-number, gone-kept, number-full}
 use Rattle.tile_store.specs.Comparing.{HasTileReason}
-use Rattle.tree_cache.specs.Rows.{count_of}
+use Rattle.tree_cache.specs.Rows.{filled_of}
 use Rattle.tile_store.proofs.checking.compare.Goals as goal
 
 pub loop-number-init : goal.loop-number-init
@@ -18,7 +18,7 @@ pub matches-requires-clause-full : goal.matches-requires-clause-full
 matches-requires-clause-full g c =
     let number = c.tile_with-key.ensures.number in
     let full = c.requires.rows.full in
-    number-full (count_of c.args.rows.now.rows) c.tile_with-key.result.level
+    number-full (filled_of c.args.rows.now) c.tile_with-key.result.level
     c.tile_with-key.result.place c.tile_with-key.ensures.low (omega arith)
 
 pub matches-requires-clause-kept : goal.matches-requires-clause-kept

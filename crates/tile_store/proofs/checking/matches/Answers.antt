@@ -1,4 +1,4 @@
-use Rattle.std.proofs.Common.{◌≡◌, sym, ◌∙◌, subst}
+use Rattle.std.proofs.Common.{◌≡◌, sym, ◌∙◌, subst, arith}
 use Rattle.std.proofs.lemmas.Slice.Eq.{bytes_eq-Decides}
 use Rattle.disk_core.specs.Disk.{part}
 use Rattle.tile_store.proofs.Compared.{compared-one, same-tile}
@@ -6,12 +6,13 @@ use Rattle.tile_store.proofs.Numbers.{full-small}
 use Rattle.tile_store.specs.Comparing.{HaveCompared}
 use Rattle.tile_store.specs.Contents.{IsTile}
 use Rattle.tile_store.specs.Layout.{tile_at}
-use Rattle.tree_cache.specs.Rows.{count_of}
+use Rattle.tree_cache.specs.Rows.{filled_of}
 use Rattle.tile_store.proofs.checking.matches.Goals as goal
 
 pub load-requires-clause-few : goal.load-requires-clause-few
 load-requires-clause-few g c =
-    full-small (count_of c.args.rows.now.rows) c.args.key.level c.args.key.place c.requires.few
+    let few = c.requires.few in
+    full-small (filled_of c.args.rows.now) c.args.key.level c.args.key.place (omega arith)
     c.requires.full
 
 pub returns-clause-same : goal.returns-clause-same

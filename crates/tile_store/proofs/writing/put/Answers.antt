@@ -5,17 +5,18 @@ use Rattle.tile_store.proofs.Prefixes.{behind-now, prefix-torn}
 use Rattle.tile_store.proofs.Numbers.{full-number, full-small}
 use Rattle.tile_store.specs.Layout.{tile_at}
 use Rattle.tile_store.specs.Writing.{IsImageBehind}
-use Rattle.tree_cache.specs.Rows.{count_of}
+use Rattle.tree_cache.specs.Rows.{filled_of}
 use Rattle.tile_store.proofs.writing.put.Goals as goal
 
 pub place_of-requires-clause-few : goal.place_of-requires-clause-few
 place_of-requires-clause-few g c =
-    full-small (count_of c.args.rows.now.rows) c.args.key.level c.args.key.place c.requires.few
+    let few = c.requires.few in
+    full-small (filled_of c.args.rows.now) c.args.key.level c.args.key.place (omega arith)
     c.requires.full
 
 pub write_at-requires-clause-end : goal.write_at-requires-clause-end
 write_at-requires-clause-end g c =
-    let number = full-number (count_of c.args.rows.now.rows) c.args.key.level c.args.key.place
+    let number = full-number (filled_of c.args.rows.now) c.args.key.level c.args.key.place
     c.requires.low c.requires.full in
     let few = c.requires.few in
     let here = c.place_of.ensures in

@@ -2,19 +2,19 @@ use Rattle.std.proofs.Common.{◌*◌, ◌≤◌, sym, subst, arith}
 use Rattle.tile_store.proofs.Numbers.{full-number, gone-kept, number-full}
 use Rattle.tile_store.proofs.Steps.{behind-put, put-none, put-on}
 use Rattle.tile_store.specs.Layout.{tile_at}
-use Rattle.tree_cache.specs.Rows.{count_of}
+use Rattle.tree_cache.specs.Rows.{filled_of}
 use Rattle.tile_store.proofs.writing.put_all.Goals as goal
 
 pub loop-number-init : goal.loop-number-init
 loop-number-init g c =
-    put-none g.T.Disk g.H.TreeHash.hash c.args.rows.now.rows c.args.from c.args.to c.args.disk.now
+    put-none g.T.Disk g.H.TreeHash.hash c.args.rows.now c.args.from c.args.to c.args.disk.now
     (g.met.T.Disk.only_now c.args.disk.now) c.requires.place
 
 pub put-requires-clause-full : goal.put-requires-clause-full
 put-requires-clause-full g c =
     let number = c.tile_with.ensures.number in
     let full = c.requires.rows.full in
-    number-full (count_of c.args.rows.now.rows) c.tile_with.result.level c.tile_with.result.place
+    number-full (filled_of c.args.rows.now) c.tile_with.result.level c.tile_with.result.place
     c.tile_with.ensures.low (omega arith)
 
 pub put-requires-clause-kept : goal.put-requires-clause-kept

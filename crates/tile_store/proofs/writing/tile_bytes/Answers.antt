@@ -1,21 +1,22 @@
 use Rattle.std.proofs.Common.{◌+◌, ◌*◌, ◌<◌, sym, ◌∙◌, ap, subst}
-use Rattle.std.proofs.Common.{rules}
+use Rattle.std.proofs.Common.{arith, rules}
 use Rattle.tile_store.proofs.Numbers.{full-small, full-within}
 use Rattle.tree_cache.proofs.Forgets.{bytes-of}
-use Rattle.tree_cache.specs.Rows.{count_of}
+use Rattle.tree_cache.specs.Rows.{filled_of}
 use Rattle.tree_core.specs.Path.{part_of}
 use Rattle.tree_core.specs.Tree.{root_of}
 use Rattle.tile_store.proofs.writing.tile_bytes.Goals as goal
 
 pub overflow_mul-key-2 : goal.overflow_mul-key-2
 overflow_mul-key-2 c =
-    let few = full-small (count_of c.args.rows.now.rows) c.args.key.level c.args.key.place
-    c.requires.few c.requires.full in
+    let most = c.requires.few in
+    let few = full-small (filled_of c.args.rows.now) c.args.key.level c.args.key.place
+    (omega arith) c.requires.full in
     search rules
 
 pub hashes-requires-clause-within : goal.hashes-requires-clause-within
 hashes-requires-clause-within c =
-    full-within (count_of c.args.rows.now.rows) c.args.key.level c.args.key.place c.requires.full
+    full-within (filled_of c.args.rows.now) c.args.key.level c.args.key.place c.requires.full
 
 pub returns-clause-tile : goal.returns-clause-tile
 returns-clause-tile c = λ h leaves are.

@@ -7,8 +7,7 @@ use Rattle.tile_store.proofs.Adopted.{sound-adopted, contents-each}
 use Rattle.tile_store.proofs.Numbers.{full-more}
 use Rattle.tile_store.specs.Layout.{tiles_end}
 use Rattle.tile_store.specs.Sound.{leaves_with}
-use Rattle.tree_cache.proofs.Pushes.{count-rows}
-use Rattle.tree_cache.specs.Rows.{count_of}
+use Rattle.tree_cache.proofs.Filled.{count-rows}
 use Rattle.tree_cache.specs.Tiled.{gone_of}
 use Rattle.tile_store.proofs.store.Tiles.adopt.Goals as goal
 
@@ -26,8 +25,7 @@ invariant_of-self g c =
     let h = g.H.TreeHash.hash in
     let stays = c.compare.ensures.stays in
     let same = stays.adopted in
-    let rows : count_of tiles.rows.rows ≡ count_of old.rows.rows =
-    ap (λ r. count_of r.rows) stays.rows in
+    let rows = stays.rows.count in
     let most : c.max-self.result ≡ max tiles.stored c.args.size = search rules in
     let count = c.forget.ensures.count in
     let size = c.requires.within in
@@ -70,8 +68,7 @@ returns-clause-list g c =
     let tiles = c.compare.new.self in
     let h = g.H.TreeHash.hash in
     let stays = c.compare.ensures.stays in
-    let rows : count_of tiles.rows.rows ≡ count_of old.rows.rows =
-    ap (λ r. count_of r.rows) stays.rows in
+    let rows = stays.rows.count in
     let size = c.requires.within in
     contents-each (g.T.Disk.contents old.disk) (g.T.Disk.contents tiles.disk)
     (leaves_with old.adopted old.rows) (leaves_with c.args.size c.forget.new.self)
@@ -79,7 +76,7 @@ returns-clause-list g c =
     (λ b contents.
     let sound = tiles.contents b contents in
     let leaves = leaves_with tiles.adopted tiles.rows b in
-    let count = count-rows h (leaves_with tiles.adopted tiles.rows b) tiles.rows.rows
+    let count = count-rows h (leaves_with tiles.adopted tiles.rows b) tiles.rows
     sound.stands in
     list-stays h leaves c.args.size c.forget.new.self b
     (found-tiles old tiles c.args.size b stays c.in_ok-compare.ensures.stands contents)

@@ -1,5 +1,6 @@
 use Rattle.std.proofs.Common.{ℕ, sym, ◌∙◌, subst, arith}
 use Rattle.tile_store.proofs.Adopted.{both-contents, cause-from, if-err-map, on-ok-map, stand-in}
+use Rattle.tile_store.proofs.Grown.{sound-still}
 use Rattle.tile_store.proofs.Numbers.{full-low, full-number}
 use Rattle.tile_store.specs.Causes.{IsNewTile, StandsIn}
 use Rattle.tile_store.specs.Comparing.{HasTileReason, HaveMatched}
@@ -12,13 +13,15 @@ check-requires-clause-rows g c =
     let tiles = c.args.self.now in
     let from = c.count_tiles-from.ensures in
     let to = c.count_tiles-to.ensures in
-    let within = c.requires.within in
+    let filled = c.fill.ensures.rows in
+    let count = filled.count in
+    let size = c.fill.ensures.filled in
     record {
-      few = tiles.few;
+      few = let few = tiles.few in omega arith;
       full = omega arith;
       adopted = tiles.adopted;
       behind = omega arith;
-      gone = tiles.gone;
+      gone = λ level. filled.gone level ∙ tiles.gone level;
     }
 
 pub check-requires-clause-unheld : goal.check-requires-clause-unheld
@@ -37,15 +40,17 @@ pub invariant_of-self : goal.invariant_of-self
 invariant_of-self g c =
     let tiles = c.args.self.now in
     let compared = c.check.ensures.compared in
+    let filled = c.fill.ensures.rows in
+    let count = filled.count in
     record {
-      few = tiles.few;
+      few = let few = tiles.few in omega arith;
       whole = tiles.whole;
       written = tiles.written;
-      within = tiles.within;
+      within = let within = tiles.within in omega arith;
       reach = let known = compared.only_reads.known in
           let reach = tiles.reach in
           omega arith;
-      gone = tiles.gone;
+      gone = λ level. filled.gone level ∙ tiles.gone level;
       beside = let count = compared.count in
           let beside = tiles.beside in
           omega arith;
@@ -55,7 +60,9 @@ invariant_of-self g c =
       free = compared.free;
       keys = λ slot key holds. tiles.keys slot key (compared.keys slot key holds);
       contents = λ b contents.
-          let old = tiles.contents b (sym compared.only_reads.contents ∙ contents) in
+          let old = sound-still g.H.TreeHash.hash tiles.adopted tiles.stored tiles.rows
+          c.fill.new.self tiles.pool b filled.first filled.same
+          (tiles.contents b (sym compared.only_reads.contents ∙ contents)) in
           record {
             stands = old.stands;
             tiles = old.tiles;
@@ -75,13 +82,14 @@ returns-clause-stands g c =
     let sound = tiles.contents b contents in
     let few = tiles.few in
     let size = c.requires.within in
-    stand-in g.T.Disk h tiles.rows tiles.adopted c.args.size tiles.disk tiles.pool b
+    stand-in g.T.Disk h c.fill.new.self tiles.adopted c.args.size tiles.disk tiles.pool b
     (leaves_with tiles.adopted tiles.rows b) (omega arith)
-    (subst (λ n. HaveMatched g.T.Disk h tiles.rows n (tiles_in c.args.size) tiles.disk
+    (subst (λ n. HaveMatched g.T.Disk h c.fill.new.self n (tiles_in c.args.size) tiles.disk
     tiles.pool) c.count_tiles-from.ensures
-    (subst (λ n. HaveMatched g.T.Disk h tiles.rows c.count_tiles-from.result n tiles.disk
+    (subst (λ n. HaveMatched g.T.Disk h c.fill.new.self c.count_tiles-from.result n tiles.disk
     tiles.pool) c.count_tiles-to.ensures matched))
-    contents sound.frames sound.stands))
+    contents sound.frames
+    (c.fill.ensures.rows.same (leaves_with tiles.adopted tiles.rows b) sound.stands)))
 
 pub returns-clause-cause : goal.returns-clause-cause
 returns-clause-cause g c =
@@ -90,11 +98,12 @@ returns-clause-cause g c =
     let few = tiles.few in
     let size = c.requires.within in
     if-err-map
-    (HasTileReason g.T.Disk h tiles.rows c.count_tiles-from.result c.count_tiles-to.result
+    (HasTileReason g.T.Disk h c.fill.new.self c.count_tiles-from.result c.count_tiles-to.result
     tiles.disk c.check.new.disk tiles.pool)
     _ c.check.result c.check.ensures.err (λ e reason.
-    cause-from tiles c.check.new.disk c.args.size e (omega arith)
-    (subst (λ n. HasTileReason g.T.Disk h tiles.rows n (tiles_in c.args.size) tiles.disk
+    cause-from tiles c.fill.new.self c.check.new.disk c.args.size e (omega arith)
+    c.fill.ensures.rows.same
+    (subst (λ n. HasTileReason g.T.Disk h c.fill.new.self n (tiles_in c.args.size) tiles.disk
     c.check.new.disk tiles.pool e) c.count_tiles-from.ensures
-    (subst (λ n. HasTileReason g.T.Disk h tiles.rows c.count_tiles-from.result n tiles.disk
+    (subst (λ n. HasTileReason g.T.Disk h c.fill.new.self c.count_tiles-from.result n tiles.disk
     c.check.new.disk tiles.pool e) c.count_tiles-to.ensures reason)))

@@ -23,7 +23,8 @@ invariant_of-self g c =
       keys = tiles.keys;
       contents = λ b contents.
           sound-pushed g.H.TreeHash.hash tiles.adopted tiles.stored tiles.rows c.push.new.self
-          tiles.pool b c.args.leaf.now c.push.ensures.pushed c.push.ensures.gone within
+          tiles.pool b c.args.leaf.now (c.push.ensures.pushed g.H.TreeHash.hash)
+          c.push.ensures.gone within
           (tiles.contents b contents);
     }
 
@@ -35,5 +36,5 @@ returns-clause-ok g c =
     (λ b contents.
     let sound = tiles.contents b contents in
     leaves-pushed g.H.TreeHash.hash tiles.adopted tiles.rows c.push.new.self b c.args.leaf.now
-    c.push.ensures.pushed c.push.ensures.gone sound.stands)
+    (c.push.ensures.pushed g.H.TreeHash.hash) c.push.ensures.gone sound.stands)
     ∙ ap (option_map (λ list. list ++ c.args.leaf.now ∷ [])) c.reserve.ensures.list

@@ -1,5 +1,5 @@
 use Rattle.std.proofs.Common.{◌∙◌, arith}
-use Rattle.tile_store.proofs.Grown.{sound-roomier}
+use Rattle.tile_store.proofs.Grown.{sound-still}
 use Rattle.tile_store.proofs.store.Tiles.reserve.Goals as goal
 
 pub invariant_of-self : goal.invariant_of-self
@@ -19,6 +19,6 @@ invariant_of-self g c =
       free = tiles.free;
       keys = tiles.keys;
       contents = λ b contents.
-          sound-roomier g.H.TreeHash.hash tiles.adopted tiles.stored tiles.rows c.reserve.new.self
-          tiles.pool b grown (tiles.contents b contents);
+          sound-still g.H.TreeHash.hash tiles.adopted tiles.stored tiles.rows c.reserve.new.self
+          tiles.pool b grown.first (grown.same g.H.TreeHash.hash) (tiles.contents b contents);
     }

@@ -1,12 +1,12 @@
-use Rattle.std.proofs.Common.{◌≡◌, ◌+◌, ◌-◌, ◌*◌, ◌/◌, ◌%◌, ◌^◌, ◌≤◌, ◌∙◌}
+use Rattle.std.proofs.Common.{◌≡◌, ◌+◌, ◌-◌, ◌*◌, ◌/◌, ◌%◌, ◌^◌, ◌≤◌, ◌++◌, ◌∙◌}
 use Rattle.std.proofs.Common.{ap, subst, sym}
 use Rattle.std.proofs.Common.{arith, rules}
 use Rattle.tile_store.proofs.Numbers.{full-more, gone-below}
 use Rattle.tile_store.proofs.NodeValues.{frame-tile, tile-node, when-contents}
-use Rattle.tile_store.specs.Contents.{IsTile}
+use Rattle.tile_store.specs.Contents.{IsTile, stored_leaves}
 use Rattle.tile_store.specs.Layout.{IsFull}
 use Rattle.tile_store.specs.Sound.{leaves_with}
-use Rattle.tree_cache.proofs.Pushes.{count-rows}
+use Rattle.tree_cache.proofs.Filled.{count-rows}
 use Rattle.tree_cache.specs.Rows.{count_of}
 use Rattle.tree_core.specs.Path.{part_of}
 use Rattle.tree_core.specs.Tree.{root_of}
@@ -16,11 +16,11 @@ use Rattle.tile_store.proofs.store.Tiles.tile_node.Goals as goal
 pub tile_of-key-requires : goal.tile_of-key-requires
 tile_of-key-requires g c =
     let few = c.args.self.now.few in
-    level_fits c.args.place c.args.level (count_of c.args.self.now.rows.rows) c.requires
+    level_fits c.args.place c.args.level (count_of c.args.self.now.rows) c.requires
     (omega arith)
 
-pub hash_at-requires-clause-kept : goal.hash_at-requires-clause-kept
-hash_at-requires-clause-kept g c =
+pub kept_node-requires-clause-kept : goal.kept_node-requires-clause-kept
+kept_node-requires-clause-kept g c =
     let tiles = c.args.self.now in
     let key = c.tile_of-key.result in
     subst (λ n. n ≤ c.args.place) (sym (tiles.gone c.args.level))
@@ -35,7 +35,7 @@ hash_at-requires-clause-kept g c =
 pub node-requires-clause-small : goal.node-requires-clause-small
 node-requires-clause-small g c =
     let few = c.args.self.now.few in
-    level_fits c.args.place c.args.level (count_of c.args.self.now.rows.rows) c.requires
+    level_fits c.args.place c.args.level (count_of c.args.self.now.rows) c.requires
     (omega arith)
 
 pub returns-clause-value : goal.returns-clause-value
@@ -66,8 +66,8 @@ returns-clause-value g c =
     c.tile_of-key.ensures.level
     (subst (IsFull old.adopted key.level) c.tile_of-key.ensures.place full)))
     (ap (λ a. leaves_with a now.rows b) stays.adopted
-    ∙ ap (λ r. leaves_with old.adopted r b) stays.rows) in
-    let count = count-rows h (leaves_with old.adopted old.rows b) old.rows.rows before.stands in
+    ∙ ap (λ first. stored_leaves old.adopted b ++ first) stays.rows.first) in
+    let count = count-rows h (leaves_with old.adopted old.rows b) old.rows before.stands in
     tile-node h (leaves_with old.adopted old.rows b) c.args.level c.args.place
     c.frame-tile.result.now c.node.result tile c.node.ensures.node
     (subst (λ n. (c.args.place + 1) * 2 ^ c.args.level ≤ n) count c.requires))

@@ -1,14 +1,15 @@
-use Rattle.std.proofs.Common.{◌*◌, sym, subst, arith}
+use Rattle.std.proofs.Common.{◌*◌, ◌++◌, sym, ◌∙◌, ap, subst, arith}
 use Rattle.disk_core.specs.Disk.{Only}
-use Rattle.std.specs.Prelude.{IfSome}
+use Rattle.std.specs.Prelude.{IfSome, option_map}
 use Rattle.byte_formats.specs.Types.{Text}
+use Rattle.tile_store.proofs.Grown.{sound-still}
 use Rattle.tile_store.proofs.Kept.{first-of, leaves-behind, on-ok-from, sound-behind, tiles-of}
 use Rattle.tile_store.proofs.Kept.{contents-before, contents-both}
 use Rattle.tile_store.proofs.NodeValues.{when-contents}
-use Rattle.tile_store.specs.Contents.{HoldsTiles}
+use Rattle.tile_store.specs.Contents.{HoldsTiles, stored_leaves}
 use Rattle.tile_store.specs.Sound.{leaves_with}
 use Rattle.tile_store.specs.Writing.{HoldsFirst, KeepsPrefix}
-use Rattle.tree_cache.proofs.Pushes.{count-rows}
+use Rattle.tree_cache.proofs.Filled.{count-rows}
 use Rattle.tile_store.proofs.store.Tiles.write.Goals as goal
 
 pub write_tiles-requires-clause-rows : goal.write_tiles-requires-clause-rows
@@ -17,13 +18,15 @@ write_tiles-requires-clause-rows g c =
     let from = c.count_tiles-from.ensures in
     let to = c.count_tiles-to.ensures in
     let written = tiles.written in
-    let size = c.requires in
+    let filled = c.fill.ensures.rows in
+    let count = filled.count in
+    let size = c.fill.ensures.filled in
     record {
-      few = tiles.few;
+      few = let few = tiles.few in omega arith;
       full = omega arith;
       adopted = tiles.adopted;
       behind = omega arith;
-      gone = tiles.gone;
+      gone = λ level. filled.gone level ∙ tiles.gone level;
     }
 
 pub invariant_of-self : goal.invariant_of-self
@@ -31,13 +34,15 @@ invariant_of-self g c =
     let tiles = c.args.self.now in
     let known = c.write_tiles.ensures.behind.known in
     let reach = tiles.reach in
+    let filled = c.fill.ensures.rows in
+    let count = filled.count in
     record {
-      few = tiles.few;
+      few = let few = tiles.few in omega arith;
       whole = tiles.whole;
       written = tiles.written;
-      within = tiles.within;
+      within = let within = tiles.within in omega arith;
       reach = omega arith;
-      gone = tiles.gone;
+      gone = λ level. filled.gone level ∙ tiles.gone level;
       beside = tiles.beside;
       some = tiles.some;
       free = tiles.free;
@@ -49,18 +54,21 @@ invariant_of-self g c =
           (g.T.Disk.contents c.write_tiles.new.disk) after c.write_tiles.ensures.behind.contents
           contents in
           let there = g.met.T.Disk.known_there tiles.disk before.0 before.1 in
-          sound-behind g.H.TreeHash.hash tiles.adopted tiles.stored tiles.rows tiles.pool before.0
-          after tiles.whole tiles.written (omega arith) (omega arith)
+          sound-behind g.H.TreeHash.hash tiles.adopted tiles.stored c.fill.new.self tiles.pool
+          before.0 after tiles.whole tiles.written (omega arith) (omega arith)
           (subst (λ n. KeepsPrefix (8192 * n) before.0 after) c.count_tiles-from.ensures
           (c.write_tiles.ensures.prefix before.0 after before.1 contents)) tiles.keys
-          (tiles.contents before.0 before.1);
+          (sound-still g.H.TreeHash.hash tiles.adopted tiles.stored tiles.rows c.fill.new.self
+          tiles.pool before.0 filled.first filled.same (tiles.contents before.0 before.1));
     }
 
 pub returns-clause-list : goal.returns-clause-list
 returns-clause-list g c =
     let tiles = c.args.self.now in
     let reach = tiles.reach in
-    contents-both (g.T.Disk.contents tiles.disk) (g.T.Disk.contents c.write_tiles.new.disk)
+    ap (λ first. option_map (λ b. stored_leaves tiles.adopted b ++ first)
+    (g.T.Disk.contents c.write_tiles.new.disk)) c.fill.ensures.rows.first
+    ∙ contents-both (g.T.Disk.contents tiles.disk) (g.T.Disk.contents c.write_tiles.new.disk)
     (leaves_with tiles.adopted tiles.rows) c.write_tiles.ensures.behind.contents
     (λ b after contents_old contents_new.
     let there = g.met.T.Disk.known_there tiles.disk b contents_old in
@@ -84,7 +92,9 @@ returns-clause-holds g c =
     let sound = tiles.contents b contents in
     let few = tiles.few in
     let size = c.requires in
-    let count = count-rows h (leaves_with tiles.adopted tiles.rows b) tiles.rows.rows
+    let count = count-rows h (leaves_with tiles.adopted tiles.rows b) tiles.rows
+    sound.stands in
+    let stands = c.fill.ensures.rows.same (leaves_with tiles.adopted tiles.rows b)
     sound.stands in
     let later = contents-before (g.T.Disk.contents new) (g.T.Disk.contents tiles.disk) b
     (sym c.write_tiles.ensures.behind.contents) contents in
@@ -94,6 +104,6 @@ returns-clause-holds g c =
     subst (HoldsTiles h leaves c.args.size) (sym (only image left))
     (tiles-of h leaves c.args.size later.0 (omega arith) (omega arith)
     (subst (λ n. HoldsFirst h leaves n later.0) c.count_tiles-to.ensures
-    (written.holds b later.0 contents later.1 leaves sound.stands
+    (written.holds b later.0 contents later.1 leaves stands
     (subst (λ n. HoldsFirst h leaves n b) (sym c.count_tiles-from.ensures)
     (first-of h leaves tiles.stored b sound.tiles)))))))
