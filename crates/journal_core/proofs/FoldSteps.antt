@@ -20,11 +20,11 @@ use Rattle.journal_core.proofs.Found.{read_ends, read_none, read_bad, read_other
 use Rattle.journal_core.proofs.Modelled.{if_modelled, at_contents, if_some}
 use Rattle.journal_core.proofs.Walk.{records_begin}
 
-abbrev pushed : List ℕ → List (List ℕ) → List (List ℕ)
+abbrev pub pushed : List ℕ → List (List ℕ) → List (List ℕ)
 pushed body list = list ++ body ∷ []
 
 -- a fact of the records that were read, and one of these with a record more
-if_pushed : (P Q : List (List ℕ) → Type 0) (old new : Option (List (List ℕ))) (body : List ℕ)
+pub if_pushed : (P Q : List (List ℕ) → Type 0) (old new : Option (List (List ℕ))) (body : List ℕ)
     → new ≡ option_map (pushed body) old
     → ((list : List (List ℕ)) → P list → Q (pushed body list)) → IfSome old P → IfSome new Q
 if_pushed P Q None new body is step fact =
@@ -32,7 +32,7 @@ if_pushed P Q None new body is step fact =
 if_pushed P Q (Some list) new body is step fact =
     subst (λ (o : Option (List (List ℕ))). IfSome o Q) (sym is) (step list fact)
 
-all_empty : (contents : Option (List ℕ)) (list : Option (List (List ℕ)))
+pub all_empty : (contents : Option (List ℕ)) (list : Option (List (List ℕ)))
     → list ≡ option_map (λ _. []) contents → IfSome list (λ l. l ≡ [])
 all_empty None list is = subst (λ (o : Option (List (List ℕ))). IfSome o (λ l. l ≡ [])) (sym is) tt
 all_empty (Some b) list is = subst (λ (o : Option (List (List ℕ))). IfSome o (λ l. l ≡ []))
@@ -56,7 +56,7 @@ module _ {D : Type 0} {g : Ghosts D} {S E : Type 0} (fold : Fold S E) (old new :
   -- ---- one record more
 
   module _ (body : List ℕ) (last : last_body new ≡ body) (read : HasRead old new) where
-    list_is : read_list new ≡ option_map (pushed body) (read_list old)
+    pub list_is : read_list new ≡ option_map (pushed body) (read_list old)
     list_is = subst (λ (b : List ℕ). read_list new
         ≡ option_map (λ list. list ++ b ∷ []) (read_list old)) last read.list
 

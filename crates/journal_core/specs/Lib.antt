@@ -1,3 +1,4 @@
+pub mod Appends
 pub mod Copies
 pub mod Ends
 pub mod Folds

@@ -48,6 +48,7 @@ impl<D: Disk + Drop> Drop for Journal<D> {
 }
 
 impl<D: Disk> Journal<D> {
+    ghost use Rattle.journal_core.specs.Appends.{JournalAppends};
     ghost use Rattle.journal_core.specs.Words.{disk_of, end_of, is_broken, records, AppendLeaves};
     ghost use Rattle.journal_core.specs.Words.{HoldsBody, HoldsLength, HasSize};
 
@@ -61,23 +62,7 @@ impl<D: Disk> Journal<D> {
     pub fn append(&mut self, body: &[u8]) -> Result<(), AppendError>
         requires some { 1 ≤ length body.now }
         requires few { length body.now ≤ 131072 }
-        ensures leaves { AppendLeaves body.now self.old self.new result }
-        ensures broken { IsErrOf result AppendError.Broken ↔ IsTrue (is_broken self.old) }
-        ensures full { IsErrOf result AppendError.Full ↔ (is_broken self.old ≡ false)
-            × (most_bytes < end_of self.old + 5 + length body.now) }
-        ensures contents { is_some (records self.new) ≡ is_some (records self.old) }
-        ensures count { D.faults (disk_of self.old) ≤ D.faults (disk_of self.new) }
-        ensures reach { D.known (disk_of self.new)
-            ≤ max (end_of self.old + 5 + length body.now) (D.known (disk_of self.old)) }
-        ensures as_read { is_broken self.old ≡ false
-            → IfSome (records self.old) (λ list. IfSome (D.contents (disk_of self.new))
-            (RepresentsEither list body.now)) }
-        ensures afterwards { is_broken self.old ≡ false
-            → IfSome (records self.old) (λ list. (c : Text) → D.may_leave (disk_of self.new) c
-            → RepresentsEither list body.now c) }
-        ensures any_moment { is_broken self.old ≡ false
-            → IfSome (records self.old) (λ list. LeavesOnly D.Disk (disk_of self.old)
-            (disk_of self.new) (RepresentsEither list body.now)) }
+        ensures { JournalAppends body.now self.old self.new result }
     {
         self.put(body)
     }
