@@ -1,0 +1,40 @@
+-- Why the journal of a state machine is not read, and what a call that reads it leaves.
+use Rattle.std.specs.Prelude.{◌≡◌, ◌≢◌, ℕ, Result, Ok, Err, OnOk, IfErr}
+use Rattle.disk_core.specs.Moments.{OnlyReads}
+use Rattle.disk_core.specs.declared.disk.Disk.{Ghosts}
+use Rattle.journal_core.specs.Folds.{Fold, AreRefused, IsCauseOf}
+use Rattle.journal_core.specs.declared.error.OpenError.TheVariants as open_error
+use Rattle.state_journal.specs.declared.error.Misfit.{Misfit}
+use Rattle.state_journal.specs.declared.error.Misfit.TheVariants.{Unfit, Memory}
+use Rattle.state_journal.specs.declared.error.NotBegun.{NotBegun}
+use Rattle.state_journal.specs.declared.error.StateOpenError.{StateOpenError}
+use Rattle.state_journal.specs.declared.error.StateOpenError.TheVariants.{BadRecord, Open}
+
+-- a record of this number that is not taken
+abbrev pub refusal_at : ℕ → Misfit → StateOpenError
+refusal_at number Unfit = BadRecord number
+refusal_at number Memory = Open open_error.Memory
+
+-- the answer, without the seed that a refusal hands back
+abbrev pub why_of : {M X E : Type 0} → Result M (NotBegun X E) → Result M E
+why_of (Ok it) = Ok it
+why_of (Err e) = Err e.why
+
+-- the cause of a refusal, over the disk before the call and after it: the bytes, a fault, or want
+-- of memory
+abbrev pub HasStateCause : {D S : Type 0} → Ghosts D → Fold S StateOpenError → D → D
+    → StateOpenError → Type 0
+HasStateCause g fold old new (BadRecord k) = AreRefused fold (g.contents old) (BadRecord k)
+HasStateCause g fold old new (Open why) = IsCauseOf g fold old new why
+
+-- no fault was counted, unless it is the refusal
+abbrev pub CountsNoOther : {D : Type 0} → Ghosts D → D → D → StateOpenError → Type 0
+CountsNoOther g old new why = why ≢ Open open_error.Failed → g.faults new ≡ g.faults old
+
+-- The disk was only looked at. A refusal has its cause, and no other fault was counted.
+pub record HasReadOn {D S X : Type 0} (g : Ghosts D) (fold : Fold S StateOpenError) (old new : D)
+    (result : Result X StateOpenError) : Type 0 where
+  pub only_reads : OnlyReads g old new
+  pub fine : OnOk result (g.faults new ≡ g.faults old)
+  pub fine_err : IfErr result (CountsNoOther g old new)
+  pub cause : IfErr result (HasStateCause g fold old new)

@@ -1,0 +1,4 @@
+pub mod Causes
+pub mod Durable
+pub mod Machines
+pub mod Steps

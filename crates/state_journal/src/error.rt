@@ -1,0 +1,38 @@
+//! What is refused of records, and of a journal that is opened.
+
+use journal_core::OpenError;
+
+/// Why a record is not taken.
+#[derive(Clone, Copy, Debug, PartialEq, Eq)]
+pub enum Misfit {
+    /// It breaks the rules.
+    Unfit,
+    /// Memory was refused.
+    Memory,
+}
+
+/// Why the journal of a state machine is not opened. The records are read and tested one by one,
+/// and the first fault is answered.
+#[derive(Clone, Copy, Debug, PartialEq, Eq)]
+pub enum StateOpenError {
+    /// The record of this number, counted from 0, breaks the rules of the machine, or there is no
+    /// record.
+    BadRecord(u64),
+    /// The file is not read as a journal. The disk may have failed, or memory was refused.
+    Open(OpenError),
+}
+
+/// A machine that isn't begun hands its seed back.
+#[derive(Debug, Drop)]
+pub struct NotBegun<S, E> {
+    pub seed: S,
+    pub why: E,
+}
+
+/// A refused opening hands the disk and the seed back.
+#[derive(Debug, Drop)]
+pub struct StateRefused<D, S> {
+    pub disk: D,
+    pub seed: S,
+    pub why: StateOpenError,
+}

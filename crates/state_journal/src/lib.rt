@@ -1,0 +1,21 @@
+//! State machines over a journal: what its records make is held in memory, and a record that is
+//! appended is taken by the same code that takes it when the journal is opened again.
+//!
+//! A [`StateMachine`] is begun by the first record of a journal, and takes the others one by one.
+//! [`open_state`] opens a journal and the machine that its records make. [`append_to`] appends one
+//! record more, and the machine takes it once every image of the disk holds it. So the machine is
+//! at every time what the records on the disk make, also behind an append that failed.
+//!
+//! The journal and the machine stay apart: their owner may ask either without the other, and keeps
+//! what binds them, [`append_to`]'s clause `made`, as a fact of its own.
+#![tactic(auto)]
+
+mod appending;
+mod error;
+mod machine;
+mod opening;
+
+pub use appending::append_to;
+pub use error::{Misfit, NotBegun, StateOpenError, StateRefused};
+pub use machine::StateMachine;
+pub use opening::open_state;

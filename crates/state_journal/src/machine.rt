@@ -1,0 +1,64 @@
+//! What the records of a journal make, record by record.
+
+ghost use Rattle.std.specs.Prelude.{◌≡◌, ℕ, ◌+◌, List, length, Option, IfOk, OnOk, MatchResult};
+ghost use Rattle.byte_formats.specs.Types.{Text};
+ghost use Rattle.state_journal.specs.Steps.{Begins, IsStarved, Takes};
+
+use crate::error::{Misfit, NotBegun};
+use std::alloc::Global;
+
+/// A state machine: the first record of a journal begins it, and it takes each later one. Its state
+/// is a function of the records alone.
+pub trait StateMachine: Drop + Sized {
+    /// What a machine is begun with beside its first record, as the disk of its tiles.
+    type Seed: Drop;
+
+    // what contracts see of a machine
+    ghost State: { Type 0 };
+    // the state that a first record begins, and the state behind one record more, each none where
+    // the record breaks the rules
+    ghost begins: { Text → Option State };
+
+    ghost takes: { State → Text → Option State };
+
+    ghost state: { Self → State };
+    // what it keeps beside its state, where the records are known
+    ghost Keeps: { Self → List Text → Type 0 } = { λ _ _. Unit {0} };
+    // what it keeps of places in the journal, none of them behind this gate
+    ghost Within: { Self → ℕ → Type 0 } = { λ _ _. Unit {0} };
+    // it takes this record without memory
+    ghost HasCapacity: { Self → Text → Type 0 } = { λ _ _. Unit {0} };
+    // a seed that is as it is to be
+    ghost IsBlank: { Self.Seed → Type 0 } = { λ _. Unit {0} };
+    // what of a seed stays as it is while records are taken
+    ghost Beside: { Type 0 };
+
+    ghost beside_of: { Self.Seed → Beside };
+
+    ghost beside: { Self → Beside };
+
+    /// The machine that the first record begins. A refusal hands the seed back.
+    fn begin(
+        alloc: Global,
+        seed: Self::Seed,
+        body: &[u8],
+    ) -> Result<Self, NotBegun<Self::Seed, Misfit>>
+        requires { IsBlank seed }
+        ensures begins { Begins begins state Keeps body.now result }
+        ensures within { IfOk result (λ it. Within it (21 + length body.now)) }
+        ensures beside { MatchResult result (λ it. beside it ≡ beside_of seed)
+            (λ e. beside_of e.seed ≡ beside_of seed) };
+
+    /// Takes one record more, whose gate stands at a place. `Unfit` comes exactly where it breaks
+    /// the rules, but where memory is refused.
+    fn take(&mut self, place: u64, body: &[u8]) -> Result<(), Misfit>
+        requires { Within self.old place }
+        ensures takes { Takes takes state Keeps place body.now self.old self.new result }
+        ensures within { OnOk result (Within self.new (place + 5 + length body.now)) }
+        ensures capacity { HasCapacity self.old body.now → IsStarved result → ⊥ }
+        ensures beside { beside self.new ≡ beside self.old };
+
+    /// What the machine was begun with, to be begun with again.
+    fn into_seed(self) -> Self::Seed
+        ensures { beside_of result ≡ beside self };
+}

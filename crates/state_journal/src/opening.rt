@@ -1,0 +1,173 @@
+//! The journal of a state machine that is opened.
+
+ghost use Rattle.std.specs.Prelude.{◌≡◌, ◌<◌, [], false, None, option_map, MatchBool, MatchResult};
+ghost use Rattle.std.specs.Prelude.{IfOk, IfErr, OnOk, Err, Ok};
+ghost use Rattle.journal_core.specs.Openings.{opening_disk, read_list, is_ended, refusal};
+ghost use Rattle.journal_core.specs.Openings.{bytes_left, next_place};
+ghost use Rattle.state_journal.specs.Causes.{HasReadOn, refusal_at, why_of};
+ghost use Rattle.state_journal.specs.Machines.{HasOpened, HasTaken, HasTakenAll, IsMadeBy, fold_of};
+
+use crate::error::{Misfit, NotBegun, StateOpenError, StateRefused};
+use crate::machine::StateMachine;
+use disk_core::Disk;
+use journal_core::{Journal, OpenError, Opening, Refused};
+use std::alloc::Global;
+
+// A record that is not taken is refused by its number.
+fn refusal_at(number: u64, why: Misfit) -> StateOpenError
+    ensures { result ≡ refusal_at number why }
+{
+    match why {
+        Misfit::Unfit => StateOpenError::BadRecord(number),
+        Misfit::Memory => StateOpenError::Open(OpenError::Memory),
+    }
+}
+
+// The machine that the first record begins.
+fn read_first<M: StateMachine, D: Disk>(
+    alloc: Global,
+    opening: &mut Opening<D>,
+    seed: M::Seed,
+) -> Result<M, NotBegun<M::Seed, StateOpenError>>
+    requires list { read_list opening.old
+        ≡ option_map (λ _. []) (D.contents (opening_disk opening.old)) }
+    requires place { next_place opening.old ≡ 16 }
+    requires goes_on { (is_ended opening.old ≡ false) × (refusal opening.old ≡ None) }
+    requires blank { M.IsBlank seed }
+    ensures taken { IfOk result (λ it. HasTaken M.StateMachine it opening.new) }
+    ensures beside { MatchResult result (λ it. M.beside it ≡ M.beside_of seed)
+        (λ e. M.beside_of e.seed ≡ M.beside_of seed) }
+    ensures read { HasReadOn D.Disk (fold_of M.StateMachine) (opening_disk opening.old)
+        (opening_disk opening.new) (why_of result) }
+{
+    match opening.next() {
+        Ok(Some(body)) => match M::begin(alloc, seed, body) {
+            Ok(machine) => Ok(machine),
+            Err(NotBegun { seed, why }) => Err(NotBegun {
+                seed,
+                why: refusal_at(0, why),
+            }),
+        },
+        Ok(None) => Err(NotBegun {
+            seed,
+            why: StateOpenError::BadRecord(0),
+        }),
+        Err(why) => Err(NotBegun {
+            seed,
+            why: StateOpenError::Open(why),
+        }),
+    }
+}
+
+// Reads the next record, which the machine takes: whether there was one.
+fn read_next<M: StateMachine, D: Disk>(
+    opening: &mut Opening<D>,
+    machine: &mut M,
+) -> Result<bool, StateOpenError>
+    requires { HasTaken M.StateMachine machine.old opening.old }
+    ensures more { IfOk result (λ more. MatchBool more
+        (HasTaken M.StateMachine machine.new opening.new)
+        (HasTakenAll M.StateMachine machine.new opening.new)) }
+    ensures shorter { IfOk result
+        (λ more. MatchBool more (bytes_left opening.new < bytes_left opening.old) (Unit {0})) }
+    ensures beside { M.beside machine.new ≡ M.beside machine.old }
+    ensures read { HasReadOn D.Disk (fold_of M.StateMachine) (opening_disk opening.old)
+        (opening_disk opening.new) result }
+{
+    let (number, place) = (opening.read_count(), opening.place());
+    match opening.next() {
+        Ok(Some(body)) => match machine.take(place, body) {
+            Ok(()) => Ok(true),
+            Err(why) => Err(refusal_at(number, why)),
+        },
+        Ok(None) => Ok(false),
+        Err(why) => Err(StateOpenError::Open(why)),
+    }
+}
+
+// The records behind the first one, up to the end of the journal.
+fn read_rest<M: StateMachine, D: Disk>(
+    opening: &mut Opening<D>,
+    machine: &mut M,
+) -> Result<(), StateOpenError>
+    requires { HasTaken M.StateMachine machine.old opening.old }
+    ensures all { OnOk result (HasTakenAll M.StateMachine machine.new opening.new) }
+    ensures beside { M.beside machine.new ≡ M.beside machine.old }
+    ensures read { HasReadOn D.Disk (fold_of M.StateMachine) (opening_disk opening.old)
+        (opening_disk opening.new) result }
+{
+    'records: loop {
+        if !read_next(opening, machine)? {
+            return Ok(());
+        }
+    }
+}
+
+// The machine of a file, of which no record was read yet.
+fn read_machine<M: StateMachine, D: Disk>(
+    alloc: Global,
+    opening: &mut Opening<D>,
+    seed: M::Seed,
+) -> Result<M, NotBegun<M::Seed, StateOpenError>>
+    requires list { read_list opening.old
+        ≡ option_map (λ _. []) (D.contents (opening_disk opening.old)) }
+    requires place { next_place opening.old ≡ 16 }
+    requires goes_on { (is_ended opening.old ≡ false) × (refusal opening.old ≡ None) }
+    requires blank { M.IsBlank seed }
+    ensures all { IfOk result (λ it. HasTakenAll M.StateMachine it opening.new) }
+    ensures beside { MatchResult result (λ it. M.beside it ≡ M.beside_of seed)
+        (λ e. M.beside_of e.seed ≡ M.beside_of seed) }
+    ensures read { HasReadOn D.Disk (fold_of M.StateMachine) (opening_disk opening.old)
+        (opening_disk opening.new) (why_of result) }
+{
+    let mut machine = match read_first::<M, D>(alloc, opening, seed) {
+        Ok(machine) => machine,
+        Err(refused) => return Err(refused),
+    };
+    match read_rest(opening, &mut machine) {
+        Ok(()) => Ok(machine),
+        Err(why) => Err(NotBegun {
+            seed: machine.into_seed(),
+            why,
+        }),
+    }
+}
+
+/// Opens a journal with the machine that its records make. They are read and tested one by one.
+///
+/// Errors, of which the first that is met is answered: what [`Opening::begin`] and
+/// [`Opening::next`] refuse; `BadRecord` at the first record that breaks the rules, or where there
+/// is none; `Open(Memory)` where the machine is refused memory. The disk and the seed are handed
+/// back, and the disk was only looked at.
+pub fn open_state<M: StateMachine, D: Disk>(
+    alloc: Global,
+    disk: D,
+    seed: M::Seed,
+) -> Result<(Journal<D>, M), StateRefused<D, M::Seed>>
+    requires { M.IsBlank seed }
+    ensures opened { IfOk result (λ r. HasOpened M.StateMachine disk r.0 r.1) }
+    ensures made { IfOk result (λ r. IsMadeBy M.StateMachine r.0 r.1) }
+    ensures beside { MatchResult result (λ r. M.beside r.1 ≡ M.beside_of seed)
+        (λ e. M.beside_of e.seed ≡ M.beside_of seed) }
+    ensures err { IfErr result (λ e. HasReadOn {X = Unit {0}} D.Disk (fold_of M.StateMachine)
+        disk e.disk (Err e.why)) }
+{
+    let mut opening = match Opening::begin(alloc, disk) {
+        Ok(opening) => opening,
+        Err(Refused { disk, why }) => {
+            return Err(StateRefused {
+                disk,
+                seed,
+                why: StateOpenError::Open(why),
+            });
+        }
+    };
+    match read_machine::<M, D>(alloc, &mut opening, seed) {
+        Ok(machine) => Ok((opening.ready(), machine)),
+        Err(NotBegun { seed, why }) => Err(StateRefused {
+            disk: opening.into_disk(),
+            seed,
+            why,
+        }),
+    }
+}
