@@ -220,7 +220,8 @@ module _ {X E : Type 0} {encode : X → Text} {Fits : X → Type 0} {Follows : T
         → Follows rest × OtherThan byte rest
         → optional_at byte read (record { place = place; rest = optional encode x ++ rest })
         ≡ Ok (x, record { place = place + length (optional encode x); rest = rest })
-    optional_again None p rest f q = rw (begins_with-other byte rest q.1) (ap (λ (a : At). Ok (None, a)) (none_behind (record { place = p; rest = rest })))
+    optional_again None p rest f q = rw (begins_with-other byte rest q.1)
+        (ap (λ (a : At). Ok (None, a)) (none_behind (record { place = p; rest = rest })))
     optional_again (Some x) p rest f q = rw (begins x rest f, form.again x p rest f q.0) refl
 
     -- A value where a byte stands, and none elsewhere.
@@ -321,7 +322,8 @@ module _ {E : Type 0} {Fits : Text → Type 0} {Follows : Text → Type 0} {read
         subst (Goal x) (sym q) (elim f [
           | inl empty ↦
               let R : Text → Type 0 = λ t. Goal t [] in
-              subst R (sym empty) (ap (λ (a : At). Ok ([], a)) (none_behind (record { place = p; rest = [] })))
+              subst R (sym empty)
+              (ap (λ (a : At). Ok ([], a)) (none_behind (record { place = p; rest = [] })))
           | inr fits ↦
               let long : length (x ++ []) ≢ 0 = omega (arith, some x fits, length-append x []) in
               rw (ne_eqb (length (x ++ [])) 0 long) (form.again x p [] fits nil)

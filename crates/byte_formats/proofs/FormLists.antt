@@ -61,7 +61,8 @@ module _ {X K E : Type 0} (key : X → K) {encode : X → Text} {Fits : List K �
       → each_at key read n seen (record { place = p; rest = [] })
       ≡ Ok ([], record { place = p + 0; rest = [] })
   unfolding each_at
-  none_again zero seen p = ap (λ (a : At). Ok ([], a)) (none_behind (record { place = p; rest = [] }))
+  none_again zero seen p =
+      ap (λ (a : At). Ok ([], a)) (none_behind (record { place = p; rest = [] }))
   none_again (suc n) seen p =
       ap (λ (a : At). Ok ([], a)) (none_behind (record { place = p; rest = [] }))
 

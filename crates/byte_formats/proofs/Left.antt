@@ -100,7 +100,8 @@ module _ {X E : Type 0} {read : Reading X E} (takes : Takes 1 read) where
   enough : (n m : ℕ) (a : At) → length a.rest ≤ n → length a.rest ≤ m
       → first_at read n a ≡ first_at read m a
   enough zero m a le le' = first_none read zero a (omega arith) ∙ sym (first_left m a le)
-  enough (suc n) zero a le le' = first_left (suc n) a le' ∙ sym (first_none read zero a (omega arith))
+  enough (suc n) zero a le le' =
+      first_left (suc n) a le' ∙ sym (first_none read zero a (omega arith))
   enough (suc n) (suc m) a le le' = go (read a) refl (λ b. enough n m b)
     where
       go : (r : Result (X × At) E) → read a ≡ r
@@ -112,7 +113,8 @@ module _ {X E : Type 0} {read : Reading X E} (takes : Takes 1 read) where
           first_next read n a x.0 x.1 e
           ∙ (ap (λ (xs : List X). x.0 ∷ xs) (next x.1 (omega arith) (omega arith))
           ∙ sym (first_next read m a x.0 x.1 e))
-      go (Err fault) e next = first_end read (suc n) a fault e ∙ sym (first_end read (suc m) a fault e)
+      go (Err fault) e next =
+          first_end read (suc n) a fault e ∙ sym (first_end read (suc m) a fault e)
 
   -- One value, and those behind it.
   pub left_next : (a : At) (x : X) (b : At) → read a ≡ Ok (x, b)

@@ -10,7 +10,8 @@ use Rattle.byte_formats.specs.Places.{IsBytes}
 use Rattle.byte_formats.specs.Readings.{refused_at, Gives}
 use Rattle.byte_formats.specs.Forms.{IsForm, Anything, Nothing, IsEncoding, itself, both}
 use Rattle.byte_formats.specs.Forms.{FitsBoth}
-use Rattle.byte_formats.proofs.FormLaws.{fits_form, encoded_form, ended_form, then_form, mapped_form}
+use Rattle.byte_formats.proofs.FormLaws.{fits_form, encoded_form, ended_form, then_form}
+use Rattle.byte_formats.proofs.FormLaws.{mapped_form}
 use Rattle.byte_formats.proofs.FormLaws.{tested_form, headed_form, refused_form, one_form}
 use Rattle.der_core.specs.Elements.{element}
 use Rattle.der_core.specs.Integers.{integer}

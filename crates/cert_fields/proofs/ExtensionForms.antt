@@ -155,7 +155,8 @@ unfolding critical_at
 critical_form =
     encoded_form (said_form (mapped_form (optional_form (tested_form
     (decoded_form boolean_contents 0x01 (tag_of 0x01 (lit< tt) refl)) (λ b. b) BadExtension) 1
-    (λ b rest f. begins_with-element 0x01 (boolean b) rest)) is_some marked marked_back marked_there)
+    (λ b rest f. begins_with-element 0x01 (boolean b) rest)) is_some marked marked_back
+    marked_there)
     (λ b f. tt) (λ b f. marked_fits b) (λ rest q. (tt, q))) (λ b f. mark_is b)
 
 other_element : (byte tag : ℕ) (contents rest : Text) → tag ≢ byte

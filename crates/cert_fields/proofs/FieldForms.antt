@@ -159,7 +159,8 @@ attributes_rise : (e : Item) (xs : List Text) (done : Unit {0}) → IsBytes e.co
 attributes_rise e xs done h parts each order =
     let c = checked_ok (discarded (rising_at e.place (inside e))) done order in
     let d = discarded_ok (rising_at e.place (inside e)) c.0 c.1 in
-    let end : c.0.rest ≡ [] = each_drains itself (risen_form e.place) next_some [] (inside e) d.0 c.0
+    let end : c.0.rest ≡ [] =
+    each_drains itself (risen_form e.place) next_some [] (inside e) d.0 c.0
     h d.1 in
     let rise = to_end_takes (rising_form e.place) (inside e) d.0 c.0 h d.1 end in
     subst (FitsEach itself IsRisen []) (same_elements d.0 xs (each_elements [] d.0 rise.1)

@@ -88,7 +88,8 @@ extensions_found xs f short =
           place + (length sequence - length cs);
       rest = cs;
     }) = rw (field, list) refl in
-    ap extensions_behind found ∙ extensions_again [] xs (place + (length sequence - length cs)) f.each
+    ap extensions_behind found
+    ∙ extensions_again [] xs (place + (length sequence - length cs)) f.each
 
 names_again : (ns : List (ℕ × Text)) (p : ℕ) → AllByRecursion FitsName ns
     → names_left (record { place = p; rest = flat_map name_text ns }) ≡ dns_only ns

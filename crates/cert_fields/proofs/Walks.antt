@@ -110,7 +110,8 @@ pub all_taken : (old : At) (count : ℕ) (seen : List Text) (a : At) → Taken o
 all_taken old count seen a so_far =
     let e : count ≡ count + 0 = omega arith in
     ap (λ (n : ℕ). identifiers n old) e ∙ so_far 0
-    ∙ (ap (λ (ids : List Text). seen ++ ids) (first_none head_at 0 a (omega arith)) ∙ append-nil seen)
+    ∙ (ap (λ (ids : List Text). seen ++ ids) (first_none head_at 0 a (omega arith))
+    ∙ append-nil seen)
 
 pub taken_of : (old : At) (count : ℕ) (seen : List Text) (a : At) (n : ℕ) → count ≤ n
     → Taken old count seen a → identifiers n old ≡ seen ++ identifiers (n - count) a
@@ -187,4 +188,5 @@ seeks_found f total a x b y step found so_far =
 -- No extension is left that reads.
 pub seeks_end : {A : Type 0} (f : List ExtensionFields → A) (total : A) (a : At) (fault : CertError)
     → extension_at [] a ≡ Err fault → Seeks f total a → f [] ≡ total
-seeks_end f total a fault step so_far = sym (ap f (left_end (extension_at []) a fault step)) ∙ so_far
+seeks_end f total a fault step so_far =
+    sym (ap f (left_end (extension_at []) a fault step)) ∙ so_far

@@ -9,7 +9,8 @@ use Rattle.byte_formats.specs.Places.{At, IsBytes, at, has_bytes}
 use Rattle.byte_formats.specs.Readings.{Reading, both_at}
 use Rattle.byte_formats.specs.Forms.{Anything, FitsBoth, IsForm, both, itself}
 use Rattle.byte_formats.proofs.Steps.{bind_ok, has_bytes-some, ok_is, pass_ok, some-has_bytes}
-use Rattle.byte_formats.proofs.FormLaws.{fits_form, lifted_form, mapped_form, tested_form, then_form}
+use Rattle.byte_formats.proofs.FormLaws.{fits_form, lifted_form, mapped_form, tested_form}
+use Rattle.byte_formats.proofs.FormLaws.{then_form}
 use Rattle.byte_formats.proofs.FormLaws.{to_end_again, to_end_takes}
 use Rattle.tls_wire.specs.Encoding.{AreHashes, hashes, number, vector}
 use Rattle.tls_wire.proofs.Hashes.{hashes_form}

@@ -13,7 +13,8 @@ use Rattle.der_core.specs.Reading.{tag_at, one_at, two_at, three_at, length_at, 
 use Rattle.der_core.specs.Reading.{element_at, wanted_at, end_at}
 use Rattle.der_core.specs.Fields.{der, inside_at}
 use Rattle.der_core.specs.declared.fault.DerError.{DerError}
-use Rattle.der_core.specs.declared.fault.DerError.TheVariants.{Truncated, LongForm, HighTag, WrongTag}
+use Rattle.der_core.specs.declared.fault.DerError.TheVariants.{Truncated, LongForm, HighTag}
+use Rattle.der_core.specs.declared.fault.DerError.TheVariants.{WrongTag}
 use Rattle.der_core.specs.declared.fault.CertError.{CertError}
 use Rattle.der_core.specs.declared.fault.CertError.TheVariants.{Der}
 

@@ -191,7 +191,8 @@ items_only h bytes items are e =
     let s = bind_ok (each_at itself (item_behind h) (length a.rest) [] a) (λ (x : List Pair
     × At). Ok (lists_of x.0)) items e in
     let pairs : List Pair = s.0.0 in
-    let known = to_end_takes (items_form h) a pairs s.0.1 are s.1 (drains h a pairs s.0.1 are s.1) in
+    let known =
+    to_end_takes (items_form h) a pairs s.0.1 are s.1 (drains h a pairs s.0.1 are s.1) in
     let count : length (map (λ (x : Pair). x.0) pairs) ≡ length pairs =
     length-map pairs (λ (x : Pair). x.0) in
     let text : file_text (lists_of pairs) (length (lists_of pairs).entries)

@@ -9,7 +9,8 @@ use Rattle.byte_formats.specs.Places.{At, IsBytes, at}
 use Rattle.byte_formats.specs.Readings.{◌>>=◌, lifted, mapped_at, Gives}
 use Rattle.byte_formats.specs.Forms.{IsForm, Anything, Nothing, itself, both, FitsBoth}
 use Rattle.byte_formats.proofs.Steps.{bind_ok, chosen, pass_ok, ok_is, lifted_ok, IsBytes-rest}
-use Rattle.byte_formats.proofs.FormLaws.{fits_form, encoded_form, ended_form, then_form, mapped_form}
+use Rattle.byte_formats.proofs.FormLaws.{fits_form, encoded_form, ended_form, then_form}
+use Rattle.byte_formats.proofs.FormLaws.{mapped_form}
 use Rattle.byte_formats.proofs.FormLaws.{tested_form, lifted_form, to_end_takes, to_end_again}
 use Rattle.der_core.specs.Elements.{element}
 use Rattle.der_core.specs.Reading.{end_at}

@@ -13,7 +13,8 @@ use Rattle.byte_formats.specs.Lists.{up_to_end}
 use Rattle.byte_formats.specs.Forms.{IsForm, Anything, Nothing, FitsBoth}
 use Rattle.byte_formats.proofs.Steps.{bind_ok, pass_ok, ok_is, IsBytes-back, discarded_ok}
 use Rattle.byte_formats.proofs.Steps.{has_bytes-some, some-has_bytes}
-use Rattle.byte_formats.proofs.FormLaws.{fits_form, then_form, mapped_form, tested_form, lifted_form}
+use Rattle.byte_formats.proofs.FormLaws.{fits_form, then_form, mapped_form, tested_form}
+use Rattle.byte_formats.proofs.FormLaws.{lifted_form}
 use Rattle.byte_formats.proofs.FormLaws.{to_end_takes, to_end_again}
 use Rattle.byte_formats.proofs.FormLists.{many_form, up_to_end_drains}
 use Rattle.tls_wire.specs.Encoding.{number, vector, hashes, AreHashes}

@@ -17,7 +17,8 @@ use Rattle.mtc_proof.proofs.Forms.{signature_form}
 id_takes : Takes 1 id_at
 id_takes = record {
   less = λ a x b e.
-      (tested_takes (lifted_takes (vector_takes w8) of_short) has_bytes (EmptyId a.place)).less a x b
+      (tested_takes (lifted_takes (vector_takes w8) of_short) has_bytes (EmptyId a.place)).less a x
+      b
       e;
 }
 

@@ -1,5 +1,5 @@
--- A tally: the first record of its journal says how far it counts, and each later one adds a number.
--- Each is one byte.
+-- A tally: the first record of its journal says how far it counts, and each later one adds a
+-- number. Each is one byte.
 use Rattle.std.specs.Prelude.{ℕ, ◌+◌, ◌==◌, nat_le, if◌then◌else◌, length, slice_index}
 use Rattle.std.specs.Prelude.{Option, Some, None}
 use Rattle.byte_formats.specs.Types.{Text}

@@ -147,7 +147,8 @@ cause-from {hashes = hashes} {g = g} old rows disk size (BadTile level place) fe
         first = λ l p tile earlier.
             let at = between old.adopted size l p few tile in
             stands h leaves b l p
-            (is.before b contents sound.frames leaves (still leaves sound.stands) l p at.0 at.1.0 earlier);
+            (is.before b contents sound.frames leaves (still leaves sound.stands) l p at.0 at.1.0
+            earlier);
       }),
 )
 

@@ -43,8 +43,8 @@ module _ {H T : Type 0} {hashes : Hashes H} {g : Ghosts T} where
       IsFull tiles.adopted (tile_level level) (tile_place level place)
       → IsHeld tiles.pool (tile_level level) (tile_place level place)
 
-  -- The device was only looked at, and all but it, the frames and the nodes that are made or kept of
-  -- their tiles is as it was.
+  -- The device was only looked at, and all but it, the frames and the nodes that are made or kept
+  -- of their tiles is as it was.
   pub record TilesStay (old new : Tiles H T hashes g) : Type 0 where
     pub only_reads : OnlyReads g old.disk new.disk
     pub rows : HaveFilled hashes.hash old.rows new.rows

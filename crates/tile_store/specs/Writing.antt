@@ -28,8 +28,8 @@ pub record WritesBehind {T : Type 0} (g : Ghosts T) (place : ℕ) (old new : T) 
   pub contents : is_some (g.contents new) ≡ is_some (g.contents old)
   pub known : g.known old ≤ g.known new
 
--- The rows have the nodes of the tiles of the numbers from one on up to another, and none of them is
--- gone: those that are gone stand in the tiles of other leaves, whose numbers are lower.
+-- The rows have the nodes of the tiles of the numbers from one on up to another, and none of them
+-- is gone: those that are gone stand in the tiles of other leaves, whose numbers are lower.
 pub record HaveTiles (rows : RowsState) (from to : ℕ) : Type 0 where
   pub few : count_of rows < 2 ^ 32
   pub full : to ≤ tiles_in (filled_of rows)

@@ -184,8 +184,8 @@ impl<H: TreeHash, T: Disk> Tiles<H, T> {
         Ok(self.inside.node(slot.0 as usize, tile, level, place))
     }
 
-    // A node that stands in no adopted tile. Those over all leaves are made then, in memory that was
-    // taken with the leaves.
+    // A node that stands in no adopted tile. Those over all leaves are made then, in memory that
+    // was taken with the leaves.
     fn kept_node(&mut self, level: u32, place: u64) -> [u8; 32]
         requires within { (place + 1) * 2 ^ level ≤ tiles_count self.old }
         requires kept { gone_at self.old.rows level ≤ place }

@@ -9,7 +9,8 @@ use Rattle.std.proofs.lemmas.List.{drop-drop, length-drop}
 use Rattle.std.proofs.lemmas.Nat.{pow-add, pow_pos}
 use Rattle.tree_cache.proofs.Pushes.{count-long, written-whole}
 use Rattle.tree_cache.specs.Rows.{AreFullRowsOf, AreLong, AreRowsOf, AreSound, HoldUpTo, IsLong}
-use Rattle.tree_cache.specs.Rows.{IsRowOf, RowState, RowsState, count_of, filled_of, gone_at, gone_in}
+use Rattle.tree_cache.specs.Rows.{IsRowOf, RowState, RowsState, count_of, filled_of, gone_at}
+use Rattle.tree_cache.specs.Rows.{gone_in}
 use Rattle.tree_cache.specs.Rows.{length_of, paired, row_count}
 use Rattle.tree_cache.specs.Tiled.{CanForget, CanForgetAll, HasForgotten, gone_of}
 

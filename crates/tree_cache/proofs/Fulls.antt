@@ -244,7 +244,8 @@ row-long (suc level) count (first ∷ rows) row long inside is =
 -- it has the nodes that are made
 pub level-long : (level some : ℕ) (r : RowsState) (row : RowState) → IsRowAt r level row
     → AreSound r → some * 2 ^ level ≤ filled_of r → some ≤ row_count row
-level-long zero some r row at sound within = subst (λ n. some ≤ n) (sym (ap row_count at.is)) (omega arith)
+level-long zero some r row at sound within =
+    subst (λ n. some ≤ n) (sym (ap row_count at.is)) (omega arith)
 level-long (suc level) some r row at sound within =
     let inside = at.inside in
     let double : some * 2 ^ suc level ≡ 2 * (some * 2 ^ level) =

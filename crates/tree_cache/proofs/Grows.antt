@@ -4,7 +4,8 @@ use Rattle.std.proofs.Common.{List, [], ◌∷◌, length, take, drop}
 use Rattle.std.proofs.Common.{sym, ◌∙◌, ap, refl, subst, arith}
 use Rattle.std.proofs.Math.Nat.{pow-succ'}
 use Rattle.tree_cache.proofs.Pushes.{gone-on}
-use Rattle.tree_cache.specs.Rows.{AreFullRowsOf, AreLong, AreRowsOf, AreSound, HaveGrown, HaveLevels}
+use Rattle.tree_cache.specs.Rows.{AreFullRowsOf, AreLong, AreRowsOf, AreSound, HaveGrown}
+use Rattle.tree_cache.specs.Rows.{HaveLevels}
 use Rattle.tree_cache.specs.Rows.{HaveNone, HoldUpTo, IsEmpty, IsLong, IsRowOf, NodesHaveGrown}
 use Rattle.tree_cache.specs.Rows.{RowState, RowsState, count_of, filled_of, gone_at, gone_in}
 use Rattle.tree_cache.specs.Rows.{length_of, paired, row_count}
@@ -56,7 +57,8 @@ grown-row rows row grown above raised is gone same spare up = record {
       (omega arith, up.kept (capacity / 2) here.1);
 }
 
-pub grown-on : (a b c : List RowState) → NodesHaveGrown a b → NodesHaveGrown b c → NodesHaveGrown a c
+pub grown-on : (a b c : List RowState) → NodesHaveGrown a b → NodesHaveGrown b c
+    → NodesHaveGrown a c
 grown-on a b c one two = record {
   count = two.count ∙ one.count;
   gone = λ level. two.gone level ∙ one.gone level;
@@ -132,7 +134,8 @@ gone-none (row ∷ rows) none zero = let empty = none 0 row (omega arith) in emp
 gone-none (row ∷ rows) none (suc level) =
     gone-none rows (λ k d inside. none (suc k) d (omega arith)) level
 
-pub grown-none : (old rows : List RowState) → length old ≡ 0 → HaveNone rows → NodesHaveGrown old rows
+pub grown-none : (old rows : List RowState) → length old ≡ 0 → HaveNone rows
+    → NodesHaveGrown old rows
 unfolding AreFullRowsOf AreLong HoldUpTo gone_in
 grown-none (row ∷ old) rows is none = let no : ⊥ = omega arith in absurd no
 grown-none [] rows is none = record {

@@ -75,8 +75,8 @@ impl Rows {
         self.first.count()
     }
 
-    /// Makes room for at least `count` more leaves and the nodes over them. It is refused only where
-    /// fewer are spare. The rows stay as they were, also then.
+    /// Makes room for at least `count` more leaves and the nodes over them. It is refused only
+    /// where fewer are spare. The rows stay as they were, also then.
     pub fn reserve(&mut self, count: usize) -> Result<(), Memory>
         ensures grown { HaveGrown self.old self.new }
         ensures spare { OnOk result (count ≤ spare_of self.new) }

@@ -1,7 +1,8 @@
 //! The hashes of one level.
 
 ghost use Rattle.std.specs.Prelude.{◌≡◌, ◌+◌, ◌-◌, ◌*◌, ◌%◌, ◌^◌, ◌<◌, ◌≤◌, [], ◌∷◌, ◌++◌};
-ghost use Rattle.std.specs.Prelude.{length, take, drop, slice_index_or, vec_len, vec_capacity, MatchOption, OnOk};
+ghost use Rattle.std.specs.Prelude.{length, take, drop, slice_index_or, vec_len, vec_capacity};
+ghost use Rattle.std.specs.Prelude.{MatchOption, OnOk};
 ghost use Rattle.tree_cache.specs.Rows.{RowState, row_count};
 ghost use Rattle.tree_cache.specs.Tiled.{CanForget, HasForgotten};
 ghost use Rattle.tree_core.specs.Tree.{pair_hash};

@@ -11,8 +11,8 @@ use crate::EntryList;
 use mtc_io::Bytes;
 use tree_core::{TreeHash, leaf, pair};
 
-/// The largest power of two below the number, which is where a list of so many entries is split (RFC
-/// 9162, section 2.1.1).
+/// The largest power of two below the number, which is where a list of so many entries is split
+/// (RFC 9162, section 2.1.1).
 pub fn split(count: u64) -> u64
     requires { 1 < count }
     ensures value { result ≡ split_of count }
