@@ -6,7 +6,7 @@ use Rattle.frame_pool.specs.Frames.{PoolState}
 use Rattle.tile_store.specs.Contents.{HoldsTiles, IsTile, stored_leaves}
 use Rattle.tile_store.specs.Frames.{FramesHold}
 use Rattle.tree_cache.specs.Rows.{AreFullRowsOf, AreRowsOf, IsRowOf, RowState, RowsState, first_row}
-use Rattle.tree_cache.specs.Rows.{length_of, paired}
+use Rattle.tree_cache.specs.Rows.{first_length, paired}
 
 -- The leaf hashes: those in adopted tiles, and those that are kept in memory.
 abbrev pub leaves_with : ℕ → RowsState → Text → List Hash
@@ -37,7 +37,7 @@ AreRowsOf-prop h leaves rows =
     hlevel (
       props,
       IsRowOf-prop leaves rows.first,
-      AreFullRowsOf-prop h (take (length_of rows.above) (paired h leaves)) rows.above,
+      AreFullRowsOf-prop h (take (first_length rows.above) (paired h leaves)) rows.above,
     )
 
 IsTile-prop : (h : HashFunction) (leaves : List Hash) (level place : ℕ) (tile : Text)

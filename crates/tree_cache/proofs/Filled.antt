@@ -11,7 +11,7 @@ use Rattle.tree_cache.proofs.Pushes.{count-long, is-long, long-of, row-pushed, w
 use Rattle.tree_cache.specs.Rows.{AreAllOf, AreFullRowsOf, AreLong, AreRowsOf, AreSound, CanReach}
 use Rattle.tree_cache.specs.Rows.{HaveFilled, HaveGrown, HaveLevels, HoldUpTo, IsRowOf, RowState}
 use Rattle.tree_cache.specs.Rows.{RowsState, count_of, filled_of, first_row, gone_at, gone_in}
-use Rattle.tree_cache.specs.Rows.{length_of, paired, row_count}
+use Rattle.tree_cache.specs.Rows.{first_length, paired, row_count}
 use Rattle.tree_core.specs.Tree.{pair_hash}
 
 -- the rows of some leaves stand for so many
@@ -21,11 +21,11 @@ count-rows h leaves r are = let long = is-long leaves r.first are.first in long.
 
 -- there are no more nodes than pairs
 above-within : (h : List ℕ → List ℕ) (leaves : List (List ℕ)) (r : RowsState)
-    → AreRowsOf h leaves r → length_of r.above ≤ length (paired h leaves)
+    → AreRowsOf h leaves r → first_length r.above ≤ length (paired h leaves)
 above-within h leaves r are =
-    let cut = length-take (length_of r.above) (paired h leaves) in
-    let all = count-long (length (take (length_of r.above) (paired h leaves))) r.above
-    (long-of h (take (length_of r.above) (paired h leaves)) r.above are.above) in
+    let cut = length-take (first_length r.above) (paired h leaves) in
+    let all = count-long (length (take (first_length r.above) (paired h leaves))) r.above
+    (long-of h (take (first_length r.above) (paired h leaves)) r.above are.above) in
     omega arith
 
 -- the first row keeps the leaves that are not gone
@@ -55,18 +55,19 @@ rows-pushed h leaves old new leaf gone more same are =
     let within = above-within h leaves old are in
     record {
       first = row-pushed leaves leaf old.first new.first gone more are.first;
-      above = subst (λ a. AreFullRowsOf h (take (length_of a) (paired h (leaves ++ leaf ∷ []))) a)
+      above = subst
+          (λ a. AreFullRowsOf h (take (first_length a) (paired h (leaves ++ leaf ∷ []))) a)
           (sym same)
           (subst (λ l. AreFullRowsOf h l old.above)
-          (sym (pairs-pushed h leaves leaf (length_of old.above) within)) are.above);
+          (sym (pairs-pushed h leaves leaf (first_length old.above) within)) are.above);
     }
 
 -- nodes over more of the leaves
 pub rows-filled : (h : List ℕ → List ℕ) (leaves : List (List ℕ)) (old new : RowsState)
     → new.first ≡ old.first
     → ((hashes : List (List ℕ)) → IsRowOf hashes old.first
-    → AreFullRowsOf h (take (length_of old.above) (paired h hashes)) old.above
-    → AreFullRowsOf h (take (length_of new.above) (paired h hashes)) new.above)
+    → AreFullRowsOf h (take (first_length old.above) (paired h hashes)) old.above
+    → AreFullRowsOf h (take (first_length new.above) (paired h hashes)) new.above)
     → AreRowsOf h leaves old → AreRowsOf h leaves new
 rows-filled h leaves old new same filled are = record {
   first = subst (IsRowOf leaves) (sym same) are.first;
@@ -151,7 +152,7 @@ rows-full h leaves r are all =
     let within = above-within h leaves r are in
     let count = count-rows h leaves r are in
     let pairs = length-paired h leaves in
-    let whole : length_of r.above ≡ length (paired h leaves) = omega arith in (
+    let whole : first_length r.above ≡ length (paired h leaves) = omega arith in (
       are.first,
       subst (λ l. AreFullRowsOf h l r.above)
           (ap (λ n. take n (paired h leaves)) whole ∙ take-length (paired h leaves)) are.above,
@@ -186,7 +187,7 @@ pub sound-pushed : (old new : RowsState) (leaf : List ℕ) → AreSound old
     → new.above ≡ old.above → new.capacity ≡ old.capacity → AreSound new
 sound-pushed old new leaf sound below gone more spare same capacity =
     let size = ap length more ∙ length_push old.first.kept leaf in
-    let nodes = ap length_of same in
+    let nodes = ap first_length same in
     let made = sound.made in
     let behind = sound.behind in
     let leaves = sound.leaves in
@@ -194,7 +195,7 @@ sound-pushed old new leaf sound below gone more spare same capacity =
     record {
       levels = subst HaveLevels (sym same) sound.levels;
       even = ap (λ g. g % 2) gone ∙ sound.even;
-      long = subst (λ a. AreLong (length_of a) a) (sym same) sound.long;
+      long = subst (λ a. AreLong (first_length a) a) (sym same) sound.long;
       made = omega arith;
       behind = omega arith;
       leaves = omega arith;
@@ -205,7 +206,7 @@ sound-pushed old new leaf sound below gone more spare same capacity =
 
 -- as many nodes as are asked for need no memory
 pub can-reach : (r : RowsState) (to : ℕ) → AreSound r → to ≤ r.capacity / 2
-    → CanReach (length_of r.above) to r.above
+    → CanReach (first_length r.above) to r.above
 can-reach r to sound within = record {
   capacity = r.capacity / 2;
   long = sound.long;
@@ -216,15 +217,15 @@ can-reach r to sound within = record {
 pub record IsFilled (h : List ℕ → List ℕ) (to : ℕ) (old new : RowsState) : Type 0 where
   pub sound : AreSound new
   pub rows : HaveFilled h old new
-  pub made : length_of new.above ≡ to
+  pub made : first_length new.above ≡ to
 
 filled-above : (h : List ℕ → List ℕ) (old : RowsState) (above : List RowState) (to : ℕ)
-    → AreSound old → length_of old.above ≤ to → 2 * to ≤ count_of old
+    → AreSound old → first_length old.above ≤ to → 2 * to ≤ count_of old
     → length above ≡ length old.above
-    → IsFilling h old.first (length_of old.above) to old.above above
+    → IsFilling h old.first (first_length old.above) to old.above above
     → IsFilled h to old (record { first = old.first; above = above; capacity = old.capacity })
 filled-above h old above to sound from within count is =
-    let nodes : length_of above ≡ to = count-long to above is.long in
+    let nodes : first_length above ≡ to = count-long to above is.long in
     let behind = sound.behind in
     record {
       sound = record {
@@ -258,9 +259,9 @@ filled-above h old above to sound from within count is =
 
 -- through the slice of the vector of the rows above the leaves
 pub filled_whole : (h : List ℕ → List ℕ) (old : RowsState) (slice new : List RowState)
-    (len to : ℕ) → AreSound old → length_of old.above ≤ to → 2 * to ≤ count_of old
+    (len to : ℕ) → AreSound old → first_length old.above ≤ to → 2 * to ≤ count_of old
     → slice ≡ old.above → len ≡ length old.above → length new ≡ length slice
-    → IsFilling h old.first (length_of old.above) to slice new
+    → IsFilling h old.first (first_length old.above) to slice new
     → IsFilled h to old (record {
       first = old.first;
       above = take len (new ++ drop (length new) old.above);
@@ -274,7 +275,7 @@ filled_whole h old slice new len to sound from within is same count filling =
       capacity = old.capacity;
     })) (sym (written-whole len new old.above same equal))
     (filled-above h old new to sound from within equal
-    (subst (λ s. IsFilling h old.first (length_of old.above) to s new) is filling))
+    (subst (λ s. IsFilling h old.first (first_length old.above) to s new) is filling))
 
 -- All rows of some leaves.
 

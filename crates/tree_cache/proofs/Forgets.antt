@@ -11,7 +11,7 @@ use Rattle.tree_cache.proofs.Pushes.{count-long, written-whole}
 use Rattle.tree_cache.specs.Rows.{AreFullRowsOf, AreLong, AreRowsOf, AreSound, HoldUpTo, IsLong}
 use Rattle.tree_cache.specs.Rows.{IsRowOf, RowState, RowsState, count_of, filled_of, gone_at}
 use Rattle.tree_cache.specs.Rows.{gone_in}
-use Rattle.tree_cache.specs.Rows.{length_of, paired, row_count}
+use Rattle.tree_cache.specs.Rows.{first_length, paired, row_count}
 use Rattle.tree_cache.specs.Tiled.{CanForget, CanForgetAll, HasForgotten, gone_of}
 
 -- a power of 256 as one of 2
@@ -190,7 +190,7 @@ none-under size level few =
     let most = gone-within size level in
     omega arith
 
-no-hashes : (rows : List RowState) → length rows ≡ 0 → length_of rows ≡ 0
+no-hashes : (rows : List RowState) → length rows ≡ 0 → first_length rows ≡ 0
 no-hashes [] none = refl
 no-hashes (row ∷ rows) none = let no : ⊥ = omega arith in absurd no
 
@@ -215,7 +215,7 @@ module _ (size : ℕ) (r : RowsState) (sound : AreSound r) (few : size < 2 ^ 32)
       → CanForgetAll size 1 r.above
   unfolding gone_at
   can-nodes before =
-      can-from size 1 (length_of r.above) r.above sound.long (omega arith)
+      can-from size 1 (first_length r.above) r.above sound.long (omega arith)
       (λ at. let next : suc at ≡ 1 + at = omega arith in
       subst (λ l. gone_in r.above at ≤ gone_of size l) next (before (suc at)))
 
@@ -271,9 +271,9 @@ forgotten : (size : ℕ) (old : RowsState) (first : RowState) (above : List RowS
 forgotten size old first above sound few within before done count rows long holds gone =
     let can = can-first size old sound few within before in
     let same = length-forgotten (gone_of size 0) old.first first can done in
-    let longer = long (length_of old.above) sound.long in
-    let nodes : length_of above ≡ length_of old.above =
-    count-long (length_of old.above) above longer in
+    let longer = long (first_length old.above) sound.long in
+    let nodes : first_length above ≡ first_length old.above =
+    count-long (first_length old.above) above longer in
     let most = gone-first size in
     let even = gone-even size 0 in
     let here = done.gone_is in
@@ -295,7 +295,7 @@ forgotten size old first above sound few within before done count rows long hold
       rows_of = λ h leaves are. record {
         first = row-forgotten leaves (gone_of size 0) old.first first can done even are.first;
         above = subst (λ n. AreFullRowsOf h (take n (paired h leaves)) above) (sym nodes)
-            (rows h (take (length_of old.above) (paired h leaves)) are.above);
+            (rows h (take (first_length old.above) (paired h leaves)) are.above);
       };
       count = same;
       gone = gone-all size old sound few within first above count here gone;

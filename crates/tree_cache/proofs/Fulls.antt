@@ -13,7 +13,7 @@ use Rattle.tree_cache.proofs.Filled.{count-rows, rows-full}
 use Rattle.tree_cache.proofs.Pushes.{long-of}
 use Rattle.tree_cache.specs.Rows.{AreFullRowsOf, AreLong, AreRowsOf, AreSound, IsRowAt, IsRowOf}
 use Rattle.tree_cache.specs.Rows.{RowState, RowsState, count_of, filled_of, gone_at, gone_in}
-use Rattle.tree_cache.specs.Rows.{length_of, levels_of, paired, row_count}
+use Rattle.tree_cache.specs.Rows.{first_length, levels_of, paired, row_count}
 use Rattle.tree_core.proofs.Powers.{split_unique}
 use Rattle.tree_core.proofs.Roots.{root_of-none, root_of-one, root_of-split}
 use Rattle.tree_core.specs.Path.{part_of}
@@ -196,19 +196,19 @@ kept-root h zero leaves r row place at are behind within =
     (omega arith)
 kept-root h (suc level) leaves r row place at are behind within =
     let inside = at.inside in
-    let pairs = take (length_of r.above) (paired h leaves) in
+    let pairs = take (first_length r.above) (paired h leaves) in
     let count = count-rows h leaves r are in
     let size = length-paired h leaves in
-    let cut = length-take (length_of r.above) (paired h leaves) in
+    let cut = length-take (first_length r.above) (paired h leaves) in
     let double : 2 ^ suc level ≡ 2 * 2 ^ level = pow-succ' 2 level in
     let to : (place + 1) * 2 ^ suc level ≡ 2 * ((place + 1) * 2 ^ level) =
     ap (λ p. (place + 1) * p) double ∙ omega arith in
     let order = mul-le-mul_right {m = place} {n = place + 1} (2 ^ level) (omega arith) in
-    row-root h level (take (length_of r.above) (paired h leaves)) row place
-    (row_at h level (take (length_of r.above) (paired h leaves)) r.above row are.above
+    row-root h level (take (first_length r.above) (paired h leaves)) row place
+    (row_at h level (take (first_length r.above) (paired h leaves)) r.above row are.above
     (omega arith) at.is) behind (omega arith)
     ∙ ap (root_of h) (part_of-take (paired h leaves) (place * 2 ^ level)
-    ((place + 1) * 2 ^ level) (length_of r.above) order (omega arith))
+    ((place + 1) * 2 ^ level) (first_length r.above) order (omega arith))
     ∙ root-pairs h level leaves place (omega arith)
 
 -- so many hashes of a row, from a place on
@@ -250,8 +250,8 @@ level-long (suc level) some r row at sound within =
     let inside = at.inside in
     let double : some * 2 ^ suc level ≡ 2 * (some * 2 ^ level) =
     ap (λ p. some * p) (pow-succ' 2 level) ∙ omega arith in
-    let many = le-div some (length_of r.above) (2 ^ level) (pow_pos level) (omega arith) in
-    let all = row-long level (length_of r.above) r.above row sound.long (omega arith) at.is in
+    let many = le-div some (first_length r.above) (2 ^ level) (pow_pos level) (omega arith) in
+    let all = row-long level (first_length r.above) r.above row sound.long (omega arith) at.is in
     omega arith
 
 -- above the last row there are none
@@ -282,9 +282,9 @@ level-inside zero some r sound one within = omega arith
 level-inside (suc level) some r sound one within =
     let double : some * 2 ^ suc level ≡ 2 * (some * 2 ^ level) =
     ap (λ p. some * p) (pow-succ' 2 level) ∙ omega arith in
-    let many = le-div some (length_of r.above) (2 ^ level) (pow_pos level) (omega arith) in
+    let many = le-div some (first_length r.above) (2 ^ level) (pow_pos level) (omega arith) in
     let below : level < length r.above = lt_of_not-le (λ outside.
-    let none = over level (length_of r.above) r.above sound.long outside in omega arith) in
+    let none = over level (first_length r.above) r.above sound.long outside in omega arith) in
     omega arith
 
 pub root-none : (h : List ℕ → List ℕ) (leaves : List (List ℕ)) → length leaves ≡ 0

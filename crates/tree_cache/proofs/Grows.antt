@@ -8,7 +8,7 @@ use Rattle.tree_cache.specs.Rows.{AreFullRowsOf, AreLong, AreRowsOf, AreSound, H
 use Rattle.tree_cache.specs.Rows.{HaveLevels}
 use Rattle.tree_cache.specs.Rows.{HaveNone, HoldUpTo, IsEmpty, IsLong, IsRowOf, NodesHaveGrown}
 use Rattle.tree_cache.specs.Rows.{RowState, RowsState, count_of, filled_of, gone_at, gone_in}
-use Rattle.tree_cache.specs.Rows.{length_of, paired, row_count}
+use Rattle.tree_cache.specs.Rows.{first_length, paired, row_count}
 
 pub grown-same : (rows : List RowState) → NodesHaveGrown rows rows
 grown-same rows = record {
@@ -42,7 +42,7 @@ unfolding AreFullRowsOf AreLong HoldUpTo
 grown-row rows row grown above raised is gone same spare up = record {
   count = let size : length grown.kept ≡ length row.kept = ap length same in
       let all : row_count grown ≡ row_count row = omega arith in
-      all ∙ sym (ap length_of is);
+      all ∙ sym (ap first_length is);
   gone = gone-on rows row grown above raised is gone up.gone;
   same = λ h leaves are.
       let here : AreFullRowsOf h leaves (row ∷ above) = subst (AreFullRowsOf h leaves) is are in
@@ -119,7 +119,7 @@ unfolding HoldUpTo
 holds-zero [] = refl
 holds-zero (row ∷ rows) = (omega arith, holds-zero rows)
 
-count-none : (rows : List RowState) → HaveNone rows → length_of rows ≡ 0
+count-none : (rows : List RowState) → HaveNone rows → first_length rows ≡ 0
 count-none [] none = refl
 count-none (row ∷ rows) none =
     let empty = none 0 row (omega arith) in
@@ -165,7 +165,7 @@ rows-grown old new gone kept up = record {
   same = λ h leaves are. record {
     first = row-same leaves old.first new.first gone kept are.first;
     above = subst (λ n. AreFullRowsOf h (take n (paired h leaves)) new.above) (sym up.count)
-        (up.same h (take (length_of old.above) (paired h leaves)) are.above);
+        (up.same h (take (first_length old.above) (paired h leaves)) are.above);
   };
 }
 
@@ -182,7 +182,7 @@ sound-grown old new sound gone kept up levels leaves nodes within =
       levels = levels;
       even = ap (λ g. g % 2) gone ∙ sound.even;
       long = subst (λ n. AreLong n new.above) (sym up.count)
-          (up.long (length_of old.above) sound.long);
+          (up.long (first_length old.above) sound.long);
       made = omega arith;
       behind = omega arith;
       leaves = leaves;
@@ -200,7 +200,7 @@ rows-none h r empty none = record {
     within = let gone = empty.gone in omega arith;
     even = ap (λ g. g % 2) empty.gone;
   };
-  above = subst (λ a. AreFullRowsOf h (take (length_of a) (paired h [])) a) (sym none) refl;
+  above = subst (λ a. AreFullRowsOf h (take (first_length a) (paired h [])) a) (sym none) refl;
 }
 
 pub whole-none : (r : RowsState) → IsEmpty r.first → r.above ≡ [] → (level : ℕ)
@@ -214,11 +214,11 @@ unfolding AreLong HoldUpTo
 sound-none r empty none capacity =
     let gone = empty.gone in
     let kept = ap length empty.kept in
-    let above = ap length_of none in
+    let above = ap first_length none in
     record {
       levels = inl (ap length none);
       even = ap (λ g. g % 2) empty.gone;
-      long = subst (λ a. AreLong (length_of a) a) (sym none) refl;
+      long = subst (λ a. AreLong (first_length a) a) (sym none) refl;
       made = omega arith;
       behind = omega arith;
       leaves = omega arith;

@@ -7,7 +7,7 @@ use Rattle.std.proofs.Math.Seq.{get_or-append_seam, take-append_seam}
 use Rattle.std.proofs.lemmas.List.{drop-append-le, get_or-drop, length-drop, length_push}
 use Rattle.tree_cache.proofs.Pairs.{length-paired, paired-alone, paired-joined}
 use Rattle.tree_cache.specs.Rows.{AreFullRowsOf, AreLong, HaveCapacity, HaveCount, HoldUpTo, IsLong}
-use Rattle.tree_cache.specs.Rows.{IsRowOf, RowState, gone_in, length_of, paired, row_count}
+use Rattle.tree_cache.specs.Rows.{IsRowOf, RowState, gone_in, first_length, paired, row_count}
 use Rattle.tree_core.specs.Tree.{pair_hash}
 
 -- a row of some hashes is as long as these
@@ -239,7 +239,7 @@ written-whole len new items is same =
     ap (λ n. take n (new ++ drop (length new) items)) (is ∙ sym same)
     ∙ take-append_seam new (drop (length new) items)
 
-pub count-long : (count : ℕ) (rows : List RowState) → AreLong count rows → length_of rows ≡ count
+pub count-long : (count : ℕ) (rows : List RowState) → AreLong count rows → first_length rows ≡ count
 unfolding AreLong
 count-long count [] long = sym long
 count-long count (row ∷ rows) long = long.0.all

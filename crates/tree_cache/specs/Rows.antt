@@ -74,9 +74,9 @@ pub record CanReach (from to : ℕ) (rows : List RowState) : Type 0 where
   pub within : to ≤ capacity
 
 -- How many hashes the first of some rows stands for.
-abbrev pub length_of : List RowState → ℕ
-length_of [] = 0
-length_of (row ∷ rows) = row_count row
+abbrev pub first_length : List RowState → ℕ
+first_length [] = 0
+first_length (row ∷ rows) = row_count row
 
 -- How many hashes are gone from the front of a level of some rows.
 unfoldable pub gone_in : List RowState → ℕ → ℕ
@@ -98,9 +98,9 @@ HaveNone rows = All IsEmpty rows
 abbrev pub HaveLevels : List RowState → Type 0
 HaveLevels rows = (length rows ≡ 0) ⊎ (length rows ≡ 63)
 
--- These rows are as before, but for their room, which is no less.
+-- These rows are as before, but for their capacity, which is no less.
 pub record NodesHaveGrown (old new : List RowState) : Type 0 where
-  pub count : length_of new ≡ length_of old
+  pub count : first_length new ≡ first_length old
   pub gone : (level : ℕ) → gone_in new level ≡ gone_in old level
   pub same : (h : HashFunction) (hashes : List Hash) → AreFullRowsOf h hashes old
       → AreFullRowsOf h hashes new
@@ -118,7 +118,7 @@ pub record RowsState : Type 0 where
 -- of the first of their pairs.
 pub record AreRowsOf (h : HashFunction) (leaves : List Hash) (r : RowsState) : Type 0 where
   pub first : IsRowOf leaves r.first
-  pub above : AreFullRowsOf h (take (length_of r.above) (paired h leaves)) r.above
+  pub above : AreFullRowsOf h (take (first_length r.above) (paired h leaves)) r.above
 
 -- The leaf hashes that are kept: all of them, where none is gone.
 abbrev pub first_row : RowsState → List Hash
@@ -131,7 +131,7 @@ count_of r = row_count r.first
 -- The nodes over the first so many leaves are made. A last one of these without a sibling needs
 -- none.
 abbrev pub filled_of : RowsState → ℕ
-filled_of r = min (count_of r) (2 * length_of r.above + 1)
+filled_of r = min (count_of r) (2 * first_length r.above + 1)
 
 -- How many hashes are gone from the front of a level.
 unfoldable pub gone_at : RowsState → ℕ → ℕ
@@ -162,14 +162,14 @@ pub record AreAllOf (h : HashFunction) (leaves : List Hash) (r : RowsState) : Ty
 pub record AreSound (r : RowsState) : Type 0 where
   pub levels : HaveLevels r.above
   pub even : r.first.gone % 2 ≡ 0
-  pub long : AreLong (length_of r.above) r.above
-  pub made : 2 * length_of r.above ≤ count_of r
-  pub behind : r.first.gone ≤ 2 * length_of r.above
+  pub long : AreLong (first_length r.above) r.above
+  pub made : 2 * first_length r.above ≤ count_of r
+  pub behind : r.first.gone ≤ 2 * first_length r.above
   pub leaves : r.capacity ≤ count_of r + r.first.spare
   pub nodes : HoldUpTo (r.capacity / 2) r.above
   pub within : count_of r ≤ r.capacity
 
--- The rows are as before, but for their room, which is no less.
+-- The rows are as before, but for their capacity, which is no less.
 pub record HaveGrown (old new : RowsState) : Type 0 where
   pub first : first_row new ≡ first_row old
   pub count : count_of new ≡ count_of old

@@ -11,7 +11,7 @@ ghost use Rattle.tree_core.specs.Path.{part_of};
 ghost use Rattle.tree_core.specs.Tree.{root_of};
 
 use crate::row::Row;
-use crate::rows::{fill_above, forget_from, length_of, make_capacity, nodes_in_tiles};
+use crate::rows::{fill_above, first_length, forget_from, make_capacity, nodes_in_tiles};
 use mtc_io::Memory;
 use std::alloc::Global;
 use std::marker::Model;
@@ -96,7 +96,7 @@ impl Rows {
         Ok(())
     }
 
-    /// Puts a leaf hash behind the others, in room that is there. It hashes nothing.
+    /// Puts a leaf hash behind the others, within the capacity. It hashes nothing.
     pub fn push(&mut self, leaf: &[u8; 32])
         requires { count_of self.old < self.old.capacity }
         ensures pushed { (h : HashFunction) (leaves : List Hash) → AreRowsOf h leaves self.old
@@ -109,15 +109,15 @@ impl Rows {
         self.first.push(leaf);
     }
 
-    /// Makes those of the nodes over the first `size` leaves that aren't made yet, in room that is
-    /// there. It hashes each of their pairs once, and makes no node over other leaves.
+    /// Makes those of the nodes over the first `size` leaves that aren't made yet, within the
+    /// capacity. It hashes each of their pairs once, and makes no node over other leaves.
     pub fn fill<H: TreeHash>(&mut self, size: u64)
         requires { size ≤ count_of self.old }
         ensures filled { size ≤ filled_of self.new }
         ensures most { filled_of self.new ≤ max (size + 1) (filled_of self.old) }
         ensures rows { HaveFilled H.hash self.old self.new }
     {
-        let made = length_of(self.above.as_slice());
+        let made = first_length(self.above.as_slice());
         let wanted = made.max(size / 2);
         fill_above::<H>(&self.first, self.above.as_mut_slice(), made, wanted);
     }

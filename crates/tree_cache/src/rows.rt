@@ -5,7 +5,7 @@ ghost use Rattle.std.specs.Prelude.{take, IfOk, OnOk};
 ghost use Rattle.byte_formats.specs.Types.{Hash, HashFunction};
 ghost use Rattle.tree_cache.specs.Rows.{AreFullRowsOf, AreLong, CanReach, HaveCapacity, HaveCount};
 ghost use Rattle.tree_cache.specs.Rows.{HaveLevels, HaveNone, HoldUpTo, IsRowOf, NodesHaveGrown};
-ghost use Rattle.tree_cache.specs.Rows.{gone_in, length_of, paired, row_count};
+ghost use Rattle.tree_cache.specs.Rows.{gone_in, first_length, paired, row_count};
 ghost use Rattle.tree_cache.specs.Tiled.{CanForgetAll, gone_of};
 
 use crate::row::Row;
@@ -29,9 +29,9 @@ pub(crate) fn empty_rows(alloc: Global) -> Result<Vec<Row>, Memory>
 }
 
 // How many hashes the first of some rows stands for.
-pub(crate) fn length_of(rows: &[Row]) -> u64
-    requires { length_of rows.now < 2 ^ 64 }
-    ensures { result ≡ length_of rows.now }
+pub(crate) fn first_length(rows: &[Row]) -> u64
+    requires { first_length rows.now < 2 ^ 64 }
+    ensures { result ≡ first_length rows.now }
 {
     match rows.first() {
         Some(row) => row.count(),
@@ -69,7 +69,7 @@ fn grow(rows: &mut [Row], capacity: u64) -> Result<(), Memory>
     }
 }
 
-// Makes room for so many hashes in the first row, and for the nodes above them.
+// Makes the capacity so many hashes in the first row, and the nodes above them.
 pub(crate) fn make_capacity(alloc: Global, rows: &mut Vec<Row>, capacity: u64) -> Result<(), Memory>
     requires small { capacity < 2 ^ 63 }
     requires levels { HaveLevels rows.old.items }

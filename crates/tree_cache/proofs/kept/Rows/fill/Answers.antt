@@ -1,7 +1,8 @@
 use Rattle.std.proofs.Common.{◌≡◌, ◌++◌, ◌+◌, ◌*◌, ◌/◌, ◌≤◌, max, length, take, drop, sym, ◌∙◌, ap}
 use Rattle.std.proofs.Common.{subst, arith}
 use Rattle.tree_cache.proofs.Filled.{IsFilled, IsFilling, can-reach, filled_whole}
-use Rattle.tree_cache.specs.Rows.{CanReach, HaveFilled, RowsState, count_of, filled_of, length_of}
+use Rattle.tree_cache.specs.Rows.{CanReach, HaveFilled, RowsState, count_of, filled_of}
+use Rattle.tree_cache.specs.Rows.{first_length}
 use Rattle.tree_cache.proofs.kept.Rows.fill.Given as given
 use Rattle.tree_cache.proofs.kept.Rows.fill.Goals as goal
 
@@ -13,12 +14,12 @@ fill_above-requires-clause-capacity g c =
       capacity = c.self.inside.capacity;
     } in
     let size = subst (λ r. c.args.size ≤ count_of r) (sym c.self.view_is) c.requires in
-    let nodes : c.length_of-made.result ≡ length_of c.self.inside.above.items =
-    c.length_of-made.ensures ∙ ap length_of c.as_slice.ensures.value in
+    let nodes : c.first_length-made.result ≡ first_length c.self.inside.above.items =
+    c.first_length-made.ensures ∙ ap first_length c.as_slice.ensures.value in
     let made = c.self.invariant.made in
     let within = c.self.invariant.within in
     let wanted = c.max-wanted.ensures in
-    subst (CanReach c.length_of-made.result c.max-wanted.result)
+    subst (CanReach c.first_length-made.result c.max-wanted.result)
     (sym c.as_mut_slice.ensures.value)
     (subst (λ n. CanReach n c.max-wanted.result c.self.inside.above.items) (sym nodes)
     (can-reach old c.max-wanted.result c.self.invariant (omega arith)))
@@ -42,11 +43,11 @@ filled g c =
       capacity = c.self.inside.capacity;
     } in
     let size = subst (λ r. c.args.size ≤ count_of r) (sym c.self.view_is) c.requires in
-    let nodes : c.length_of-made.result ≡ length_of c.self.inside.above.items =
-    c.length_of-made.ensures ∙ ap length_of c.as_slice.ensures.value in
+    let nodes : c.first_length-made.result ≡ first_length c.self.inside.above.items =
+    c.first_length-made.ensures ∙ ap first_length c.as_slice.ensures.value in
     let made = c.self.invariant.made in
     let wanted = c.max-wanted.ensures in
-    let filling : IsFilling h c.self.inside.first c.length_of-made.result c.max-wanted.result
+    let filling : IsFilling h c.self.inside.first c.first_length-made.result c.max-wanted.result
     c.as_mut_slice.result.now c.fill_above.new.above = record {
       filled = c.fill_above.ensures.filled;
       long = c.fill_above.ensures.long;
@@ -74,8 +75,8 @@ pub returns-clause-most : goal.returns-clause-most
 returns-clause-most g c =
     let done = filled g c in
     let made = done.made in
-    let nodes : c.length_of-made.result ≡ length_of c.self.inside.above.items =
-    c.length_of-made.ensures ∙ ap length_of c.as_slice.ensures.value in
+    let nodes : c.first_length-made.result ≡ first_length c.self.inside.above.items =
+    c.first_length-made.ensures ∙ ap first_length c.as_slice.ensures.value in
     let wanted = c.max-wanted.ensures in
     subst (λ r. filled_of (record {
       first = c.self.inside.first;
