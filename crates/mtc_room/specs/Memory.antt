@@ -1,8 +1,9 @@
 -- What contracts see of a room in memory.
-use Rattle.std.specs.Prelude.{ℕ, List, Option, option_map, Result, Ok, Err}
+use Rattle.std.specs.Prelude.{◌≡◌, ℕ, List, [], Option, Some, option_map, Result, Ok, Err}
+use Rattle.std.specs.Prelude.{OnErr, OnOk}
 use Rattle.std.specs.BTreeMap.{get_by_text}
 use Rattle.byte_formats.specs.Types.{Text}
-use Rattle.disk_core.specs.Memory.{bytes_of, failing_of}
+use Rattle.disk_core.specs.Memory.{bytes_of, failing_of, made_of}
 use Rattle.disk_core.specs.declared.memory.mem_disk.MemDisk.{MemDisk}
 use Rattle.mtc_io.specs.Counts.{with_count}
 use Rattle.mtc_room.specs.declared.error.RoomError.{RoomError}
@@ -52,3 +53,28 @@ count_after count (Ok opened) = count
 count_after count (Err Absent) = count
 count_after count (Err Exists) = count
 count_after count (Err Failed) = with_count count 1
+
+-- What a call that lends leaves of the counts of a `MemRoom`, and of the calls that fail of files
+-- that are yet to be made.
+pub record CountsOpening {T : Type 0} (old new : RoomState) (result : Result T RoomError) : Type 0
+  where
+    pub fresh_failing : new.fresh_failing ≡ old.fresh_failing
+    pub faults : new.faults ≡ count_after old.faults result
+    pub starved : new.starved ≡ count_after old.starved result
+
+-- the same of a call that finds a file or makes it
+pub record CountsFinding {T E : Type 0} (old new : RoomState) (result : Result T E) : Type 0 where
+  pub fresh_failing : new.fresh_failing ≡ old.fresh_failing
+  pub starved : OnOk result (new.starved ≡ old.starved)
+  pub starved_err : OnErr result (new.starved ≡ with_count old.starved 1)
+
+-- a file without bytes whose calls fail as those of new files do
+abbrev pub new_file : RoomState → FileState
+new_file room = record { bytes = []; failing = room.fresh_failing }
+
+-- The file of this name is a new one, and the device that was lent fails the same calls and has had
+-- none.
+pub record IsMadeNew (old new : RoomState) (name : Text) (opened : MemDisk) : Type 0 where
+  pub made : new.file name ≡ Some (new_file old)
+  pub failing : failing_of opened ≡ old.fresh_failing
+  pub calls : made_of opened ≡ 0

@@ -1,8 +1,11 @@
 -- What the calls of a room do. A room's files are a function from names to bytes, and one from
 -- names to devices.
-use Rattle.std.specs.Prelude.{◌≡◌, ◌≢◌, ℕ, ◌+◌, ◌≤◌, Option, None, Some, Result, is_ok}
-use Rattle.std.specs.Prelude.{IsSome, IsErrOf, OnOk, if◌then◌else◌}
+use Rattle.std.specs.Prelude.{◌≡◌, ◌≢◌, ℕ, ◌+◌, ◌≤◌, [], Option, None, Some, Result, is_ok}
+use Rattle.std.specs.Prelude.{IsSome, IsErrOf, OnErr, OnOk, if◌then◌else◌}
+use Rattle.std.specs.Option.{IsSomeAnd}
 use Rattle.byte_formats.specs.Types.{Text}
+use Rattle.disk_core.specs.Same.{SameDevice}
+use Rattle.disk_core.specs.declared.disk.Disk.{Ghosts}
 use Rattle.mtc_io.specs.Counts.{Rose, HasCause}
 use Rattle.mtc_room.specs.declared.error.RoomError.{RoomError}
 use Rattle.mtc_room.specs.declared.error.RoomError.TheVariants.{Absent, Exists, Failed}
@@ -51,3 +54,42 @@ pub record OpensBytes (file opened : Option Text) : Type 0 where
 abbrev pub ModelsFile : {D : Type 0} → (D → Option Text) → Option Text → Option D → Type 0
 ModelsFile contents file None = file ≡ None
 ModelsFile contents file (Some d) = (contents d ≡ file) × IsSome file
+
+-- A call that makes the file of this name, or finds it, leaves each other file and device. If it is
+-- refused it leaves this one too.
+pub record LeavesOthers {D T E : Type 0} (Models Models' : Type 0) (file file' : Text → Option Text)
+    (device device' : Text → Option D) (name : Text) (result : Result T E) : Type 0 where
+  pub others : OthersStay file file' device device' name
+  pub err : OnErr result (Stays file file' device device' name)
+  pub is_modelled : Models → Models'
+
+-- What a call that only makes files answers, by the file of the name and its device before the
+-- call: Ok where there is none, and `Exists` where there is one. `Absent` never comes.
+pub record MakesOnly {D T : Type 0} (Models : Type 0) (file : Option Text) (device : Option D)
+    (result : Result T RoomError) : Type 0 where
+  pub was_absent : OnOk result (Models → file ≡ None)
+  pub no_device : OnOk result (Models → device ≡ None)
+  pub exists : IsErrOf result Exists → Models → IsSome file
+  pub never : IsErrOf result Absent → ⊥
+
+module _ {D : Type 0} (g : Ghosts D) (Models : Type 0) where
+  -- The device that was lent of a file that was made: both are empty, a crash leaves nothing of it,
+  -- and it has had no call and no fault.
+  pub record IsMadeEmpty (file : Option Text) (stored : Option D) (opened : D) : Type 0 where
+    pub empty : Models → (file ≡ Some []) × (g.contents opened ≡ Some [])
+    pub device : Models → IsSomeAnd stored (λ d. SameDevice g d opened)
+    pub only : Models → (c : Text) → g.may_leave opened c → c ≡ []
+    pub time : g.moment opened ≡ 0
+    pub begins : g.faults opened ≡ 0
+
+  -- The device that was lent of a file that was found, or made where there was none before the
+  -- call. It has no fault, reads as the file does, and leaves after a crash what the file's device
+  -- leaves; of a new file that is nothing.
+  pub record IsFoundOrNew (before file : Option Text) (stored : Option D) (opened : D) : Type 0
+    where
+      pub made : Models → before ≡ None → file ≡ Some []
+      pub bytes : Models → OpensBytes file (g.contents opened)
+      pub device : Models → IsSomeAnd stored (λ d. SameDevice g d opened)
+      pub only : Models → before ≡ None → (c : Text) → g.may_leave opened c → c ≡ []
+      pub time : Models → before ≡ None → g.moment opened ≡ 0
+      pub begins : g.faults opened ≡ 0

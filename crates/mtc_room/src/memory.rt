@@ -1,13 +1,13 @@
 //! A room in memory.
 
 ghost use Rattle.std.specs.Prelude.{◌≡◌, ◌≢◌, ⊤, ◌+◌, ◌<◌, ◌^◌, [], Option, Result, Ok, Some, None};
-ghost use Rattle.std.specs.Prelude.{IfOk, OnOk, OnErr, IsErrOf, IsSome, IfErr, IsErr, length};
+ghost use Rattle.std.specs.Prelude.{IfOk, OnOk, OnErr, IsErrOf, IsSome, IfErr, IsErr};
 ghost use Rattle.std.specs.Option.{option_copied, IsSomeAnd};
 ghost use Rattle.byte_formats.specs.Types.{Text};
 ghost use Rattle.mtc_io.specs.Counts.{with_count};
 ghost use Rattle.disk_core.specs.Same.{SameDevice};
-ghost use Rattle.disk_core.specs.Memory.{bytes_of, calls_of, failing_of, made_of, faults_of};
-ghost use Rattle.disk_core.specs.Memory.{starved_of, images_of, IsFresh};
+ghost use Rattle.disk_core.specs.Memory.{bytes_of, failing_of, made_of, faults_of};
+ghost use Rattle.disk_core.specs.Memory.{starved_of, IsFresh};
 
 use crate::room::Room;
 use crate::{Cause, RoomError};
@@ -200,9 +200,11 @@ impl MemRoom {
 }
 
 impl Room for MemRoom {
-    ghost use Rattle.mtc_room.specs.Memory.{state, bytes_in, disk_in, count_after};
+    ghost use Rattle.mtc_room.specs.Memory.{state, bytes_in, disk_in, new_file};
+    ghost use Rattle.mtc_room.specs.Memory.{CountsOpening, CountsFinding, IsMadeNew};
     ghost use Rattle.mtc_room.specs.MemoryLaws.{modelled_in};
     ghost use Rattle.mtc_room.specs.Room.{Opens, OpensOrFails, Stays, AllStay, OthersStay};
+    ghost use Rattle.mtc_room.specs.Room.{LeavesOthers, MakesOnly, IsMadeEmpty, IsFoundOrNew};
     ghost use Rattle.mtc_room.specs.Room.{OpensBytes};
     ghost use Rattle.mtc_room.specs.declared.cause.Cause.TheVariants.{Failed};
 
@@ -239,9 +241,7 @@ impl Room for MemRoom {
         ensures listed { IfOk result (λ s. (state self.old).file name.now
             ≡ Some (record { bytes = s.left; failing = s.failing })) }
         ensures counted { IfOk result (λ s. s.calls ≡ 0) }
-        ensures fresh_failing { (state self.new).fresh_failing ≡ (state self.old).fresh_failing }
-        ensures faults { (state self.new).faults ≡ count_after (state self.old).faults result }
-        ensures starved { (state self.new).starved ≡ count_after (state self.old).starved result }
+        ensures counts { CountsOpening (state self.old) (state self.new) result }
     {
         let Some(disk) = self.files.get(name) else {
             return Err(RoomError::Absent);
@@ -266,9 +266,7 @@ impl Room for MemRoom {
         ensures never { IsErrOf result RoomError.Exists → ⊥ }
         ensures counted { IfOk result (λ d. IsSomeAnd (disk_in self.old name.now)
             (λ e. (failing_of d ≡ failing_of e) × (made_of d ≡ made_of e))) }
-        ensures fresh_failing { (state self.new).fresh_failing ≡ (state self.old).fresh_failing }
-        ensures faults { (state self.new).faults ≡ count_after (state self.old).faults result }
-        ensures starved { (state self.new).starved ≡ count_after (state self.old).starved result }
+        ensures counts { CountsOpening (state self.old) (state self.new) result }
     {
         let Some(disk) = self.files.get(name) else {
             return Err(RoomError::Absent);
@@ -281,29 +279,14 @@ impl Room for MemRoom {
         requires { (state self.old).opened < 2 ^ 32 }
         ensures opens { Opens (state self.old).opened (state self.new).opened
             (state self.old).faults (state self.new).faults result }
-        ensures others { OthersStay (bytes_in self.old) (bytes_in self.new)
-            (disk_in self.old) (disk_in self.new) name.now }
-        ensures err { OnErr result (Stays (bytes_in self.old) (bytes_in self.new)
-            (disk_in self.old) (disk_in self.new) name.now) }
-        ensures is_modelled { ⊤ → ⊤ }
-        ensures was_absent { OnOk result (⊤ → bytes_in self.old name.now ≡ None) }
-        ensures no_device { OnOk result (⊤ → disk_in self.old name.now ≡ None) }
-        ensures empty { IfOk result (λ d. ⊤ → (bytes_in self.new name.now ≡ Some [])
-            × (Some (bytes_of d) ≡ Some [])) }
-        ensures device { IfOk result (λ d. ⊤
-            → IsSomeAnd (disk_in self.new name.now) (λ e. SameDevice ⟦<MemDisk as Disk>⟧ e d)) }
-        ensures only { IfOk result (λ d. ⊤ → (c : Text) → images_of d c → c ≡ []) }
-        ensures time { IfOk result (λ d. length (calls_of d) ≡ 0) }
-        ensures begins { IfOk result (λ d. faults_of d ≡ 0) }
-        ensures exists { IsErrOf result RoomError.Exists → ⊤ → IsSome (bytes_in self.old name.now) }
-        ensures never { IsErrOf result RoomError.Absent → ⊥ }
-        ensures counted { IfOk result (λ d. (failing_of d ≡ (state self.old).fresh_failing)
-            × (made_of d ≡ 0)) }
-        ensures made { OnOk result ((state self.new).file name.now
-            ≡ Some (record { bytes = []; failing = (state self.old).fresh_failing })) }
-        ensures fresh_failing { (state self.new).fresh_failing ≡ (state self.old).fresh_failing }
-        ensures faults { (state self.new).faults ≡ count_after (state self.old).faults result }
-        ensures starved { (state self.new).starved ≡ count_after (state self.old).starved result }
+        ensures files { LeavesOthers ⊤ ⊤ (bytes_in self.old) (bytes_in self.new)
+            (disk_in self.old) (disk_in self.new) name.now result }
+        ensures only { MakesOnly ⊤ (bytes_in self.old name.now) (disk_in self.old name.now)
+            result }
+        ensures new { IfOk result (IsMadeEmpty ⟦<MemDisk as Disk>⟧ ⊤ (bytes_in self.new name.now)
+            (disk_in self.new name.now)) }
+        ensures made { IfOk result (IsMadeNew (state self.old) (state self.new) name.now) }
+        ensures counts { CountsOpening (state self.old) (state self.new) result }
     {
         if self.files.contains_key(name) {
             return Err(RoomError::Exists);
@@ -318,34 +301,18 @@ impl Room for MemRoom {
         requires { (state self.old).opened < 2 ^ 32 }
         ensures opens { OpensOrFails (state self.old).opened (state self.new).opened
             (state self.old).faults (state self.new).faults result }
-        ensures others { OthersStay (bytes_in self.old) (bytes_in self.new)
-            (disk_in self.old) (disk_in self.new) name.now }
-        ensures err { OnErr result (Stays (bytes_in self.old) (bytes_in self.new)
-            (disk_in self.old) (disk_in self.new) name.now) }
-        ensures is_modelled { ⊤ → ⊤ }
+        ensures files { LeavesOthers ⊤ ⊤ (bytes_in self.old) (bytes_in self.new)
+            (disk_in self.old) (disk_in self.new) name.now result }
         ensures kept { ⊤ → IsSome (bytes_in self.old name.now)
             → Stays (bytes_in self.old) (bytes_in self.new)
             (disk_in self.old) (disk_in self.new) name.now }
-        ensures made { OnOk result (⊤ → bytes_in self.old name.now ≡ None
-            → bytes_in self.new name.now ≡ Some []) }
-        ensures bytes { IfOk result (λ d. ⊤
-            → OpensBytes (bytes_in self.new name.now) (Some (bytes_of d))) }
-        ensures device { IfOk result (λ d. ⊤
-            → IsSomeAnd (disk_in self.new name.now) (λ e. SameDevice ⟦<MemDisk as Disk>⟧ e d)) }
-        ensures only { IfOk result (λ d. ⊤ → bytes_in self.old name.now ≡ None
-            → (c : Text) → images_of d c → c ≡ []) }
-        ensures time { IfOk result (λ d. ⊤ → bytes_in self.old name.now ≡ None
-            → length (calls_of d) ≡ 0) }
-        ensures begins { IfOk result (λ d. faults_of d ≡ 0) }
+        ensures opened { IfOk result (IsFoundOrNew ⟦<MemDisk as Disk>⟧ ⊤
+            (bytes_in self.old name.now) (bytes_in self.new name.now) (disk_in self.new name.now)) }
         ensures counted { IfOk result (λ d. IsSomeAnd (disk_in self.new name.now)
             (λ e. (failing_of d ≡ failing_of e) × (made_of d ≡ made_of e))) }
         ensures listed { OnOk result (bytes_in self.old name.now ≡ None
-            → (state self.new).file name.now
-            ≡ Some (record { bytes = []; failing = (state self.old).fresh_failing })) }
-        ensures fresh_failing { (state self.new).fresh_failing ≡ (state self.old).fresh_failing }
-        ensures starved { OnOk result ((state self.new).starved ≡ (state self.old).starved) }
-        ensures starved_err { OnErr result ((state self.new).starved
-            ≡ with_count (state self.old).starved 1) }
+            → (state self.new).file name.now ≡ Some (new_file (state self.old))) }
+        ensures counts { CountsFinding (state self.old) (state self.new) result }
     {
         let made = self.find_or_make(name);
         match self.open_one(made) {

@@ -1,7 +1,7 @@
 //! What the program asks of the files that it may reach.
 
-ghost use Rattle.std.specs.Prelude.{◌≡◌, ℕ, ◌+◌, ◌<◌, ◌^◌, [], Option, None, Some, IsSome, IfOk};
-ghost use Rattle.std.specs.Prelude.{OnOk, OnErr, IsErrOf};
+ghost use Rattle.std.specs.Prelude.{◌≡◌, ℕ, ◌+◌, ◌<◌, ◌^◌, Option, None, IsSome, IfOk};
+ghost use Rattle.std.specs.Prelude.{IsErrOf};
 ghost use Rattle.std.specs.Option.{IsSomeAnd};
 ghost use Rattle.byte_formats.specs.Types.{Text};
 
@@ -14,6 +14,7 @@ pub trait Room {
     ghost use Rattle.mtc_io.specs.Counts.{with_count};
     ghost use Rattle.disk_core.specs.Same.{SameDevice};
     ghost use Rattle.mtc_room.specs.Room.{Opens, OpensOrFails, Stays, AllStay, OthersStay};
+    ghost use Rattle.mtc_room.specs.Room.{LeavesOthers, MakesOnly, IsMadeEmpty, IsFoundOrNew};
     ghost use Rattle.mtc_room.specs.Room.{OpensBytes, ModelsFile};
     ghost use Rattle.mtc_room.specs.declared.cause.Cause.{Cause};
 
@@ -84,24 +85,12 @@ pub trait Room {
         requires { opened self.old < 2 ^ 32 }
         ensures opens { Opens (opened self.old) (opened self.new)
             (faults self.old) (faults self.new) result }
-        ensures others { OthersStay (file self.old) (file self.new)
-            (device self.old) (device self.new) name.now }
-        ensures err { OnErr result (Stays (file self.old) (file self.new)
-            (device self.old) (device self.new) name.now) }
-        ensures is_modelled { is_modelled self.old → is_modelled self.new }
-        ensures was_absent { OnOk result (is_modelled self.old → file self.old name.now ≡ None) }
-        ensures no_device { OnOk result (is_modelled self.old → device self.old name.now ≡ None) }
-        ensures empty { IfOk result (λ d. is_modelled self.old
-            → (file self.new name.now ≡ Some []) × (Self.Dsk.contents d ≡ Some [])) }
-        ensures device { IfOk result (λ d. is_modelled self.old
-            → IsSomeAnd (device self.new name.now) (λ e. SameDevice Self.Dsk.Disk e d)) }
-        ensures only { IfOk result (λ d. is_modelled self.old
-            → (c : Text) → Self.Dsk.may_leave d c → c ≡ []) }
-        ensures time { IfOk result (λ d. Self.Dsk.moment d ≡ 0) }
-        ensures begins { IfOk result (λ d. Self.Dsk.faults d ≡ 0) }
-        ensures exists { IsErrOf result RoomError.Exists → is_modelled self.old
-            → IsSome (file self.old name.now) }
-        ensures never { IsErrOf result RoomError.Absent → ⊥ };
+        ensures files { LeavesOthers (is_modelled self.old) (is_modelled self.new) (file self.old)
+            (file self.new) (device self.old) (device self.new) name.now result }
+        ensures only { MakesOnly (is_modelled self.old) (file self.old name.now)
+            (device self.old name.now) result }
+        ensures new { IfOk result (IsMadeEmpty Self.Dsk.Disk (is_modelled self.old)
+            (file self.new name.now) (device self.new name.now)) };
 
     /// Lends the device of a file that exists, as [`Room::disk`], or makes an empty one and lends
     /// its device, as [`Room::fresh`]. It is for files that are made of what stands in others.
@@ -111,24 +100,12 @@ pub trait Room {
         requires { opened self.old < 2 ^ 32 }
         ensures opens { OpensOrFails (opened self.old) (opened self.new)
             (faults self.old) (faults self.new) result }
-        ensures others { OthersStay (file self.old) (file self.new)
-            (device self.old) (device self.new) name.now }
-        ensures err { OnErr result (Stays (file self.old) (file self.new)
-            (device self.old) (device self.new) name.now) }
-        ensures is_modelled { is_modelled self.old → is_modelled self.new }
+        ensures files { LeavesOthers (is_modelled self.old) (is_modelled self.new) (file self.old)
+            (file self.new) (device self.old) (device self.new) name.now result }
         ensures kept { is_modelled self.old → IsSome (file self.old name.now)
             → Stays (file self.old) (file self.new) (device self.old) (device self.new) name.now }
-        ensures made { OnOk result (is_modelled self.old → file self.old name.now ≡ None
-            → file self.new name.now ≡ Some []) }
-        ensures bytes { IfOk result (λ d. is_modelled self.old
-            → OpensBytes (file self.new name.now) (Self.Dsk.contents d)) }
-        ensures device { IfOk result (λ d. is_modelled self.old
-            → IsSomeAnd (device self.new name.now) (λ e. SameDevice Self.Dsk.Disk e d)) }
-        ensures only { IfOk result (λ d. is_modelled self.old → file self.old name.now ≡ None
-            → (c : Text) → Self.Dsk.may_leave d c → c ≡ []) }
-        ensures time { IfOk result (λ d. is_modelled self.old → file self.old name.now ≡ None
-            → Self.Dsk.moment d ≡ 0) }
-        ensures begins { IfOk result (λ d. Self.Dsk.faults d ≡ 0) };
+        ensures opened { IfOk result (IsFoundOrNew Self.Dsk.Disk (is_modelled self.old)
+            (file self.old name.now) (file self.new name.now) (device self.new name.now)) };
 
     /// Why it failed last, where it failed at all. The line of a failed command has this word.
     fn cause(&self) -> Cause

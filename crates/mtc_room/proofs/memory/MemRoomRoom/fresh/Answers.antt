@@ -54,17 +54,12 @@ kept c = subst (λ files. IsSomeAnd (get_by_text files c.args.name.now)
     (λ e. IsFresh [] e × SameDevice ghosts e c.in-Ok.disk))
     (sym c.open_one.ensures.files) c.in-Ok.ensures.made
 
-pub returns-in-Ok-clause-device : goal.returns-in-Ok-clause-device
-returns-in-Ok-clause-device c =
-    opened_is _ c.in-Ok.disk c.open_one.result c.open_one.ensures.ok
-    (λ _. device_in _ c.in-Ok.disk (kept c))
-
-pub returns-in-Ok-clause-empty : goal.returns-in-Ok-clause-empty
-returns-in-Ok-clause-empty c =
-    opened_is _ c.in-Ok.disk c.open_one.result c.open_one.ensures.ok
-    (λ _. empty_in _ c.in-Ok.disk (kept c))
-
-pub returns-in-Ok-clause-only : goal.returns-in-Ok-clause-only
-returns-in-Ok-clause-only c =
-    opened_is _ c.in-Ok.disk c.open_one.result c.open_one.ensures.ok
-    (λ _. only_in _ c.in-Ok.disk (kept c))
+pub returns-in-Ok-clause-new : goal.returns-in-Ok-clause-new
+returns-in-Ok-clause-new c =
+    opened_is _ c.in-Ok.disk c.open_one.result c.open_one.ensures.ok (record {
+      empty = λ _. empty_in _ c.in-Ok.disk (kept c);
+      device = λ _. device_in _ c.in-Ok.disk (kept c);
+      only = λ _. only_in _ c.in-Ok.disk (kept c);
+      time = c.in-Ok.ensures.first.0;
+      begins = c.in-Ok.ensures.first.1;
+    })
