@@ -4,6 +4,7 @@ use Rattle.std.specs.Prelude.{◌≡◌, ◌⊎◌, ℕ, [], ◌++◌, codes, Op
 use Rattle.std.specs.Prelude.{Result, Ok, Err}
 use Rattle.std.specs.Fmt.{decimal}
 use Rattle.byte_formats.specs.Types.{Text}
+use Rattle.hex.specs.Hex.{encode_lower}
 use Rattle.mtc_command.specs.Lines.{line_of}
 use Rattle.mtc_command.specs.declared.answer.Said.{Said}
 use Rattle.mtc_command.specs.declared.answer.Said.TheVariants.{Done, Against, Collided}
@@ -14,6 +15,7 @@ use Rattle.mtc_command.specs.declared.answer.Stopped.TheVariants.{Missing, Beyon
 use Rattle.mtc_command.specs.declared.answer.Answer.{Answer}
 use Rattle.mtc_command.specs.declared.answer.More.{More}
 use Rattle.mtc_command.specs.declared.answer.More.TheVariants.{Nothing, Name, Number, Numbers}
+use Rattle.mtc_command.specs.declared.answer.More.TheVariants.{Hashes}
 use Rattle.mtc_command.specs.declared.answer.Reason.{Reason}
 use Rattle.mtc_command.specs.declared.answer.Refusal.{Refusal}
 use Rattle.mtc_command.specs.declared.answer.Stop.{Stop}
@@ -79,6 +81,8 @@ more_text Nothing = []
 more_text (Name name) = codes " " ++ name.now
 more_text (Number number) = codes " " ++ decimal number
 more_text (Numbers first second) = codes " " ++ (decimal first ++ (codes " " ++ decimal second))
+more_text (Hashes first second) =
+    codes " " ++ (encode_lower first ++ (codes " " ++ encode_lower second))
 
 abbrev pub reason_text : Reason → Text
 reason_text reason = reason.name.now ++ more_text reason.more

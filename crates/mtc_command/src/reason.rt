@@ -2,6 +2,7 @@
 
 ghost use Rattle.std.specs.Prelude.{◌≡◌, ◌++◌, codes, None, Some};
 ghost use Rattle.std.specs.Fmt.{decimal};
+ghost use Rattle.hex.specs.Hex.{encode_lower};
 ghost use Rattle.mtc_command.specs.Answers.{reason_text, stop_ending, replied, refused};
 
 use crate::answer::{More, Reason, Refusal, Stop, Stopped};
@@ -45,6 +46,17 @@ impl Reason {
         Reason {
             name,
             more: More::Numbers(first, second),
+        }
+    }
+
+    /// The same with two hashes.
+    pub fn with_hashes(name: &'static str, first: [u8; 32], second: [u8; 32]) -> Reason
+        ensures { reason_text result ≡ name.now
+            ++ (codes " " ++ (encode_lower first ++ (codes " " ++ encode_lower second))) }
+    {
+        Reason {
+            name,
+            more: More::Hashes(first, second),
         }
     }
 }

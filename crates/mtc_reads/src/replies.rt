@@ -30,6 +30,11 @@ pub fn against<'a>(alloc: Global, reason: Reason) -> Result<Answer, Stop<'a>>
         More::Name(second) => format!(in alloc; "refused {name} {second}\n")?,
         More::Number(number) => format!(in alloc; "refused {name} {number}\n")?,
         More::Numbers(first, second) => format!(in alloc; "refused {name} {first} {second}\n")?,
+        More::Hashes(first, second) => {
+            let first = hex::encode(alloc, first)?;
+            let second = hex::encode(alloc, second)?;
+            format!(in alloc; "refused {name} {first} {second}\n")?
+        }
     };
     Ok(Answer {
         status: Said::Against,

@@ -1,6 +1,7 @@
 //! The last step: what was decided goes out.
 
 ghost use Rattle.std.specs.Prelude.{◌≡◌, ◌⊎◌, ◌++◌, Some, codes, option_map};
+ghost use Rattle.hex.specs.Hex.{encode_lower};
 ghost use Rattle.mtc_io.specs.Counts.{Rose};
 ghost use Rattle.mtc_command.specs.Answers.{said, said_code, stopped_code, ending_of, more_text};
 ghost use Rattle.mtc_command.specs.Answers.{reason_text, tiles_name};
@@ -49,18 +50,45 @@ fn word_of(cause: Cause) -> &'static str
     }
 }
 
-// Texts that stand one behind the other.
-type Texts<'x> = (&'x str, &'x str, &'x str, &'x str);
+// Bytes that stand one after the other.
+type Pieces<'x> = (&'x [u8], &'x [u8], &'x [u8], &'x [u8]);
 
-// What stands behind the name of a reason. Numbers are written to the buffers.
-fn texts_of<'x>(more: More, first: &'x mut Buffer, second: &'x mut Buffer) -> Texts<'x>
+// The hexadecimal digits of a hash, which are written to the buffer.
+fn digits_of<'x>(hash: [u8; 32], digits: &'x mut [u8; 64]) -> &'x [u8]
+    ensures { result.now ≡ encode_lower hash }
+{
+    match hex::encode_to_slice(hash, digits) {
+        Ok(()) => digits,
+        Err(_) => unreachable!(),
+    }
+}
+
+// What stands behind the name of a reason. Numbers and hashes are written to the buffers.
+fn pieces_of<'x>(
+    more: More,
+    numbers: (&'x mut Buffer, &'x mut Buffer),
+    hashes: (&'x mut [u8; 64], &'x mut [u8; 64]),
+) -> Pieces<'x>
     ensures { result.0.now ++ (result.1.now ++ (result.2.now ++ result.3.now)) ≡ more_text more }
 {
+    let none: &[u8] = b"";
+    let blank: &[u8] = b" ";
     match more {
-        More::Nothing => ("", "", "", ""),
-        More::Name(name) => (" ", name, "", ""),
-        More::Number(number) => (" ", first.format(number), "", ""),
-        More::Numbers(one, two) => (" ", first.format(one), " ", second.format(two)),
+        More::Nothing => (none, none, none, none),
+        More::Name(name) => (blank, name.as_bytes(), none, none),
+        More::Number(number) => (blank, numbers.0.format(number).as_bytes(), none, none),
+        More::Numbers(one, two) => (
+            blank,
+            numbers.0.format(one).as_bytes(),
+            blank,
+            numbers.1.format(two).as_bytes(),
+        ),
+        More::Hashes(one, two) => (
+            blank,
+            digits_of(one, hashes.0),
+            blank,
+            digits_of(two, hashes.1),
+        ),
     }
 }
 
@@ -70,7 +98,7 @@ fn write_pieces_of<'x, E: Sink>(
     command: &'x str,
     file: (&'x str, &'x str, &'x str),
     name: &'x str,
-    more: Texts<'x>,
+    more: Pieces<'x>,
 )
     ensures { WritesLine (Rose (E.faults err.old) (E.faults err.new))
         (E.taken err.old) (E.taken err.new)
@@ -89,13 +117,38 @@ fn write_pieces_of<'x, E: Sink>(
             file.1.as_bytes(),
             file.2.as_bytes(),
             name.as_bytes(),
-            more.0.as_bytes(),
-            more.1.as_bytes(),
-            more.2.as_bytes(),
-            more.3.as_bytes(),
+            more.0,
+            more.1,
+            more.2,
+            more.3,
             b"\n",
         ],
     );
+}
+
+// The line of a refusal or a failure that is about a file, whose name and the colon stand in three
+// pieces, or about none.
+fn write_reason<'x, E: Sink>(
+    err: &mut E,
+    command: &'x str,
+    file: (&'x str, &'x str, &'x str),
+    reason: Reason,
+)
+    ensures { WritesLine (Rose (E.faults err.old) (E.faults err.new))
+        (E.taken err.old) (E.taken err.new)
+        (codes "mtc: " ++ of_command command.now (file.entry.0.now ++ (file.entry.1.now
+        ++ (file.entry.2.now ++ (reason_text reason ++ codes "\n"))))) }
+{
+    let mut first = Buffer::new();
+    let mut second = Buffer::new();
+    let mut one = [0; 64];
+    let mut other = [0; 64];
+    let more = pieces_of(
+        reason.more,
+        (&mut first, &mut second),
+        (&mut one, &mut other),
+    );
+    write_pieces_of(err, command, file, reason.name, more);
 }
 
 // The line of a refusal or a failure.
@@ -104,12 +157,9 @@ fn write_line<E: Sink>(err: &mut E, command: &str, file: Option<&str>, reason: R
         (E.taken err.old) (E.taken err.new)
         (line_of command.now (option_map (λ f. f.now) file.entry) (reason_text reason)) }
 {
-    let mut first = Buffer::new();
-    let mut second = Buffer::new();
-    let more = texts_of(reason.more, &mut first, &mut second);
     match file {
-        Some(file) => write_pieces_of(err, command, (file, "", ": "), reason.name, more),
-        None => write_pieces_of(err, command, ("", "", ""), reason.name, more),
+        Some(file) => write_reason(err, command, (file, "", ": "), reason),
+        None => write_reason(err, command, ("", "", ""), reason),
     }
 }
 
@@ -119,10 +169,7 @@ fn write_tiles_line<E: Sink>(err: &mut E, command: &str, journal: &str, reason: 
         (E.taken err.old) (E.taken err.new)
         (line_of command.now (Some (tiles_name journal.now)) (reason_text reason)) }
 {
-    let mut first = Buffer::new();
-    let mut second = Buffer::new();
-    let more = texts_of(reason.more, &mut first, &mut second);
-    write_pieces_of(err, command, (journal, ".tiles", ": "), reason.name, more);
+    write_reason(err, command, (journal, ".tiles", ": "), reason);
 }
 
 // Writes the text of an answer. At one that is empty no output fails.
@@ -143,7 +190,7 @@ fn write_answer<O: Sink, E: Sink>(command: &str, out: &mut O, err: &mut E, answe
     }
 }
 
-// Writes what a command ended with, and answers the status. Where the room failed, that is why.
+/// Writes what a command ended with, and answers the status. Where the room failed, that is why.
 pub fn conclude<O: Sink, E: Sink>(
     command: &str,
     ended: Result<Answer, Stop>,

@@ -13,6 +13,7 @@ mod refused_words;
 mod stopping;
 mod top;
 
+pub use finish::conclude;
 pub use mtc_room::{MemRoom, Room, RoomError};
 pub use stopping::stop_leaving;
 pub use top::run;

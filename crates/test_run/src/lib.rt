@@ -44,6 +44,8 @@ mod fleet_drills;
 #[cfg(test)]
 mod fleet_summary;
 #[cfg(test)]
+mod hashes;
+#[cfg(test)]
 mod logs;
 #[cfg(test)]
 mod marks;
