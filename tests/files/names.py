@@ -5,7 +5,7 @@ import os
 import shutil
 from pathlib import Path
 
-from .commands import COMMANDS, COSIGNER, LOG, records
+from .commands import COMMANDS, COSIGNER, HEADER, LOG, records
 from .folder import failed, locked, unlike
 from .tracing import traced, wants_trace
 
@@ -151,6 +151,21 @@ def check_tiles_of_others(scene, _kills):
             found, wanted = scene.run(command.words), failed(command.name, command.tiles)
             yield from unlike(f"{command.name}, {what}", (found, scene.files() == before), (wanted, True))
     yield from unlike("a file that a link leads to", (scene.path / "nowhere").exists(), False)
+
+
+def check_no_journal(scene, _kills):
+    """A file that is no journal is `NotJournal` of each command on a log, which makes no file of tiles beside it, nor looks for one"""
+    kinds = {"empty": b"", "short": HEADER[:-1], "other": HEADER[:-1] + b"\1", "notes": b"# Notes\n" * 3}
+    for name, text in kinds.items():
+        scene.write(name, text)
+    scene.write("linked", kinds["notes"])
+    (scene.path / "linked.tiles").symlink_to("nowhere")
+    before, names = scene.files(), scene.names()
+    for name in (*kinds, "linked"):
+        for command in (command for command in COMMANDS if command.tiles):
+            found = scene.run([command.name, name, *command.words[2:]])
+            yield from unlike(f"{command.name} {name}", found, (2, "", command.line(name, "NotJournal")))
+    yield from unlike("the files", (scene.files() == before, scene.names()), (True, names))
 
 
 def without_room(scene):

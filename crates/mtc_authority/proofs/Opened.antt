@@ -1,12 +1,16 @@
 -- A log that is opened on the devices of its journal and of its tiles.
 use Rattle.std.proofs.Common.{◌≡◌, ℕ, List, Option, None, IfSome, Ok, Err, Some, inl, inr}
-use Rattle.std.proofs.Common.{option_map, refl, ap, ◌∙◌}
+use Rattle.std.proofs.Common.{option_map, refl, ap, subst, ◌∙◌}
 use Rattle.std.proofs.lemmas.Option.{IfSome_then}
 use Rattle.byte_formats.specs.Types.{HashFunction, Text}
 use Rattle.disk_core.specs.Moments.{OnlyReads}
 use Rattle.disk_core.specs.declared.disk.Disk.{Ghosts}
+use Rattle.disk_core.proofs.Moments.{only_read_on}
+use Rattle.mtc_io.specs.Counts.{Rose}
+use Rattle.journal_core.specs.Folds.{IsCauseOf}
+use Rattle.journal_core.specs.declared.error.OpenError.{OpenError}
 use Rattle.journal_core.specs.declared.error.OpenError.TheVariants as open_error
-use Rattle.issuance_log.specs.Folds.{LogState}
+use Rattle.issuance_log.specs.Folds.{LogState, log_fold}
 use Rattle.issuance_log.specs.Openings.{HasItsTiles, HasOpenCause, IsBadTile, log_read}
 use Rattle.issuance_log.specs.declared.error.LogOpenError.{LogOpenError}
 use Rattle.issuance_log.specs.declared.error.LogOpenError.TheVariants.{Open}
@@ -15,10 +19,10 @@ use Rattle.tile_store.specs.declared.error.TileError.TheVariants as tile_error
 use Rattle.mtc_command.specs.Answers.{bad_tile, no_memory, refused, replied, room_failed}
 use Rattle.mtc_command.specs.Answers.{tiles_name}
 use Rattle.mtc_command.specs.Steps.{answers, with_form}
-use Rattle.mtc_command.specs.Works.{HasWorkedTiledOn}
+use Rattle.mtc_command.specs.Works.{HasWorkedOn, HasWorkedTiledOn}
 use Rattle.mtc_command.specs.declared.answer.Stopped.TheVariants.{BadForm}
 use Rattle.mtc_command.proofs.Tiled.{tiled_early}
-use Rattle.mtc_command.proofs.Works.{each_some}
+use Rattle.mtc_command.proofs.Works.{each_some, not_opened}
 use Rattle.mtc_authority.specs.Works.{found_log, log_bytes_say, log_open_ending, log_open_text}
 use Rattle.mtc_authority.specs.Works.{log_says, tested_says, unless_missing}
 use Rattle.mtc_authority.specs.declared.work.Work.{Work}
@@ -62,27 +66,61 @@ module _ (h : HashFunction) (name : Text) (work : Work) where
       ∙ ap (λ o. unless_missing name o (log_says h work bad.found))
       (bad_is h bad.found.state held level place bad.few bad.bad)
 
-  module _ {D : Type 0} (g : Ghosts D) (old new tiles tiles' : D)
+  -- a file that doesn't begin as a journal
+  module _ {D : Type 0} (g : Ghosts D) (old new : D) (held : Text)
       (only_reads : OnlyReads g old new) where
+    no_journal : (why : OpenError) → IfSome (g.contents old) (λ b. log_read h b ≡ Err (Open why))
+        → HasWorkedOn g name (λ b. log_bytes_say h name work b held) old new
+        (replied (refused BadForm (Some name) (log_open_text (Open why))))
+    no_journal why is = not_opened g name (λ b. log_bytes_say h name work b held) old new only_reads
+        (replied (refused BadForm (Some name) (log_open_text (Open why))))
+        (record { plain = λ e. absurd cc; later = only_reads.faults; fault = tt }) (inr (inl refl))
+        (IfSome_then (g.contents old) is
+        (λ b read. ap (λ r. with_form log_open_text name r (tested_says h name work held)) read))
+
+    pub header_says : (why : OpenError) → IsCauseOf g (log_fold h) old new why
+        → HasWorkedOn g name (λ b. log_bytes_say h name work b held) old new
+        (log_open_ending name (Open why))
+    header_says open_error.Failed is =
+        not_opened g name (λ b. log_bytes_say h name work b held) old new only_reads
+        (room_failed name)
+        (record { plain = tt; later = only_reads.faults; fault = (is, inl refl) }) tt tt
+    header_says open_error.Memory is =
+        not_opened g name (λ b. log_bytes_say h name work b held) old new only_reads no_memory
+        (record { plain = tt; later = only_reads.faults; fault = tt }) tt tt
+    header_says why is = no_journal why is
+
+  -- the device of the journal was read since it was lent, as `old`
+  module _ {D : Type 0} (g : Ghosts D) (old mid new tiles tiles' : D)
+      (first : OnlyReads g old mid) (fine : g.faults mid ≡ g.faults old)
+      (second : OnlyReads g mid new) where
+    only_reads : OnlyReads g old new
+    only_reads = only_read_on g old mid new first second
+
     -- a file that is no log
     no_log : (why : LogOpenError)
-        → IfSome (g.contents old) (λ b. log_read h b ≡ Err why)
+        → IfSome (g.contents mid) (λ b. log_read h b ≡ Err why)
         → HasWorkedTiledOn g name (log_bytes_say h name work) old new tiles tiles'
         (replied (refused BadForm (Some name) (log_open_text why)))
     no_log why is = tiled_early g name (log_bytes_say h name work) old new tiles tiles' only_reads
         (replied (refused BadForm (Some name) (log_open_text why)))
         (record { plain = λ e. absurd cc; later = only_reads.faults; fault = tt }) (inr (inl refl))
-        (each_some (g.contents tiles) _ (λ held. IfSome_then (g.contents old) is
+        (each_some (g.contents tiles) _ (λ held. IfSome_then (g.contents old)
+        (subst (λ (o : Option Text). IfSome o (λ b. log_read h b ≡ Err why)) first.contents is)
         (λ b read. ap (λ r. with_form log_open_text name r (tested_says h name work held)) read)))
 
     -- a log that wasn't opened
-    pub refused_says : (why : LogOpenError) → HasOpenCause g g h old new tiles tiles' why
+    pub refused_says : (why : LogOpenError) → HasOpenCause g g h mid new tiles tiles' why
         → HasWorkedTiledOn g name (log_bytes_say h name work) old new tiles tiles'
         (log_open_ending name why)
     refused_says (Open open_error.Failed) is =
         tiled_early g name (log_bytes_say h name work) old new tiles tiles' only_reads
         (room_failed name)
-        (record { plain = tt; later = only_reads.faults; fault = inl (refl, is) }) tt tt
+        (record {
+          plain = tt;
+          later = only_reads.faults;
+          fault = inl (refl, subst (λ n. Rose n (g.faults new)) fine is);
+        }) tt tt
     refused_says (Open open_error.Memory) is =
         tiled_early g name (log_bytes_say h name work) old new tiles tiles' only_reads no_memory
         (record { plain = tt; later = only_reads.faults; fault = tt }) tt tt
@@ -94,5 +132,7 @@ module _ (h : HashFunction) (name : Text) (work : Work) where
         tiled_early g name (log_bytes_say h name work) old new tiles tiles' only_reads
         (replied (bad_tile name level place))
         (record { plain = λ e. absurd cc; later = only_reads.faults; fault = tt }) (inr (inl refl))
-        (bad_says (g.contents old) (g.contents tiles) level place is)
+        (bad_says (g.contents old) (g.contents tiles) level place
+        (subst (λ (o : Option Text). IfSome o (λ b. IfSome (g.contents tiles)
+        (λ held. IsBadTile h b held level place))) first.contents is))
     refused_says why is = no_log why is

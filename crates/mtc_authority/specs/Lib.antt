@@ -8,3 +8,4 @@ pub mod BadTiles
 pub mod Works
 pub mod CertCommand
 pub mod IssueCommand
+pub mod NoJournal

@@ -5,6 +5,7 @@ ghost use Rattle.byte_formats.specs.Readings.{Gives};
 ghost use Rattle.mtc_command.specs.Answers.{stop_ending, ending_of, tiles_name};
 ghost use Rattle.mtc_command.specs.Served.{HasServedBeside, OnlyReadsBeside};
 ghost use Rattle.mtc_command.specs.Valid.{KeepsValid};
+ghost use Rattle.mtc_authority.specs.NoJournal.{SparesTiles};
 ghost use Rattle.mtc_authority.specs.Works.{IsLog, RepliesOnLog};
 ghost use Rattle.mtc_proof.specs.Proofs.{AreSignatures};
 ghost use Rattle.mtc_authority.specs.CertOutcome.{cert_ending, cert_reply, light_reply};
@@ -164,6 +165,7 @@ pub fn cert<'a, H: TreeHash, R: Room>(
         room.old room.new }
     ensures only_read { OnlyReadsBeside R.Room R.Dsk.Disk room.old room.new
         (tiles_name journal.now) }
+    ensures spares { SparesTiles R.Room room.old room.new journal.now }
 {
     let bytes = read_input(alloc, room, file, INPUT_LIMIT)?;
     match Signatures::read(bytes) {

@@ -5,6 +5,7 @@ ghost use Rattle.issuance_log.specs.Words.{log_tiles_disk};
 ghost use Rattle.mtc_command.specs.Answers.{stop_ending, ending_of, tiles_name};
 ghost use Rattle.mtc_command.specs.Served.{HasServedBeside, OnlyReadsBeside};
 ghost use Rattle.mtc_command.specs.Valid.{KeepsValid};
+ghost use Rattle.mtc_authority.specs.NoJournal.{SparesTiles};
 ghost use Rattle.mtc_authority.specs.IssueOutcome.{field_text, issue_ending, issue_says};
 ghost use Rattle.mtc_authority.specs.IssueOutcome.{issued_text};
 ghost use Rattle.mtc_authority.specs.IssueOutcome.{request_ending};
@@ -128,6 +129,7 @@ pub fn issue<'a, H: TreeHash, R: Room>(
         (issue_outcome H.hash journal.now file.now (R.file room.old)) room.old room.new }
     ensures only_read { OnlyReadsBeside R.Room R.Dsk.Disk room.old room.new
         (tiles_name journal.now) }
+    ensures spares { SparesTiles R.Room room.old room.new journal.now }
 {
     let text = read_input(alloc, room, file, INPUT_LIMIT)?;
     match read_request(alloc, text.as_slice()) {

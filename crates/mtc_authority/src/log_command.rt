@@ -1,21 +1,24 @@
 //! The commands on a log that has a journal: the journal and the file of its tiles are lent,
 //! opened, worked on and put back.
 
-ghost use Rattle.std.specs.Prelude.{◌≡◌, ◌≢◌, ◌<◌, ◌+◌, ◌^◌, [], ◌∷◌};
+ghost use Rattle.std.specs.Prelude.{◌≡◌, ◌≢◌, ◌<◌, ◌+◌, ◌^◌, [], ◌∷◌, take, IfErr, IfSome, OnOk};
 ghost use Rattle.disk_core.specs.Moments.{OnlyReads};
 ghost use Rattle.frame_pool.specs.Frames.{IsNew};
+ghost use Rattle.journal_core.specs.Format.{header};
+ghost use Rattle.journal_core.specs.Opens.{HasReason, IsOfHeader};
 ghost use Rattle.mtc_command.specs.Answers.{stop_ending, ending_of, tiles_name};
 ghost use Rattle.mtc_command.specs.Served.{HasServedBeside, OnlyReadsBeside};
 ghost use Rattle.mtc_command.specs.Valid.{KeepsValid, ServesValidlyTiled};
 ghost use Rattle.mtc_command.specs.Works.{HasWorkedTiledOn};
+ghost use Rattle.mtc_authority.specs.NoJournal.{HasReadHeader, SparesTiles};
 ghost use Rattle.mtc_authority.specs.Works.{IsLog, log_bytes_say, log_outcome, log_open_ending};
 ghost use Rattle.mtc_authority.specs.declared.work.Work.TheVariants.{Tile};
 
 use crate::work::{Work, carry_out};
-use disk_core::Disk;
+use disk_core::{Disk, look_at, look_len};
 use frame_pool::Pool;
 use issuance_log::{Log, LogOpenError, LogRefused};
-use journal_core::OpenError;
+use journal_core::{HEADER, OpenError};
 use mtc_command::{
     Answer, Reason, Stop, Stopped, close, open_file, open_tiles, refuse_file, tiles_name,
 };
@@ -56,8 +59,29 @@ fn refuse_log<'a>(journal: &'a str, why: LogOpenError) -> Stop<'a>
     }
 }
 
+// Reads the header of a journal, before the file of its tiles is asked for.
+fn read_header<D: Disk>(disk: &mut D) -> Result<(), OpenError>
+    ensures ok { OnOk result (IfSome (D.contents disk.old) (λ bytes. take 16 bytes ≡ header)) }
+    ensures fine { OnOk result (D.faults disk.new ≡ D.faults disk.old) }
+    ensures reason { IfErr result (λ why. HasReason D.Disk disk.old disk.new 0 why) }
+    ensures kind { IfErr result IsOfHeader }
+    ensures only_reads { OnlyReads D.Disk disk.old disk.new }
+{
+    if look_len(disk)? < 16 {
+        return Err(OpenError::NotJournal);
+    }
+    let mut first = [0; 16];
+    look_at(disk, 0, &mut first)?;
+    if first == HEADER {
+        Ok(())
+    } else {
+        Err(OpenError::NotJournal)
+    }
+}
+
 // Opens the log on the device of its journal and on that of its tiles, with a pool of 64 frames
-// that hold nothing, and works on it.
+// that hold nothing, and works on it. The device of the journal may have been read since it was
+// lent.
 fn on_devices<'a, H: TreeHash, D: Disk>(
     alloc: Global,
     disk: D,
@@ -67,10 +91,12 @@ fn on_devices<'a, H: TreeHash, D: Disk>(
     work: Work,
 ) -> (D, D, Result<Answer, Stop<'a>>)
     requires { IsNew 64 pool }
-    ensures serves { HasWorkedTiledOn D.Disk journal.now (log_bytes_say H.hash journal.now work)
-        disk result.0 tiles result.1 (ending_of result.2) }
-    ensures valid { ServesValidlyTiled D.Disk (IsLog H.hash)
-        (log_bytes_say H.hash journal.now work) disk result.0 tiles }
+    ensures serves { (opened : D) → OnlyReads D.Disk opened disk → D.faults disk ≡ D.faults opened
+        → HasWorkedTiledOn D.Disk journal.now (log_bytes_say H.hash journal.now work)
+        opened result.0 tiles result.1 (ending_of result.2) }
+    ensures valid { (opened : D) → OnlyReads D.Disk opened disk
+        → ServesValidlyTiled D.Disk (IsLog H.hash) (log_bytes_say H.hash journal.now work)
+        opened result.0 tiles }
     ensures only_read { work ≢ Tile → OnlyReads D.Disk tiles result.1 }
 {
     match Log::<H, D, D>::open(alloc, disk, tiles, pool) {
@@ -84,8 +110,53 @@ fn on_devices<'a, H: TreeHash, D: Disk>(
     }
 }
 
-// Lends the device of the tiles beside that of a journal, and works on the log. Whatever comes of
-// it, both are put back, that of the journal last: so who has the journal has the tiles.
+// Lends the device of the tiles beside that of a journal whose header was read, and works on the
+// log. Whatever comes of it, both are put back, that of the journal last: so who has the journal
+// has the tiles.
+fn on_open_journal<'a, H: TreeHash, R: Room>(
+    alloc: Global,
+    room: &mut R,
+    journal: &'a str,
+    name: &str,
+    disk: R::Dsk,
+    pool: Pool,
+    work: Work,
+) -> Result<Answer, Stop<'a>>
+    requires some { 0 < R.opened room.old }
+    requires opened { R.opened room.old < 2 ^ 32 }
+    requires named { name.now ≡ tiles_name journal.now }
+    requires frames { IsNew 64 pool }
+    ensures serves { (old : R) → HasReadHeader R.Room R.Dsk.Disk journal.now old room.old disk
+        → HasServedBeside R.Room R.Dsk.Disk (journal.now ∷ tiles_name journal.now ∷ [])
+        journal.now (tiles_name journal.now)
+        (log_outcome H.hash journal.now (R.file old journal.now)
+        (R.file old (tiles_name journal.now)) work) old room.new (ending_of result) }
+    ensures valid { (old : R) → HasReadHeader R.Room R.Dsk.Disk journal.now old room.old disk
+        → KeepsValid R.Room R.Dsk.Disk (IsLog H.hash) (journal.now ∷ [])
+        (log_outcome H.hash journal.now (R.file old journal.now)
+        (R.file old (tiles_name journal.now)) work) old room.new }
+    ensures only_read { work ≢ Tile → (old : R)
+        → HasReadHeader R.Room R.Dsk.Disk journal.now old room.old disk
+        → OnlyReadsBeside R.Room R.Dsk.Disk old room.new (tiles_name journal.now) }
+{
+    match open_tiles(room, journal, name) {
+        Ok(tiles) => {
+            let (disk, tiles, answer) = on_devices::<H, R::Dsk>(
+                alloc, disk, tiles, pool, journal, work,
+            );
+            close(room, name, tiles);
+            close(room, journal, disk);
+            answer
+        }
+        Err(stop) => {
+            close(room, journal, disk);
+            Err(stop)
+        }
+    }
+}
+
+// Lends the device of a journal, reads its header, and works on the log. A file that is no journal
+// is refused, and nothing is asked for beside it.
 fn on_journal<'a, H: TreeHash, R: Room>(
     alloc: Global,
     room: &mut R,
@@ -107,27 +178,22 @@ fn on_journal<'a, H: TreeHash, R: Room>(
         (R.file room.old (tiles_name journal.now)) work) room.old room.new }
     ensures only_read { work ≢ Tile
         → OnlyReadsBeside R.Room R.Dsk.Disk room.old room.new (tiles_name journal.now) }
+    ensures spares { SparesTiles R.Room room.old room.new journal.now }
 {
-    let disk = open_file(room, journal)?;
-    match open_tiles(room, journal, name) {
-        Ok(tiles) => {
-            let (disk, tiles, answer) = on_devices::<H, R::Dsk>(
-                alloc, disk, tiles, pool, journal, work,
-            );
-            close(room, name, tiles);
+    let mut disk = open_file(room, journal)?;
+    match read_header(&mut disk) {
+        Ok(()) => on_open_journal::<H, R>(alloc, room, journal, name, disk, pool, work),
+        Err(why) => {
             close(room, journal, disk);
-            answer
-        }
-        Err(stop) => {
-            close(room, journal, disk);
-            Err(stop)
+            Err(refuse_log(journal, LogOpenError::Open(why)))
         }
     }
 }
 
 /// Lends a journal and the file of its tiles, which is made where it isn't there, opens the log and
 /// works on it. Whatever comes of it, the devices are put back. The memory for the tiles is taken
-/// before anything is lent, so that want of it makes no file.
+/// before anything is lent, so that no file is made without it. The journal's header is read before
+/// the file of the tiles is asked for: no such file is made beside a file that is no journal.
 pub fn on_log<'a, H: TreeHash, R: Room>(
     alloc: Global,
     room: &mut R,
@@ -145,6 +211,7 @@ pub fn on_log<'a, H: TreeHash, R: Room>(
         (R.file room.old (tiles_name journal.now)) work) room.old room.new }
     ensures only_read { work ≢ Tile
         → OnlyReadsBeside R.Room R.Dsk.Disk room.old room.new (tiles_name journal.now) }
+    ensures spares { SparesTiles R.Room room.old room.new journal.now }
 {
     let name = tiles_name(alloc, journal)?;
     let pool = Pool::new(alloc, FRAMES)?;

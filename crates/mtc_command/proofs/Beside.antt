@@ -290,27 +290,24 @@ module _ {R S D : Type 0} (rooms : Rooms R S D) (g : Ghosts D) where
         → OnlyReadsBeside rooms g old new (tiles_name name)
     only_read_tiled all only_reads = λ t. only_read_at all only_reads t (rooms.file old beside) refl
 
--- The room failed at the tiles, and the device of the journal was given back.
+-- The room failed at the tiles, and the device of the journal was only read and closed.
 module _ {R S D : Type 0} (rooms : Rooms R S D) (g : Ghosts D) (name : List ℕ)
-    (old mid both new : R) (d : D) (opened : HasOpened rooms g name old mid d)
+    (old mid both new : R) (d d' : D) (opened : HasOpened rooms g name old mid d)
     (failed : HasFailedBeside rooms (tiles_name name) mid both)
-    (taken : HasClosed rooms g name both new d) (only_now : OnlyNow g) where
+    (taken : HasClosed rooms g name both new d') (only_reads : OnlyReads g d d') where
   stays_failed : (rooms.file both name ≡ rooms.file old name)
       × (rooms.device both name ≡ rooms.device old name)
   stays_failed =
       let other = failed.others name (longer_other name) in
       (other.bytes ∙ (opened.stay name).bytes, other.disk ∙ (opened.stay name).disk)
 
-  put_failed : rooms.is_modelled old → IsSomeAnd (rooms.device new name) (λ x. SameDevice g d x)
+  put_failed : rooms.is_modelled old → IsSomeAnd (rooms.device new name) (λ x. SameDevice g d' x)
   put_failed t = taken.device (failed.is_modelled (opened.is_modelled t))
       (subst IsSome (sym stays_failed.0) (opened.bytes t).there)
 
   none_failed : rooms.is_modelled old → rooms.file old name ≡ None → rooms.file new name ≡ None
   none_failed t none =
       taken.none (failed.is_modelled (opened.is_modelled t)) (stays_failed.0 ∙ none)
-
-  only_reads_none : OnlyReads g d d
-  only_reads_none = nothing_read g d (only_now d)
 
   pub failed_tiled : (files : List (List ℕ)) (wanted : Outcome) → IsNamed files (tiles_name name)
       → HasServedBeside rooms g files name (tiles_name name) wanted old new
@@ -343,11 +340,11 @@ module _ {R S D : Type 0} (rooms : Rooms R S D) (g : Ghosts D) (name : List ℕ)
       no_file = (λ on none. none_failed t none, tt);
       unmade = λ memory. absurd cc;
       left = (
-        left_opened g (room_failed (tiles_name name)) (journaled_by wanted) _ _ d d
+        left_opened g (room_failed (tiles_name name)) (journaled_by wanted) _ _ d d'
             (opened.device t)
             (put_failed t)
-            (left_kept g (room_failed (tiles_name name)) (journaled_by wanted) (Some d) (Some d) tt
-            (kept_of g d d (journaled_by wanted) only_reads_none)),
+            (left_kept g (room_failed (tiles_name name)) (journaled_by wanted) (Some d) (Some d') tt
+            (kept_of g d d' (journaled_by wanted) only_reads)),
         tt,
       );
     };
@@ -357,15 +354,15 @@ module _ {R S D : Type 0} (rooms : Rooms R S D) (g : Ghosts D) (name : List ℕ)
       → KeepsValid rooms g Valid (name ∷ []) wanted old new
   failed_valid Valid wanted = λ t. (
     inl (
-      left_opened g no_memory (journaled_by wanted) _ _ d d (opened.device t) (put_failed t)
-          (kept_of g d d (journaled_by wanted) only_reads_none),
-      contents_opened g _ _ d d (opened.device t) (put_failed t) refl,
+      left_opened g no_memory (journaled_by wanted) _ _ d d' (opened.device t) (put_failed t)
+          (kept_of g d d' (journaled_by wanted) only_reads),
+      contents_opened g _ _ d d' (opened.device t) (put_failed t) only_reads.contents,
     ),
     tt,
   )
 
-  pub failed_only_read : OnlyReadsBeside rooms g old new (tiles_name name)
-  failed_only_read = λ t. still g (rooms.device old (tiles_name name))
+  pub failed_only_read : OnlyNow g → OnlyReadsBeside rooms g old new (tiles_name name)
+  failed_only_read only_now = λ t. still g (rooms.device old (tiles_name name))
       (rooms.device new (tiles_name name)) untouched only_now
       ((taken.others (tiles_name name) (λ same. longer_other name (sym same))).disk
       ∙ failed.stays.disk ∙ (opened.stay (tiles_name name)).disk)

@@ -76,8 +76,9 @@ $ init-log j 32473.1 2 64
 status 7
 ! mtc: init-log: j: Exists
 
-# The calls of a checkpoint: a sync, the length, the header, and all that stands behind it. One that
-# has failed once fails no more. Those from the fifth on are of the second time.
+# The calls of a checkpoint: the length and the header; then a sync, the length, the header, and all
+# that stands behind it. One that has failed once fails no more. Those from the seventh on are of
+# the second time.
 case call 0 fails
 file j NEW
 fails 0
@@ -126,22 +127,22 @@ case call 4 fails
 file j NEW
 fails 4
 $ checkpoint j
-| size 1
-| root 709e80c88487a2411e1ee4dfb9f22a861492d20c4765150c0c794abd70f8147c
-$ checkpoint j
 status 5
 ! mtc: checkpoint: j: Failed
+$ checkpoint j
+| size 1
+| root 709e80c88487a2411e1ee4dfb9f22a861492d20c4765150c0c794abd70f8147c
 left j NEW
 
 case call 5 fails
 file j NEW
 fails 5
 $ checkpoint j
-| size 1
-| root 709e80c88487a2411e1ee4dfb9f22a861492d20c4765150c0c794abd70f8147c
-$ checkpoint j
 status 5
 ! mtc: checkpoint: j: Failed
+$ checkpoint j
+| size 1
+| root 709e80c88487a2411e1ee4dfb9f22a861492d20c4765150c0c794abd70f8147c
 left j NEW
 
 case call 6 fails
@@ -165,12 +166,56 @@ $ checkpoint j
 status 5
 ! mtc: checkpoint: j: Failed
 left j NEW
+
+case call 8 fails
+file j NEW
+fails 8
+$ checkpoint j
+| size 1
+| root 709e80c88487a2411e1ee4dfb9f22a861492d20c4765150c0c794abd70f8147c
+$ checkpoint j
+status 5
+! mtc: checkpoint: j: Failed
+left j NEW
+
+case call 9 fails
+file j NEW
+fails 9
+$ checkpoint j
+| size 1
+| root 709e80c88487a2411e1ee4dfb9f22a861492d20c4765150c0c794abd70f8147c
+$ checkpoint j
+status 5
+! mtc: checkpoint: j: Failed
+left j NEW
+
+case call 10 fails
+file j NEW
+fails 10
+$ checkpoint j
+| size 1
+| root 709e80c88487a2411e1ee4dfb9f22a861492d20c4765150c0c794abd70f8147c
+$ checkpoint j
+status 5
+! mtc: checkpoint: j: Failed
+left j NEW
+
+case call 11 fails
+file j NEW
+fails 11
+$ checkpoint j
+| size 1
+| root 709e80c88487a2411e1ee4dfb9f22a861492d20c4765150c0c794abd70f8147c
+$ checkpoint j
+status 5
+! mtc: checkpoint: j: Failed
+left j NEW
 "#;
 
 #[test]
 fn devices_fail(rt: HostRuntime) {
     let outcome = outcome_of(rt.alloc(), SCRIPT);
-    assert!(rt; outcome == Ok(Outcome::Passed(31)), "{outcome:?}");
+    assert!(rt; outcome == Ok(Outcome::Passed(39)), "{outcome:?}");
 }
 
 // A request and a new journal, of which a call fails.
@@ -207,9 +252,9 @@ const LANDMARK: Appending = Appending {
     length: 50,
 };
 
-// The calls of the device: a sync, the length, the header and what stands behind it open the
-// journal; the record is written and synced, and so is its gate.
-const CALLS: u64 = 8;
+// The calls of the device: the length and the header are read; a sync, the length, the header and
+// what stands behind it open the journal; the record is written and synced, and so is its gate.
+const CALLS: u64 = 10;
 
 // The status, where the answer and the length of the journal are as they have to be: behind status
 // 0 the journal has the new record, and behind 5 its old ones, or these and the new one.

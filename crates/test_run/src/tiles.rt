@@ -106,13 +106,33 @@ status 2
 length j 94599
 length j.tiles 0
 
-# A refused journal leaves an empty file of tiles; one that isn't there, or is made, leaves none.
-file k 00
+# A journal whose records are refused leaves an empty file of tiles. A file that is no journal has
+# none made beside it, nor has one that isn't there, or is made.
+file k 6d74632d6a6f75726e616c2f76310a00 00
 $ tile k
 status 2
-! mtc: tile: k: NotJournal
-left k 00
+! mtc: tile: k: BadRecord 0
 left k.tiles
+file m 6d74632d6a6f75726e616c2f76310a01 00
+$ tile m
+status 2
+! mtc: tile: m: NotJournal
+$ checkpoint m
+status 2
+! mtc: checkpoint: m: NotJournal
+$ issue m r
+status 2
+! mtc: issue: m: NotJournal
+$ cert m 1 0 256 none
+status 2
+! mtc: cert: m: NotJournal
+left m 6d74632d6a6f75726e616c2f76310a01 00
+gone m.tiles
+file o 6d74632d6a6f75726e616c2f76310a
+$ landmark o
+status 2
+! mtc: landmark: o: NotJournal
+gone o.tiles
 $ tile l
 status 7
 ! mtc: tile: l: Absent
@@ -148,7 +168,7 @@ length n.tiles 8192
 #[test]
 fn tiles_are_stored_beside_a_log(rt: HostRuntime) {
     let outcome = outcome_behind(rt.alloc(), NAMES, STORED);
-    assert!(rt; outcome == Ok(Outcome::Passed(25)), "{outcome:?}");
+    assert!(rt; outcome == Ok(Outcome::Passed(30)), "{outcome:?}");
 }
 
 // A case is what comes before the run in which a call of the file of tiles fails, the words of this

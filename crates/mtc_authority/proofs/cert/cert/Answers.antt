@@ -8,6 +8,7 @@ use Rattle.mtc_authority.specs.Works.{IsLog, log_outcome}
 use Rattle.mtc_authority.specs.declared.work.Work.TheVariants.{Cert}
 use Rattle.mtc_authority.proofs.Certified.{signed_so}
 use Rattle.mtc_authority.proofs.OnlyRead.{only_read_behind, only_read_kept}
+use Rattle.mtc_authority.proofs.OnlyRead.{spared_behind, spared_kept}
 use Rattle.mtc_authority.proofs.cert.cert.Goals as goal
 
 pub returns-in_err-bytes-clause-serves : goal.returns-in_err-bytes-clause-serves
@@ -100,3 +101,18 @@ pub returns-in-Err-clause-only_read : goal.returns-in-Err-clause-only_read
 returns-in-Err-clause-only_read g c =
     only_read_kept g.R.Room g.R.Dsk.Disk (tiles_name c.args.journal.now) c.args.room.now
     c.read_input.new.room c.in_ok-bytes.ensures.settled g.met.R.Dsk.Disk.only_now
+
+pub returns-in_err-bytes-clause-spares : goal.returns-in_err-bytes-clause-spares
+returns-in_err-bytes-clause-spares g c =
+    spared_kept g.R.Room c.args.journal.now c.args.room.now c.read_input.new.room
+    c.in_err-bytes.ensures.settled
+
+pub returns-in-Ok-clause-spares : goal.returns-in-Ok-clause-spares
+returns-in-Ok-clause-spares g c =
+    spared_behind g.R.Room c.args.journal.now c.args.room.now c.read_input.new.room
+    c.on_log.new.room c.in_ok-bytes.ensures.settled c.on_log.ensures.spares
+
+pub returns-in-Err-clause-spares : goal.returns-in-Err-clause-spares
+returns-in-Err-clause-spares g c =
+    spared_kept g.R.Room c.args.journal.now c.args.room.now c.read_input.new.room
+    c.in_ok-bytes.ensures.settled

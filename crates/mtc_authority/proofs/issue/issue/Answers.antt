@@ -12,6 +12,7 @@ use Rattle.mtc_authority.specs.IssueCommand.{issue_outcome, request_says}
 use Rattle.mtc_authority.specs.Works.{IsLog, log_outcome}
 use Rattle.mtc_authority.specs.declared.work.Work.TheVariants.{Issue}
 use Rattle.mtc_authority.proofs.OnlyRead.{only_read_behind, only_read_kept}
+use Rattle.mtc_authority.proofs.OnlyRead.{spared_behind, spared_kept}
 use Rattle.mtc_authority.proofs.Reading.{asked_so, unread}
 use Rattle.mtc_authority.proofs.issue.issue.Goals as goal
 
@@ -124,3 +125,18 @@ pub returns-clause-only_read : goal.returns-clause-only_read
 returns-clause-only_read g c =
     only_read_kept g.R.Room g.R.Dsk.Disk (tiles_name c.args.journal.now) c.args.room.now
     c.read_input.new.room c.in_ok-text.ensures.settled g.met.R.Dsk.Disk.only_now
+
+pub returns-in_err-text-clause-spares : goal.returns-in_err-text-clause-spares
+returns-in_err-text-clause-spares g c =
+    spared_kept g.R.Room c.args.journal.now c.args.room.now c.read_input.new.room
+    c.in_err-text.ensures.settled
+
+pub returns-in-Ok-clause-spares : goal.returns-in-Ok-clause-spares
+returns-in-Ok-clause-spares g c =
+    spared_behind g.R.Room c.args.journal.now c.args.room.now c.read_input.new.room
+    c.on_log.new.room c.in_ok-text.ensures.settled c.on_log.ensures.spares
+
+pub returns-clause-spares : goal.returns-clause-spares
+returns-clause-spares g c =
+    spared_kept g.R.Room c.args.journal.now c.args.room.now c.read_input.new.room
+    c.in_ok-text.ensures.settled

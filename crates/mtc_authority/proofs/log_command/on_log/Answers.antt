@@ -4,7 +4,7 @@ use Rattle.mtc_command.specs.Answers.{no_memory, tiles_name}
 use Rattle.mtc_command.proofs.Served.{stopped}
 use Rattle.mtc_command.proofs.Valid.{gives_same, same_valid}
 use Rattle.mtc_authority.specs.Works.{IsLog, log_outcome}
-use Rattle.mtc_authority.proofs.OnlyRead.{only_read_kept}
+use Rattle.mtc_authority.proofs.OnlyRead.{only_read_kept, spared_kept}
 use Rattle.mtc_authority.proofs.log_command.on_log.Goals as goal
 
 pub returns-in_err-name-clause-serves : goal.returns-in_err-name-clause-serves
@@ -69,3 +69,16 @@ returns-clause-valid g c = c.on_journal.ensures.valid
 
 pub returns-clause-only_read : goal.returns-clause-only_read
 returns-clause-only_read g c = c.on_journal.ensures.only_read
+
+pub returns-in_err-name-clause-spares : goal.returns-in_err-name-clause-spares
+returns-in_err-name-clause-spares g c =
+    spared_kept g.R.Room c.args.journal.now c.args.room.now c.args.room.now
+    (gives_same g.R.Room c.args.room.now)
+
+pub returns-in_err-pool-clause-spares : goal.returns-in_err-pool-clause-spares
+returns-in_err-pool-clause-spares g c =
+    spared_kept g.R.Room c.args.journal.now c.args.room.now c.args.room.now
+    (gives_same g.R.Room c.args.room.now)
+
+pub returns-clause-spares : goal.returns-clause-spares
+returns-clause-spares g c = c.on_journal.ensures.spares
