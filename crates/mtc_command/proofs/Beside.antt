@@ -24,7 +24,7 @@ use Rattle.mtc_command.specs.Works.{HasOpenedBeside, HasClosed}
 use Rattle.mtc_command.specs.Works.{HasWorkedTiledOn, journaled_by}
 use Rattle.mtc_command.proofs.Made.{OnlyNow, kept_of, left_kept, left_opened}
 use Rattle.mtc_command.proofs.Made.{still}
-use Rattle.mtc_command.proofs.Served.{reply_so}
+use Rattle.mtc_command.proofs.Served.{reply_so, rose_since}
 use Rattle.mtc_command.proofs.Valid.{contents_opened}
 use Rattle.mtc_command.proofs.Works.{of_bytes, rose_with}
 
@@ -68,12 +68,6 @@ module _ {R S D : Type 0} (rooms : Rooms R S D) (g : Ghosts D) (name : List ℕ)
   stays_beside =
       let other = beside.others name (longer_other name) in
       (other.bytes ∙ (opened.stay name).bytes, other.disk ∙ (opened.stay name).disk)
-
-rose_from : (old kept new : ℕ) → old ≤ kept → Rose kept new → Rose old new
-rose_from old kept new later rose = elim rose [
-  | inl more ↦ inl (omega (arith, later, more))
-  | inr last ↦ inr last
-]
 
 -- the room failed where one of the devices did
 failed_at : (ending : Ending) (F B Fault : Type 0) (file beside : List ℕ) (files : List (List ℕ))
@@ -126,7 +120,7 @@ module _ {R S D : Type 0} (rooms : Rooms R S D) (g : Ghosts D) (name : List ℕ)
       → FailedOnly (Rose (rooms.faults old) (rooms.faults new)) files ending
   fault_tiled among among_tiles fails =
       failed_at ending _ _ _ name (tiles_name name) files among among_tiles
-      (λ rose. rose_from (rooms.faults old) (rooms.faults kept) (rooms.faults new)
+      (λ rose. rose_since (rooms.faults old) (rooms.faults kept) (rooms.faults new)
       (omega (arith, closed_beside.count, opened_beside.fine, opened.fine))
       (subst (Rose (rooms.faults kept)) (sym taken.count)
       (rose_with (rooms.faults kept) (g.faults d')

@@ -78,7 +78,7 @@ failed_so (replied reply) Fault Fault' files files' so more is = tt
 failed_so (room_failed file) Fault Fault' files files' so more is = (so is.0, more file is.1)
 failed_so no_memory Fault Fault' files files' so more is = tt
 
-rose_since : (old mid new : ℕ) → old ≤ mid → Rose mid new → Rose old new
+pub rose_since : (old mid new : ℕ) → old ≤ mid → Rose mid new → Rose old new
 rose_since old mid new later rose = elim rose [
   | inl more ↦ inl (omega (arith, later, more))
   | inr last ↦ inr last
