@@ -1,8 +1,7 @@
 -- Certificates of the entries of a log.
-use Rattle.std.proofs.Common.{◌≡◌, ℕ, ◌+◌, ◌*◌, ◌^◌, ◌<◌, ◌≤◌, ◌&&◌, true, List, [], ◌∷◌, length}
-use Rattle.std.proofs.Common.{slice_index_or, Option, Some, None, IfOk, Result, Ok, Err, refl}
-use Rattle.std.proofs.Common.{sym, ap}
-use Rattle.std.proofs.Common.{◌∙◌, subst, arith}
+use Rattle.std.proofs.Common.{◌≡◌, ℕ, zero, suc, ◌+◌, ◌*◌, ◌^◌, ◌<◌, ◌≤◌, ◌&&◌, true, List, []}
+use Rattle.std.proofs.Common.{◌∷◌, length, slice_index_or, Option, Some, None, IfOk, Result, Ok}
+use Rattle.std.proofs.Common.{Err, refl, sym, ap, ◌∙◌, subst, arith}
 use Rattle.std.specs.List.{AllByRecursion, concat}
 use Rattle.std.proofs.lemmas.Grind.{common_steps}
 use Rattle.std.proofs.lemmas.List.{length-append}
@@ -40,6 +39,16 @@ pub item_is : (s : LogState) (index : ℕ) (entry key : Text) → index < length
     → (slice_index_or s.entries index [] ≡ entry) × (slice_index_or s.keys index [] ≡ key)
 unfolding item_at
 item_is s index entry key below is = grind (arith, common_steps)
+
+-- Each entry and each key fits a length of two bytes.
+pub items_short : (h : HashFunction) (s : LogState) (index : ℕ) → IsSound h s
+    → index < length s.entries
+    → (length (slice_index_or s.entries index []) < 65536)
+    × (length (slice_index_or s.keys index []) < 65536)
+items_short h s zero sound below =
+    (rw sound.first_entry (omega arith), rw sound.first_key (omega arith))
+items_short h s (suc i) sound below =
+    let item = sound.items (suc i) (omega arith) below in (item.short_entry, item.short_key)
 
 pub item_given : (h : HashFunction) (s : LogState) (index : ℕ) (entry key : Text) → IsSound h s
     → 1 ≤ index → index < length s.entries → item_at s index ≡ Ok (entry, key)

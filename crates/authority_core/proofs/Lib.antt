@@ -1,4 +1,4 @@
-mod Certificates
+pub mod Certificates
 mod Identifiers
 mod Labels
 mod Items
@@ -6,5 +6,5 @@ pub mod Marks
 mod Sizes
 mod Issued
 mod Accepted
-mod Modelled
+pub mod Modelled
 mod Answered
