@@ -2,6 +2,7 @@
 use Rattle.std.proofs.Common.{◌≡◌, ◌∙◌, List, [], ◌∷◌, ◌++◌, Option, Ok, Bool, option_map, ap, sym}
 use Rattle.std.proofs.Common.{subst}
 use Rattle.std.specs.Prelude.{IfSome}
+use Rattle.std.proofs.lemmas.Option.{same_Some}
 use Rattle.byte_formats.specs.Types.{Text, HashFunction}
 use Rattle.disk_core.specs.declared.disk.Disk.{Ghosts}
 use Rattle.tree_core.specs.declared.hashing.TreeHash.{Ghosts as Hashes}
@@ -13,7 +14,6 @@ use Rattle.issuance_log.specs.declared.log.Log.{Log}
 use Rattle.drill_core.specs.Calls.{HasCalledLog, IsLogWith, log_called, record_of}
 use Rattle.drill_core.specs.Nodes.{IsLeft}
 use Rattle.drill_core.specs.declared.calls.LogCall.{LogCall}
-use Rattle.drill_core.proofs.OnlyRead.{some_is}
 
 module _ {H D T : Type 0} {hashes : Hashes H} {g : Ghosts D} {k : Ghosts T} (h : HashFunction)
     (images : Text → Type 0) where
@@ -22,7 +22,7 @@ module _ {H D T : Type 0} {hashes : Hashes H} {g : Ghosts D} {k : Ghosts T} (h :
       → HasCalledLog h call old new done → IsLeft h call s images
   log_left call old new done s leaves is called =
       let seen : shown_with (view_of old) is.list ≡ s =
-      some_is (shown_with (view_of old) is.list) s
+      same_Some (shown_with (view_of old) is.list) s
       (sym (ap (option_map (shown_with (view_of old))) is.records) ∙ is.state) in
       let valid = subst (λ (o : Option (List Text)). IfSome o (λ list.
       log_of h (list ++ record_of h (view_of old) call ∷ [])

@@ -1,7 +1,7 @@
 -- What a log on devices in memory shows, behind calls that only look at them and behind one that
 -- adds a record.
-use Rattle.std.proofs.Common.{◌≡◌, ◌∙◌, List, [], ◌∷◌, ◌++◌, Some, Ok, true}
-use Rattle.std.proofs.Common.{sym, ap, subst, refl}
+use Rattle.std.proofs.Common.{◌≡◌, ◌∙◌, List, [], ◌∷◌, ◌++◌, Ok, true, sym, ap, subst, refl}
+use Rattle.std.proofs.lemmas.Option.{same_Some}
 use Rattle.byte_formats.specs.Types.{Text, HashFunction}
 use Rattle.disk_core.specs.Memory.{bytes_of}
 use Rattle.disk_core.specs.Noted.{made_calls}
@@ -19,9 +19,6 @@ use Rattle.drill_core.specs.Nodes.{IsLogDisk, log_seen}
 use Rattle.drill_nodes.specs.Disks.{records_on}
 use Rattle.drill_core.specs.declared.calls.LogCall.{LogCall}
 
-pub some_is : {A : Type 0} (x y : A) → Some x ≡ Some y → x ≡ y
-some_is x y e = cc
-
 -- since this moment a crash leaves nothing else
 pub mem_now : (m : MemDisk) (c : Text) → disks.left_since m (disks.moment m) c
     → disks.may_leave m c
@@ -30,7 +27,7 @@ mem_now m c is = since_now m.past.first (made_calls m.past.calls) c is
 module _ {H : Type 0} {hashes : Hashes H} where
   pub seen_stays : (old new : Log H MemDisk MemDisk hashes disks disks) → LogStays old new
       → log_seen new ≡ log_seen old
-  seen_stays old new is = some_is (log_seen new) (log_seen old) (modelled_stays old new is)
+  seen_stays old new is = same_Some (log_seen new) (log_seen old) (modelled_stays old new is)
 
   -- nodes alone were asked for
   pub nodes_stay : (old new : Log H MemDisk MemDisk hashes disks disks) → LogAsksTiles old new
@@ -42,7 +39,7 @@ module _ {H : Type 0} {hashes : Hashes H} where
       → IsLogDisk h (log_seen new) (log_disk new)
   still_stands h old new stays is =
       let same : bytes_of (log_disk new) ≡ bytes_of (log_disk old) =
-      some_is (bytes_of (log_disk new)) (bytes_of (log_disk old)) stays.only_reads.contents in
+      same_Some (bytes_of (log_disk new)) (bytes_of (log_disk old)) stays.only_reads.contents in
       let list : records_on (log_disk new) ≡ records_on (log_disk old) = ap records_of same in
       record {
         holds = subst (λ (b : Text). Represents b (records_of b)) (sym same) is.holds;
@@ -56,14 +53,14 @@ module _ {H : Type 0} {hashes : Hashes H} where
       (called : HasCalledLog h call old new true) where
     pub seen_called : log_seen new ≡ log_called h (log_seen old) call
     seen_called =
-        some_is (log_seen new) (log_called h (log_seen old) call) (called.grown refl).contents
+        same_Some (log_seen new) (log_called h (log_seen old) call) (called.grown refl).contents
 
     pub called_stands : Represents (bytes_of (log_disk new)) (records_on (log_disk new))
         → IsLogDisk h (log_seen new) (log_disk new)
     called_stands holds =
         let body : Text = record_of h (view_of old) call in
         let list : records_on (log_disk new) ≡ records_on (log_disk old) ++ body ∷ [] =
-        some_is (records_on (log_disk new)) (records_on (log_disk old) ++ body ∷ [])
+        same_Some (records_on (log_disk new)) (records_on (log_disk old) ++ body ∷ [])
         (called.grown refl).records in
         record {
           holds = holds;

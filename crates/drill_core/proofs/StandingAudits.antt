@@ -1,7 +1,6 @@
 -- Why the audits of a drill stand: the list is that of which the cosigner holds the root, the
 -- cosigner has signed the hash of the subtree, and the log has the certificate's entry and key.
-use Rattle.std.proofs.Common.{◌≡◌, ◌∙◌, ◌+◌, ◌<◌, ◌≤◌, ◌-◌, ◌∷◌, ℕ, zero, suc, true}
-use Rattle.std.proofs.Common.{false}
+use Rattle.std.proofs.Common.{◌≡◌, ◌∙◌, ◌+◌, ◌<◌, ◌≤◌, ◌-◌, ◌∷◌, ℕ, zero, suc, true, false}
 use Rattle.std.proofs.Common.{List, [], length, Some, None, Result, Ok, refl, sym, ap}
 use Rattle.std.proofs.Common.{subst, arith, slice_index_or, drop, take, eq-eqb}
 use Rattle.std.specs.Prelude.{pos, ℤ, ◌&&◌, nat_lt}
@@ -17,6 +16,7 @@ use Rattle.byte_formats.specs.Types.{Hash, HashFunction, Text}
 use Rattle.byte_formats.specs.Places.{IsBytes}
 use Rattle.byte_formats.specs.Readings.{◌>>=◌, lifted}
 use Rattle.byte_formats.proofs.Steps.{bind_ok, lifted_ok, ok_is}
+use Rattle.byte_formats.proofs.Values.{same_bytes}
 use Rattle.tree_core.specs.Evaluation.{evaluation}
 use Rattle.tree_core.specs.Path.{part_of}
 use Rattle.tree_core.specs.Tree.{leaf_hash, tree_hash}
@@ -57,15 +57,11 @@ use Rattle.world_core.proofs.Settled.{eval_inside, judged_path}
 use Rattle.drill_core.specs.Audits.{StandsWith}
 use Rattle.drill_nodes.specs.CosignerNodes.{HasSign, secret_of}
 use Rattle.drill_nodes.specs.Ids.{drill_log_id, id_of}
-use Rattle.drill_core.specs.Entries.{drill_entry, drill_key, entries_to, keys_to}
-use Rattle.drill_core.specs.Entries.{log_with}
+use Rattle.drill_core.specs.Entries.{drill_entry, drill_key, entries_to, keys_to, log_with}
 use Rattle.drill_core.specs.Played.{IsWrittenOf}
 use Rattle.drill_core.specs.Stores.{IsAcceptedByAll, drill_public, drill_store, known_with}
 use Rattle.drill_core.proofs.EntryCounts.{entries_length}
 use Rattle.drill_nodes.proofs.SignPlaces.{found, said_there}
-
-same_bytes : (x : Text) → bytes_eq x x ≡ true
-same_bytes x = (bytes_eq-Decides x x).1 refl
 
 -- ---- the cosigner counts
 

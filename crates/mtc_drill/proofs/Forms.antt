@@ -1,23 +1,12 @@
 -- The summary of a drill is of its form.
-use Rattle.std.proofs.Common.{◌≡◌, ◌≤◌, ◌+◌, ◌-◌, ◌||◌, ℕ, zero, suc, Bool, true, false, List, refl}
-use Rattle.std.proofs.Common.{arith, sym, subst, true≢false}
+use Rattle.std.proofs.Common.{◌≡◌, ◌≤◌, ◌+◌, ◌-◌, ℕ, zero, suc, true, refl, arith, sym, subst}
 use Rattle.std.specs.Str.{bytes_eq}
-use Rattle.std.proofs.lemmas.Slice.Eq.{bytes_eq-Decides}
+use Rattle.std.proofs.lemmas.Bool.{or_left, or_right}
+use Rattle.byte_formats.proofs.Values.{same_bytes}
 use Rattle.drill_core.specs.Counts.{IsCounted}
 use Rattle.drill_nodes.specs.Rounds.{drill_of}
 use Rattle.drill_core.specs.declared.made.Counts.{Counts}
 use Rattle.mtc_drill.specs.Summary.{counts_with, is_summary, is_summary_from, summary_text}
-
-one_holds : (a b : Bool) → a ≡ true → (a || b) ≡ true
-one_holds true b is = refl
-one_holds false b is = absurd (true≢false (sym is))
-
-other_holds : (a b : Bool) → b ≡ true → (a || b) ≡ true
-other_holds true b is = refl
-other_holds false b is = is
-
-same : (x : List ℕ) → bytes_eq x x ≡ true
-same x = (bytes_eq-Decides x x).1 refl
 
 is_from : (number first more past : ℕ) → past ≤ more
     → is_summary_from number (summary_text number (counts_with number (first + past))) first more
@@ -26,15 +15,15 @@ is_from number first zero past few =
     let none : first ≡ first + past = omega (arith, few) in
     subst (λ k. bytes_eq (summary_text number (counts_with number k))
     (summary_text number (counts_with number first)) ≡ true) none
-    (same (summary_text number (counts_with number first)))
+    (same_bytes (summary_text number (counts_with number first)))
 is_from number first (suc more) zero few =
     let none : first ≡ first + zero = omega (arith) in
-    one_holds _ _ (subst (λ k. bytes_eq (summary_text number (counts_with number k))
+    or_left _ _ (subst (λ k. bytes_eq (summary_text number (counts_with number k))
     (summary_text number (counts_with number first)) ≡ true) none
-    (same (summary_text number (counts_with number first))))
+    (same_bytes (summary_text number (counts_with number first))))
 is_from number first (suc more) (suc past) few =
     let next : first + 1 + past ≡ first + suc past = omega (arith) in
-    other_holds _ _ (subst
+    or_right _ _ (subst
     (λ k. is_summary_from number (summary_text number (counts_with number k)) (first + 1) more
     ≡ true) next (is_from number (first + 1) more past (omega (arith, few))))
 

@@ -3,7 +3,7 @@ use Rattle.issuance_log.specs.Staying.{stays_both}
 use Rattle.drill_core.specs.Nodes.{log_seen}
 use Rattle.entry_list.specs.Items.{file_text, listed_text}
 use Rattle.drill_core.specs.Listed.{log_items}
-use Rattle.drill_core.proofs.ListedItems.{items_more}
+use Rattle.entry_list.proofs.OwnKeys.{items_more}
 use Rattle.drill_core.proofs.OnlyRead.{seen_stays}
 use Rattle.drill_core.proofs.listed.item_file.Goals as goal
 

@@ -1,14 +1,14 @@
 use Rattle.std.proofs.Common.{ap, arith}
+use Rattle.tree_proofs.proofs.Aligned.{first_valid}
 use Rattle.issuance_log.specs.Folds.{LogView}
 use Rattle.issuance_log.specs.Staying.{stays_alone}
 use Rattle.issuance_log.specs.Words.{log_disk, log_tiles_disk}
-use Rattle.drill_core.proofs.FirstEntries.{first_subtree}
 use Rattle.drill_core.proofs.OnlyRead.{mem_now, nodes_stay}
 use Rattle.drill_core.proofs.tree.proof_from.Goals as goal
 
 pub consist-requires-clause-valid : goal.consist-requires-clause-valid
 consist-requires-clause-valid g c =
-    first_subtree c.args.held (omega (arith, c.if-held-eq0.false))
+    first_valid c.args.held (omega (arith, c.if-held-eq0.false))
 
 pub consist-requires-clause-inside : goal.consist-requires-clause-inside
 consist-requires-clause-inside g c =

@@ -1,14 +1,15 @@
 use Rattle.std.proofs.Common.{◌∙◌, ℕ, ap}
 use Rattle.tree_core.specs.Path.{part_of}
 use Rattle.tree_core.specs.Tree.{tree_hash}
+use Rattle.tree_proofs.proofs.Aligned.{first_valid}
 use Rattle.drill_core.specs.Nodes.{log_seen}
-use Rattle.drill_core.proofs.FirstEntries.{all_of, first_subtree}
+use Rattle.drill_core.proofs.FirstEntries.{all_of}
 use Rattle.drill_core.proofs.Numbers.{no_more}
 use Rattle.drill_core.proofs.tree.root_of.Goals as goal
 
 pub hash_of-requires-clause-valid : goal.hash_of-requires-clause-valid
 hash_of-requires-clause-valid g c =
-    first_subtree c.size_of-size.result c.size_of-size.ensures.some
+    first_valid c.size_of-size.result c.size_of-size.ensures.some
 
 pub hash_of-requires-clause-within : goal.hash_of-requires-clause-within
 hash_of-requires-clause-within g c = no_more _ _ c.size_of-size.ensures.value

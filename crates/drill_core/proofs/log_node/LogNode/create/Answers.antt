@@ -1,4 +1,5 @@
-use Rattle.std.proofs.Common.{◌≡◌, ◌∙◌, List, [], ◌∷◌, Ok, Some, sym, subst, ap, refl}
+use Rattle.std.proofs.Common.{◌≡◌, ◌∙◌, [], ◌∷◌, Ok, sym, subst, ap, refl}
+use Rattle.std.proofs.lemmas.Option.{same_Some}
 use Rattle.byte_formats.specs.Types.{Text}
 use Rattle.disk_core.specs.Memory.{bytes_of}
 use Rattle.disk_core.specs.declared.memory.mem_disk.MemDisk.{MemDisk}
@@ -9,9 +10,6 @@ use Rattle.issuance_log.specs.Settings.{Settings}
 use Rattle.drill_core.specs.Entries.{log_settings}
 use Rattle.drill_nodes.specs.Disks.{records_on}
 use Rattle.drill_core.proofs.log_node.LogNode.create.Goals as goal
-
-some_is : (xs ys : List Text) → Some xs ≡ Some ys → xs ≡ ys
-some_is xs ys e = cc
 
 pub returns-in-Ok-clause-state : goal.returns-in-Ok-clause-state
 returns-in-Ok-clause-state g c =
@@ -24,7 +22,7 @@ returns-in-Ok-clause-state g c =
     (c.in-Ok.journal.stands (bytes_of c.in-Ok.journal.disk) refl) in
     let first : records_on c.into_disk.result ≡ settings_record settings ∷ [] =
     ap records_on c.into_disk.ensures
-    ∙ some_is (records_on c.in-Ok.journal.disk) (settings_record settings ∷ [])
+    ∙ same_Some (records_on c.in-Ok.journal.disk) (settings_record settings ∷ [])
     c.in-Ok.ensures.ok.list in
     c.in_ok-node-in-Ok.ensures.state (records_on c.into_disk.result) (new_log log_settings) holds
     (ap (log_of g.H.TreeHash.hash) first ∙ c.in-Ok.ensures.valid g.H.TreeHash.hash
