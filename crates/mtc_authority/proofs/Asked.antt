@@ -1,28 +1,16 @@
 -- Subtrees and proofs over the leaf hashes of entries.
-use Rattle.std.proofs.Common.{◌≡◌, ◌≢◌, ◌-◌, ℕ, ◌<◌, ◌∙◌, true, List, [], take, ap, sym, arith}
+use Rattle.std.proofs.Common.{◌≡◌, ◌≢◌, ◌-◌, ℕ, ◌∙◌, true, List, [], take, ap, sym, arith}
 use Rattle.std.proofs.Common.{Option, Some, None, IfSome, IfOk, Result, Ok, Err, option_map, refl}
 use Rattle.std.proofs.lemmas.Grind.{common_steps}
 use Rattle.std.specs.Prelude.{map}
-use Rattle.std.proofs.Math.Nat.{zero-mod}
 use Rattle.std.proofs.lemmas.List.{take-map}
 use Rattle.byte_formats.specs.Types.{Hash, HashFunction, Text}
 use Rattle.tree_core.specs.Path.{part_of}
-use Rattle.tree_core.specs.Split.{power_over}
-use Rattle.tree_core.specs.Subtree.{is_subtree}
 use Rattle.tree_core.specs.Tree.{leaf_hash, root_of, tree_hash}
-use Rattle.tree_core.proofs.Powers.{power_over_least}
-use Rattle.tree_core.proofs.Subtrees.{is_subtree-from}
 use Rattle.tree_proofs.specs.Proof.{proof_of}
 use Rattle.issuance_log.specs.Folds.{LogState}
 use Rattle.issuance_log.proofs.Leaves.{part_root}
 use Rattle.mtc_authority.specs.RequestOutcomes.{growth_at, prefix_proof}
-
--- the first entries are a subtree, where there are some
-pub first_subtree : (n : ℕ) → 0 < n → is_subtree 0 n ≡ true
-first_subtree n some = is_subtree-from 0 n (record {
-  inhabited = some;
-  aligned = (power_over (n - 0), (power_over_least (n - 0), zero-mod (power_over (n - 0))));
-})
 
 -- the first ones as a part
 first_part : (h : HashFunction) (entries : List Text) (n : ℕ)

@@ -4,10 +4,11 @@ use Rattle.std.proofs.Common.{◌≡◌, ◌⊎◌, ◌≤◌, ◌<◌, ◌+◌,
 use Rattle.std.proofs.Common.{[], ◌∷◌, ◌++◌, Bool, true, false, Option, None, Some, refl}
 use Rattle.std.proofs.Common.{nat_lt, if◌then◌else◌, sym, subst, ap, ◌∙◌, arith}
 use Rattle.std.proofs.lemmas.Bool.{and_from, and_parts, le-leb, le-ltb, leb-true, lt-ltb}
-use Rattle.std.proofs.lemmas.Bool.{ltb-false, ltb-true}
+use Rattle.std.proofs.lemmas.Bool.{ltb-false, ltb-true, cases_Bool}
 use Rattle.std.proofs.lemmas.Slice.Eq.{bytes_eq-Decides}
 use Rattle.std.specs.Prelude.{map}
 use Rattle.std.proofs.Math.Nat.{mul-le-mul_right}
+use Rattle.std.proofs.lemmas.Option.{same_Some}
 use Rattle.byte_formats.proofs.Digits.{power_pos}
 use Rattle.byte_formats.specs.Types.{Hash, HashFunction, Text}
 use Rattle.disk_core.specs.Disk.{part}
@@ -23,18 +24,10 @@ use Rattle.tree_core.specs.Tree.{leaf_hash, root_of}
 use Rattle.mtc_authority.specs.BadTiles.{first_bad, first_missing, full_tiles, has_hashes, has_tile}
 use Rattle.mtc_authority.specs.BadTiles.{sooner_of, tiles_at}
 
--- the one thing that there is
-some_is : (x y : ℕ × ℕ) → Some x ≡ Some y → x ≡ y
-some_is x y is = cc
-
-cases : (b : Bool) → (b ≡ true) ⊎ (b ≡ false)
-cases true = inl refl
-cases false = inr refl
-
 order : (a b : ℕ) → (a < b) ⊎ ((a ≡ b) ⊎ (b < a))
-order a b = elim (cases (nat_lt a b)) [
+order a b = elim (cases_Bool (nat_lt a b)) [
   | inl lower ↦ inl (ltb-true a b lower)
-  | inr not ↦ elim (cases (nat_lt b a)) [
+  | inr not ↦ elim (cases_Bool (nat_lt b a)) [
     | inl higher ↦ inr (inr (ltb-true b a higher))
     | inr neither ↦
         (let one = ltb-false a b not in let two = ltb-false b a neither in
@@ -198,7 +191,7 @@ module _ (has : ℕ → ℕ → Bool) where
   here_first : (tile : ℕ × ℕ) (tiles : List (ℕ × ℕ)) → first_missing has (tile ∷ tiles) ≡ None
       → (has tile.0 tile.1 ≡ true) × (first_missing has tiles ≡ None)
   unfolding first_missing
-  here_first tile tiles none = elim (cases (has tile.0 tile.1)) [
+  here_first tile tiles none = elim (cases_Bool (has tile.0 tile.1)) [
     | inl here ↦ (here, sym (cond_true _ _ _ here) ∙ none)
     | inr gone ↦ absurd (sooner_some tile (first_missing has tiles)
         (sym (cond_false _ _ _ gone) ∙ none))
@@ -228,8 +221,9 @@ module _ (has : ℕ → ℕ → Bool) where
     one_case : (first : ℕ × ℕ) → (number tile < number first) ⊎ (first ≡ tile)
         → IsNoSooner (Some first)
     one_case first later other is = elim later [
-      | inl more ↦ inl (subst (λ (t : ℕ × ℕ). number tile < number t) (some_is first other is) more)
-      | inr same ↦ inr (sym (some_is first other is) ∙ same)
+      | inl more ↦
+          inl (subst (λ (t : ℕ × ℕ). number tile < number t) (same_Some first other is) more)
+      | inr same ↦ inr (sym (same_Some first other is) ∙ same)
     ]
 
     sooner_case : (first : ℕ × ℕ) (found : Option (ℕ × ℕ))
@@ -237,7 +231,7 @@ module _ (has : ℕ → ℕ → Bool) where
         → IsNoSooner (sooner_of first found)
     sooner_case first None later no_sooner other is = one_case first later other is
     sooner_case first (Some found) later no_sooner other is =
-        elim (cases (nat_lt (number found) (number first))) [
+        elim (cases_Bool (nat_lt (number found) (number first))) [
           | inl lower ↦ no_sooner other (sym (cond_true _ (Some found) (Some first) lower) ∙ is)
           | inr not ↦ one_case first later other
               (sym (cond_false _ (Some found) (Some first) not) ∙ is)
@@ -247,7 +241,7 @@ module _ (has : ℕ → ℕ → Bool) where
         → IsNoSooner (first_missing has tiles)
     unfolding first_missing
     no_sooner_in [] all = λ other is. absurd cc
-    no_sooner_in (first ∷ tiles) all = elim (cases (has first.0 first.1)) [
+    no_sooner_in (first ∷ tiles) all = elim (cases_Bool (has first.0 first.1)) [
       | inl there ↦ subst IsNoSooner (sym (cond_true _ _ _ there)) (no_sooner_in tiles all.1)
       | inr missing ↦ subst IsNoSooner (sym (cond_false _ _ _ missing))
           (sooner_case first (first_missing has tiles) (all.0 missing) (no_sooner_in tiles all.1))
@@ -287,7 +281,7 @@ module _ (has : ℕ → ℕ → Bool) where
           ∙ before_all (first_missing has tiles) (no_sooner_in tiles all.1))
       | inr later ↦
           (let found = is_first tiles missing all.1 later in
-          elim (cases (has first.0 first.1)) [
+          elim (cases_Bool (has first.0 first.1)) [
             | inl here ↦ cond_true _ _ _ here ∙ found
             | inr gone ↦ cond_false _ _ _ gone ∙ ap (sooner_of first) found
                 ∙ behind_first first (all.0 gone)
@@ -318,7 +312,7 @@ module _ (h : HashFunction) (s : LogState) (tiles : Text) where
   -- the tile isn't there
   missing_is : (level place : ℕ) → IsFirstBad h leaves tiles 0 s.tiled level place
       → has_tile h leaves tiles level place ≡ false
-  missing_is level place bad = elim (cases (has_tile h leaves tiles level place)) [
+  missing_is level place bad = elim (cases_Bool (has_tile h leaves tiles level place)) [
     | inl there ↦ absurd (bad.bad (true_stands h leaves tiles level place there))
     | inr missing ↦ missing
   ]

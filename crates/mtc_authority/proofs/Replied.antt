@@ -1,5 +1,5 @@
 -- What comes of a work that only looks at a log.
-use Rattle.std.proofs.Common.{◌≡◌, ◌≢◌, ℕ, ◌≤◌, List, Option, Some, None, IfSome}
+use Rattle.std.proofs.Common.{◌≡◌, ◌≢◌, ℕ, ◌≤◌, Option, Some, None, IfSome}
 use Rattle.std.proofs.Common.{option_map, inl, inr, arith, ap, ◌∙◌, subst}
 use Rattle.std.specs.Prelude.{option_and_then}
 use Rattle.std.proofs.lemmas.Option.{IfSome_then}
@@ -7,7 +7,7 @@ use Rattle.byte_formats.specs.Types.{Text}
 use Rattle.disk_core.specs.declared.disk.Disk.{Ghosts}
 use Rattle.mtc_io.specs.Counts.{Rose}
 use Rattle.tree_core.specs.declared.hashing.TreeHash.{Ghosts as Hashes}
-use Rattle.issuance_log.specs.Folds.{LogState, LogView, view_in}
+use Rattle.issuance_log.specs.Folds.{LogState, view_in}
 use Rattle.issuance_log.specs.Shown.{shown_with}
 use Rattle.issuance_log.specs.Words.{LogAsksTiles, LogStays, log_disk, log_records, log_tiles_disk}
 use Rattle.issuance_log.specs.Words.{modelled_by_both, modelled_state, view_of}
@@ -15,22 +15,11 @@ use Rattle.issuance_log.specs.declared.log.Log.{Log}
 use Rattle.journal_core.specs.Format.{records_of}
 use Rattle.mtc_command.specs.Answers.{Ending, Reply, no_memory, replied, room_failed, status_of}
 use Rattle.mtc_command.specs.Answers.{tiles_name}
+use Rattle.authority_core.proofs.Modelled.{both_of}
 use Rattle.mtc_authority.specs.LogOutcomes.{StopsAt}
 use Rattle.mtc_authority.specs.Works.{RepliesOnLog}
 
 -- ---- where both disks tell the log
-
--- what holds of the log that the journal tells holds of that one
-pub both_of : (P : LogState → Type 0) (v : LogView) (tiles : Option Text)
-    (records : Option (List Text)) → IfSome (option_map (shown_with v) records) P
-    → IfSome (option_map (shown_with v) (option_and_then (λ (t : Text). records) tiles)) P
-both_of P v None records is = tt
-both_of P v (Some t) records is = is
-
--- what holds of every log
-pub each_so : {X : Type 0} (P : X → Type 0) (o : Option X) → ((x : X) → P x) → IfSome o P
-each_so P None all = tt
-each_so P (Some x) all = all x
 
 -- two facts
 pub both_so : {X : Type 0} (P Q : X → Type 0) (o : Option X) → IfSome o P → IfSome o Q

@@ -2,6 +2,7 @@ use Rattle.std.proofs.Common.{◌≡◌, ℕ, ◌+◌, ◌++◌, Option, Some, N
 use Rattle.std.proofs.Common.{[], arith, subst, ◌∙◌}
 use Rattle.std.proofs.lemmas.Result.{err_from_is_err_and}
 use Rattle.byte_formats.specs.Types.{Text}
+use Rattle.byte_formats.proofs.Values.{each_some}
 use Rattle.entry_list.specs.Items.{file_text, listed_text}
 use Rattle.issuance_log.specs.Folds.{LogState}
 use Rattle.issuance_log.specs.Staying.{stays_alone, stays_both}
@@ -9,8 +10,8 @@ use Rattle.issuance_log.specs.Words.{log_disk, modelled_state}
 use Rattle.issuance_log.proofs.Asked.{modelled_stays}
 use Rattle.mtc_command.specs.Answers.{stop_ending}
 use Rattle.mtc_authority.specs.LogOutcomes.{items_of}
-use Rattle.mtc_authority.proofs.Items.{items_more}
-use Rattle.mtc_authority.proofs.Replied.{each_so, stops_later}
+use Rattle.entry_list.proofs.OwnKeys.{items_more}
+use Rattle.mtc_authority.proofs.Replied.{stops_later}
 use Rattle.mtc_authority.proofs.checkpoint.items.Goals as goal
 
 one_more : (contents : Option LogState) (out out' : Text) (index : ℕ)
@@ -43,7 +44,7 @@ loop-index-init g c =
     let log = c.args.log.now in
     record {
       stays = stays_alone log (g.met.D.Disk.only_now _) (g.met.D.Disk.only_now _);
-      text = each_so (λ s. c.new-out.result ≡ []) (modelled_state log) (λ s. c.new-out.ensures);
+      text = each_some (λ s. c.new-out.result ≡ []) (modelled_state log) (λ s. c.new-out.ensures);
     }
 
 pub returns-in_err-put_item-clause-stops : goal.returns-in_err-put_item-clause-stops

@@ -1,13 +1,14 @@
 use Rattle.std.proofs.Common.{◌≡◌, IfSome, List, arith, refl, subst, sym}
 use Rattle.byte_formats.specs.Types.{Hash}
+use Rattle.tree_proofs.proofs.Aligned.{first_valid}
 use Rattle.issuance_log.specs.Staying.{asks_alone}
 use Rattle.issuance_log.specs.Words.{log_tiles_disk, modelled_by_both}
 use Rattle.mtc_authority.specs.RequestOutcomes.{growth_at}
-use Rattle.mtc_authority.proofs.Asked.{first_subtree, growth_modelled, no_growth}
+use Rattle.mtc_authority.proofs.Asked.{growth_modelled, no_growth}
 use Rattle.mtc_authority.proofs.tree.growth_of.Goals as goal
 
 pub proof_of-requires-clause-valid : goal.proof_of-requires-clause-valid
-proof_of-requires-clause-valid g c = first_subtree c.args.old (omega (arith, c.if-old-eq0.false))
+proof_of-requires-clause-valid g c = first_valid c.args.old (omega (arith, c.if-old-eq0.false))
 
 pub returns-then-old-eq0 : goal.returns-then-old-eq0
 returns-then-old-eq0 g c =
