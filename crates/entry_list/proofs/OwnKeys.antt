@@ -1,0 +1,41 @@
+-- Keys that belong to their entries, and the text of one item more.
+use Rattle.std.proofs.Common.{◌≡◌, ℕ, ◌+◌, ◌++◌, [], ◌∷◌, Option, Some, None, Result, Ok, Err, true}
+use Rattle.std.proofs.Common.{refl, ap, ◌∙◌, arith}
+use Rattle.std.specs.Prelude.{map, ◌&&◌}
+use Rattle.std.specs.List.{concat, range_with_len}
+use Rattle.std.proofs.lemmas.List.{append-nil}
+use Rattle.std.proofs.lemmas.List.Folds.{concat-append}
+use Rattle.std.proofs.lemmas.List.FromFn.{map-range_with_len_more}
+use Rattle.byte_formats.specs.Types.{Hash, HashFunction, Text}
+use Rattle.cert_fields.specs.Keys.{is_public_key}
+use Rattle.log_entry.specs.Entries.{TbsParts}
+use Rattle.log_entry.specs.Matching.{holds, matches}
+use Rattle.log_entry.specs.Reading.{entry_in}
+use Rattle.log_entry.specs.declared.fault.EntryError.{EntryError}
+use Rattle.entry_list.specs.Items.{ItemLists, file_text, has_key, is_key_of, listed_text}
+
+-- One item more in the text.
+pub items_more : (items : ItemLists) (count : ℕ)
+    → file_text items (count + 1) ≡ file_text items count ++ listed_text items count
+items_more items count =
+    let before = map (listed_text items) (range_with_len 0 count) in
+    ap concat (map-range_with_len_more (listed_text items) 0 count count (omega arith))
+    ∙ concat-append before (listed_text items count ∷ [])
+    ∙ ap (λ last. concat before ++ last) (append-nil (listed_text items count))
+
+has_hash : (hash : Hash) (key : Text) (read : Result (Option TbsParts) EntryError)
+    → (holds hash read && is_public_key key) ≡ true → has_key read ≡ true
+has_hash hash key (Ok (Some p)) is = refl
+has_hash hash key (Ok None) is = absurd cc
+has_hash hash key (Err e) is = absurd cc
+
+-- A key that matches an entry is its key.
+pub own_key : (h : HashFunction) (entry key : Text) → matches h entry key ≡ true
+    → is_key_of h entry key ≡ true
+unfolding is_key_of matches
+own_key h entry key is = rw (has_hash (h key) key (entry_in entry) is) is
+
+-- The null entry has no key.
+pub no_key : (h : HashFunction) → is_key_of h (0 ∷ 0 ∷ []) [] ≡ true
+unfolding is_key_of entry_in
+no_key h = refl
