@@ -15,7 +15,7 @@ use Rattle.journal_core.proofs.Folds.{state_next}
 use Rattle.journal_core.proofs.Owners.{refused_by}
 use Rattle.journal_core.specs.Appends.{JournalAppends}
 use Rattle.state_journal.specs.Machines.{HasTakenAppended, IsMadeBy, Makes, fold_of}
-use Rattle.state_journal.specs.Steps.{HasNext}
+use Rattle.state_journal.specs.Steps.{HasNextMachine}
 use Rattle.state_journal.specs.declared.machine.StateMachine.{Ghosts as Machines}
 use Rattle.state_journal.proofs.Kept.{appended_keeps, end_stays, of_sound, sound_records, stay_kept}
 
@@ -24,7 +24,7 @@ some_value x y is = cc
 
 module _ {M X : Type 0} (m : Machines M X) where
   makes_next : (was now : M) (place : ℕ) (body : Text)
-      → HasNext m.takes m.state m.Keeps place body was now
+      → HasNextMachine m.takes m.state m.Keeps place body was now
       → (list : List Text) → Makes m was list → place ≡ behind 16 list
       → Makes m now (list ++ body ∷ [])
   makes_next was now place body next list makes there = record {
@@ -36,7 +36,7 @@ module _ {M X : Type 0} (m : Machines M X) where
     -- the new record is taken
     pub made_next : (old new : Journal D g) (was now : M) (place : ℕ) (body : Text)
         → place ≡ end_of old - 1 → JournalAppends body old new (Ok tt)
-        → HasNext m.takes m.state m.Keeps place body was now
+        → HasNextMachine m.takes m.state m.Keeps place body was now
         → m.Within now (place + 5 + length body)
         → IsMadeBy m old was → IsMadeBy m new now
     made_next old new was now place body there did next within made = record {
@@ -80,7 +80,7 @@ module _ {M X : Type 0} (m : Machines M X) where
 
     pub has_appended : (old new : Journal D g) (was now : M) (place : ℕ) (body : Text)
         (next : m.State) → JournalAppends body old new (Ok tt)
-        → HasNext m.takes m.state m.Keeps place body was now
+        → HasNextMachine m.takes m.state m.Keeps place body was now
         → m.takes (m.state was) body ≡ Some next
         → HasTakenAppended m body old was new now (Ok tt) next
     has_appended old new was now place body next did took is =

@@ -15,7 +15,7 @@ use Rattle.journal_core.proofs.FoldSteps.{all_empty, folded_first, folded_next, 
 use Rattle.journal_core.proofs.FoldSteps.{if_pushed, list_is, pushed, refused_first, refused_next}
 use Rattle.state_journal.specs.Causes.{HasStateCause, refusal_at}
 use Rattle.state_journal.specs.Machines.{HasTaken, HasTakenAll, Makes, fold_of}
-use Rattle.state_journal.specs.Steps.{HasNext, IsBegun, IsMisfitOf}
+use Rattle.state_journal.specs.Steps.{HasNextMachine, IsBegunMachine, IsMisfitOf}
 use Rattle.state_journal.specs.declared.error.Misfit.{Misfit}
 use Rattle.state_journal.specs.declared.error.Misfit.TheVariants.{Unfit, Memory}
 use Rattle.state_journal.specs.declared.machine.StateMachine.{Ghosts as Machines}
@@ -40,7 +40,7 @@ module _ {M X : Type 0} (m : Machines M X) {D : Type 0} {g : Ghosts D} (old new 
     -- the first record begins the machine
     pub taken_first : (it : M)
         → read_list old ≡ option_map (λ _. []) (g.contents (opening_disk old))
-        → next_place old ≡ 16 → IsBegun m.begins m.state m.Keeps body it
+        → next_place old ≡ 16 → IsBegunMachine m.begins m.state m.Keeps body it
         → m.Within it (21 + length body) → HasTaken m it new
     taken_first it none place begun within = record {
       folded = folded_first (fold_of m) old new body last read (m.state it) none begun.begun;
@@ -53,7 +53,7 @@ module _ {M X : Type 0} (m : Machines M X) {D : Type 0} {g : Ghosts D} (old new 
 
     -- the machine takes one record more
     pub taken_next : (was now : M) (place : ℕ) → place ≡ next_place old → HasTaken m was old
-        → HasNext m.takes m.state m.Keeps place body was now
+        → HasNextMachine m.takes m.state m.Keeps place body was now
         → m.Within now (place + 5 + length body) → HasTaken m now new
     taken_next was now place there taken next within = record {
       folded = folded_next (fold_of m) old new body last read (m.state was) (m.state now)

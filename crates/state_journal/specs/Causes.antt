@@ -31,7 +31,7 @@ HasStateCause g fold old new (Open why) = IsCauseOf g fold old new why
 abbrev pub CountsNoOther : {D : Type 0} → Ghosts D → D → D → StateOpenError → Type 0
 CountsNoOther g old new why = why ≢ Open open_error.Failed → g.faults new ≡ g.faults old
 
--- The disk was only looked at. A refusal has its cause, and no other fault was counted.
+-- The disk was only read. A refusal has its cause, and no other fault was counted.
 pub record HasReadOn {D S X : Type 0} (g : Ghosts D) (fold : Fold S StateOpenError) (old new : D)
     (result : Result X StateOpenError) : Type 0 where
   pub only_reads : OnlyReads g old new

@@ -1,4 +1,4 @@
--- What is certain of a journal, also where an append has failed: the records before the end at
+-- What is durable in a journal, also where an append has failed: the records before the end at
 -- which that append began, and what holds of them.
 use Rattle.std.specs.Prelude.{ℕ, List}
 use Rattle.byte_formats.specs.Types.{Text}

@@ -49,7 +49,7 @@ module _ {M X : Type 0} (m : Machines M X) where
         (machine_owner new now) result
 
     -- A journal that was opened, with the machine that its records make.
-    pub record HasOpened (disk : D) (journal : Journal D g) (it : M) : Type 0 where
+    pub record HasOpenedMachine (disk : D) (journal : Journal D g) (it : M) : Type 0 where
       pub sound : is_broken journal ≡ false
       pub only_reads : OnlyReads g disk (disk_of journal)
       pub fine : g.faults (disk_of journal) ≡ g.faults disk

@@ -12,35 +12,36 @@ IsMisfitOf wanted Unfit = wanted ≡ None
 IsMisfitOf wanted Memory = Unit {0}
 
 -- memory was refused
-abbrev pub IsStarved : {X : Type 0} → Result X Misfit → Type 0
-IsStarved (Ok done) = ⊥
-IsStarved (Err Unfit) = ⊥
-IsStarved (Err Memory) = Unit {0}
+abbrev pub IsOutOfMemory : {X : Type 0} → Result X Misfit → Type 0
+IsOutOfMemory (Ok done) = ⊥
+IsOutOfMemory (Err Unfit) = ⊥
+IsOutOfMemory (Err Memory) = Unit {0}
 
 module _ {M S : Type 0} where
   -- the first record begins this machine
-  pub record IsBegun (begins : Text → Option S) (state : M → S) (Keeps : M → List Text → Type 0)
-      (body : Text) (it : M) : Type 0 where
+  pub record IsBegunMachine (begins : Text → Option S) (state : M → S)
+      (Keeps : M → List Text → Type 0) (body : Text) (it : M) : Type 0 where
     pub begun : begins body ≡ Some (state it)
     pub keeps : Keeps it (body ∷ [])
 
   -- what the first record begins, by the answer
-  abbrev pub Begins : {X : Type 0} → (Text → Option S) → (M → S) → (M → List Text → Type 0)
+  abbrev pub BeginsMachine : {X : Type 0} → (Text → Option S) → (M → S) → (M → List Text → Type 0)
       → Text → Result M (NotBegun X Misfit) → Type 0
-  Begins begins state Keeps body (Ok it) = IsBegun begins state Keeps body it
-  Begins begins state Keeps body (Err e) = IsMisfitOf (begins body) e.why
+  BeginsMachine begins state Keeps body (Ok it) = IsBegunMachine begins state Keeps body it
+  BeginsMachine begins state Keeps body (Err e) = IsMisfitOf (begins body) e.why
 
-  -- The record whose gate stands at this place makes the new machine of the old one. What is kept
-  -- beside the state is kept of all records up to this one.
-  pub record HasNext (takes : S → Text → Option S) (state : M → S)
+  -- The record whose gate stands at this place makes the new machine of the old one. What the
+  -- machine says beside its state it says of all records up to this one.
+  pub record HasNextMachine (takes : S → Text → Option S) (state : M → S)
       (Keeps : M → List Text → Type 0) (place : ℕ) (body : Text) (old new : M) : Type 0 where
     pub next : takes (state old) body ≡ Some (state new)
     pub keeps : (list : List Text) → Keeps old list → place ≡ behind 16 list
         → Keeps new (list ++ body ∷ [])
 
   -- what a later record makes, by the answer
-  abbrev pub Takes : (S → Text → Option S) → (M → S) → (M → List Text → Type 0) → ℕ → Text
+  abbrev pub TakesRecord : (S → Text → Option S) → (M → S) → (M → List Text → Type 0) → ℕ → Text
       → M → M → Result (Unit {0}) Misfit → Type 0
-  Takes takes state Keeps place body old new (Ok done) =
-      HasNext takes state Keeps place body old new
-  Takes takes state Keeps place body old new (Err why) = IsMisfitOf (takes (state old) body) why
+  TakesRecord takes state Keeps place body old new (Ok done) =
+      HasNextMachine takes state Keeps place body old new
+  TakesRecord takes state Keeps place body old new (Err why) =
+      IsMisfitOf (takes (state old) body) why

@@ -11,8 +11,8 @@ use crate::machine::StateMachine;
 use disk_core::Disk;
 use journal_core::{AppendError, Journal};
 
-/// Appends a record that the machine allows and has room for, and then the machine takes it. At Ok
-/// a crash leaves the records with it; at any moment of the call it leaves the old records, or
+/// Appends a record that the machine allows and has capacity for, and then the machine takes it. At
+/// Ok a crash leaves the records with it; at any time of the call it leaves the old records, or
 /// these and the new one.
 ///
 /// Errors: what [`Journal::append`] refuses. The machine is as it was then, and is what the records

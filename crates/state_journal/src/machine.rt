@@ -2,7 +2,7 @@
 
 ghost use Rattle.std.specs.Prelude.{◌≡◌, ℕ, ◌+◌, List, length, Option, IfOk, OnOk, MatchResult};
 ghost use Rattle.byte_formats.specs.Types.{Text};
-ghost use Rattle.state_journal.specs.Steps.{Begins, IsStarved, Takes};
+ghost use Rattle.state_journal.specs.Steps.{BeginsMachine, IsOutOfMemory, TakesRecord};
 
 use crate::error::{Misfit, NotBegun};
 use std::alloc::Global;
@@ -15,7 +15,7 @@ pub trait StateMachine: Drop + Sized {
 
     // what contracts see of a machine
     ghost State: { Type 0 };
-    // the state that a first record begins, and the state behind one record more, each none where
+    // the state that a first record begins, and the state after one record more, each none where
     // the record breaks the rules
     ghost begins: { Text → Option State };
 
@@ -24,7 +24,7 @@ pub trait StateMachine: Drop + Sized {
     ghost state: { Self → State };
     // what it keeps beside its state, where the records are known
     ghost Keeps: { Self → List Text → Type 0 } = { λ _ _. Unit {0} };
-    // what it keeps of places in the journal, none of them behind this gate
+    // what it keeps of places in the journal, none of them after this gate
     ghost Within: { Self → ℕ → Type 0 } = { λ _ _. Unit {0} };
     // it takes this record without memory
     ghost HasCapacity: { Self → Text → Type 0 } = { λ _ _. Unit {0} };
@@ -44,7 +44,7 @@ pub trait StateMachine: Drop + Sized {
         body: &[u8],
     ) -> Result<Self, NotBegun<Self::Seed, Misfit>>
         requires { IsBlank seed }
-        ensures begins { Begins begins state Keeps body.now result }
+        ensures begins { BeginsMachine begins state Keeps body.now result }
         ensures within { IfOk result (λ it. Within it (21 + length body.now)) }
         ensures beside { MatchResult result (λ it. beside it ≡ beside_of seed)
             (λ e. beside_of e.seed ≡ beside_of seed) };
@@ -53,9 +53,9 @@ pub trait StateMachine: Drop + Sized {
     /// the rules, but where memory is refused.
     fn take(&mut self, place: u64, body: &[u8]) -> Result<(), Misfit>
         requires { Within self.old place }
-        ensures takes { Takes takes state Keeps place body.now self.old self.new result }
+        ensures takes { TakesRecord takes state Keeps place body.now self.old self.new result }
         ensures within { OnOk result (Within self.new (place + 5 + length body.now)) }
-        ensures capacity { HasCapacity self.old body.now → IsStarved result → ⊥ }
+        ensures capacity { HasCapacity self.old body.now → IsOutOfMemory result → ⊥ }
         ensures beside { beside self.new ≡ beside self.old };
 
     /// What the machine was begun with, to be begun with again.

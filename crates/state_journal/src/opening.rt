@@ -5,7 +5,8 @@ ghost use Rattle.std.specs.Prelude.{IfOk, IfErr, OnOk, Err, Ok};
 ghost use Rattle.journal_core.specs.Openings.{opening_disk, read_list, is_ended, refusal};
 ghost use Rattle.journal_core.specs.Openings.{bytes_left, next_place};
 ghost use Rattle.state_journal.specs.Causes.{HasReadOn, refusal_at, why_of};
-ghost use Rattle.state_journal.specs.Machines.{HasOpened, HasTaken, HasTakenAll, IsMadeBy, fold_of};
+ghost use Rattle.state_journal.specs.Machines.{HasOpenedMachine, HasTaken, HasTakenAll, IsMadeBy};
+ghost use Rattle.state_journal.specs.Machines.{fold_of};
 
 use crate::error::{Misfit, NotBegun, StateOpenError, StateRefused};
 use crate::machine::StateMachine;
@@ -85,7 +86,7 @@ fn read_next<M: StateMachine, D: Disk>(
     }
 }
 
-// The records behind the first one, up to the end of the journal.
+// The records after the first one, up to the end of the journal.
 fn read_rest<M: StateMachine, D: Disk>(
     opening: &mut Opening<D>,
     machine: &mut M,
@@ -138,14 +139,14 @@ fn read_machine<M: StateMachine, D: Disk>(
 /// Errors, of which the first that is met is answered: what [`Opening::begin`] and
 /// [`Opening::next`] refuse; `BadRecord` at the first record that breaks the rules, or where there
 /// is none; `Open(Memory)` where the machine is refused memory. The disk and the seed are handed
-/// back, and the disk was only looked at.
+/// back, and the disk was only read.
 pub fn open_state<M: StateMachine, D: Disk>(
     alloc: Global,
     disk: D,
     seed: M::Seed,
 ) -> Result<(Journal<D>, M), StateRefused<D, M::Seed>>
     requires { M.IsBlank seed }
-    ensures opened { IfOk result (λ r. HasOpened M.StateMachine disk r.0 r.1) }
+    ensures opened { IfOk result (λ r. HasOpenedMachine M.StateMachine disk r.0 r.1) }
     ensures made { IfOk result (λ r. IsMadeBy M.StateMachine r.0 r.1) }
     ensures beside { MatchResult result (λ r. M.beside r.1 ≡ M.beside_of seed)
         (λ e. M.beside_of e.seed ≡ M.beside_of seed) }

@@ -20,6 +20,6 @@ added s n =
     if nat_le (s.total + n) s.limit
     then Some (record { limit = s.limit; total = s.total + n }) else None
 
--- the tally behind one record more
+-- the tally after one record more
 abbrev pub next_tally : Tally → Text → Option Tally
 next_tally s body = if length body == 1 then added s (slice_index body 0) else None

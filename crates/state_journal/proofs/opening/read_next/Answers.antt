@@ -16,8 +16,7 @@ returns-in-Ok-clause-more g c =
     ∙ ap Ok c.in-Ok-Some.field-0-is) c.next.follows.holds-at-none in
     taken_next g.M.StateMachine old new c.in-Ok-Some.body.now read.0 read.1 c.args.machine.now
     c.take.new.self c.place-place.result c.place-place.ensures.value c.requires
-    c.in-Ok.ensures.takes
-    c.in-Ok.ensures.within
+    c.in-Ok.ensures.takes c.in-Ok.ensures.within
 
 pub returns-in-Ok-clause-read : goal.returns-in-Ok-clause-read
 returns-in-Ok-clause-read g c =
