@@ -8,6 +8,7 @@ use authority_core::{Names, Request};
 use cert_fields::is_public_key;
 use cert_names::is_host;
 use cert_time::Validity;
+use itoa::Buffer;
 use mtc_io::{Bytes, Memory};
 use std::alloc::Global;
 
@@ -28,8 +29,10 @@ const KEY_PREFIX: [u8; 36] = [
 fn host_of(alloc: Global, index: u64) -> Result<Bytes, Memory>
     ensures { IfOk result (λ host. host ≡ host_of index) }
 {
-    let text = format!(in alloc; "n{index}.example")?;
-    Ok(Bytes::from_vec(text.into_bytes()))
+    let mut digits = Buffer::new();
+    let mut host = Bytes::copy_of(alloc, b"n")?;
+    host.append_both(digits.format(index).as_bytes(), b".example")?;
+    Ok(host)
 }
 
 // The key to the entry at an index.
