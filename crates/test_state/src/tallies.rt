@@ -48,7 +48,7 @@ fn open(alloc: Global, journal: MemDisk) -> Result<Answer, Memory>
 }
 
 // How far the tally on a disk has counted, in how many records; or why it is refused, where the
-// disk beside is given back.
+// disk beside comes back.
 fn counted(alloc: Global, journal: MemDisk) -> Result<Result<(u8, u64), StateOpenError>, Memory> {
     match open(alloc, journal)? {
         Ok((_, tally)) => Ok(Ok((tally.total, tally.count))),
