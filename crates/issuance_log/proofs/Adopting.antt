@@ -8,7 +8,7 @@ use Rattle.disk_core.specs.declared.disk.Disk.{Ghosts}
 use Rattle.journal_core.proofs.FoldSteps.{cause_later, refused_later}
 use Rattle.journal_core.specs.Openings.{next_place, opening_disk, read_list}
 use Rattle.journal_core.specs.declared.opening.Opening.{Opening}
-use Rattle.tile_store.specs.Causes.{IsFirstBad, IsNewTile, StandsIn}
+use Rattle.tile_store.specs.Causes.{HasCauseOf, IsFirstBad, IsNewTile, StandsIn}
 use Rattle.tile_store.specs.Store.{tiles_adopted, tiles_disk}
 use Rattle.tile_store.specs.declared.error.TileError.{TileError}
 use Rattle.tile_store.specs.declared.error.TileError.TheVariants.{BadTile, Failed}
@@ -17,7 +17,6 @@ use Rattle.issuance_log.specs.Folds.{LogState, LogView, log_fold}
 use Rattle.issuance_log.specs.Gathered.{HasGatheredAll}
 use Rattle.issuance_log.specs.Items.{AreBelow, AreHashed, AreKept, items_leaves, items_nodes}
 use Rattle.issuance_log.specs.Items.{items_places, items_tiles}
-use Rattle.issuance_log.specs.Late.{HasLateCause}
 use Rattle.issuance_log.specs.Openings.{HasItsTiles, HasLogCause, HasOpenCause, HasTileCause}
 use Rattle.issuance_log.specs.Openings.{IsBadTile, TilesCountNoOther, log_read}
 use Rattle.issuance_log.specs.Shown.{shown_with}
@@ -139,7 +138,7 @@ module _ {H D T : Type 0} {hashes : Hashes H} {g : Ghosts D} {k : Ghosts T} (v :
 
     -- they weren't
     pub tile_cause : (later : T) (why : TileError) → v.tiled < 2 ^ 32
-        → HasLateCause (items_nodes items) later size why
+        → HasCauseOf (items_tiles items) later size why
         → HasTileCause g k hashes.hash (opening_disk opening) (tiles_disk (items_tiles items))
         later why
     tile_cause later Failed few is = is
@@ -153,7 +152,7 @@ module _ {H D T : Type 0} {hashes : Hashes H} {g : Ghosts D} {k : Ghosts T} (v :
         (tiles_adopted (items_tiles items)) n level place))) same is.1)
 
   pub no_other_tile : (size : ℕ) (later : T) (why : TileError)
-      → HasLateCause (items_nodes items) later size why
+      → HasCauseOf (items_tiles items) later size why
       → TilesCountNoOther k (tiles_disk (items_tiles items)) later (Tile why)
   no_other_tile size later Failed is other = absurd (other refl)
   no_other_tile size later (BadTile level place) is other = is.0

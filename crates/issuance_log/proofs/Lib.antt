@@ -9,7 +9,6 @@ pub mod Ids
 mod Keeping
 pub mod Leaves
 mod Leaving
-mod Longer
 mod Readings
 mod Rereading
 mod Rules
@@ -18,4 +17,3 @@ pub mod Encoded
 mod Standing
 mod Tiling
 mod Views
-mod Waiting

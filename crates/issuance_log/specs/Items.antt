@@ -6,17 +6,16 @@ use Rattle.std.specs.Prelude.{vec_capacity}
 use Rattle.std.proofs.Props.{props}
 use Rattle.byte_formats.specs.Types.{Hash, HashFunction, Text}
 use Rattle.disk_core.specs.declared.disk.Disk.{Ghosts}
+use Rattle.tile_store.specs.Store.{tiles_leaves, tiles_spare}
 use Rattle.tile_store.specs.declared.store.Tiles.{Tiles}
 use Rattle.tree_core.specs.Tree.{leaf_hash}
 use Rattle.tree_core.specs.declared.hashing.TreeHash.{Ghosts as Hashes}
 use Rattle.issuance_log.specs.Folds.{LogView, log_of}
-use Rattle.issuance_log.specs.Late.{HasLateCapacity, late_leaves, late_tiles}
 use Rattle.issuance_log.specs.Places.{places_of}
 use Rattle.issuance_log.specs.Records.{IsShort}
 use Rattle.issuance_log.specs.Shown.{recorded_items, shown_with}
 use Rattle.issuance_log.specs.Sound.{IsSound, IsSound-prop}
 use Rattle.issuance_log.specs.declared.items.Items.{Items}
-use Rattle.issuance_log.specs.declared.late.LateTiles.{LateTiles}
 
 -- Behind each of the places there is room for a gate and a length below an end.
 abbrev pub AreBelow : List ℕ → ℕ → Type 0
@@ -54,15 +53,12 @@ pub record AreKept (h : HashFunction) (v : LogView) (places : List ℕ) (leaves 
   pub hashed : AreHashed h v leaves list
 
 module _ {H T : Type 0} {hashes : Hashes H} {k : Ghosts T} where
-  abbrev pub items_nodes : Items H T hashes k → LateTiles H T hashes k
-  items_nodes items = items.nodes
-
   abbrev pub items_tiles : Items H T hashes k → Tiles H T hashes k
-  items_tiles items = late_tiles items.nodes
+  items_tiles items = items.nodes
 
   -- the hashes of the entries, where the disk of the tiles tells its bytes
   abbrev pub items_leaves : Items H T hashes k → Option (List Hash)
-  items_leaves items = late_leaves items.nodes
+  items_leaves items = tiles_leaves items.nodes
 
   abbrev pub items_places : Items H T hashes k → List ℕ
   items_places items = items.places.items
@@ -79,4 +75,4 @@ module _ {H T : Type 0} {hashes : Hashes H} {k : Ghosts T} where
   -- one item more needs no memory
   pub record HasItemCapacity (items : Items H T hashes k) : Type 0 where
     pub place : vec_len items.places < vec_capacity items.places
-    pub leaf : HasLateCapacity items.nodes
+    pub leaf : 0 < tiles_spare items.nodes

@@ -4,7 +4,6 @@ pub mod Faults
 pub mod Folds
 pub mod Gathered
 pub mod Items
-pub mod Late
 pub mod Marks
 pub mod Openings
 pub mod Places

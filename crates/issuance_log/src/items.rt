@@ -8,21 +8,19 @@ ghost use Rattle.disk_core.specs.Moments.{LeavesOnly, OnlyReads};
 ghost use Rattle.frame_pool.specs.Frames.{HoldsKey};
 ghost use Rattle.frame_pool.specs.declared.key.TileKey.{TileKey as Key};
 ghost use Rattle.mtc_io.specs.Counts.{HasCause};
-ghost use Rattle.tile_store.specs.Causes.{IsNewTile, StandsIn};
+ghost use Rattle.tile_store.specs.Causes.{HasCauseOf, IsNewTile, StandsIn};
 ghost use Rattle.tile_store.specs.Contents.{HoldsTiles};
 ghost use Rattle.tile_store.specs.Layout.{tiles_end};
-ghost use Rattle.tile_store.specs.Store.{tiles_adopted, tiles_disk, tiles_stored};
+ghost use Rattle.tile_store.specs.Store.{tiles_adopted, tiles_count, tiles_disk, tiles_stored};
 ghost use Rattle.tile_store.specs.Writing.{IsImageBehind};
 ghost use Rattle.tree_core.specs.Tree.{leaf_hash};
 ghost use Rattle.tree_proofs.specs.Modelled.{IsRootOf};
-ghost use Rattle.issuance_log.specs.Late.{HasLateCause, late_count};
 
-use crate::late::LateTiles;
 use disk_core::Disk;
 use frame_pool::Pool;
 use mtc_io::{Failed, Memory};
 use std::alloc::Global;
-use tile_store::TileError;
+use tile_store::{TileError, Tiles};
 use tree_core::{TreeHash, leaf};
 
 /// The null entry: the type 0, and no body.
@@ -32,12 +30,12 @@ pub(crate) const NULL_ENTRY: [u8; 2] = [0, 0];
 #[derive(Drop)]
 pub(crate) struct Items<H: TreeHash, T: Disk> {
     places: Vec<u64>,
-    nodes: LateTiles<H, T>,
-    ghost even: { late_count nodes ≡ vec_len places },
+    nodes: Tiles<H, T>,
+    ghost even: { tiles_count nodes ≡ vec_len places },
 }
 
 impl<H: TreeHash, T: Disk> Items<H, T> {
-    ghost use Rattle.issuance_log.specs.Items.{HasItemCapacity, items_leaves, items_nodes};
+    ghost use Rattle.issuance_log.specs.Items.{HasItemCapacity, items_leaves};
     ghost use Rattle.issuance_log.specs.Items.{items_places, items_tiles};
 
     /// No items, over a disk and a pool whose frames hold no tile. It takes no memory.
@@ -50,7 +48,7 @@ impl<H: TreeHash, T: Disk> Items<H, T> {
     {
         Items {
             places: Vec::new(alloc),
-            nodes: LateTiles::new(alloc, disk, pool),
+            nodes: Tiles::new(alloc, disk, pool),
         }
     }
 
@@ -65,7 +63,7 @@ impl<H: TreeHash, T: Disk> Items<H, T> {
         ensures stored { tiles_stored (items_tiles self.new) ≡ tiles_stored (items_tiles self.old) }
     {
         self.places.reserve(1)?;
-        self.nodes.reserve()
+        self.nodes.reserve(1)
     }
 
     /// Puts the place of an item and the hash of its entry behind the others, in room that is
@@ -81,11 +79,9 @@ impl<H: TreeHash, T: Disk> Items<H, T> {
             ≡ tiles_adopted (items_tiles self.old) }
         ensures stored { tiles_stored (items_tiles self.new) ≡ tiles_stored (items_tiles self.old) }
     {
-        match self.places.push(place) {
-            Ok(()) => {}
-            Err(_full) => unreachable!(),
+        if self.places.push(place).is_err() || self.nodes.push(leaf).is_err() {
+            unreachable!()
         }
-        self.nodes.push(leaf);
     }
 
     /// Puts the place of an item and the hash of its entry behind the others. Where memory is
@@ -115,7 +111,7 @@ impl<H: TreeHash, T: Disk> Items<H, T> {
         self.places[index as usize]
     }
 
-    /// A node of the tree, as [`LateTiles::node`].
+    /// A node of the tree, as [`Tiles::tile_node`].
     pub(crate) fn node(&mut self, level: u32, place: u64) -> Result<[u8; 32], Failed>
         requires { (place + 1) * 2 ^ level ≤ length (items_places self.old) }
         ensures value { IfOk result (IsRootOf H.hash (items_leaves self.old) (place * 2 ^ level)
@@ -128,10 +124,10 @@ impl<H: TreeHash, T: Disk> Items<H, T> {
         ensures cause { HasCause (T.faults (tiles_disk (items_tiles self.old)))
             (T.faults (tiles_disk (items_tiles self.new))) result }
     {
-        self.nodes.node(level, place)
+        self.nodes.tile_node(level, place)
     }
 
-    /// Stores the tiles that the first `size` entries fill, as [`LateTiles::store`].
+    /// Stores the tiles that the first `size` entries fill, as [`Tiles::store`].
     pub(crate) fn store(&mut self, size: u64) -> Result<(), Failed>
         requires { size ≤ length (items_places self.old) }
         ensures places { items_places self.new ≡ items_places self.old }
@@ -159,7 +155,7 @@ impl<H: TreeHash, T: Disk> Items<H, T> {
         self.nodes.store(size)
     }
 
-    /// Adopts the tiles that the first `size` entries fill, as [`LateTiles::adopt`].
+    /// Adopts the tiles that the first `size` entries fill, as [`Tiles::adopt`].
     pub(crate) fn adopt(&mut self, size: u64) -> Result<(), TileError>
         requires multiple { size % 256 ≡ 0 }
         requires within { size ≤ length (items_places self.old) }
@@ -176,7 +172,7 @@ impl<H: TreeHash, T: Disk> Items<H, T> {
             → StandsIn H.hash leaves bytes level place))) }
         ensures fine { OnOk result (T.faults (tiles_disk (items_tiles self.new))
             ≡ T.faults (tiles_disk (items_tiles self.old))) }
-        ensures cause { IfErr result (HasLateCause (items_nodes self.old)
+        ensures cause { IfErr result (HasCauseOf (items_tiles self.old)
             (tiles_disk (items_tiles self.new)) size) }
     {
         self.nodes.adopt(size)

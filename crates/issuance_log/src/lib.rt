@@ -20,7 +20,6 @@ mod entries;
 mod error;
 mod following;
 mod items;
-mod late;
 pub mod laws;
 mod log;
 mod nodes;
