@@ -1,18 +1,16 @@
 -- Reading items up to the end: those that were read and those that are left make the whole.
-use denote.Ref.{Bor}
 use Rattle.std.proofs.Common.{◌≡◌, ◌≢◌, ℕ, zero, suc, ◌-◌, ◌<◌, ◌≤◌, true, List, [], ◌∷◌}
 use Rattle.std.proofs.Common.{◌++◌, length, get_or, Result, Ok, Err, refl, sym, ap, subst, ◌∙◌}
 use Rattle.std.proofs.Common.{append-nil, append_assoc, arith, ne_eqb, eq-eqb, ⊎_elim}
 use Rattle.std.specs.Prelude.{if◌then◌else◌}
 use Rattle.std.proofs.lemmas.Bool.{cases_lt}
-use Rattle.std.proofs.lemmas.List.{get_or-append_right, get_or-map, get_or_append_left}
+use Rattle.std.proofs.lemmas.List.{get_or-append_right, get_or_append_left}
 use Rattle.std.proofs.lemmas.List.{length-append, length-map, map-append}
 use Rattle.byte_formats.specs.Types.{HashFunction, Text}
 use Rattle.byte_formats.specs.Places.{At, at}
 use Rattle.byte_formats.specs.Readings.{◌>>=◌, both_at}
 use Rattle.byte_formats.specs.Lists.{each_at}
 use Rattle.byte_formats.proofs.Steps.{bind_ok, ok_is, pass_ok}
-use Rattle.cert_fields.specs.Views.{texts}
 use Rattle.entry_list.specs.Items.{AreItems, ItemLists, is_key_of, lists_of}
 use Rattle.entry_list.specs.Reading.{listed_at, item_behind, all_listed_at, items_in, vector_item}
 use Rattle.entry_list.specs.declared.error.ItemsError.{ItemsError}
@@ -78,36 +76,6 @@ more_items h items entry key are one = record {
           nought,
         ) one) (cases_lt i (length items.entries))
 
-abbrev pub lent : List (Bor Text) → List (Bor Text) → ItemLists
-lent entries keys = record { entries = texts entries; keys = texts keys }
-
--- The item at an index of slices.
-pub lent_belongs : (h : HashFunction) (entries keys : List (Bor Text)) (i : ℕ)
-    (entry key : Bor Text)
-    → AreItems h (lent entries keys) → i < length (texts entries)
-    → entry ≡ get_or entries i entry → key ≡ get_or keys i key
-    → is_key_of h entry.now key.now ≡ true
-lent_belongs h entries keys i entry key are below is other =
-    let inside : i < length entries = omega (
-      arith,
-      length-map entries (λ (x : Bor Text). x.now),
-    ) in
-    let within : i < length keys = omega (
-      arith,
-      are.even,
-      length-map entries (λ (x : Bor Text). x.now),
-      length-map keys (λ (x : Bor Text). x.now),
-    ) in
-    let one : get_or (texts entries) i [] ≡ entry.now =
-    get_or-map (λ (x : Bor Text). x.now) entries i entry [] inside
-    ∙ ap (λ (x : Bor Text). x.now) (sym is) in
-    let two : get_or (texts keys) i [] ≡ key.now =
-    get_or-map (λ (x : Bor Text). x.now) keys i key [] within
-    ∙ ap (λ (x : Bor Text). x.now) (sym other) in
-    subst (λ (e : Text). is_key_of h e key.now ≡ true) one
-    (subst (λ (k : Text). is_key_of h (get_or (texts entries) i []) k ≡ true) two
-    (are.each i below))
-
 -- ---- the loop
 
 -- What is left gives these items more.
@@ -140,15 +108,11 @@ items_first h bytes = record {
   rest = refl;
 }
 
-pub items_from : (h : HashFunction) (bytes : Text) (entries keys : List (Bor Text)) (a : At)
-    → entries ≡ [] → keys ≡ [] → a ≡ at bytes 0
-    → ItemsLeft h (items_in h bytes) (lent entries keys) a
-items_from h bytes entries keys a none nothing first =
-    let lists : lent entries keys ≡ lists_of [] =
-    ap (λ (es : List (Bor Text)). lent es keys) none
-    ∙ ap (λ (ks : List (Bor Text)). lent [] ks) nothing in
+pub items_from : (h : HashFunction) (bytes : Text) (items : ItemLists) (a : At)
+    → items ≡ lists_of [] → a ≡ at bytes 0 → ItemsLeft h (items_in h bytes) items a
+items_from h bytes items a none first =
     let P : ItemLists → Type 0 = λ l. ItemsLeft h (items_in h bytes) l a in
-    subst P (sym lists) (subst (λ (b : At). ItemsLeft h (items_in h bytes) (lists_of []) b)
+    subst P (sym none) (subst (λ (b : At). ItemsLeft h (items_in h bytes) (lists_of []) b)
     (sym first) (items_first h bytes))
 
 behind_one : (seen : List (Text × Text)) (x : Text × Text)

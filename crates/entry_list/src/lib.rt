@@ -3,7 +3,8 @@
 //! For each item the file has the entry and the key, each behind its length of two bytes in the
 //! presentation language of TLS (RFC 8446, section 3.4). An entry of type 1 holds the hash of a
 //! key, and stands beside that key; any other entry stands beside a key of no bytes. What is read
-//! borrows from the bytes of the file, so a large file isn't copied.
+//! borrows from the bytes of the file, so a large file isn't copied: only the offset of each
+//! item is stored, in four bytes.
 #![tactic(auto)]
 
 mod error;
@@ -12,5 +13,5 @@ pub mod laws;
 mod reading;
 
 pub use error::ItemsError;
-pub use items::{Item, Items};
-pub use reading::read_items;
+pub use items::{Entries, Item, Items};
+pub use reading::{is_key_of, read_items};

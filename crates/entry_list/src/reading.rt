@@ -2,7 +2,6 @@
 
 ghost use Rattle.std.specs.Prelude.{◌≡◌, ◌<◌, [], ◌∷◌, ◌++◌, length, OnOk};
 ghost use Rattle.byte_formats.specs.Readings.{Answers, Moves};
-ghost use Rattle.cert_fields.specs.Views.{texts};
 ghost use Rattle.entry_list.specs.Items.{is_key_of, item_pair};
 ghost use Rattle.entry_list.specs.Reading.{listed_at, items_in};
 ghost use Rattle.entry_list.specs.declared.error.ItemsError.TheVariants.{Memory as NoCapacity};
@@ -15,9 +14,10 @@ use std::alloc::Global;
 use tls_wire::Cursor;
 use tree_core::TreeHash;
 
-// Whether the key is the one that has to stand beside the entry.
+/// Whether the key is the one that has to stand beside the entry: that for which an entry of type 1
+/// was made, and no bytes beside any other.
 #[tactic(auto, unfolding(crate::specs::Items::is_key_of, log_entry::specs::Matching::matches))]
-fn is_key_of<H: TreeHash>(entry: &[u8], spki: &[u8]) -> bool
+pub fn is_key_of<H: TreeHash>(entry: &[u8], spki: &[u8]) -> bool
     ensures { result ≡ is_key_of H.hash entry.now spki.now }
 {
     match read_entry(entry) {
@@ -40,20 +40,25 @@ fn read_item<'a, H: TreeHash>(cursor: &mut Cursor<'a>, number: u64) -> Result<It
     Ok(Item { entry, spki })
 }
 
-fn push<'a>(list: &mut Vec<&'a [u8]>, text: &'a [u8]) -> Result<(), NoMemory>
-    ensures { OnOk result (texts list.new.items ≡ texts list.old.items ++ text.now ∷ []) }
+// Adds the offset of an item. One that four bytes don't hold is refused.
+fn push(places: &mut Vec<u32>, place: usize) -> Result<(), NoMemory>
+    ensures { OnOk result (places.new.items ≡ places.old.items ++ place ∷ []) }
 {
-    list.push(text)?;
+    let Ok(place) = u32::try_from(place) else {
+        return Err(NoMemory);
+    };
+    places.push(place)?;
     Ok(())
 }
 
 /// Reads a file of entries: for each item the entry and the key, each behind its length of two
 /// bytes, up to the end. The time grows with the bytes of the file, and what is read borrows from
-/// them.
+/// them: four bytes of memory are taken for each item, and up to twelve while their list grows.
 ///
 /// Errors, of which the first that is met is answered: `Short` with the offset of the entry or key
 /// that doesn't fit, `BadItem` with the number of an item whose key isn't the one of its entry.
-/// Entries that don't read are taken as they are. `Memory` comes in place of anything.
+/// Entries that don't read are taken as they are. `Memory` comes in place of anything, and always
+/// where an item begins after the first 2^32 bytes.
 pub fn read_items<'a, H: TreeHash>(
     alloc: Global,
     bytes: &'a [u8],
@@ -61,12 +66,11 @@ pub fn read_items<'a, H: TreeHash>(
     ensures { Answers NoCapacity (items_in H.hash bytes.now) result }
 {
     let mut cursor = Cursor::new(bytes);
-    let mut entries = Vec::new(alloc);
-    let mut keys = Vec::new(alloc);
+    let mut places = Vec::new(alloc);
     while cursor.left() > 0 {
-        let item = read_item::<H>(&mut cursor, entries.len() as u64)?;
-        push(&mut entries, item.entry)?;
-        push(&mut keys, item.spki)?;
+        let place = cursor.place();
+        read_item::<H>(&mut cursor, places.len() as u64)?;
+        push(&mut places, place)?;
     }
-    Ok(Items::of_lists(entries, keys))
+    Ok(Items::of_places(bytes, places))
 }
