@@ -1,12 +1,12 @@
 //! Collisions that were built in, under the hash function for tests: the sum of the bytes modulo
 //! 256, and 31 bytes 0.
 
-use collide::{Finding, in_consistency, in_list, list_hash, two_lists};
+use collide::{Finding, in_consistency, in_list, two_lists};
 use mtc_io::{Bytes, Memory};
 use std::alloc::Global;
 use std::test::Fail;
 use tree_core::{Toy, evaluate, leaf};
-use tree_proofs::check;
+use tree_proofs::{check, list_hash, part_between};
 
 // Entries whose leaf hashes begin with their own byte.
 const FOUR: [&[u8]; 4] = [b"\x09", b"\x08", b"\x01", b"\x02"];
@@ -34,10 +34,10 @@ fn compared(alloc: Global, first: &[&[u8]], second: &[&[u8]]) -> Option<Result<F
     if first.len() != second.len() {
         return None;
     }
-    if list_hash::<Toy, &[u8]>(first) != list_hash::<Toy, &[u8]>(second) {
+    if list_hash::<Toy, _>(&first) != list_hash::<Toy, _>(&second) {
         return None;
     }
-    Some(two_lists::<Toy, &[u8]>(alloc, first, second))
+    Some(two_lists::<Toy, _>(alloc, &first, &second))
 }
 
 // The answer for an entry and its path; none where the path doesn't give the hash of the items.
@@ -53,12 +53,12 @@ fn looked_up(
     if start > end || end > items.len() as u64 {
         return None;
     }
-    let own = list_hash::<Toy, &[u8]>(&items[start as usize..end as usize]);
+    let own = list_hash::<Toy, _>(&part_between(&items, start, end));
     let given = evaluate::<Toy>(&leaf::<Toy>(entry), index, start, end, path).ok()?;
     if given != own {
         return None;
     }
-    Some(in_list::<Toy, &[u8]>(alloc, items, start, end, index, entry, path))
+    Some(in_list::<Toy, _>(alloc, &items, start, end, index, entry, path))
 }
 
 // The answer for a node and its proof; none where the proof doesn't check.
@@ -70,11 +70,11 @@ fn traced(
     node: &[u8; 32],
     proof: &[[u8; 32]],
 ) -> Option<Result<Finding, Memory>> {
-    let root = list_hash::<Toy, &[u8]>(items);
+    let root = list_hash::<Toy, _>(&items);
     if check::<Toy>(start, end, items.len() as u64, node, &root, proof).is_err() {
         return None;
     }
-    Some(in_consistency::<Toy, &[u8]>(alloc, items, start, end, node, proof))
+    Some(in_consistency::<Toy, _>(alloc, &items, start, end, node, proof))
 }
 
 // The answer is this pair, or none.

@@ -1,8 +1,7 @@
-use Rattle.std.proofs.Common.{◌≡◌, Ok, sym, ◌∙◌, ap, refl, rules}
+use Rattle.std.proofs.Common.{◌≡◌, Ok, sym, ◌∙◌, ap, rules}
 use Rattle.tree_core.specs.Evaluation.{evaluation}
 use Rattle.tree_core.specs.Toy.{toy_hash}
 use Rattle.tree_core.specs.Tree.{tree_hash}
-use Rattle.collide.proofs.Halving.{part_map}
 use Rattle.test_tree.proofs.finding.looked_up.Goals as goal
 
 pub in_list-requires-clause-evaluates : goal.in_list-requires-clause-evaluates
@@ -12,6 +11,4 @@ in_list-requires-clause-evaluates c =
     ap (λ l. evaluation toy_hash l c.args.index c.args.start c.args.end c.args.path.now)
     (sym c.leaf.ensures)
     ∙ sym c.evaluate.ensures.exact ∙ given
-    ∙ ap Ok (same ∙ c.list_hash-own.ensures
-    ∙ ap (tree_hash toy_hash)
-    (part_map (λ x. x.now) c.args.items.now _ c.args.start c.args.end refl))
+    ∙ ap Ok (same ∙ c.list_hash-own.ensures ∙ ap (tree_hash toy_hash) c.part_between.ensures)
