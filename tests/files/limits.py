@@ -120,3 +120,13 @@ def check_long_entries(scene, _kills):
     yield from unlike("cert", scene.run("cert j 1 0 4 long"), (9, "", "mtc: cert: long: TooLong\n"))
     yield from unlike("a certificate", scene.run(f"audit long trusting {MOMENT} entries none"),
                       (9, "", "mtc: audit: long: TooLong\n"))
+
+
+def check_many_items(scene, _kills):
+    """Entries of 32 MiB whose items have four bytes each are read within 256 MiB of memory"""
+    # Items without an entry and a key, of which each is as small as an item can be. At 32 bytes for each it would be more.
+    scene.write("many", scene.bytes("entries") + bytes(2 * MOST))
+    limit = 1 << 28
+    found = scene.run(f"audit light trusting {MOMENT} many none",
+                      preexec_fn=lambda: resource.setrlimit(resource.RLIMIT_AS, (limit, limit)))
+    yield from unlike("audit", found, (0, "stands 1\n", ""))

@@ -1,36 +1,36 @@
 //! The tables of a store that trusts the subtrees of landmarks.
 
 ghost use Rattle.std.specs.Prelude.{◌≡◌, ◌≤◌, ◌++◌, length, slice_index, string_bytes, IfOk, OnOk};
-ghost use Rattle.cert_fields.specs.Views.{texts};
 ghost use Rattle.landmarks.specs.Landmarks.{IsLandmarks};
 ghost use Rattle.tree_core.specs.Path.{part_of};
 ghost use Rattle.tree_core.specs.Tree.{tree_hash};
 ghost use Rattle.mtc_monitor.specs.TrustOutcome.{cover_tables, subtree_table, trust_text};
 ghost use Rattle.mtc_monitor.specs.Within.{ArePlaces, IsPlace};
 
-use collide::list_hash;
+use entry_list::Entries;
 use landmarks::{Landmarks, active, subtrees};
 use mtc_io::Memory;
 use std::alloc::Global;
 use tree_core::{Cover, Span, TreeHash};
+use tree_proofs::{list_hash, part_between};
 
 // The tree hash of the entries of a subtree.
-fn subtree_hash<H: TreeHash>(entries: &[&[u8]], span: Span) -> [u8; 32]
+fn subtree_hash<H: TreeHash>(entries: &Entries<'_>, span: Span) -> [u8; 32]
     requires { IsPlace (length entries.now) span }
-    ensures { result ≡ tree_hash H.hash (part_of (texts entries.now) span.start span.end) }
+    ensures { result ≡ tree_hash H.hash (part_of entries.now span.start span.end) }
 {
-    list_hash::<H, &[u8]>(&entries[span.start as usize..span.end as usize])
+    list_hash::<H, _>(&part_between(entries, span.start, span.end))
 }
 
 // The table of such a subtree.
 fn subtree_table<H: TreeHash>(
     alloc: Global,
-    entries: &[&[u8]],
+    entries: &Entries<'_>,
     span: Span,
 ) -> Result<String, Memory>
     requires { IsPlace (length entries.now) span }
     ensures { IfOk result (λ text.
-        string_bytes text ≡ subtree_table H.hash (texts entries.now) span) }
+        string_bytes text ≡ subtree_table H.hash entries.now span) }
 {
     let start = span.start;
     let end = span.end;
@@ -43,12 +43,12 @@ fn subtree_table<H: TreeHash>(
 fn put_cover<H: TreeHash>(
     alloc: Global,
     text: &mut String,
-    entries: &[&[u8]],
+    entries: &Entries<'_>,
     cover: Cover,
 ) -> Result<(), Memory>
     requires { ArePlaces (length entries.now) cover }
     ensures { OnOk result (string_bytes text.new
-        ≡ string_bytes text.old ++ cover_tables H.hash (texts entries.now) cover) }
+        ≡ string_bytes text.old ++ cover_tables H.hash entries.now cover) }
 {
     let first = subtree_table::<H>(alloc, entries, cover.first)?;
     text.push_str(first.as_str())?;
@@ -64,12 +64,12 @@ fn put_cover<H: TreeHash>(
 pub(crate) fn tables<H: TreeHash>(
     alloc: Global,
     landmarks: &Landmarks,
-    entries: &[&[u8]],
+    entries: &Entries<'_>,
 ) -> Result<String, Memory>
     requires known { IsLandmarks landmarks.now }
     requires within { slice_index landmarks.now.sizes 0 ≤ length entries.now }
     ensures { IfOk result (λ text. string_bytes text
-        ≡ trust_text H.hash (texts entries.now) landmarks.now) }
+        ≡ trust_text H.hash entries.now landmarks.now) }
 {
     let mut text = String::new(alloc);
     let numbers = active(landmarks);

@@ -30,7 +30,7 @@ fn list_answer<'a, H: TreeHash>(
 {
     match read_list(alloc, text, max_active, items.len() as u64) {
         Ok(landmarks) => {
-            let text = tables::<H>(alloc, &landmarks, items.entries())?;
+            let text = tables::<H>(alloc, &landmarks, &items.entries())?;
             Ok(Answer::of_text(Said::Done, text))
         }
         Err(ListError::Memory) => Err(Stop::Memory),

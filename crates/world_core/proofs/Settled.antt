@@ -1,5 +1,4 @@
 -- What an audit finds.
-use denote.Ref.{Bor}
 use Rattle.std.proofs.Common.{◌≡◌, ◌≢◌, ℕ, ◌-◌, ◌<◌, ◌≤◌, Bool, true, false, List, [], ◌∷◌, ◌++◌}
 use Rattle.std.proofs.Common.{length, get_or, take, drop, Some, None, Ok, Err, refl, sym, ap}
 use Rattle.std.proofs.Common.{subst, ◌∙◌, arith, ltb-true, ltb-false, eqb-true, true≢false}
@@ -8,7 +7,7 @@ use Rattle.std.specs.Prelude.{Result, Option, bytes_eq, nat_lt, nat_le, not, ◌
 use Rattle.std.specs.Prelude.{IfSome, if◌then◌else◌, ok_or}
 use Rattle.std.specs.List.{Contains, position}
 use Rattle.std.proofs.lemmas.Bool.{and_parts}
-use Rattle.std.proofs.lemmas.List.{drop-map, get_or_default, length-drop, length-map, take_all}
+use Rattle.std.proofs.lemmas.List.{get_or_default, length-drop, take_all}
 use Rattle.std.proofs.lemmas.List.Quantifiers.{position-Some}
 use Rattle.std.proofs.Math.Seq.{take-length}
 use Rattle.std.proofs.lemmas.List.Elements.{Contains-append_left, Contains-append_right}
@@ -18,7 +17,6 @@ use Rattle.byte_formats.specs.Readings.{◌>>=◌, lifted}
 use Rattle.byte_formats.proofs.Steps.{bind_ok, guard_ok, lifted_ok, ok_is}
 use Rattle.cert_fields.specs.Certificate.{Parts}
 use Rattle.cert_fields.specs.Grammar.{IsCertificate}
-use Rattle.cert_fields.specs.Views.{texts}
 use Rattle.tree_core.specs.Evaluation.{evaluation, eval_of}
 use Rattle.tree_core.specs.declared.error.EvalError.{EvalError}
 use Rattle.tree_core.specs.declared.error.EvalError.TheVariants.{BadSubtree, Outside, WrongLength}
@@ -65,7 +63,6 @@ use Rattle.world_core.specs.declared.wanted.WantedHash.{WantedHash}
 use Rattle.world_core.specs.declared.answer.Audit.{Audit}
 use Rattle.world_core.specs.declared.answer.Audit.TheVariants.{Foreign, Pair, Stands, Unrecorded}
 use Rattle.cosigner_steps.proofs.Holding.{sign_long}
-use Rattle.world_core.proofs.Walks.{part_texts}
 
 not_no : (b : Bool) → not b ≡ false → b ≡ true
 not_no true e = refl
@@ -115,26 +112,11 @@ judged_path h store c p a w =
 -- ---- what is wanted
 
 -- entries that are not there are left out
-pub there_short : (h : HashFunction) (es : List (Bor Text)) (w : WantedHash)
-    → length es < w.end
-    → tree_hash h (texts (take (length es - w.start) (drop w.start es)))
-    ≡ hash_there h (texts es) w
+pub there_short : (h : HashFunction) (es : List Text) (w : WantedHash) → length es < w.end
+    → tree_hash h (drop w.start es) ≡ hash_there h es w
 there_short h es w short =
-    let all : take (length es - w.start) (drop w.start es) ≡ drop w.start es =
-    take_all (length es - w.start) (drop w.start es) (omega (arith, length-drop w.start es)) in
-    let count = length-map es (λ (s : Bor Text). s.now) in
-    let few : length (drop w.start (texts es)) ≤ w.end - w.start = omega (
-      arith,
-      length-drop w.start (texts es),
-      count,
-    ) in
-    ap (tree_hash h) (ap texts all ∙ sym (drop-map (λ (s : Bor Text). s.now) w.start es)
-    ∙ sym (take_all (w.end - w.start) (drop w.start (texts es)) few))
-
-pub there_whole : (h : HashFunction) (es : List (Bor Text)) (w : WantedHash)
-    → tree_hash h (texts (take (w.end - w.start) (drop w.start es)))
-    ≡ hash_there h (texts es) w
-there_whole h es w = ap (tree_hash h) (part_texts es w.start w.end)
+    ap (tree_hash h) (sym (take_all (w.end - w.start) (drop w.start es)
+    (omega (arith, length-drop w.start es))))
 
 or_false : (a b : Bool) → a || b ≡ false → (a ≡ false) × (b ≡ false)
 or_false true b e = absurd cc

@@ -50,7 +50,7 @@ pub fn audit<H: TreeHash>(
     })) }
 {
     let wanted = wanted_hash::<H>(accepted, kept);
-    if let Some(answer) = foreign::<H>(items.entries(), wanted) {
+    if let Some(answer) = foreign::<H>(&items.entries(), wanted) {
         return Ok(answer);
     }
     match accepted.by {

@@ -74,7 +74,7 @@ fn by_sign<H: TreeHash>(
         return Ok(Audit::Stands(accepted.index));
     }
     let steps = kept.steps.as_slice();
-    match find_signed::<H>(alloc, items.entries(), steps, place, &steps[place])? {
+    match find_signed::<H>(alloc, &items.entries(), steps, place, &steps[place])? {
         Finding::Same => settle(alloc, accepted, cert, proof, items),
         Finding::Pair(one, other) => Ok(Audit::Pair(one, other)),
     }

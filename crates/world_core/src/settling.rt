@@ -77,9 +77,9 @@ pub(crate) fn settle<H: TreeHash>(
         }) answer) }
 {
     let entry = entry_of::<H>(alloc, cert)?;
-    match in_list::<H, &[u8]>(
+    match in_list::<H, _>(
         alloc,
-        items.entries(),
+        &items.entries(),
         accepted.start,
         accepted.end,
         accepted.index,

@@ -2,7 +2,6 @@
 
 ghost use Rattle.std.specs.Prelude.{◌≡◌, ◌<◌, ◌+◌, ◌↔◌, IsTrue, IfOk, Some, length, slice_get};
 ghost use Rattle.std.specs.Prelude.{slice_index_or};
-ghost use Rattle.cert_fields.specs.Views.{texts};
 ghost use Rattle.cosigner_core.specs.declared.step.Step.{Step};
 ghost use Rattle.collide.specs.Extraction.{Extracts};
 ghost use Rattle.cosigner_steps.specs.Steps.{AreSteps, HasPrefix, IsOfList, IsSign, IsWithin};
@@ -10,18 +9,19 @@ ghost use Rattle.cosigner_steps.specs.Steps.{Shows, held_behind, held_by, prefix
 ghost use Rattle.cosigner_steps.specs.Steps.{proof_inputs};
 
 use crate::prefix::has_prefix;
-use collide::{Finding, in_consistency, list_hash};
+use collide::{Finding, in_consistency};
 use cosigner_core::{Export, Step};
 use cosigner_steps::held_by;
-use entry_list::Items;
+use entry_list::{Entries, Items};
 use mtc_io::Memory;
 use std::alloc::Global;
 use tree_core::TreeHash;
+use tree_proofs::{EntryList, list_hash, part_between};
 
 // Whether the list's own entries in the interval of a Sign have the signed hash.
-fn is_of_list<H: TreeHash>(entries: &[&[u8]], step: &Step) -> bool
+fn is_of_list<H: TreeHash>(entries: &Entries<'_>, step: &Step) -> bool
     requires { IsWithin (length entries.now) step.now }
-    ensures { IsTrue result ↔ IsOfList H.hash (texts entries.now) step.now }
+    ensures { IsTrue result ↔ IsOfList H.hash entries.now step.now }
 {
     match step {
         Step::Advance { .. } => true,
@@ -30,20 +30,20 @@ fn is_of_list<H: TreeHash>(entries: &[&[u8]], step: &Step) -> bool
             end,
             hash,
             ..
-        } => list_hash::<H, &[u8]>(&entries[*start as usize..*end as usize]) == *hash,
+        } => list_hash::<H, _>(&part_between(entries, *start, *end)) == *hash,
     }
 }
 
 // The place of a step behind which the list begins with what is held, and before which it doesn't.
 // It is looked for by halves, so that few fronts of the list are hashed.
-fn parting<H: TreeHash>(entries: &[&[u8]], steps: &[Step], from: usize) -> usize
+fn parting<H: TreeHash>(entries: &Entries<'_>, steps: &[Step], from: usize) -> usize
     requires within { from < length steps.now }
-    requires apart { HasPrefix H.hash (texts entries.now) (held_behind H.hash steps.now from) → ⊥ }
-    requires whole { HasPrefix H.hash (texts entries.now)
+    requires apart { HasPrefix H.hash entries.now (held_behind H.hash steps.now from) → ⊥ }
+    requires whole { HasPrefix H.hash entries.now
         (held_behind H.hash steps.now (length steps.now)) }
     ensures within { result < length steps.now }
-    ensures apart { HasPrefix H.hash (texts entries.now) (held_behind H.hash steps.now result) → ⊥ }
-    ensures next { HasPrefix H.hash (texts entries.now)
+    ensures apart { HasPrefix H.hash entries.now (held_behind H.hash steps.now result) → ⊥ }
+    ensures next { HasPrefix H.hash entries.now
         (held_behind H.hash steps.now (result + 1)) }
 {
     let mut low = from;
@@ -63,23 +63,23 @@ fn parting<H: TreeHash>(entries: &[&[u8]], steps: &[Step], from: usize) -> usize
 // is an Advance, and its proof shows two strings with one hash.
 fn at_advance<H: TreeHash>(
     alloc: Global,
-    entries: &[&[u8]],
+    entries: &Entries<'_>,
     steps: &[Step],
     place: usize,
 ) -> Result<Finding, Memory>
     requires allowed { AreSteps H.hash steps.now }
     requires within { place < length steps.now }
-    requires apart { HasPrefix H.hash (texts entries.now) (held_behind H.hash steps.now place) → ⊥ }
-    requires next { HasPrefix H.hash (texts entries.now)
+    requires apart { HasPrefix H.hash entries.now (held_behind H.hash steps.now place) → ⊥ }
+    requires next { HasPrefix H.hash entries.now
         (held_behind H.hash steps.now (place + 1)) }
-    ensures { IfOk result (Shows H.hash (prefix_inputs H.hash (texts entries.now) steps.now)
+    ensures { IfOk result (Shows H.hash (prefix_inputs H.hash entries.now steps.now)
         (proof_inputs H.hash steps.now)) }
 {
     let before = held_by::<H>(&steps[..place]);
     match &steps[place] {
-        Step::Advance { size, proof, .. } => in_consistency::<H, &[u8]>(
+        Step::Advance { size, proof, .. } => in_consistency::<H, _>(
             alloc,
-            &entries[..*size as usize],
+            &entries.prefix(*size as usize),
             0,
             before.size,
             &before.root,
@@ -93,7 +93,7 @@ fn at_advance<H: TreeHash>(
 // the signed hash, or the proof of the Sign shows two strings with one hash.
 fn at_sign<H: TreeHash>(
     alloc: Global,
-    entries: &[&[u8]],
+    entries: &Entries<'_>,
     steps: &[Step],
     place: usize,
     step: &Step,
@@ -102,9 +102,9 @@ fn at_sign<H: TreeHash>(
     requires within { place < length steps.now }
     requires step { step.now ≡ slice_index_or steps.now place step.now }
     requires sign { IsSign step.now }
-    requires prefix { HasPrefix H.hash (texts entries.now) (held_behind H.hash steps.now place) }
-    ensures { IfOk result (Extracts H.hash (IsOfList H.hash (texts entries.now) step.now)
-        (prefix_inputs H.hash (texts entries.now) steps.now) (proof_inputs H.hash steps.now)) }
+    requires prefix { HasPrefix H.hash entries.now (held_behind H.hash steps.now place) }
+    ensures { IfOk result (Extracts H.hash (IsOfList H.hash entries.now step.now)
+        (prefix_inputs H.hash entries.now steps.now) (proof_inputs H.hash steps.now)) }
 {
     let held = held_by::<H>(&steps[..place]);
     match step {
@@ -115,9 +115,9 @@ fn at_sign<H: TreeHash>(
             hash,
             proof,
             ..
-        } => in_consistency::<H, &[u8]>(
+        } => in_consistency::<H, _>(
             alloc,
-            &entries[..held.size as usize],
+            &entries.prefix(held.size as usize),
             *start,
             *end,
             hash,
@@ -130,7 +130,7 @@ fn at_sign<H: TreeHash>(
 /// else two strings with one hash.
 pub(crate) fn find_signed<H: TreeHash>(
     alloc: Global,
-    entries: &[&[u8]],
+    entries: &Entries<'_>,
     steps: &[Step],
     place: usize,
     step: &Step,
@@ -139,10 +139,10 @@ pub(crate) fn find_signed<H: TreeHash>(
     requires within { place < length steps.now }
     requires step { step.now ≡ slice_index_or steps.now place step.now }
     requires sign { IsSign step.now }
-    requires whole { HasPrefix H.hash (texts entries.now)
+    requires whole { HasPrefix H.hash entries.now
         (held_behind H.hash steps.now (length steps.now)) }
-    ensures { IfOk result (Extracts H.hash (IsOfList H.hash (texts entries.now) step.now)
-        (prefix_inputs H.hash (texts entries.now) steps.now) (proof_inputs H.hash steps.now)) }
+    ensures { IfOk result (Extracts H.hash (IsOfList H.hash entries.now step.now)
+        (prefix_inputs H.hash entries.now steps.now) (proof_inputs H.hash steps.now)) }
 {
     if is_of_list::<H>(entries, step) {
         return Ok(Finding::Same);
@@ -176,5 +176,5 @@ pub fn walk<H: TreeHash>(
         (proof_inputs H.hash kept.now.steps)) }
 {
     let steps = kept.steps.as_slice();
-    find_signed::<H>(alloc, items.entries(), steps, sign, &steps[sign])
+    find_signed::<H>(alloc, &items.entries(), steps, sign, &steps[sign])
 }

@@ -1,16 +1,16 @@
 //! The hash that a list has to have.
 
 ghost use Rattle.std.specs.Prelude.{◌≡◌, ◌≤◌, IfSome, MatchOption, None, Some, option_map};
-ghost use Rattle.cert_fields.specs.Views.{texts};
 ghost use Rattle.world_core.specs.Audit.{IsForeign, foreign_in, hash_there, of_checkpoint};
 ghost use Rattle.world_core.specs.Audit.{wanted_hash};
 
 use crate::answer::Audit;
-use collide::list_hash;
 use cosigner_core::{Checkpoint, Export};
 use cosigner_steps::held_by;
+use entry_list::Entries;
 use policy_core::{Accepted, By};
 use tree_core::TreeHash;
+use tree_proofs::{EntryList, list_hash, part_between};
 
 /// The hash that the entries from `start` up to `end` have to have.
 #[derive(Clone, Copy, Debug)]
@@ -58,26 +58,26 @@ fn wanted_of(held: &Checkpoint) -> WantedHash
 }
 
 // The hash that the list has there, of its entries as far as they are there.
-fn hash_there<H: TreeHash>(entries: &[&[u8]], wanted: &WantedHash) -> [u8; 32]
+fn hash_there<H: TreeHash>(entries: &Entries<'_>, wanted: &WantedHash) -> [u8; 32]
     requires { wanted.now.start ≤ wanted.now.end }
-    ensures { result ≡ hash_there H.hash (texts entries.now) wanted.now }
+    ensures { result ≡ hash_there H.hash entries.now wanted.now }
 {
     let size = entries.len() as u64;
     if wanted.end <= size {
-        return list_hash::<H, &[u8]>(&entries[wanted.start as usize..wanted.end as usize]);
+        return list_hash::<H, _>(&part_between(entries, wanted.start, wanted.end));
     }
     if wanted.start <= size {
-        return list_hash::<H, &[u8]>(&entries[wanted.start as usize..]);
+        return list_hash::<H, _>(&entries.after(wanted.start as usize));
     }
-    list_hash::<H, &[u8]>(&entries[..0])
+    list_hash::<H, _>(&entries.prefix(0))
 }
 
 // The same of a hash that is wanted.
-fn foreign_to<H: TreeHash>(entries: &[&[u8]], wanted: &WantedHash) -> Option<Audit>
+fn foreign_to<H: TreeHash>(entries: &Entries<'_>, wanted: &WantedHash) -> Option<Audit>
     requires { wanted.now.start ≤ wanted.now.end }
     ensures { MatchOption result
-        (foreign_in H.hash (texts entries.now) (Some wanted.now) ≡ None)
-        (IsForeign (foreign_in H.hash (texts entries.now) (Some wanted.now))) }
+        (foreign_in H.hash entries.now (Some wanted.now) ≡ None)
+        (IsForeign (foreign_in H.hash entries.now (Some wanted.now))) }
 {
     let found = hash_there::<H>(entries, wanted);
     if (entries.len() as u64) < wanted.end || found != wanted.hash {
@@ -91,10 +91,13 @@ fn foreign_to<H: TreeHash>(entries: &[&[u8]], wanted: &WantedHash) -> Option<Aud
 }
 
 /// The hash that is wanted and the one that the list has, where it is too short or they differ.
-pub(crate) fn foreign<H: TreeHash>(entries: &[&[u8]], wanted: Option<WantedHash>) -> Option<Audit>
+pub(crate) fn foreign<H: TreeHash>(
+    entries: &Entries<'_>,
+    wanted: Option<WantedHash>,
+) -> Option<Audit>
     requires { IfSome wanted (λ w. w.start ≤ w.end) }
-    ensures { MatchOption result (foreign_in H.hash (texts entries.now) wanted ≡ None)
-        (IsForeign (foreign_in H.hash (texts entries.now) wanted)) }
+    ensures { MatchOption result (foreign_in H.hash entries.now wanted ≡ None)
+        (IsForeign (foreign_in H.hash entries.now wanted)) }
 {
     match wanted {
         Some(wanted) => foreign_to::<H>(entries, &wanted),

@@ -1,8 +1,7 @@
-use Rattle.std.proofs.Common.{◌∙◌, ap}
+use Rattle.std.proofs.Common.{ap, ◌∙◌}
 use Rattle.tree_core.specs.Tree.{tree_hash}
-use Rattle.world_core.proofs.Walks.{part_texts}
 use Rattle.mtc_monitor.proofs.tables.subtree_hash.Goals as goal
 
 pub returns : goal.returns
-returns g c = c.list_hash.ensures ∙ ap (tree_hash g.H.TreeHash.hash)
-    (part_texts c.args.entries.now c.args.span.start c.args.span.end)
+returns g c =
+    c.list_hash.ensures ∙ ap (tree_hash g.H.TreeHash.hash) c.part_between.ensures

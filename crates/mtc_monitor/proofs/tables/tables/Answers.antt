@@ -1,5 +1,4 @@
 use Rattle.std.proofs.Common.{◌≡◌, ◌∙◌, ◌+◌, ◌-◌, ◌++◌, ap, arith, length, sym}
-use Rattle.cert_fields.specs.Views.{texts}
 use Rattle.landmarks.specs.Landmarks.{active_count, active_of}
 use Rattle.tree_core.specs.declared.spans.Cover.{Cover}
 use Rattle.tree_core.specs.declared.spans.Span.{Span}
@@ -23,7 +22,7 @@ put_cover-requires g c =
 pub loop-number-preserved : goal.loop-number-preserved
 loop-number-preserved g c =
     let h = g.H.TreeHash.hash in
-    let es = texts c.args.entries.now in
+    let es = c.args.entries.now in
     let l = c.args.landmarks.now in
     let n = c.loop-number.number in
     let from = (active_of l).start in

@@ -1,7 +1,4 @@
-use Rattle.std.proofs.Common.{◌≡◌, Bor, ap, arith, length}
-use Rattle.std.proofs.lemmas.List.{length-map}
-use Rattle.byte_formats.specs.Types.{Text}
-use Rattle.cert_fields.specs.Views.{texts}
+use Rattle.std.proofs.Common.{◌≡◌, ap, arith, length}
 use Rattle.landmarks.proofs.BothWays.{list_read}
 use Rattle.mtc_monitor.proofs.trust.list_answer.Goals as goal
 
@@ -11,12 +8,6 @@ tables-requires-clause-known g c = (list_read _ _ _ _ c.in-Ok.ensures).1.0
 pub tables-requires-clause-within : goal.tables-requires-clause-within
 tables-requires-clause-within g c =
     let read = list_read _ _ _ _ c.in-Ok.ensures in
-    let same : length (texts c.entries.result.now) ≡ length c.args.items.now.entries =
+    let same : length c.entries.result ≡ length c.args.items.now.entries =
     ap length c.entries.ensures in
-    omega (
-      arith,
-      read.1.1.within,
-      same,
-      c.len.ensures.count,
-      length-map c.entries.result.now (λ (x : Bor Text). x.now),
-    )
+    omega (arith, read.1.1.within, same, c.len.ensures.count)

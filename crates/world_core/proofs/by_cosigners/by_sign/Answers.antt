@@ -1,5 +1,5 @@
 use Rattle.std.proofs.Common.{refl, sym, ◌∙◌}
-use Rattle.cert_fields.specs.Views.{parts, texts}
+use Rattle.cert_fields.specs.Views.{parts}
 use Rattle.mtc_proof.specs.Views.{proof_parts}
 use Rattle.std.proofs.Common.{Some}
 use Rattle.world_core.proofs.Settled.{own_inside, same_interval, sign_settles}
@@ -15,7 +15,7 @@ pub settle-requires-clause-interval : goal.settle-requires-clause-interval
 settle-requires-clause-interval g c =
     same_interval g.H.TreeHash.hash c.args.items.now c.args.accepted.now c.args.kept.now.steps
     c.as_slice-steps.result.now c.args.place c.index-steps-place.result
-    (texts c.entries.result.now) _ _ c.in_ok-find_signed.field-0 c.requires.allowed
+    c.entries.result _ _ c.in_ok-find_signed.field-0 c.requires.allowed
     c.requires.within c.requires.sign c.requires.whole c.as_slice-steps.ensures
     c.index-steps-place.is c.entries.ensures c.in-Same.is (c.in_ok-find_signed.ensures {u = tt})
 
@@ -28,7 +28,7 @@ returns-in-Pair g c = λ store.
       store = store;
       items = c.args.items.now;
       kept = Some c.args.kept.now;
-    }) c.args.kept.now (texts c.entries.result.now) c.as_slice-steps.result.now c.in-Pair.one
+    }) c.args.kept.now c.entries.result c.as_slice-steps.result.now c.in-Pair.one
     c.in-Pair.other c.in_ok-find_signed.field-0 _ refl c.entries.ensures c.as_slice-steps.ensures
     c.in-Pair.is (sym (c.in_ok-is_own.ensures {u = tt}) ∙ c.if-branch.false)
     (c.in_ok-find_signed.ensures {u = tt})

@@ -1,7 +1,10 @@
+use Rattle.std.proofs.Common.{ap, ◌∙◌}
+use Rattle.tree_core.specs.Tree.{tree_hash}
 use Rattle.world_core.proofs.Walks.{prefix_tested}
 use Rattle.world_core.proofs.prefix.has_prefix.Goals as goal
 
 pub returns : goal.returns
 returns g c =
     prefix_tested g.H.TreeHash.hash c.args.entries.now c.args.held.now c.eq.result
-    c.list_hash.result c.if-held-entries.false c.list_hash.ensures c.eq.ensures
+    c.list_hash.result c.if-held-entries.false
+    (c.list_hash.ensures ∙ ap (tree_hash g.H.TreeHash.hash) c.prefix.ensures) c.eq.ensures

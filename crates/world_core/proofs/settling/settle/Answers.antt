@@ -1,5 +1,5 @@
 use Rattle.std.proofs.Common.{arith, ◌∙◌}
-use Rattle.cert_fields.specs.Views.{parts, texts}
+use Rattle.cert_fields.specs.Views.{parts}
 use Rattle.mtc_proof.specs.Views.{proof_parts}
 use Rattle.world_core.proofs.Settled.{eval_inside, list_settles}
 use Rattle.world_core.proofs.settling.settle.Goals as goal
@@ -19,7 +19,7 @@ returns g c = λ store kept.
       store = store;
       items = c.args.items.now;
       kept = kept;
-    }) (texts c.entries.result.now) c.as_slice.result.now c.in-Pair.one c.in-Pair.other
+    }) c.entries.result c.as_slice.result.now c.in-Pair.one c.in-Pair.other
     c.in_ok-in_list.field-0 c.entries.ensures
     (c.as_slice.ensures ∙ c.in_ok-entry.ensures {u = tt}) c.in-Pair.is
     (c.in_ok-in_list.ensures {u = tt})

@@ -1,10 +1,11 @@
 use Rattle.std.proofs.Common.{sym, true≢false, ◌∙◌}
-use Rattle.world_core.proofs.Walks.{ok_still, shows_extracts, sign_within}
+use Rattle.cosigner_steps.proofs.Holding.{sign_long}
+use Rattle.world_core.proofs.Walks.{ok_still, shows_extracts}
 use Rattle.world_core.proofs.signed.find_signed.Goals as goal
 
 pub is_of_list-requires : goal.is_of_list-requires
 is_of_list-requires g c =
-    sign_within g.H.TreeHash.hash c.args.entries.now c.args.steps.now c.args.place c.args.step.now
+    sign_long g.H.TreeHash.hash c.args.entries.now c.args.steps.now c.args.place c.args.step.now
     c.requires.allowed c.requires.within c.requires.step c.requires.whole
 
 pub returns : goal.returns

@@ -1,12 +1,14 @@
-use Rattle.std.proofs.Common.{◌∙◌}
-use Rattle.world_core.proofs.Settled.{there_short, there_whole}
+use Rattle.std.proofs.Common.{ap, ◌∙◌}
+use Rattle.tree_core.specs.Tree.{tree_hash}
+use Rattle.world_core.proofs.Settled.{there_short}
 use Rattle.world_core.proofs.wanted.hash_there.Goals as goal
 
 pub returns-then-wanted-size : goal.returns-then-wanted-size
 returns-then-wanted-size g c =
-    c.list_hash.ensures ∙ there_whole g.H.TreeHash.hash c.args.entries.now c.args.wanted.now
+    c.list_hash.ensures ∙ ap (tree_hash g.H.TreeHash.hash) c.part_between.ensures
 
 pub returns-then-wanted-size-2 : goal.returns-then-wanted-size-2
 returns-then-wanted-size-2 g c =
     c.list_hash-then-wanted-size-2.ensures
+    ∙ ap (tree_hash g.H.TreeHash.hash) c.after.ensures
     ∙ there_short g.H.TreeHash.hash c.args.entries.now c.args.wanted.now c.if-wanted-size.false
