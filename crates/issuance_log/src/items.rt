@@ -79,8 +79,13 @@ impl<H: TreeHash, T: Disk> Items<H, T> {
             ≡ tiles_adopted (items_tiles self.old) }
         ensures stored { tiles_stored (items_tiles self.new) ≡ tiles_stored (items_tiles self.old) }
     {
-        if self.places.push(place).is_err() || self.nodes.push(leaf).is_err() {
-            unreachable!()
+        match self.places.push(place) {
+            Ok(()) => {}
+            Err(_full) => unreachable!(),
+        }
+        match self.nodes.push(leaf) {
+            Ok(()) => {}
+            Err(_full) => unreachable!(),
         }
     }
 
