@@ -1,4 +1,4 @@
-use Rattle.std.proofs.Common.{ap, ◌∙◌}
+use Rattle.std.proofs.Common.{ℕ, ◌<◌, ap, subst, ◌∙◌}
 use Rattle.tree_core.specs.Tree.{tree_hash}
 use Rattle.world_core.proofs.Settled.{there_short}
 use Rattle.world_core.proofs.wanted.hash_there.Goals as goal
@@ -11,4 +11,5 @@ pub returns-then-wanted-size-2 : goal.returns-then-wanted-size-2
 returns-then-wanted-size-2 g c =
     c.list_hash-then-wanted-size-2.ensures
     ∙ ap (tree_hash g.H.TreeHash.hash) c.after.ensures
-    ∙ there_short g.H.TreeHash.hash c.args.entries.now c.args.wanted.now c.if-wanted-size.false
+    ∙ there_short g.H.TreeHash.hash c.args.entries.now c.args.wanted.now
+    (subst (λ (n : ℕ). n < c.args.wanted.now.end) c.len-size.ensures c.if-wanted-size.false)
