@@ -15,7 +15,7 @@ use Rattle.tile_store.specs.declared.error.TileError.TheVariants.{BadTile, Faile
 use Rattle.tree_core.specs.declared.hashing.TreeHash.{Ghosts as Hashes}
 use Rattle.issuance_log.specs.Folds.{LogState, LogView, log_fold}
 use Rattle.issuance_log.specs.Gathered.{HasGatheredAll}
-use Rattle.issuance_log.specs.Items.{AreBelow, AreHashed, AreKept, items_leaves, items_nodes}
+use Rattle.issuance_log.specs.Items.{AreBelow, AreHashed, AreKept, items_leaves}
 use Rattle.issuance_log.specs.Items.{items_places, items_tiles}
 use Rattle.issuance_log.specs.Openings.{HasItsTiles, HasLogCause, HasOpenCause, HasTileCause}
 use Rattle.issuance_log.specs.Openings.{IsBadTile, TilesCountNoOther, log_read}
