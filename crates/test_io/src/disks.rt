@@ -128,7 +128,7 @@ fn counts(disk: &MemDisk) -> (u64, u64) {
 }
 
 fn opened_alike(disk: &MemDisk) -> Result<bool, Memory> {
-    let opened = disk.open_file()?;
+    let opened = disk.lend()?;
     let counted = counts(disk).0 == 1 && counts(&opened) == (0, 0);
     Ok(leaves(opened, 1, b"abcd")? && counted)
 }
