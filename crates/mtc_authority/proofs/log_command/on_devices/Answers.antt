@@ -1,5 +1,5 @@
 use Rattle.std.proofs.Common.{◌∙◌, ◌≡◌, None, Some, Ok, Option, List, IfSome, option_map, subst}
-use Rattle.std.proofs.Common.{sym}
+use Rattle.std.proofs.Common.{inl, sym}
 use Rattle.byte_formats.specs.Types.{HashFunction, Text}
 use Rattle.disk_core.specs.Moments.{OnlyReads}
 use Rattle.disk_core.specs.declared.disk.Disk.{Ghosts}
@@ -8,6 +8,8 @@ use Rattle.issuance_log.specs.Openings.{HasItsTiles, log_read}
 use Rattle.issuance_log.specs.Shown.{shown_with}
 use Rattle.issuance_log.specs.Words.{log_disk, log_records, log_tiles_disk, view_of}
 use Rattle.mtc_command.specs.Answers.{Ending, ending_of}
+use Rattle.mtc_command.specs.Steps.{Outcome}
+use Rattle.mtc_command.specs.Valid.{ServesValidly}
 use Rattle.mtc_command.specs.Works.{HasWorkedTiledOn}
 use Rattle.mtc_command.proofs.Beside.{only_reads_of}
 use Rattle.mtc_command.proofs.Tiled.{tiled_on, valid_tiled_on}
@@ -64,6 +66,22 @@ returns-in-Err-clause-serves g c = λ opened first fine.
     disk c.args.tiles tiles e) (sym c.refuse_log.ensures)
     (refused_says h name c.args.work d opened c.args.disk disk c.args.tiles tiles first fine
     c.in-Err.ensures.err _ c.in-Err.ensures.cause)
+
+-- a device that was only read keeps to the rules
+only_read_valid : {D : Type 0} (g : Ghosts D) (Valid : List Text → Type 0)
+    (says : Text → Text → Outcome) (old new : D) (held : Option Text) → OnlyReads g old new
+    → IfSome held (λ t. ServesValidly g Valid (λ b. says b t) old new)
+only_read_valid g Valid says old new None only = tt
+only_read_valid g Valid says old new (Some t) only = inl only
+
+pub returns-in-Err-clause-valid : goal.returns-in-Err-clause-valid
+returns-in-Err-clause-valid g c = λ opened first.
+    let d = g.D.Disk in
+    let h = g.H.TreeHash.hash in
+    let disk = c.in-Err.field-0.disk in
+    only_read_valid d (IsLog h) (log_bytes_say h c.args.journal.now c.args.work) opened disk
+    (d.contents c.args.tiles)
+    (only_read_on d opened c.args.disk disk first c.in-Err.ensures.err)
 
 pub returns-in-Ok-clause-valid : goal.returns-in-Ok-clause-valid
 returns-in-Ok-clause-valid g c = λ opened first.
