@@ -12,8 +12,8 @@ use disk_core::Disk;
 use journal_core::{AppendError, Journal};
 
 /// Appends a record that the machine allows and has capacity for, and then the machine takes it. At
-/// Ok a crash leaves the records with it; at any time of the call it leaves the old records, or
-/// these and the new one.
+/// Ok a crash leaves the records with it. At any time of the call it leaves the old records, or
+/// these and the new one, unless an append had failed before.
 ///
 /// Errors: what [`Journal::append`] refuses. The machine is as it was then, and is what the records
 /// before the end of the journal make.
