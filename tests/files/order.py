@@ -80,7 +80,8 @@ def check_tail(folder, _kills):
         # Bytes behind the closed gate mean nothing.
         file.write_bytes(log + random.randbytes(length - len(log)))
         before = folder.bytes()
-        wanted = [*tail_calls(length)]
+        # Then the header is read, before the file of tiles is opened.
+        wanted = [*tail_calls(length), ("pread64", 16, 0)]
         writes = sum(call == "pwrite64" for call, _, _ in wanted)
         yield from unlike(f"{length} bytes", placed(folder, ["checkpoint", "j"]), (wanted, writes, ""))
         yield from unlike(f"the journal of {length} bytes", folder.bytes() == before, True)
