@@ -8,7 +8,7 @@ use Rattle.tile_store.specs.Frames.{IsHeld}
 use Rattle.tile_store.specs.Layout.{IsFull, tile_level, tile_place}
 use Rattle.tile_store.specs.Sound.{leaves_with}
 use Rattle.tile_store.specs.declared.store.Tiles.{Tiles}
-use Rattle.tree_cache.specs.Rows.{HaveFilled, count_of, spare_of}
+use Rattle.tree_cache.specs.Rows.{HaveFilled, count_of, filled_of, filled_to, spare_of}
 use Rattle.tree_core.specs.declared.hashing.TreeHash.{Ghosts as Hashes}
 
 module _ {H T : Type 0} {hashes : Hashes H} {g : Ghosts T} where
@@ -24,6 +24,14 @@ module _ {H T : Type 0} {hashes : Hashes H} {g : Ghosts T} where
 
   abbrev pub tiles_spare : Tiles H T hashes g → ℕ
   tiles_spare tiles = spare_of tiles.rows
+
+  -- the nodes over the first so many leaves were made, and over how many they are once those over
+  -- the first `size` leaves are made too
+  abbrev pub tiles_filled : Tiles H T hashes g → ℕ
+  tiles_filled tiles = filled_of tiles.rows
+
+  abbrev pub tiles_filled_to : ℕ → Tiles H T hashes g → ℕ
+  tiles_filled_to size tiles = filled_to size tiles.rows
 
   -- the tiles that the first so many leaves fill are adopted
   abbrev pub tiles_adopted : Tiles H T hashes g → ℕ

@@ -1,8 +1,8 @@
 //! The store of nodes.
 
-ghost use Rattle.std.specs.Prelude.{◌≡◌, ◌↔◌, ℕ, ◌+◌, ◌*◌, ◌%◌, ◌^◌, ◌<◌, ◌≤◌, max, [], ◌∷◌, ◌++◌};
-ghost use Rattle.std.specs.Prelude.{length, Some, option_map, IsSome, IfSome, IfOk, IfErr, IsOk};
-ghost use Rattle.std.specs.Prelude.{OnOk, OnErr};
+ghost use Rattle.std.specs.Prelude.{◌≡◌, ◌↔◌, ℕ, ◌+◌, ◌*◌, ◌/◌, ◌%◌, ◌^◌, ◌<◌, ◌≤◌, max, [], ◌∷◌};
+ghost use Rattle.std.specs.Prelude.{◌++◌, length, Some, option_map, IsSome, IfSome, IfOk, IfErr};
+ghost use Rattle.std.specs.Prelude.{IsOk, OnOk, OnErr};
 ghost use Rattle.std.proofs.Props.{props};
 ghost use Rattle.byte_formats.specs.Types.{Text};
 ghost use Rattle.disk_core.specs.Moments.{LeavesOnly, OnlyReads};
@@ -51,6 +51,7 @@ pub struct Tiles<H: TreeHash, T: Disk> {
     ghost written: { adopted ≤ stored },
     ghost within: { stored ≤ count_of rows },
     ghost reach: { tiles_end stored ≤ T.Disk.known disk },
+    ghost made: { adopted ≤ filled_of rows },
     ghost gone: { (level : ℕ) → gone_at rows level ≡ gone_of adopted level },
     ghost beside: { length inside.tiles.items ≤ length pool.keys },
     ghost some: { 1 ≤ length pool.keys },
@@ -83,8 +84,8 @@ impl<H: TreeHash, T: Disk> Tiles<H, T> {
     ghost use Rattle.tile_store.specs.Frames.{IsHeld};
     ghost use Rattle.tile_store.specs.Layout.{tile_level, tile_place};
     ghost use Rattle.tile_store.specs.Store.{IsAtHand, TilesStay, tiles_adopted, tiles_count};
-    ghost use Rattle.tile_store.specs.Store.{tiles_disk, tiles_leaves, tiles_pool, tiles_spare};
-    ghost use Rattle.tile_store.specs.Store.{tiles_stored};
+    ghost use Rattle.tile_store.specs.Store.{tiles_disk, tiles_filled, tiles_filled_to};
+    ghost use Rattle.tile_store.specs.Store.{tiles_leaves, tiles_pool, tiles_spare, tiles_stored};
     ghost use Rattle.tile_store.specs.Writing.{IsImageBehind};
     ghost use Rattle.tree_proofs.specs.Modelled.{IsRootOf};
 
@@ -115,6 +116,7 @@ impl<H: TreeHash, T: Disk> Tiles<H, T> {
     pub fn reserve(&mut self, count: usize) -> Result<(), Memory>
         ensures list { tiles_leaves self.new ≡ tiles_leaves self.old }
         ensures count { tiles_count self.new ≡ tiles_count self.old }
+        ensures filled { tiles_filled self.new ≡ tiles_filled self.old }
         ensures disk { tiles_disk self.new ≡ tiles_disk self.old }
         ensures adopted { tiles_adopted self.new ≡ tiles_adopted self.old }
         ensures stored { tiles_stored self.new ≡ tiles_stored self.old }
@@ -126,8 +128,8 @@ impl<H: TreeHash, T: Disk> Tiles<H, T> {
         self.rows.reserve(count)
     }
 
-    /// Puts a leaf hash behind the others. It is refused only where no spare leaf is left, and
-    /// leaves all as it was then.
+    /// Puts a leaf hash behind the others, and makes no node. It is refused only where no spare
+    /// leaf is left, and leaves all as it was then.
     pub fn push(&mut self, leaf: &[u8; 32]) -> Result<(), Memory>
         requires { tiles_count self.old + 1 < 2 ^ 32 }
         ensures ok { OnOk result (tiles_leaves self.new
@@ -135,6 +137,9 @@ impl<H: TreeHash, T: Disk> Tiles<H, T> {
         ensures count { OnOk result (tiles_count self.new ≡ tiles_count self.old + 1) }
         ensures err { OnErr result (tiles_leaves self.new ≡ tiles_leaves self.old) }
         ensures count_err { OnErr result (tiles_count self.new ≡ tiles_count self.old) }
+        ensures filled { OnOk result (tiles_filled self.new
+            ≡ 2 * (tiles_filled self.old / 2) + 1) }
+        ensures filled_err { OnErr result (tiles_filled self.new ≡ tiles_filled self.old) }
         ensures disk { tiles_disk self.new ≡ tiles_disk self.old }
         ensures adopted { tiles_adopted self.new ≡ tiles_adopted self.old }
         ensures stored { tiles_stored self.new ≡ tiles_stored self.old }
@@ -236,12 +241,14 @@ impl<H: TreeHash, T: Disk> Tiles<H, T> {
 
     /// Writes each tile that the first `size` leaves fill and that is not stored yet, and makes
     /// all certain. At any moment a crash leaves what it might have left before, but for what lies
-    /// behind the stored tiles. Whatever it answers, it brings the known length no further than the
-    /// end of the tiles of `size` leaves. It adopts none, and takes no memory.
+    /// behind the stored tiles. Whatever it answers, it makes the nodes over the first `size`
+    /// leaves and no others, and brings the known length no further than the end of their tiles.
+    /// It adopts none, and takes no memory.
     pub fn store(&mut self, size: u64) -> Result<(), Failed>
         requires { size ≤ tiles_count self.old }
         ensures list { tiles_leaves self.new ≡ tiles_leaves self.old }
         ensures count { tiles_count self.new ≡ tiles_count self.old }
+        ensures filled { tiles_filled self.new ≡ tiles_filled_to size self.old }
         ensures spare { tiles_spare self.new ≡ tiles_spare self.old }
         ensures adopted { tiles_adopted self.new ≡ tiles_adopted self.old }
         ensures stored { OnOk result (tiles_stored self.new ≡ max size (tiles_stored self.old)) }
@@ -268,6 +275,7 @@ impl<H: TreeHash, T: Disk> Tiles<H, T> {
         requires { size ≤ tiles_count self.old }
         ensures list { tiles_leaves self.new ≡ tiles_leaves self.old }
         ensures count { tiles_count self.new ≡ tiles_count self.old }
+        ensures filled { tiles_filled self.new ≡ tiles_filled_to size self.old }
         ensures spare { tiles_spare self.new ≡ tiles_spare self.old }
         ensures adopted { tiles_adopted self.new ≡ tiles_adopted self.old }
         ensures stored { tiles_stored self.new ≡ tiles_stored self.old }
@@ -289,18 +297,20 @@ impl<H: TreeHash, T: Disk> Tiles<H, T> {
     }
 
     /// Reads back each tile that the first `size` leaves fill and that is not adopted yet, in the
-    /// order in which they became full, and compares it with the nodes in memory. At Ok they are
-    /// adopted, and these nodes are let go.
+    /// order in which they became full, and compares it with the nodes over these leaves, which it
+    /// makes where they aren't made yet, and no others. At Ok the tiles are adopted, and their
+    /// nodes are let go.
     ///
     /// Errors, whichever comes first: `Failed`; `BadTile`, exactly where the file ends before the
     /// end of a tile or has other hashes there, with the first such tile. Then all but the frames
-    /// is as it was. It wants no memory, and gives back what these nodes took where smaller blocks
-    /// can be had; the spare leaves keep their room.
+    /// and these nodes is as it was. It wants no memory, and gives back what the nodes took that it
+    /// lets go, where smaller blocks can be had; the spare leaves keep their room.
     pub fn adopt(&mut self, size: u64) -> Result<(), TileError>
         requires multiple { size % 256 ≡ 0 }
         requires within { size ≤ tiles_count self.old }
         ensures list { tiles_leaves self.new ≡ tiles_leaves self.old }
         ensures count { tiles_count self.new ≡ tiles_count self.old }
+        ensures filled { tiles_filled self.new ≡ tiles_filled_to size self.old }
         ensures only_reads { OnlyReads T.Disk (tiles_disk self.old) (tiles_disk self.new) }
         ensures adopted { OnOk result (tiles_adopted self.new
             ≡ max size (tiles_adopted self.old)) }
@@ -336,7 +346,7 @@ impl<H: TreeHash, T: Disk> Tiles<H, T> {
             IfSome (tiles_leaves self.old) (λ leaves. (level place : ℕ)
             → IsNewTile (tiles_adopted self.old) size level place
             → StandsIn H.hash leaves bytes level place))) }
-        ensures filled { size ≤ filled_of self.new.rows }
+        ensures filled { tiles_filled self.new ≡ tiles_filled_to size self.old }
         ensures reach { OnOk result (tiles_end size ≤ T.known (tiles_disk self.new)) }
         ensures fine { OnOk result (T.faults (tiles_disk self.new)
             ≡ T.faults (tiles_disk self.old)) }

@@ -256,6 +256,7 @@ pub record IsForgotten (size : ℕ) (old new : RowsState) : Type 0 where
   pub rows_of : (h : List ℕ → List ℕ) (leaves : List (List ℕ)) → AreRowsOf h leaves old
       → AreRowsOf h leaves new
   pub count : count_of new ≡ count_of old
+  pub filled : filled_of new ≡ filled_of old
   pub gone : (level : ℕ) → gone_at new level ≡ gone_of size level
 
 forgotten : (size : ℕ) (old : RowsState) (first : RowState) (above : List RowState)
@@ -298,6 +299,7 @@ forgotten size old first above sound few within before done count rows long hold
             (rows h (take (first_length old.above) (paired h leaves)) are.above);
       };
       count = same;
+      filled = omega arith;
       gone = gone-all size old sound few within first above count here gone;
     }
 

@@ -1,6 +1,6 @@
 -- The hashes of the full subtrees of a list of leaf hashes, in rows from the leaves up.
 use Rattle.std.specs.Prelude.{◌≡◌, ℕ, zero, suc, ◌+◌, ◌-◌, ◌*◌, ◌<◌, ◌≤◌, ◌/◌, ◌%◌, ◌^◌, ◌⊎◌}
-use Rattle.std.specs.Prelude.{List, [], ◌∷◌, length, take, drop, min}
+use Rattle.std.specs.Prelude.{List, [], ◌∷◌, length, take, drop, min, max}
 use Rattle.std.specs.Prelude.{slice_index_or}
 use Rattle.std.specs.List.{All}
 use Rattle.byte_formats.specs.Types.{Hash, HashFunction}
@@ -132,6 +132,11 @@ count_of r = row_count r.first
 -- none.
 abbrev pub filled_of : RowsState → ℕ
 filled_of r = min (count_of r) (2 * first_length r.above + 1)
+
+-- The same once the nodes over the first `size` leaves are made too: those over their pairs, and no
+-- others.
+abbrev pub filled_to : ℕ → RowsState → ℕ
+filled_to size r = max (filled_of r) (min (count_of r) (2 * (size / 2) + 1))
 
 -- How many hashes are gone from the front of a level.
 unfoldable pub gone_at : RowsState → ℕ → ℕ

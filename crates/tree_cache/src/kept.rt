@@ -1,11 +1,11 @@
 //! Rows of nodes, of which those at the front may be gone.
 
-ghost use Rattle.std.specs.Prelude.{◌≡◌, ℕ, ◌+◌, ◌*◌, ◌^◌, ◌<◌, ◌≤◌, max, List, [], ◌∷◌, ◌++◌};
+ghost use Rattle.std.specs.Prelude.{◌≡◌, ℕ, ◌+◌, ◌*◌, ◌/◌, ◌^◌, ◌<◌, ◌≤◌, List, [], ◌∷◌, ◌++◌};
 ghost use Rattle.std.specs.Prelude.{length, slice_index_or, IfSome, IfNone, OnOk, OnErr};
 ghost use Rattle.byte_formats.specs.Types.{Hash, HashFunction};
 ghost use Rattle.tree_cache.specs.Cached.{AreFulls};
 ghost use Rattle.tree_cache.specs.Rows.{AreRowsOf, HaveFilled, HaveGrown, count_of, filled_of};
-ghost use Rattle.tree_cache.specs.Rows.{gone_at, spare_of};
+ghost use Rattle.tree_cache.specs.Rows.{filled_to, gone_at, spare_of};
 ghost use Rattle.tree_cache.specs.Tiled.{gone_of};
 ghost use Rattle.tree_core.specs.Path.{part_of};
 ghost use Rattle.tree_core.specs.Tree.{root_of};
@@ -96,14 +96,15 @@ impl Rows {
         Ok(())
     }
 
-    /// Puts a leaf hash behind the others, within the capacity. It hashes nothing.
+    /// Puts a leaf hash behind the others, within the capacity. It hashes nothing, and so makes no
+    /// node.
     pub fn push(&mut self, leaf: &[u8; 32])
         requires { count_of self.old < self.old.capacity }
         ensures pushed { (h : HashFunction) (leaves : List Hash) → AreRowsOf h leaves self.old
             → AreRowsOf h (leaves ++ leaf.now ∷ []) self.new }
         ensures gone { (level : ℕ) → gone_at self.new level ≡ gone_at self.old level }
         ensures count { count_of self.new ≡ count_of self.old + 1 }
-        ensures filled { filled_of self.old ≤ filled_of self.new }
+        ensures filled { filled_of self.new ≡ 2 * (filled_of self.old / 2) + 1 }
         ensures capacity { self.new.capacity ≡ self.old.capacity }
     {
         self.first.push(leaf);
@@ -113,8 +114,7 @@ impl Rows {
     /// capacity. It hashes each of their pairs once, and makes no node over other leaves.
     pub fn fill<H: TreeHash>(&mut self, size: u64)
         requires { size ≤ count_of self.old }
-        ensures filled { size ≤ filled_of self.new }
-        ensures most { filled_of self.new ≤ max (size + 1) (filled_of self.old) }
+        ensures filled { filled_of self.new ≡ filled_to size self.old }
         ensures rows { HaveFilled H.hash self.old self.new }
     {
         let made = first_length(self.above.as_slice());
@@ -183,6 +183,7 @@ impl Rows {
             → AreRowsOf h leaves self.old → AreRowsOf h leaves self.new }
         ensures gone { (level : ℕ) → gone_at self.new level ≡ gone_of size level }
         ensures count { count_of self.new ≡ count_of self.old }
+        ensures filled { filled_of self.new ≡ filled_of self.old }
         ensures capacity { self.new.capacity ≡ self.old.capacity }
     {
         self.first.let_go(nodes_in_tiles(size, 0));

@@ -47,6 +47,9 @@ invariant_of-self g c =
           let is : c.max-self.result ≡ tiles.stored = omega arith in
           subst (λ n. tiles_end n ≤ g.T.Disk.known tiles.disk) (sym is) before)
           (cases_lt tiles.stored c.args.size);
+      made = let filled = c.compare.ensures.filled in
+          let same = c.forget.ensures.filled in
+          omega arith;
       gone = c.forget.ensures.gone;
       beside = tiles.beside;
       some = tiles.some;

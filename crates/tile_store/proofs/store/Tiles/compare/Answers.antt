@@ -50,6 +50,7 @@ invariant_of-self g c =
       reach = let known = compared.only_reads.known in
           let reach = tiles.reach in
           omega arith;
+      made = let made = tiles.made in let more = filled.more in omega arith;
       gone = λ level. filled.gone level ∙ tiles.gone level;
       beside = let count = compared.count in
           let beside = tiles.beside in

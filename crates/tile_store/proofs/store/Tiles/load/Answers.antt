@@ -39,6 +39,7 @@ invariant_of-self g c =
       reach = let known = c.load.ensures.only_reads.known in
           let reach = tiles.reach in
           omega arith;
+      made = tiles.made;
       gone = tiles.gone;
       beside = let count = c.load.ensures.count in
           let beside = tiles.beside in

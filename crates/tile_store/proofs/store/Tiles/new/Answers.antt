@@ -16,6 +16,7 @@ invariant_of-result g c =
       written = omega arith;
       within = omega arith;
       reach = omega arith;
+      made = omega arith;
       gone = λ level. gone-none c.new.result level c.new.ensures.first c.new.ensures.above;
       beside = let none = ap length c.new-2.ensures in
           omega arith;

@@ -16,6 +16,7 @@ invariant_of-self g c =
       written = tiles.written;
       within = omega arith;
       reach = tiles.reach;
+      made = let made = tiles.made in let filled = c.push.ensures.filled in omega arith;
       gone = λ level. c.push.ensures.gone level ∙ tiles.gone level;
       beside = tiles.beside;
       some = tiles.some;

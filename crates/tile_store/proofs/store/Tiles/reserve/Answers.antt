@@ -13,6 +13,7 @@ invariant_of-self g c =
       written = tiles.written;
       within = let within = tiles.within in omega arith;
       reach = tiles.reach;
+      made = let made = tiles.made in let same = grown.filled in omega arith;
       gone = λ level. grown.gone level ∙ tiles.gone level;
       beside = tiles.beside;
       some = tiles.some;

@@ -33,6 +33,7 @@ invariant_of-self g c =
           let is : c.max-self.result ≡ tiles.stored = omega arith in
           subst (λ n. tiles_end n ≤ g.T.Disk.known tiles.disk) (sym is) old)
           (cases_lt tiles.stored c.args.size);
+      made = tiles.made;
       gone = tiles.gone;
       beside = tiles.beside;
       some = tiles.some;

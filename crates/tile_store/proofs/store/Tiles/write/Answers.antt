@@ -42,6 +42,7 @@ invariant_of-self g c =
       written = tiles.written;
       within = let within = tiles.within in omega arith;
       reach = omega arith;
+      made = let made = tiles.made in let more = filled.more in omega arith;
       gone = λ level. filled.gone level ∙ tiles.gone level;
       beside = tiles.beside;
       some = tiles.some;

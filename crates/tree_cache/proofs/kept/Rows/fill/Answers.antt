@@ -1,8 +1,8 @@
-use Rattle.std.proofs.Common.{◌≡◌, ◌++◌, ◌+◌, ◌*◌, ◌/◌, ◌≤◌, max, length, take, drop, sym, ◌∙◌, ap}
+use Rattle.std.proofs.Common.{◌≡◌, ◌++◌, ◌≤◌, length, take, drop, sym, ◌∙◌, ap}
 use Rattle.std.proofs.Common.{subst, arith}
 use Rattle.tree_cache.proofs.Filled.{IsFilled, IsFilling, can-reach, filled_whole}
 use Rattle.tree_cache.specs.Rows.{CanReach, HaveFilled, RowsState, count_of, filled_of}
-use Rattle.tree_cache.specs.Rows.{first_length}
+use Rattle.tree_cache.specs.Rows.{filled_to, first_length}
 use Rattle.tree_cache.proofs.kept.Rows.fill.Given as given
 use Rattle.tree_cache.proofs.kept.Rows.fill.Goals as goal
 
@@ -66,14 +66,6 @@ invariant_of-self g c = let done = filled g c in done.sound
 pub returns-clause-filled : goal.returns-clause-filled
 returns-clause-filled g c =
     let done = filled g c in
-    let nodes = done.made in
-    let size = subst (λ r. c.args.size ≤ count_of r) (sym c.self.view_is) c.requires in
-    let wanted = c.max-wanted.ensures in
-    omega arith
-
-pub returns-clause-most : goal.returns-clause-most
-returns-clause-most g c =
-    let done = filled g c in
     let made = done.made in
     let nodes : c.first_length-made.result ≡ first_length c.self.inside.above.items =
     c.first_length-made.ensures ∙ ap first_length c.as_slice.ensures.value in
@@ -83,7 +75,7 @@ returns-clause-most g c =
       above = take c.self.inside.above.len (c.fill_above.new.above
           ++ drop (length c.fill_above.new.above) c.self.inside.above.items);
       capacity = c.self.inside.capacity;
-    }) ≤ max (c.args.size + 1) (filled_of r)) c.self.view_is (omega arith)
+    }) ≡ filled_to c.args.size r) c.self.view_is (omega arith)
 
 pub returns-clause-rows : goal.returns-clause-rows
 returns-clause-rows g c =

@@ -66,3 +66,7 @@ returns-clause-gone c = let done = forgotten c in done.gone
 pub returns-clause-count : goal.returns-clause-count
 returns-clause-count c =
     let done = forgotten c in done.count ∙ ap count_of c.self.view_is
+
+pub returns-clause-filled : goal.returns-clause-filled
+returns-clause-filled c =
+    let done = forgotten c in done.filled ∙ ap filled_of c.self.view_is
