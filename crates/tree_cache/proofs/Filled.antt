@@ -8,8 +8,9 @@ use Rattle.std.proofs.lemmas.List.{get_or-drop, length_push, length-take, take-a
 use Rattle.tree_cache.proofs.Grows.{gone-grown}
 use Rattle.tree_cache.proofs.Pairs.{length-paired, paired-alone, paired-at, paired-joined}
 use Rattle.tree_cache.proofs.Pushes.{count-long, is-long, long-of, row-pushed, written-whole}
-use Rattle.tree_cache.specs.Rows.{AreAllOf, AreFullRowsOf, AreLong, AreRowsOf, AreSound, CanReach}
-use Rattle.tree_cache.specs.Rows.{HaveFilled, HaveGrown, HaveLevels, HoldUpTo, IsRowOf, RowState}
+use Rattle.tree_cache.specs.Rows.{AreAllOf, AreFullRowsOf, AreLong, ArePairsFilled, AreRowsOf}
+use Rattle.tree_cache.specs.Rows.{AreSound, CanReach, HaveFilled, HaveGrown, HaveLevels}
+use Rattle.tree_cache.specs.Rows.{HavePushed, HoldUpTo, IsRowOf, RowState}
 use Rattle.tree_cache.specs.Rows.{RowsState, count_of, filled_of, first_row, gone_at, gone_in}
 use Rattle.tree_cache.specs.Rows.{first_length, paired, row_count}
 use Rattle.tree_core.specs.Tree.{pair_hash}
@@ -102,18 +103,9 @@ pair-filled h hashes row n parent is gone within hash =
     ∙ sym (take-suc (paired h hashes) n [] (omega arith))
     ∙ ap (λ k. take k (paired h hashes)) next
 
--- the nodes over the pairs of a row, made from one of these on up to another
-pub record IsFilling (h : List ℕ → List ℕ) (row : RowState) (from to : ℕ)
-    (old new : List RowState) : Type 0 where
-  pub filled : (hashes : List (List ℕ)) → IsRowOf hashes row
-      → AreFullRowsOf h (take from (paired h hashes)) old
-      → AreFullRowsOf h (take to (paired h hashes)) new
-  pub long : AreLong to new
-  pub gone : (level : ℕ) → gone_in new level ≡ gone_in old level
-  pub holds : (capacity : ℕ) → HoldUpTo capacity old → HoldUpTo capacity new
-
+-- nodes over the pairs of a row
 pub filling-none : (h : List ℕ → List ℕ) (row : RowState) (from : ℕ) (rows : List RowState)
-    → AreLong from rows → IsFilling h row from from rows rows
+    → AreLong from rows → ArePairsFilled h row from from rows rows
 filling-none h row from rows long = record {
   filled = λ hashes is are. are;
   long = long;
@@ -122,25 +114,20 @@ filling-none h row from rows long = record {
 }
 
 pub filling-more : (h : List ℕ → List ℕ) (row : RowState) (from n : ℕ) (parent : List ℕ)
-    (old mid new : List RowState) → IsFilling h row from n old mid → row.gone ≤ 2 * n
+    (old mid new : List RowState) → ArePairsFilled h row from n old mid → row.gone ≤ 2 * n
     → 2 * n + 2 ≤ row_count row
     → parent ≡ pair_hash h (get_or row.kept (2 * n - row.gone) [])
     (get_or row.kept (2 * n - row.gone + 1) [])
-    → ((hashes : List (List ℕ)) → AreFullRowsOf h hashes mid
-    → AreFullRowsOf h (hashes ++ parent ∷ []) new)
-    → ((count : ℕ) → AreLong count mid → AreLong (count + 1) new)
-    → ((level : ℕ) → gone_in new level ≡ gone_in mid level)
-    → ((capacity : ℕ) → HoldUpTo capacity mid → HoldUpTo capacity new)
-    → IsFilling h row from (n + 1) old new
-filling-more h row from n parent old mid new sofar behind within hash pushed long gone holds =
+    → HavePushed h parent mid new → ArePairsFilled h row from (n + 1) old new
+filling-more h row from n parent old mid new sofar behind within hash up =
     record {
       filled = λ hashes is are.
           subst (λ l. AreFullRowsOf h l new)
           (pair-filled h hashes row n parent is behind within hash)
-          (pushed (take n (paired h hashes)) (sofar.filled hashes is are));
-      long = long n sofar.long;
-      gone = λ level. gone level ∙ sofar.gone level;
-      holds = λ capacity fits. holds capacity (sofar.holds capacity fits);
+          (up.pushed (take n (paired h hashes)) (sofar.filled hashes is are));
+      long = up.long n sofar.long;
+      gone = λ level. up.gone level ∙ sofar.gone level;
+      holds = λ capacity fits. up.holds capacity (sofar.holds capacity fits);
     }
 
 -- where all nodes are made the rows are full
@@ -222,7 +209,7 @@ pub record IsFilled (h : List ℕ → List ℕ) (to : ℕ) (old new : RowsState)
 filled-above : (h : List ℕ → List ℕ) (old : RowsState) (above : List RowState) (to : ℕ)
     → AreSound old → first_length old.above ≤ to → 2 * to ≤ count_of old
     → length above ≡ length old.above
-    → IsFilling h old.first (first_length old.above) to old.above above
+    → ArePairsFilled h old.first (first_length old.above) to old.above above
     → IsFilled h to old (record { first = old.first; above = above; capacity = old.capacity })
 filled-above h old above to sound from within count is =
     let nodes : first_length above ≡ to = count-long to above is.long in
@@ -261,7 +248,7 @@ filled-above h old above to sound from within count is =
 pub filled_whole : (h : List ℕ → List ℕ) (old : RowsState) (slice new : List RowState)
     (len to : ℕ) → AreSound old → first_length old.above ≤ to → 2 * to ≤ count_of old
     → slice ≡ old.above → len ≡ length old.above → length new ≡ length slice
-    → IsFilling h old.first (first_length old.above) to slice new
+    → ArePairsFilled h old.first (first_length old.above) to slice new
     → IsFilled h to old (record {
       first = old.first;
       above = take len (new ++ drop (length new) old.above);
@@ -275,7 +262,7 @@ filled_whole h old slice new len to sound from within is same count filling =
       capacity = old.capacity;
     })) (sym (written-whole len new old.above same equal))
     (filled-above h old new to sound from within equal
-    (subst (λ s. IsFilling h old.first (first_length old.above) to s new) is filling))
+    (subst (λ s. ArePairsFilled h old.first (first_length old.above) to s new) is filling))
 
 -- All rows of some leaves.
 

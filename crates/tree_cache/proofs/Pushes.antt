@@ -1,13 +1,14 @@
 -- Rows with one hash more.
 use Rattle.std.proofs.Common.{◌≡◌, ℕ, zero, suc, ◌+◌, ◌-◌, ◌/◌, ◌%◌, ◌^◌, ◌<◌, ◌≤◌}
 use Rattle.std.proofs.Common.{◌⊎◌, List, [], ◌∷◌, ◌++◌, length, take, drop}
-use Rattle.std.proofs.Common.{get_or, sym, ◌∙◌, ap, subst, arith}
+use Rattle.std.proofs.Common.{get_or, sym, ◌∙◌, ap, refl, subst, arith}
 use Rattle.std.proofs.Math.ListN.{get_or-append}
 use Rattle.std.proofs.Math.Seq.{get_or-append_seam, take-append_seam}
 use Rattle.std.proofs.lemmas.List.{drop-append-le, get_or-drop, length-drop, length_push}
 use Rattle.tree_cache.proofs.Pairs.{length-paired, paired-alone, paired-joined}
-use Rattle.tree_cache.specs.Rows.{AreFullRowsOf, AreLong, HaveCapacity, HaveCount, HoldUpTo, IsLong}
-use Rattle.tree_cache.specs.Rows.{IsRowOf, RowState, gone_in, first_length, paired, row_count}
+use Rattle.tree_cache.specs.Rows.{AreFullRowsOf, AreLong, HaveCapacity, HaveCount, HavePushed}
+use Rattle.tree_cache.specs.Rows.{HoldUpTo, IsLong, IsRowOf, RowState, first_length, gone_in}
+use Rattle.tree_cache.specs.Rows.{paired, row_count}
 use Rattle.tree_core.specs.Tree.{pair_hash}
 
 -- a row of some hashes is as long as these
@@ -101,23 +102,15 @@ row-pushed hashes hash row pushed gone more is =
       even = ap (λ g. g % 2) gone ∙ even;
     }
 
--- one hash more in a row that has no sibling yet
-pub rows-alone : (h : List ℕ → List ℕ) (rows : List RowState) (row pushed : RowState)
-    (above : List RowState) (hash : List ℕ) → rows ≡ row ∷ above → pushed.gone ≡ row.gone
-    → pushed.kept ≡ row.kept ++ hash ∷ [] → length pushed.kept % 2 ≡ 1
-    → (leaves : List (List ℕ)) → AreFullRowsOf h leaves rows
-    → AreFullRowsOf h (leaves ++ hash ∷ []) (pushed ∷ above)
-unfolding AreFullRowsOf
-rows-alone h rows row pushed above hash is gone more odd leaves are =
-    let here : AreFullRowsOf h leaves (row ∷ above) = subst (AreFullRowsOf h leaves) is are in
-    let long = is-long leaves row here.0 in
-    let size : row.gone + length row.kept ≡ length leaves = long.all in
-    let even : row.gone % 2 ≡ 0 = long.even in
-    let one : length pushed.kept ≡ length row.kept + 1 =
-    ap length more ∙ length_push row.kept hash in (
-      row-pushed leaves hash row pushed gone more here.0,
-      subst (λ l. AreFullRowsOf h l above) (sym (paired-alone h leaves hash (omega arith))) here.1,
-    )
+-- what is gone stays gone
+pub gone-on : (rows : List RowState) (row pushed : RowState) (above raised : List RowState)
+    → rows ≡ row ∷ above → pushed.gone ≡ row.gone
+    → ((level : ℕ) → gone_in raised level ≡ gone_in above level)
+    → (level : ℕ) → gone_in (pushed ∷ raised) level ≡ gone_in rows level
+unfolding gone_in
+gone-on rows row pushed above raised is same up zero = same ∙ sym (ap (λ r. gone_in r 0) is)
+gone-on rows row pushed above raised is same up (suc level) =
+    up level ∙ sym (ap (λ r. gone_in r (suc level)) is)
 
 -- the last two hashes of a row with one more are the last of it and the one more
 last-two : (leaves : List (List ℕ)) (hash : List ℕ) (row pushed : RowState) (last : ℕ)
@@ -142,95 +135,92 @@ last-two leaves hash row pushed last is more two end =
           ∙ get_or-append_seam row.kept hash [] [],
     )
 
--- one that is the sibling of the last one
-pub rows-joined : (h : List ℕ → List ℕ) (rows : List RowState) (row pushed : RowState)
-    (above raised : List RowState) (hash parent : List ℕ) → rows ≡ row ∷ above
-    → pushed.gone ≡ row.gone
-    → pushed.kept ≡ row.kept ++ hash ∷ [] → length pushed.kept % 2 ≡ 0
-    → parent ≡ pair_hash h (get_or pushed.kept (length pushed.kept - 2) [])
-    (get_or pushed.kept (length pushed.kept - 1) [])
-    → ((leaves : List (List ℕ)) → AreFullRowsOf h leaves above
-    → AreFullRowsOf h (leaves ++ parent ∷ []) raised)
-    → (leaves : List (List ℕ)) → AreFullRowsOf h leaves rows
-    → AreFullRowsOf h (leaves ++ hash ∷ []) (pushed ∷ raised)
-unfolding AreFullRowsOf
-rows-joined h rows row pushed above raised hash parent is gone more even parent_is up leaves
-    are =
-    let here : AreFullRowsOf h leaves (row ∷ above) = subst (AreFullRowsOf h leaves) is are in
-    let long = is-long leaves row here.0 in
-    let size : row.gone + length row.kept ≡ length leaves = long.all in
-    let whole : row.gone % 2 ≡ 0 = long.even in
-    let one : length pushed.kept ≡ length row.kept + 1 =
-    ap length more ∙ length_push row.kept hash in
-    let two = last-two leaves hash row pushed (length leaves - 1) here.0 more (omega arith)
-    (omega arith) in
-    let joined : parent ≡ pair_hash h (get_or leaves (length leaves - 1) []) hash =
-    parent_is ∙ ap (λ l. pair_hash h l (get_or pushed.kept (length pushed.kept - 1) [])) two.0
-    ∙ ap (pair_hash h (get_or leaves (length leaves - 1) [])) two.1 in
-    let pairs : paired h (leaves ++ hash ∷ []) ≡ paired h leaves ++ parent ∷ [] =
-    paired-joined h leaves hash (length leaves - 1) (omega arith) (omega arith)
-    ∙ ap (λ p. paired h leaves ++ p ∷ []) (sym joined) in (
-      row-pushed leaves hash row pushed gone more here.0,
-      subst (λ l. AreFullRowsOf h l raised) (sym pairs) (up (paired h leaves) here.1),
-    )
+-- one hash more in a row, and the rows above it
+module _ (rows : List RowState) (row pushed : RowState) (above : List RowState) (hash : List ℕ)
+    (is : rows ≡ row ∷ above) (gone : pushed.gone ≡ row.gone)
+    (more : pushed.kept ≡ row.kept ++ hash ∷ []) (spare : row.spare ≤ pushed.spare + 1) where
+  row-more : (count : ℕ) → IsLong count row → IsLong (count + 1) pushed
+  row-more count long =
+      let size : row.gone + length row.kept ≡ count = long.all in
+      let one = ap length more ∙ length_push row.kept hash in
+      record { all = omega arith; even = ap (λ g. g % 2) gone ∙ long.even }
 
--- the rows are longer by one leaf
-pub long-alone : (rows : List RowState) (row pushed : RowState) (above : List RowState)
-    (hash : List ℕ) → rows ≡ row ∷ above → pushed.gone ≡ row.gone
-    → pushed.kept ≡ row.kept ++ hash ∷ [] → length pushed.kept % 2 ≡ 1
-    → (count : ℕ) → AreLong count rows → AreLong (count + 1) (pushed ∷ above)
-unfolding AreLong
-long-alone rows row pushed above hash is gone more odd count long =
-    let here : AreLong count (row ∷ above) = subst (AreLong count) is long in
-    let size : row.gone + length row.kept ≡ count = here.0.all in
-    let even : row.gone % 2 ≡ 0 = here.0.even in
-    let one : length pushed.kept ≡ length row.kept + 1 =
-    ap length more ∙ length_push row.kept hash in
-    let half : count / 2 ≡ (count + 1) / 2 = omega arith in (
-      record { all = omega arith; even = ap (λ g. g % 2) gone ∙ even },
-      subst (λ n. AreLong n above) half here.1,
-    )
+  holds-on : (raised : List RowState)
+      → ((capacity : ℕ) → HoldUpTo capacity above → HoldUpTo capacity raised)
+      → (capacity : ℕ) → HoldUpTo capacity rows → HoldUpTo capacity (pushed ∷ raised)
+  unfolding HoldUpTo
+  holds-on raised up capacity holds =
+      let here : HoldUpTo capacity (row ∷ above) = subst (HoldUpTo capacity) is holds in
+      let fits : capacity ≤ row.gone + length row.kept + row.spare = here.0 in
+      let one = ap length more ∙ length_push row.kept hash in
+      (omega arith, up (capacity / 2) here.1)
 
-pub long-joined : (rows : List RowState) (row pushed : RowState) (above raised : List RowState)
-    (hash : List ℕ) → rows ≡ row ∷ above → pushed.gone ≡ row.gone
-    → pushed.kept ≡ row.kept ++ hash ∷ [] → length pushed.kept % 2 ≡ 0
-    → ((count : ℕ) → AreLong count above → AreLong (count + 1) raised)
-    → (count : ℕ) → AreLong count rows → AreLong (count + 1) (pushed ∷ raised)
-unfolding AreLong
-long-joined rows row pushed above raised hash is gone more joined up count long =
-    let here : AreLong count (row ∷ above) = subst (AreLong count) is long in
-    let size : row.gone + length row.kept ≡ count = here.0.all in
-    let even : row.gone % 2 ≡ 0 = here.0.even in
-    let one : length pushed.kept ≡ length row.kept + 1 =
-    ap length more ∙ length_push row.kept hash in
-    let half : count / 2 + 1 ≡ (count + 1) / 2 = omega arith in (
-      record { all = omega arith; even = ap (λ g. g % 2) gone ∙ even },
-      subst (λ n. AreLong n raised) half (up (count / 2) here.1),
-    )
+  -- which has no sibling yet
+  pub pushed-alone : (h : List ℕ → List ℕ) → length pushed.kept % 2 ≡ 1
+      → HavePushed h hash rows (pushed ∷ above)
+  unfolding AreFullRowsOf AreLong
+  pushed-alone h odd =
+      let one = ap length more ∙ length_push row.kept hash in
+      record {
+        pushed = λ hashes are.
+            let here : AreFullRowsOf h hashes (row ∷ above) = subst (AreFullRowsOf h hashes) is are
+            in
+            let long = is-long hashes row here.0 in
+            let size : row.gone + length row.kept ≡ length hashes = long.all in
+            let even : row.gone % 2 ≡ 0 = long.even in (
+              row-pushed hashes hash row pushed gone more here.0,
+              subst (λ l. AreFullRowsOf h l above)
+                  (sym (paired-alone h hashes hash (omega arith))) here.1,
+            );
+        long = λ count long.
+            let here : AreLong count (row ∷ above) = subst (AreLong count) is long in
+            let size : row.gone + length row.kept ≡ count = here.0.all in
+            let even : row.gone % 2 ≡ 0 = here.0.even in
+            let half : count / 2 ≡ (count + 1) / 2 = omega arith in
+            (row-more count here.0, subst (λ n. AreLong n above) half here.1);
+        gone = gone-on rows row pushed above above is gone (λ level. refl);
+        holds = holds-on above (λ capacity holds. holds);
+      }
 
--- what is gone stays gone
-pub gone-on : (rows : List RowState) (row pushed : RowState) (above raised : List RowState)
-    → rows ≡ row ∷ above → pushed.gone ≡ row.gone
-    → ((level : ℕ) → gone_in raised level ≡ gone_in above level)
-    → (level : ℕ) → gone_in (pushed ∷ raised) level ≡ gone_in rows level
-unfolding gone_in
-gone-on rows row pushed above raised is same up zero = same ∙ sym (ap (λ r. gone_in r 0) is)
-gone-on rows row pushed above raised is same up (suc level) =
-    up level ∙ sym (ap (λ r. gone_in r (suc level)) is)
-
--- the room stays
-pub holds-on : (rows : List RowState) (row pushed : RowState) (above raised : List RowState)
-    (hash : List ℕ) → rows ≡ row ∷ above → pushed.gone ≡ row.gone
-    → pushed.kept ≡ row.kept ++ hash ∷ [] → row.spare ≤ pushed.spare + 1
-    → ((capacity : ℕ) → HoldUpTo capacity above → HoldUpTo capacity raised)
-    → (capacity : ℕ) → HoldUpTo capacity rows → HoldUpTo capacity (pushed ∷ raised)
-unfolding HoldUpTo
-holds-on rows row pushed above raised hash is gone more spare up capacity holds =
-    let here : HoldUpTo capacity (row ∷ above) = subst (HoldUpTo capacity) is holds in
-    let fits : capacity ≤ row.gone + length row.kept + row.spare = here.0 in
-    let one : length pushed.kept ≡ length row.kept + 1 =
-    ap length more ∙ length_push row.kept hash in
-    (omega arith, up (capacity / 2) here.1)
+  -- which is the sibling of the last one
+  pub pushed-joined : (h : List ℕ → List ℕ) (raised : List RowState) (parent : List ℕ)
+      → length pushed.kept % 2 ≡ 0
+      → parent ≡ pair_hash h (get_or pushed.kept (length pushed.kept - 2) [])
+      (get_or pushed.kept (length pushed.kept - 1) []) → HavePushed h parent above raised
+      → HavePushed h hash rows (pushed ∷ raised)
+  unfolding AreFullRowsOf AreLong
+  pushed-joined h raised parent even parent_is up =
+      let one = ap length more ∙ length_push row.kept hash in
+      record {
+        pushed = λ hashes are.
+            let here : AreFullRowsOf h hashes (row ∷ above) = subst (AreFullRowsOf h hashes) is are
+            in
+            let long = is-long hashes row here.0 in
+            let size : row.gone + length row.kept ≡ length hashes = long.all in
+            let whole : row.gone % 2 ≡ 0 = long.even in
+            let two = last-two hashes hash row pushed (length hashes - 1) here.0 more (omega arith)
+            (omega arith) in
+            let joined : parent ≡ pair_hash h (get_or hashes (length hashes - 1) []) hash =
+            parent_is
+            ∙ ap (λ l. pair_hash h l (get_or pushed.kept (length pushed.kept - 1) [])) two.0
+            ∙ ap (pair_hash h (get_or hashes (length hashes - 1) [])) two.1 in
+            let pairs : paired h (hashes ++ hash ∷ []) ≡ paired h hashes ++ parent ∷ [] =
+            paired-joined h hashes hash (length hashes - 1) (omega arith) (omega arith)
+            ∙ ap (λ p. paired h hashes ++ p ∷ []) (sym joined) in (
+              row-pushed hashes hash row pushed gone more here.0,
+              subst (λ l. AreFullRowsOf h l raised) (sym pairs)
+                  (up.pushed (paired h hashes) here.1),
+            );
+        long = λ count long.
+            let here : AreLong count (row ∷ above) = subst (AreLong count) is long in
+            let size : row.gone + length row.kept ≡ count = here.0.all in
+            let whole : row.gone % 2 ≡ 0 = here.0.even in
+            let half : count / 2 + 1 ≡ (count + 1) / 2 = omega arith in
+            let above = up.long (count / 2) here.1 in
+            (row-more count here.0, subst (λ n. AreLong n raised) half above);
+        gone = gone-on rows row pushed above raised is gone up.gone;
+        holds = holds-on raised up.holds;
+      }
 
 -- a vector whose slice was written has what was written
 pub written-whole : (len : ℕ) (new items : List RowState) → len ≡ length items

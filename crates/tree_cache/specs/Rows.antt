@@ -1,6 +1,6 @@
 -- The hashes of the full subtrees of a list of leaf hashes, in rows from the leaves up.
 use Rattle.std.specs.Prelude.{◌≡◌, ℕ, zero, suc, ◌+◌, ◌-◌, ◌*◌, ◌<◌, ◌≤◌, ◌/◌, ◌%◌, ◌^◌, ◌⊎◌}
-use Rattle.std.specs.Prelude.{List, [], ◌∷◌, length, take, drop, min, max}
+use Rattle.std.specs.Prelude.{List, [], ◌∷◌, ◌++◌, length, take, drop, min, max}
 use Rattle.std.specs.Prelude.{slice_index_or}
 use Rattle.std.specs.List.{All}
 use Rattle.byte_formats.specs.Types.{Hash, HashFunction}
@@ -66,6 +66,32 @@ pub record HaveCapacity (rows : List RowState) : Type 0 where
   pub holds : HoldUpTo capacity rows
   pub below : count < capacity
 
+-- How many hashes are gone from the front of a level of some rows.
+unfoldable pub gone_in : List RowState → ℕ → ℕ
+gone_in [] level = 0
+gone_in (row ∷ rows) zero = row.gone
+gone_in (row ∷ rows) (suc level) = gone_in rows level
+
+-- One hash follows those of the first of these rows, and above it each node of which it is the last
+-- part. The capacity stays.
+pub record HavePushed (h : HashFunction) (hash : Hash) (old new : List RowState) : Type 0 where
+  pub pushed : (hashes : List Hash) → AreFullRowsOf h hashes old
+      → AreFullRowsOf h (hashes ++ hash ∷ []) new
+  pub long : (count : ℕ) → AreLong count old → AreLong (count + 1) new
+  pub gone : (level : ℕ) → gone_in new level ≡ gone_in old level
+  pub holds : (capacity : ℕ) → HoldUpTo capacity old → HoldUpTo capacity new
+
+-- The nodes over the pairs of a row are made, from one of these on up to another. The capacity
+-- stays.
+pub record ArePairsFilled (h : HashFunction) (row : RowState) (from to : ℕ)
+    (old new : List RowState) : Type 0 where
+  pub filled : (hashes : List Hash) → IsRowOf hashes row
+      → AreFullRowsOf h (take from (paired h hashes)) old
+      → AreFullRowsOf h (take to (paired h hashes)) new
+  pub long : AreLong to new
+  pub gone : (level : ℕ) → gone_in new level ≡ gone_in old level
+  pub holds : (capacity : ℕ) → HoldUpTo capacity old → HoldUpTo capacity new
+
 -- The rows are those of so many hashes, and up to so many need no memory.
 pub record CanReach (from to : ℕ) (rows : List RowState) : Type 0 where
   pub capacity : ℕ
@@ -77,12 +103,6 @@ pub record CanReach (from to : ℕ) (rows : List RowState) : Type 0 where
 abbrev pub first_length : List RowState → ℕ
 first_length [] = 0
 first_length (row ∷ rows) = row_count row
-
--- How many hashes are gone from the front of a level of some rows.
-unfoldable pub gone_in : List RowState → ℕ → ℕ
-gone_in [] level = 0
-gone_in (row ∷ rows) zero = row.gone
-gone_in (row ∷ rows) (suc level) = gone_in rows level
 
 -- A row has no hash, and none is gone.
 pub record IsEmpty (row : RowState) : Type 0 where

@@ -1,11 +1,10 @@
 //! The rows of the nodes of a tree, from the pairs of leaves up.
 
-ghost use Rattle.std.specs.Prelude.{◌≡◌, ℕ, ◌+◌, ◌*◌, ◌^◌, ◌<◌, ◌≤◌, List, [], ◌∷◌, ◌++◌, length};
-ghost use Rattle.std.specs.Prelude.{take, IfOk, OnOk};
+ghost use Rattle.std.specs.Prelude.{◌≡◌, ℕ, ◌+◌, ◌*◌, ◌^◌, ◌<◌, ◌≤◌, List, length, IfOk, OnOk};
 ghost use Rattle.byte_formats.specs.Types.{Hash, HashFunction};
-ghost use Rattle.tree_cache.specs.Rows.{AreFullRowsOf, AreLong, CanReach, HaveCapacity, HaveCount};
-ghost use Rattle.tree_cache.specs.Rows.{HaveLevels, HaveNone, HoldUpTo, IsRowOf, NodesHaveGrown};
-ghost use Rattle.tree_cache.specs.Rows.{gone_in, first_length, paired, row_count};
+ghost use Rattle.tree_cache.specs.Rows.{AreFullRowsOf, AreLong, ArePairsFilled, CanReach};
+ghost use Rattle.tree_cache.specs.Rows.{HaveCapacity, HaveCount, HaveLevels, HaveNone, HavePushed};
+ghost use Rattle.tree_cache.specs.Rows.{HoldUpTo, NodesHaveGrown, gone_in, first_length, row_count};
 ghost use Rattle.tree_cache.specs.Tiled.{CanForgetAll, gone_of};
 
 use crate::row::Row;
@@ -85,12 +84,8 @@ pub(crate) fn make_capacity(alloc: Global, rows: &mut Vec<Row>, capacity: u64) -
 // Puts a hash behind the others of the first of these rows, and above it each node of which it is
 // the last part.
 pub(crate) fn push_up<H: TreeHash>(rows: &mut [Row], hash: &[u8; 32])
-    requires capacity { HaveCapacity rows.old }
-    ensures pushed { (hashes : List Hash) → AreFullRowsOf H.hash hashes rows.old
-        → AreFullRowsOf H.hash (hashes ++ hash.now ∷ []) rows.new }
-    ensures long { (count : ℕ) → AreLong count rows.old → AreLong (count + 1) rows.new }
-    ensures gone { (level : ℕ) → gone_in rows.new level ≡ gone_in rows.old level }
-    ensures holds { (capacity : ℕ) → HoldUpTo capacity rows.old → HoldUpTo capacity rows.new }
+    requires { HaveCapacity rows.old }
+    ensures { HavePushed H.hash hash.now rows.old rows.new }
 {
     match rows.split_first_mut() {
         None => unreachable!(),
@@ -110,12 +105,7 @@ pub(crate) fn fill_above<H: TreeHash>(row: &Row, above: &mut [Row], from: u64, t
     requires gone { row.now.gone ≤ 2 * from }
     requires within { 2 * to ≤ row_count row.now }
     requires capacity { CanReach from to above.old }
-    ensures filled { (hashes : List Hash) → IsRowOf hashes row.now
-        → AreFullRowsOf H.hash (take from (paired H.hash hashes)) above.old
-        → AreFullRowsOf H.hash (take to (paired H.hash hashes)) above.new }
-    ensures long { AreLong to above.new }
-    ensures gone { (level : ℕ) → gone_in above.new level ≡ gone_in above.old level }
-    ensures holds { (capacity : ℕ) → HoldUpTo capacity above.old → HoldUpTo capacity above.new }
+    ensures { ArePairsFilled H.hash row.now from to above.old above.new }
 {
     for number in from..to {
         push_up::<H>(above, &row.pair_at::<H>(number));

@@ -1,18 +1,13 @@
 use Rattle.std.proofs.Common.{◌≡◌, ◌++◌, ◌≤◌, length, take, drop, sym, ◌∙◌, ap}
 use Rattle.std.proofs.Common.{subst, arith}
-use Rattle.tree_cache.proofs.Filled.{IsFilled, IsFilling, can-reach, filled_whole}
-use Rattle.tree_cache.specs.Rows.{CanReach, HaveFilled, RowsState, count_of, filled_of}
+use Rattle.tree_cache.proofs.Filled.{IsFilled, can-reach, filled_whole}
+use Rattle.tree_cache.specs.Rows.{ArePairsFilled, CanReach, HaveFilled, count_of, filled_of}
 use Rattle.tree_cache.specs.Rows.{filled_to, first_length}
 use Rattle.tree_cache.proofs.kept.Rows.fill.Given as given
 use Rattle.tree_cache.proofs.kept.Rows.fill.Goals as goal
 
 pub fill_above-requires-clause-capacity : goal.fill_above-requires-clause-capacity
 fill_above-requires-clause-capacity g c =
-    let old : RowsState = record {
-      first = c.self.inside.first;
-      above = c.self.inside.above.items;
-      capacity = c.self.inside.capacity;
-    } in
     let size = subst (λ r. c.args.size ≤ count_of r) (sym c.self.view_is) c.requires in
     let nodes : c.first_length-made.result ≡ first_length c.self.inside.above.items =
     c.first_length-made.ensures ∙ ap first_length c.as_slice.ensures.value in
@@ -22,7 +17,7 @@ fill_above-requires-clause-capacity g c =
     subst (CanReach c.first_length-made.result c.max-wanted.result)
     (sym c.as_mut_slice.ensures.value)
     (subst (λ n. CanReach n c.max-wanted.result c.self.inside.above.items) (sym nodes)
-    (can-reach old c.max-wanted.result c.self.invariant (omega arith)))
+    (can-reach _ c.max-wanted.result c.self.invariant (omega arith)))
 
 filled : (g : given.Over) (c : goal.After-self-1 g)
     → IsFilled g.H.TreeHash.hash c.max-wanted.result (record {
@@ -37,28 +32,16 @@ filled : (g : given.Over) (c : goal.After-self-1 g)
     })
 filled g c =
     let h = g.H.TreeHash.hash in
-    let old : RowsState = record {
-      first = c.self.inside.first;
-      above = c.self.inside.above.items;
-      capacity = c.self.inside.capacity;
-    } in
     let size = subst (λ r. c.args.size ≤ count_of r) (sym c.self.view_is) c.requires in
     let nodes : c.first_length-made.result ≡ first_length c.self.inside.above.items =
     c.first_length-made.ensures ∙ ap first_length c.as_slice.ensures.value in
     let made = c.self.invariant.made in
     let wanted = c.max-wanted.ensures in
-    let filling : IsFilling h c.self.inside.first c.first_length-made.result c.max-wanted.result
-    c.as_mut_slice.result.now c.fill_above.new.above = record {
-      filled = c.fill_above.ensures.filled;
-      long = c.fill_above.ensures.long;
-      gone = c.fill_above.ensures.gone;
-      holds = c.fill_above.ensures.holds;
-    } in
-    filled_whole h old c.as_mut_slice.result.now c.fill_above.new.above c.self.inside.above.len
+    filled_whole h _ c.as_mut_slice.result.now c.fill_above.new.above c.self.inside.above.len
     c.max-wanted.result c.self.invariant (omega arith) (omega arith)
     c.as_mut_slice.ensures.value (omega (arith, c.self.inside.above.ok.0)) (omega arith)
-    (subst (λ n. IsFilling h c.self.inside.first n c.max-wanted.result
-    c.as_mut_slice.result.now c.fill_above.new.above) nodes filling)
+    (subst (λ n. ArePairsFilled h c.self.inside.first n c.max-wanted.result
+    c.as_mut_slice.result.now c.fill_above.new.above) nodes c.fill_above.ensures)
 
 pub invariant_of-self : goal.invariant_of-self
 invariant_of-self g c = let done = filled g c in done.sound

@@ -1,31 +1,21 @@
 use Rattle.std.proofs.Common.{◌++◌, ◌≤◌, ℕ, length, take, drop, sym, ◌∙◌, ap, subst, arith}
 use Rattle.tree_cache.proofs.Forgets.{IsForgotten, can-first, can-nodes, forgotten_whole}
-use Rattle.tree_cache.specs.Rows.{AreRowsOf, RowsState, count_of, filled_of, gone_at}
+use Rattle.tree_cache.specs.Rows.{AreRowsOf, count_of, filled_of, gone_at}
 use Rattle.tree_cache.specs.Tiled.{CanForget, CanForgetAll, HasForgotten, gone_of}
 use Rattle.tree_cache.proofs.kept.Rows.forget.Goals as goal
 
 pub let_go-requires : goal.let_go-requires
 let_go-requires c =
-    let old : RowsState = record {
-      first = c.self.inside.first;
-      above = c.self.inside.above.items;
-      capacity = c.self.inside.capacity;
-    } in
     subst (λ g. CanForget g c.self.inside.first) (sym c.nodes_in_tiles.ensures)
-    (can-first c.args.size old c.self.invariant c.requires.few
+    (can-first c.args.size _ c.self.invariant c.requires.few
     (subst (λ r. c.args.size ≤ filled_of r) (sym c.self.view_is) c.requires.within)
     (subst (λ r. (level : ℕ) → gone_at r level ≤ gone_of c.args.size level)
     (sym c.self.view_is) c.requires.before))
 
 pub forget_from-requires-clause-can : goal.forget_from-requires-clause-can
 forget_from-requires-clause-can c =
-    let old : RowsState = record {
-      first = c.self.inside.first;
-      above = c.self.inside.above.items;
-      capacity = c.self.inside.capacity;
-    } in
     subst (CanForgetAll c.args.size 1) (sym c.as_mut_slice.ensures.value)
-    (can-nodes c.args.size old c.self.invariant c.requires.few
+    (can-nodes c.args.size _ c.self.invariant c.requires.few
     (subst (λ r. c.args.size ≤ filled_of r) (sym c.self.view_is) c.requires.within)
     (subst (λ r. (level : ℕ) → gone_at r level ≤ gone_of c.args.size level)
     (sym c.self.view_is) c.requires.before))
