@@ -5,7 +5,7 @@ use Rattle.std.proofs.Common.{None}
 use Rattle.std.proofs.Common.{Ok, Err, refl, sym, ◌∙◌, ap, subst, arith}
 use Rattle.std.specs.Prelude.{IfErr, IfSome, OnOk, Option, Result, option_map}
 use Rattle.std.proofs.Math.Nat.{div-mul-le_self, mul-le-mul_right}
-use Rattle.std.proofs.Math.Seq.{drop-cons, take-suc}
+use Rattle.std.proofs.Math.Seq.{take-suc}
 use Rattle.std.proofs.lemmas.Bool.{cases_lt}
 use Rattle.std.proofs.lemmas.List.{length-drop, length-take, take-append-drop}
 use Rattle.std.proofs.lemmas.Nat.{le-div}
@@ -27,6 +27,7 @@ use Rattle.tile_store.specs.declared.error.TileError.{TileError}
 use Rattle.tile_store.specs.declared.error.TileError.TheVariants.{BadTile, Failed}
 use Rattle.tile_store.specs.declared.store.Tiles.{Tiles}
 use Rattle.tree_cache.proofs.Filled.{count-rows, first-is}
+use Rattle.tree_cache.proofs.Fulls.{part-one}
 use Rattle.tree_cache.specs.Rows.{AreRowsOf, RowsState, count_of, first_row, gone_at}
 use Rattle.tree_cache.specs.Tiled.{gone_of}
 use Rattle.tree_core.proofs.Roots.{root_of-one}
@@ -178,12 +179,6 @@ tiles-adopted h leaves adopted stored size b within tiles new = λ level place f
     (cases_lt adopted ((place + 1) * 256 ^ (level + 1)))
 
 -- the leaves in the tiles of level 0 are the first ones
-leaf-part : (leaves : List (List ℕ)) (n : ℕ) → n < length leaves
-    → part_of leaves n (n + 1) ≡ get_or leaves n [] ∷ []
-leaf-part leaves n within =
-    let size : (n + 1) - n ≡ 1 = omega arith in
-    ap (λ k. take k (drop n leaves)) size ∙ ap (take 1) (drop-cons leaves n [] within)
-
 leaf-stored : (h : List ℕ → List ℕ) (leaves : List (List ℕ)) (size : ℕ) (b : List ℕ) (n : ℕ)
     → HoldsTiles h leaves size b → size % 256 ≡ 0 → size ≤ length leaves → n < size
     → part (tile_at 0 (n / 256) + 32 * (n % 256)) 32 b ≡ get_or leaves n []
@@ -196,7 +191,7 @@ leaf-stored h leaves size b n tiles whole within below =
     ∙ ap (λ a. root_of h (part_of leaves a
     ((256 * (n / 256) + n % 256 + 1) * 256 ^ 0))) start
     ∙ ap (λ e. root_of h (part_of leaves n e)) end
-    ∙ ap (root_of h) (leaf-part leaves n (omega arith))
+    ∙ ap (root_of h) (part-one leaves n (omega arith))
     ∙ root_of-one h (get_or leaves n [])
 
 first-stored : (h : List ℕ → List ℕ) (leaves : List (List ℕ)) (size : ℕ) (b : List ℕ) (n : ℕ)

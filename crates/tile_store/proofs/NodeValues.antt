@@ -3,7 +3,7 @@ use Rattle.std.proofs.Common.{◌≡◌, ℕ, ◌+◌, ◌-◌, ◌*◌, ◌/◌
 use Rattle.std.proofs.Common.{length}
 use Rattle.std.proofs.Common.{Some, None, sym, ◌∙◌, ap, refl, subst, arith}
 use Rattle.std.specs.Prelude.{IfSome, Option, option_map}
-use Rattle.std.proofs.Math.Nat.{mul-le-mul_right, pow-le-pow_right}
+use Rattle.std.proofs.Math.Nat.{mul-le-mul_right}
 use Rattle.std.proofs.lemmas.Nat.{pow-add, pow_pos}
 use Rattle.disk_core.specs.Disk.{part}
 use Rattle.frame_pool.specs.Frames.{HoldsKey, PoolState, frame_at}
@@ -16,12 +16,6 @@ use Rattle.tree_cache.proofs.Forgets.{bytes-of}
 use Rattle.tree_cache.specs.Rows.{RowsState}
 use Rattle.tree_core.specs.Path.{part_of}
 use Rattle.tree_core.specs.Tree.{root_of}
-
--- a shift of one by up to eight places drops nothing
-pub one-shifted : (k : ℕ) → k ≤ 8 → 1 * 2 ^ k % 18446744073709551616 ≡ 2 ^ k
-one-shifted k few =
-    let most : 2 ^ k ≤ 2 ^ 8 = pow-le-pow_right {n = 2} (omega arith) few in
-    omega arith
 
 -- the nodes of a level in a tile, times the hashes below each, are its 256 hashes
 pub tile-width : (level : ℕ) → 2 ^ (8 - level % 8) * 2 ^ (level % 8) ≡ 256

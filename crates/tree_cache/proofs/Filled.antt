@@ -1,5 +1,5 @@
 -- Rows of leaves, of which the nodes over the first are made.
-use Rattle.std.proofs.Common.{◌≡◌, ℕ, zero, suc, ◌+◌, ◌*◌, ◌-◌, ◌/◌, ◌%◌, ◌<◌, ◌≤◌, ◌⊎◌, List, []}
+use Rattle.std.proofs.Common.{◌≡◌, ℕ, suc, ◌+◌, ◌*◌, ◌-◌, ◌/◌, ◌%◌, ◌<◌, ◌≤◌, ◌⊎◌, List, []}
 use Rattle.std.proofs.Common.{◌∷◌, ◌++◌, length, get_or, take, drop, ⊎_elim, sym, ◌∙◌, ap, refl}
 use Rattle.std.proofs.Common.{subst, arith}
 use Rattle.std.proofs.Math.Seq.{take-length, take-suc}
@@ -11,7 +11,7 @@ use Rattle.tree_cache.proofs.Pushes.{count-long, is-long, long-of, row-pushed, w
 use Rattle.tree_cache.specs.Rows.{AreAllOf, AreFullRowsOf, AreLong, ArePairsFilled, AreRowsOf}
 use Rattle.tree_cache.specs.Rows.{AreSound, CanReach, HaveFilled, HaveGrown, HaveLevels}
 use Rattle.tree_cache.specs.Rows.{HavePushed, HoldUpTo, IsRowOf, RowState}
-use Rattle.tree_cache.specs.Rows.{RowsState, count_of, filled_of, first_row, gone_at, gone_in}
+use Rattle.tree_cache.specs.Rows.{RowsState, count_of, filled_of, first_row, gone_at}
 use Rattle.tree_cache.specs.Rows.{first_length, paired, row_count}
 use Rattle.tree_core.specs.Tree.{pair_hash}
 

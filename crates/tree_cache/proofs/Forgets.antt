@@ -25,6 +25,12 @@ eights (suc k) =
 pub bytes-of : (k : ℕ) → 2 ^ (8 * k) ≡ 256 ^ k
 bytes-of k = sym (eights k)
 
+-- a shift of one by up to eight places drops nothing
+pub one-shifted : (k : ℕ) → k ≤ 8 → 1 * 2 ^ k % 18446744073709551616 ≡ 2 ^ k
+one-shifted k few =
+    let most : 2 ^ k ≤ 2 ^ 8 = pow-le-pow_right {n = 2} (omega arith) few in
+    omega arith
+
 pub gone-even : (size level : ℕ) → gone_of size level % 2 ≡ 0
 gone-even size level =
     let one : 8 - level % 8 ≡ suc (7 - level % 8) = omega arith in

@@ -77,7 +77,8 @@ length-row_of h (suc level) xs =
     ∙ div-div-eq-div-mul (length xs) 2 (2 ^ level)
     ∙ ap (λ d. length xs / d) (sym (pow-succ' 2 level))
 
-part-one : (xs : List (List ℕ)) (place : ℕ) → place < length xs
+-- the part of one leaf
+pub part-one : (xs : List (List ℕ)) (place : ℕ) → place < length xs
     → part_of xs place (place + 1) ≡ get_or xs place [] ∷ []
 part-one xs place within =
     let size : (place + 1) - place ≡ 1 = omega arith in

@@ -7,7 +7,7 @@ use Rattle.tree_cache.proofs.Pushes.{gone-on}
 use Rattle.tree_cache.specs.Rows.{AreFullRowsOf, AreLong, AreRowsOf, AreSound, HaveGrown}
 use Rattle.tree_cache.specs.Rows.{HaveLevels}
 use Rattle.tree_cache.specs.Rows.{HaveNone, HoldUpTo, IsEmpty, IsLong, IsRowOf, NodesHaveGrown}
-use Rattle.tree_cache.specs.Rows.{RowState, RowsState, count_of, filled_of, gone_at, gone_in}
+use Rattle.tree_cache.specs.Rows.{RowState, RowsState, count_of, gone_at, gone_in}
 use Rattle.tree_cache.specs.Rows.{first_length, paired, row_count}
 
 pub grown-same : (rows : List RowState) → NodesHaveGrown rows rows

@@ -1,5 +1,6 @@
 use Rattle.std.proofs.Common.{◌+◌, ◌-◌, ◌*◌, ◌%◌, ◌^◌, ◌≤◌, sym, subst, arith}
-use Rattle.tile_store.proofs.NodeValues.{below-within, one-shifted}
+use Rattle.tile_store.proofs.NodeValues.{below-within}
+use Rattle.tree_cache.proofs.Forgets.{one-shifted}
 use Rattle.tile_store.proofs.reading.below.Goals as goal
 
 pub returns-clause-within : goal.returns-clause-within

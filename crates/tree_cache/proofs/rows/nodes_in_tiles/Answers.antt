@@ -1,6 +1,6 @@
-use Rattle.std.proofs.Common.{◌≡◌, ℕ, ◌+◌, ◌-◌, ◌*◌, ◌/◌, ◌%◌, ◌^◌, ◌<◌, ◌≤◌, ◌∙◌, ap, arith}
-use Rattle.std.proofs.Math.Nat.{div-eq_of_lt, pow-le-pow_right}
-use Rattle.tree_cache.proofs.Forgets.{bytes-of}
+use Rattle.std.proofs.Common.{◌≡◌, ℕ, ◌+◌, ◌-◌, ◌*◌, ◌/◌, ◌%◌, ◌^◌, ◌<◌, ◌∙◌, ap, arith}
+use Rattle.std.proofs.Math.Nat.{div-eq_of_lt}
+use Rattle.tree_cache.proofs.Forgets.{bytes-of, one-shifted}
 use Rattle.tree_cache.proofs.rows.nodes_in_tiles.Goals as goal
 use Rattle.tree_cache.specs.Tiled.{gone_of}
 
@@ -17,12 +17,6 @@ none-wide size level few wide =
 pub returns-then-width-eq64 : goal.returns-then-width-eq64
 returns-then-width-eq64 c =
     none-wide c.args.size c.args.level c.requires.few (omega arith)
-
--- a shift of one by up to eight places drops nothing
-one-shifted : (k : ℕ) → k ≤ 8 → 1 * 2 ^ k % 18446744073709551616 ≡ 2 ^ k
-one-shifted k few =
-    let most : 2 ^ k ≤ 2 ^ 8 = pow-le-pow_right {n = 2} (omega arith) few in
-    omega arith
 
 pub returns : goal.returns
 returns c =

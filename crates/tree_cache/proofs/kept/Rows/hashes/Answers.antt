@@ -1,4 +1,4 @@
-use Rattle.std.proofs.Common.{◌≤◌, ◌+◌, ◌-◌, ◌*◌, ◌^◌, length, drop, ap, arith}
+use Rattle.std.proofs.Common.{◌+◌, ◌-◌, length, drop, ap, arith}
 use Rattle.std.proofs.lemmas.List.{length-drop, length-take}
 use Rattle.tree_cache.proofs.Fulls.{gone-level, kept-roots, level-inside, level-long}
 use Rattle.tree_cache.proofs.kept.Rows.hashes.Goals as goal
