@@ -20,7 +20,7 @@ MODULE = re.compile(r"^[ \t]*(?:pub(?:\([a-z]+\))? +)?mod \w+;", re.M)
 WORD = re.compile(r"[^\s(){}\[\],;:.<>&]+")
 # byte_formats has laws alone.
 WITHOUT_EDITS = {"byte_formats"}
-MOST, MOST_IN_THE_GATE = 12, 1
+MOST, MOST_IN_THE_GATE = 16, 1
 
 
 def folders_of(name):
