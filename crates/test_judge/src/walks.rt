@@ -24,7 +24,7 @@ fn walked(
     let items = read_items::<Toy>(alloc, list).ok()?;
     let kept = read_export::<Toy>(alloc, export).ok()??;
     let steps = kept.steps.as_slice();
-    if !has_prefix::<Toy>(&items.entries(), &held_by::<Toy>(steps)) {
+    if !has_prefix::<Toy, _>(&items.entries(), &held_by::<Toy>(steps)) {
         return None;
     }
     match steps.get(sign) {

@@ -50,7 +50,7 @@ fn parting<H: TreeHash>(entries: &Entries<'_>, steps: &[Step], from: usize) -> u
     let mut high = steps.len();
     while high - low > 1 {
         let middle = low + (high - low) / 2;
-        if has_prefix::<H>(entries, &held_by::<H>(&steps[..middle])) {
+        if has_prefix::<H, _>(entries, &held_by::<H>(&steps[..middle])) {
             high = middle;
         } else {
             low = middle;
@@ -147,7 +147,7 @@ pub(crate) fn find_signed<H: TreeHash>(
     if is_of_list::<H>(entries, step) {
         return Ok(Finding::Same);
     }
-    if has_prefix::<H>(entries, &held_by::<H>(&steps[..place])) {
+    if has_prefix::<H, _>(entries, &held_by::<H>(&steps[..place])) {
         return at_sign::<H>(alloc, entries, steps, place, step);
     }
     let last = parting::<H>(entries, steps, place);
