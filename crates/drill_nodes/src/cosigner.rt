@@ -41,6 +41,18 @@ fn secret_of(alloc: Global, last: u8, number: u64) -> Result<Secret, Memory>
     }
 }
 
+// The settings of the cosigner `32473.N`.
+fn settings_of(alloc: Global, last: u8) -> Result<CosignerSettings, Memory>
+    ensures { IfOk result (λ settings. settings ≡ cosigner_settings last) }
+{
+    Ok(CosignerSettings {
+        id: id_of(alloc, last)?,
+        log: id_of(alloc, LOG)?,
+        lms: LmsType::H5,
+        ots: OtsType::W4,
+    })
+}
+
 // A cosigner on a device that stands for its records, with the stops so far.
 fn opened<H: TreeHash>(
     alloc: Global,
@@ -121,19 +133,11 @@ impl<H: TreeHash> CosignerNode<H> {
             ≡ new_cosigner H.hash (cosigner_settings last) (secret_of last number)) }
         ensures stops { IfOk result (λ it. cosigner_stops it ≡ 0) }
     {
-        let settings = CosignerSettings {
-            id: id_of(alloc, last)?,
-            log: id_of(alloc, LOG)?,
-            lms: LmsType::H5,
-            ots: OtsType::W4,
-        };
+        let settings = settings_of(alloc, last)?;
         let secret = secret_of(alloc, last, number)?;
         let disk = MemDisk::new(alloc, Vec::new(alloc));
         match create(alloc, disk, &settings, &secret) {
-            Ok(journal) => {
-                let node = opened(alloc, journal.into_disk(), Stops::new(alloc))?;
-                Ok(node)
-            }
+            Ok(journal) => opened(alloc, journal.into_disk(), Stops::new(alloc)),
             Err(_) => Err(Memory),
         }
     }
@@ -156,8 +160,7 @@ impl<H: TreeHash> CosignerNode<H> {
         let call = CosignerCall::Advance(*request);
         let mut out = SigBuf::new();
         let Some(stop) = turn else {
-            let done = self.done(&call, &mut out)?;
-            return Ok(done);
+            return self.done(&call, &mut out);
         };
         let (before, _) = self.cosigner.held();
         let (mut node, _) = stopped(alloc, self, &call, stop, &mut out)?;
@@ -165,8 +168,7 @@ impl<H: TreeHash> CosignerNode<H> {
             node.stops.recover();
             Ok(node)
         } else {
-            let again = node.done(&call, &mut out)?;
-            Ok(again)
+            node.done(&call, &mut out)
         }
     }
 

@@ -1,3 +1,5 @@
+use Rattle.std.proofs.Common.{arith}
+use Rattle.std.proofs.lemmas.List.{length-append}
 use Rattle.disk_core.specs.Memory.{bytes_of, images_of}
 use Rattle.drill_nodes.specs.CosignerViews.{cosigner_shown, records_shown}
 use Rattle.drill_nodes.proofs.CosignerStops.{reopened_by}
@@ -12,3 +14,10 @@ returns-clause-state g c =
     (c.in_ok-left.ensures (cosigner_shown c.args.node) (records_shown c.args.node)
     c.in_ok-cosigner.ensures.state)
     c.in_ok-image.ensures.image c.in_ok-again.ensures.state
+
+pub returns-clause-stops : goal.returns-clause-stops
+returns-clause-stops g c =
+    let made = c.in_ok-add.ensures.made in
+    let before = c.in_ok-cosigner.ensures.stops in
+    let all = c.in_ok-again.ensures.stops in
+    grind (arith, length-append, made, before, all)

@@ -1,9 +1,16 @@
-use Rattle.std.proofs.Common.{arith}
+use Rattle.std.proofs.Common.{[], ◌∷◌, arith}
+use Rattle.std.proofs.lemmas.Result.{IfOk-weaker}
 use Rattle.drill_nodes.proofs.MadeStops.{none_stopped}
 use Rattle.drill_nodes.proofs.cosigner_node.CosignerNode.advance.Goals as goal
 
+pub returns-in_default-clause-state : goal.returns-in_default-clause-state
+returns-in_default-clause-state g c = c.done.ensures.state
+
+pub returns-in_default-clause-grows : goal.returns-in_default-clause-grows
+returns-in_default-clause-grows g c =
+    IfOk-weaker c.done.result _ _ (λ it done. (_ ∷ [], done)) c.done.ensures.records
+
 pub returns-in_default-clause-stops : goal.returns-in_default-clause-stops
 returns-in_default-clause-stops g c =
-    let done = c.in_ok-done.ensures.stops in
     let none = none_stopped c.args.turn c.in_default.not-Some in
-    omega (arith, done, none)
+    IfOk-weaker c.done.result _ _ (λ it done. omega (arith, done, none)) c.done.ensures.stops
