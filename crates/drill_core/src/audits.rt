@@ -143,8 +143,7 @@ fn standing<H: TreeHash>(
     let Ok(items) = read_items::<H>(alloc, listed.as_slice()) else {
         return Err(Memory);
     };
-    let count = count_standing(alloc, &judged, store, &items, exports)?;
-    Ok(count)
+    count_standing(alloc, &judged, store, &items, exports)
 }
 
 /// Audits a certificate with the log's items and the export of each cosigner: how many of the
@@ -166,6 +165,5 @@ pub(crate) fn audited<H: TreeHash>(
 {
     let listed = log.listed(alloc)?;
     let exports = cosigners.exports(alloc)?;
-    let count = standing::<H>(alloc, cert, store, &listed, exports.as_slice())?;
-    Ok(count)
+    standing::<H>(alloc, cert, store, &listed, exports.as_slice())
 }

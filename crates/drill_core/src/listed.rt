@@ -78,7 +78,6 @@ impl<H: TreeHash> LogNode<H> {
             (λ text. items_in H.hash text ≡ Ok (log_items (log_shown self.old))) }
     {
         self.log.law_sound();
-        let text = item_file(alloc, &mut self.log)?;
-        Ok(text)
+        item_file(alloc, &mut self.log)
     }
 }

@@ -28,6 +28,17 @@ const ACTIVE: u32 = 4;
 
 const LIMIT: u32 = 64;
 
+// The settings of the log.
+fn settings_of(alloc: Global) -> Result<LogSettings, Memory>
+    ensures { IfOk result (λ settings. settings ≡ log_settings) }
+{
+    Ok(LogSettings {
+        id: id_of(alloc, LOG)?,
+        max_active: ACTIVE,
+        limit: LIMIT,
+    })
+}
+
 // A log on a device that stands for its records, and one for its tiles, with the stops so far.
 fn opened<H: TreeHash>(
     alloc: Global,
@@ -97,8 +108,7 @@ fn stopped<H: TreeHash>(
     let image = left.crash(stop.pick)?;
     let tiles = tiles.crash(stop.pick)?;
     stops.add(stop, done)?;
-    let again = opened(alloc, image, tiles, stops)?;
-    Ok(again)
+    opened(alloc, image, tiles, stops)
 }
 
 impl<H: TreeHash> LogNode<H> {
@@ -107,17 +117,12 @@ impl<H: TreeHash> LogNode<H> {
         ensures state { IfOk result (λ it. log_shown it ≡ new_log log_settings) }
         ensures stops { IfOk result (λ it. log_stops it ≡ 0) }
     {
-        let settings = LogSettings {
-            id: id_of(alloc, LOG)?,
-            max_active: ACTIVE,
-            limit: LIMIT,
-        };
+        let settings = settings_of(alloc)?;
         let disk = MemDisk::new(alloc, Vec::new(alloc));
         match create(alloc, disk, &settings) {
             Ok(journal) => {
                 let tiles = MemDisk::new(alloc, Vec::new(alloc));
-                let node = opened(alloc, journal.into_disk(), tiles, Stops::new(alloc))?;
-                Ok(node)
+                opened(alloc, journal.into_disk(), tiles, Stops::new(alloc))
             }
             Err(_) => Err(Memory),
         }
@@ -141,8 +146,7 @@ impl<H: TreeHash> LogNode<H> {
         ensures stops { IfOk result (λ it. log_stops it ≡ log_stops self + stops_in (turn ∷ [])) }
     {
         let Some(stop) = turn else {
-            let done = self.done(alloc, call)?;
-            return Ok(done);
+            return self.done(alloc, call);
         };
         let before = self.count(call);
         let mut node = stopped(alloc, self, call, stop)?;
@@ -150,8 +154,7 @@ impl<H: TreeHash> LogNode<H> {
             node.stops.recover();
             Ok(node)
         } else {
-            let again = node.done(alloc, call)?;
-            Ok(again)
+            node.done(alloc, call)
         }
     }
 

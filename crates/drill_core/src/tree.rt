@@ -39,8 +39,7 @@ fn root_of<H: TreeHash>(log: &mut Log<H, MemDisk, MemDisk>) -> Result<[u8; 32], 
     ensures stays { LogStays log.old log.new }
 {
     let size = size_of(log);
-    let root = hash_of(log, 0, size)?;
-    Ok(root)
+    hash_of(log, 0, size)
 }
 
 // The consistency proof of the first entries, of which there may be none.

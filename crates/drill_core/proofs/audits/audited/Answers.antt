@@ -1,4 +1,5 @@
 use Rattle.std.proofs.Common.{◌≡◌, List, length, sym, ap, subst, arith}
+use Rattle.std.proofs.lemmas.Result.{IfOk-weaker}
 use Rattle.byte_formats.specs.Types.{Text}
 use Rattle.drill_nodes.specs.CosignerViews.{IsExportOf}
 use Rattle.drill_nodes.proofs.Pairs.{paired_length}
@@ -8,13 +9,17 @@ use Rattle.drill_core.specs.LogNodes.{log_shown}
 use Rattle.drill_core.proofs.Turns.{by_exports, with_exports}
 use Rattle.drill_core.proofs.audits.audited.Goals as goal
 
+pub returns-clause-still : goal.returns-clause-still
+returns-clause-still g c =
+    IfOk-weaker c.standing.result _ _ (λ _ _. c.in_ok-exports.ensures.same) c.standing.ensures.few
+
 pub returns-clause-few : goal.returns-clause-few
 returns-clause-few g c =
-    let few = c.in_ok-count.ensures.few in
     let same = ap length c.as_slice.ensures.value in
     let long = paired_length (IsExportOf g.H.TreeHash.hash) c.args.cosigners.now.nodes.items
     c.in_ok-exports.exports.items c.in_ok-exports.ensures.read in
-    omega (arith, few, same, long)
+    IfOk-weaker c.standing.result _ _ (λ _ few. omega (arith, few, same, long))
+    c.standing.ensures.few
 
 pub returns-clause-count : goal.returns-clause-count
 returns-clause-count g c =
@@ -26,7 +31,8 @@ returns-clause-count g c =
     let read = c.in_ok-exports.ensures.read in
     let same = ap length c.as_slice.ensures.value in
     let long = paired_length (IsExportOf h) nodes files read in
-    let both = c.in_ok-count.ensures.all (log_items log) c.in_ok-listed.ensures.read in (
+    IfOk-weaker c.standing.result _ _ (λ _ is. let both = is (log_items log)
+    c.in_ok-listed.ensures.read in (
       λ all.
           let count = both.0 (subst (λ (list : List Text). AllByExport h a.store.now a.cert.now
           (log_items log) list) (sym c.as_slice.ensures.value)
@@ -36,4 +42,4 @@ returns-clause-count g c =
           with_exports a.store.now a.cert.now log nodes files read
           (subst (λ (list : List Text). AllByExport h a.store.now a.cert.now (log_items log) list)
           c.as_slice.ensures.value (both.1 (omega (arith, count, same, long)))),
-    )
+    )) c.standing.ensures.all

@@ -1,5 +1,6 @@
 use Rattle.std.proofs.Common.{◌≡◌, ◌∙◌, Ok, length, sym, subst, ap}
 use Rattle.std.specs.Prelude.{◌↔◌, pos}
+use Rattle.std.proofs.lemmas.Result.{IfOk-weaker}
 use Rattle.byte_formats.specs.Types.{Text}
 use Rattle.byte_formats.proofs.Steps.{ok_is}
 use Rattle.cert_fields.specs.Certificate.{parts_of}
@@ -11,7 +12,7 @@ use Rattle.drill_core.specs.Audits.{AllByExport}
 use Rattle.drill_core.proofs.audits.standing.Goals as goal
 
 pub returns-clause-all : goal.returns-clause-all
-returns-clause-all g c = λ items listed.
+returns-clause-all g c = IfOk-weaker c.count_standing.result _ _ (λ count is. λ items listed.
     let h = g.H.TreeHash.hash in
     let a = c.args in
     let cert : Text = a.cert.now in
@@ -25,5 +26,4 @@ returns-clause-all g c = λ items listed.
     ap (items_in h) c.as_slice-2.ensures ∙ listed in
     let same : items ≡ c.in-Ok.items = ok_is _ items c.in-Ok.items (sym there ∙ c.in-Ok.ensures) in
     subst (λ (x : ItemLists). AllByExport h a.store.now cert x a.exports.now
-    ↔ (c.in_ok-count.count ≡ length a.exports.now)) (sym same)
-    (c.in_ok-count.ensures.all cert judged read)
+    ↔ (count ≡ length a.exports.now)) (sym same) (is cert judged read)) c.count_standing.ensures.all

@@ -1,4 +1,5 @@
 use Rattle.std.proofs.Common.{◌≡◌, ◌∙◌, ◌≤◌, ℕ, length, sym, ap, subst, arith}
+use Rattle.std.proofs.lemmas.Result.{IfOk-weaker}
 use Rattle.issuance_log.specs.Folds.{LogState}
 use Rattle.drill_nodes.specs.Rounds.{after_rounds, begun}
 use Rattle.drill_nodes.proofs.Pairs.{paired_length}
@@ -68,5 +69,6 @@ returns g c =
     c.loop-round.nodes =
     subst (λ (k : ℕ). IsStanding g.H.TreeHash.hash c.args.number k c.loop-round.dice.number
     c.loop-round.nodes) all c.loop-round.invariant in
-    is_fleet g.H.TreeHash.hash c.args.number c.loop-round.nodes c.in_ok-made.made stands.after
-    c.in_ok-made.ensures
+    IfOk-weaker c.handed_out.result _ _
+    (λ made out. is_fleet g.H.TreeHash.hash c.args.number c.loop-round.nodes made stands.after out)
+    c.handed_out.ensures

@@ -1,6 +1,6 @@
-use Rattle.std.proofs.Common.{◌≡◌, ◌∙◌, [], ◌∷◌, Ok, sym, subst, ap, refl}
+use Rattle.std.proofs.Common.{◌≡◌, ◌∙◌, [], ◌∷◌, Ok, length, sym, subst, ap, refl}
 use Rattle.std.proofs.lemmas.Option.{same_Some}
-use Rattle.byte_formats.specs.Types.{Text}
+use Rattle.std.proofs.lemmas.Result.{IfOk-weaker}
 use Rattle.disk_core.specs.Memory.{bytes_of}
 use Rattle.disk_core.specs.declared.memory.mem_disk.MemDisk.{MemDisk}
 use Rattle.journal_core.specs.Format.{Represents}
@@ -13,10 +13,7 @@ use Rattle.drill_core.proofs.log_node.LogNode.create.Goals as goal
 
 pub returns-in-Ok-clause-state : goal.returns-in-Ok-clause-state
 returns-in-Ok-clause-state g c =
-    let settings : Settings =
-    record { id = c.in_ok-id_of.field-0; max_active = 4; limit = 64 } in
-    let same : settings ≡ log_settings =
-    ap (λ (id : Text). record { id = id; max_active = 4; limit = 64 }) c.in_ok-id_of.ensures in
+    let settings : Settings = c.in_ok-settings.settings in
     let holds : Represents (bytes_of c.into_disk.result) (records_on c.into_disk.result) =
     subst (λ (d : MemDisk). Represents (bytes_of d) (records_on d)) (sym c.into_disk.ensures)
     (c.in-Ok.journal.stands (bytes_of c.in-Ok.journal.disk) refl) in
@@ -24,6 +21,12 @@ returns-in-Ok-clause-state g c =
     ap records_on c.into_disk.ensures
     ∙ same_Some (records_on c.in-Ok.journal.disk) (settings_record settings ∷ [])
     c.in-Ok.ensures.ok.list in
-    c.in_ok-node-in-Ok.ensures.state (records_on c.into_disk.result) (new_log log_settings) holds
-    (ap (log_of g.H.TreeHash.hash) first ∙ c.in-Ok.ensures.valid g.H.TreeHash.hash
-    ∙ ap (λ (s : Settings). Ok (new_log s)) same)
+    IfOk-weaker c.opened.result _ _ (λ _ is. is (records_on c.into_disk.result)
+    (new_log log_settings) holds (ap (log_of g.H.TreeHash.hash) first
+    ∙ c.in-Ok.ensures.valid g.H.TreeHash.hash
+    ∙ ap (λ (s : Settings). Ok (new_log s)) c.in_ok-settings.ensures)) c.opened.ensures.state
+
+pub returns-in-Ok-clause-stops : goal.returns-in-Ok-clause-stops
+returns-in-Ok-clause-stops g c =
+    IfOk-weaker c.opened.result _ _ (λ _ is. is ∙ ap length c.new-in-Ok-2.ensures.made)
+    c.opened.ensures.stops

@@ -1,9 +1,12 @@
 use Rattle.std.proofs.Common.{◌∙◌, ap}
+use Rattle.std.proofs.lemmas.Result.{IfOk-weaker}
 use Rattle.entry_list.specs.Reading.{items_in}
 use Rattle.drill_core.specs.LogNodes.{log_shown}
 use Rattle.drill_core.proofs.ListedItems.{listed_whole}
 use Rattle.drill_core.proofs.log_node.LogNode.listed.Goals as goal
 
 pub returns-clause-read : goal.returns-clause-read
-returns-clause-read g c = ap (items_in g.H.TreeHash.hash) c.in_ok-text.ensures.text
-    ∙ listed_whole g.H.TreeHash.hash (log_shown c.args.self.now) c.law_sound.ensures.items
+returns-clause-read g c = IfOk-weaker c.item_file.result _ _
+    (λ _ text. ap (items_in g.H.TreeHash.hash) text
+    ∙ listed_whole g.H.TreeHash.hash (log_shown c.args.self.now) c.law_sound.ensures.items)
+    c.item_file.ensures.text
