@@ -2,22 +2,19 @@
 
 ghost use Rattle.std.specs.Prelude.{◌≡◌, ◌≤◌, ◌^◌, length, IfOk};
 ghost use Rattle.drill_nodes.specs.Disks.{FailsNone};
-ghost use Rattle.drill_core.specs.Fleets.{IsHandedOut};
 ghost use Rattle.drill_core.specs.LogNodes.{log_shown};
 ghost use Rattle.drill_core.specs.Nodes.{IsLogDisk};
 ghost use Rattle.drill_core.specs.Played.{all_stops};
 
 use crate::log_node::{LogNode, size_of};
-use crate::made::{Certs, Counts, Fleet};
 use crate::nodes::FleetNodes;
 use disk_core::MemDisk;
 use drill_nodes::whole;
 use mtc_io::Memory;
-use std::alloc::Global;
 use tree_core::TreeHash;
 
-// The device of the log's journal, and how many entries and landmarks it has.
-fn log_out<H: TreeHash>(node: LogNode<H>) -> Result<(MemDisk, u64, u64), Memory>
+/// The device of the log's journal, and how many entries and landmarks it has.
+pub(crate) fn log_out<H: TreeHash>(node: LogNode<H>) -> Result<(MemDisk, u64, u64), Memory>
     ensures disk { IfOk result (λ x. IsLogDisk H.hash (log_shown node) x.0) }
     ensures fails_none { IfOk result (λ x. FailsNone x.0) }
     ensures entries { IfOk result (λ x. x.1 ≡ length (log_shown node).entries) }
@@ -31,44 +28,12 @@ fn log_out<H: TreeHash>(node: LogNode<H>) -> Result<(MemDisk, u64, u64), Memory>
 }
 
 impl<H: TreeHash> FleetNodes<H> {
-    // How many stops were made.
-    fn stops(&self) -> u64
+    /// How many stops were made.
+    pub(crate) fn stops(&self) -> u64
         requires { all_stops self.now ≤ 2 ^ 32 }
         ensures { result ≡ all_stops self.now }
     {
         let log = self.log.stops.count();
         log + self.cosigners.stops()
-    }
-
-    /// The devices, the certificates, and what was counted.
-    pub(crate) fn handed_out(self, alloc: Global) -> Result<Fleet, Memory>
-        requires stops { all_stops self ≤ 2 ^ 32 }
-        requires few { length self.cosigners.nodes.items ≤ 3 }
-        ensures { IfOk result (IsHandedOut H.hash self) }
-    {
-        let stops = self.stops();
-        let unfinished = self.cosigners.unfinished();
-        let unfinished = unfinished.saturating_add(self.log.stops.unfinished);
-        let recovered = self.cosigners.recovered();
-        let recovered = recovered.saturating_add(self.log.stops.recovered);
-        let (log, entries, landmarks) = log_out(self.log)?;
-        let out = self.cosigners.hand_out(alloc)?;
-        let counts = Counts {
-            entries,
-            landmarks,
-            signatures: out.signatures,
-            stops,
-            verified: self.verified,
-            stands: self.stands,
-            light: self.light,
-        };
-        Ok(Fleet {
-            log,
-            cosigners: out.disks,
-            certs: Certs::from_vec(self.certs),
-            counts,
-            unfinished,
-            recovered,
-        })
     }
 }

@@ -9,7 +9,7 @@ ghost use Rattle.drill_nodes.specs.Cosigners.{stops_by};
 ghost use Rattle.drill_nodes.specs.CosignerViews.{cosigner_shown};
 ghost use Rattle.drill_nodes.specs.Rounds.{landmark_turns, stops_in};
 ghost use Rattle.drill_core.specs.LightStores.{IsDue};
-ghost use Rattle.drill_core.specs.LogNodes.{IsSameLog, log_shown};
+ghost use Rattle.drill_core.specs.LogNodes.{IsSameLog, log_shown, log_stops};
 ghost use Rattle.drill_core.specs.Played.{AreReady, HasCertified, HasPlayed, all_stops, issued_to};
 ghost use Rattle.drill_core.specs.Played.{with_landmark};
 ghost use Rattle.drill_core.specs.Played.{log_root};
@@ -50,8 +50,33 @@ fn hold_all<H: TreeHash>(
     let held = cosigners.held();
     let size = size_of(&log.log);
     let (root, proof) = root_and_proof(&mut log.log, held)?;
-    cosigners.advance(alloc, size, root, proof.as_slice(), turns)?;
-    Ok(())
+    cosigners.advance(alloc, size, root, proof.as_slice(), turns)
+}
+
+/// The log issues an entry for each turn, and each cosigner holds its root.
+pub(crate) fn grown<H: TreeHash>(
+    alloc: Global,
+    log: LogNode<H>,
+    mut cosigners: Cosigners<H>,
+    entries: &Turns,
+    turns: &Turns,
+) -> Result<(LogNode<H>, Cosigners<H>), Memory>
+    requires more { 1 ≤ length entries.now }
+    requires some { 0 < length cosigners.nodes.items }
+    requires held { AllByRecursion
+        (λ node. (cosigner_shown node).held.size ≤ length (log_shown log).entries)
+        cosigners.nodes.items }
+    requires turns { length turns.now ≡ length cosigners.nodes.items }
+    ensures log { IfOk result (λ x. log_shown x.0
+        ≡ issued_to H.hash (length entries.now) (log_shown log)) }
+    ensures each { IfOk result (λ x. Paired (IsAdvanced (length (log_shown x.0).entries)
+        (log_root H.hash (log_shown x.0))) cosigners.nodes.items x.1.nodes.items) }
+    ensures stops { IfOk result (λ x. log_stops x.0 + stops_by x.1.nodes.items ≡ log_stops log
+        + stops_by cosigners.nodes.items + stops_in entries.now + stops_in turns.now) }
+{
+    let mut log = log.issue_all(alloc, entries)?;
+    hold_all(alloc, &mut log, &mut cosigners, turns)?;
+    Ok((log, cosigners))
 }
 
 // Each cosigner signs all of the log, and puts its signature behind the others.
@@ -78,8 +103,7 @@ fn sign_all<H: TreeHash>(
 {
     let size = size_of(&log.log);
     let (hash, proof) = root_and_proof(&mut log.log, size)?;
-    cosigners.cosign(alloc, size, hash, proof.as_slice(), turns, signatures)?;
-    Ok(())
+    cosigners.cosign(alloc, size, hash, proof.as_slice(), turns, signatures)
 }
 
 // The certificate of an entry, in the subtree of all entries, with these signatures.
@@ -112,69 +136,26 @@ fn judged_light<H: TreeHash>(alloc: Global, log: &mut LogNode<H>) -> Result<u64,
     ensures few { IfOk result (λ count. count ≤ 1) }
     ensures accepted { IfOk result (λ count. IsDue H.hash (log_shown log.old) → count ≡ 1) }
 {
-    let count = one_light(alloc, &mut log.log)?;
-    Ok(count)
+    one_light(alloc, &mut log.log)
+}
+
+/// A landmark is set in the log, and the certificate of the newest entry without signatures judged.
+pub(crate) fn marked<H: TreeHash>(
+    alloc: Global,
+    log: LogNode<H>,
+    turn: Turn,
+) -> Result<(LogNode<H>, u64), Memory>
+    ensures log { IfOk result (λ x. log_shown x.0 ≡ with_mark (log_shown log)) }
+    ensures stops { IfOk result (λ x. log_stops x.0 ≡ log_stops log + stops_in (turn ∷ [])) }
+    ensures few { IfOk result (λ x. x.1 ≤ 1) }
+    ensures accepted { IfOk result (λ x. IsDue H.hash (log_shown x.0) → x.1 ≡ 1) }
+{
+    let mut log = log.mark(alloc, turn)?;
+    let count = judged_light(alloc, &mut log)?;
+    Ok((log, count))
 }
 
 impl<H: TreeHash> FleetNodes<H> {
-    // The log issues an entry for each turn, and each cosigner holds its root.
-    fn grow(self, alloc: Global, entries: &Turns, turns: &Turns) -> Result<FleetNodes<H>, Memory>
-        requires some { 1 ≤ length entries.now }
-        requires ready { AreReady self }
-        requires turns { length turns.now ≡ 3 }
-        ensures log { IfOk result (λ it. log_shown it.log
-            ≡ issued_to H.hash (length entries.now) (log_shown self.log)) }
-        ensures each { IfOk result (λ it. Paired (IsAdvanced (length (log_shown it.log).entries)
-            (log_root H.hash (log_shown it.log))) self.cosigners.nodes.items
-            it.cosigners.nodes.items) }
-        ensures stops { IfOk result (λ it. all_stops it ≡ all_stops self + stops_in entries.now
-            + stops_in turns.now) }
-        ensures store { IfOk result (λ it. it.store ≡ self.store) }
-        ensures certs { IfOk result (λ it. it.certs ≡ self.certs) }
-        ensures verified { IfOk result (λ it. it.verified ≡ self.verified) }
-        ensures stands { IfOk result (λ it. it.stands ≡ self.stands) }
-        ensures light { IfOk result (λ it. it.light ≡ self.light) }
-    {
-        let mut log = self.log.issue_all(alloc, entries)?;
-        let mut cosigners = self.cosigners;
-        hold_all(alloc, &mut log, &mut cosigners, turns)?;
-        Ok(FleetNodes {
-            log,
-            cosigners,
-            store: self.store,
-            certs: self.certs,
-            verified: self.verified,
-            stands: self.stands,
-            light: self.light,
-        })
-    }
-
-    // A landmark is set, and the certificate of the newest entry without signatures judged.
-    fn mark(self, alloc: Global, turn: Turn) -> Result<FleetNodes<H>, Memory>
-        requires { self.light ≤ 15 }
-        ensures log { IfOk result (λ it. log_shown it.log ≡ with_mark (log_shown self.log)) }
-        ensures cosigners { IfOk result (λ it. it.cosigners ≡ self.cosigners) }
-        ensures stops { IfOk result (λ it. all_stops it ≡ all_stops self + stops_in (turn ∷ [])) }
-        ensures store { IfOk result (λ it. it.store ≡ self.store) }
-        ensures certs { IfOk result (λ it. it.certs ≡ self.certs) }
-        ensures verified { IfOk result (λ it. it.verified ≡ self.verified) }
-        ensures stands { IfOk result (λ it. it.stands ≡ self.stands) }
-        ensures light { IfOk result (λ it. IsDue H.hash (log_shown it.log)
-            → it.light ≡ self.light + 1) }
-    {
-        let mut log = self.log.mark(alloc, turn)?;
-        let light = judged_light(alloc, &mut log)?;
-        Ok(FleetNodes {
-            log,
-            cosigners: self.cosigners,
-            store: self.store,
-            certs: self.certs,
-            verified: self.verified,
-            stands: self.stands,
-            light: self.light + light,
-        })
-    }
-
     // The landmark of a round, if it has one.
     fn mark_in(self, alloc: Global, landmark: Option<Turn>) -> Result<FleetNodes<H>, Memory>
         requires { self.light ≤ 15 }

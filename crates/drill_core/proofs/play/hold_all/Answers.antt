@@ -1,5 +1,6 @@
 use Rattle.std.proofs.Common.{◌<◌, ◌∙◌, ℕ, length, refl, sym, subst}
 use Rattle.std.specs.List.{AllByRecursion}
+use Rattle.std.specs.Prelude.{OnOk}
 use Rattle.byte_formats.specs.Types.{Hash}
 use Rattle.drill_nodes.specs.Cosigners.{IsAdvanced, Paired}
 use Rattle.drill_nodes.specs.CosignerViews.{cosigner_shown}
@@ -25,16 +26,12 @@ pub returns-in_err-root-clause-same : goal.returns-in_err-root-clause-same
 returns-in_err-root-clause-same g c =
     record { shown = seen_stays _ _ c.root_and_proof.ensures.stays; stops = refl }
 
-pub returns-in_err-advance-clause-same : goal.returns-in_err-advance-clause-same
-returns-in_err-advance-clause-same g c =
-    record { shown = seen_stays _ _ c.root_and_proof.ensures.stays; stops = refl }
-
 pub returns-clause-same : goal.returns-clause-same
 returns-clause-same g c =
     record { shown = seen_stays _ _ c.root_and_proof.ensures.stays; stops = refl }
 
 pub returns-clause-stops : goal.returns-clause-stops
-returns-clause-stops g c = c.in_ok-advance.ensures.stops
+returns-clause-stops g c = c.advance.ensures.stops
 
 pub advance-requires-clause-larger : goal.advance-requires-clause-larger
 advance-requires-clause-larger g c =
@@ -46,7 +43,9 @@ returns-clause-each g c =
     let h = g.H.TreeHash.hash in
     let old = c.args.cosigners.now.nodes.items in
     let new = c.advance.new.self.nodes.items in
-    subst (λ (n : ℕ). Paired (IsAdvanced n (log_root h (log_shown c.args.log.now))) old new)
+    subst (λ (n : ℕ). OnOk c.advance.result
+    (Paired (IsAdvanced n (log_root h (log_shown c.args.log.now))) old new))
     c.size_of-size.ensures.value
-    (subst (λ (x : Hash). Paired (IsAdvanced c.size_of-size.result x) old new)
-    c.in_ok-root.ensures.hash c.in_ok-advance.ensures.each)
+    (subst (λ (x : Hash). OnOk c.advance.result
+    (Paired (IsAdvanced c.size_of-size.result x) old new))
+    c.in_ok-root.ensures.hash c.advance.ensures.each)

@@ -1,4 +1,5 @@
 use Rattle.std.proofs.Common.{◌∙◌, ℕ, length, refl, subst}
+use Rattle.std.specs.Prelude.{OnOk}
 use Rattle.byte_formats.specs.Types.{Hash}
 use Rattle.drill_nodes.specs.Cosigners.{HaveSigned, IsSigned, Paired}
 use Rattle.drill_core.specs.LogNodes.{log_shown}
@@ -27,29 +28,27 @@ pub returns-in_err-hash-clause-same : goal.returns-in_err-hash-clause-same
 returns-in_err-hash-clause-same g c =
     record { shown = seen_stays _ _ c.root_and_proof.ensures.stays; stops = refl }
 
-pub returns-in_err-cosign-clause-same : goal.returns-in_err-cosign-clause-same
-returns-in_err-cosign-clause-same g c =
-    record { shown = seen_stays _ _ c.root_and_proof.ensures.stays; stops = refl }
-
 pub returns-clause-same : goal.returns-clause-same
 returns-clause-same g c =
     record { shown = seen_stays _ _ c.root_and_proof.ensures.stays; stops = refl }
 
 pub returns-clause-keys : goal.returns-clause-keys
-returns-clause-keys g c = c.in_ok-cosign.ensures.keys
+returns-clause-keys g c = c.cosign.ensures.keys
 
 pub returns-clause-stops : goal.returns-clause-stops
-returns-clause-stops g c = c.in_ok-cosign.ensures.stops
+returns-clause-stops g c = c.cosign.ensures.stops
 
 pub returns-clause-each : goal.returns-clause-each
 returns-clause-each g c =
     let h = g.H.TreeHash.hash in
     let old = c.args.cosigners.now.nodes.items in
     let new = c.cosign.new.self.nodes.items in
-    subst (λ (n : ℕ). Paired (IsSigned n (log_root h (log_shown c.args.log.now))) old new)
+    subst (λ (n : ℕ). OnOk c.cosign.result
+    (Paired (IsSigned n (log_root h (log_shown c.args.log.now))) old new))
     c.size_of-size.ensures.value
-    (subst (λ (x : Hash). Paired (IsSigned c.size_of-size.result x) old new)
-    c.in_ok-hash.ensures.hash c.in_ok-cosign.ensures.each)
+    (subst (λ (x : Hash). OnOk c.cosign.result
+    (Paired (IsSigned c.size_of-size.result x) old new))
+    c.in_ok-hash.ensures.hash c.cosign.ensures.each)
 
 pub returns-clause-signed : goal.returns-clause-signed
 returns-clause-signed g c =
@@ -57,7 +56,9 @@ returns-clause-signed g c =
     let old = c.args.cosigners.now.nodes.items in
     let before = c.args.signatures.now in
     let after = c.cosign.new.signatures in
-    subst (λ (n : ℕ). HaveSigned n (log_root h (log_shown c.args.log.now)) old before after)
+    subst (λ (n : ℕ). OnOk c.cosign.result
+    (HaveSigned n (log_root h (log_shown c.args.log.now)) old before after))
     c.size_of-size.ensures.value
-    (subst (λ (x : Hash). HaveSigned c.size_of-size.result x old before after)
-    c.in_ok-hash.ensures.hash c.in_ok-cosign.ensures.signed)
+    (subst (λ (x : Hash). OnOk c.cosign.result
+    (HaveSigned c.size_of-size.result x old before after))
+    c.in_ok-hash.ensures.hash c.cosign.ensures.signed)
