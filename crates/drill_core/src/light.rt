@@ -9,15 +9,14 @@ ghost use Rattle.drill_core.specs.Nodes.{log_seen};
 
 use crate::log_node::size_of;
 use crate::requests::NOT_BEFORE;
+use crate::store::empty_store;
 use crate::tree::hash_of;
 use authority_core::{law_entries_say_what_was_asked, light_cert};
-use cert_names::log_name;
 use disk_core::MemDisk;
-use drill_nodes::{LOG, id_of};
 use issuance_log::Log;
 use landmarks::{Landmarks, active, of_marks, subtrees};
 use mtc_io::Memory;
-use policy_core::{Cosigners, Revoked, Rules, Store, Subtrees, Trusted};
+use policy_core::{Store, Subtrees, Trusted};
 use relying_party::judge;
 use std::alloc::Global;
 use tree_core::{Cover, Span, TreeHash, subtree_ok};
@@ -89,6 +88,21 @@ fn landmarks_of<H: TreeHash>(
     of_marks(alloc, log.marks(), log.settings().max_active)
 }
 
+// The subtrees of all active landmarks of the log.
+fn log_subtrees<H: TreeHash>(
+    alloc: Global,
+    log: &mut Log<H, MemDisk, MemDisk>,
+) -> Result<Subtrees, Memory>
+    ensures active { IfOk result (λ list.
+        let l = landmarks_of (log_seen log.old).marks (log_seen log.old).settings.max_active in
+        AreOfLandmarks H.hash (log_seen log.old).entries l (active_of l).start (active_of l).end
+        list) }
+    ensures stays { LogStays log.old log.new }
+{
+    let landmarks = landmarks_of(alloc, log)?;
+    active_subtrees(alloc, log, &landmarks)
+}
+
 // The store that trusts the active subtrees of the log, and no cosigner.
 fn landmark_store<H: TreeHash>(
     alloc: Global,
@@ -97,17 +111,34 @@ fn landmark_store<H: TreeHash>(
     ensures trusts { IfOk result (TrustsActive H.hash (log_seen log.old)) }
     ensures stays { LogStays log.old log.new }
 {
-    let landmarks = landmarks_of(alloc, log)?;
-    let subtrees = active_subtrees(alloc, log, &landmarks)?;
-    let id = id_of(alloc, LOG)?;
-    Ok(Store {
-        name: log_name(alloc, &id)?,
-        log: id,
-        cosigners: Cosigners::from_vec(Vec::new(alloc)),
-        rules: Rules::from_vec(Vec::new(alloc)),
-        subtrees,
-        revoked: Revoked::from_vec(Vec::new(alloc)),
-    })
+    let subtrees = log_subtrees(alloc, log)?;
+    let mut store = empty_store(alloc)?;
+    store.subtrees = subtrees;
+    Ok(store)
+}
+
+// 1 where the certificate of the newest entry without signatures is accepted by this store, or else
+// 0.
+fn lit_by<H: TreeHash>(
+    alloc: Global,
+    log: &mut Log<H, MemDisk, MemDisk>,
+    store: &Store,
+) -> Result<u64, Memory>
+    requires { TrustsActive H.hash (log_seen log.old) store.now }
+    ensures few { IfOk result (λ count. count ≤ 1) }
+    ensures accepted { IfOk result (λ count. IsDue H.hash (log_seen log.old) → count ≡ 1) }
+    ensures only { IfOk result (λ count. count ≡ 1 → IsLit H.hash (log_seen log.old)) }
+    ensures stays { LogStays log.old log.new }
+{
+    law_entries_say_what_was_asked();
+    let newest = size_of(log) - 1;
+    let Ok(cert) = light_cert(alloc, log, newest) else {
+        return Err(Memory);
+    };
+    match judge::<H>(cert.as_slice(), store, NOT_BEFORE) {
+        Ok(_) => Ok(1),
+        Err(_) => Ok(0),
+    }
 }
 
 /// 1 where the certificate of the newest entry without signatures is accepted by the active
@@ -121,14 +152,6 @@ pub(crate) fn one_light<H: TreeHash>(
     ensures only { IfOk result (λ count. count ≡ 1 → IsLit H.hash (log_seen log.old)) }
     ensures stays { LogStays log.old log.new }
 {
-    law_entries_say_what_was_asked();
     let store = landmark_store(alloc, log)?;
-    let newest = size_of(log) - 1;
-    let Ok(cert) = light_cert(alloc, log, newest) else {
-        return Err(Memory);
-    };
-    match judge::<H>(cert.as_slice(), &store, NOT_BEFORE) {
-        Ok(_) => Ok(1),
-        Err(_) => Ok(0),
-    }
+    lit_by(alloc, log, &store)
 }

@@ -3,6 +3,7 @@
 ghost use Rattle.std.specs.Prelude.{◌≡◌, ◌≤◌, [], ◌∷◌, length, map, pos, IfOk};
 ghost use Rattle.policy_core.specs.Judgement.{judgement};
 ghost use Rattle.drill_nodes.specs.CosignerViews.{cosigner_shown};
+ghost use Rattle.drill_core.specs.LightStores.{light_store};
 ghost use Rattle.drill_core.specs.Stores.{known_as, one_accepted, store_with};
 
 use crate::requests::NOT_BEFORE;
@@ -43,16 +44,28 @@ fn two_of_three(alloc: Global) -> Result<Rules, Memory>
     ensures { IfOk result (λ rules. rules
         ≡ record { count = 2; cosigners = 0 ∷ 1 ∷ 2 ∷ [] } ∷ []) }
 {
-    let mut places = Vec::new(alloc);
-    places.push(0)?;
-    places.push(1)?;
-    places.push(2)?;
+    let places = Vec::from_slice(alloc, &[0, 1, 2])?;
     let mut rules = Vec::new(alloc);
     rules.push(Rule {
         count: 2,
         cosigners: Places::from_vec(places),
     })?;
     Ok(Rules::from_vec(rules))
+}
+
+/// The store for the log that knows no cosigner and trusts no subtree.
+pub(crate) fn empty_store(alloc: Global) -> Result<Store, Memory>
+    ensures { IfOk result (λ store. store ≡ light_store []) }
+{
+    let log = id_of(alloc, LOG)?;
+    Ok(Store {
+        name: log_name(alloc, &log)?,
+        log,
+        cosigners: KnownCosigners::from_vec(Vec::new(alloc)),
+        rules: Rules::from_vec(Vec::new(alloc)),
+        subtrees: Subtrees::from_vec(Vec::new(alloc)),
+        revoked: Revoked::from_vec(Vec::new(alloc)),
+    })
 }
 
 /// The store that knows the cosigners, by the rule that two of the three have signed.
@@ -65,15 +78,11 @@ pub(crate) fn store_of<H: TreeHash>(
         (map (λ node. known_as (cosigner_shown node)) cosigners.now.nodes.items)) }
 {
     let known = all_known(alloc, cosigners.as_slice())?;
-    let log = id_of(alloc, LOG)?;
-    Ok(Store {
-        name: log_name(alloc, &log)?,
-        log,
-        cosigners: KnownCosigners::from_vec(known),
-        rules: two_of_three(alloc)?,
-        subtrees: Subtrees::from_vec(Vec::new(alloc)),
-        revoked: Revoked::from_vec(Vec::new(alloc)),
-    })
+    let rules = two_of_three(alloc)?;
+    let mut store = empty_store(alloc)?;
+    store.cosigners = KnownCosigners::from_vec(known);
+    store.rules = rules;
+    Ok(store)
 }
 
 /// 1 where the certificate is accepted by all three cosigners, or else 0.

@@ -1,63 +1,26 @@
-use Rattle.std.proofs.Common.{◌≡◌, ◌∙◌, ◌-◌, ℕ, length, Ok, Err, sym, subst, ap}
-use Rattle.std.specs.Prelude.{pos}
-use Rattle.byte_formats.specs.Types.{Text}
+use Rattle.std.proofs.Common.{◌≡◌, sym, subst}
+use Rattle.std.specs.Prelude.{IfOk}
 use Rattle.issuance_log.specs.Folds.{LogState}
 use Rattle.issuance_log.specs.Staying.{stays_both}
-use Rattle.drill_core.specs.Nodes.{log_seen}
-use Rattle.policy_core.specs.Judgement.{judgement}
-use Rattle.authority_core.specs.Acceptance.{StoresAcceptLightly}
-use Rattle.authority_core.specs.Certificates.{IsLightlyWritten}
-use Rattle.drill_core.proofs.Accepting.{due_entry}
-use Rattle.drill_core.proofs.LightAccepted.{accepted_lightly}
+use Rattle.drill_core.specs.LightStores.{IsDue, IsLit, TrustsActive}
 use Rattle.drill_core.proofs.OnlyRead.{seen_stays}
 use Rattle.drill_core.proofs.light.one_light.Goals as goal
 
-pub returns-in-Ok-judge-clause-stays : goal.returns-in-Ok-judge-clause-stays
-returns-in-Ok-judge-clause-stays g c =
-    stays_both _ _ _ c.landmark_store.ensures.stays c.light_cert.ensures.stays
+pub lit_by-requires : goal.lit_by-requires
+lit_by-requires g c =
+    subst (λ (s : LogState). TrustsActive g.H.TreeHash.hash s c.in_ok-store.store)
+    (sym (seen_stays _ _ c.landmark_store.ensures.stays)) c.in_ok-store.ensures.trusts
 
-pub returns-in-Ok-judge-clause-only : goal.returns-in-Ok-judge-clause-only
-returns-in-Ok-judge-clause-only g c = λ one.
-    let h = g.H.TreeHash.hash in
-    let store = c.in_ok-store.store in
-    record {
-      cert = c.in-Ok.cert;
-      written = subst (λ (t : LogState). IsLightlyWritten h t (length t.entries - 1) c.in-Ok.cert)
-          (seen_stays _ _ c.landmark_store.ensures.stays)
-          (subst (λ (n : ℕ). IsLightlyWritten h (log_seen c.landmark_store.new.log) (n - 1)
-          c.in-Ok.cert) c.size_of-newest.ensures.value c.in-Ok.ensures.written);
-      store = store;
-      trusts = c.in_ok-store.ensures.trusts;
-      accepted = c.in-Ok-judge.field-0;
-      judged = ap (λ (t : Text). judgement h t store (pos 1767225600)) (sym c.as_slice.ensures)
-          ∙ sym c.in-Ok-judge.ensures;
-    }
+pub returns-clause-accepted : goal.returns-clause-accepted
+returns-clause-accepted g c =
+    subst (λ (s : LogState). IfOk c.lit_by.result (λ count. IsDue g.H.TreeHash.hash s → count ≡ 1))
+    (seen_stays _ _ c.landmark_store.ensures.stays) c.lit_by.ensures.accepted
+
+pub returns-clause-only : goal.returns-clause-only
+returns-clause-only g c =
+    subst (λ (s : LogState). IfOk c.lit_by.result (λ count. count ≡ 1 → IsLit g.H.TreeHash.hash s))
+    (seen_stays _ _ c.landmark_store.ensures.stays) c.lit_by.ensures.only
 
 pub returns-clause-stays : goal.returns-clause-stays
 returns-clause-stays g c =
-    stays_both _ _ _ c.landmark_store.ensures.stays c.light_cert.ensures.stays
-
-pub returns-clause-accepted : goal.returns-clause-accepted
-returns-clause-accepted g c = λ due.
-    let h = g.H.TreeHash.hash in
-    let s : LogState = log_seen c.args.log.now in
-    let says = c.law_entries_say_what_was_asked.ensures in
-    let store = c.in_ok-store.store in
-    let accepted : StoresAcceptLightly h s (length s.entries - 1) c.in-Ok.cert =
-    subst (λ (t : LogState). StoresAcceptLightly h t (length t.entries - 1) c.in-Ok.cert)
-    (seen_stays _ _ c.landmark_store.ensures.stays)
-    (subst (λ (n : ℕ). StoresAcceptLightly h (log_seen c.landmark_store.new.log) (n - 1)
-    c.in-Ok.cert) c.size_of-newest.ensures.value c.in-Ok.ensures.accepted) in
-    let taken = accepted_lightly h s (length s.entries - 1) c.in-Ok.cert store
-    c.in_ok-store.ensures.trusts due.id
-    (due_entry h s (length s.entries - 1) g.met.H.TreeHash.sized says.read says.known due.id
-    due.newest) accepted in
-    let refused : judgement h c.in-Ok.cert store (pos 1767225600) ≡ Err c.in-Err.field-0 =
-    ap (λ (t : Text). judgement h t store (pos 1767225600)) (sym c.as_slice.ensures)
-    ∙ sym c.in-Err.ensures in
-    let wrong : Ok taken.0 ≡ Err c.in-Err.field-0 = sym taken.1 ∙ refused in
-    absurd cc
-
-pub returns-in_default-clause-stays : goal.returns-in_default-clause-stays
-returns-in_default-clause-stays g c =
-    stays_both _ _ _ c.landmark_store.ensures.stays c.light_cert.ensures.stays
+    stays_both _ _ _ c.landmark_store.ensures.stays c.lit_by.ensures.stays
