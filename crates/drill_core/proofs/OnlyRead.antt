@@ -1,6 +1,6 @@
 -- What a log on devices in memory shows, behind calls that only look at them and behind one that
 -- adds a record.
-use Rattle.std.proofs.Common.{◌≡◌, ◌∙◌, List, [], ◌∷◌, ◌++◌, Ok, true, sym, ap, subst, refl}
+use Rattle.std.proofs.Common.{◌≡◌, ◌∙◌, Bool, List, [], ◌∷◌, ◌++◌, Ok, true, sym, ap, subst}
 use Rattle.std.proofs.lemmas.Option.{same_Some}
 use Rattle.byte_formats.specs.Types.{Text, HashFunction}
 use Rattle.disk_core.specs.Memory.{bytes_of}
@@ -50,10 +50,10 @@ module _ {H : Type 0} {hashes : Hashes H} where
 
   -- a call was done that adds a record
   module _ (h : HashFunction) (call : LogCall) (old new : Log H MemDisk MemDisk hashes disks disks)
-      (called : HasCalledLog h call old new true) where
+      (done : Bool) (is : done ≡ true) (called : HasCalledLog h call old new done) where
     pub seen_called : log_seen new ≡ log_called h (log_seen old) call
     seen_called =
-        same_Some (log_seen new) (log_called h (log_seen old) call) (called.grown refl).contents
+        same_Some (log_seen new) (log_called h (log_seen old) call) (called.grown is).contents
 
     pub called_stands : Represents (bytes_of (log_disk new)) (records_on (log_disk new))
         → IsLogDisk h (log_seen new) (log_disk new)
@@ -61,10 +61,10 @@ module _ {H : Type 0} {hashes : Hashes H} where
         let body : Text = record_of h (view_of old) call in
         let list : records_on (log_disk new) ≡ records_on (log_disk old) ++ body ∷ [] =
         same_Some (records_on (log_disk new)) (records_on (log_disk old) ++ body ∷ [])
-        (called.grown refl).records in
+        (called.grown is).records in
         record {
           holds = holds;
           images = λ c there. subst (λ (l : List Text). Represents c l) (sym list)
-              ((called.grown refl).kept c there);
+              ((called.grown is).kept c there);
           valid = ap (log_of h) list ∙ called.valid ∙ ap Ok (sym seen_called);
         }

@@ -88,21 +88,6 @@ fn landmarks_of<H: TreeHash>(
     of_marks(alloc, log.marks(), log.settings().max_active)
 }
 
-// The subtrees of all active landmarks of the log.
-fn log_subtrees<H: TreeHash>(
-    alloc: Global,
-    log: &mut Log<H, MemDisk, MemDisk>,
-) -> Result<Subtrees, Memory>
-    ensures active { IfOk result (λ list.
-        let l = landmarks_of (log_seen log.old).marks (log_seen log.old).settings.max_active in
-        AreOfLandmarks H.hash (log_seen log.old).entries l (active_of l).start (active_of l).end
-        list) }
-    ensures stays { LogStays log.old log.new }
-{
-    let landmarks = landmarks_of(alloc, log)?;
-    active_subtrees(alloc, log, &landmarks)
-}
-
 // The store that trusts the active subtrees of the log, and no cosigner.
 fn landmark_store<H: TreeHash>(
     alloc: Global,
@@ -111,7 +96,8 @@ fn landmark_store<H: TreeHash>(
     ensures trusts { IfOk result (TrustsActive H.hash (log_seen log.old)) }
     ensures stays { LogStays log.old log.new }
 {
-    let subtrees = log_subtrees(alloc, log)?;
+    let landmarks = landmarks_of(alloc, log)?;
+    let subtrees = active_subtrees(alloc, log, &landmarks)?;
     let mut store = empty_store(alloc)?;
     store.subtrees = subtrees;
     Ok(store)

@@ -1,4 +1,4 @@
-use Rattle.std.proofs.Common.{◌≡◌, List, length, sym, ap, subst, arith}
+use Rattle.std.proofs.Common.{List, length, sym, ap, subst, arith}
 use Rattle.std.proofs.lemmas.Result.{IfOk-weaker}
 use Rattle.byte_formats.specs.Types.{Text}
 use Rattle.drill_nodes.specs.CosignerViews.{IsExportOf}

@@ -7,12 +7,6 @@ use Rattle.drill_core.proofs.EntryCounts.{issued_length}
 use Rattle.drill_core.proofs.Turns.{hold_less}
 use Rattle.drill_core.proofs.play.grown.Goals as goal
 
-pub hold_all-requires-clause-some : goal.hold_all-requires-clause-some
-hold_all-requires-clause-some g c = c.requires.some
-
-pub hold_all-requires-clause-turns : goal.hold_all-requires-clause-turns
-hold_all-requires-clause-turns g c = c.requires.turns
-
 pub hold_all-requires-clause-larger : goal.hold_all-requires-clause-larger
 hold_all-requires-clause-larger g c =
     let longer : length (log_shown c.in_ok-log.log).entries

@@ -1,4 +1,4 @@
-use Rattle.std.proofs.Common.{◌∙◌, ℕ, length, refl, subst}
+use Rattle.std.proofs.Common.{◌∙◌, ℕ, refl, subst}
 use Rattle.std.specs.Prelude.{OnOk}
 use Rattle.byte_formats.specs.Types.{Hash}
 use Rattle.drill_nodes.specs.Cosigners.{HaveSigned, IsSigned, Paired}

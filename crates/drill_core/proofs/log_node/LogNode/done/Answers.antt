@@ -1,24 +1,19 @@
-use Rattle.std.proofs.Common.{Bool, true, refl, subst}
+use Rattle.std.proofs.Common.{refl}
 use Rattle.disk_core.specs.Memory.{bytes_of}
-use Rattle.drill_core.specs.Calls.{HasCalledLog}
 use Rattle.drill_core.proofs.OnlyRead.{called_stands, seen_called}
 use Rattle.drill_core.proofs.log_node.LogNode.done.Goals as goal
 
 pub invariant_of-result : goal.invariant_of-result
 invariant_of-result g c =
     let new = c.call_log.new.log in
-    let called : HasCalledLog g.H.TreeHash.hash c.args.call.now c.args.self.log new true =
-    subst (λ (d : Bool). HasCalledLog g.H.TreeHash.hash c.args.call.now c.args.self.log new d)
-    c.if-branch.true c.in_ok-call_log.ensures in
     record {
-      sound = (called.grown refl).sound;
-      stands = called_stands g.H.TreeHash.hash c.args.call.now c.args.self.log new called
+      sound = (c.in_ok-call_log.ensures.grown c.if-branch.true).sound;
+      stands = called_stands g.H.TreeHash.hash c.args.call.now c.args.self.log new _
+          c.if-branch.true c.in_ok-call_log.ensures
           (new.journal.stands (bytes_of new.journal.disk) refl);
     }
 
 pub returns-then-branch-clause-state : goal.returns-then-branch-clause-state
 returns-then-branch-clause-state g c =
-    let new = c.call_log.new.log in
-    seen_called g.H.TreeHash.hash c.args.call.now c.args.self.log new
-    (subst (λ (d : Bool). HasCalledLog g.H.TreeHash.hash c.args.call.now c.args.self.log new d)
-    c.if-branch.true c.in_ok-call_log.ensures)
+    seen_called g.H.TreeHash.hash c.args.call.now c.args.self.log c.call_log.new.log _
+    c.if-branch.true c.in_ok-call_log.ensures
