@@ -1,12 +1,11 @@
 -- What an audit finds.
 use Rattle.std.proofs.Common.{◌≡◌, ◌≢◌, ℕ, ◌-◌, ◌<◌, ◌≤◌, Bool, true, false, List, [], ◌∷◌, ◌++◌}
-use Rattle.std.proofs.Common.{length, get_or, take, drop, Some, None, Ok, Err, refl, sym, ap}
+use Rattle.std.proofs.Common.{length, get_or, drop, Some, None, Ok, Err, refl, sym, ap}
 use Rattle.std.proofs.Common.{subst, ◌∙◌, arith, ltb-true, ltb-false, eqb-true, true≢false}
-use Rattle.std.proofs.lemmas.Bool.{leb-true}
+use Rattle.std.proofs.lemmas.Bool.{leb-true, and_parts, not-false}
 use Rattle.std.specs.Prelude.{Result, Option, bytes_eq, nat_lt, nat_le, not, ◌&&◌, ◌||◌, ◌==◌}
 use Rattle.std.specs.Prelude.{IfSome, if◌then◌else◌, ok_or}
 use Rattle.std.specs.List.{Contains, position}
-use Rattle.std.proofs.lemmas.Bool.{and_parts}
 use Rattle.std.proofs.lemmas.List.{get_or_default, length-drop, take_all}
 use Rattle.std.proofs.lemmas.List.Quantifiers.{position-Some}
 use Rattle.std.proofs.Math.Seq.{take-length}
@@ -50,9 +49,7 @@ use Rattle.collide.specs.declared.finding.Finding.{Finding}
 use Rattle.collide.specs.declared.finding.Finding.TheVariants.{Pair as Found, Same}
 use Rattle.collide.proofs.Compared.{collision_widened}
 use Rattle.cosigner_steps.specs.Steps.{AreSteps, HasPrefix, IsOfList, IsSign, IsWithin}
-use Rattle.cosigner_steps.specs.Steps.{prefix_inputs}
-use Rattle.cosigner_steps.specs.Steps.{held_behind, held_by}
-use Rattle.cosigner_steps.specs.Steps.{proof_inputs}
+use Rattle.cosigner_steps.specs.Steps.{prefix_inputs, held_behind, held_by, proof_inputs}
 use Rattle.world_core.specs.Audit.{AuditCase, HasInterval, Settles, WasJudged, firsts_of}
 use Rattle.world_core.specs.Audit.{foreign_in, prefix_inputs_of, has_own, hash_there, is_lacking}
 use Rattle.world_core.specs.Audit.{is_sign_of, listed_entry, listed_key, of_checkpoint}
@@ -63,10 +60,6 @@ use Rattle.world_core.specs.declared.wanted.WantedHash.{WantedHash}
 use Rattle.world_core.specs.declared.answer.Audit.{Audit}
 use Rattle.world_core.specs.declared.answer.Audit.TheVariants.{Foreign, Pair, Stands, Unrecorded}
 use Rattle.cosigner_steps.proofs.Holding.{sign_long}
-
-not_no : (b : Bool) → not b ≡ false → b ≡ true
-not_no true e = refl
-not_no false e = absurd cc
 
 -- ---- what was judged
 
@@ -81,7 +74,7 @@ eval_inside h leaf index start end path value e =
     if not (nat_le start index && nat_lt index end) then Err Outside else rest in
     let one = guard_ok (not (is_subtree start end)) BadSubtree inner value e in
     let two = guard_ok (not (nat_le start index && nat_lt index end)) Outside rest value one.1 in
-    let test = not_no (nat_le start index && nat_lt index end) two.0 in
+    let test = not-false (nat_le start index && nat_lt index end) two.0 in
     let both = and_parts (nat_le start index) (nat_lt index end) test in
     (leb-true start index both.0, ltb-true index end both.1)
 
@@ -141,7 +134,7 @@ not_foreign h entries w e =
       within = ltb-false (length entries) w.end two.0;
       root =
           (bytes_eq-Decides (hash_there h entries w) w.hash).0
-          (not_no (bytes_eq (hash_there h entries w) w.hash) two.1);
+          (not-false (bytes_eq (hash_there h entries w) w.hash) two.1);
     }
 
 pub interval_there : (h : HashFunction) (items : ItemLists) (a : Accepted)
