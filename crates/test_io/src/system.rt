@@ -224,19 +224,21 @@ fn causes<R: Files<File = File>>(files: &R, name: &str) -> [Cause; 2] {
     [of_journal, room.cause()]
 }
 
-// Why a room failed at a journal that is locked, and then at a folder that can't be read.
-fn causes_after_lock<R: Files<File = File>>(files: &R, name: &str) -> [Cause; 2] {
+// Why a room failed at a journal that is locked, and then at a folder that it opens and can't read:
+// nothing where it doesn't open it.
+fn causes_after_lock<R: Files<File = File>>(files: &R, name: &str) -> Option<[Cause; 2]> {
     let mut room = FileRoom::new(files);
     if let Ok(disk) = room.disk(name) {
         room.keep(name, disk);
     }
     let of_journal = room.cause();
-    if let Ok(mut folder) = room.source(".") {
-        let mut byte = [0];
-        let _ = folder.read(&mut byte);
-        room.done(folder);
-    }
-    [of_journal, room.cause()]
+    let Ok(mut folder) = room.source(".") else {
+        return None;
+    };
+    let mut byte = [0];
+    let _ = folder.read(&mut byte);
+    room.done(folder);
+    Some([of_journal, room.cause()])
 }
 
 // Whether a file isn't lent that another opening has locked, as a journal or for tiles, and that
@@ -245,7 +247,7 @@ fn is_refused<R: Files<File = File>>(files: &R, name: &str) -> io::Result<bool> 
     let other = open_to_write(files, name)?;
     let is_reported = other.try_lock().is_ok() && !opens(files, name);
     let locked = causes(files, name) == [Cause::Locked, Cause::Locked]
-        && causes_after_lock(files, name) == [Cause::Locked, Cause::Failed];
+        && causes_after_lock(files, name) == Some([Cause::Locked, Cause::Failed]);
     drop(other);
     Ok(is_reported && locked && causes(files, name) == [Cause::Failed, Cause::Failed])
 }
