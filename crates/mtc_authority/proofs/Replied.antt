@@ -1,6 +1,6 @@
 -- What comes of a work that only looks at a log.
 use Rattle.std.proofs.Common.{◌≡◌, ◌≢◌, ℕ, ◌≤◌, Option, Some, None, IfSome}
-use Rattle.std.proofs.Common.{option_map, inl, inr, arith, ap, ◌∙◌, subst}
+use Rattle.std.proofs.Common.{option_map, inl, inr, ap, ◌∙◌, subst}
 use Rattle.std.specs.Prelude.{option_and_then}
 use Rattle.std.proofs.lemmas.Option.{IfSome_then}
 use Rattle.byte_formats.specs.Types.{Text}
@@ -15,6 +15,7 @@ use Rattle.issuance_log.specs.declared.log.Log.{Log}
 use Rattle.journal_core.specs.Format.{records_of}
 use Rattle.mtc_command.specs.Answers.{Ending, Reply, no_memory, replied, room_failed, status_of}
 use Rattle.mtc_command.specs.Answers.{tiles_name}
+use Rattle.mtc_command.proofs.Served.{rose_since}
 use Rattle.authority_core.proofs.Modelled.{both_of}
 use Rattle.mtc_authority.specs.LogOutcomes.{StopsAt}
 use Rattle.mtc_authority.specs.Works.{RepliesOnLog}
@@ -95,13 +96,9 @@ module _ {H D : Type 0} {hashes : Hashes H} {g : Ghosts D} where
 
 -- ---- faults of more than one call
 
-pub rose_later : (before mid after : ℕ) → before ≤ mid → Rose mid after → Rose before after
-rose_later before mid after le (inl less) = inl (omega arith)
-rose_later before mid after le (inr last) = inr last
-
 pub stops_later : (before mid after : ℕ) (file : Text) → before ≤ mid → (ending : Ending)
     → StopsAt (Rose mid after) file ending → StopsAt (Rose before after) file ending
 stops_later before mid after file le (replied reply) is = is
 stops_later before mid after file le (room_failed at) is =
-    (is.0, rose_later before mid after le is.1)
+    (is.0, rose_since before mid after le is.1)
 stops_later before mid after file le no_memory is = tt

@@ -4,7 +4,8 @@ use Rattle.issuance_log.specs.Folds.{LogView}
 use Rattle.issuance_log.specs.Settings.{Settings}
 use Rattle.issuance_log.specs.Staying.{asks_both}
 use Rattle.issuance_log.specs.Words.{both_records, log_tiles_disk, view_of}
-use Rattle.mtc_authority.proofs.Replied.{both_before, rose_later}
+use Rattle.mtc_command.proofs.Served.{rose_since}
+use Rattle.mtc_authority.proofs.Replied.{both_before}
 use Rattle.mtc_authority.proofs.Requested.{subtree_modelled}
 use Rattle.mtc_authority.proofs.requests.subtree_request.Goals as goal
 
@@ -25,7 +26,7 @@ returns-in_default-proof_of g c =
       text = tt;
       stops = (
         refl,
-        rose_later before mid after asks.tiles.faults
+        rose_since before mid after asks.tiles.faults
             c.in_default-proof_of.ensures.cause.failed,
       );
       asks = asks_both _ _ _ asks c.proof_of.ensures.asks;
