@@ -25,6 +25,8 @@ use Rattle.cosigner_core.specs.declared.error.CosignerOpenError.{CosignerOpenErr
 use Rattle.cosigner_core.specs.declared.settings.CosignerSettings.{CosignerSettings}
 use Rattle.cosigner_core.specs.declared.step.Step.{Step}
 use Rattle.cosigner_core.proofs.ExportAgain.{export_again}
+use Rattle.mtc_command.specs.Made.{reads}
+use Rattle.mtc_command.specs.Served.{Journals}
 use Rattle.mtc_command.specs.Steps.{Files, Outcome, stops_at, with_file, with_form}
 use Rattle.mtc_command.specs.Wanted.{Meets}
 use Rattle.mtc_command.specs.declared.answer.Stopped.TheVariants.{Missing}
@@ -37,10 +39,12 @@ use Rattle.node_history.specs.declared.start.NodeStart.TheVariants.{Cosigner}
 use Rattle.node_history.proofs.Chains.{map_some}
 use Rattle.node_history.proofs.Cosigners.{of_first}
 use Rattle.node_history.proofs.Steps.{some_is}
-use Rattle.mtc_top.specs.Courses.{Link, Turn, HasTurned, IsCourse, IsBegun, IsHeard, IsRecovered}
+use Rattle.mtc_top.specs.Courses.{AreAmong, Link, Turn, HasTurned, IsCourse, IsBegun, IsHeard}
+use Rattle.mtc_top.specs.Courses.{IsRecovered}
 use Rattle.mtc_top.specs.ExportLaws.{ExportsHoldTheSteps, HasExported}
 use Rattle.mtc_top.specs.Facts.{facts}
 use Rattle.mtc_top.specs.Run.{Answered}
+use Rattle.mtc_top.proofs.Printed.{HasDone, done_so}
 use Rattle.mtc_top.proofs.Recovered.{held_prefix, last, read_again}
 use Rattle.mtc_top.proofs.Turns.{file_bytes, heard_run, not_refused, printed_so, modelled_file}
 use Rattle.mtc_top.proofs.Turns.{contents_image}
@@ -157,6 +161,11 @@ module _ {R S D O E : Type 0} (h : HashFunction) (rooms : Rooms R S D) (disks : 
         let meets = replied (export_says found)
         (asked_there h name (rooms.file new) c found there opened.1) in
         let text = export_text opened.0 node.records in
+        let done = subst
+        (HasDone h rooms disks outs errs contents bytes (name ∷ []) new turn run heard)
+        (asked_there h name (rooms.file new) c found there opened.1)
+        (done_so h rooms disks outs errs contents bytes (name ∷ []) new turn run heard (export name)
+        is_modelled spoken refl) in
         let recovered : IsRecovered h rooms disks outs errs name new node.records
         = (
           c,
@@ -170,6 +179,8 @@ module _ {R S D O E : Type 0} (h : HashFunction) (rooms : Rooms R S D) (disks : 
         record {
           list = node.records;
           recovered = recovered;
+          was_read = subst (λ (js : Journals). AreAmong js name (reads node.records))
+              (sym done.journals_are) (inl (refl, refl));
           state = opened.0;
           state_is = stands.1;
           text = text;

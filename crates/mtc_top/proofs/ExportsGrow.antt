@@ -11,10 +11,11 @@ use Rattle.mtc_words.specs.Words.{command_of}
 use Rattle.cosigner_core.specs.Exports.{export_text, records_text}
 use Rattle.cosigner_core.specs.Folds.{cosigner_of}
 use Rattle.cosigner_core.specs.declared.settings.CosignerSettings.{CosignerSettings}
+use Rattle.mtc_command.specs.Made.{reads}
 use Rattle.mtc_command.proofs.Made.{OnlyNow, ReadsImage}
 use Rattle.node_history.specs.Laws.{Begins}
 use Rattle.node_history.proofs.Cosigners.{export_grows}
-use Rattle.mtc_top.specs.Courses.{Link, Turn, HasHeld, HasPrinted, HasTurned}
+use Rattle.mtc_top.specs.Courses.{DidWith, Link, Turn, HasHeld, HasPrinted, HasTurned}
 use Rattle.mtc_top.specs.Courses.{IsHeard}
 use Rattle.mtc_top.specs.ExportLaws.{ExportsOnlyGrow, HasExported, HasMoreThan}
 use Rattle.mtc_top.specs.PrintLaws.{OfHeard}
@@ -36,7 +37,8 @@ module _ {R S D O E : Type 0} (h : HashFunction) (rooms : Rooms R S D) (disks : 
         → HasTurned h rooms disks outs errs old earlier → IsHeard outs earlier
         → command_of earlier.words ≡ Ok (export name)
         → ((list : List (List ℕ)) → HasHeld h rooms disks outs errs name old earlier list
-        → Begins list now.list) → HasMoreThan h rooms disks outs errs name old earlier turn
+        → Begins list now.list)
+        → HasMoreThan h rooms disks outs errs name old earlier new turn
     has_more old earlier is_modelled run heard spoken prefixes =
         let said = says_so h rooms disks outs errs image only contents bytes old earlier is_modelled
         run heard
@@ -53,9 +55,12 @@ module _ {R S D O E : Type 0} (h : HashFunction) (rooms : Rooms R S D) (disks : 
         record {
           list = list;
           read = said.1.1.1;
+          rest = prefix.0;
+          later_read = subst
+              (λ (l : List (List ℕ)). DidWith h rooms disks outs errs new turn name (reads l))
+              (sym prefix.1) now.was_read;
           state = state;
           state_is = said.1.1.0;
-          more = records_text prefix.0;
           before = said.1.1.2;
           now = subst (HasPrinted outs turn) same now.printed;
         }
@@ -68,7 +73,8 @@ module _ {R S D O E : Type 0} (h : HashFunction) (rooms : Rooms R S D) (disks : 
       new links begun course settings public is turn run spoken heard in
       each_held h rooms disks outs errs image only contents name (λ list. Begins list now.list)
       (OfHeard h rooms disks outs errs (export name) (λ old earlier.
-      HasMoreThan h rooms disks outs errs name old earlier turn)) begins new links begun.is_modelled
+      HasMoreThan h rooms disks outs errs name old earlier new turn)) begins new links
+      begun.is_modelled
       course (λ list held. held_prefix h rooms disks outs errs image only contents bytes name start
       first
       begins new links begun course list now.list held now.recovered)

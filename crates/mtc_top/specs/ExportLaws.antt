@@ -7,7 +7,7 @@ use Rattle.mtc_room.specs.declared.room.Room.{Ghosts as Rooms}
 use Rattle.mtc_words.specs.Commands.{export}
 use Rattle.mtc_words.specs.Words.{command_of}
 use Rattle.cosigner_core.specs.ExportReading.{export_in, export_progress}
-use Rattle.cosigner_core.specs.Exports.{export_text}
+use Rattle.cosigner_core.specs.Exports.{export_text, records_text}
 use Rattle.cosigner_core.specs.Folds.{CosignerState, cosigner_of}
 use Rattle.cosigner_core.specs.Records.{step_in}
 use Rattle.cosigner_core.specs.Progress.{steps_in}
@@ -24,13 +24,15 @@ use Rattle.mtc_top.specs.PrintLaws.{OfHeard}
 
 module _ {R S D O E : Type 0} (h : HashFunction) (rooms : Rooms R S D) (disks : Disks D)
     (outs : Sinks O) (errs : Sinks E) where
-  -- What went out is the export of a list with which the journal might have been recovered then. It
-  -- has the ids of the settings and this public key. It is read as the steps of these records, each
-  -- of which is allowed, and the step of each record that a run held before is among them.
+  -- What went out is the export of a list with which the journal might have been recovered then,
+  -- and which the run read. It has the ids of the settings and this public key. It is read as the
+  -- steps of these records, each of which is allowed, and the step of each record that a run held
+  -- before is among them.
   pub record HasExported (settings : CosignerSettings) (public name : Text) (begun : R)
       (links : List (Link R O E)) (old : R) (turn : Turn R O E) : Type 0 where
     pub list : List Text
     pub recovered : IsRecovered h rooms disks outs errs name old list
+    pub was_read : DidWith h rooms disks outs errs old turn name (reads list)
     pub state : CosignerState
     pub state_is : cosigner_of h list ≡ Ok state
     pub text : Text
@@ -57,16 +59,19 @@ module _ {R S D O E : Type 0} (h : HashFunction) (rooms : Rooms R S D) (disks : 
       → command_of turn.words ≡ Ok (export name) → IsHeard outs turn
       → HasExported settings public name old links new turn)
 
-  -- The earlier run read these records and printed their export, and what the later one printed
-  -- begins with that. Of a run that ended with status 0 it is the whole text.
-  pub record HasMoreThan (name : Text) (old : R) (earlier later : Turn R O E) : Type 0 where
+  -- The earlier run read these records and printed their export. The later one, which began with
+  -- `new`, read these and the rest after them, and printed what the earlier one did and the rest
+  -- after it. Of a run that ended with status 0 it is the whole text.
+  pub record HasMoreThan (name : Text) (old : R) (earlier : Turn R O E) (new : R)
+      (later : Turn R O E) : Type 0 where
     pub list : List Text
     pub read : DidWith h rooms disks outs errs old earlier name (reads list)
+    pub rest : List Text
+    pub later_read : DidWith h rooms disks outs errs new later name (reads (list ++ rest))
     pub state : CosignerState
     pub state_is : cosigner_of h list ≡ Ok state
-    pub more : Text
     pub before : HasPrinted outs earlier (export_text state list)
-    pub now : HasPrinted outs later (export_text state list ++ more)
+    pub now : HasPrinted outs later (export_text state list ++ records_text rest)
 
   -- So it is of each run of `export` behind a course of a cosigner's journal, and of each before it
   -- in the course, that did its work, or of which a byte may have gone out.
@@ -76,4 +81,4 @@ module _ {R S D O E : Type 0} (h : HashFunction) (rooms : Rooms R S D) (disks : 
       → (turn : Turn R O E) → HasTurned h rooms disks outs errs new turn
       → command_of turn.words ≡ Ok (export name) → IsHeard outs turn
       → OfEachTurn h rooms disks outs errs (OfHeard h rooms disks outs errs (export name)
-      (λ before earlier. HasMoreThan name before earlier turn)) old links)
+      (λ before earlier. HasMoreThan name before earlier new turn)) old links)

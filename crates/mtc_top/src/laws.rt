@@ -110,9 +110,10 @@ pub fn law_exports_hold_what_went_out<H: TreeHash, R: Room, O: Sink, E: Sink>()
 
 /// What a run of `export` prints behind a course of a cosigner's journal begins with what each run
 /// of `export` in that course printed, which is the export of the records that this run read. Of
-/// each it is the whole text with status 0, and a front of it with 6. So no course leads to a
-/// journal whose export doesn't begin with an earlier one: an old copy was put back, or the journal
-/// was damaged.
+/// each it is the whole text with status 0, and a front of it with 6. Over any output the run reads
+/// the records that each of those read and a rest after them, and what it prints more is the rest.
+/// So no course leads to a journal whose export doesn't begin with an earlier one: an old copy was
+/// put back, or the journal was damaged.
 pub fn law_exports_only_grow<H: TreeHash, R: Room, O: Sink, E: Sink>()
     ensures { ExportsOnlyGrow H.hash R.Room R.Dsk.Disk O.Sink E.Sink }
 {}
