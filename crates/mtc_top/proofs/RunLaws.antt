@@ -198,6 +198,7 @@ module _ {R S D O E : Type 0} (h : List ℕ → List ℕ) (rooms : Rooms R S D) 
       first = λ bad not8. absurd (spoken_words bad);
       back = run.back;
       only_read = run.only_read;
+      spares = run.spares;
       no_file = run.no_file;
       early = λ is_modelled. each_so _ _ (λ name did early is. absurd (not_early (early is)))
           (journals h rooms disks outs errs words old new out out' err err')

@@ -19,6 +19,7 @@ use Rattle.mtc_command.specs.declared.answer.Stopped.TheVariants.{NotAllowed}
 use Rattle.mtc_command.specs.declared.answer.Stopped.TheVariants.{Missing, Beyond}
 use Rattle.mtc_command.specs.Works.{ModelsNew}
 use Rattle.mtc_command.proofs.Served.{each_so, each_is}
+use Rattle.mtc_authority.specs.NoJournal.{SparesTiles}
 use Rattle.mtc_io.proofs.Streams.{prefix_whole}
 use Rattle.mtc_top.specs.Concluded.{Wrote, Lost, Reported, Concludes, word_of}
 use Rattle.mtc_top.specs.Facts.{Facts, facts}
@@ -84,16 +85,20 @@ module _ {R S D O E : Type 0} (h : List ℕ → List ℕ) (rooms : Rooms R S D) 
   OnlyRead =
       rooms.is_modelled old → LeavesEach rooms disks old new (done_with asked.only_reads []) HasKept
 
+  abbrev Spares : Type 0
+  Spares =
+      OfEach (λ name did. SparesTiles rooms old new name) (done_with asked.journals want.journals)
+
   no_file : (ending : Ending) → Did ending → rooms.is_modelled old
       → OfEach (λ name did. IsOnOld did → IsUnmade rooms old new name)
       (done_with asked.journals want.journals)
   no_file ending done is_modelled = (done.made is_modelled).no_file
 
   -- the reply went out
-  run_wrote : (reply : Reply) (status : ℕ) → Valid → OnlyRead → New (replied reply)
+  run_wrote : (reply : Reply) (status : ℕ) → Valid → OnlyRead → Spares → New (replied reply)
       → Did (replied reply)
       → Wrote outs errs (known_word words) out out' err err' reply status → Run status
-  run_wrote reply status valid only_read began done wrote =
+  run_wrote reply status valid only_read spares began done wrote =
       let code = reply_code reply in
       record {
         answered = λ not5 not8. record {
@@ -118,6 +123,7 @@ module _ {R S D O E : Type 0} (h : List ℕ → List ℕ) (rooms : Rooms R S D) 
         no_memory = λ is. absurd (code.not8 (sym wrote.code ∙ is));
         back = done.back;
         only_read = only_read;
+        spares = spares;
         no_file = no_file (replied reply) done;
         valid = valid;
         early = λ is_modelled. subst (λ n. OfEach (λ name did. did ≡ untouched → IsEarly n)
@@ -126,10 +132,10 @@ module _ {R S D O E : Type 0} (h : List ℕ → List ℕ) (rooms : Rooms R S D) 
       }
 
   -- standard output failed
-  run_lost : (kind : Said) (text : List ℕ) (status : ℕ) → Valid → OnlyRead
+  run_lost : (kind : Said) (text : List ℕ) (status : ℕ) → Valid → OnlyRead → Spares
       → New (replied (said kind text)) → Did (replied (said kind text))
       → Lost outs errs (known_word words) out out' err err' text status → Run status
-  run_lost kind text status valid only_read began done lost = record {
+  run_lost kind text status valid only_read spares began done lost = record {
     answered = λ not5 not8. record {
       reply = said kind text;
       is = λ where_. elim where_ [
@@ -152,6 +158,7 @@ module _ {R S D O E : Type 0} (h : List ℕ → List ℕ) (rooms : Rooms R S D) 
     no_memory = λ is. absurd (omega (arith, lost.code, is));
     back = done.back;
     only_read = only_read;
+    spares = spares;
     no_file = no_file (replied (said kind text)) done;
     valid = valid;
     early =
@@ -163,13 +170,13 @@ module _ {R S D O E : Type 0} (h : List ℕ → List ℕ) (rooms : Rooms R S D) 
   }
 
   -- the room failed
-  run_failed : (file : List ℕ) (status : ℕ) → Valid → OnlyRead → New (room_failed file)
+  run_failed : (file : List ℕ) (status : ℕ) → Valid → OnlyRead → Spares → New (room_failed file)
       → Did (room_failed file)
       → Reported outs errs (known_word words) out out' err err' 5 (Some file)
       (word_of (rooms.why new))
       status
       → Run status
-  run_failed file status valid only_read began done contents = record {
+  run_failed file status valid only_read spares began done contents = record {
     only = λ one. absurd (omega (arith, contents.is, one));
     first = λ bad not8. absurd (done.ends.words bad);
     answered = λ not5 not8. absurd (not5 contents.is);
@@ -185,6 +192,7 @@ module _ {R S D O E : Type 0} (h : List ℕ → List ℕ) (rooms : Rooms R S D) 
     no_memory = λ is. absurd (omega (arith, contents.is, is));
     back = done.back;
     only_read = only_read;
+    spares = spares;
     no_file = no_file (room_failed file) done;
     valid = valid;
     early = λ is_modelled. each_is (λ name did. did ≡ untouched → IsEarly status)
@@ -193,10 +201,10 @@ module _ {R S D O E : Type 0} (h : List ℕ → List ℕ) (rooms : Rooms R S D) 
   }
 
   -- memory was refused
-  run_starved : (status : ℕ) → Valid → OnlyRead → New no_memory → Did no_memory
+  run_starved : (status : ℕ) → Valid → OnlyRead → Spares → New no_memory → Did no_memory
       → Reported outs errs (known_word words) out out' err err' 8 None (codes "Memory") status
       → Run status
-  run_starved status valid only_read began done contents = record {
+  run_starved status valid only_read spares began done contents = record {
     only = λ one. absurd (omega (arith, contents.is, one));
     first = λ bad not8. absurd (not8 contents.is);
     answered = λ not5 not8. absurd (not8 contents.is);
@@ -210,6 +218,7 @@ module _ {R S D O E : Type 0} (h : List ℕ → List ℕ) (rooms : Rooms R S D) 
     };
     back = done.back;
     only_read = only_read;
+    spares = spares;
     no_file = no_file no_memory done;
     valid = valid;
     early = λ is_modelled. each_is (λ name did. did ≡ untouched → IsEarly status)
@@ -217,16 +226,17 @@ module _ {R S D O E : Type 0} (h : List ℕ → List ℕ) (rooms : Rooms R S D) 
         (done_with asked.journals want.journals);
   }
 
-  pub has_run : (ending : Ending) (status : ℕ) → Did ending → Valid → OnlyRead → New ending
+  pub has_run : (ending : Ending) (status : ℕ) → Did ending → Valid → OnlyRead → Spares
+      → New ending
       → Concludes outs errs (known_word words) out out' err err' ending (rooms.why new) status
       → HasRun h rooms disks outs errs words old new out out' err err' status
-  has_run (replied (said kind text)) status done valid only_read began ends = elim ends [
-    | inl wrote ↦ run_wrote (said kind text) status valid only_read began done wrote
-    | inr lost ↦ run_lost kind text status valid only_read began done lost
+  has_run (replied (said kind text)) status done valid only_read spares began ends = elim ends [
+    | inl wrote ↦ run_wrote (said kind text) status valid only_read spares began done wrote
+    | inr lost ↦ run_lost kind text status valid only_read spares began done lost
   ]
-  has_run (replied (refused why file reason)) status done valid only_read began wrote =
-      run_wrote (refused why file reason) status valid only_read began done wrote
-  has_run (room_failed file) status done valid only_read began contents =
-      run_failed file status valid only_read began done contents
-  has_run no_memory status done valid only_read began contents =
-      run_starved status valid only_read began done contents
+  has_run (replied (refused why file reason)) status done valid only_read spares began wrote =
+      run_wrote (refused why file reason) status valid only_read spares began done wrote
+  has_run (room_failed file) status done valid only_read spares began contents =
+      run_failed file status valid only_read spares began done contents
+  has_run no_memory status done valid only_read spares began contents =
+      run_starved status valid only_read spares began done contents

@@ -17,6 +17,7 @@ use Rattle.mtc_command.specs.Served.{Journals, OfEach, LeavesEach, done_with, Cl
 use Rattle.mtc_command.specs.Valid.{KeepsValid}
 use Rattle.mtc_command.specs.Wanted.{Meets}
 use Rattle.mtc_command.specs.Works.{ModelsNew}
+use Rattle.mtc_authority.specs.NoJournal.{SparesTiles}
 use Rattle.mtc_top.specs.Concluded.{Prints, PrintsPrefix, Reports, word_of}
 use Rattle.mtc_top.specs.Facts.{Facts, facts}
 
@@ -94,6 +95,9 @@ module _ {R S D O E : Type 0} (h : HashFunction) (rooms : Rooms R S D) (disks : 
     -- Nothing new is left of a file that is only looked at.
     pub only_read : rooms.is_modelled old
         → LeavesEach rooms disks old new (done_with asked.only_reads []) HasKept
+    -- Where a journal isn't there, or its file doesn't begin with the header of a journal, the file
+    -- of its tiles stays as it was, and isn't made.
+    pub spares : OfEach (λ name did. SparesTiles rooms old new name) journals
     -- No journal is made but a new one.
     pub no_file : rooms.is_modelled old
         → OfEach (λ name did. IsOnOld did → IsUnmade rooms old new name) journals

@@ -6,7 +6,8 @@ ghost use Rattle.mtc_words.specs.Commands.{command_value, IsInRange};
 ghost use Rattle.mtc_words.specs.Words.{command_of};
 ghost use Rattle.mtc_command.specs.Answers.{ending_of};
 ghost use Rattle.mtc_command.specs.Made.{HasKept};
-ghost use Rattle.mtc_command.specs.Served.{HasDone, LeavesEach, done_with};
+ghost use Rattle.mtc_authority.specs.NoJournal.{SparesTiles};
+ghost use Rattle.mtc_command.specs.Served.{HasDone, LeavesEach, OfEach, done_with};
 ghost use Rattle.mtc_command.specs.Valid.{KeepsValid};
 ghost use Rattle.mtc_command.specs.Works.{ModelsNew};
 ghost use Rattle.mtc_top.specs.Facts.{facts, facts_of};
@@ -54,6 +55,9 @@ fn perform<'a, H: TreeHash, R: Room>(
         ModelsNew R.Room R.Dsk.Disk name room.old room.new (ending_of result)) }
     ensures only_read { R.is_modelled room.old → LeavesEach R.Room R.Dsk.Disk room.old room.new
         (done_with (facts_of H.hash (command_value command.entry)).only_reads []) HasKept }
+    ensures spares { let asked = facts_of H.hash (command_value command.entry) in
+        OfEach (λ name did. SparesTiles R.Room room.old room.new name)
+        (done_with asked.journals (asked.outcome (R.file room.old)).journals) }
 {
     match command {
         Command::Member(file) => member::<H, R>(alloc, room, file),
@@ -108,6 +112,9 @@ fn answer<'a, H: TreeHash, R: Room>(
         ModelsNew R.Room R.Dsk.Disk name room.old room.new (ending_of result)) }
     ensures only_read { R.is_modelled room.old → LeavesEach R.Room R.Dsk.Disk room.old room.new
         (done_with (facts H.hash (command_of (map string_bytes words.now))).only_reads []) HasKept }
+    ensures spares { let asked = facts H.hash (command_of (map string_bytes words.now)) in
+        OfEach (λ name did. SparesTiles R.Room room.old room.new name)
+        (done_with asked.journals (asked.outcome (R.file room.old)).journals) }
 {
     match read_words(alloc, words) {
         Ok(command) => perform::<H, R>(alloc, room, command),

@@ -2,7 +2,9 @@ use Rattle.std.proofs.Common.{IfSome, Result, subst, sym}
 use Rattle.mtc_words.specs.Commands.{CommandValue}
 use Rattle.mtc_words.specs.declared.error.WordError.{WordError}
 use Rattle.mtc_command.specs.Answers.{ending_of}
+use Rattle.mtc_command.specs.Served.{OfEach, done_with}
 use Rattle.mtc_command.specs.Works.{ModelsNew}
+use Rattle.mtc_authority.specs.NoJournal.{SparesTiles}
 use Rattle.mtc_top.specs.Facts.{facts}
 use Rattle.mtc_top.proofs.top.answer.Goals as goal
 
@@ -11,3 +13,11 @@ returns-in-Ok-clause-began g c =
     subst (λ (said : Result CommandValue WordError). IfSome (facts g.H.TreeHash.hash said).makes
     (λ name. ModelsNew g.R.Room g.R.Dsk.Disk name c.args.room.now c.perform.new.room
     (ending_of c.perform.result))) (sym c.in-Ok.ensures.exact) c.perform.ensures.began
+
+pub returns-in-Ok-clause-spares : goal.returns-in-Ok-clause-spares
+returns-in-Ok-clause-spares g c =
+    subst (λ (said : Result CommandValue WordError).
+    OfEach (λ name did. SparesTiles g.R.Room c.args.room.now c.perform.new.room name)
+    (done_with (facts g.H.TreeHash.hash said).journals
+    ((facts g.H.TreeHash.hash said).outcome (g.R.Room.file c.args.room.now)).journals))
+    (sym c.in-Ok.ensures.exact) c.perform.ensures.spares

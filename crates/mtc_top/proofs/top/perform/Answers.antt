@@ -1,8 +1,18 @@
-use Rattle.std.proofs.Common.{[], refl, arith}
+use Rattle.std.proofs.Common.{◌≡◌, ℕ, List, [], ◌∷◌, refl, sym, arith}
+use Rattle.mtc_room.specs.declared.room.Room.{Ghosts as Rooms}
+use Rattle.mtc_command.proofs.Beside.{longer_other}
 use Rattle.mtc_command.proofs.Served.{answered}
-use Rattle.mtc_command.specs.Answers.{ending_of}
+use Rattle.mtc_command.specs.Answers.{ending_of, tiles_name}
+use Rattle.mtc_command.specs.Served.{ClosesAll}
+use Rattle.mtc_authority.specs.NoJournal.{SparesTiles}
 use Rattle.mtc_drill.specs.Summary.{drill_outcome}
 use Rattle.mtc_top.proofs.top.perform.Goals as goal
+
+-- a command that names no file of tiles leaves each
+spared : {R S D : Type 0} (rooms : Rooms R S D) (old new : R) (name : List ℕ)
+    → ClosesAll rooms old new (name ∷ []) → SparesTiles rooms old new name
+spared rooms old new name closes = λ t not. closes.others (tiles_name name)
+    (λ (same : tiles_name name ≡ name). longer_other name (sym same), tt)
 
 -- the room is as it was
 pub returns-in-Drill-clause-done : goal.returns-in-Drill-clause-done
@@ -32,3 +42,26 @@ returns-in-InitLog-clause-began g c = rw c.in-InitLog.is c.init_log.ensures.begi
 
 pub returns-in-InitCosigner-clause-began : goal.returns-in-InitCosigner-clause-began
 returns-in-InitCosigner-clause-began g c = rw c.in-InitCosigner.is c.init_cosigner.ensures.begins
+
+pub returns-in-InitLog-clause-spares : goal.returns-in-InitLog-clause-spares
+returns-in-InitLog-clause-spares g c = rw c.in-InitLog.is
+    (spared g.R.Room c.args.room.now c.init_log.new.room _ c.init_log.ensures.serves.back, tt)
+
+pub returns-in-InitCosigner-clause-spares : goal.returns-in-InitCosigner-clause-spares
+returns-in-InitCosigner-clause-spares g c = rw c.in-InitCosigner.is (
+  spared g.R.Room c.args.room.now c.init_cosigner.new.room _
+      c.init_cosigner.ensures.serves.back,
+  tt,
+)
+
+pub returns-in-Advance-clause-spares : goal.returns-in-Advance-clause-spares
+returns-in-Advance-clause-spares g c = rw c.in-Advance.is
+    (spared g.R.Room c.args.room.now c.advance.new.room _ c.advance.ensures.serves.back, tt)
+
+pub returns-in-Cosign-clause-spares : goal.returns-in-Cosign-clause-spares
+returns-in-Cosign-clause-spares g c = rw c.in-Cosign.is
+    (spared g.R.Room c.args.room.now c.cosign.new.room _ c.cosign.ensures.serves.back, tt)
+
+pub returns-in-Export-clause-spares : goal.returns-in-Export-clause-spares
+returns-in-Export-clause-spares g c = rw c.in-Export.is
+    (spared g.R.Room c.args.room.now c.export.new.room _ c.export.ensures.serves.back, tt)
