@@ -12,9 +12,11 @@ use Rattle.std.proofs.lemmas.List.{append_cancel_left}
 use Rattle.std.specs.Io.KnownBytes.{Appends}
 use Rattle.std.specs.Prelude.{Contains, if◌then◌else◌}
 use Rattle.std.specs.Str.{bytes_eq}
+use Rattle.std.proofs.lemmas.Option.{same_Some}
 use Rattle.byte_formats.specs.Places.{IsBytes}
 use Rattle.byte_formats.specs.Types.{HashFunction}
 use Rattle.byte_formats.proofs.Steps.{ok_is}
+use Rattle.byte_formats.proofs.Values.{same_bytes}
 use Rattle.disk_core.specs.declared.disk.Disk.{Ghosts as Disks}
 use Rattle.mtc_io.specs.declared.sink.Sink.{Ghosts as Sinks}
 use Rattle.mtc_room.specs.Room.{ModelsFile}
@@ -31,7 +33,6 @@ use Rattle.policy_core.specs.declared.answer.By.{By}
 use Rattle.policy_core.specs.declared.answer.By.TheVariants.{Cosigners, Landmark}
 use Rattle.policy_core.specs.declared.store.Store.{Store}
 use Rattle.node_history.specs.declared.start.NodeStart.TheVariants.{Cosigner}
-use Rattle.node_history.proofs.Steps.{some_is}
 use Rattle.world_core.specs.Audit.{AuditCase, has_own, is_counted, is_counted_as, is_recorded}
 use Rattle.world_core.specs.Audit.{is_recorded_by, is_sign_of, is_supported, some_place}
 use Rattle.mtc_command.specs.Answers.{Reply, said, refused, out_of, status_of}
@@ -106,14 +107,11 @@ all_three : (a b c : Bool) → a ≡ true → b ≡ true → c ≡ true → (a &
 all_three a b c one two three =
     ap (λ (x : Bool). x && (b && c)) one ∙ ap (λ (x : Bool). x && c) two ∙ three
 
-same_text : (t : List ℕ) → bytes_eq t t ≡ true
-same_text t = (bytes_eq-Decides t t).1 refl
-
 signed_hash : (a : Accepted) (index : ℕ) (proof : List (List ℕ))
     → is_sign_of a (Sign index a.start a.end a.hash proof) ≡ true
 signed_hash a index proof = all_three (a.start == a.start) (a.end == a.end)
     (bytes_eq a.hash a.hash) (eq-eqb a.start a.start refl) (eq-eqb a.end a.end refl)
-    (same_text a.hash)
+    (same_bytes a.hash)
 
 recorded_so : (store : Store) (a : Accepted) (set : ℕ) (e : Export) (index : ℕ)
     (proof : List (List ℕ)) → e.log ≡ store.log → is_counted store set e ≡ true
@@ -133,7 +131,7 @@ some_there : {A : Type 0} (passes : ℕ → A → Bool) (place i : ℕ) (xs : Li
     → slice_get xs i ≡ Some x → passes (place + i) x ≡ true → some_place passes place xs ≡ true
 some_there {A} passes place i [] x is passed = let wrong : None ≡ Some x = is in absurd cc
 some_there {A} passes place zero (y ∷ ys) x is passed =
-    let same : y ≡ x = some_is y x is in
+    let same : y ≡ x = same_Some y x is in
     let here : place + 0 ≡ place = omega arith in
     ap (λ (b : Bool). b || some_place passes (place + 1) ys)
     (ap (passes place) same ∙ subst (λ (n : ℕ). passes n x ≡ true) here passed)
@@ -160,8 +158,8 @@ printed_text None new before kept text was is prints =
     let wrong : None ≡ Some before = was in absurd cc
 printed_text (Some xs) None before kept text was is prints = absurd prints
 printed_text (Some xs) (Some ys) before kept text was is prints =
-    append_cancel_left before kept text (sym (some_is ys (before ++ kept) is) ∙ prints
-    ∙ ap (λ (l : List ℕ). l ++ text) (some_is xs before was))
+    append_cancel_left before kept text (sym (same_Some ys (before ++ kept) is) ∙ prints
+    ∙ ap (λ (l : List ℕ). l ++ text) (same_Some xs before was))
 
 module _ {R S D O E : Type 0} (h : HashFunction) (rooms : Rooms R S D) (disks : Disks D)
     (outs : Sinks O) (errs : Sinks E) (image : ReadsImage disks) (only : OnlyNow disks)

@@ -2,6 +2,7 @@
 use Rattle.std.proofs.Common.{◌≡◌, ◌⊎◌, inl, inr, ℕ, List, [], ◌∷◌, ◌++◌}
 use Rattle.std.proofs.Common.{Option, Some, refl, sym, subst, ap, ◌∙◌, append_assoc, length, IfSome}
 use Rattle.std.proofs.lemmas.List.{append-nil}
+use Rattle.std.proofs.lemmas.Option.{same_Some}
 use Rattle.byte_formats.specs.Types.{HashFunction}
 use Rattle.disk_core.specs.declared.disk.Disk.{Ghosts as Disks}
 use Rattle.mtc_io.specs.declared.sink.Sink.{Ghosts as Sinks}
@@ -16,8 +17,7 @@ use Rattle.node_history.specs.Nodes.{HistoryState}
 use Rattle.node_history.specs.Rules.{StartsWith, may_follow}
 use Rattle.node_history.specs.declared.start.NodeStart.{NodeStart}
 use Rattle.node_history.specs.declared.step.NodeStep.{NodeStep}
-use Rattle.node_history.proofs.Sound.{began_so, grown}
-use Rattle.node_history.proofs.Steps.{some_is}
+use Rattle.node_history.proofs.Sound.{began_so, grown, sound}
 use Rattle.mtc_top.specs.Courses.{Turn, Link, ran, stops, cut, died, writes, HasTurned, DidWith}
 use Rattle.mtc_top.specs.Courses.{images_in, images_from, HasStopped, HasWritten, IsCourse}
 use Rattle.mtc_top.specs.Courses.{HasDied, HasHeld, WasHeld, Releases, IsHeard, WentOut, WentOutBy}
@@ -26,7 +26,6 @@ use Rattle.mtc_top.specs.Nodes.{end_state, has_handed, has_settled, same, steps_
 use Rattle.mtc_top.specs.Facts.{facts}
 use Rattle.mtc_top.specs.Run.{journals}
 use Rattle.node_history.proofs.Agreement.{alone}
-use Rattle.node_history.proofs.Sound.{sound}
 use Rattle.mtc_top.proofs.Beside.{IsOwn, none_beside, other_beside}
 use Rattle.mtc_top.proofs.Died.{died_ends, died_hands}
 use Rattle.mtc_top.proofs.Nodes.{heard_dec}
@@ -80,7 +79,7 @@ module _ {R S D O E : Type 0} (h : HashFunction) (rooms : Rooms R S D) (disks : 
       pub start_of : (steps : List NodeStep) (s : HistoryState) (room : R) → IsAt steps s room
           → s.start ≡ start
       start_of steps s room at =
-          sym (some_is start s.start (began_so (may_follow h) (start ∷ []) steps 0 s at.leads))
+          sym (same_Some start s.start (began_so (may_follow h) (start ∷ []) steps 0 s at.leads))
 
       starts_of : (steps : List NodeStep) (s : HistoryState) (room : R) → IsAt steps s room
           → StartsWith s.start first
@@ -125,7 +124,7 @@ module _ {R S D O E : Type 0} (h : HashFunction) (rooms : Rooms R S D) (disks : 
           let leads = later.at.leads in
           let new = grown (may_follow h) (start ∷ []) steps later.more 0 s leads.states at.leads
           leads.allowed in
-          subst (HasGrown s) (some_is new.0 later.state (sym new.1.0 ∙ leads.there)) new.1.1
+          subst (HasGrown s) (same_Some new.0 later.state (sym new.1.0 ∙ leads.there)) new.1.1
 
       -- where the device stays
       still : (steps : List NodeStep) (s : HistoryState) (old new : R) → IsAt steps s old

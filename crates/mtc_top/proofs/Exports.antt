@@ -2,10 +2,11 @@
 use Rattle.std.proofs.Common.{◌≡◌, inl, inr, ℕ, suc, List, [], ◌∷◌, ◌++◌, drop, Option}
 use Rattle.std.proofs.Common.{None, Some, Result, Ok, codes, refl, sym, subst, ap, ◌∙◌, arith}
 use Rattle.std.proofs.Common.{append_assoc}
-use Rattle.std.proofs.lemmas.Option.{option_and_then_some}
+use Rattle.std.proofs.lemmas.Option.{option_and_then_some, same_Some}
 use Rattle.std.specs.Prelude.{Contains, option_map}
 use Rattle.byte_formats.specs.Places.{IsBytes}
 use Rattle.byte_formats.specs.Types.{HashFunction}
+use Rattle.byte_formats.proofs.Values.{map_some}
 use Rattle.disk_core.specs.declared.disk.Disk.{Ghosts as Disks}
 use Rattle.journal_core.proofs.Standing.{found_stands}
 use Rattle.mtc_io.specs.declared.sink.Sink.{Ghosts as Sinks}
@@ -15,9 +16,8 @@ use Rattle.mtc_words.specs.Commands.{CommandValue, export}
 use Rattle.mtc_words.specs.Words.{command_of}
 use Rattle.mtc_words.specs.declared.error.WordError.{WordError}
 use Rattle.cosigner_core.specs.ExportReading.{export_of}
-use Rattle.cosigner_core.specs.Folds.{progress_of}
+use Rattle.cosigner_core.specs.Folds.{progress_of, CosignerState, cosigner_fold, cosigner_of}
 use Rattle.cosigner_core.specs.Exports.{export_text}
-use Rattle.cosigner_core.specs.Folds.{CosignerState, cosigner_fold, cosigner_of}
 use Rattle.cosigner_core.specs.Openings.{FoundCosigner, cosigner_read}
 use Rattle.cosigner_core.specs.Progress.{steps_in}
 use Rattle.cosigner_core.specs.Records.{step_in}
@@ -36,9 +36,7 @@ use Rattle.mtc_cosigner.specs.Works.{cosigner_bytes_say, export_outcome, cosigne
 use Rattle.node_history.specs.Rules.{IsReadAs, StartsWith}
 use Rattle.node_history.specs.declared.start.NodeStart.{NodeStart}
 use Rattle.node_history.specs.declared.start.NodeStart.TheVariants.{Cosigner}
-use Rattle.node_history.proofs.Chains.{map_some}
 use Rattle.node_history.proofs.Cosigners.{of_first}
-use Rattle.node_history.proofs.Steps.{some_is}
 use Rattle.mtc_top.specs.Courses.{AreAmong, Link, Turn, HasTurned, IsCourse, IsBegun, IsHeard}
 use Rattle.mtc_top.specs.Courses.{IsRecovered}
 use Rattle.mtc_top.specs.ExportLaws.{ExportsHoldTheSteps, HasExported}
@@ -63,7 +61,7 @@ step_there [] body rest steps step is read =
     option_and_then_some (λ x. option_map (λ xs. x ∷ xs) (steps_in rest)) (step_in body) steps is
     (λ x found more.
     let tail = map_some (λ (xs : List Step). x ∷ xs) (steps_in rest) steps more in
-    let same : x ≡ step = some_is x step (sym found ∙ read) in
+    let same : x ≡ step = same_Some x step (sym found ∙ read) in
     subst (λ (l : List Step). Contains l step) (ap (λ (y : Step). y ∷ tail.0) (sym same) ∙ tail.2)
     (0, omega arith, refl))
 step_there (z ∷ prefix) body rest steps step is read =

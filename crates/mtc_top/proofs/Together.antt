@@ -2,23 +2,23 @@
 use Rattle.std.proofs.Common.{◌≡◌, ℕ, zero, suc, ◌+◌, List, [], ◌∷◌, ◌++◌, map, Option, None, Some}
 use Rattle.std.proofs.Common.{Ok, refl, sym, subst, ap, ◌∙◌, option_map, option_and_then, slice_get}
 use Rattle.std.specs.Prelude.{slice_set}
+use Rattle.std.proofs.lemmas.Option.{same_Some}
 use Rattle.byte_formats.specs.Readings.{◌>>=◌, some_or}
 use Rattle.byte_formats.specs.Places.{IsBytes}
 use Rattle.byte_formats.specs.Types.{HashFunction}
 use Rattle.byte_formats.proofs.Steps.{ok_is}
+use Rattle.byte_formats.proofs.Values.{map_some}
 use Rattle.disk_core.specs.declared.disk.Disk.{Ghosts as Disks}
 use Rattle.mtc_io.specs.declared.sink.Sink.{Ghosts as Sinks}
 use Rattle.mtc_room.specs.Room.{ModelsFile}
 use Rattle.mtc_room.specs.declared.room.Room.{Ghosts as Rooms}
 use Rattle.mtc_command.proofs.Made.{OnlyNow, ReadsImage}
 use Rattle.node_history.specs.Histories.{Valid, moved, states_after, states_from}
-use Rattle.node_history.specs.Nodes.{HistoryState, fresh_party}
-use Rattle.node_history.specs.Nodes.{party_of_step}
+use Rattle.node_history.specs.Nodes.{HistoryState, fresh_party, party_of_step}
 use Rattle.node_history.specs.Rules.{may_follow}
 use Rattle.node_history.specs.declared.step.NodeStep.{NodeStep}
 use Rattle.node_history.specs.declared.step.NodeStep.TheVariants.{Begin, Settle, Hand, Stop}
-use Rattle.node_history.proofs.Chains.{first_step, map_some, no_some}
-use Rattle.node_history.proofs.Steps.{some_is}
+use Rattle.node_history.proofs.Chains.{first_step, no_some}
 use Rattle.mtc_top.specs.RoomLaws.{AreOneHistory, IsJournalOf, JournalsAreOneHistory}
 use Rattle.mtc_top.proofs.Recovered.{reached}
 
@@ -168,7 +168,7 @@ module _ {R S D O E : Type 0} (h : HashFunction) (rooms : Rooms R S D) (disks : 
       let wide = with_others (may_follow h) 0 (fresh_party j.start) others own.leads.states
       own.steps own.leads.allowed in
       let state_is : wide.0 ≡ own.state
-      = some_is wide.0 own.state (ap (λ (l : List HistoryState). slice_get l 0) (sym wide.1)
+      = same_Some wide.0 own.state (ap (λ (l : List HistoryState). slice_get l 0) (sym wide.1)
       ∙ own.leads.there) in
       record {
         steps = own.steps ++ map later rest.steps;

@@ -5,6 +5,7 @@ use Rattle.std.proofs.Common.{true≢false, length, length-append}
 use Rattle.std.proofs.lemmas.Bool.Decides.{eqb_tells}
 use Rattle.std.proofs.lemmas.Slice.Eq.{bytes_eq-Decides}
 use Rattle.std.specs.Str.{bytes_eq}
+use Rattle.std.proofs.lemmas.Option.{same_Some}
 use Rattle.byte_formats.specs.Places.{IsBytes}
 use Rattle.byte_formats.specs.Types.{HashFunction}
 use Rattle.disk_core.specs.declared.disk.Disk.{Ghosts as Disks}
@@ -18,14 +19,12 @@ use Rattle.mtc_command.specs.declared.answer.Said.TheVariants.{Done}
 use Rattle.mtc_command.specs.declared.answer.Stopped.{Stopped}
 use Rattle.mtc_command.specs.declared.answer.Stopped.TheVariants.{BadWords}
 use Rattle.mtc_command.specs.Made.{Journaled, appended, reads, started, images_at, images_since}
-use Rattle.mtc_command.specs.Made.{moment_at}
+use Rattle.mtc_command.specs.Made.{moment_at, HasMade, Leaves, device_contents, untouched}
 use Rattle.mtc_command.specs.Served.{Journals, IsOther, OfEach, done_with, first_journaled}
 use Rattle.mtc_command.specs.Served.{rest_journaled}
-use Rattle.mtc_command.specs.Made.{HasMade, Leaves, device_contents, untouched}
 use Rattle.mtc_command.specs.Valid.{LeavesValid}
 use Rattle.mtc_command.proofs.Made.{OnlyNow, ReadsImage}
 use Rattle.node_history.proofs.Chains.{no_some}
-use Rattle.node_history.proofs.Steps.{some_is}
 use Rattle.mtc_top.specs.Courses.{Turn, Link, ran, stops, cut, died, writes, AreAmong, HasTurned}
 use Rattle.mtc_top.specs.Concluded.{Prints, PrintsPrefix}
 use Rattle.mtc_top.specs.Courses.{images_in, images_from, IsCourse, HasHeld, HasPrinted, IsHeard}
@@ -157,11 +156,11 @@ left_stands : (did : Journaled) (list : List (List ℕ)) (before now since : Lis
     → Represents c list
 left_stands untouched list before now since is made c at = no_some list is
 left_stands (reads found) list before now since is made c at =
-    subst (Represents c) (some_is found list is) (made.now_is c at)
+    subst (Represents c) (same_Some found list is) (made.now_is c at)
 left_stands (appended found body) list before now since is made c at =
-    subst (Represents c) (some_is (found ++ body ∷ []) list is) (made.now_is c at)
+    subst (Represents c) (same_Some (found ++ body ∷ []) list is) (made.now_is c at)
 left_stands (started body) list before now since is made c at =
-    subst (Represents c) (some_is (body ∷ []) list is) (made c at)
+    subst (Represents c) (same_Some (body ∷ []) list is) (made c at)
 
 -- what a device tells is an image, and what the room tells of the file
 pub contents_image : {D : Type 0} (g : Disks D) (x : Option D) (c : List ℕ) → ReadsImage g
@@ -278,10 +277,10 @@ module _ {R S D O E : Type 0} (h : HashFunction) (rooms : Rooms R S D) (disks : 
             → IsNewAt (rooms.file old) name did → Rules turn list
         by_did untouched is among finds valid is_new = no_some list is
         by_did (reads found) is among finds valid is_new =
-            subst (Rules turn) (some_is found list is) finds.valid
+            subst (Rules turn) (same_Some found list is) finds.valid
         by_did (appended found body) is among finds valid is_new = elim valid [
-          | inl kept ↦ absurd (same_contents found body (some_is _ list is) finds kept.1)
-          | inr adds ↦ subst (Rules turn) (some_is _ list is) adds
+          | inl kept ↦ absurd (same_contents found body (same_Some _ list is) finds kept.1)
+          | inr adds ↦ subst (Rules turn) (same_Some _ list is) adds
         ]
         by_did (started body) is among finds valid is_new = elim valid [
           | inl kept ↦ elim is_new [
@@ -293,7 +292,7 @@ module _ {R S D O E : Type 0} (h : HashFunction) (rooms : Rooms R S D) (disks : 
                 (contents old name is_modelled) none (kept.0.images.now_is c.0 c.1)
                 (stands c.0 c.1)))
           ]
-          | inr adds ↦ subst (Rules turn) (some_is _ list is) adds
+          | inr adds ↦ subst (Rules turn) (same_Some _ list is) adds
         ]
 
   -- a run that was heard neither failed nor wanted memory

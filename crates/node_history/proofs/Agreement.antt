@@ -31,6 +31,7 @@ use Rattle.node_history.specs.Nodes.{HistoryState}
 use Rattle.node_history.specs.Rules.{AreRecords, IsReadAs, StartsWith, may_follow}
 use Rattle.node_history.specs.declared.start.NodeStart.{NodeStart}
 use Rattle.node_history.specs.declared.start.NodeStart.TheVariants.{Log, Cosigner}
+use Rattle.node_history.proofs.Chains.{no_some}
 
 -- no record at all stands behind each start
 pub alone : (h : HashFunction) (start : NodeStart) → may_follow h start [] ≡ true
@@ -39,9 +40,6 @@ alone h (Log settings) = refl
 alone h (Cosigner settings public) = refl
 
 -- ---- a first record is not one of both kinds
-
-no_some : {X Y : Type 0} (x : X) → None ≡ Some x → Y
-no_some {X} x is = absurd cc
 
 tested : {X : Type 0} (b : Bool) (o : Option X) (x : X) → (if b then o else None) ≡ Some x
     → b ≡ true

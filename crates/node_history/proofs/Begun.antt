@@ -1,10 +1,10 @@
 -- Each body of a node is one that a step of it began.
 use Rattle.std.proofs.Common.{◌≡◌, ℕ, ◌<◌, Bool, true, false, List, [], ◌∷◌, ◌++◌, length}
-use Rattle.std.proofs.Common.{Option, Some, None, IfSome, inl, inr, sym, subst}
-use Rattle.std.proofs.Common.{arith, zero, suc}
+use Rattle.std.proofs.Common.{Option, Some, None, IfSome, inl, inr, sym, subst, arith, zero, suc}
 use Rattle.std.proofs.lemmas.List.Elements.{Contains-append_cases, Contains-append_left}
 use Rattle.std.proofs.lemmas.List.Elements.{Contains-push}
 use Rattle.std.specs.Prelude.{is_some, slice_index_or, Contains}
+use Rattle.std.proofs.lemmas.Option.{same_Some}
 use Rattle.byte_formats.specs.Types.{Text}
 use Rattle.node_history.specs.Histories.{Valid, may_begin, moved}
 use Rattle.node_history.specs.Laws.{WereBegun}
@@ -13,7 +13,7 @@ use Rattle.node_history.specs.Nodes.{stop, with_pending}
 use Rattle.node_history.specs.declared.start.NodeStart.{NodeStart}
 use Rattle.node_history.specs.declared.step.NodeStep.{NodeStep}
 use Rattle.node_history.specs.declared.step.NodeStep.TheVariants.{Begin, Settle, Hand, Stop}
-use Rattle.node_history.proofs.Steps.{some_is, when}
+use Rattle.node_history.proofs.Steps.{when}
 
 -- the bodies of a node with a pending one among them
 among : (steps : List NodeStep) (place : ℕ) (list : List Text) (p : Option Text)
@@ -83,7 +83,7 @@ begun_moves valid done (Hand node) s t was is =
     subst (WereBegun (done ++ Hand node ∷ []) node) (when s.may_hand (hand s) t is).1
     (record { settled = here.settled; pending = here.pending })
 begun_moves valid done (Stop node kept) s t was is =
-    subst (WereBegun (done ++ Stop node kept ∷ []) node) (some_is (stop kept s) t is)
+    subst (WereBegun (done ++ Stop node kept ∷ []) node) (same_Some (stop kept s) t is)
     (stopped_now (done ++ Stop node kept ∷ []) node kept s
     (begun_stays done (Stop node kept) node s was))
 

@@ -1,39 +1,28 @@
 -- What each step keeps holds behind all steps of a history.
 use Rattle.std.proofs.Common.{◌≡◌, ℕ, zero, suc, ◌+◌, ◌⊎◌, inl, inr, List, [], ◌∷◌, ◌++◌}
-use Rattle.std.proofs.Common.{length, map, Option, Some, None, Ok, refl, ap, sym, ◌∙◌}
-use Rattle.std.proofs.Common.{option_map, option_and_then, subst, arith, append_assoc, slice_get}
+use Rattle.std.proofs.Common.{length, map, Some, None, Ok, refl, ap, sym, ◌∙◌}
+use Rattle.std.proofs.Common.{option_map, subst, arith, append_assoc, slice_get}
 use Rattle.std.proofs.lemmas.List.{append-nil}
-use Rattle.std.proofs.lemmas.Option.{slice_get-get_or, slice_get_within, slice_get-map}
+use Rattle.std.proofs.lemmas.Option.{slice_get-get_or, slice_get_within, slice_get-map, same_Some}
 use Rattle.std.proofs.Math.ListN.{set, length-set}
 use Rattle.std.specs.Prelude.{slice_set}
 use Rattle.byte_formats.specs.Readings.{some_or}
 use Rattle.byte_formats.proofs.Steps.{bind_ok, ok_is, some_or_ok}
+use Rattle.byte_formats.proofs.Values.{map_some, then_some}
 use Rattle.node_history.specs.Histories.{Valid, moved, states_after, states_from}
 use Rattle.node_history.specs.Laws.{LeadsTo}
 use Rattle.node_history.specs.Nodes.{HistoryState, fresh_party, party_of_step}
 use Rattle.node_history.specs.declared.start.NodeStart.{NodeStart}
 use Rattle.node_history.specs.declared.step.NodeStep.{NodeStep}
-use Rattle.node_history.proofs.Steps.{some_is}
 
 pub no_some : {X Y : Type 0} (x : X) → None ≡ Some x → Y
 no_some {X} x is = absurd cc
-
--- an option that was taken on
-pub and_then_some : {X Y : Type 0} (f : X → Option Y) (o : Option X) (y : Y)
-    → option_and_then f o ≡ Some y → (x : X) × (o ≡ Some x) × (f x ≡ Some y)
-and_then_some f None y is = no_some y is
-and_then_some f (Some x) y is = (x, refl, is)
-
-pub map_some : {X Y : Type 0} (f : X → Y) (o : Option X) (y : Y) → option_map f o ≡ Some y
-    → (x : X) × (o ≡ Some x) × (f x ≡ y)
-map_some f None y is = no_some y is
-map_some f (Some x) y is = (x, refl, some_is (f x) y is)
 
 -- an item of a list of which one was set
 at_set : {X : Type 0} (xs : List X) (i j : ℕ) (a y : X) → slice_get (slice_set xs i a) j ≡ Some y
     → ((j ≡ i) × (a ≡ y)) ⊎ (slice_get xs j ≡ Some y)
 at_set [] i j a y is = no_some y is
-at_set (x ∷ xs) zero zero a y is = inl (refl, some_is a y is)
+at_set (x ∷ xs) zero zero a y is = inl (refl, same_Some a y is)
 at_set (x ∷ xs) zero (suc j) a y is = inr is
 at_set (x ∷ xs) (suc i) zero a y is = inr is
 at_set (x ∷ xs) (suc i) (suc j) a y is =
@@ -52,7 +41,7 @@ module _ (valid : Valid) where
   stepped : (states : List HistoryState) (step : NodeStep) (next : List HistoryState)
       → states_after valid states step ≡ Some next → HasStepped states step next
   stepped states step next is =
-      let found = and_then_some (λ (s : HistoryState). option_map
+      let found = then_some (λ (s : HistoryState). option_map
       (slice_set states (party_of_step step)) (moved valid s step))
       (slice_get states (party_of_step step)) next is in
       let made = map_some (slice_set states (party_of_step step)) (moved valid found.0 step) next
@@ -147,7 +136,7 @@ module _ (valid : Valid) where
   between k states (step ∷ earlier) later olds news is whole =
       let first = first_step k states step earlier olds is in
       let other = first_step k states step (earlier ++ later) news whole in
-      let same : other.0 ≡ first.0 = some_is other.0 first.0 (sym other.1 ∙ first.1) in
+      let same : other.0 ≡ first.0 = same_Some other.0 first.0 (sym other.1 ∙ first.1) in
       between (k + 1) first.0 earlier later olds news first.2
       (ap (λ (l : List HistoryState). states_from valid (k + 1) l (earlier ++ later)) (sym same)
       ∙ other.2)

@@ -1,8 +1,8 @@
 -- A log keeps its items whatever records come behind its own.
-use Rattle.std.proofs.Common.{◌≡◌, ℕ, ◌+◌, List, [], ◌∷◌, ◌++◌, length}
+use Rattle.std.proofs.Common.{◌≡◌, ℕ, ◌+◌, List, [], ◌∷◌, ◌++◌, length, slice_get}
 use Rattle.std.proofs.Common.{Option, Some, None, Ok, refl, ap, sym, ◌∙◌, subst, append_assoc}
-use Rattle.std.proofs.Common.{slice_get}
 use Rattle.std.proofs.lemmas.List.{append-nil, length-append}
+use Rattle.std.proofs.lemmas.Option.{same_Some}
 use Rattle.byte_formats.specs.Types.{HashFunction, Text}
 use Rattle.byte_formats.proofs.Steps.{bind_ok, ok_is, some_or_ok}
 use Rattle.journal_core.specs.Folds.{taken_from}
@@ -15,7 +15,7 @@ use Rattle.issuance_log.proofs.Behind.{only_begins}
 use Rattle.issuance_log.proofs.Encoded.{changed_log}
 use Rattle.node_history.specs.Laws.{Begins, HasItemAt, KeepsItems}
 use Rattle.node_history.proofs.Chains.{no_some}
-use Rattle.node_history.proofs.Steps.{begins_on, some_is, when}
+use Rattle.node_history.proofs.Steps.{begins_on, when}
 
 kept_same : (s : LogState) → KeepsItems s s
 kept_same s = record {
@@ -110,7 +110,7 @@ added_changed : (h : HashFunction) (s t : LogState) (item : Option (Text × Text
     (mark tiled : Option ℕ) (x : Text × Text) → item ≡ Some x
     → changed_log h s item mark tiled ≡ Some t → with_item x.0 x.1 s ≡ t
 added_changed h s t (Some y) mark tiled x same is =
-    subst (λ (z : Text × Text). with_item z.0 z.1 s ≡ t) (some_is y x same)
+    subst (λ (z : Text × Text). with_item z.0 z.1 s ≡ t) (same_Some y x same)
     (when (takes_entry h (view_in s) y) (with_item y.0 y.1 s) t is).1
 added_changed h s t None mark tiled x same is = no_some x same
 

@@ -1,8 +1,7 @@
 -- What holds of each state to which a history leads.
 use Rattle.std.proofs.Common.{◌≡◌, ℕ, zero, suc, ◌<◌, ◌≤◌, true, List, [], ◌∷◌, ◌++◌, length}
-use Rattle.std.proofs.Common.{get_or, map, Some, Ok, refl, ap, sym, ◌∙◌, subst, arith}
-use Rattle.std.proofs.Common.{slice_get}
-use Rattle.std.proofs.lemmas.Option.{slice_get-get_or}
+use Rattle.std.proofs.Common.{get_or, map, Some, Ok, refl, ap, sym, ◌∙◌, subst, arith, slice_get}
+use Rattle.std.proofs.lemmas.Option.{slice_get-get_or, same_Some}
 use Rattle.std.specs.Prelude.{Contains, slice_index_or}
 use Rattle.byte_formats.specs.Types.{Text}
 use Rattle.node_history.specs.Histories.{Valid, history_of}
@@ -14,7 +13,6 @@ use Rattle.node_history.specs.declared.step.NodeStep.{NodeStep}
 use Rattle.node_history.proofs.Begun.{begun_fresh, begun_moves, begun_stays}
 use Rattle.node_history.proofs.Chains.{between, holds_of, holds_on, still_there}
 use Rattle.node_history.proofs.Steps.{fresh_sound, grown_on, grown_same, moved_grown, moved_sound}
-use Rattle.node_history.proofs.Steps.{some_is}
 
 module _ (valid : Valid) where
   pub sound : ((start : NodeStart) → valid start [] ≡ true) → (starts : List NodeStart)
@@ -53,7 +51,7 @@ module _ (valid : Valid) where
       → slice_get leads.states x ≡ Some was → HasGrown was s) (λ done step x s all. all)
       (λ done step s t all moves was found. grown_on was s t (all was found)
       (moved_grown valid s t step moves)) rest.0 [] leads.states later news (λ x s found was same.
-      subst (HasGrown was) (some_is was s (sym same ∙ found)) (grown_same was)) rest.1 place
+      subst (HasGrown was) (same_Some was s (sym same ∙ found)) (grown_same was)) rest.1 place
       there.0 there.1 old leads.there in
       (there.0, (there.1, grew))
 

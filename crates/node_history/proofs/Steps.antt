@@ -5,6 +5,7 @@ use Rattle.std.proofs.Common.{refl, ap, sym, ◌∙◌, subst, arith, append_ass
 use Rattle.std.proofs.lemmas.List.{append-nil}
 use Rattle.std.specs.Prelude.{if◌then◌else◌, is_some}
 use Rattle.std.proofs.lemmas.Bool.{and_parts}
+use Rattle.std.proofs.lemmas.Option.{same_Some}
 use Rattle.byte_formats.specs.Types.{Text}
 use Rattle.node_history.specs.Histories.{Valid, may_begin, moved}
 use Rattle.node_history.specs.Laws.{AreAtMost, Begins, HasGrown, IsSoundParty, RisesFrom}
@@ -14,13 +15,10 @@ use Rattle.node_history.specs.declared.start.NodeStart.{NodeStart}
 use Rattle.node_history.specs.declared.step.NodeStep.{NodeStep}
 use Rattle.node_history.specs.declared.step.NodeStep.TheVariants.{Begin, Settle, Hand, Stop}
 
-pub some_is : {X : Type 0} (x y : X) → Some x ≡ Some y → x ≡ y
-some_is {X} x y is = cc
-
 -- a state that a test gives
 pub when : {X : Type 0} (b : Bool) (x y : X) → (if b then Some x else None) ≡ Some y
     → (b ≡ true) × (x ≡ y)
-when {X} true x y is = (refl, some_is x y is)
+when {X} true x y is = (refl, same_Some x y is)
 when {X} false x y is = let wrong : None ≡ Some y = is in absurd cc
 
 no_true : {X : Type 0} → false ≡ true → X
@@ -150,7 +148,7 @@ module _ (valid : Valid) where
       let went = when s.may_hand (hand s) t is in
       subst (IsSoundParty valid) went.1 (hand_sound s was went.0)
   moved_sound s t (Stop node kept) was is =
-      subst (IsSoundParty valid) (some_is (stop kept s) t is) (stop_sound kept s was)
+      subst (IsSoundParty valid) (same_Some (stop kept s) t is) (stop_sound kept s was)
 
   pub fresh_sound : (start : NodeStart) → valid start [] ≡ true
       → IsSoundParty valid (fresh_party start)
@@ -198,7 +196,7 @@ module _ (valid : Valid) where
         handed = (length s.settled ∷ [], refl);
       })
   moved_grown s t (Stop node kept) is =
-      subst (HasGrown s) (some_is (stop kept s) t is) (stop_grown kept s)
+      subst (HasGrown s) (same_Some (stop kept s) t is) (stop_grown kept s)
 
 pub grown_same : (s : HistoryState) → HasGrown s s
 grown_same s = record {
