@@ -31,7 +31,7 @@ module _ {M X : Type 0} (m : Machines M X) where
 
   module _ {D : Type 0} {g : Ghosts D} where
     -- The machine is what the records before the end of the journal make, where the disk tells its
-    -- bytes; over any disk its places lie before the gate there.
+    -- bytes. Over any disk, what it keeps of places holds at the gate before that end.
     pub record IsMadeBy (journal : Journal D g) (it : M) : Type 0 where
       pub durable : (b : Text) → g.contents (disk_of journal) ≡ Some b
           → IsDurableWith (Makes it) (end_of journal) b

@@ -12,7 +12,7 @@ pub enum Misfit {
 }
 
 /// Why the journal of a state machine is not opened. The records are read and tested one by one,
-/// and the first fault is answered.
+/// and the first fault of the file is answered, unless the disk fails or memory is refused.
 #[derive(Clone, Copy, Debug, PartialEq, Eq)]
 pub enum StateOpenError {
     /// The record of this number, counted from 0, breaks the rules of the machine, or there is no
@@ -22,14 +22,14 @@ pub enum StateOpenError {
     Open(OpenError),
 }
 
-/// A machine that isn't begun hands its seed back.
+/// A machine that isn't begun hands a seed back.
 #[derive(Debug, Drop)]
 pub struct NotBegun<S, E> {
     pub seed: S,
     pub why: E,
 }
 
-/// A refused opening hands the disk and the seed back.
+/// A refused opening hands the disk and a seed back.
 #[derive(Debug, Drop)]
 pub struct StateRefused<D, S> {
     pub disk: D,

@@ -3,8 +3,8 @@
 //!
 //! A [`StateMachine`] is begun by the first record of a journal, and takes the others one by one.
 //! [`open_state`] opens a journal and the machine that its records make. [`append_to`] appends one
-//! record more, and the machine takes it once every image of the disk holds it. So the machine is
-//! at every time what the durable records make, also after an append that failed.
+//! record more, which the machine takes where the append succeeds. So after each of these calls the
+//! machine is what the durable records make, also after an append that failed.
 //!
 //! The journal and the machine stay apart: their owner may ask either without the other, and keeps
 //! what binds them, [`append_to`]'s clause `made`, as a fact of its own.

@@ -1,6 +1,7 @@
 //! What the records of a journal make, record by record.
 
-ghost use Rattle.std.specs.Prelude.{◌≡◌, ℕ, ◌+◌, List, length, Option, IfOk, OnOk, MatchResult};
+ghost use Rattle.std.specs.Prelude.{◌≡◌, ℕ, ◌+◌, List, length, Option, IfOk, IfErr, OnOk};
+ghost use Rattle.std.specs.Prelude.{MatchResult};
 ghost use Rattle.byte_formats.specs.Types.{Text};
 ghost use Rattle.state_journal.specs.Steps.{BeginsMachine, IsOutOfMemory, TakesRecord};
 
@@ -24,11 +25,11 @@ pub trait StateMachine: Drop + Sized {
     ghost state: { Self → State };
     // what it keeps beside its state, where the records are known
     ghost Keeps: { Self → List Text → Type 0 } = { λ _ _. Unit {0} };
-    // what it keeps of places in the journal, none of them after this gate
+    // what it keeps of places in the journal, where the next record's gate stands here
     ghost Within: { Self → ℕ → Type 0 } = { λ _ _. Unit {0} };
-    // it takes this record without memory
+    // memory isn't refused for this record
     ghost HasCapacity: { Self → Text → Type 0 } = { λ _ _. Unit {0} };
-    // a seed that is as it is to be
+    // a seed that a machine may be begun with
     ghost IsBlank: { Self.Seed → Type 0 } = { λ _. Unit {0} };
     // what of a seed stays as it is while records are taken
     ghost Beside: { Type 0 };
@@ -37,7 +38,8 @@ pub trait StateMachine: Drop + Sized {
 
     ghost beside: { Self → Beside };
 
-    /// The machine that the first record begins. A refusal hands the seed back.
+    /// The machine that the first record begins. A refusal hands a blank seed back, beside which
+    /// all is as it was.
     fn begin(
         alloc: Global,
         seed: Self::Seed,
@@ -47,7 +49,8 @@ pub trait StateMachine: Drop + Sized {
         ensures begins { BeginsMachine begins state Keeps body.now result }
         ensures within { IfOk result (λ it. Within it (21 + length body.now)) }
         ensures beside { MatchResult result (λ it. beside it ≡ beside_of seed)
-            (λ e. beside_of e.seed ≡ beside_of seed) };
+            (λ e. beside_of e.seed ≡ beside_of seed) }
+        ensures blank { IfErr result (λ e. IsBlank e.seed) };
 
     /// Takes one record more, whose gate stands at a place. `Unfit` comes exactly where it breaks
     /// the rules, but where memory is refused.
@@ -58,7 +61,8 @@ pub trait StateMachine: Drop + Sized {
         ensures capacity { HasCapacity self.old body.now → IsOutOfMemory result → ⊥ }
         ensures beside { beside self.new ≡ beside self.old };
 
-    /// What the machine was begun with, to be begun with again.
+    /// A blank seed, to begin with again. What the machine has beside its records stays.
     fn into_seed(self) -> Self::Seed
-        ensures { beside_of result ≡ beside self };
+        ensures beside { beside_of result ≡ beside self }
+        ensures blank { IsBlank result };
 }

@@ -38,6 +38,7 @@ fn read_first<M: StateMachine, D: Disk>(
     ensures taken { IfOk result (λ it. HasTaken M.StateMachine it opening.new) }
     ensures beside { MatchResult result (λ it. M.beside it ≡ M.beside_of seed)
         (λ e. M.beside_of e.seed ≡ M.beside_of seed) }
+    ensures blank { IfErr result (λ e. M.IsBlank e.seed) }
     ensures read { HasReadOn D.Disk (fold_of M.StateMachine) (opening_disk opening.old)
         (opening_disk opening.new) (why_of result) }
 {
@@ -118,6 +119,7 @@ fn read_machine<M: StateMachine, D: Disk>(
     ensures all { IfOk result (λ it. HasTakenAll M.StateMachine it opening.new) }
     ensures beside { MatchResult result (λ it. M.beside it ≡ M.beside_of seed)
         (λ e. M.beside_of e.seed ≡ M.beside_of seed) }
+    ensures blank { IfErr result (λ e. M.IsBlank e.seed) }
     ensures read { HasReadOn D.Disk (fold_of M.StateMachine) (opening_disk opening.old)
         (opening_disk opening.new) (why_of result) }
 {
@@ -136,10 +138,10 @@ fn read_machine<M: StateMachine, D: Disk>(
 
 /// Opens a journal with the machine that its records make. They are read and tested one by one.
 ///
-/// Errors, of which the first that is met is answered: what [`Opening::begin`] and
-/// [`Opening::next`] refuse; `BadRecord` at the first record that breaks the rules, or where there
-/// is none; `Open(Memory)` where the machine is refused memory. The disk and the seed are handed
-/// back, and the disk was only read.
+/// Errors: what [`Opening::begin`] and [`Opening::next`] refuse; `BadRecord` at the first record
+/// that breaks the rules, or where there is none; `Open(Memory)` where the machine is refused
+/// memory. Of the faults of the file the first is answered. The disk is handed back, and was only
+/// read. A blank seed is handed back, beside which all is as it was.
 pub fn open_state<M: StateMachine, D: Disk>(
     alloc: Global,
     disk: D,
@@ -150,6 +152,7 @@ pub fn open_state<M: StateMachine, D: Disk>(
     ensures made { IfOk result (λ r. IsMadeBy M.StateMachine r.0 r.1) }
     ensures beside { MatchResult result (λ r. M.beside r.1 ≡ M.beside_of seed)
         (λ e. M.beside_of e.seed ≡ M.beside_of seed) }
+    ensures blank { IfErr result (λ e. M.IsBlank e.seed) }
     ensures err { IfErr result (λ e. HasReadOn {X = Unit {0}} D.Disk (fold_of M.StateMachine)
         disk e.disk (Err e.why)) }
 {
