@@ -1,24 +1,27 @@
 -- What a request that is not refused makes of the records.
-use Rattle.std.proofs.Common.{◌≡◌, ℕ, nat_le, nat_lt, not, Bool, true, false, List, []}
-use Rattle.std.proofs.Common.{◌∷◌, ◌++◌, Option, Some, None, IfSome, option_map, Ok, refl, sym, ap}
+use Rattle.std.proofs.Common.{◌≡◌, nat_le, nat_lt, not, Bool, true, false, List, []}
+use Rattle.std.proofs.Common.{◌∷◌, ◌++◌, Option, Some, None, IfSome, option_and_then, Ok, IsTrue}
+use Rattle.std.proofs.Common.{refl, sym, ap}
 use Rattle.std.proofs.Common.{◌∙◌, subst}
-use Rattle.std.specs.Prelude.{if◌then◌else◌}
+use Rattle.std.specs.Prelude.{if◌then◌else◌, is_some}
 use Rattle.std.proofs.lemmas.Bool.{eq-eqb, leb-false, lt-ltb, not-false}
 use Rattle.std.specs.Str.{bytes_eq}
 use Rattle.byte_formats.specs.Types.{HashFunction, Text}
+use Rattle.byte_formats.specs.Refusals.{answer_of}
 use Rattle.tree_core.specs.Subtree.{is_subtree}
 use Rattle.tree_proofs.specs.Checkpoints.{has_subtree, is_prefix_of}
 use Rattle.cosigner_core.specs.Folds.{CosignerState, after_step, cosigner_of, having_signed}
-use Rattle.cosigner_core.specs.Folds.{holding}
-use Rattle.cosigner_core.specs.Folds.{key_count}
-use Rattle.cosigner_core.specs.Records.{FitsStep, step_record}
+use Rattle.cosigner_core.specs.Folds.{holding, key_count, next_state}
+use Rattle.cosigner_core.specs.Records.{FitsStep, advance_record, sign_record, step_in}
+use Rattle.cosigner_core.specs.Records.{step_record}
 use Rattle.cosigner_core.specs.declared.step.Step.{Step}
 use Rattle.cosigner_core.specs.declared.step.Step.TheVariants.{Advance, Sign}
-use Rattle.cosigner_core.specs.Refusals.{advance_refusal, earlier, journal_refusal}
+use Rattle.cosigner_core.specs.Refusals.{advance_refusal, earlier}
 use Rattle.cosigner_core.specs.Refusals.{subtree_refusal}
 use Rattle.cosigner_core.specs.Requests.{AdvanceParts, SubtreeParts}
 use Rattle.cosigner_core.specs.declared.error.CosignError.{CosignError}
-use Rattle.cosigner_core.proofs.Encoded.{step_added}
+use Rattle.cosigner_core.proofs.Adds.{none_of}
+use Rattle.cosigner_core.proofs.Encoded.{step_added, step_again}
 
 passed : (b : Bool) (why : CosignError) (o : Option CosignError)
     → (if b then Some why else o) ≡ None → (b ≡ false) × (o ≡ None)
@@ -54,28 +57,61 @@ sign_allowed h s r is =
       not-false (has_subtree h s.held r.start r.end r.hash r.proof) shown.0,
     ) refl
 
--- behind the records of a cosigner the new record makes the next one
-module _ (h : HashFunction) (s t : CosignerState) (step : Step) (fits : FitsStep step) where
-  pub added : (old new : Option (List Text)) (body : Text) (made : CosignerState)
-      → new ≡ option_map (λ list. list ++ body ∷ []) old → body ≡ step_record step → made ≡ t
-      → after_step h s step ≡ Some t → IfSome old (λ list. cosigner_of h list ≡ Ok s)
-      → IfSome new (λ list. cosigner_of h list ≡ Ok made)
-  added None new body made news written is next was =
-      subst (λ (o : Option (List Text)). IfSome o (λ list. cosigner_of h list ≡ Ok made)) (sym news)
-      tt
-  added (Some list) new body made news written is next was =
-      subst (λ (o : Option (List Text)). IfSome o (λ all. cosigner_of h all ≡ Ok made)) (sym news)
-      (ap (λ (last : Text). cosigner_of h (list ++ last ∷ [])) written
-      ∙ step_added h list s step t was fits next ∙ ap Ok (sym is))
+-- the record of a step that is allowed makes the next cosigner
+module _ (h : HashFunction) (s t : CosignerState) (step : Step) (fits : FitsStep step)
+    (first : Option CosignError) (next : first ≡ None → after_step h s step ≡ Some t) where
+  taken : (body : Text) → body ≡ step_record step → Ok tt ≡ answer_of first
+      → next_state h s body ≡ Some t
+  unfolding next_state
+  taken body written passes =
+      ap (λ (b : Text). option_and_then (after_step h s) (step_in b)) written
+      ∙ ap (option_and_then (after_step h s)) (step_again step fits)
+      ∙ next (none_of first passes)
 
-  -- the same of a request that is not refused
-  pub valid_step : (old : Option (List Text)) (first : Option CosignError) (broken : Bool) (end : ℕ)
-      (body : Text) → IfSome old (λ list. cosigner_of h list ≡ Ok s)
-      → (first ≡ None → after_step h s step ≡ Some t)
-      → earlier first (journal_refusal broken end body) ≡ None
+  -- so it does behind the records of the old one
+  valid : (old : Option (List Text)) (refused : Option CosignError)
+      → IfSome old (λ list. cosigner_of h list ≡ Ok s) → earlier first refused ≡ None
       → IfSome old (λ list. cosigner_of h (list ++ step_record step ∷ []) ≡ Ok t)
-  valid_step None first broken end body was next is = tt
-  valid_step (Some list) (Some why) broken end body was next is =
-      let wrong : Some why ≡ None = is in cc
-  valid_step (Some list) None broken end body was next is =
-      step_added h list s step t was fits (next refl)
+  valid None refused was is = tt
+  valid (Some list) refused was is = step_added h list s step t was fits (next (go first is))
+    where
+      go : (o : Option CosignError) → earlier o refused ≡ None → o ≡ None
+      go None is = refl
+      go (Some why) is = let wrong : Some why ≡ None = is in cc
+
+module _ (h : HashFunction) (s : CosignerState) (r : AdvanceParts)
+    (fits : FitsStep (Advance r.size r.root r.proof)) where
+  pub advance_taken : (body : Text) → body ≡ advance_record r.size r.root r.proof
+      → Ok tt ≡ answer_of (advance_refusal h s r)
+      → next_state h s body ≡ Some (holding r.size r.root s)
+  advance_taken = taken h s (holding r.size r.root s) (Advance r.size r.root r.proof) fits
+      (advance_refusal h s r) (advance_allowed h s r)
+
+  pub advance_valid : (old : Option (List Text)) (refused : Option CosignError)
+      → IfSome old (λ list. cosigner_of h list ≡ Ok s)
+      → earlier (advance_refusal h s r) refused ≡ None
+      → IfSome old (λ list. cosigner_of h (list ++ advance_record r.size r.root r.proof ∷ [])
+      ≡ Ok (holding r.size r.root s))
+  advance_valid = valid h s (holding r.size r.root s) (Advance r.size r.root r.proof) fits
+      (advance_refusal h s r) (advance_allowed h s r)
+
+module _ (h : HashFunction) (s : CosignerState) (r : SubtreeParts)
+    (fits : FitsStep (Sign s.key.next r.start r.end r.hash r.proof)) where
+  pub sign_taken : (body : Text) → body ≡ sign_record s.key.next r.start r.end r.hash r.proof
+      → Ok tt ≡ answer_of (subtree_refusal h s r)
+      → next_state h s body ≡ Some (having_signed s)
+  sign_taken = taken h s (having_signed s) (Sign s.key.next r.start r.end r.hash r.proof) fits
+      (subtree_refusal h s r) (sign_allowed h s r)
+
+  pub sign_valid : (old : Option (List Text)) (refused : Option CosignError)
+      → IfSome old (λ list. cosigner_of h list ≡ Ok s)
+      → earlier (subtree_refusal h s r) refused ≡ None
+      → IfSome old (λ list. cosigner_of h
+      (list ++ sign_record s.key.next r.start r.end r.hash r.proof ∷ []) ≡ Ok (having_signed s))
+  sign_valid = valid h s (having_signed s) (Sign s.key.next r.start r.end r.hash r.proof) fits
+      (subtree_refusal h s r) (sign_allowed h s r)
+
+-- a record that makes a cosigner is allowed
+pub is_allowed : (o : Option CosignerState) (t : CosignerState) → o ≡ Some t
+    → IsTrue (is_some o)
+is_allowed o t is = subst (λ (p : Option CosignerState). IsTrue (is_some p)) (sym is) refl

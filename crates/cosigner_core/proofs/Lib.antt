@@ -12,7 +12,6 @@ pub mod Forms
 pub mod Keeps
 pub mod Lengths
 pub mod Names
-pub mod Readings
 pub mod Encoded
 pub mod Tagged
 pub mod Writes

@@ -1,10 +1,6 @@
 -- Faults of the parts of a record as faults of the record.
-use Rattle.std.specs.Prelude.{ℕ}
-use Rattle.journal_core.specs.declared.error.OpenError.TheVariants as open_error
 use Rattle.tls_wire.specs.declared.fault.AnchorBytesError.{AnchorBytesError}
 use Rattle.tls_wire.specs.declared.fault.AnchorBytesError.TheVariants as id
-use Rattle.cosigner_core.specs.declared.error.CosignerOpenError.{CosignerOpenError}
-use Rattle.cosigner_core.specs.declared.error.CosignerOpenError.TheVariants.{BadRecord, Open}
 use Rattle.cosigner_core.specs.declared.error.RecordError.{RecordError}
 use Rattle.cosigner_core.specs.declared.error.RecordError.TheVariants.{Unfit, Memory}
 
@@ -16,8 +12,3 @@ cosigner_id_fault id.Unfinished = Unfit
 cosigner_id_fault id.TooLong = Unfit
 cosigner_id_fault (id.ArcTooLarge place) = Unfit
 cosigner_id_fault id.Memory = Memory
-
--- a record of this number that is not taken
-abbrev pub cosigner_refusal_at : ℕ → RecordError → CosignerOpenError
-cosigner_refusal_at number Unfit = BadRecord number
-cosigner_refusal_at number Memory = Open open_error.Memory

@@ -6,14 +6,14 @@ use Rattle.byte_formats.specs.Types.{Hash, HashFunction, Text}
 use Rattle.tree_proofs.specs.Checkpoints.{empty_checkpoint}
 use Rattle.tree_proofs.specs.declared.checkpoint.Checkpoint.{Checkpoint}
 use Rattle.journal_core.specs.Folds.{Fold, state_behind}
+use Rattle.state_journal.specs.declared.error.StateOpenError.{StateOpenError}
+use Rattle.state_journal.specs.declared.error.StateOpenError.TheVariants.{BadRecord, Open}
 use Rattle.hss_core.specs.Counted.{Counted}
 use Rattle.lms_core.specs.Heights.{height}
 use Rattle.lms_core.specs.Trees.{private_key}
 use Rattle.cosigner_core.specs.Progress.{is_allowed, with_step}
 use Rattle.cosigner_core.specs.Records.{cosigner_in, step_in}
 use Rattle.cosigner_core.specs.declared.step.Step.{Step}
-use Rattle.cosigner_core.specs.declared.error.CosignerOpenError.{CosignerOpenError}
-use Rattle.cosigner_core.specs.declared.error.CosignerOpenError.TheVariants.{BadRecord, Open}
 use Rattle.cosigner_core.specs.declared.progress.Progress.{Progress}
 use Rattle.cosigner_core.specs.declared.settings.CosignerSettings.{CosignerSettings}
 
@@ -79,7 +79,7 @@ unfoldable pub next_state : HashFunction → CosignerState → Text → Option C
 next_state h s body = option_and_then (after_step h s) (step_in body)
 
 -- A cosigner as a kind of journal.
-abbrev pub cosigner_fold : HashFunction → Fold CosignerState CosignerOpenError
+abbrev pub cosigner_fold : HashFunction → Fold CosignerState StateOpenError
 cosigner_fold h =
     record {
       begins = begun_cosigner h;

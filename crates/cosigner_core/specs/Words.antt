@@ -43,7 +43,7 @@ module _ {H D : Type 0} {hashes : Hashes H} {g : Ghosts D} where
 
   -- the ids, what is held, and the key with its count
   abbrev pub cosigner_state : Cosigner H D hashes g → CosignerState
-  cosigner_state it = it.signer
+  cosigner_state it = it.machine.contents
 
   -- the cosigner shows what it showed before
   pub record IsShown (old new : Cosigner H D hashes g) : Type 0 where

@@ -21,18 +21,18 @@ ghost use Rattle.cosigner_core.specs.Refusals.{CosignKeepsTo, advance_refused, c
 ghost use Rattle.cosigner_core.specs.Signatures.{signature_by};
 ghost use Rattle.cosigner_core.specs.Views.{advance_parts, subtree_parts};
 
-use crate::error::{CosignError, CosignerOpenError, hand_back};
+use crate::error::{CosignError, CosignerOpenError};
 use crate::export::{first_size, write_prefix};
-use crate::opening::read_signer;
+use crate::machine::Machine;
 use crate::requests::{AdvanceRequest, SubtreeRequest};
-use crate::signer::Signer;
 use crate::step_record::StepRecord;
 use disk_core::Disk;
-use hss_core::{PUBLIC_KEY_LEN, SigBuf};
-use journal_core::{CopyError, Journal, Opening, Refused, copy_behind};
-use mtc_io::{Failed, Sink};
+use hss_core::{Key, PUBLIC_KEY_LEN, SigBuf};
+use journal_core::{CopyError, Journal, OpenError, Refused, copy_behind};
+use mtc_io::{Failed, Memory, Sink};
+use mtc_proof::InputBuf;
+use state_journal::{append_to, open_state};
 use std::alloc::Global;
-use std::marker::PhantomData;
 use tls_wire::AnchorId;
 use tree_core::TreeHash;
 
@@ -41,10 +41,14 @@ use tree_core::TreeHash;
 /// record more. `H` is the hash function of the log's tree.
 pub struct Cosigner<H: TreeHash, D: Disk> {
     journal: Journal<D>,
-    signer: Signer,
-    hash: PhantomData<H>,
+    machine: Machine<H>,
+    key: Key,
     ghost settled: { (b : List ℕ) → D.Disk.contents (disk_of journal) ≡ Some b → IsDurableAs
-        H.TreeHash.hash signer (end_of journal) b } by { Prim.hlevel (props, IsDurableAs-prop) },
+        H.TreeHash.hash machine.contents (end_of journal) b } by { Prim.hlevel (
+          props,
+          IsDurableAs-prop,
+        ) },
+    ghost same: { key ≡ machine.contents.key } by { Prim.hlevel props },
 }
 
 // A drop in one step: a derived one is proved field by field wherever a value is let go.
@@ -52,8 +56,8 @@ impl<H: TreeHash, D: Disk + Drop> Drop for Cosigner<H, D> {
     fn drop(self) {
         let Cosigner {
             journal: _,
-            signer: _,
-            hash: _,
+            machine: _,
+            key: _,
         } = self;
     }
 }
@@ -91,19 +95,25 @@ impl<H: TreeHash, D: Disk> Cosigner<H, D> {
         ensures cause { IfErr result (λ e. HasCosignerCause D.Disk H.hash disk e.disk e.why) }
         ensures fine_err { IfErr result (λ e. CosignerCountsNoOther D.Disk disk e.disk e.why) }
     {
-        let mut opening = match Opening::begin(alloc, disk) {
-            Ok(opening) => opening,
-            Err(Refused { disk, why }) => {
-                return Err(hand_back(disk, CosignerOpenError::Open(why)));
+        let (journal, machine) = match open_state::<Machine<H>, D>(alloc, disk, ()) {
+            Ok(opened) => opened,
+            Err(refused) => {
+                return Err(Refused {
+                    disk: refused.disk,
+                    why: refused.why,
+                });
             }
         };
-        match read_signer::<H, D>(alloc, &mut opening) {
-            Ok(signer) => Ok(Cosigner {
-                journal: opening.ready(),
-                signer,
-                hash: PhantomData,
+        match machine.contents.key(alloc) {
+            Ok(key) => Ok(Cosigner {
+                journal,
+                machine,
+                key,
             }),
-            Err(why) => Err(hand_back(opening.into_disk(), why)),
+            Err(Memory) => Err(Refused {
+                disk: journal.into_disk(),
+                why: CosignerOpenError::Open(OpenError::Memory),
+            }),
         }
     }
 
@@ -132,10 +142,9 @@ impl<H: TreeHash, D: Disk> Cosigner<H, D> {
             ≡ Ok (holding request.now.size request.now.root (cosigner_state self.old))) }
         ensures records { OnErr result (cosigner_records self.new ≡ cosigner_records self.old) }
     {
-        self.signer.test_advance::<H>(request)?;
+        self.machine.contents.test_advance::<H>(request)?;
         let body = StepRecord::advance(request.size, &request.root, request.proof);
-        self.journal.append(body.as_slice())?;
-        self.signer.hold(request.size, &request.root);
+        append_to(&mut self.journal, &mut self.machine, body.as_slice())?;
         Ok(())
     }
 
@@ -180,11 +189,14 @@ impl<H: TreeHash, D: Disk> Cosigner<H, D> {
         ensures nothing { OnErr result (out.new ≡ []) }
     {
         out.clear();
-        self.signer.test_subtree::<H>(request)?;
-        let body = self.signer.record_of(request);
-        self.journal.append(body.as_slice())?;
-        self.signer
-            .sign(request.start, request.end, &request.hash, out);
+        self.machine.contents.test_subtree::<H>(request)?;
+        let body = self.machine.contents.record_of(request);
+        let mut input = InputBuf::new();
+        self.machine
+            .contents
+            .put_input(request.start, request.end, &request.hash, &mut input);
+        append_to(&mut self.journal, &mut self.machine, body.as_slice())?;
+        self.key.sign(input.as_slice(), out);
         Ok(())
     }
 
@@ -208,11 +220,13 @@ impl<H: TreeHash, D: Disk> Cosigner<H, D> {
         ensures cause { HasCopyCause (D.faults (cosigner_disk self.old)) (O.faults out.old)
             (D.faults (cosigner_disk self.new)) (O.faults out.new) result }
     {
-        match write_prefix(&self.signer, out) {
+        match write_prefix(&self.machine.contents, &self.key, out) {
             Ok(()) => {}
             Err(Failed) => return Err(CopyError::Write),
         }
-        let from = self.journal.end_behind_first(first_size(&self.signer));
+        let from = self
+            .journal
+            .end_behind_first(first_size(&self.machine.contents));
         copy_behind(&mut self.journal, from, out)
     }
 
@@ -223,20 +237,20 @@ impl<H: TreeHash, D: Disk> Cosigner<H, D> {
           (cosigner_state self.now).held.root,
         ) }
     {
-        self.signer.held()
+        self.machine.contents.held()
     }
 
     /// The public key of its signatures (RFC 8554, section 6.1).
     pub fn public(&self) -> [u8; PUBLIC_KEY_LEN]
         ensures { result ≡ one_level_public (cosigner_state self.now).key.key }
     {
-        self.signer.public()
+        self.key.public()
     }
 
     pub fn id(&self) -> &AnchorId
         ensures { result.now ≡ (cosigner_state self.now).id }
     {
-        self.signer.id()
+        self.machine.contents.id()
     }
 
     pub fn into_disk(self) -> D
@@ -244,8 +258,8 @@ impl<H: TreeHash, D: Disk> Cosigner<H, D> {
     {
         let Cosigner {
             journal,
-            signer: _,
-            hash: _,
+            machine: _,
+            key: _,
         } = self;
         journal.into_disk()
     }

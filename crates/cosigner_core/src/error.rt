@@ -9,27 +9,10 @@ ghost use Rattle.cosigner_core.specs.declared.error.ReadExportError.TheVariants.
 ghost use Rattle.cosigner_core.specs.Faults.{cosigner_id_fault};
 
 use crate::fault::FormError;
-use journal_core::{AppendError, OpenError, Refused};
+use journal_core::AppendError;
 use mtc_io::Memory;
+pub use state_journal::StateOpenError as CosignerOpenError;
 use tls_wire::{AnchorBytesError, Short};
-
-pub(crate) fn hand_back<D>(disk: D, why: CosignerOpenError) -> Refused<D, CosignerOpenError>
-    ensures disk { result.disk ≡ disk }
-    ensures why { result.why ≡ why }
-{
-    Refused { disk, why }
-}
-
-/// Why a file is not opened as a cosigner's. The records are read and tested one by one, and the
-/// first fault is answered.
-#[derive(Clone, Copy, Debug, PartialEq, Eq)]
-pub enum CosignerOpenError {
-    /// The record of this number, counted from 0, breaks the rules of a cosigner's records, or
-    /// there is no record.
-    BadRecord(u64),
-    /// The file is not read as a journal. The disk may have failed, or memory was refused.
-    Open(OpenError),
-}
 
 /// What a cosigner refuses. Each call says in which order it tests.
 #[derive(Clone, Copy, Debug, PartialEq, Eq)]

@@ -8,7 +8,8 @@ ghost use Rattle.mtc_io.specs.Streams.{AppendsPrefix};
 ghost use Rattle.hss_core.specs.Hss.{one_level_public};
 ghost use Rattle.cosigner_core.specs.Exports.{prefix_text};
 
-use crate::signer::Signer;
+use crate::contents::Contents;
+use hss_core::Key;
 use mtc_io::{Failed, Sink, write_pieces};
 
 // The length of the first record without the ids in it: the tag, the lengths of the ids, the two
@@ -17,25 +18,30 @@ const FIRST_FIELDS: u64 = 59;
 
 /// The length of the first record, as the settings tell it. The disk isn't asked, so whatever it
 /// gives, the secret in that record isn't copied.
-pub(crate) fn first_size(signer: &Signer) -> u64
-    ensures value { result ≡ 59 + length signer.now.id + length signer.now.log }
+pub(crate) fn first_size(contents: &Contents) -> u64
+    ensures value { result ≡ 59 + length contents.now.id + length contents.now.log }
     ensures few { result ≤ 131072 }
 {
-    let ids = signer.id().as_bytes().len() + signer.log().as_bytes().len();
+    let ids = contents.id().as_bytes().len() + contents.log().as_bytes().len();
     FIRST_FIELDS + ids as u64
 }
 
 /// Writes the ids of a cosigner and of its log, and its public key.
-pub(crate) fn write_prefix<O: Sink>(signer: &Signer, out: &mut O) -> Result<(), Failed>
+pub(crate) fn write_prefix<O: Sink>(
+    contents: &Contents,
+    key: &Key,
+    out: &mut O,
+) -> Result<(), Failed>
+    requires { key.now ≡ contents.now.key }
     ensures ok { OnOk result (Appends (O.taken out.old) (O.taken out.new)
-        (prefix_text signer.now.id signer.now.log (one_level_public signer.now.key.key))) }
+        (prefix_text contents.now.id contents.now.log (one_level_public contents.now.key.key))) }
     ensures prefix { AppendsPrefix (O.taken out.old) (O.taken out.new)
-        (prefix_text signer.now.id signer.now.log (one_level_public signer.now.key.key)) }
+        (prefix_text contents.now.id contents.now.log (one_level_public contents.now.key.key)) }
     ensures cause { HasCause (O.faults out.old) (O.faults out.new) result }
 {
-    let id = signer.id().as_bytes();
-    let log = signer.log().as_bytes();
-    let public = signer.public();
+    let id = contents.id().as_bytes();
+    let log = contents.log().as_bytes();
+    let public = key.public();
     let id_size = (id.len() as u8).to_be_bytes();
     let log_size = (log.len() as u8).to_be_bytes();
     let public_size = (public.len() as u16).to_be_bytes();
