@@ -10,8 +10,8 @@ use Rattle.journal_core.specs.Words.{AllRepresent}
 use Rattle.journal_core.specs.declared.error.OpenError.TheVariants as open_error
 use Rattle.cosigner_core.specs.Folds.{CosignerState}
 use Rattle.cosigner_core.specs.Openings.{FoundCosigner, HasCosignerCause, cosigner_read}
-use Rattle.cosigner_core.specs.declared.error.CosignerOpenError.{CosignerOpenError}
-use Rattle.cosigner_core.specs.declared.error.CosignerOpenError.TheVariants.{Open}
+use Rattle.state_journal.specs.declared.error.StateOpenError.{StateOpenError}
+use Rattle.state_journal.specs.declared.error.StateOpenError.TheVariants.{Open}
 use Rattle.mtc_command.specs.Answers.{no_memory, refused, replied, room_failed}
 use Rattle.mtc_command.specs.Steps.{Outcome, answers, with_form}
 use Rattle.mtc_command.specs.Works.{HasWorkedOn}
@@ -39,7 +39,7 @@ module _ (h : HashFunction) (name : Text) (says : FoundCosigner → Outcome) whe
 
   module _ {D : Type 0} (g : Ghosts D) (old new : D) (only_reads : OnlyReads g old new) where
     -- a file that is no cosigner's
-    no_cosigner : (why : CosignerOpenError)
+    no_cosigner : (why : StateOpenError)
         → IfSome (g.contents old) (λ b. cosigner_read h b ≡ Err why)
         → HasWorkedOn g name (cosigner_bytes_say h name says) old new
         (replied (refused BadForm (Some name) (cosigner_open_text why)))
@@ -50,7 +50,7 @@ module _ (h : HashFunction) (name : Text) (says : FoundCosigner → Outcome) whe
         (λ b read. ap (λ r. with_form cosigner_open_text name r says) read))
 
     -- a cosigner that wasn't opened
-    pub refused_says : (why : CosignerOpenError) → HasCosignerCause g h old new why
+    pub refused_says : (why : StateOpenError) → HasCosignerCause g h old new why
         → HasWorkedOn g name (cosigner_bytes_say h name says) old new
         (cosigner_open_ending name why)
     refused_says (Open open_error.Failed) is = not_opened g name

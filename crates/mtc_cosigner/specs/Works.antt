@@ -13,8 +13,8 @@ use Rattle.cosigner_core.specs.Views.{advance_parts, subtree_parts}
 use Rattle.cosigner_core.specs.Words.{cosigner_broken, cosigner_disk, cosigner_end}
 use Rattle.cosigner_core.specs.Words.{cosigner_records, cosigner_state}
 use Rattle.cosigner_core.specs.declared.cosigner.Cosigner.{Cosigner}
-use Rattle.cosigner_core.specs.declared.error.CosignerOpenError.{CosignerOpenError}
-use Rattle.cosigner_core.specs.declared.error.CosignerOpenError.TheVariants.{BadRecord, Open}
+use Rattle.state_journal.specs.declared.error.StateOpenError.{StateOpenError}
+use Rattle.state_journal.specs.declared.error.StateOpenError.TheVariants.{BadRecord, Open}
 use Rattle.mtc_command.specs.Answers.{Ending, replied, room_failed, no_memory, refused}
 use Rattle.mtc_command.specs.Steps.{Outcome, Files, with_bytes, with_file, with_form}
 use Rattle.mtc_command.specs.Valid.{WorksValidly}
@@ -26,7 +26,7 @@ use Rattle.mtc_cosigner.specs.declared.work.Work.{Work}
 use Rattle.mtc_cosigner.specs.declared.work.Work.TheVariants.{Advance, Cosign, Export}
 
 -- Why a file is no cosigner's.
-abbrev pub cosigner_open_text : CosignerOpenError → Text
+abbrev pub cosigner_open_text : StateOpenError → Text
 cosigner_open_text (BadRecord number) = codes "BadRecord " ++ decimal number
 cosigner_open_text (Open open_error.NotJournal) = codes "NotJournal"
 cosigner_open_text (Open (open_error.BadLength place)) = codes "BadLength " ++ decimal place
@@ -35,7 +35,7 @@ cosigner_open_text (Open open_error.Failed) = codes "Failed"
 cosigner_open_text (Open open_error.Memory) = codes "Memory"
 
 -- What comes of it: the file is told to be none, unless the device failed or memory was refused.
-abbrev pub cosigner_open_ending : Text → CosignerOpenError → Ending
+abbrev pub cosigner_open_ending : Text → StateOpenError → Ending
 cosigner_open_ending file (Open open_error.Failed) = room_failed file
 cosigner_open_ending file (Open open_error.Memory) = no_memory
 cosigner_open_ending file why = replied (refused BadForm (Some file) (cosigner_open_text why))
