@@ -21,7 +21,7 @@ use Rattle.cosigner_core.specs.Exports.{export_text}
 use Rattle.cosigner_core.specs.Openings.{FoundCosigner, cosigner_read}
 use Rattle.cosigner_core.specs.Progress.{steps_in}
 use Rattle.cosigner_core.specs.Records.{step_in}
-use Rattle.cosigner_core.specs.declared.error.CosignerOpenError.{CosignerOpenError}
+use Rattle.state_journal.specs.declared.error.StateOpenError.{StateOpenError}
 use Rattle.cosigner_core.specs.declared.settings.CosignerSettings.{CosignerSettings}
 use Rattle.cosigner_core.specs.declared.step.Step.{Step}
 use Rattle.cosigner_core.proofs.ExportAgain.{export_again}
@@ -92,7 +92,7 @@ asked_there : (h : HashFunction) (name : List ℕ) (files : Files) (bytes : List
 unfolding export_outcome
 asked_there h name files bytes found there read =
     ap (λ (o : Option (List ℕ)). with_file name o (cosigner_bytes_say h name export_says)) there
-    ∙ ap (λ (r : Result FoundCosigner CosignerOpenError).
+    ∙ ap (λ (r : Result FoundCosigner StateOpenError).
     with_form cosigner_open_text name r export_says) read
 
 spoken_export : (h : HashFunction) (r : Result CommandValue WordError) (name : List ℕ)
