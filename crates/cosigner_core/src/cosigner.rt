@@ -191,12 +191,14 @@ impl<H: TreeHash, D: Disk> Cosigner<H, D> {
         out.clear();
         self.machine.contents.test_subtree::<H>(request)?;
         let body = self.machine.contents.record_of(request);
+        let record = body.as_slice();
         let mut input = InputBuf::new();
         self.machine
             .contents
             .put_input(request.start, request.end, &request.hash, &mut input);
-        append_to(&mut self.journal, &mut self.machine, body.as_slice())?;
-        self.key.sign(input.as_slice(), out);
+        let signed = input.as_slice();
+        append_to(&mut self.journal, &mut self.machine, record)?;
+        self.key.sign(signed, out);
         Ok(())
     }
 
