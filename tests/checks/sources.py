@@ -74,10 +74,11 @@ WHERE = re.compile(r"\s*where\b[^{;]*?(?=\{|;|\brequires\b|\bensures\b)", re.S)
 FUNCTION = re.compile(rf"^([ \t]*)(pub(?:\([a-z]+\))? +)?(?:const +)?fn +({NAME})", re.M)
 OWNER = re.compile(rf"^(pub(?:\([a-z]+\))? +)?(impl|trait)\b([^{{;]*)\{{", re.M)
 MEMBER = re.compile(rf"^[ \t]+(?:pub +)?ghost +({NAME})\s*[:=]", re.M)
+LENT_SLICE = re.compile(r"&(?:'\w+ +)?\[")
 
 
 def owner_name(kind, head):
-    """The type of an impl, or the name of a trait."""
+    """The type of an impl, `RefSlice` for a slice that is lent, or the name of a trait."""
     head = re.sub(r"\bwhere\b.*", "", head, flags=re.S).strip()
     while head.startswith("<"):
         depth = 0
@@ -88,6 +89,8 @@ def owner_name(kind, head):
                 break
     if kind == "impl" and " for " in head:
         head = head.split(" for ", 1)[1]
+    if LENT_SLICE.match(head):
+        return "RefSlice"
     match = re.search(NAME, head.split("<")[0])
     return match.group() if match else ""
 
