@@ -1,18 +1,19 @@
--- What an item or a landmark more makes of a log.
-use Rattle.std.proofs.Common.{◌≡◌, ◌≢◌, ℕ, ◌+◌, ◌^◌, ◌<◌, ◌≤◌, ◌==◌, nat_lt, not}
+-- What an item, a landmark or tiles more make of a log that does not refuse them.
+use Rattle.std.proofs.Common.{◌≡◌, ◌≢◌, ℕ, ◌+◌, ◌<◌, ◌≤◌, ◌==◌, nat_lt, not, ◌∙◌, arith}
 use Rattle.std.proofs.Common.{if◌then◌else◌, Bool, true, false, List, [], ◌∷◌, ◌++◌, length}
-use Rattle.std.proofs.Common.{Option, Some, None, IfSome, option_map, Ok, refl, sym, ap}
-use Rattle.std.proofs.Common.{◌∙◌, subst, arith}
+use Rattle.std.proofs.Common.{Option, Some, None, IfSome, option_map, Ok, refl, sym}
 use Rattle.std.proofs.lemmas.Bool.{leb-false, ltb-true, ltb-false, not-false}
 use Rattle.std.proofs.lemmas.Bool.Decides.{nat_tests}
-use Rattle.byte_formats.specs.Types.{Text}
+use Rattle.byte_formats.specs.Types.{HashFunction, Text}
 use Rattle.disk_core.specs.declared.disk.Disk.{Ghosts}
-use Rattle.disk_core.specs.Moments.{LeavesOnly}
-use Rattle.journal_core.specs.Format.{RepresentsEither}
 use Rattle.journal_core.specs.declared.error.AppendError.{AppendError}
 use Rattle.journal_core.specs.declared.error.AppendError.TheVariants.{Broken}
+use Rattle.journal_core.proofs.Folds.{state_next}
 use Rattle.log_entry.specs.Matching.{matches}
-use Rattle.issuance_log.specs.Folds.{LogState, LogView, with_item, with_mark, with_tiles, log_of}
+use Rattle.tree_core.specs.declared.hashing.TreeHash.{Ghosts as Hashes}
+use Rattle.issuance_log.specs.Changes.{MakesOfLog}
+use Rattle.issuance_log.specs.Folds.{LogState, LogView, log_fold, log_of, with_item, with_mark}
+use Rattle.issuance_log.specs.Folds.{with_tiles}
 use Rattle.issuance_log.specs.Marks.{last_mark}
 use Rattle.issuance_log.specs.Records.{entry_record, landmark_record, tiles_record}
 use Rattle.issuance_log.specs.Refusals.{add_refusal, full_size, mark_refusal, tile_refusal}
@@ -21,23 +22,15 @@ use Rattle.issuance_log.specs.Shown.{recorded_items, shown_with}
 use Rattle.issuance_log.specs.Sound.{HasSoundNumbers}
 use Rattle.issuance_log.specs.declared.error.LogError.{LogError}
 use Rattle.issuance_log.specs.declared.error.LogError.TheVariants.{Append}
+use Rattle.issuance_log.specs.Words.{LogWouldTake, log_broken, log_end, log_records, view_of}
+use Rattle.issuance_log.specs.declared.log.Log.{Log}
+use Rattle.issuance_log.proofs.Changes.{item_makes, mark_makes, tiles_make}
 use Rattle.issuance_log.proofs.Growth.{last_in, size_fits}
-use Rattle.issuance_log.proofs.Shown.{shown_size}
-use Rattle.issuance_log.proofs.Encoded.{length-entry, log_added, log_marked, log_tiled}
+use Rattle.issuance_log.proofs.Shown.{shown_view}
 
 -- a log that isn't full has room
 pub capacity_of : (size limit : ℕ) → not (nat_lt size limit) ≡ false → size < limit
 capacity_of size limit is = ltb-true size limit (not-false (nat_lt size limit) is)
-
--- the size of a record
-pub record_some : (body entry key : List ℕ) → body ≡ entry_record entry key → 1 ≤ length body
-record_some body entry key is = let size : length body ≡ 5 + length entry + length key =
-    ap length is ∙ length-entry entry key in omega arith
-
-pub record_few : (body entry key : List ℕ) → body ≡ entry_record entry key
-    → length entry + length key ≤ most_item → length body ≤ 131072
-record_few body entry key is few = let size : length body ≡ 5 + length entry + length key =
-    ap length is ∙ length-entry entry key in omega arith
 
 -- a landmark that is above the last one
 pub above_last : (v : LogView) (last size : ℕ) → HasSoundNumbers v → last ≡ last_mark v.marks
@@ -62,92 +55,54 @@ unbroken false o is = refl
 below : (a b : ℕ) → a ≤ b → (a == b) ≡ false → a < b
 below a b few other = grind (arith, nat_tests)
 
--- What is not refused of a log that shows this makes, behind its records, the log with it.
-abbrev pub MakesBehind : (List ℕ → List ℕ) → LogView → List ℕ → (LogState → LogState)
-    → Option (List (List ℕ)) → Type 0
-MakesBehind h v body next records =
-    IfSome records (λ list. log_of h (list ++ body ∷ []) ≡ Ok (next (shown_with v list)))
-
 -- The records make the log that is shown, with as many items as are shown at least.
 pub record MakesShown (h : List ℕ → List ℕ) (v : LogView) (list : List (List ℕ)) : Type 0 where
   pub made : log_of h list ≡ Ok (shown_with v list)
   pub within : v.size ≤ length (recorded_items list)
 
-module _ (h : List ℕ → List ℕ) (v : LogView) (sound : HasSoundNumbers v) where
-  pub added_unrefused : (entry key : List ℕ) → matches h entry key ≡ true
-      → (records : Option (List (List ℕ))) (broken : Bool) (end : ℕ)
-      → (broken ≡ false → IfSome records (MakesShown h v))
-      → add_refusal v broken end entry key ≡ None
-      → MakesBehind h v (entry_record entry key) (with_item entry key) records
+-- behind them a record makes what it makes of any log that shows this
+makes_behind : (h : HashFunction) (v : LogView) (body : Text) (next : LogState → LogState)
+    → MakesOfLog h v body next → (o : Option (List Text)) → IfSome o (MakesShown h v)
+    → IfSome o (λ list. log_of h (list ++ body ∷ []) ≡ Ok (next (shown_with v list)))
+makes_behind h v body next makes None is = tt
+makes_behind h v body next makes (Some list) is =
+    state_next (log_fold h) list (shown_with v list) body (next (shown_with v list)) is.made
+    (makes (shown_with v list) (shown_view v list is.within))
+
+module _ {H D T : Type 0} {hashes : Hashes H} {g : Ghosts D} {k : Ghosts T}
+    (log : Log H D T hashes g k) (sound : HasSoundNumbers (view_of log))
+    (agrees : log_broken log ≡ false
+    → IfSome (log_records log) (MakesShown hashes.hash (view_of log))) where
+  pub added_unrefused : (entry key : Text) → matches hashes.hash entry key ≡ true
+      → add_refusal (view_of log) (log_broken log) (log_end log) entry key ≡ None
+      → LogWouldTake (entry_record entry key) (with_item entry key) log
   unfolding add_refusal
-  added_unrefused entry key belongs records broken end agrees none =
+  added_unrefused entry key belongs none =
       let first = passed _ _ _ none in
       let second = passed _ _ _ first.1 in
-      let few = sound.few in
-      let capacity : v.size < v.settings.limit = below _ _ few first.0 in
-      each records (agrees (unbroken broken _ second.1)) capacity
-      (ltb-false most_item (length entry + length key) second.0)
-    where
-      each : (o : Option (List (List ℕ))) → IfSome o (MakesShown h v)
-          → v.size < v.settings.limit → length entry + length key ≤ most_item
-          → MakesBehind h v (entry_record entry key) (with_item entry key) o
-      each None is capacity few = tt
-      each (Some list) is capacity few =
-          log_added h list (shown_with v list) entry key is.made
-          (subst (λ (n : ℕ). n < v.settings.limit) (sym (shown_size v list is.within)) capacity)
-          few belongs
+      makes_behind hashes.hash (view_of log) (entry_record entry key) (with_item entry key)
+      (item_makes hashes.hash (view_of log) entry key (below _ _ sound.few first.0)
+      (ltb-false most_item (length entry + length key) second.0) belongs) (log_records log)
+      (agrees (unbroken (log_broken log) _ second.1))
 
-  pub marked_unrefused : (records : Option (List (List ℕ))) (broken : Bool) (end : ℕ)
-      → (broken ≡ false → IfSome records (MakesShown h v))
-      → mark_refusal v broken end ≡ None
-      → MakesBehind h v (landmark_record v.size) with_mark records
+  pub marked_unrefused : mark_refusal (view_of log) (log_broken log) (log_end log) ≡ None
+      → LogWouldTake (landmark_record (view_of log).size) with_mark log
   unfolding mark_refusal
-  marked_unrefused records broken end agrees none =
+  marked_unrefused none =
       let first = passed _ _ _ none in
-      let fits = size_fits v sound in
-      each records (agrees (unbroken broken _ first.1)) (omega arith)
-      (below _ _ (last_in v sound) first.0)
-    where
-      each : (o : Option (List (List ℕ))) → IfSome o (MakesShown h v) → v.size < 2 ^ 64
-          → last_mark v.marks < v.size → MakesBehind h v (landmark_record v.size) with_mark o
-      each None is fits above = tt
-      each (Some list) is fits above =
-          let size = shown_size v list is.within in
-          ap (λ (n : ℕ). log_of h (list ++ landmark_record n ∷ [])) (sym size)
-          ∙ log_marked h list (shown_with v list) is.made
-          (subst (λ (n : ℕ). n < 2 ^ 64) (sym size) fits)
-          (subst (λ (n : ℕ). last_mark v.marks < n) (sym size) above)
+      makes_behind hashes.hash (view_of log) (landmark_record (view_of log).size) with_mark
+      (mark_makes hashes.hash (view_of log) sound (below _ _ (last_in (view_of log) sound) first.0))
+      (log_records log) (agrees (unbroken (log_broken log) _ first.1))
 
-  pub tiled_unrefused : (records : Option (List (List ℕ))) (broken : Bool) (end : ℕ)
-      → (broken ≡ false → IfSome records (MakesShown h v))
-      → tile_refusal v broken end ≡ None
-      → MakesBehind h v (tiles_record (full_size v)) (with_tiles (full_size v)) records
+  pub tiled_unrefused : tile_refusal (view_of log) (log_broken log) (log_end log) ≡ None
+      → LogWouldTake (tiles_record (full_size (view_of log))) (with_tiles (full_size (view_of log)))
+      log
   unfolding tile_refusal
-  tiled_unrefused records broken end agrees none =
+  tiled_unrefused none =
       let first = passed _ _ _ none in
-      let fits = size_fits v sound in
-      each records (agrees (unbroken broken _ first.1)) (omega arith)
-      (leb-false (full_size v) v.tiled first.0)
-    where
-      each : (o : Option (List (List ℕ))) → IfSome o (MakesShown h v) → v.size < 2 ^ 32
-          → v.tiled < full_size v
-          → MakesBehind h v (tiles_record (full_size v)) (with_tiles (full_size v)) o
-      each None is fits above = tt
-      each (Some list) is fits above =
-          let size = shown_size v list is.within in
-          log_tiled h list (shown_with v list) (full_size v) is.made (omega arith)
-          (omega arith) above
-          (subst (λ (n : ℕ). full_size v ≤ n) (sym size) (omega arith))
-
--- what a crash leaves of a journal, where the record was written as these bytes
-module _ {D : Type 0} (g : Ghosts D) (list : Option (List Text)) (old new : D) (body record_ : Text)
-    (is : body ≡ record_) where
-  pub moment_is : IfSome list (λ l. LeavesOnly g old new (RepresentsEither l body))
-      → IfSome list (λ l. LeavesOnly g old new (RepresentsEither l record_))
-  moment_is left = subst (λ (b : Text). IfSome list
-      (λ l. LeavesOnly g old new (RepresentsEither l b))) is left
-
-  pub after_is : IfSome list (λ l. (c : Text) → g.may_leave new c → RepresentsEither l body c)
-      → IfSome list (λ l. (c : Text) → g.may_leave new c → RepresentsEither l record_ c)
-  after_is left = subst (λ (b : Text). IfSome list
-      (λ l. (c : Text) → g.may_leave new c → RepresentsEither l b c)) is left
+      let size = full_size (view_of log) in
+      let fits = size_fits (view_of log) sound in
+      makes_behind hashes.hash (view_of log) (tiles_record size) (with_tiles size)
+      (tiles_make hashes.hash (view_of log) size (omega arith) (omega arith)
+      (leb-false size (view_of log).tiled first.0) (omega arith)) (log_records log)
+      (agrees (unbroken (log_broken log) _ first.1))

@@ -10,15 +10,16 @@ use Rattle.byte_formats.specs.Types.{Text}
 use Rattle.journal_core.specs.Format.{most_bytes}
 use Rattle.journal_core.specs.declared.error.AppendError.{AppendError}
 use Rattle.journal_core.specs.declared.error.AppendError.TheVariants.{Broken, Failed, Full}
+use Rattle.issuance_log.specs.Changes.{IsJournalAnswer, KeepsToJournal}
+use Rattle.issuance_log.specs.Entries.{LogCounts}
 use Rattle.issuance_log.specs.Folds.{LogView}
 use Rattle.issuance_log.specs.Marks.{last_mark}
 use Rattle.issuance_log.specs.Records.{entry_record, landmark_record, tiles_record}
-use Rattle.issuance_log.specs.Refusals.{MarkKeepsTo, TilesKeepTo, add_refusal, append_refusal}
-use Rattle.issuance_log.specs.Refusals.{full_size, mark_refusal, tile_refusal}
+use Rattle.issuance_log.specs.Refusals.{ItemKeepsTo, MarkKeepsTo, TilesKeepTo, add_refusal}
+use Rattle.issuance_log.specs.Refusals.{append_refusal, full_size, mark_refusal, tile_refusal}
 use Rattle.issuance_log.specs.Settings.{most_item}
 use Rattle.issuance_log.specs.declared.error.LogError.{LogError}
-use Rattle.issuance_log.specs.declared.error.LogError.TheVariants.{Append, Memory, NothingNew}
-use Rattle.issuance_log.specs.declared.error.LogError.TheVariants.{Failed as TilesFailed}
+use Rattle.issuance_log.specs.declared.error.LogError.TheVariants.{Append, NothingNew}
 
 -- a journal that answers so is broken, and so is too full
 abbrev AnswersBroken : Result (Unit {0}) AppendError → Bool → Type 0
@@ -44,39 +45,21 @@ apart_test a b less = grind (arith, nat_tests)
 
 -- ---- a record that was appended
 
-appended_none : (broken : Bool) (end : ℕ) (text body : Text) (done : Unit {0}) → text ≡ body
-    → broken ≡ false → AnswersFull (Ok done) broken end text → append_refusal broken end body ≡ None
-appended_none broken end text body done is sound full =
-    let fits = fits_unless (end + 5 + length text) most_bytes (λ more.
+pub appended_none : (broken : Bool) (end : ℕ) (body : Text) (done : Unit {0}) → broken ≡ false
+    → AnswersFull (Ok done) broken end body → append_refusal broken end body ≡ None
+appended_none broken end body done sound full =
+    let fits = fits_unless (end + 5 + length body) most_bytes (λ more.
     let wrong : ◌≡◌ {A = Result (Unit {0}) AppendError} (Ok done) (Err Full) =
     full.1 (sound, more) in cc) in
-    let size = ap (λ (t : Text). length t) is in
     else_is broken Broken _ sound
     ∙ else_is (nat_lt most_bytes (end + 5 + length body)) Full None
-    (le-ltb most_bytes (end + 5 + length body) (omega arith))
-
-pub added_answer : (v : LogView) (broken : Bool) (end : ℕ) (entry key text : Text)
-    (done : Unit {0}) → v.size < v.settings.limit → length entry + length key ≤ most_item
-    → text ≡ entry_record entry key → broken ≡ false → AnswersFull (Ok done) broken end text
-    → add_refusal v broken end entry key ≡ None
-unfolding add_refusal
-added_answer v broken end entry key text done capacity few is sound full =
-    else_is (v.size == v.settings.limit) _ _ (apart_test v.size v.settings.limit capacity)
-    ∙ else_is (nat_lt most_item (length entry + length key)) _ _
-    (le-ltb most_item (length entry + length key) few)
-    ∙ ap (λ o. option_map Append o)
-    (appended_none broken end text (entry_record entry key) done is sound full)
+    (le-ltb most_bytes (end + 5 + length body) fits)
 
 -- ---- one that was refused
 
-abbrev AppendKeepsTo : Option AppendError → AppendError → Type 0
-AppendKeepsTo wanted Failed = wanted ≡ None
-AppendKeepsTo wanted Broken = wanted ≡ Some Broken
-AppendKeepsTo wanted Full = wanted ≡ Some Full
-
-refused_keeps : (broken : Bool) (end : ℕ) (text : Text) (why : AppendError)
+pub refused_keeps : (broken : Bool) (end : ℕ) (text : Text) (why : AppendError)
     → AnswersBroken (Err why) broken → AnswersFull (Err why) broken end text
-    → AppendKeepsTo (append_refusal broken end text) why
+    → IsJournalAnswer (append_refusal broken end text) why
 refused_keeps true end text Failed is_modelled full =
     let wrong : ◌≡◌ {A = Result (Unit {0}) AppendError} (Err Failed) (Err Broken) =
     is_modelled.1 refl in
@@ -99,31 +82,95 @@ refused_keeps false end text Full is_modelled full =
     let test : nat_lt most_bytes (end + 5 + length text) ≡ true = grind (arith, nat_tests) in
     ap (λ (b : Bool). if b then Some Full else None) test
 
-mark_keeps : (wanted : Option AppendError) (why : AppendError) → AppendKeepsTo wanted why
-    → MarkKeepsTo (option_map Append wanted) (Err (Append why))
-mark_keeps wanted Failed is = ap (λ o. option_map Append o) is
-mark_keeps wanted Broken is = ap (λ o. option_map Append o) is
-mark_keeps wanted Full is = ap (λ o. option_map Append o) is
+-- ---- behind the tests of a call
 
-pub marked_refused : (v : LogView) (broken : Bool) (end : ℕ) (text : Text) (why : AppendError)
-    → last_mark v.marks < v.size → text ≡ landmark_record v.size
-    → AnswersBroken (Err why) broken → AnswersFull (Err why) broken end text
-    → MarkKeepsTo (mark_refusal v broken end) (Err (Append why))
+-- What the journal alone may refuse keeps to a refusal of the journal, by how it is told.
+by_answer : {X : Type 0} (KeepsTo : Option LogError → Result X LogError → Type 0)
+    → ((answer : X) (wanted : Option LogError) → wanted ≡ None → KeepsTo wanted (Ok answer))
+    → ((wanted : Option LogError) → wanted ≡ None → KeepsTo wanted (Err (Append Failed)))
+    → ((wanted : Option LogError) → wanted ≡ Some (Append Broken)
+    → KeepsTo wanted (Err (Append Broken)))
+    → ((wanted : Option LogError) → wanted ≡ Some (Append Full)
+    → KeepsTo wanted (Err (Append Full)))
+    → (o : Option AppendError) (result : Result X LogError) → KeepsToJournal o result
+    → KeepsTo (option_map Append o) result
+by_answer KeepsTo done failed broken full o (Ok answer) is =
+    done answer (option_map Append o) (ap (option_map Append) is)
+by_answer KeepsTo done failed broken full o (Err why) is =
+    subst (λ (e : LogError). KeepsTo (option_map Append o) (Err e)) (sym is.1.0)
+    (each is.0 is.1.1)
+  where
+    each : (why : AppendError) → IsJournalAnswer o why
+        → KeepsTo (option_map Append o) (Err (Append why))
+    each Failed is = failed (option_map Append o) (ap (option_map Append) is)
+    each Broken is = broken (option_map Append o) (ap (option_map Append) is)
+    each Full is = full (option_map Append o) (ap (option_map Append) is)
+
+pub added_answer : (v : LogView) (broken : Bool) (end : ℕ) (entry key text : Text)
+    → text ≡ entry_record entry key → v.size < v.settings.limit
+    → length entry + length key ≤ most_item → (result : Result ℕ LogError)
+    → KeepsToJournal (append_refusal broken end text) result
+    → ItemKeepsTo (add_refusal v broken end entry key) result
+unfolding add_refusal
+added_answer v broken end entry key text encoded capacity few result is =
+    let by = append_refusal broken end in
+    subst (λ (o : Option LogError). ItemKeepsTo o result)
+    (ap (λ (t : Text). option_map Append (by t)) encoded
+    ∙ sym (else_is (v.size == v.settings.limit) _ _ (apart_test v.size v.settings.limit capacity)
+    ∙ else_is (nat_lt most_item (length entry + length key)) _ _
+    (le-ltb most_item (length entry + length key) few)))
+    (by_answer ItemKeepsTo (λ answer o is. is) (λ o is. is) (λ o is. is) (λ o is. is) (by text)
+    result is)
+
+pub marked_answer : (v : LogView) (broken : Bool) (end : ℕ) (text : Text)
+    → text ≡ landmark_record v.size → last_mark v.marks < v.size
+    → (result : Result (ℕ × ℕ) LogError) → KeepsToJournal (append_refusal broken end text) result
+    → MarkKeepsTo (mark_refusal v broken end) result
 unfolding mark_refusal
-marked_refused v broken end text why above is is_modelled full =
-    subst (λ (o : Option LogError). MarkKeepsTo o (Err (Append why)))
-    (sym (else_is (last_mark v.marks == v.size) _ _ (apart_test (last_mark v.marks) v.size above)))
-    (mark_keeps (append_refusal broken end (landmark_record v.size)) why
-    (subst (λ (t : Text). AppendKeepsTo (append_refusal broken end t) why) is
-    (refused_keeps broken end text why is_modelled full)))
+marked_answer v broken end text encoded above result is =
+    let by = append_refusal broken end in
+    subst (λ (o : Option LogError). MarkKeepsTo o result)
+    (ap (λ (t : Text). option_map Append (by t)) encoded
+    ∙ sym (else_is (last_mark v.marks == v.size) _ _
+    (apart_test (last_mark v.marks) v.size above)))
+    (by_answer MarkKeepsTo (λ answer o is. is) (λ o is. is) (λ o is. is) (λ o is. is) (by text)
+    result is)
 
--- ---- tiles
+new_test : (a b : ℕ) → b < a → nat_le a b ≡ false
+new_test a b less = grind (arith, nat_tests)
 
-tiled_test : (a b : ℕ) → b < a → nat_le a b ≡ false
-tiled_test a b less = grind (arith, nat_tests)
+-- the refusal of tiles that are new is that of the journal
+tiles_new : (v : LogView) (broken : Bool) (end : ℕ) → v.tiled < full_size v
+    → option_map Append (append_refusal broken end (tiles_record (full_size v)))
+    ≡ tile_refusal v broken end
+unfolding tile_refusal
+tiles_new v broken end above =
+    sym (else_is (nat_le (full_size v) v.tiled) _ _ (new_test (full_size v) v.tiled above))
 
-stored_test : (a b : ℕ) → a ≤ b → nat_le a b ≡ true
-stored_test a b le = grind (arith, nat_tests)
+pub tiled_answer : (v : LogView) (broken : Bool) (end : ℕ) (text : Text)
+    → text ≡ tiles_record (full_size v) → v.tiled < full_size v → (result : Result ℕ LogError)
+    → KeepsToJournal (append_refusal broken end text) result
+    → TilesKeepTo (tile_refusal v broken end) result
+tiled_answer v broken end text encoded above result is =
+    let by = append_refusal broken end in
+    subst (λ (o : Option LogError). TilesKeepTo o result)
+    (ap (λ (t : Text). option_map Append (by t)) encoded ∙ tiles_new v broken end above)
+    (by_answer TilesKeepTo (λ answer o is. is) (λ o is. is) (λ o is. is) (λ o is. is) (by text)
+    result is)
+
+-- behind that test nothing else is answered for it
+pub tiles_not_old : (v : LogView) (broken : Bool) (end : ℕ) → v.tiled < full_size v
+    → tile_refusal v broken end ≡ Some NothingNew → ⊥
+tiles_not_old v broken end above is =
+    by_journal (append_refusal broken end (tiles_record (full_size v)))
+    (tiles_new v broken end above ∙ is)
+  where
+    by_journal : (o : Option AppendError) → option_map Append o ≡ Some NothingNew → ⊥
+    by_journal None is = absurd cc
+    by_journal (Some why) is = absurd cc
+
+old_test : (a b : ℕ) → a ≤ b → nat_le a b ≡ true
+old_test a b le = grind (arith, nat_tests)
 
 -- there are no new ones
 pub tiles_old : (v : LogView) (broken : Bool) (end : ℕ) → full_size v ≤ v.tiled
@@ -132,52 +179,12 @@ unfolding tile_refusal
 tiles_old v broken end le =
     ap (λ (b : Bool). if b then Some NothingNew
     else option_map Append (append_refusal broken end (tiles_record (full_size v))))
-    (stored_test (full_size v) v.tiled le)
+    (old_test (full_size v) v.tiled le)
 
--- there are, so the journal alone refuses
-tiles_new : (v : LogView) (broken : Bool) (end : ℕ) → v.tiled < full_size v
-    → tile_refusal v broken end
-    ≡ option_map Append (append_refusal broken end (tiles_record (full_size v)))
-unfolding tile_refusal
-tiles_new v broken end less =
-    else_is (nat_le (full_size v) v.tiled) _ _ (tiled_test (full_size v) v.tiled less)
-
-by_journal : (o : Option AppendError) → option_map Append o ≡ Some NothingNew → ⊥
-by_journal None is = absurd cc
-by_journal (Some why) is = absurd cc
-
-pub tiles_starved : (v : LogView) (broken : Bool) (end : ℕ) → v.tiled < full_size v
-    → TilesKeepTo (tile_refusal v broken end) (Err Memory)
-tiles_starved v broken end less =
-    λ is. by_journal (append_refusal broken end (tiles_record (full_size v)))
-    (sym (tiles_new v broken end less) ∙ is)
-
-pub tiles_failed : (v : LogView) (broken : Bool) (end : ℕ) → v.tiled < full_size v
-    → TilesKeepTo (tile_refusal v broken end) (Err TilesFailed)
-tiles_failed v broken end less =
-    λ is. by_journal (append_refusal broken end (tiles_record (full_size v)))
-    (sym (tiles_new v broken end less) ∙ is)
-
-pub tiled_answer : (v : LogView) (broken : Bool) (end : ℕ) (text : Text) (done : Unit {0})
-    → v.tiled < full_size v → text ≡ tiles_record (full_size v) → broken ≡ false
-    → AnswersFull (Ok done) broken end text → tile_refusal v broken end ≡ None
-tiled_answer v broken end text done less is sound full =
-    tiles_new v broken end less ∙ ap (λ o. option_map Append o)
-    (appended_none broken end text (tiles_record (full_size v)) done is sound full)
-
-tiles_keep : (wanted : Option AppendError) (why : AppendError) → AppendKeepsTo wanted why
-    → TilesKeepTo (option_map Append wanted) (Err (Append why))
-tiles_keep wanted Failed is = ap (λ o. option_map Append o) is
-tiles_keep wanted Broken is = ap (λ o. option_map Append o) is
-tiles_keep wanted Full is = ap (λ o. option_map Append o) is
-
-pub tiled_refused : (v : LogView) (broken : Bool) (end : ℕ) (text : Text) (why : AppendError)
-    → v.tiled < full_size v → text ≡ tiles_record (full_size v) → AnswersBroken (Err why) broken
-    → AnswersFull (Err why) broken end text
-    → TilesKeepTo (tile_refusal v broken end) (Err (Append why))
-tiled_refused v broken end text why less is is_modelled full =
-    subst (λ (o : Option LogError). TilesKeepTo o (Err (Append why)))
-    (sym (tiles_new v broken end less))
-    (tiles_keep (append_refusal broken end (tiles_record (full_size v))) why
-    (subst (λ (t : Text). AppendKeepsTo (append_refusal broken end t) why) is
-    (refused_keeps broken end text why is_modelled full)))
+-- it counts no fault of another disk
+pub counts_none : {X : Type 0} (o : Option AppendError) (before after : ℕ)
+    (result : Result X LogError) → KeepsToJournal o result → after ≡ before
+    → LogCounts before after result
+counts_none o before after (Ok answer) is same = same
+counts_none {X = X} o before after (Err why) is same =
+    subst (λ (e : LogError). LogCounts {X = X} before after (Err e)) (sym is.1.0) same

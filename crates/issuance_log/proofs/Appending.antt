@@ -1,12 +1,11 @@
 -- A record more in the journal of a log: what the log keeps of it, and what it shows.
-use Rattle.std.proofs.Common.{◌≡◌, ℕ, ◌-◌, ◌^◌, ◌<◌, ◌≤◌, ◌%◌, inl, inr, true, false, List, []}
+use Rattle.std.proofs.Common.{◌≡◌, ℕ, ◌-◌, ◌≤◌, inl, inr, true, false, List, [], ◌∙◌, arith}
 use Rattle.std.proofs.Common.{◌∷◌, ◌++◌, Option, Some, None, IfSome, option_map, Ok, Err, refl, ap}
-use Rattle.std.proofs.Common.{subst, sym, ◌∙◌, arith}
-use Rattle.std.specs.Prelude.{◌↔◌, Bool, map, option_and_then, option_to_list, is_some, is_ok}
-use Rattle.std.specs.Prelude.{Result, IsErrOf, IsTrue}
-use Rattle.std.proofs.lemmas.List.{append-nil}
+use Rattle.std.specs.Prelude.{Bool, map, option_and_then, option_to_list, is_some, is_ok, Result}
+use Rattle.std.proofs.lemmas.Option.{same_Some}
 use Rattle.byte_formats.specs.Types.{Text, HashFunction}
 use Rattle.disk_core.specs.declared.disk.Disk.{Ghosts}
+use Rattle.journal_core.specs.Appends.{JournalAppends}
 use Rattle.journal_core.specs.Format.{RepresentsEither, end_behind, records_of}
 use Rattle.journal_core.specs.Words.{AppendLeaves, HasAppended, disk_of, end_of, is_broken, records}
 use Rattle.journal_core.specs.declared.error.AppendError.{AppendError}
@@ -14,24 +13,20 @@ use Rattle.journal_core.specs.declared.error.AppendError.TheVariants.{Broken, Fa
 use Rattle.journal_core.specs.declared.journal.Journal.{Journal}
 use Rattle.journal_core.proofs.Records.{records_of-stands}
 use Rattle.journal_core.proofs.Modelled.{if_some}
-use Rattle.log_entry.specs.Matching.{matches}
 use Rattle.tree_core.specs.Tree.{leaf_hash}
 use Rattle.tree_core.specs.declared.hashing.TreeHash.{Ghosts as Hashes}
-use Rattle.issuance_log.specs.Folds.{LogState, LogView, log_of, next_log, next_view, view_in}
-use Rattle.issuance_log.specs.Folds.{with_item, with_mark, with_tiles}
-use Rattle.issuance_log.specs.Items.{AreBelow, AreHashed, AreKept, HasShortItem, StandAt}
+use Rattle.issuance_log.specs.Changes.{MakesOfLog}
+use Rattle.issuance_log.specs.Folds.{LogState, LogView, log_of, next_view, view_in}
+use Rattle.issuance_log.specs.Items.{AreHashed, AreKept, HasShortItem, StandAt}
 use Rattle.issuance_log.specs.Items.{items_leaves, items_places}
-use Rattle.issuance_log.specs.Marks.{last_mark}
-use Rattle.issuance_log.specs.Records.{IsShort, entry_record, item_in, landmark_record}
-use Rattle.issuance_log.specs.Records.{tiles_record}
+use Rattle.issuance_log.specs.Records.{item_in}
 use Rattle.issuance_log.specs.Shown.{shown_with}
 use Rattle.issuance_log.specs.Sound.{IsSound}
 use Rattle.issuance_log.specs.Words.{log_broken, log_records, view_of}
 use Rattle.issuance_log.specs.declared.log.Log.{Log}
 use Rattle.issuance_log.proofs.Adds.{MakesShown}
 use Rattle.issuance_log.proofs.Keeping.{if_more, kept_more, shown_next}
-use Rattle.issuance_log.proofs.Shown.{all_are_shown, shown_longer, shown_size, shown_view}
-use Rattle.issuance_log.proofs.Encoded.{item_again, next_added, next_marked, next_tiled}
+use Rattle.issuance_log.proofs.Shown.{all_are_shown, shown_longer, shown_view}
 use Rattle.issuance_log.proofs.Standing.{hashed_longer, refused_keeps, refused_same, some_record}
 use Rattle.issuance_log.proofs.Standing.{stand_longer}
 
@@ -64,75 +59,6 @@ module _ (h : HashFunction) (v : LogView) (places : List ℕ) (leaves : Option (
       → IfSome o (AreHashed h v leaves)
   hashed_of None kept = tt
   hashed_of (Some list) kept = kept.hashed
-
-  -- ---- the three records make of the log what the calls say
-
-  pub adds : (entry key : Text) → v.size < v.settings.limit → IsShort entry → IsShort key
-      → matches h entry key ≡ true → (o : Option (List Text))
-      → IfSome o (AreKept h v places leaves)
-      → IfSome o (λ list. next_log h (shown_with v list) (entry_record entry key)
-      ≡ Some (with_item entry key (shown_with v list)))
-  adds entry key capacity few_entry few_key belongs None kept = tt
-  adds entry key capacity few_entry few_key belongs (Some list) kept =
-      next_added h (shown_with v list) entry key
-      (subst (λ (n : ℕ). n < v.settings.limit) (sym (shown_size v list kept.stand.within)) capacity)
-      few_entry few_key belongs
-
-  pub marks_it : v.size < 2 ^ 64 → last_mark v.marks < v.size → (o : Option (List Text))
-      → IfSome o (AreKept h v places leaves)
-      → IfSome o (λ list. next_log h (shown_with v list) (landmark_record v.size)
-      ≡ Some (with_mark (shown_with v list)))
-  marks_it fits above None kept = tt
-  marks_it fits above (Some list) kept =
-      let size = shown_size v list kept.stand.within in
-      ap (λ (n : ℕ). next_log h (shown_with v list) (landmark_record n)) (sym size)
-      ∙ next_marked h (shown_with v list) (subst (λ (n : ℕ). n < 2 ^ 64) (sym size) fits)
-      (subst (λ (n : ℕ). last_mark v.marks < n) (sym size) above)
-
-  pub tiles_it : (size : ℕ) → size < 2 ^ 64 → size % 256 ≡ 0 → v.tiled < size → size ≤ v.size
-      → (o : Option (List Text)) → IfSome o (AreKept h v places leaves)
-      → IfSome o (λ list. next_log h (shown_with v list) (tiles_record size)
-      ≡ Some (with_tiles size (shown_with v list)))
-  tiles_it size fits multiple above within None kept = tt
-  tiles_it size fits multiple above within (Some list) kept =
-      next_tiled h (shown_with v list) size fits multiple above
-      (subst (λ (n : ℕ). size ≤ n) (sym (shown_size v list kept.stand.within)) within)
-
--- ---- the items of a record
-
-pub item_places : (entry key : Text) → IsShort entry → IsShort key → (places : List ℕ) (place : ℕ)
-    → places ++ place ∷ []
-    ≡ places ++ map (λ x. place) (option_to_list (item_in (entry_record entry key)))
-item_places entry key few_entry few_key places place =
-    ap (λ o. places ++ map (λ (x : Text × Text). place) (option_to_list o))
-    (sym (item_again entry key few_entry few_key))
-
-pub item_leaves : (h : HashFunction) (entry key : Text) → IsShort entry → IsShort key
-    → (leaves : Option (List (List ℕ))) → option_map (λ l. l ++ leaf_hash h entry ∷ []) leaves
-    ≡ option_map (λ l. l
-    ++ map (λ x. leaf_hash h x.0) (option_to_list (item_in (entry_record entry key)))) leaves
-item_leaves h entry key few_entry few_key leaves =
-    ap (λ o. option_map (λ (l : List (List ℕ)). l
-    ++ map (λ (x : Text × Text). leaf_hash h x.0) (option_to_list o)) leaves)
-    (sym (item_again entry key few_entry few_key))
-
-pub no_places : (body : Text) → item_in body ≡ None → (places : List ℕ) (place : ℕ)
-    → places ≡ places ++ map (λ x. place) (option_to_list (item_in body))
-no_places body none places place =
-    sym (append-nil places)
-    ∙ ap (λ o. places ++ map (λ (x : Text × Text). place) (option_to_list o)) (sym none)
-
-pub no_leaves : (h : HashFunction) (body : Text) → item_in body ≡ None
-    → (leaves : Option (List (List ℕ))) → leaves
-    ≡ option_map (λ l. l ++ map (λ x. leaf_hash h x.0) (option_to_list (item_in body))) leaves
-no_leaves h body none leaves =
-    same leaves
-    ∙ ap (λ o. option_map (λ (l : List (List ℕ)). l
-    ++ map (λ (x : Text × Text). leaf_hash h x.0) (option_to_list o)) leaves) (sym none)
-  where
-    same : (o : Option (List (List ℕ))) → o ≡ option_map (λ l. l ++ []) o
-    same None = refl
-    same (Some l) = ap Some (sym (append-nil l))
 
 -- ---- what is told of a log
 
@@ -206,13 +132,8 @@ some_modelled f f' (Some b) (Some c) same = refl
 -- ---- one record more
 
 module _ {D : Type 0} {g : Ghosts D} (h : HashFunction) (v w : LogView) (places : List ℕ)
-    (leaves : Option (List (List ℕ))) (old new : Journal D g) (text body : Text)
-    (encoded : text ≡ body) (grown : HasAppended text old new)
-    (next : next_view h v body ≡ Some w) where
-  pub records_are : records new ≡ option_map (λ list. list ++ body ∷ []) (records old)
-  records_are = subst (λ (b : Text). records new
-      ≡ option_map (λ list. list ++ b ∷ []) (records old)) encoded grown.records
-
+    (leaves : Option (List (List ℕ))) (old new : Journal D g) (body : Text)
+    (grown : HasAppended body old new) (next : next_view h v body ≡ Some w) where
   pub grown_kept : (places' : List ℕ) (leaves' : Option (List (List ℕ))) (place : ℕ)
       → IfSome (records old) (AreKept h v places leaves) → HasShortItem (item_in body)
       → place ≡ end_of old - 1
@@ -222,7 +143,7 @@ module _ {D : Type 0} {g : Ghosts D} (h : HashFunction) (v w : LogView) (places 
       → IfSome (records new) (AreKept h w places' leaves')
   grown_kept places' leaves' place kept short place_is places_are leaves_are =
       if_more (AreKept h v places leaves) (AreKept h w places' leaves') (records old) (records new)
-      body records_are
+      body grown.records
       (λ list is was.
       let there : end_of old ≡ end_behind list = end_is list is in
       kept_more h v w places places' leaves leaves' list body was next short
@@ -230,48 +151,37 @@ module _ {D : Type 0} {g : Ghosts D} (h : HashFunction) (v w : LogView) (places 
       (omega arith))
       leaves_are) kept
     where
-      some_list : (x y : List Text) → Some x ≡ Some y → x ≡ y
-      some_list x y is = cc
-
       at : (contents : Option Text) (list : List Text) → option_map records_of contents ≡ Some list
           → ((b : Text) → contents ≡ Some b → end_of old ≡ end_behind (records_of b))
           → end_of old ≡ end_behind list
       at None list is end = let wrong : None ≡ Some list = is in absurd cc
-      at (Some b) list is end = end b refl ∙ ap end_behind (some_list (records_of b) list is)
+      at (Some b) list is end = end b refl ∙ ap end_behind (same_Some (records_of b) list is)
 
       end_is : (list : List Text) → records old ≡ Some list → end_of old ≡ end_behind list
       end_is list is = at (g.contents (disk_of old)) list is
           (λ b contents. (old.settled grown.was_sound b contents).end_is)
 
-  pub grown_modelled : (make : LogState → LogState)
-      → IfSome (records old) (AreKept h v places leaves)
-      → IfSome (records old) (λ list. next_log h (shown_with v list) body
-      ≡ Some (make (shown_with v list)))
-      → option_map (shown_with w) (records new)
-      ≡ option_map make (option_map (shown_with v) (records old))
-  grown_modelled make kept makes =
-      modelled_with v w body make (records old) (records new) records_are
-      (each (records old) kept makes)
-    where
-      each : (o : Option (List Text)) → IfSome o (AreKept h v places leaves)
-          → IfSome o (λ list. next_log h (shown_with v list) body
-          ≡ Some (make (shown_with v list)))
-          → IfSome o (λ list. shown_with w (list ++ body ∷ []) ≡ make (shown_with v list))
-      each None kept makes = tt
-      each (Some list) kept makes =
-          shown_next h v w list body (make (shown_with v list)) kept.made kept.stand.within next
-          makes
+  module _ (make : LogState → LogState) (makes : MakesOfLog h v body make)
+      (kept : IfSome (records old) (AreKept h v places leaves)) where
+    pub grown_modelled : option_map (shown_with w) (records new)
+        ≡ option_map make (option_map (shown_with v) (records old))
+    grown_modelled =
+        modelled_with v w body make (records old) (records new) grown.records
+        (each (records old) kept)
+      where
+        each : (o : Option (List Text)) → IfSome o (AreKept h v places leaves)
+            → IfSome o (λ list. shown_with w (list ++ body ∷ []) ≡ make (shown_with v list))
+        each None kept = tt
+        each (Some list) kept =
+            shown_next h v w list body (make (shown_with v list)) kept.made kept.stand.within next
+            (makes (shown_with v list) (shown_view v list kept.stand.within))
 
-  pub grown_leaves : (make : LogState → LogState) (tiles later : Option Text)
-      → is_some later ≡ is_some tiles → IfSome (records old) (AreKept h v places leaves)
-      → IfSome (records old) (λ list. next_log h (shown_with v list) body
-      ≡ Some (make (shown_with v list)))
-      → leaves_by h w later (records new)
-      ≡ option_map (λ (s : LogState). map (leaf_hash h) (make s).entries)
-      (option_map (shown_with v) (option_and_then (λ (t : Text). records old) tiles))
-  grown_leaves make tiles later both kept makes =
-      leaves_with h v w make tiles later (records old) (records new) both
-      (grown_modelled make kept makes)
+    pub grown_leaves : (tiles later : Option Text) → is_some later ≡ is_some tiles
+        → leaves_by h w later (records new)
+        ≡ option_map (λ (s : LogState). map (leaf_hash h) (make s).entries)
+        (option_map (shown_with v) (option_and_then (λ (t : Text). records old) tiles))
+    grown_leaves tiles later both =
+        leaves_with h v w make tiles later (records old) (records new) both grown_modelled
 
 -- ---- an append that was refused, or failed
 
@@ -339,46 +249,24 @@ modelled_of h v places leaves broken contents kept = record {
   hashed = hashed_of h v places leaves contents kept;
 }
 
--- they say it of the same
-pub contents_same : (h : HashFunction) (v w : LogView) (places places' : List ℕ)
-    (leaves leaves' : Option (List (List ℕ))) (broken : Bool) (contents : Option (List Text))
-    → w ≡ v
-    → places' ≡ places → leaves' ≡ leaves → AreModelled h v places leaves broken contents
-    → AreModelled h w places' leaves' broken contents
-contents_same h v w places places' leaves leaves' broken contents view one two is =
-    subst (λ (u : LogView). AreModelled h u places' leaves' broken contents) (sym view)
-    (subst (λ (l : List ℕ). AreModelled h v l leaves' broken contents) (sym one)
-    (subst (λ o. AreModelled h v places o broken contents) (sym two) is))
-
-pub below_same : (places places' : List ℕ) (end end' : ℕ) → places' ≡ places → end' ≡ end
-    → AreBelow places end → AreBelow places' end'
-below_same places places' end end' one two is =
-    subst (λ (l : List ℕ). AreBelow l end') (sym one)
-    (subst (λ (n : ℕ). AreBelow places n) (sym two) is)
-
 -- So they do behind an append that was refused, or failed.
 pub modelled_behind : {D : Type 0} {g : Ghosts D} (h : HashFunction) (v : LogView) (places : List ℕ)
-    (leaves : Option (List (List ℕ))) (text : Text) (old new : Journal D g)
+    (leaves : Option (List (List ℕ))) (body : Text) (old new : Journal D g)
     (result : Result (Unit {0}) AppendError) → 1 ≤ v.size
-    → is_ok result ≡ false → AppendLeaves text old new result
-    → (IsErrOf result Broken ↔ IsTrue (is_broken old))
-    → is_some (records new) ≡ is_some (records old)
-    → (is_broken old ≡ false → IfSome (records old) (λ list.
-    IfSome (g.contents (disk_of new)) (RepresentsEither list text)))
+    → is_ok result ≡ false → JournalAppends body old new result
     → AreModelled h v places leaves (is_broken old) (records old)
     → AreModelled h v places leaves (is_broken new) (records new)
-modelled_behind h v places leaves text old new result some refused leaves_ broken contents either
-    is =
-    let both = refused_keeps (λ list. StandAt h v places list × AreHashed h v leaves list) text
+modelled_behind h v places leaves body old new result some refused append is =
+    let both = refused_keeps (λ list. StandAt h v places list × AreHashed h v leaves list) body
     old new result
     (λ list was. (
-      stand_longer h v places list text (some_record v list some was.0.within) was.0,
-      hashed_longer h v leaves list text was.0.within was.1,
+      stand_longer h v places list body (some_record v list some was.0.within) was.0,
+      hashed_longer h v leaves list body was.0.within was.1,
     ))
-    refused leaves_ broken contents either (pair (records old) is.stand is.hashed) in
+    refused append (pair (records old) is.stand is.hashed) in
     record {
-      agrees = refused_same (λ list. log_of h list ≡ Ok (shown_with v list)) text old new result
-          refused leaves_ is.agrees;
+      agrees = refused_same (λ list. log_of h list ≡ Ok (shown_with v list)) body old new result
+          refused append.leaves is.agrees;
       stand = if_some (λ list. StandAt h v places list × AreHashed h v leaves list)
           (StandAt h v places) (records new) (λ list was. was.0) both;
       hashed = if_some (λ list. StandAt h v places list × AreHashed h v leaves list)

@@ -3,6 +3,7 @@ use Rattle.std.proofs.Common.{◌≡◌, ℕ, ◌+◌, ◌<◌, ◌≤◌, Bool,
 use Rattle.std.proofs.Common.{List, [], ◌∷◌, ◌++◌, length, drop, get_or, Option, Some, None, Result}
 use Rattle.std.proofs.Common.{Ok, Err, is_ok, option_map, refl, ap, sym, ◌∙◌}
 use Rattle.std.specs.Prelude.{if◌then◌else◌}
+use Rattle.std.proofs.lemmas.Option.{same_Some}
 use Rattle.byte_formats.specs.Types.{Text, HashFunction}
 use Rattle.byte_formats.specs.Readings.{◌>>=◌, some_or}
 use Rattle.byte_formats.proofs.Steps.{bind_ok, ok_is, some_or_ok}
@@ -81,12 +82,8 @@ begins_so h first s bodies is =
     ap (λ (o : Option Settings). some_or 0 (option_map new_log o)
     >>= λ (u : LogState). taken_from (log_fold h) 1 u bodies) is
 
--- the settings stay
-some_is : (s t : LogState) → Some s ≡ Some t → s ≡ t
-some_is s t is = cc
-
 pub when : (b : Bool) (s t : LogState) → (if b then Some s else None) ≡ Some t → s ≡ t
-when true s t is = some_is s t is
+when true s t is = same_Some s t is
 when false s t is = let wrong : None ≡ Some t = is in absurd cc
 
 by_item : (h : HashFunction) (s t : LogState) (item : Option (Text × Text)) (mark tiled : Option ℕ)
@@ -124,7 +121,7 @@ has_begun : (h : HashFunction) (first : Text) (bodies : List Text) (s t : LogSta
     → (settings_in first ≡ Some t.settings) × (log_behind h t.settings bodies ≡ Ok t)
 has_begun h first bodies s t None found is rest = let wrong : None ≡ Some s = is in absurd cc
 has_begun h first bodies s t (Some x) found is rest =
-    let made = some_is (new_log x) s is in
+    let made = same_Some (new_log x) s is in
     let rest_is : taken_from (log_fold h) 1 (new_log x) bodies ≡ Ok t
     = ap (λ (u : LogState). taken_from (log_fold h) 1 u bodies) made ∙ rest in
     let same : t.settings ≡ x = behind_keeps h 1 (new_log x) t bodies rest_is in (

@@ -1,8 +1,7 @@
 -- The records of a log are read as they are spelled.
-use Rattle.std.proofs.Common.{◌≡◌, ℕ, ◌+◌, ◌%◌, ◌^◌, ◌==◌, ◌<◌, ◌≤◌, if◌then◌else◌, Bool}
+use Rattle.std.proofs.Common.{◌≡◌, ℕ, ◌+◌, ◌%◌, ◌^◌, ◌==◌, ◌<◌, ◌≤◌, if◌then◌else◌, Bool, arith}
 use Rattle.std.proofs.Common.{true, false, List, [], ◌∷◌, ◌++◌, length, Option, Some, None}
 use Rattle.std.proofs.Common.{option_map, option_and_then, Result, Ok, Err, refl, ap, ◌∙◌}
-use Rattle.std.proofs.Common.{arith}
 use Rattle.std.specs.Borrow.{Bor}
 use Rattle.std.specs.Int.{w8, w16, w32, w64}
 use Rattle.std.proofs.lemmas.Bool.{eq-eqb, le-leb, lt-ltb, eqb-true}
@@ -26,10 +25,9 @@ use Rattle.issuance_log.specs.Folds.{takes_landmark, takes_tiles}
 use Rattle.issuance_log.specs.Marks.{last_mark}
 use Rattle.log_entry.specs.Matching.{matches}
 use Rattle.issuance_log.specs.Records.{log_tag, entry_tag, landmark_tag, tiles_tag, settings_at}
-use Rattle.issuance_log.specs.Records.{entry_at, tiled_in, tiles_record}
+use Rattle.issuance_log.specs.Records.{entry_at, tiled_in, tiles_record, landmark_record}
 use Rattle.issuance_log.specs.Records.{with_id, log_settings_with, tagged, settings_in}
 use Rattle.issuance_log.specs.Records.{item_in, mark_in, settings_record, IsShort, entry_record}
-use Rattle.issuance_log.specs.Records.{landmark_record}
 use Rattle.issuance_log.specs.Results.{LogFinds}
 use Rattle.issuance_log.specs.declared.error.RecordError.{RecordError}
 use Rattle.issuance_log.specs.declared.error.RecordError.TheVariants.{Unfit, Memory}
@@ -54,10 +52,6 @@ unfolding landmark_record
 length-landmark size = simp length-append (omega arith)
 
 -- ---- a form behind its tag
-
--- what was read is all there was
-pub some_value : {X : Type 0} (y x : X) → Some y ≡ Some x → y ≡ x
-some_value {X} y x is = cc
 
 module _ {X : Type 0} (wanted : ℕ) (small : wanted < 256) {encode : X → List ℕ} {Fits : X
     → Type 0} {read : At → Result (X × At) Short} (form : IsForm encode Fits Anything read) where
@@ -274,18 +268,3 @@ pub log_added : (h : List ℕ → List ℕ) (list : List (List ℕ)) (s : LogSta
 log_added h list s entry key is capacity few belongs =
     state_next (log_fold h) list s (entry_record entry key) (with_item entry key s) is
     (next_added h s entry key capacity (omega arith) (omega arith) belongs)
-
-pub log_marked : (h : List ℕ → List ℕ) (list : List (List ℕ)) (s : LogState) → log_of h list ≡ Ok s
-    → length s.entries < 2 ^ 64 → last_mark s.marks < length s.entries
-    → log_of h (list ++ landmark_record (length s.entries) ∷ []) ≡ Ok (with_mark s)
-log_marked h list s is fits above =
-    state_next (log_fold h) list s (landmark_record (length s.entries)) (with_mark s) is
-    (next_marked h s fits above)
-
-pub log_tiled : (h : List ℕ → List ℕ) (list : List (List ℕ)) (s : LogState) (size : ℕ)
-    → log_of h list ≡ Ok s → size < 2 ^ 64 → size % 256 ≡ 0 → s.tiled < size
-    → size ≤ length s.entries
-    → log_of h (list ++ tiles_record size ∷ []) ≡ Ok (with_tiles size s)
-log_tiled h list s size is fits multiple above within =
-    state_next (log_fold h) list s (tiles_record size) (with_tiles size s) is
-    (next_tiled h s size fits multiple above within)

@@ -5,15 +5,16 @@ use Rattle.std.proofs.Common.{◌%◌, ◌==◌, ◌&&◌, nat_le, nat_lt}
 use Rattle.std.specs.Prelude.{map, option_to_list}
 use Rattle.std.proofs.lemmas.Bool.{and_parts, eqb-true, leb-true, ltb-true}
 use Rattle.std.proofs.lemmas.List.{map-append, take_all}
+use Rattle.std.proofs.lemmas.Option.{same_Some}
 use Rattle.byte_formats.specs.Types.{Text, HashFunction}
+use Rattle.byte_formats.proofs.Values.{map_some, when_some}
 use Rattle.journal_core.specs.Format.{behind}
 use Rattle.journal_core.proofs.Folds.{state_begins, state_next}
 use Rattle.log_entry.specs.Matching.{matches}
 use Rattle.tree_core.specs.Tree.{leaf_hash}
 use Rattle.issuance_log.specs.Folds.{LogState, LogView, begun_log, log_fold, log_of, new_log}
-use Rattle.issuance_log.specs.Folds.{next_log, next_view, null_entry, takes_entry}
+use Rattle.issuance_log.specs.Folds.{next_log, next_view, null_entry, takes_entry, with_tiles}
 use Rattle.issuance_log.specs.Folds.{takes_landmark, takes_tiles, view_in, with_item, with_mark}
-use Rattle.issuance_log.specs.Folds.{with_tiles}
 use Rattle.issuance_log.specs.Items.{AreKept, HasShortItem}
 use Rattle.issuance_log.specs.Marks.{last_mark}
 use Rattle.issuance_log.specs.Places.{places_of}
@@ -23,10 +24,9 @@ use Rattle.issuance_log.specs.Shown.{recorded_items, shown_with}
 use Rattle.issuance_log.specs.Sound.{HasSoundNumbers, IsSound}
 use Rattle.issuance_log.proofs.Behind.{when}
 use Rattle.issuance_log.proofs.Growth.{numbers_marked, numbers_tiled, sound_with}
-use Rattle.issuance_log.proofs.Rules.{test_from}
 use Rattle.issuance_log.proofs.Shown.{all_shown, entries_of, next_items, shown_size, shown_so}
 use Rattle.issuance_log.proofs.Shown.{shown_view}
-use Rattle.issuance_log.proofs.Encoded.{changed_log, some_value}
+use Rattle.issuance_log.proofs.Encoded.{changed_log}
 use Rattle.issuance_log.proofs.Standing.{places_count, places_with}
 use Rattle.issuance_log.proofs.Views.{views_follow}
 
@@ -56,7 +56,7 @@ sound_by : (h : HashFunction) (s t : LogState) (item : Option (Text × Text)) (m
     → IsSound h s → HasShortItem item → changed_log h s item mark tiled ≡ Some t → IsSound h t
 sound_by h s t (Some x) mark tiled sound short is =
     let made = when (takes_entry h (view_in s) x) (with_item x.0 x.1 s) t is in
-    let test = test_from (takes_entry h (view_in s) x) (Some (with_item x.0 x.1 s)) t is in
+    let test = when_some (takes_entry h (view_in s) x) (Some (with_item x.0 x.1 s)) t is in
     let tests = and_parts (nat_lt (length s.entries) s.settings.limit) (matches h x.0 x.1) test.0 in
     let both = short x.0 x.1 refl in
     subst (IsSound h) made (sound_with h s x.0 x.1 sound
@@ -64,14 +64,14 @@ sound_by h s t (Some x) mark tiled sound short is =
     (record { belongs = tests.1; short_entry = both.0; short_key = both.1 }))
 sound_by h s t None (Some size) tiled sound short is =
     let made = when (takes_landmark (view_in s) size) (with_mark s) t is in
-    let test = test_from (takes_landmark (view_in s) size) (Some (with_mark s)) t is in
+    let test = when_some (takes_landmark (view_in s) size) (Some (with_mark s)) t is in
     let tests = and_parts (size == length s.entries) (nat_lt (last_mark s.marks) size) test.0 in
     let same : size ≡ length s.entries = eqb-true size (length s.entries) tests.0 in
     subst (IsSound h) made (sound_marked h s sound
     (subst (λ (n : ℕ). last_mark s.marks < n) same (ltb-true (last_mark s.marks) size tests.1)))
 sound_by h s t None None (Some size) sound short is =
     let made = when (takes_tiles (view_in s) size) (with_tiles size s) t is in
-    let test = test_from (takes_tiles (view_in s) size) (Some (with_tiles size s)) t is in
+    let test = when_some (takes_tiles (view_in s) size) (Some (with_tiles size s)) t is in
     let tests = and_parts (size % 256 == 0)
     (nat_lt s.tiled size && nat_le size (length s.entries)) test.0 in
     let both = and_parts (nat_lt s.tiled size) (nat_le size (length s.entries)) tests.1 in
@@ -87,20 +87,12 @@ sound_next h s t body sound short is =
 
 -- ---- what a record makes of the log that is shown
 
-some_view : (a b : LogView) → Some a ≡ Some b → a ≡ b
-some_view a b same = cc
-
-of_map : (o : Option LogState) (w : LogView) → option_map view_in o ≡ Some w
-    → (t : LogState) × (o ≡ Some t) × (view_in t ≡ w)
-of_map None w is = let wrong : None ≡ Some w = is in absurd cc
-of_map (Some t) w is = (t, refl, some_view (view_in t) w is)
-
 -- The log that it makes, of which this is shown.
 pub next_of : (h : HashFunction) (v w : LogView) (list : List Text) (body : Text)
     → v.size ≤ length (recorded_items list) → next_view h v body ≡ Some w
     → (t : LogState) × (next_log h (shown_with v list) body ≡ Some t) × (view_in t ≡ w)
 next_of h v w list body within is =
-    of_map (next_log h (shown_with v list) body) w
+    map_some view_in (next_log h (shown_with v list) body) w
     (sym (views_follow h (shown_with v list) body)
     ∙ ap (λ (u : LogView). next_view h u body) (shown_view v list within) ∙ is)
 
@@ -112,7 +104,7 @@ pub shown_next : (h : HashFunction) (v w : LogView) (list : List Text) (body : T
 shown_next h v w list body u made within next is =
     let more : List Text = list ++ body ∷ [] in
     let step = next_of h v w list body within next in
-    let same : step.0 ≡ u = some_value step.0 u (sym step.1 ∙ is) in
+    let same : step.0 ≡ u = same_Some step.0 u (sym step.1 ∙ is) in
     let log_is : log_of h more ≡ Ok u = state_next (log_fold h) list (shown_with v list) body u
     made is in
     ap (λ (x : LogView). shown_with x more) (sym (sym (ap view_in same) ∙ step.2))
@@ -234,7 +226,7 @@ sound_new h s numbers = record {
 begun_so : (o : Option Settings) (v : LogView) → option_map view_in (option_map new_log o) ≡ Some v
     → (s : Settings) × (o ≡ Some s) × (view_in (new_log s) ≡ v)
 begun_so None v is = let wrong : None ≡ Some v = is in absurd cc
-begun_so (Some s) v is = (s, refl, some_view (view_in (new_log s)) v is)
+begun_so (Some s) v is = (s, refl, same_Some (view_in (new_log s)) v is)
 
 -- The log that it begins is kept.
 pub kept_first : (h : HashFunction) (v : LogView) (body : Text) (places : List ℕ)
@@ -283,7 +275,7 @@ kept_first h v body places leaves leaves' begun sound one none leaves_is =
 pub short_item : (item : Option (Text × Text)) (entry key : Text) → item ≡ Some (entry, key)
     → IsShort entry → IsShort key → HasShortItem item
 short_item item entry key is few_entry few_key other other_key also =
-    let same = some_value (entry, key) (other, other_key) (sym is ∙ also) in (
+    let same = same_Some (entry, key) (other, other_key) (sym is ∙ also) in (
       subst IsShort (ap (λ (x : Text × Text). x.0) same) few_entry,
       subst IsShort (ap (λ (x : Text × Text). x.1) same) few_key,
     )

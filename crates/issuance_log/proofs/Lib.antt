@@ -1,9 +1,10 @@
-pub mod Adds
+mod Adds
 mod Adopting
 mod Answering
 mod Appending
 pub mod Asked
 pub mod Behind
+mod Changes
 mod Growth
 pub mod Ids
 mod Keeping

@@ -1,9 +1,9 @@
 -- One step of the reading of a log, over its opening.
-use Rattle.std.proofs.Common.{◌≡◌, ℕ, ◌+◌, List, [], ◌∷◌, ◌++◌, length}
+use Rattle.std.proofs.Common.{◌≡◌, ℕ, ◌+◌, List, [], ◌∷◌, ◌++◌, length, ap, subst, sym, ◌∙◌, arith}
 use Rattle.std.proofs.Common.{Option, Some, None, IfSome, option_map, Ok, Err, refl}
-use Rattle.std.proofs.Common.{ap, subst, sym, ◌∙◌, arith}
 use Rattle.std.specs.Prelude.{map, option_to_list, replicate, Bool, true, false, if◌then◌else◌}
 use Rattle.std.proofs.lemmas.List.{length-append, length-map, length-replicate}
+use Rattle.std.proofs.lemmas.Option.{same_Some}
 use Rattle.byte_formats.specs.Types.{Text, HashFunction}
 use Rattle.disk_core.specs.Moments.{OnlyReads}
 use Rattle.disk_core.specs.declared.disk.Disk.{Ghosts}
@@ -71,12 +71,8 @@ not_taken : (h : HashFunction) (v : LogView) (s : LogState) (body : Text) → vi
 not_taken h v s body shows none = no_log (next_log h s body)
     (sym (views_follow h s body) ∙ ap (λ (u : LogView). next_view h u body) shows ∙ none)
 
--- how many items a record adds to the number that is shown
-some_view : (v w : LogView) → Some v ≡ Some w → v ≡ w
-some_view v w is = cc
-
 size_if : (b : Bool) (v w : LogView) → (if b then Some v else None) ≡ Some w → w.size ≡ v.size
-size_if true v w is = sym (ap (λ (u : LogView). u.size) (some_view v w is))
+size_if true v w is = sym (ap (λ (u : LogView). u.size) (same_Some v w is))
 size_if false v w is = let wrong : None ≡ Some w = is in absurd cc
 
 size_by : (h : HashFunction) (v w : LogView) (item : Option (Text × Text)) (mark tiled : Option ℕ)

@@ -1,12 +1,13 @@
 -- What the records of a log spell.
 use Rattle.std.proofs.Common.{◌≡◌, inl, inr, ℕ, ◌%◌, ◌^◌, ◌<◌, ◌&&◌, ◌==◌, nat_lt, nat_le}
-use Rattle.std.proofs.Common.{if◌then◌else◌, Bool, true, false, List, ◌++◌, length, Option, Some}
+use Rattle.std.proofs.Common.{true, List, ◌++◌, length, Option, Some, sym, ◌∙◌, arith}
 use Rattle.std.proofs.Common.{None, option_map, option_and_then, Result, Ok, Err, refl, subst, ap}
-use Rattle.std.proofs.Common.{sym, ◌∙◌, arith}
 use Rattle.std.specs.Int.{w8, w32}
 use Rattle.std.proofs.lemmas.Bool.{and_parts, eqb-true, leb-true, ltb-true}
+use Rattle.std.proofs.lemmas.Option.{same_Some}
 use Rattle.byte_formats.specs.Places.{at, IsBytes}
 use Rattle.byte_formats.proofs.Steps.{IsBytes-prefix, IsBytes-back}
+use Rattle.byte_formats.proofs.Values.{map_some, when_some}
 use Rattle.tls_wire.specs.Anchors.{anchor_of}
 use Rattle.tls_wire.specs.Reading.{number_at}
 use Rattle.tls_wire.specs.Encoding.{number, vector}
@@ -22,15 +23,9 @@ use Rattle.issuance_log.specs.Records.{settings_in, item_in, mark_in, tiled_in, 
 use Rattle.issuance_log.specs.Records.{landmark_record}
 use Rattle.issuance_log.specs.Rules.{IsFirst, IsNext}
 use Rattle.issuance_log.specs.Settings.{Settings, are_allowed, AreAllowed}
-use Rattle.issuance_log.proofs.Encoded.{some_value, settings_text, settings_form}
+use Rattle.issuance_log.proofs.Encoded.{settings_text, settings_form, tiled_takes}
 use Rattle.issuance_log.proofs.Encoded.{settings_again, item_takes, mark_takes, tagged_takes}
 use Rattle.issuance_log.proofs.Encoded.{changed_log, next_added, next_marked, next_tiled}
-use Rattle.issuance_log.proofs.Encoded.{tiled_takes}
-
-pub test_from : {X : Type 0} (b : Bool) (o : Option X) (x : X) → (if b then o else None) ≡ Some x
-    → (b ≡ true) × (o ≡ Some x)
-test_from {X} true o x is = (refl, is)
-test_from {X} false o x is = let wrong : None ≡ Some x = is in cc
 
 pub is_next : (h : List ℕ → List ℕ) (s : LogState) (body : List ℕ) (t : LogState)
     → IsNext h s body t → next_log h s body ≡ Some t
@@ -54,7 +49,7 @@ next_is h s body t bytes is =
         → changed_log h s item mark tiled ≡ Some t → IsNext h s body t
     go (Some x) mark tiled one two three is =
         let encoded = item_takes body x.0 x.1 bytes one in
-        let made = test_from (takes_entry h (view_in s) x) (Some (with_item x.0 x.1 s)) t is in
+        let made = when_some (takes_entry h (view_in s) x) (Some (with_item x.0 x.1 s)) t is in
         let tests = and_parts (nat_lt (length s.entries) s.settings.limit) (matches h x.0 x.1)
         made.0 in
         inl (record {
@@ -65,11 +60,11 @@ next_is h s body t bytes is =
           short_key = encoded.2;
           belongs = tests.1;
           capacity = ltb-true (length s.entries) s.settings.limit tests.0;
-          made = sym (some_value _ _ made.1);
+          made = sym (same_Some _ _ made.1);
         })
     go None (Some size) tiled one two three is =
         let encoded = mark_takes body size bytes two in
-        let made = test_from (takes_landmark (view_in s) size) (Some (with_mark s)) t is in
+        let made = when_some (takes_landmark (view_in s) size) (Some (with_mark s)) t is in
         let tests = and_parts (size == length s.entries) (nat_lt (last_mark s.marks) size)
         made.0 in
         let same : size ≡ length s.entries = eqb-true size (length s.entries) tests.0 in
@@ -77,11 +72,11 @@ next_is h s body t bytes is =
           encoded = encoded.0 ∙ ap landmark_record same;
           fits = subst (λ (n : ℕ). n < 2 ^ 64) same encoded.1;
           above = subst (λ (n : ℕ). last_mark s.marks < n) same (ltb-true _ _ tests.1);
-          made = sym (some_value _ _ made.1);
+          made = sym (same_Some _ _ made.1);
         }))
     go None None (Some size) one two three is =
         let encoded = tiled_takes body size bytes three in
-        let made = test_from (takes_tiles (view_in s) size) (Some (with_tiles size s)) t is in
+        let made = when_some (takes_tiles (view_in s) size) (Some (with_tiles size s)) t is in
         let tests = and_parts (size % 256 == 0)
         (nat_lt s.tiled size && nat_le size (length s.entries)) made.0 in
         let both = and_parts (nat_lt s.tiled size) (nat_le size (length s.entries)) tests.1 in
@@ -92,7 +87,7 @@ next_is h s body t bytes is =
           multiple = eqb-true (size % 256) 0 tests.0;
           above = ltb-true s.tiled size both.0;
           within = leb-true size (length s.entries) both.1;
-          made = sym (some_value _ _ made.1);
+          made = sym (same_Some _ _ made.1);
         }))
     go None None None one two three is = let wrong : None ≡ Some t = is in absurd cc
 
@@ -107,11 +102,11 @@ pub first_is : (body : List ℕ) (s : LogState) → IsBytes body → begun_log b
     → IsFirst body s
 unfolding begun_log settings_in settings_record
 first_is body s bytes is =
-    let found = map_from (settings_in body) is in
+    let found = map_some new_log (settings_in body) s is in
     let read = option_from_settings (tagged log_tag settings_at (number_at w8 (at body 0)))
     found.0 found.1 in
     let encoded = tagged_takes log_tag (omega arith) settings_form body read.0 bytes read.1 in
-    let tests = test_from (are_allowed read.0.1.0 read.0.1.1)
+    let tests = when_some (are_allowed read.0.1.0 read.0.1.1)
     (with_id read.0.1.0 read.0.1.1 (anchor_of read.0.0)) found.0 read.2 in
     let made = id_from read.0.1.0 read.0.1.1 (anchor_of read.0.0) found.0 tests.1 in
     let id = anchor_takes read.0.0 made.0 (id_bytes body read.0 bytes encoded.0) made.1 in
@@ -136,11 +131,6 @@ first_is body s bytes is =
       made = sym found.2 ∙ ap new_log same;
     }
   where
-    map_from : (o : Option Settings) → option_map new_log o ≡ Some s → (x : Settings) × (o ≡ Some x)
-        × (new_log x ≡ s)
-    map_from None is = let wrong : None ≡ Some s = is in cc
-    map_from (Some x) is = (x, refl, some_value (new_log x) s is)
-
     option_from_settings : (o : Option (List ℕ × (ℕ × ℕ))) (x : Settings)
         → option_and_then log_settings_with o ≡ Some x
         → (v : List ℕ × (ℕ × ℕ)) × (o ≡ Some v) × (log_settings_with v ≡ Some x)
@@ -150,7 +140,7 @@ first_is body s bytes is =
     id_from : (active limit : ℕ) (r : Result (List ℕ) AnchorBytesError) (x : Settings)
         → with_id active limit r ≡ Some x
         → (id : List ℕ) × (r ≡ Ok id) × (record { id = id; max_active = active; limit = limit } ≡ x)
-    id_from active limit (Ok id) x is = (id, refl, some_value _ x is)
+    id_from active limit (Ok id) x is = (id, refl, same_Some _ x is)
     id_from active limit (Err fault) x is = let wrong : None ≡ Some x = is in cc
 
     id_bytes : (body : List ℕ) (v : List ℕ × (ℕ × ℕ)) → IsBytes body

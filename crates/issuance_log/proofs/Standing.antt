@@ -8,6 +8,7 @@ use Rattle.std.proofs.lemmas.List.{append_assoc, append-nil, length-append, leng
 use Rattle.std.proofs.lemmas.List.{take-append-le}
 use Rattle.byte_formats.specs.Types.{Text, HashFunction}
 use Rattle.disk_core.specs.declared.disk.Disk.{Ghosts}
+use Rattle.journal_core.specs.Appends.{JournalAppends}
 use Rattle.journal_core.specs.Format.{RepresentsEither, behind, records_of}
 use Rattle.journal_core.specs.Words.{AppendLeaves, disk_of, is_broken, records}
 use Rattle.journal_core.specs.declared.error.AppendError.{AppendError}
@@ -173,21 +174,16 @@ failed_keeps P body (Some list) (Some b) longer same either is = elim either [
 pub refused_keeps : {D : Type 0} {g : Ghosts D} (P : List Text → Type 0) (body : Text)
     (old new : Journal D g) (result : Result (Unit {0}) AppendError)
     → ((list : List Text) → P list → P (list ++ body ∷ []))
-    → is_ok result ≡ false → AppendLeaves body old new result
-    → (IsErrOf result Broken ↔ IsTrue (is_broken old))
-    → is_some (records new) ≡ is_some (records old)
-    → (is_broken old ≡ false → IfSome (records old) (λ list.
-    IfSome (g.contents (disk_of new)) (RepresentsEither list body)))
+    → is_ok result ≡ false → JournalAppends body old new result
     → IfSome (records old) P → IfSome (records new) P
-refused_keeps {g = g} P body old new (Ok done) longer same leaves broken contents either is =
-    absurd cc
-refused_keeps {g = g} P body old new (Err Failed) longer same leaves broken contents either is =
-    failed_keeps P body (records old) (g.contents (disk_of new)) longer contents
-    (either (not_broken (is_broken old) broken)) is
-refused_keeps {g = g} P body old new (Err Broken) longer same leaves broken contents either is =
-    subst (λ d. IfSome (option_map records_of (g.contents d)) P) (sym leaves.disk) is
-refused_keeps {g = g} P body old new (Err Full) longer same leaves broken contents either is =
-    subst (λ d. IfSome (option_map records_of (g.contents d)) P) (sym leaves.disk) is
+refused_keeps {g = g} P body old new (Ok done) longer same append is = absurd cc
+refused_keeps {g = g} P body old new (Err Failed) longer same append is =
+    failed_keeps P body (records old) (g.contents (disk_of new)) longer append.contents
+    (append.as_read (not_broken (is_broken old) append.broken)) is
+refused_keeps {g = g} P body old new (Err Broken) longer same append is =
+    subst (λ d. IfSome (option_map records_of (g.contents d)) P) (sym append.leaves.disk) is
+refused_keeps {g = g} P body old new (Err Full) longer same append is =
+    subst (λ d. IfSome (option_map records_of (g.contents d)) P) (sym append.leaves.disk) is
 
 -- The items stand where they stood with a record more.
 pub stand_longer : (h : HashFunction) (v : LogView) (places : List ℕ) (list : List Text)

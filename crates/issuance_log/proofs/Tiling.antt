@@ -1,9 +1,9 @@
 -- What storing tiles and appending their size leaves.
-use Rattle.std.proofs.Common.{◌≡◌, ℕ, ◌^◌, ◌<◌, ◌≤◌, List, [], ◌∷◌, ◌++◌}
+use Rattle.std.proofs.Common.{◌≡◌, ℕ, ◌^◌, ◌<◌, ◌≤◌, List, [], ◌∷◌, ◌++◌, ◌∙◌, arith, false, max}
 use Rattle.std.proofs.Common.{length, Option, Some, None, IfSome, option_map, refl, ap, subst, sym}
-use Rattle.std.proofs.Common.{◌∙◌, arith, false}
 use Rattle.std.proofs.lemmas.List.{length-append}
 use Rattle.byte_formats.specs.Types.{Text, HashFunction}
+use Rattle.byte_formats.proofs.Values.{each_some}
 use Rattle.disk_core.specs.Moments.{LeavesOnly}
 use Rattle.disk_core.specs.declared.disk.Disk.{Ghosts}
 use Rattle.disk_core.proofs.Moments.{started, weaker}
@@ -20,10 +20,12 @@ use Rattle.tile_store.proofs.Kept.{tiles-kept}
 use Rattle.tree_core.specs.declared.hashing.TreeHash.{Ghosts as Hashes}
 use Rattle.issuance_log.specs.Folds.{LogView}
 use Rattle.issuance_log.specs.Items.{AreHashed, items_leaves}
+use Rattle.issuance_log.specs.Sound.{HasSoundNumbers}
 use Rattle.issuance_log.specs.Words.{log_broken, log_disk, log_end, log_leaves, log_records}
 use Rattle.issuance_log.specs.Words.{log_tiles, log_tiles_disk, view_of}
 use Rattle.issuance_log.specs.declared.log.Log.{Log}
 use Rattle.issuance_log.proofs.Appending.{leaves_by}
+use Rattle.issuance_log.proofs.Growth.{size_fits}
 
 -- tiles of fewer leaves end no later
 ends_before : (size stored : ℕ) → size ≤ stored → tiles_end size ≤ tiles_end stored
@@ -82,11 +84,15 @@ no_record g disk end body settled only_now P = at (g.contents disk) settled
         longer_other (records_of b) body
         (ap records_of (sym same) ∙ records_of-stands c (records_of b ++ body ∷ []) stands)
 
--- ---- of a log
+-- how far the known length comes, by the size that the tiles are stored to
+pub reach_to : {T : Type 0} (k : Ghosts T) (disk later : T) (old size to : ℕ) → later ≡ disk
+    → size ≡ to → k.known disk ≤ max (tiles_end size) old
+    → k.known later ≤ max (tiles_end to) old
+reach_to k disk later old size to same is few =
+    subst (λ d. k.known d ≤ max (tiles_end to) old) (sym same)
+    (subst (λ (n : ℕ). k.known disk ≤ max (tiles_end n) old) is few)
 
-pub for_each : {X : Type 0} (P : X → Type 0) (o : Option X) → ((x : X) → P x) → IfSome o P
-for_each P None all = tt
-for_each P (Some x) all = all x
+-- ---- of a log
 
 module _ {H D T : Type 0} {hashes : Hashes H} {g : Ghosts D} {k : Ghosts T}
     (log : Log H D T hashes g k) where
@@ -97,7 +103,7 @@ module _ {H D T : Type 0} {hashes : Hashes H} {g : Ghosts D} {k : Ghosts T}
       ((c : Text) → k.may_leave (log_tiles_disk log) c → HoldsTiles hashes.hash leaves size c)
       → LeavesOnly k (log_tiles_disk log) (log_tiles_disk log)
       (HoldsTiles hashes.hash leaves size))
-  keeps_still only_now size = for_each _ (log_leaves log) (λ leaves held.
+  keeps_still only_now size = each_some _ (log_leaves log) (λ leaves held.
       still_held k (log_tiles_disk log) (log_tiles_disk log) hashes.hash leaves size held only_now)
 
   pub behind_none : (only_now : (c : Text) → g.left_since (log_disk log)
@@ -107,34 +113,43 @@ module _ {H D T : Type 0} {hashes : Hashes H} {g : Ghosts D} {k : Ghosts T}
       → g.left_since (log_disk log) (g.moment (log_disk log)) c
       → Represents c (list ++ body ∷ []) → (d : Text) → k.may_leave disk d
       → HoldsTiles hashes.hash leaves size d))
-  behind_none only_now body size disk sound = for_each _ (log_leaves log) (λ leaves.
+  behind_none only_now body size disk sound = each_some _ (log_leaves log) (λ leaves.
       no_record g (log_disk log) (log_end log) body (log.journal.settled sound) only_now
       (λ c. (d : Text) → k.may_leave disk d → HoldsTiles hashes.hash leaves size d))
 
   -- they were written behind those of the last size
-  pub keeps_stored : (disk : T) (size : ℕ) → size < 2 ^ 32
-      → size ≤ tiles_stored (log_tiles log)
+  pub keeps_stored : HasSoundNumbers (view_of log) → (disk later : T) → later ≡ disk
       → LeavesOnly k (log_tiles_disk log) disk (IsImageBehind k (log_tiles_disk log)
       (tiles_end (tiles_stored (log_tiles log))))
       → IfSome (log_leaves log) (λ leaves.
-      ((c : Text) → k.may_leave (log_tiles_disk log) c → HoldsTiles hashes.hash leaves size c)
-      → LeavesOnly k (log_tiles_disk log) disk (HoldsTiles hashes.hash leaves size))
-  keeps_stored disk size few within any_moment = for_each _ (log_leaves log) (λ leaves held.
-      stored_held k (log_tiles_disk log) disk hashes.hash leaves size held
-      (tiles_stored (log_tiles log)) few within any_moment)
+      ((c : Text) → k.may_leave (log_tiles_disk log) c
+      → HoldsTiles hashes.hash leaves (view_of log).tiled c)
+      → LeavesOnly k (log_tiles_disk log) later
+      (HoldsTiles hashes.hash leaves (view_of log).tiled))
+  keeps_stored sound disk later same any_moment = each_some _ (log_leaves log) (λ leaves held.
+      let small = size_fits (view_of log) sound in
+      let tiled = sound.tiled in
+      subst (λ (d : T). LeavesOnly k (log_tiles_disk log) d
+      (HoldsTiles hashes.hash leaves (view_of log).tiled)) (sym same)
+      (stored_held k (log_tiles_disk log) disk hashes.hash leaves (view_of log).tiled held
+      (tiles_stored (log_tiles log)) (omega arith) log.stored any_moment))
 
   -- and all of them are certain
-  pub behind_stored : (Left : Text → Type 0) (Stands : List Text → Text → Type 0) (size : ℕ)
-      (disk : T) → IfSome (items_leaves log.items) (λ leaves. (d : Text)
-      → k.may_leave disk d → HoldsTiles hashes.hash leaves size d)
+  pub behind_stored : (Left : Text → Type 0) (Stands : List Text → Text → Type 0)
+      (stored size : ℕ) (disk later : T) → later ≡ disk → stored ≡ size
+      → IfSome (items_leaves log.items) (λ leaves. (d : Text) → k.may_leave disk d
+      → HoldsTiles hashes.hash leaves stored d)
       → IfSome (log_leaves log) (λ leaves. IfSome (log_records log) (λ list. (c : Text) → Left c
-      → Stands list c → (d : Text) → k.may_leave disk d
+      → Stands list c → (d : Text) → k.may_leave later d
       → HoldsTiles hashes.hash leaves size d))
-  behind_stored Left Stands size disk holds =
+  behind_stored Left Stands stored size disk later same is holds =
       leaves_are hashes.hash (view_of log) (k.contents (log_tiles_disk log)) _ (log_records log)
       (λ leaves. IfSome (log_records log) (λ list. (c : Text) → Left c
-      → Stands list c → (d : Text) → k.may_leave disk d → HoldsTiles hashes.hash leaves size d))
+      → Stands list c → (d : Text) → k.may_leave later d → HoldsTiles hashes.hash leaves size d))
       log.hashed
       (if_some (λ leaves. (d : Text) → k.may_leave disk d → HoldsTiles hashes.hash leaves size d)
-      _ (items_leaves log.items) (λ leaves each. for_each _ (log_records log)
-      (λ list c left stands. each)) holds)
+      _ (items_leaves log.items) (λ leaves each. each_some _ (log_records log)
+      (λ list c left stands. subst (λ (at : T). (d : Text) → k.may_leave at d
+      → HoldsTiles hashes.hash leaves size d) (sym same) each))
+      (subst (λ (n : ℕ). IfSome (items_leaves log.items) (λ leaves. (d : Text)
+      → k.may_leave disk d → HoldsTiles hashes.hash leaves n d)) is holds))

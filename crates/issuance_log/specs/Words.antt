@@ -13,7 +13,7 @@ use Rattle.journal_core.specs.Format.{Represents}
 use Rattle.journal_core.specs.Owners.{Owner, OwnerAppends, OwnerHasGrown, owner_over}
 use Rattle.journal_core.specs.Words.{disk_of, end_of, is_broken, records}
 use Rattle.journal_core.specs.declared.error.AppendError.{AppendError}
-use Rattle.issuance_log.specs.Folds.{LogState, LogView}
+use Rattle.issuance_log.specs.Folds.{LogState, LogView, log_of}
 use Rattle.issuance_log.specs.Items.{items_tiles}
 use Rattle.issuance_log.specs.Shown.{shown_with}
 use Rattle.issuance_log.specs.declared.error.LogError.{LogError}
@@ -126,6 +126,11 @@ module _ {H D T : Type 0} {hashes : Hashes H} {g : Ghosts D} {k : Ghosts T} wher
     pub journal : OwnerAppends g of_log_journal body (seen (view_of old)) (log_owner old)
         (log_owner new) result
     pub is_modelled : LogModelMoves next old new result
+
+  -- Where the contents of the journal are known, this record after its own makes this of the log.
+  abbrev pub LogWouldTake : Text → (LogState → LogState) → Log H D T hashes g k → Type 0
+  LogWouldTake body next log = IfSome (log_records log) (λ list.
+      log_of hashes.hash (list ++ body ∷ []) ≡ Ok (next (shown_with (view_of log) list)))
 
   -- At any moment a crash leaves the tiles of this size on their disk, where it would have left
   -- them before.

@@ -15,6 +15,7 @@
 //! appends their size, and the next opening adopts them.
 #![tactic(auto)]
 
+mod change;
 mod creation;
 mod entries;
 mod error;
@@ -24,6 +25,7 @@ pub mod laws;
 mod log;
 mod nodes;
 mod numbers;
+mod preparing;
 mod reading;
 mod record;
 mod settings;

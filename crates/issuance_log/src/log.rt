@@ -1,9 +1,10 @@
 //! A log that is open for more entries.
 
-ghost use Rattle.std.specs.Prelude.{◌≡◌, ◌↔◌, ℕ, ◌≤◌, ◌+◌, ◌*◌, ◌^◌, ◌++◌, [], ◌∷◌, length, true};
+ghost use Rattle.std.specs.Prelude.{◌≡◌, ◌↔◌, ℕ, ◌≤◌, ◌+◌, ◌*◌, ◌^◌, [], length, true};
 ghost use Rattle.std.specs.Prelude.{false, None, Ok, IfSome, IfOk, IfErr, IsErrOf, OnOk, OnErr};
 ghost use Rattle.std.specs.Prelude.{max};
 ghost use Rattle.std.proofs.Props.{props};
+ghost use Rattle.byte_formats.specs.Types.{Text};
 ghost use Rattle.disk_core.specs.Moments.{OnlyReads};
 ghost use Rattle.frame_pool.specs.Frames.{HoldsKey};
 ghost use Rattle.frame_pool.specs.declared.key.TileKey.{TileKey as Key};
@@ -14,8 +15,10 @@ ghost use Rattle.mtc_io.specs.Counts.{HasCause};
 ghost use Rattle.tile_store.specs.Layout.{tiles_end};
 ghost use Rattle.tile_store.specs.Store.{tiles_stored};
 ghost use Rattle.tree_proofs.specs.Modelled.{IsRootOf};
+ghost use Rattle.issuance_log.specs.Changes.{IsReadyFor, IsRecordOf, KeepsToJournal, MakesOfLog};
+ghost use Rattle.issuance_log.specs.Changes.{changed_view};
 ghost use Rattle.issuance_log.specs.Entries.{LogCounts};
-ghost use Rattle.issuance_log.specs.Folds.{log_of, with_item, with_mark, with_tiles};
+ghost use Rattle.issuance_log.specs.Folds.{LogState, log_of, with_item, with_mark, with_tiles};
 ghost use Rattle.issuance_log.specs.Folds.{one_item_more, one_mark_more, tiled_to, view_in};
 ghost use Rattle.issuance_log.specs.Items.{AreBelow, AreHashed, StandAt, StandAt-prop};
 ghost use Rattle.issuance_log.specs.Items.{items_leaves, items_places, items_tiles};
@@ -25,17 +28,18 @@ ghost use Rattle.issuance_log.specs.Openings.{TilesCountNoOther, log_read};
 ghost use Rattle.issuance_log.specs.Records.{entry_record, landmark_record, tiles_record, IsShort};
 ghost use Rattle.issuance_log.specs.Refusals.{add_refusal, ItemKeepsTo, mark_refusal, MarkKeepsTo};
 ghost use Rattle.issuance_log.specs.Refusals.{full_size, tile_refusal, TilesKeepTo};
-ghost use Rattle.issuance_log.specs.Refusals.{item_at, GivesItem};
+ghost use Rattle.issuance_log.specs.Refusals.{append_refusal, item_at, GivesItem};
 ghost use Rattle.issuance_log.specs.Settings.{AreAllowed};
 ghost use Rattle.issuance_log.specs.Shown.{shown_with};
 ghost use Rattle.issuance_log.specs.Sound.{HasSoundNumbers, IsSound};
 
+use crate::change::Change;
 use crate::entries::read_entry;
 use crate::error::{LogError, LogOpenError, LogRefused, hand_back};
 use crate::items::{Items, NULL_ENTRY};
-use crate::numbers::{Numbers, TILE};
+use crate::numbers::Numbers;
+use crate::preparing::{make_change, prepare_item, prepare_mark, prepare_tiles};
 use crate::reading::read_tiled;
-use crate::record::{entry_record, landmark_record, tiles_record};
 use crate::settings::LogSettings;
 use disk_core::Disk;
 use frame_pool::Pool;
@@ -43,9 +47,6 @@ use journal_core::{Journal, Opening, Refused};
 use mtc_io::{Bytes, Failed};
 use std::alloc::Global;
 use tree_core::{TreeHash, leaf};
-
-// An entry and its key have at most so many bytes together.
-const MAX_ITEM: usize = 65_535;
 
 /// The entries of a log, each with the key to it, and the sizes at its landmarks, over the journal
 /// of their records; and the nodes of the tree over the entries, of which those in full tiles that
@@ -95,6 +96,7 @@ impl<H: TreeHash, D: Disk, T: Disk> Log<H, D, T> {
     ghost use Rattle.issuance_log.specs.Words.{log_disk, log_tiles_disk, log_records, log_end};
     ghost use Rattle.issuance_log.specs.Words.{log_broken, log_leaves, modelled_state};
     ghost use Rattle.issuance_log.specs.Words.{view_of, LogAppends, LogAsksTiles, LogStays};
+    ghost use Rattle.issuance_log.specs.Words.{LogWouldTake};
     ghost use Rattle.issuance_log.specs.Words.{KeepsTiles, TilesStandBehind};
 
     /// Opens the log in a journal, with its tiles on a second disk and a pool whose frames hold no
@@ -166,7 +168,6 @@ impl<H: TreeHash, D: Disk, T: Disk> Log<H, D, T> {
     /// `Memory`; and what [`Journal::append`] refuses. A refusal leaves the log as it was. After
     /// `Append(Failed)` it shows what it showed before, and each further call that passes the tests
     /// before answers `Append(Broken)`.
-    #[tactic(auto, unfolding(crate::specs::Refusals::add_refusal))]
     pub fn add(&mut self, entry: &[u8], spki: &[u8]) -> Result<u64, LogError>
         requires { matches H.hash entry.now spki.now ≡ true }
         ensures appends { LogAppends (entry_record entry.now spki.now) one_item_more
@@ -175,26 +176,10 @@ impl<H: TreeHash, D: Disk, T: Disk> Log<H, D, T> {
         ensures index { IfOk result (λ index. index ≡ (view_of self.old).size) }
         ensures answer { ItemKeepsTo (add_refusal (view_of self.old) (log_broken self.old)
             (log_end self.old) entry.now spki.now) result }
-        ensures valid { add_refusal (view_of self.old) (log_broken self.old)
-            (log_end self.old) entry.now spki.now ≡ None
-            → IfSome (log_records self.old)
-            (λ list. log_of H.hash (list ++ entry_record entry.now spki.now ∷ [])
-            ≡ Ok (with_item entry.now spki.now (shown_with (view_of self.old) list))) }
     {
         let index = self.numbers.size();
-        if self.numbers.is_full() {
-            return Err(LogError::Full);
-        }
-        if entry.len() + spki.len() > MAX_ITEM {
-            return Err(LogError::TooLarge);
-        }
-        let record = entry_record(self.alloc, entry, spki)?;
-        self.items.reserve()?;
-        let place = self.journal.end() - 1;
-        self.journal.append(record.as_slice())?;
-        self.items.push(place, &leaf::<H>(entry));
-        self.numbers.add_item();
-        Ok(index)
+        let body = prepare_item(self.alloc, &self.numbers, &mut self.items, entry, spki)?;
+        self.append_record(body.as_slice(), Change::Item(leaf::<H>(entry)), index)
     }
 
     /// Sets a landmark at the size of the log, and answers its number, counted from 1, and that
@@ -205,7 +190,6 @@ impl<H: TreeHash, D: Disk, T: Disk> Log<H, D, T> {
     /// `Memory`; and what [`Journal::append`] refuses. A refusal leaves the log as it was. After
     /// `Append(Failed)` it shows what it showed before, and each further call that passes the tests
     /// before answers `Append(Broken)`.
-    #[tactic(auto, unfolding(crate::specs::Refusals::mark_refusal))]
     pub fn mark(&mut self) -> Result<(u64, u64), LogError>
         ensures appends { LogAppends (landmark_record (view_of self.old).size) one_mark_more
             with_mark self.old self.new result }
@@ -215,21 +199,11 @@ impl<H: TreeHash, D: Disk, T: Disk> Log<H, D, T> {
         ensures size { IfOk result (λ landmark. landmark.1 ≡ (view_of self.old).size) }
         ensures answer { MarkKeepsTo
             (mark_refusal (view_of self.old) (log_broken self.old) (log_end self.old)) result }
-        ensures valid { mark_refusal (view_of self.old) (log_broken self.old) (log_end self.old)
-            ≡ None → IfSome (log_records self.old)
-            (λ list. log_of H.hash
-            (list ++ landmark_record (view_of self.old).size ∷ [])
-            ≡ Ok (with_mark (shown_with (view_of self.old) list))) }
     {
+        let body = prepare_mark(self.alloc, &mut self.numbers)?;
         let size = self.numbers.size();
-        if self.numbers.last_mark() == size {
-            return Err(LogError::NothingNew);
-        }
-        let body = landmark_record(self.alloc, size)?;
-        self.numbers.prepare_mark()?;
-        self.journal.append(body.as_slice())?;
-        self.numbers.push_mark();
-        Ok((self.numbers.marks().len() as u64, size))
+        let number = self.numbers.marks().len() as u64 + 1;
+        self.append_record(body.as_slice(), Change::Landmark, (number, size))
     }
 
     /// Stores the tiles that the entries fill, makes them certain, and then appends the greatest
@@ -243,7 +217,6 @@ impl<H: TreeHash, D: Disk, T: Disk> Log<H, D, T> {
     /// A refusal leaves the log as it was, but for tiles on their disk behind those of the last
     /// size. After `Append(Failed)` it shows what it showed before, and each further call that
     /// passes the tests before answers `Append(Broken)`.
-    #[tactic(auto, unfolding(crate::specs::Refusals::tile_refusal))]
     pub fn tile(&mut self) -> Result<u64, LogError>
         ensures appends { LogAppends (tiles_record (full_size (view_of self.old)))
             (tiled_to (full_size (view_of self.old))) (with_tiles (full_size (view_of self.old)))
@@ -251,11 +224,6 @@ impl<H: TreeHash, D: Disk, T: Disk> Log<H, D, T> {
         ensures size { IfOk result (λ size. size ≡ full_size (view_of self.old)) }
         ensures answer { TilesKeepTo
             (tile_refusal (view_of self.old) (log_broken self.old) (log_end self.old)) result }
-        ensures valid { tile_refusal (view_of self.old) (log_broken self.old) (log_end self.old)
-            ≡ None → IfSome (log_records self.old)
-            (λ list. log_of H.hash (list ++ tiles_record (full_size (view_of self.old)) ∷ [])
-            ≡ Ok (with_tiles (full_size (view_of self.old))
-            (shown_with (view_of self.old) list))) }
         ensures keeps { KeepsTiles (view_of self.old).tiled self.old self.new }
         ensures behind { TilesStandBehind (tiles_record (full_size (view_of self.old)))
             (full_size (view_of self.old)) self.old self.new }
@@ -266,15 +234,34 @@ impl<H: TreeHash, D: Disk, T: Disk> Log<H, D, T> {
         ensures cause { LogCounts (T.faults (log_tiles_disk self.old))
             (T.faults (log_tiles_disk self.new)) result }
     {
-        let size = self.numbers.size() / TILE * TILE;
-        if size <= self.numbers.tiled() {
-            return Err(LogError::NothingNew);
-        }
-        let body = tiles_record(self.alloc, size)?;
+        let size = self.numbers.full_size();
+        let body = prepare_tiles(self.alloc, &self.numbers)?;
         self.items.store(size)?;
-        self.journal.append(body.as_slice())?;
-        self.numbers.set_tiled(size);
-        Ok(size)
+        self.append_record(body.as_slice(), Change::Tiles(size), size)
+    }
+
+    // Appends a record, changes the log by it, and answers `answer`. The change can't fail, so that
+    // the log shows what its journal holds.
+    fn append_record<X: Drop>(
+        &mut self,
+        body: &[u8],
+        change: Change,
+        answer: X,
+    ) -> Result<X, LogError>
+        requires record_is { IsRecordOf H.hash (view_of self.old) body.now change }
+        requires ready { IsReadyFor change self.old.numbers self.old.items }
+        ensures appends { (next : LogState → LogState)
+            → MakesOfLog H.hash (view_of self.old) body.now next
+            → LogAppends body.now (changed_view change) next self.old self.new result }
+        ensures answer { IfOk result (λ x. x ≡ answer) }
+        ensures refusal { KeepsToJournal
+            (append_refusal (log_broken self.old) (log_end self.old) body.now) result }
+        ensures tiles { log_tiles_disk self.new ≡ log_tiles_disk self.old }
+    {
+        let place = self.journal.end() - 1;
+        self.journal.append(body)?;
+        make_change(&mut self.numbers, &mut self.items, place, change);
+        Ok(answer)
     }
 
     /// How many entries the log has, the null entry among them.
@@ -302,6 +289,22 @@ impl<H: TreeHash, D: Disk, T: Disk> Log<H, D, T> {
         ensures numbers { HasSoundNumbers (view_of self.now) }
         ensures view { IfSome (modelled_state self.now) (λ s. view_in s ≡ view_of self.now) }
         ensures items { IfSome (modelled_state self.now) (IsSound H.hash) }
+    {
+        let _ = self.numbers.size();
+    }
+
+    /// A record that the call of its kind does not refuse keeps to the rules: after the records of
+    /// the journal, where its contents are known, it makes the log that the call says. The clauses
+    /// are the law, and the call does nothing.
+    pub fn law_unrefused_records_are_taken(&self)
+        ensures added { (entry key : Text) → matches H.hash entry key ≡ true
+            → add_refusal (view_of self.now) (log_broken self.now) (log_end self.now) entry key
+            ≡ None → LogWouldTake (entry_record entry key) (with_item entry key) self.now }
+        ensures marked { mark_refusal (view_of self.now) (log_broken self.now) (log_end self.now)
+            ≡ None → LogWouldTake (landmark_record (view_of self.now).size) with_mark self.now }
+        ensures tiled { tile_refusal (view_of self.now) (log_broken self.now) (log_end self.now)
+            ≡ None → LogWouldTake (tiles_record (full_size (view_of self.now)))
+            (with_tiles (full_size (view_of self.now))) self.now }
     {
         let _ = self.numbers.size();
     }

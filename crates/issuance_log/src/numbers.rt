@@ -8,6 +8,7 @@ ghost use Rattle.issuance_log.specs.Folds.{one_mark_more, takes_entry, takes_lan
 ghost use Rattle.issuance_log.specs.Folds.{tiled_to, view_in};
 ghost use Rattle.issuance_log.specs.Marks.{last_mark, AreRising};
 ghost use Rattle.issuance_log.specs.Records.{item_in, tiled_in};
+ghost use Rattle.issuance_log.specs.Refusals.{full_size};
 ghost use Rattle.issuance_log.specs.Results.{LogFinds, LogTakes};
 ghost use Rattle.issuance_log.specs.Settings.{AreAllowed};
 ghost use Rattle.issuance_log.specs.Sound.{HasSoundNumbers};
@@ -22,7 +23,7 @@ use std::marker::Model;
 use tree_core::TreeHash;
 
 /// As many entries fill a tile.
-pub(crate) const TILE: u64 = 256;
+const TILE: u64 = 256;
 
 /// The settings of a log, how many entries it has, the sizes at its landmarks, and the last size of
 /// its tiles, 0 where there is none. The rules of a log's records look at nothing else. Contracts
@@ -184,6 +185,14 @@ impl Numbers {
         ensures sound { HasSoundNumbers self.now.view }
     {
         self.size
+    }
+
+    /// The greatest multiple of 256 that isn't above the size: so many entries fill tiles.
+    pub(crate) fn full_size(&self) -> u64
+        ensures value { result ≡ full_size self.now.view }
+        ensures sound { HasSoundNumbers self.now.view }
+    {
+        self.size / TILE * TILE
     }
 
     pub(crate) fn settings(&self) -> &LogSettings

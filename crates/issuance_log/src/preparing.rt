@@ -1,0 +1,127 @@
+//! Around an append to the journal of a log: what is tested and made ready before it, and the
+//! change after it, which can't fail.
+
+ghost use Rattle.std.specs.Prelude.{◌≡◌, ℕ, ◌+◌, ◌<◌, ◌≤◌, ◌^◌, ◌++◌, Bool, None, length, map};
+ghost use Rattle.std.specs.Prelude.{option_map, Err, IfOk, IfErr, OnOk};
+ghost use Rattle.tile_store.specs.Store.{tiles_disk, tiles_stored};
+ghost use Rattle.issuance_log.specs.Changes.{AllowsChange, IsReadyFor, added_leaves, changed_view};
+ghost use Rattle.issuance_log.specs.Entries.{LogCounts};
+ghost use Rattle.issuance_log.specs.Items.{HasItemCapacity, items_leaves, items_places};
+ghost use Rattle.issuance_log.specs.Items.{items_tiles};
+ghost use Rattle.issuance_log.specs.Marks.{last_mark};
+ghost use Rattle.issuance_log.specs.Records.{entry_record, landmark_record, tiles_record};
+ghost use Rattle.issuance_log.specs.Refusals.{add_refusal, ItemKeepsTo, mark_refusal, MarkKeepsTo};
+ghost use Rattle.issuance_log.specs.Refusals.{full_size, tile_refusal, TilesKeepTo};
+ghost use Rattle.issuance_log.specs.Settings.{most_item};
+ghost use Rattle.issuance_log.specs.Words.{of_log_journal};
+
+use crate::change::Change;
+use crate::error::LogError;
+use crate::items::Items;
+use crate::numbers::Numbers;
+use crate::record::{entry_record, landmark_record, tiles_record};
+use disk_core::Disk;
+use mtc_io::Bytes;
+use std::alloc::Global;
+use tree_core::TreeHash;
+
+// An entry and its key have at most so many bytes together.
+const MAX_ITEM: usize = 65_535;
+
+/// Tests an item and reserves memory for it: the body of its record.
+#[tactic(auto, unfolding(crate::specs::Refusals::add_refusal))]
+pub(crate) fn prepare_item<H: TreeHash, T: Disk>(
+    alloc: Global,
+    numbers: &Numbers,
+    items: &mut Items<H, T>,
+    entry: &[u8],
+    spki: &[u8],
+) -> Result<Bytes, LogError>
+    ensures body { IfOk result (λ body. body ≡ entry_record entry.now spki.now) }
+    ensures capacity { OnOk result (HasItemCapacity items.new) }
+    ensures size { OnOk result (numbers.now.view.size < numbers.now.view.settings.limit) }
+    ensures few { OnOk result (length entry.now + length spki.now ≤ most_item) }
+    ensures refused { IfErr result (λ why. (broken : Bool) (end : ℕ)
+        → ItemKeepsTo (add_refusal numbers.now.view broken end entry.now spki.now) (Err why)) }
+    ensures before { IfErr result (λ why. of_log_journal why ≡ None) }
+    ensures places { items_places items.new ≡ items_places items.old }
+    ensures leaves { items_leaves items.new ≡ items_leaves items.old }
+    ensures disk { tiles_disk (items_tiles items.new) ≡ tiles_disk (items_tiles items.old) }
+    ensures stored { tiles_stored (items_tiles items.new) ≡ tiles_stored (items_tiles items.old) }
+{
+    if numbers.is_full() {
+        return Err(LogError::Full);
+    }
+    if entry.len() + spki.len() > MAX_ITEM {
+        return Err(LogError::TooLarge);
+    }
+    let body = entry_record(alloc, entry, spki)?;
+    items.reserve()?;
+    Ok(body)
+}
+
+/// Tests a landmark at the size and reserves memory for it: the body of its record.
+#[tactic(auto, unfolding(crate::specs::Refusals::mark_refusal))]
+pub(crate) fn prepare_mark(alloc: Global, numbers: &mut Numbers) -> Result<Bytes, LogError>
+    ensures body { IfOk result (λ body. body ≡ landmark_record numbers.old.view.size) }
+    ensures capacity { OnOk result (1 ≤ numbers.new.mark_spare) }
+    ensures above { OnOk result (last_mark numbers.old.view.marks < numbers.old.view.size) }
+    ensures refused { IfErr result (λ why. (broken : Bool) (end : ℕ)
+        → MarkKeepsTo (mark_refusal numbers.old.view broken end) (Err why)) }
+    ensures before { IfErr result (λ why. of_log_journal why ≡ None) }
+    ensures same { numbers.new.view ≡ numbers.old.view }
+{
+    let size = numbers.size();
+    if numbers.last_mark() == size {
+        return Err(LogError::NothingNew);
+    }
+    let body = landmark_record(alloc, size)?;
+    numbers.prepare_mark()?;
+    Ok(body)
+}
+
+/// Tests the tiles that the entries fill: the body of their record.
+#[tactic(auto, unfolding(crate::specs::Refusals::tile_refusal))]
+pub(crate) fn prepare_tiles(alloc: Global, numbers: &Numbers) -> Result<Bytes, LogError>
+    ensures body { IfOk result (λ body. body ≡ tiles_record (full_size numbers.now.view)) }
+    ensures above { OnOk result (numbers.now.view.tiled < full_size numbers.now.view) }
+    ensures refused { IfErr result (λ why. (broken : Bool) (end : ℕ)
+        → TilesKeepTo (tile_refusal numbers.now.view broken end) (Err why)) }
+    ensures before { IfErr result (λ why. of_log_journal why ≡ None) }
+    ensures counts { IfErr result (λ why. (n : ℕ) → LogCounts {X = ℕ} n n (Err why)) }
+{
+    let size = numbers.full_size();
+    if size <= numbers.tiled() {
+        return Err(LogError::NothingNew);
+    }
+    let body = tiles_record(alloc, size)?;
+    Ok(body)
+}
+
+/// Makes a change that can't fail. The place is that of the record in the journal.
+pub(crate) fn make_change<H: TreeHash, T: Disk>(
+    numbers: &mut Numbers,
+    items: &mut Items<H, T>,
+    place: u64,
+    change: Change,
+)
+    requires ready { IsReadyFor change numbers.old items.old }
+    requires allowed { AllowsChange change numbers.old.view }
+    requires few { length (items_places items.old) + 1 < 2 ^ 32 }
+    ensures view { numbers.new.view ≡ changed_view change numbers.old.view }
+    ensures places { items_places items.new
+        ≡ items_places items.old ++ map (λ leaf. place) (added_leaves change) }
+    ensures leaves { items_leaves items.new
+        ≡ option_map (λ list. list ++ added_leaves change) (items_leaves items.old) }
+    ensures disk { tiles_disk (items_tiles items.new) ≡ tiles_disk (items_tiles items.old) }
+    ensures stored { tiles_stored (items_tiles items.new) ≡ tiles_stored (items_tiles items.old) }
+{
+    match change {
+        Change::Item(leaf) => {
+            items.push(place, &leaf);
+            numbers.add_item();
+        }
+        Change::Landmark => numbers.push_mark(),
+        Change::Tiles(size) => numbers.set_tiled(size),
+    }
+}
