@@ -53,6 +53,7 @@ pub fn issue<H: TreeHash, D: Disk, T: Disk>(
         (shown_with (view_of log.old) list))) }
 {
     log.law_sound();
+    log.law_unrefused_records_are_taken();
     let settings = log.settings();
     let entry = entry_of_request::<H>(alloc, &settings.id, request)?;
     let index = log.add(entry.as_slice(), request.key.as_slice())?;

@@ -1,11 +1,11 @@
-use Rattle.std.proofs.Common.{◌≡◌, ℕ, ◌++◌, ◌∷◌, [], IfSome, None, Result, Ok, Err, ap, subst}
+use Rattle.std.proofs.Common.{◌≡◌, ℕ, None, Result, Ok, Err, ap, subst, true}
 use Rattle.std.proofs.Common.{sym, ◌∙◌}
 use Rattle.std.proofs.lemmas.Result.{err_from_is_err_and}
 use Rattle.byte_formats.specs.Types.{Text}
-use Rattle.issuance_log.specs.Folds.{log_of, one_item_more, with_item}
+use Rattle.log_entry.specs.Matching.{matches}
+use Rattle.issuance_log.specs.Folds.{one_item_more, with_item}
 use Rattle.issuance_log.specs.Records.{entry_record}
-use Rattle.issuance_log.specs.Shown.{shown_with}
-use Rattle.issuance_log.specs.Words.{log_broken, log_end, log_records, modelled_state, view_of}
+use Rattle.issuance_log.specs.Words.{log_broken, log_end, modelled_state, view_of}
 use Rattle.issuance_log.specs.Words.{LogAppends}
 use Rattle.issuance_log.specs.Refusals.{ItemKeepsTo, add_refusal}
 use Rattle.issuance_log.specs.Settings.{Settings}
@@ -52,18 +52,11 @@ returns-clause-own g c =
 
 pub returns-clause-valid : goal.returns-clause-valid
 returns-clause-valid g c = λ made.
-    let log = c.args.log.now in
-    let h = g.H.TreeHash.hash in
-    let r = c.args.request.now in
-    of_same (λ (entry key : Text). add_refusal (view_of log) (log_broken log) (log_end log) entry
-    key ≡ None → IfSome (log_records log) (λ list. log_of h (list ++ entry_record entry key ∷ [])
-    ≡ Ok (with_item entry key (shown_with (view_of log) list)))) _ _
-    (issued_entry h (view_of log).settings r) r.key
-    (c.as_slice.ensures ∙ c.in_ok-entry.ensures.bytes
-    ∙ ap (λ (s : Settings). entry_for h s.id r) (c.settings.view_is
-    ∙ c.settings-settings.ensures.value))
-    (c.as_slice-2.ensures ∙ ap (λ (q : RequestParts). q.key) c.request.view_is)
-    c.in_ok-index.ensures.valid
+    c.law_unrefused_records_are_taken.ensures.added (issued_entry g.H.TreeHash.hash
+    (view_of c.args.log.now).settings c.args.request.now) c.args.request.now.key
+    (subst (λ (s : Settings). matches g.H.TreeHash.hash
+    (entry_for g.H.TreeHash.hash s.id c.args.request.now) c.args.request.now.key ≡ true)
+    (c.settings.view_is ∙ c.settings-settings.ensures.value) c.entry_of_request.ensures.belongs)
 
 pub returns-clause-answer : goal.returns-clause-answer
 returns-clause-answer g c =
@@ -136,15 +129,8 @@ returns-in_err-index-clause-answer g c =
 
 pub returns-in_err-index-clause-valid : goal.returns-in_err-index-clause-valid
 returns-in_err-index-clause-valid g c = λ made.
-    let log = c.args.log.now in
-    let h = g.H.TreeHash.hash in
-    let r = c.args.request.now in
-    of_same (λ (entry key : Text). add_refusal (view_of log) (log_broken log) (log_end log) entry
-    key ≡ None → IfSome (log_records log) (λ list. log_of h (list ++ entry_record entry key ∷ [])
-    ≡ Ok (with_item entry key (shown_with (view_of log) list)))) _ _
-    (issued_entry h (view_of log).settings r) r.key
-    (c.as_slice.ensures ∙ c.in_ok-entry.ensures.bytes
-    ∙ ap (λ (s : Settings). entry_for h s.id r) (c.settings.view_is
-    ∙ c.settings-settings.ensures.value))
-    (c.as_slice-2.ensures ∙ ap (λ (q : RequestParts). q.key) c.request.view_is)
-    c.in_err-index.ensures.valid
+    c.law_unrefused_records_are_taken.ensures.added (issued_entry g.H.TreeHash.hash
+    (view_of c.args.log.now).settings c.args.request.now) c.args.request.now.key
+    (subst (λ (s : Settings). matches g.H.TreeHash.hash
+    (entry_for g.H.TreeHash.hash s.id c.args.request.now) c.args.request.now.key ≡ true)
+    (c.settings.view_is ∙ c.settings-settings.ensures.value) c.entry_of_request.ensures.belongs)
