@@ -57,6 +57,7 @@ pub fn set_landmark<'a, H: TreeHash, D: Disk>(
     ensures valid { StaysLog H.hash landmark_says log.old log.new }
     ensures tiles { log_tiles_disk log.new ≡ log_tiles_disk log.old }
 {
+    log.law_unrefused_records_are_taken();
     let number = log.marks().len() as u64 + 1;
     let text = text_of_landmark(alloc, number, log.size())?;
     match log.mark() {

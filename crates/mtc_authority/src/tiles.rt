@@ -55,6 +55,7 @@ pub fn tile_on<'a, H: TreeHash, D: Disk>(
     ensures works { HasWorkedOnLog journal.now tile_says log.old log.new (ending_of result) }
     ensures valid { StaysLog H.hash tile_says log.old log.new }
 {
+    log.law_unrefused_records_are_taken();
     let text = text_of_tiles(alloc, log.size() / TILE * TILE)?;
     match log.tile() {
         Ok(_size) => Ok(Answer {

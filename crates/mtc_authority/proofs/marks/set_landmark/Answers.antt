@@ -41,9 +41,9 @@ returns-in_err-text-clause-valid g c = inl (inl refl)
 pub returns-in-Ok-clause-valid : goal.returns-in-Ok-clause-valid
 returns-in-Ok-clause-valid g c =
     marked_valid c.args.journal.now c.args.log.now c.mark.new.self c.requires g.H.TreeHash.hash
-    c.in-Ok.ensures.valid
+    c.law_unrefused_records_are_taken.ensures.marked
 
 pub returns-in-Err-clause-valid : goal.returns-in-Err-clause-valid
 returns-in-Err-clause-valid g c =
     marked_valid c.args.journal.now c.args.log.now c.mark.new.self c.requires g.H.TreeHash.hash
-    c.in-Err.ensures.valid
+    c.law_unrefused_records_are_taken.ensures.marked

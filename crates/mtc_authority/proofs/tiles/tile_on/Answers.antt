@@ -49,9 +49,9 @@ returns-in_err-text-clause-valid g c = inl (inl refl)
 pub returns-in-Ok-clause-valid : goal.returns-in-Ok-clause-valid
 returns-in-Ok-clause-valid g c =
     tiled_valid c.args.journal.now c.args.log.now c.tile.new.self c.requires g.H.TreeHash.hash
-    c.in-Ok.ensures.valid
+    c.law_unrefused_records_are_taken.ensures.tiled
 
 pub returns-in-Err-clause-valid : goal.returns-in-Err-clause-valid
 returns-in-Err-clause-valid g c =
     tiled_valid c.args.journal.now c.args.log.now c.tile.new.self c.requires g.H.TreeHash.hash
-    c.in-Err.ensures.valid
+    c.law_unrefused_records_are_taken.ensures.tiled
