@@ -41,6 +41,7 @@ fn issue_on<H: TreeHash, D: Disk, T: Disk>(
 fn mark_on<H: TreeHash, D: Disk, T: Disk>(log: &mut Log<H, D, T>) -> Result<bool, Memory>
     ensures { IfOk result (HasCalledLog H.hash Mark log.old log.new) }
 {
+    log.law_unrefused_records_are_taken();
     match log.mark() {
         Ok(_) => Ok(true),
         Err(LogError::Append(AppendError::Failed)) => Ok(false),
