@@ -6,6 +6,7 @@ pub mod Folds
 pub mod Gathered
 pub mod Items
 pub mod Marks
+pub mod Opened
 pub mod Openings
 pub mod Places
 pub mod Records

@@ -5,11 +5,9 @@ ghost use Rattle.std.specs.Prelude.{false, None, Ok, IfSome, IfOk, IfErr, IsErrO
 ghost use Rattle.std.specs.Prelude.{max};
 ghost use Rattle.std.proofs.Props.{props};
 ghost use Rattle.byte_formats.specs.Types.{Text};
-ghost use Rattle.disk_core.specs.Moments.{OnlyReads};
 ghost use Rattle.frame_pool.specs.Frames.{HoldsKey};
 ghost use Rattle.frame_pool.specs.declared.key.TileKey.{TileKey as Key};
-ghost use Rattle.journal_core.specs.Format.{Represents, end_behind};
-ghost use Rattle.journal_core.specs.Words.{end_of, is_broken, records, AllRepresent};
+ghost use Rattle.journal_core.specs.Words.{end_of, is_broken, records};
 ghost use Rattle.log_entry.specs.Matching.{matches};
 ghost use Rattle.mtc_io.specs.Counts.{HasCause};
 ghost use Rattle.tile_store.specs.Layout.{tiles_end};
@@ -23,8 +21,6 @@ ghost use Rattle.issuance_log.specs.Folds.{one_item_more, one_mark_more, tiled_t
 ghost use Rattle.issuance_log.specs.Items.{AreBelow, AreHashed, StandAt, StandAt-prop};
 ghost use Rattle.issuance_log.specs.Items.{items_leaves, items_places, items_tiles};
 ghost use Rattle.issuance_log.specs.Marks.{AreRising};
-ghost use Rattle.issuance_log.specs.Openings.{HasItsTiles, HasOpenCause, LogCountsNoOther};
-ghost use Rattle.issuance_log.specs.Openings.{TilesCountNoOther, log_read};
 ghost use Rattle.issuance_log.specs.Records.{entry_record, landmark_record, tiles_record, IsShort};
 ghost use Rattle.issuance_log.specs.Refusals.{add_refusal, ItemKeepsTo, mark_refusal, MarkKeepsTo};
 ghost use Rattle.issuance_log.specs.Refusals.{full_size, tile_refusal, TilesKeepTo};
@@ -93,7 +89,8 @@ impl<H: TreeHash, D: Disk + Drop, T: Disk + Drop> Drop for Log<H, D, T> {
 }
 
 impl<H: TreeHash, D: Disk, T: Disk> Log<H, D, T> {
-    ghost use Rattle.issuance_log.specs.Words.{log_disk, log_tiles_disk, log_records, log_end};
+    ghost use Rattle.issuance_log.specs.Opened.{LogIsNotOpened, LogIsOpened};
+    ghost use Rattle.issuance_log.specs.Words.{log_disk, log_tiles_disk, log_end};
     ghost use Rattle.issuance_log.specs.Words.{log_broken, log_leaves, modelled_state};
     ghost use Rattle.issuance_log.specs.Words.{view_of, LogAppends, LogAsksTiles, LogStays};
     ghost use Rattle.issuance_log.specs.Words.{LogWouldTake};
@@ -114,32 +111,9 @@ impl<H: TreeHash, D: Disk, T: Disk> Log<H, D, T> {
         pool: Pool,
     ) -> Result<Log<H, D, T>, LogRefused<D, T>>
         requires { (slot : ℕ) (key : Key) → HoldsKey pool slot key → ⊥ }
-        ensures sound { IfOk result (λ it. log_broken it ≡ false) }
-        ensures only_reads { IfOk result (λ it. OnlyReads D.Disk disk (log_disk it)) }
-        ensures only_reads_tiles { IfOk result (λ it. OnlyReads T.Disk tiles (log_tiles_disk it)) }
-        ensures fine { IfOk result (λ it. D.faults (log_disk it) ≡ D.faults disk) }
-        ensures fine_tiles { IfOk result (λ it. T.faults (log_tiles_disk it) ≡ T.faults tiles) }
-        ensures found { IfOk result (λ it. IfSome (D.contents disk) (λ b. IfSome (log_records it)
-            (λ list. log_read H.hash b
-            ≡ Ok (record { records = list; state = shown_with (view_of it) list })))) }
-        ensures valid { IfOk result (λ it. IfSome (log_records it)
-            (λ list. log_of H.hash list ≡ Ok (shown_with (view_of it) list))) }
-        ensures tiles { IfOk result
-            (λ it. IfSome (modelled_state it) (λ s. IfSome (T.contents tiles)
-            (HasItsTiles H.hash s))) }
-        ensures stands { IfOk result (λ it. IfSome (D.contents (log_disk it))
-            (λ b. IfSome (log_records it) (Represents b))) }
-        ensures all { IfOk result
-            (λ it. IfSome (log_records it) (AllRepresent D.Disk (log_disk it))) }
-        ensures end { IfOk result (λ it. IfSome (log_records it)
-            (λ list. log_end it ≡ end_behind list)) }
-        ensures err { IfErr result (λ e. OnlyReads D.Disk disk e.disk) }
-        ensures err_tiles { IfErr result (λ e. OnlyReads T.Disk tiles e.tiles) }
-        ensures cause { IfErr result
-            (λ e. HasOpenCause D.Disk T.Disk H.hash disk e.disk tiles e.tiles e.why) }
-        ensures fine_err { IfErr result (λ e. LogCountsNoOther D.Disk disk e.disk e.why) }
-        ensures fine_tiles_err { IfErr result
-            (λ e. TilesCountNoOther T.Disk tiles e.tiles e.why) }
+        ensures opened { IfOk result (LogIsOpened disk tiles) }
+        ensures refused { IfErr result
+            (λ e. LogIsNotOpened D.Disk T.Disk H.hash disk e.disk tiles e.tiles e.why) }
     {
         let mut opening = match Opening::begin(alloc, disk) {
             Ok(opening) => opening,
