@@ -7,11 +7,13 @@ use Rattle.drill_core.proofs.Opened.{found_modelled}
 use Rattle.drill_core.proofs.calls.open_log.Goals as goal
 
 pub returns-in-Ok : goal.returns-in-Ok
-returns-in-Ok g c = record {
-  sound = c.in-Ok.ensures.sound;
-  found = found_modelled (log_fold g.H.TreeHash.hash) (g.D.Disk.contents c.args.disk)
-      (log_records c.in-Ok.log) (shown_with (view_of c.in-Ok.log))
-      (ap (option_map records_of) c.in-Ok.ensures.only_reads.contents) c.in-Ok.ensures.found;
-  valid = c.in-Ok.ensures.valid;
-  images = c.in-Ok.ensures.all;
-}
+returns-in-Ok g c =
+    let opened = c.in-Ok.ensures.opened in
+    record {
+      sound = opened.sound;
+      found = found_modelled (log_fold g.H.TreeHash.hash) (g.D.Disk.contents c.args.disk)
+          (log_records c.in-Ok.log) (shown_with (view_of c.in-Ok.log))
+          (ap (option_map records_of) opened.only_reads.contents) opened.found;
+      valid = opened.valid;
+      images = opened.all;
+    }
