@@ -43,7 +43,7 @@ returns-in-Ok-clause-serves g c = λ opened first fine.
     let h = g.H.TreeHash.hash in
     let name = c.args.journal.now in
     let log = c.in-Ok.log in
-    let found = c.in-Ok.ensures in
+    let found = c.in-Ok.ensures.opened in
     rw (c.into_disks-disk.ensures.journal, c.into_disks-disk.ensures.tiles) (tiled_on d name
     (log_bytes_say h name c.args.work)
     (λ list. log_says h c.args.work (found_log (shown_with (view_of log) list) list)) opened
@@ -65,7 +65,7 @@ returns-in-Err-clause-serves g c = λ opened first fine.
     subst (λ (e : Ending). HasWorkedTiledOn d name (log_bytes_say h name c.args.work) opened
     disk c.args.tiles tiles e) (sym c.refuse_log.ensures)
     (refused_says h name c.args.work d opened c.args.disk disk c.args.tiles tiles first fine
-    c.in-Err.ensures.err _ c.in-Err.ensures.cause)
+    c.in-Err.ensures.refused.only_reads _ c.in-Err.ensures.refused.cause)
 
 -- a device that was only read keeps to the rules
 only_read_valid : {D : Type 0} (g : Ghosts D) (Valid : List Text → Type 0)
@@ -81,7 +81,7 @@ returns-in-Err-clause-valid g c = λ opened first.
     let disk = c.in-Err.field-0.disk in
     only_read_valid d (IsLog h) (log_bytes_say h c.args.journal.now c.args.work) opened disk
     (d.contents c.args.tiles)
-    (only_read_on d opened c.args.disk disk first c.in-Err.ensures.err)
+    (only_read_on d opened c.args.disk disk first c.in-Err.ensures.refused.only_reads)
 
 pub returns-in-Ok-clause-valid : goal.returns-in-Ok-clause-valid
 returns-in-Ok-clause-valid g c = λ opened first.
@@ -89,7 +89,7 @@ returns-in-Ok-clause-valid g c = λ opened first.
     let h = g.H.TreeHash.hash in
     let name = c.args.journal.now in
     let log = c.in-Ok.log in
-    let found = c.in-Ok.ensures in
+    let found = c.in-Ok.ensures.opened in
     rw c.into_disks-disk.ensures.journal (valid_tiled_on d (IsLog h) name
     (log_bytes_say h name c.args.work)
     (λ list. log_says h c.args.work (found_log (shown_with (view_of log) list) list)) opened
@@ -105,5 +105,8 @@ returns-in-Ok-clause-only_read g c = λ other.
     let old = log_tiles_disk c.in-Ok.log in
     let new = log_tiles_disk c.carry_out-answer.new.log in
     rw c.into_disks-disk.ensures.tiles
-    (only_read_on d c.args.tiles old new c.in-Ok.ensures.only_reads_tiles
+    (only_read_on d c.args.tiles old new c.in-Ok.ensures.opened.only_reads_tiles
     (only_reads_of d old new g.met.D.Disk.only_now (c.carry_out-answer.ensures.only_read other)))
+
+pub returns-in-Err-clause-only_read : goal.returns-in-Err-clause-only_read
+returns-in-Err-clause-only_read g c = λ other. c.in-Err.ensures.refused.only_reads_tiles
