@@ -177,9 +177,8 @@ def wrong_quotations(page):
 
 
 def check_quotations():
-    """what ONE_PROMISE and RUN quote stands in the file that is named before it"""
-    for name in ("ONE_PROMISE.md", "RUN.md"):
-        yield from wrong_quotations(DOCS / name)
+    """what RUN quotes stands in the file that is named before it"""
+    yield from wrong_quotations(DOCS / "RUN.md")
 
 
 def spelled_in(page, what):
