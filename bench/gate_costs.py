@@ -2,9 +2,9 @@
 """Runs the gate, and tells what each crate cost: the processor seconds of its proof, of its tests and of its must-fail edits.
 
 Usage: bench/gate_costs.py [COMMAND WORD..]              runs rt ci, or this command, and prints the table
-       bench/gate_costs.py --write rt ci --anew          puts it into docs/GATE.md, and its sums into README
+       bench/gate_costs.py --write rt ci --anew          puts it into bench/COSTS.md, and its sums into README
        bench/gate_costs.py --write rt ci                 the same, where the kit keeps nothing and knows no --anew
-       bench/gate_costs.py --above NAME                  what a change of a crate costs, by the table of GATE
+       bench/gate_costs.py --above NAME                  what a change of a crate costs, by the table of COSTS
        bench/gate_costs.py --again                       makes what follows from that table's numbers anew
 
 What the command writes goes to standard error. --write refuses all but the whole gate from nothing: another command, one
@@ -25,7 +25,7 @@ import sys
 import time
 
 ROOT = os.path.dirname(os.path.dirname(os.path.abspath(__file__)))
-GATE = f"{ROOT}/docs/GATE.md"
+COSTS = f"{ROOT}/bench/COSTS.md"
 TICK = os.sysconf("SC_CLK_TCK")
 KINDS = ("proof", "tests", "edits")
 # What the whole may be: so many times the sum of the proofs, and so many processor minutes when the program is finished.
@@ -118,8 +118,8 @@ def measured_rows(costs):
 
 
 def written_rows():
-    """The same cells, as they stand in GATE."""
-    rows = [line.split("|")[1:-1] for line in block_of(GATE).split("\n") if re.match(r"\| (`|all )", line)]
+    """The same cells, as they stand in COSTS."""
+    rows = [line.split("|")[1:-1] for line in block_of(COSTS).split("\n") if re.match(r"\| (`|all )", line)]
     return [[cell.strip() for cell in row[: len(COLUMNS)]] for row in rows]
 
 
@@ -190,7 +190,7 @@ def sentence(rows, whole, clock):
     return (
         "The first shows an unproved answer on standard error within some three minutes. Then it proves and builds the program, once. "
         f"That is {proofs:.0f} processor minutes of proofs on the machine of the last whole run, of which {chain:.0f} follow one another. "
-        f"The second took {whole} processor minutes, and {clock} ([GATE](docs/GATE.md))."
+        f"The second took {whole} processor minutes, and {clock} ([COSTS](bench/COSTS.md))."
     )
 
 
@@ -220,24 +220,24 @@ def write(path, told):
 
 
 def above(crate):
-    """What a change of a crate costs, by GATE's table."""
+    """What a change of a crate costs, by the table of COSTS."""
     rows = written_rows()
     spent, proofs, over = seconds_in(rows, "All, s"), seconds_in(rows, "Proof, s"), standing_on(crate)
     if crate not in spent:
-        sys.exit(f"{crate}: no row of GATE")
+        sys.exit(f"{crate}: no row of COSTS")
     checks = sum(proofs.get(it, 0) for it in over)
-    print(f"{crate}, in processor minutes of the machine of GATE's run:")
+    print(f"{crate}, in processor minutes of the machine of the last whole run:")
     print(f"{spent[crate] / 60:5.0f}  its proof, its tests and its edits: rt ci {crate}, where those below it are kept")
     print(f"{checks / 60:5.0f}  the proofs of the {len(over)} crates that stand on it: rt check")
     print(f"{(spent[crate] + sum(spent.get(it, 0) for it in over)) / 60:5.0f}  both, with the tests and the edits of these: the gate")
 
 
 def again():
-    """Makes what follows from the numbers in GATE anew, there and in README."""
-    rows, block = written_rows(), block_of(GATE)
+    """Makes what follows from the numbers in COSTS anew, there and in README."""
+    rows, block = written_rows(), block_of(COSTS)
     found = re.search(r"^(\d+) processor minutes by the system's count.*?(\d+ minutes by the clock on \d+ processors)\..*$", block, re.M)
     whole, clock = int(found[1]), found[2]
-    write(GATE, "\n".join([*table(rows), "", summary(rows, whole, clock)]) + block[found.end() :].rstrip("\n"))
+    write(COSTS, "\n".join([*table(rows), "", summary(rows, whole, clock)]) + block[found.end() :].rstrip("\n"))
     write(f"{ROOT}/README.md", sentence(rows, whole, clock))
 
 
@@ -272,7 +272,7 @@ def main(command, writes):
         wrong = [f"the command ended with status {status}"] * (status != 0) + list(gaps(costs, whole))
         if wrong:
             sys.exit("\n".join(["nothing is written:", *wrong]))
-        write(GATE, told)
+        write(COSTS, told)
         write(f"{ROOT}/README.md", sentence(rows, whole, clock))
     return status
 
