@@ -1,11 +1,12 @@
 #!/bin/bash
-# Makes the picture of the crates' layers in docs/PICTURES.md anew from crates.txt, and compares it with the one that stands
+# Makes the picture of the crates' layers in docs/ARCHITECTURE.md anew from crates.txt, and compares it with the one that stands
 # there: the crates below the program, with an arrow to each crate that one names and that stands below no other that it names.
-# Then compares docs/speed.svg with the table that it is drawn from, and the bytes that the page spells with a certificate.
+# Then compares docs/speed.svg with the table that it is drawn from, and the bytes that the tour shows with a certificate.
 # Usage: tests/pictures.sh [--write]
 set -u
 cd "$(dirname "$0")/.." || exit 2
-page=docs/PICTURES.md
+page=docs/ARCHITECTURE.md
+tour=docs/TOUR.md
 new=$(mktemp)
 trap 'rm -f "$new"' EXIT
 
@@ -83,9 +84,9 @@ if ! diff -u --label "$page" --label "by crates.txt" "$page" "$new"; then
     wrong=1
 fi
 bench/plot.sh --check || wrong=1
-spelled=$(awk '/^## / { is_in = /signature/ } is_in && /^[0-9a-f]+ +/ { printf "%s", $1 }' "$page")
-if [ -z "$spelled" ] || [ "$spelled" != "$(tail -c 84 examples/www.cert | od -An -v -tx1 | tr -d ' \n')" ]; then
-    echo "wrong: the bytes in $page are not the last 84 of examples/www.cert"
+shown=$(awk '/^## / { is_in = /A certificate/ } is_in && /^    [0-9a-f]+ +/ { printf "%s", $1 }' "$tour")
+if [ -z "$shown" ] || [ "$shown" != "$(tail -c 84 examples/www.cert | od -An -v -tx1 | tr -d ' \n')" ]; then
+    echo "wrong: the bytes in $tour are not the last 84 of examples/www.cert"
     wrong=1
 fi
 [ "$wrong" -eq 0 ] && echo "the pictures are those of crates.txt, docs/SPEED.md and examples/www.cert"
