@@ -57,6 +57,7 @@ dns_among (e ∷ es) = if e.tag == dns_name then e.contents ∷ dns_among es els
 abbrev pub names_left : At → List Text
 names_left a = dns_among (left_at element_at a)
 
+-- Those inside of an element that was read; none where none was.
 abbrev pub names_inside : Result (Item × At) DerError → List Text
 names_inside (Ok e) = names_left (inside e.0)
 names_inside (Err fault) = []

@@ -63,6 +63,7 @@ behind_serial_at =
 unfoldable pub tbs_at : Reading (Unit {0} × (ℕ × Body)) CertError
 tbs_at = inside_at 0x30 (both_at version_at (both_at serial_at behind_serial_at))
 
+-- The algorithm in what is signed is the one beside it.
 abbrev pub same_algorithm : (Unit {0} × (ℕ × Body)) × Text → Bool
 same_algorithm x = bytes_eq x.0.1.1.0 x.1
 
@@ -70,6 +71,7 @@ same_algorithm x = bytes_eq x.0.1.1.0 x.1
 unfoldable pub signed_at : Reading ((Unit {0} × (ℕ × Body)) × Text) CertError
 signed_at = tested_at same_algorithm AlgorithmsDiffer (both_at tbs_at (element_with_at 0x30))
 
+-- The parts of what was read.
 abbrev pub to_parts : ((Unit {0} × (ℕ × Body)) × Text) × Text → Parts
 to_parts x =
     let b : Body = x.0.0.1.1 in

@@ -42,9 +42,11 @@ critical_at =
     mapped_at is_some (optional_at 0x01 (tested_at (λ b. b) BadExtension
     (decoded_at 0x01 boolean_of)))
 
+-- An extension from its identifier, its mark and its octets.
 abbrev pub to_extension : Text × (Bool × Text) → ExtensionFields
 to_extension x = record { identifier = x.0; critical = x.1.0; octets = x.1.1 }
 
+-- An extension is the subjectAltName (4.2.1.6).
 abbrev pub is_alt_name : ExtensionFields → Bool
 is_alt_name x = bytes_eq x.identifier subject_alt_name
 
@@ -59,6 +61,7 @@ extension_at seen =
     (mapped_at to_extension
     (both_at (new_identifier_at seen) (both_at critical_at (contents_at 0x04)))))
 
+-- Its identifier.
 abbrev pub identifier_of : ExtensionFields → Text
 identifier_of x = x.identifier
 
@@ -105,6 +108,7 @@ list_in bytes =
     wanted_at 0xA3 (at bytes 0) >>= λ field.
     wanted_at 0x30 (inside field.0) >>= λ list. Ok (inside list.0)
 
+-- The extensions from a place on that was found; none where none was.
 abbrev pub extensions_behind : Result At DerError → List ExtensionFields
 extensions_behind (Ok a) = extensions_left a
 extensions_behind (Err fault) = []

@@ -26,6 +26,7 @@ AreExtensionsOf field xs =
 abbrev pub name_text : ℕ × Text → Text
 name_text name = element name.0 name.1
 
+-- The name is an element.
 abbrev pub FitsName : ℕ × Text → Type 0
 FitsName name = FitsElement name.0 name.1
 

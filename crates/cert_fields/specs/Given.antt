@@ -13,6 +13,7 @@ mtc_proof =
     0x30 ∷ 0x0C ∷ 0x06 ∷ 0x0A ∷ 0x2B ∷ 0x06 ∷ 0x01 ∷ 0x04 ∷ 0x01 ∷ 0x82 ∷ 0xDA ∷ 0x4B ∷ 0x2F ∷ 0x00
     ∷ []
 
+-- The parts of the certificate that is written, of those that are handed in.
 abbrev pub given : CertParts → Parts
 given p = record {
   serial = p.serial;

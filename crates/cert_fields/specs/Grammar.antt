@@ -97,6 +97,7 @@ pub record IsExtension (seen : List Text) (x : ExtensionFields) : Type 0 where
   pub names : is_alt_name x ≡ true → IsGeneralNames x.octets
   pub short : length (extension_contents x) < 2 ^ 24
 
+-- Its contents in a SEQUENCE.
 abbrev pub extension : ExtensionFields → Text
 extension x = element 0x30 (extension_contents x)
 

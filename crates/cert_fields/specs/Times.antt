@@ -20,6 +20,7 @@ time_at a =
     der (wanted_at (tag_wanted a.rest) a) >>= λ e.
     some_or BadTime (time_moment (tag_wanted a.rest) e.0.contents) >>= λ z. Ok (z, e.1)
 
+-- A validity from its two times.
 abbrev pub from_to : ℤ × ℤ → Period
 from_to v = record { not_before = v.0; not_after = v.1 }
 

@@ -12,6 +12,7 @@ use Rattle.cert_fields.specs.declared.cert.Cert.{Cert}
 use Rattle.cert_fields.specs.declared.certificate.Fields.{Fields}
 use Rattle.cert_fields.specs.declared.extensions.Extension.{Extension}
 
+-- A certificate.
 abbrev pub parts : Cert → Parts
 parts c = record {
   serial = c.serial;
@@ -25,6 +26,7 @@ parts c = record {
   proof = c.proof.now;
 }
 
+-- The fields after the serial number.
 abbrev pub body : Fields → Body
 body f = (
   f.algorithm.now,
@@ -37,6 +39,7 @@ body f = (
   ),
 )
 
+-- An extension.
 abbrev pub extension_fields : Extension → ExtensionFields
 extension_fields x =
     record { identifier = x.identifier.now; critical = x.critical; octets = x.octets.now }

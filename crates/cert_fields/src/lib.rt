@@ -6,6 +6,9 @@
 //! refused. It is laxer where the standard leaves a type open: the contents of such an element
 //! aren't looked into, nor are those of the algorithm beside the signature. The order of both times
 //! and an empty subject are left to the caller.
+//!
+//! No clause says how long the comparison of a list's extensions takes, nor that the block that is
+//! lent to it is filled.
 #![tactic(auto)]
 
 mod alt_names;

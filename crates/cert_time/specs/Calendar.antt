@@ -1,6 +1,6 @@
--- Dates and times of day of the Gregorian calendar in UTC, and the seconds since
--- 1970-01-01T00:00:00Z that they name. `days_from_civil` is the number of days from 1970-01-01 to
--- a date, counted year by year and month by month.
+-- Dates and times of day of the Gregorian calendar in UTC (RFC 5280, section 4.1.2.5), and the
+-- seconds since 1970-01-01T00:00:00Z that they name. `days_from_civil` is the number of days from
+-- 1970-01-01 to a date, counted year by year and month by month.
 use Rattle.std.specs.Prelude.{ℕ, zero, suc, ◌+◌, ◌*◌, ◌/◌, ◌%◌, ◌&&◌, nat_lt, nat_le, Bool}
 use Rattle.std.specs.Prelude.{if◌then◌else◌, ℤ, pos, negsuc, ◌+ℤ◌, ◌*ℤ◌, ◌≤ℤ◌, unsigned_abs, Option}
 use Rattle.std.specs.Prelude.{Some, None}

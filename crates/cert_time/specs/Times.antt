@@ -19,8 +19,8 @@ civil_in year i t =
       second = two_digits_at t (i + 8);
     }
 
--- UTCTime: YYMMDDHHMMSSZ, where a year below 50 is one of the 2000s, and any other one of the
--- 1900s.
+-- UTCTime (4.1.2.5.1): YYMMDDHHMMSSZ, where a year below 50 is one of the 2000s, and any other one
+-- of the 1900s.
 abbrev pub full_year : ℕ → ℕ
 full_year yy = if nat_lt yy 50 then 2000 + yy else 1900 + yy
 
@@ -35,7 +35,7 @@ utc_with c =
     two_digits (c.year % 100) ++ (two_digits c.month ++ (two_digits c.day
     ++ (two_digits c.hour ++ (two_digits c.minute ++ (two_digits c.second ++ codes "Z")))))
 
--- GeneralizedTime: YYYYMMDDHHMMSSZ, for the years from 2050 on.
+-- GeneralizedTime (4.1.2.5.2): YYYYMMDDHHMMSSZ, for the years from 2050 on.
 abbrev pub general_form : Text
 general_form = codes "00000000000000Z"
 

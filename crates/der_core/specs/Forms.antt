@@ -44,7 +44,7 @@ pub record IsContents {X : Type 0} (encode : X → Text) (Fits : X → Type 0)
       → decode place contents ≡ Ok x → (contents ≡ encode x) × Fits x
   pub again : (place : ℕ) (x : X) → Fits x → decode place (encode x) ≡ Ok x
 
--- The contents of a BOOLEAN (X.690, 11.1).
+-- The contents of a BOOLEAN (X.690, 8.2 and 11.1).
 abbrev pub boolean : Bool → Text
 boolean false = 0x00 ∷ []
 boolean true = 0xFF ∷ []
@@ -72,7 +72,7 @@ pub record IsOid (contents : Text) : Type 0 where
   pub encoded : contents ≡ flat_map itself arcs
   pub some : 0 < length contents
 
--- The contents of a BIT STRING: the number of unused bits and the bytes.
+-- The contents of a BIT STRING (8.6 and 11.2): the number of unused bits and the bytes.
 abbrev pub bit_string : ℕ × Text → Text
 bit_string (unused, bytes) = unused ∷ bytes
 

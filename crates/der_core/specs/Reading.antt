@@ -1,4 +1,4 @@
--- Reading one element, with its faults in their order.
+-- Reading one element (X.690, sections 8.1 and 10.1), with its faults in their order.
 use Rattle.std.specs.Prelude.{ℕ, ◌+◌, ◌-◌, ◌*◌, ◌%◌, nat_lt, ◌==◌, [], ◌∷◌, length, take, Result}
 use Rattle.std.specs.Prelude.{Ok, Err, if◌then◌else◌}
 use Rattle.byte_formats.specs.Types.{Text}

@@ -14,8 +14,8 @@ holds hash (Ok (Some p)) = bytes_eq p.key_hash hash
 holds hash (Ok None) = false
 holds hash (Err e) = false
 
--- A key matches an entry: the entry reads as type 1, the key is one subjectPublicKeyInfo, and the
--- entry holds its hash.
+-- A key matches an entry: the entry reads as type 1, the key is one subjectPublicKeyInfo (RFC 5280,
+-- section 4.1.2.7), and the entry holds its hash.
 unfoldable pub matches : HashFunction → Text → Text → Bool
 matches h entry spki = holds (h spki) (entry_in entry) && is_public_key spki
 

@@ -22,6 +22,7 @@ use Rattle.log_entry.specs.declared.fault.EntryError.TheVariants.{BadHashLength,
 abbrev pub field_at : {X : Type 0} → Reading X CertError → Reading X EntryError
 field_at read = lifted_at Body read
 
+-- It has the 32 bytes of a hash.
 abbrev pub has_hash_length : Hash → Bool
 has_hash_length hash = length hash == 32
 
@@ -33,6 +34,7 @@ key_hash_at = tested_at has_hash_length BadHashLength (field_at (contents_at 0x0
 abbrev pub Fields : Type 0
 Fields = Unit {0} × (Text × ((Text × Period) × (Text × (Hash × Text))))
 
+-- The parts of what was read.
 abbrev pub to_tbs : Fields → TbsParts
 to_tbs x =
     record {
@@ -44,6 +46,7 @@ to_tbs x =
       extensions = x.1.1.1.1.1;
     }
 
+-- The fields, one after the other.
 abbrev pub fields_at : Reading Fields EntryError
 fields_at =
     both_at (field_at version_at) (both_at (field_at name_at) (both_at (field_at validity_at)

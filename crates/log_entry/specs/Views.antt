@@ -8,6 +8,7 @@ use Rattle.log_entry.specs.declared.entry.Entry.TheVariants.{Null, Tbs}
 use Rattle.log_entry.specs.declared.entry.TbsEntry.{TbsEntry}
 use Rattle.log_entry.specs.declared.entry.EntryParts.{EntryParts}
 
+-- An entry of type 1.
 abbrev pub tbs_parts : TbsEntry → TbsParts
 tbs_parts t = record {
   issuer = t.issuer.now;

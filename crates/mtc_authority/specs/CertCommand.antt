@@ -14,6 +14,8 @@ signed_says h journal index start end file held tiles bytes =
     with_form signatures_fault_text file (signatures_in bytes)
     (λ signatures. log_outcome h journal held tiles (Cert index start end signatures))
 
+-- The outcome of `cert J INDEX START END SIGNATURES`: the file of signatures is read, at most 16
+-- MiB of it.
 abbrev pub cert_outcome : HashFunction → Text → ℕ → ℕ → ℕ → Text → Files → Outcome
 cert_outcome h journal index start end file files = with_bytes 16777216 file (files file)
     (signed_says h journal index start end file (files journal) (files (tiles_name journal)))

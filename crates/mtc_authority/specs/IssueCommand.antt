@@ -14,6 +14,7 @@ request_says h journal request file tiles bytes =
     with_form request_fault_text request (request_of bytes)
     (λ r. log_outcome h journal file tiles (Issue r))
 
+-- The outcome of `issue J REQUEST`: the request is read, at most 16 MiB of it.
 abbrev pub issue_outcome : HashFunction → Text → Text → Files → Outcome
 issue_outcome h journal request files = with_bytes 16777216 request (files request)
     (request_says h journal request (files journal) (files (tiles_name journal)))

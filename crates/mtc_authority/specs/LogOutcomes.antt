@@ -25,6 +25,8 @@ log_settings_of id active limit = record { id = id; max_active = active; limit =
 abbrev pub log_line : Text → Text
 log_line id = codes "log " ++ (text_of id ++ codes "\n")
 
+-- The outcome of `init-log J LOGID MAXACTIVE LIMIT`: a journal of the log's first record is made
+-- where its name has no file.
 abbrev pub init_log_outcome : Text → Text → ℕ → ℕ → Files → Outcome
 init_log_outcome journal id active limit files = with_fresh journal (files journal)
     (starts (settings_record (log_settings_of id active limit)) (log_line id))

@@ -37,11 +37,13 @@ pub data Ending : Type 0 where
   -- Memory was refused.
   no_memory : Ending
 
+-- The status of what is said.
 abbrev pub said_code : Said → ℕ
 said_code Done = 0
 said_code Against = 3
 said_code Collided = 10
 
+-- The status of a refusal.
 abbrev pub stopped_code : Stopped → ℕ
 stopped_code BadWords = 1
 stopped_code BadForm = 2

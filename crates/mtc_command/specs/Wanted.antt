@@ -4,6 +4,7 @@ use Rattle.byte_formats.specs.Types.{HashFunction, Text}
 use Rattle.mtc_command.specs.Answers.{Reply, said, refused}
 use Rattle.mtc_command.specs.declared.answer.Said.{Said}
 
+-- The replies from which a command may choose.
 pub data Wanted : Type 0 where
   -- This reply.
   exactly : Reply → Wanted
@@ -13,6 +14,8 @@ pub data Wanted : Type 0 where
   pair_of : Said → HashFunction → (Text → Text → Text)
       → List Text → List Text → Wanted
 
+-- The text is of two different strings with one hash, the first of one list and the second of the
+-- other.
 pub record IsPair (h : HashFunction) (encoded : Text → Text → Text)
     (firsts seconds : List Text) (text : Text) : Type 0 where
   pub x : Text

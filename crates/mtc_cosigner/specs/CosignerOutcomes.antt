@@ -45,6 +45,7 @@ step_fault_text (Append append_error.Failed) = codes "Failed"
 step_fault_text (Append append_error.Broken) = codes "Broken"
 step_fault_text (Append append_error.Full) = codes "JournalFull"
 
+-- Which kind of refusal that is.
 abbrev pub step_stopped : CosignError → Stopped
 step_stopped WrongLog = NotAllowed
 step_stopped (NotNewer held) = NotAllowed

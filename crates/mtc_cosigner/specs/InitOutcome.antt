@@ -17,6 +17,8 @@ abbrev pub init_says : Text → CosignerSettings → Text → Option Text → Te
 init_says journal s file at secret = with_secret file secret
     (with_fresh journal at (starts (cosigner_record s secret) (public_line s.lms s.ots secret)))
 
+-- The outcome of `init-cosigner S ID LOGID HEIGHT WIDTH SECRET`: the secret is read, at most 16 MiB
+-- of the file.
 abbrev pub init_cosigner_outcome : Text → Text → Text → ℕ → ℕ → Text → Files → Outcome
 init_cosigner_outcome journal id log height width file files =
     with_bytes 16777216 file (files file)

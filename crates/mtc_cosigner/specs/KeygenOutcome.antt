@@ -32,10 +32,12 @@ with_secret file secret next =
     if nat_lt (length secret) 48 then stops_at BadForm file (codes "Short " ++ decimal 0)
     else (if nat_lt 48 (length secret) then stops_at BadForm file (codes "Trailing") else next)
 
+-- The public key of the secret, where it is one.
 abbrev pub keygen_says : ℕ → ℕ → Text → Text → Outcome
 keygen_says height width file secret =
     with_secret file secret (says Done (public_line (lms_type height) (ots_type width) secret))
 
+-- The outcome of `keygen HEIGHT WIDTH SECRET`: the secret is read, at most 16 MiB of the file.
 abbrev pub keygen_outcome : ℕ → ℕ → Text → Files → Outcome
 keygen_outcome height width file files =
     with_bytes 16777216 file (files file) (keygen_says height width file)

@@ -3,6 +3,10 @@
 //! A journal is lent by the room, opened as a cosigner's, worked on and given back
 //! ([`on_cosigner`]); what is done with the cosigner is a [`Work`]. What each command has to reply,
 //! and what it does with the journal, are definitions in `specs/`.
+//!
+//! No clause says that a signature that is printed counts for its cosigner in a certificate:
+//! `relying_party::law_cosignatures_count` says it of a list of signatures, and no law reads that
+//! list from the printed bytes.
 #![tactic(auto)]
 
 mod cosigner_command;

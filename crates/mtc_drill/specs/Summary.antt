@@ -47,5 +47,6 @@ is_summary_from number text signatures (suc more) =
 abbrev pub is_summary : ℕ → Text → Bool
 is_summary number text = is_summary_from number text 48 (drill_of number).stops
 
+-- The outcome of `drill NUMBER`: any such summary.
 abbrev pub drill_outcome : ℕ → Outcome
 drill_outcome number = record { answer = formed Done (is_summary number); journals = [] }

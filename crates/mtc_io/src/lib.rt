@@ -4,6 +4,9 @@
 //! Each such object counts its faults, and a call answers [`Failed`] only where that count rose. So
 //! a caller always knows whether an answer has its cause outside, and never mistakes a fault for an
 //! end of input.
+//!
+//! No clause says which bytes a reader or a writer of std gives or takes: [`StdSource`] and
+//! [`StdSink`] are tested over vectors, a reader that fails and a writer without capacity.
 #![tactic(auto)]
 
 mod bytes;

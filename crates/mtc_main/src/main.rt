@@ -1,6 +1,9 @@
 //! The program `mtc`: a certification authority, its cosigners and its relying party for Merkle
 //! Tree Certificates. All that it does is done by [`mtc_top::run`], over the system's files and the
 //! standard streams.
+//!
+//! No clause says that `main` hands on all words and writes the line: that is tested alone. What it
+//! calls, `act`, does what `run` does, with SHA-256 and the system's files, and answers its status.
 #![tactic(auto)]
 
 ghost use Rattle.std.specs.Prelude.{◌≡◌, map, string_bytes};

@@ -133,6 +133,8 @@ abbrev pub with_input : ℕ → Text → Files → (InputFile → Outcome) → O
 with_input limit name files next =
     with_bytes limit name (files name) (λ text. next (record { name = name; text = text }))
 
+-- The outcome of `audit CERT STORE NOW ENTRIES EXPORT`: the four files are read in this order,
+-- certificate and store at most 16 MiB each, the others 1 GiB.
 abbrev pub audit_outcome : HashFunction → Text → Text → ℕ → Text → Text → Files → Outcome
 audit_outcome h cert store moment entries export files =
     with_input 16777216 cert files

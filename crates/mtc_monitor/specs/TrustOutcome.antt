@@ -59,6 +59,8 @@ trust_says h list most entries text bytes =
     with_form items_fault_text entries (items_in h bytes)
     (λ items. list_says h list most text items.entries)
 
+-- The outcome of `trust-landmarks LIST MAXACTIVE ENTRIES`: the list is read, at most 16 MiB of it,
+-- and then the entries, at most 1 GiB.
 abbrev pub trust_outcome : HashFunction → Text → ℕ → Text → Files → Outcome
 trust_outcome h list most entries files = with_bytes 16777216 list (files list)
     (λ text. with_bytes 1073741824 entries (files entries)

@@ -10,10 +10,12 @@ use Rattle.mtc_monitor.specs.AuditOutcome.{stands_text, unrecorded_text}
 use Rattle.mtc_monitor.specs.declared.accepted.AcceptedCert.{AcceptedCert}
 use Rattle.mtc_monitor.specs.declared.input.Input.{Input}
 
+-- A certificate that was accepted.
 abbrev pub accepted_parts : AcceptedCert → AcceptedParts
 accepted_parts a =
     record { accepted = a.accepted; cert = parts a.cert; proof = proof_parts a.proof }
 
+-- An input file.
 abbrev pub input_file : Input → InputFile
 input_file i = record { name = i.name.now; text = i.bytes.now }
 

@@ -2,6 +2,9 @@
 //!
 //! What each has to answer is a definition over its words and the room's files, in a file of
 //! `specs/` of its own.
+//!
+//! No clause says that what `trust-landmarks` prints is part of a store by which a certificate of
+//! each covered entry is accepted: that is tested alone.
 #![tactic(auto)]
 
 mod accepted;

@@ -1,5 +1,5 @@
 -- What a cosigner signs (the draft on Merkle Tree Certificates, where it defines
--- MTCSubtreeSignatureInput).
+-- MTCSubtreeSignatureInput), in the presentation language of TLS (RFC 8446, section 3).
 use Rattle.std.specs.Prelude.{◌≡◌, ℕ, ◌^◌, ◌<◌, [], ◌∷◌, ◌++◌, length}
 use Rattle.std.specs.Int.{w8, w64}
 use Rattle.byte_formats.specs.Types.{Hash, Text}

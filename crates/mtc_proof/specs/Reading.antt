@@ -22,6 +22,7 @@ use Rattle.mtc_proof.specs.declared.fault.ProofError.TheVariants.{EmptyId}
 abbrev pub of_short : ShortForm → ProofError
 of_short s = Short s.place
 
+-- A vector that doesn't fit, or whose length is no multiple of 32, as a fault of the proof.
 abbrev pub of_hashes : HashesError → ProofError
 of_hashes (NotFitting s) = Short s.place
 of_hashes NoMultiple = HashLength
@@ -30,6 +31,7 @@ of_hashes NoMultiple = HashLength
 abbrev pub word_at : Reading ℕ ProofError
 word_at = lifted_at of_short (number_at w64)
 
+-- The path: a vector of hashes.
 abbrev pub path_at : Reading (List Hash) ProofError
 path_at = lifted_at of_hashes hashes_at
 
@@ -44,6 +46,7 @@ text_at w = lifted_at of_short (vector_at w)
 abbrev pub id_at : Reading Text ProofError
 id_at a = tested_at has_bytes (EmptyId a.place) (text_at w8) a
 
+-- A signature from its two parts.
 abbrev pub to_signature : Text × Text → SigParts
 to_signature x = record { cosigner = x.0; signature = x.1 }
 
@@ -61,6 +64,7 @@ signatures_left = left_at mtc_signature_at
 
 -- ---- proofs
 
+-- A proof from its parts.
 abbrev pub to_proof : ℕ × (ℕ × (List Hash × Text)) → ProofParts
 to_proof x = record { start = x.0; end = x.1.0; path = x.1.1.0; signatures = x.1.1.1 }
 

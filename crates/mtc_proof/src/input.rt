@@ -43,6 +43,7 @@ impl InputBuf {
         }
     }
 
+    /// The bytes that it holds.
     pub fn as_slice(&self) -> &[u8]
         ensures { result.now ≡ self.now }
     {

@@ -89,5 +89,6 @@ abbrev pub show_says : Text → Text → Outcome
 show_says file bytes =
     with_form cert_fault_text file (parts_of bytes) (λ p. says Done (show_text p))
 
+-- The outcome of `show CERT`: the file is read, at most 16 MiB of it.
 abbrev pub show_outcome : Text → Files → Outcome
 show_outcome file files = with_bytes 16777216 file (files file) (show_says file)

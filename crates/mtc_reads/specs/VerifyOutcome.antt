@@ -26,6 +26,8 @@ abbrev pub verify_says : HashFunction → Text → Text → ℕ → Text → Tex
 verify_says h cert store moment bytes text = with_form store_fault_text store (store_of text)
     (λ s. verdict_says cert (judgement h bytes s (pos moment)))
 
+-- The outcome of `verify CERT STORE NOW`: the certificate is read, and then the store, each at most
+-- 16 MiB.
 abbrev pub verify_outcome : HashFunction → Text → Text → ℕ → Files → Outcome
 verify_outcome h cert store moment files =
     with_bytes 16777216 cert (files cert)

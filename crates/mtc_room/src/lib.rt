@@ -4,6 +4,9 @@
 //! sources or as devices, makes new ones, and takes back what it lent. A room counts its faults,
 //! and how many objects it has lent out; so a caller can show that it gave all of them back, and
 //! that an answer that names a fault has one.
+//!
+//! No clause says that what was lent comes back in the end: its type isn't `Drop`, and the compiler
+//! refuses to let it go.
 #![tactic(auto)]
 
 mod cause;

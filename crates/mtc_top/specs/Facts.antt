@@ -79,6 +79,7 @@ on_log h journal only_reads inputs outcome = record {
   outcome = outcome;
 }
 
+-- What is to be known of each command, under this hash function.
 abbrev pub facts_of : HashFunction → CommandValue → Facts
 facts_of h (member file) = reads_files (file ∷ []) (member_outcome h file)
 facts_of h (show file) = reads_files (file ∷ []) (show_outcome file)

@@ -96,14 +96,17 @@ module _ {R S D O E : Type 0} (h : HashFunction) (rooms : Rooms R S D) (disks : 
   abbrev pub OfHeard : CommandValue → (R → Turn R O E → Type 0) → R → Turn R O E → Type 0
   OfHeard command P old turn = command_of turn.words ≡ Ok command → IsHeard outs turn → P old turn
 
+  -- So it is of each run over files whose contents are known.
   abbrev pub OfEachRun : (R → Turn R O E → Type 0) → Type 0
   OfEachRun P = (old : R) (turn : Turn R O E) → rooms.is_modelled old
       → HasTurned h rooms disks outs errs old turn → P old turn
 
+  -- Each such run of `issue` has issued.
   abbrev pub IndicesArePrinted : Type 0
   IndicesArePrinted = (name file : Text)
       → OfEachRun (OfHeard (issue name file) (HasIssued name file))
 
+  -- Each such run of `cosign` has cosigned.
   abbrev pub SignaturesArePrinted : Type 0
   SignaturesArePrinted = (name file : Text)
       → OfEachRun (OfHeard (cosign name file) (HasCosigned name file))

@@ -20,6 +20,7 @@ use Rattle.policy_core.specs.Stores.{has_repeat, is_same_place}
 
 -- ---- cosigners
 
+-- The keys of a cosigner's table.
 abbrev pub cosigner_keys : List Text
 cosigner_keys = codes "id" ∷ codes "key" ∷ []
 
@@ -34,6 +35,7 @@ hss_key bytes = option_map (λ types. bytes) (hss_key_types bytes)
 unfoldable pub hss_key_data : Data → Option Text
 hss_key_data d = option_and_then hss_key (bytes_data d)
 
+-- The cosigner at this place: its table has no other keys, and the id is tested before the key.
 unfoldable pub cosigner_data : ℕ → Data → Result Known StoreError
 cosigner_data place d = do
   ms ← table_with cosigner_keys d
@@ -52,6 +54,7 @@ cosigners_at d = items_at d >>= cosigners_from 0
 
 -- ---- rules
 
+-- The keys of a rule's table.
 abbrev pub rule_keys : List Text
 rule_keys = codes "cosigners" ∷ codes "count" ∷ []
 
@@ -85,6 +88,8 @@ if_counts most n = if nat_le 1 n && nat_le n most then Some n else None
 unfoldable pub count_data : ℕ → Data → Option ℕ
 count_data most d = option_and_then (if_counts most) (number_data d)
 
+-- One rule over these cosigners: its table has no other keys, and the places are tested before the
+-- count, which is no larger than their number.
 unfoldable pub rule_data : List Known → Data → Result Rule StoreError
 rule_data known d = do
   ms ← table_with rule_keys d
@@ -92,5 +97,6 @@ rule_data known d = do
   count ← store_field Count (count_data (length places)) (get_member (codes "count") ms)
   Ok (record { count = count; cosigners = places })
 
+-- The rules of the list of tables; none where it is absent.
 abbrev pub rules_at : List Known → Option Data → Result (List Rule) StoreError
 rules_at known d = list_at (rule_data known) d

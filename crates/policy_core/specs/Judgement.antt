@@ -1,5 +1,5 @@
--- The judgement of a certificate by a relying party: the first refusal that holds, or what is known
--- of the certificate.
+-- The judgement of a certificate by a relying party (the draft on Merkle Tree Certificates, where
+-- it verifies certificates): the first refusal that holds, or what is known of the certificate.
 use Rattle.std.specs.Prelude.{ℕ, ◌&&◌, ◌==◌, Bool, not, nat_lt, nat_le, int_lt, ℤ, Option}
 use Rattle.std.specs.Prelude.{Some, None, Result, Ok, Err, if◌then◌else◌}
 use Rattle.std.specs.List.{list_any, find}

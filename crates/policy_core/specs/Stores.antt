@@ -1,4 +1,5 @@
--- Stores, and which of them are valid.
+-- Stores, and which of them are valid. Trusted intervals are subtrees, as the draft on Merkle Tree
+-- Certificates defines them.
 use Rattle.std.specs.Prelude.{◌≡◌, ℕ, ◌<◌, ◌≤◌, ◌==◌, ◌&&◌, ◌||◌, Bool, false, List, [], ◌∷◌}
 use Rattle.std.specs.Prelude.{length}
 use Rattle.std.specs.List.{list_any, AllByRecursion, IsDistinct}

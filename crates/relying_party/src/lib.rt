@@ -6,6 +6,9 @@
 //! interval that the store trusts, it is accepted exactly where the proof gives the hash that is
 //! trusted, whatever signatures it has. Else it is accepted exactly where the store has rules, and
 //! the cosigners that have signed meet each of them.
+//!
+//! No clause says that a signature is verified only of a cosigner that some rule names, and by a
+//! valid store once at most.
 #![tactic(auto)]
 
 mod admission;

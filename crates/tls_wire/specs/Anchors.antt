@@ -1,4 +1,4 @@
--- Reading anchor ids, with their faults in their order.
+-- Reading anchor ids (X.690, section 8.20.2), with their faults in their order.
 use Rattle.std.specs.Prelude.{ℕ, ◌+◌, ◌%◌, ◌^◌, nat_lt, nat_le, ◌==◌, Bool, true, not}
 use Rattle.std.specs.Prelude.{List, [], ◌∷◌, length, map, take, drop, flat_map, Result, Ok, Err}
 use Rattle.std.specs.Prelude.{if◌then◌else◌}
