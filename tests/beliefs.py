@@ -1,20 +1,17 @@
 #!/usr/bin/env python3
 """What the statement of `run`, its laws and those of courses rest on: the definitions of its page, and those that these name.
 
-docs/BELIEFS.md has the counts in a table.
-Usage: tests/beliefs.py            prints the table
-       tests/beliefs.py --write    puts it into the page
-       tests/beliefs.py --list     prints each definition, with its file and its number of lines
+tests/reference_pages.py puts the tables into docs/reference/TRUSTED.md, and the first of them into docs/BELIEFS.md.
+Usage: tests/beliefs.py            prints each definition, with its file and its number of lines
 """
 
 import re
 import sys
 from functools import cache
 
-from checks.sources import ROOT, crates
+from checks import ledger
+from checks.sources import CLAUSE, FUNCTION, ROOT, behind_braces, behind_head, crates
 
-PAGE = ROOT / "docs" / "BELIEFS.md"
-BEGIN, END = "<!-- counted by tests/beliefs.py -->", "<!-- end -->"
 TOP = ROOT / "crates" / "mtc_top" / "src"
 # Each statement: what its table is headed by, the functions whose contracts it is, and its page of definitions. First the
 # record that `run` ensures with the laws of each run, then the laws of courses, and those of what is printed.
@@ -37,9 +34,9 @@ LEVEL = ("node_history", "mtc_top")
 MOST = 61
 STANDARDS = {
     "the words for bytes, readings and forms": ("byte_formats",),
-    "files and streams ([OPERATIONS](OPERATIONS.md))": ("mtc_io", "disk_core", "mtc_room"),
-    "journals, records, lists and exports ([FORMATS](FORMATS.md))": ("journal_core", "issuance_log", "cosigner_core", "entry_list"),
-    "words and answers ([COMMANDS](COMMANDS.md))": ("mtc_words", "mtc_command", "mtc_reads", "mtc_authority", "mtc_cosigner", "mtc_monitor",
+    "files and streams ([OPERATIONS](../OPERATIONS.md))": ("mtc_io", "disk_core", "mtc_room"),
+    "journals, records, lists and exports ([FORMATS](../FORMATS.md))": ("journal_core", "issuance_log", "cosigner_core", "entry_list"),
+    "words and answers ([COMMANDS](../COMMANDS.md))": ("mtc_words", "mtc_command", "mtc_reads", "mtc_authority", "mtc_cosigner", "mtc_monitor",
                                                "mtc_drill"),
     "audits: a list of entries beside what was accepted": ("cosigner_steps", "world_core"),
     "the draft: proofs, stores and judgement, issuing": ("mtc_proof", "policy_core", "authority_core"),
@@ -258,7 +255,7 @@ def promise_rows():
     rows += [f"| `{name}` | {file_of(dotted)} | {len(body)} |" for (dotted, name), body in sorted(own.items())]
     rows += [f"| `{name}` | `{crate}`, a type of the code | |" for crate, name in types if crate in LEVEL]
     rows += [f"| {counted(own, types)} of its level, of at most {MOST} | | {sum(map(len, own.values()))} |", ""]
-    rows += ["| It ends at words of | Words | Definitions of these, and all behind them |", "|---|---|---|"]
+    rows += ["| It ends at words of | Words | Definitions of these, and all below them |", "|---|---|---|"]
     for standard in STANDARDS:
         mine = sorted((name, dotted) for dotted, name in ends if standard_of(dotted) == standard)
         if mine:
@@ -290,51 +287,128 @@ def first_rows(statement):
     return rows + [f"| {len(own)} definitions with all that these rest on, and {len(types)} types | | {sum(map(len, own.values()))} |", ""]
 
 
-def table():
-    own, types, kit = reached(all_named())
+# ---- the page
+
+
+def crate_rows():
+    """How many definitions of each crate count, and how long they are."""
+    own, types, _ = reached(all_named())
     order = [crate.name for crate in crates()]
     used = {dotted.split(".")[0] for dotted, _ in own} | {crate for crate, _ in types}
-    runs, *others = map(first_rows, STATEMENTS)
-    rows = runs + promise_rows() + sum(others, [])
-    rows += ["| Crate | Definitions | Lines | Files | Types of the code |", "|---|---|---|---|---|"]
+    yield from ("| Crate | Definitions | Lines | Files | Types of the code |", "|---|---|---|---|---|")
     for name in sorted(used, key=order.index):
         mine = {key: body for key, body in own.items() if key[0].split(".")[0] == name}
-        rows.append(row(f"`{name}`", mine, {one for crate, one in types if crate == name}))
-    rows.append(row("all", own, types))
-    words = sum(map(len, kit.values()))
-    rows += ["", f"Modules of the kit: {len(kit)}, with {words} words.", "", "| Module | Words |", "|---|---|"]
+        yield row(f"`{name}`", mine, {one for crate, one in types if crate == name})
+    yield row("all", own, types)
+
+
+def kit_rows():
+    kit = reached(all_named())[2]
+    yield from (f"Modules of the kit: {len(kit)}, with {sum(map(len, kit.values()))} words.", "", "| Module | Words |", "|---|---|")
     for dotted in sorted(kit):
         names = written(kit[dotted]).replace("|", "\\|")
-        rows.append(f"| `{dotted}` | {names} |")
-    return "\n".join(rows)
+        yield f"| `{dotted}` | {names} |"
 
 
-def between():
-    text = PAGE.read_text()
-    begin, end = text.index(BEGIN) + len(BEGIN), text.index(END)
-    return text[:begin], text[begin:end].strip("\n"), text[end:]
+def edit_rows():
+    """The edits of each crate: how many were refused in which way at their last try, or that they wait for it."""
+    found = ledger.lines()
+    yield from ("| Crate | Edits | By the search | By a proof | Wrong behaviours |", "|---|---|---|---|---|")
+    for name in ledger.with_edits():
+        edits = [edit.stem for edit in ledger.edits_of(name)]
+        tried = found.get(name, "").split()[4:] if name not in ledger.due() else ["due", ""]
+        yield f"| `{name}` | {len(edits)} | {' | '.join(tried or ['', ''])} | {', '.join(map(spoken, edits))} |"
 
 
-def differences():
+def spoken(name):
+    return name.replace("_", " ").replace("-", " ")
+
+
+PARTS = (
+    ("By crate", "All definitions that count for one of the statements below, each once.", crate_rows),
+    ("The contract of run", "What the contract of `run` and the laws of each run name themselves.", lambda: first_rows(RUNS)),
+    ("The promise as a whole", "The list of the promise, and where it ends.", promise_rows),
+    ("The laws of courses", "What they name themselves.", lambda: first_rows(COURSES)),
+    ("The laws of what is printed", "What they name themselves.", lambda: first_rows(PRINTS)),
+    ("Words of the kit", "The definitions of the kit that count.", kit_rows),
+    ("Edits by crate", "Wrong programs that are refused. The middle columns say how many of a crate's edits the search for proofs refused, "
+     "and how many a proof by hand that fits no longer; *due* are those that wait for a try.", edit_rows),
+)
+
+
+def anchor(title):
+    return title.lower().replace(" ", "-")
+
+
+def page(mark):
+    """The page TRUSTED."""
+    lines = ["# What has to be trusted", "", mark, "",
+             "The definitions on which the statements rest, counted, and the edits that are refused. [BELIEFS](../BELIEFS.md) says how "
+             "they are counted, and what else has to be trusted.", ""]
+    lines += [f"- [{title}](#{anchor(title)})" for title, _, _ in PARTS]
+    for title, says, rows in PARTS:
+        lines += ["", f"## {title}", "", says, "", *rows()]
+    return "\n".join(lines).rstrip() + "\n"
+
+
+def contract_lines(text):
+    """The numbers of the lines on which a contract stands."""
+    found = set()
+    for match in FUNCTION.finditer(text):
+        place = behind_head(text, match.end())
+        while clause := CLAUSE.match(text, place):
+            begin, place = clause.start(1), behind_braces(text, clause.end() - 1)
+            found |= set(range(text.count("\n", 0, begin), text.count("\n", 0, place) + 1))
+            by = re.match(r"\s*by\s*\{", text[place:])
+            place = behind_braces(text, place + by.end() - 1) if by else place
+    return found
+
+
+def code_lines():
+    """The lines of code of the program, without comments, imports for contracts, and contracts."""
+    count = 0
+    for crate in [crate for crate in crates() if crate.name in {*ledger.below("mtc_main"), "mtc_main"}]:
+        for file in crate.files:
+            bare = re.sub(r"^[ \t]*(?:pub )?ghost use [^;]*;", lambda match: "\n" * match.group().count("\n"), file.bare, flags=re.M)
+            contracts_at = contract_lines(bare)
+            count += sum(1 for number, line in enumerate(bare.split("\n")) if line.strip() and number not in contracts_at)
+    return count
+
+
+def summary_row(name, named, own):
+    behind = reached([*named, *rules()])[0]
+    return f"| {name} | {len(own):,} | {sum(map(len, own.values())):,} | {len(behind):,} | {sum(map(len, behind.values())):,} |"
+
+
+def own_of(statement):
+    found = filter(None, map(definition_of, *zip(*named_first(statement))))
+    return {(dotted, name): module_of(dotted).bodies[name] for dotted, name in found}
+
+
+def summary():
+    """The first table of BELIEFS: how much each statement rests on."""
+    rows = ["| Statement | Definitions that it names | Lines | With all below them | Lines |", "|---|---|---|---|---|"]
+    named = (("the contract of `run`, and the laws of each run", RUNS), ("the laws of courses", COURSES),
+             ("the laws of what is printed", PRINTS))
+    rows += [summary_row(name, named_first(statement), own_of(statement)) for name, statement in named]
+    rows.insert(3, summary_row("the promise as a whole", named_by(WHOLE), promise()[0]))
+    all_own = reached(all_named())[0]
+    return "\n".join([*rows, f"| **all together** | | | **{len(all_own):,}** | **{sum(map(len, all_own.values())):,}** |", "",
+                      f"The program whose contracts these are has {code_lines():,} lines of code."])
+
+
+def faults():
     own, types, _, ends = promise()
     for dotted, name in hidden(own, ends):
         yield f"{name} of {dotted} is of the level of the promise, and stands behind a word at which its list ends"
     if counted(own, types) > MOST:
         yield f"the promise as a whole rests on {counted(own, types)} definitions and types of its level, and may on {MOST}"
-    if between()[1] != table():
-        yield f"docs/{PAGE.name} has other counts (tests/beliefs.py --write)"
 
 
-def main(words):
-    if words == ["--write"]:
-        before, _, behind = between()
-        PAGE.write_text(before + "\n" + table() + "\n" + behind)
-    elif words == ["--list"]:
-        for (dotted, name), body in sorted(reached(all_named())[0].items()):
-            print(f"{dotted} {name} {len(body)}")
-    else:
-        print(table())
+def main():
+    for (dotted, name), body in sorted(reached(all_named())[0].items()):
+        print(f"{dotted} {name} {len(body)}")
 
 
 if __name__ == "__main__":
-    main(sys.argv[1:])
+    main()

@@ -3,7 +3,8 @@
 
 Prints a line for each check, and below it what is wrong. Nothing is proved or built; it takes some seconds.
 Usage: tests/documents.py [CHECK ..]      the checks of these names alone
-       tests/documents.py --missing       a row for each definition that DEFINITIONS doesn't name
+       tests/documents.py command NAME    which of CONTRIBUTING's places lack this command
+       tests/documents.py --write         writes docs/reference/, and what is made in other pages
        tests/documents.py --order         the lines of crates.txt, each behind the crates that it stands on
        tests/documents.py --list CHECK    what tests/limits.txt lets through
        tests/documents.py --limits        lowers the numbers of tests/limits.txt to what there is
@@ -11,23 +12,23 @@ Usage: tests/documents.py [CHECK ..]      the checks of these names alone
 
 import sys
 
-import beliefs
-from checks import citations, house, ledger, pages, secrets
+import reference_pages
+from checks import citations, house, ledger, pages, places, secrets
 from checks.sources import ROOT
 
 
-def check_beliefs():
-    """BELIEFS has the counts that its script finds"""
-    yield from beliefs.differences()
+def check_reference():
+    """docs/reference/, and what is made in other pages, are what the sources say; the promise has a short list"""
+    yield from reference_pages.differences()
 
 
 CHECKS = [
     pages.check_sentences, pages.check_words, pages.check_links, pages.check_quotations, pages.check_examples,
-    citations.check_names, citations.check_promises, citations.check_definitions, citations.check_meanings,
-    citations.check_architecture, citations.check_commands, citations.check_refusals,
-    citations.check_order, check_beliefs, house.check_lengths, house.check_errors,
-    house.check_columns, house.check_imports, house.check_heads, house.check_vocabulary, house.check_edits, ledger.check_ledger,
-    secrets.check_secrets, pages.check_paths,
+    citations.check_names, citations.check_promises, citations.check_meanings,
+    citations.check_architecture, citations.check_commands, citations.check_refusals, places.check_places,
+    citations.check_order, check_reference, house.check_lengths, house.check_errors,
+    house.check_columns, house.check_imports, house.check_heads, house.check_comments, house.check_vocabulary, house.check_counts,
+    house.check_edits, ledger.check_ledger, secrets.check_secrets, pages.check_paths,
 ]
 
 
@@ -49,13 +50,6 @@ def run(names):
     return status
 
 
-def missing():
-    for name, definitions in citations.missing_definitions():
-        print(f"## {name}")
-        for one in definitions:
-            print(f"| `{one.name}` | {one.sentence} | specs/{one.path.stem} | |")
-
-
 def order():
     lines = (ROOT / "crates.txt").read_text().split("\n")
     by_name = {line.split(":")[0].split()[0]: line for line in lines if line and not line.startswith("#")}
@@ -68,7 +62,7 @@ def listed(check):
 
 
 def main(words):
-    other = {"--missing": missing, "--order": order, "--list": listed, "--limits": house.lower_limits}
+    other = {"command": places.tell, "--write": reference_pages.write, "--order": order, "--list": listed, "--limits": house.lower_limits}
     if words[:1] and words[0] in other:
         return other[words[0]](*words[1:])
     known = {check.__name__.removeprefix("check_") for check in CHECKS}

@@ -1,9 +1,10 @@
-"""Checks that PROMISES, DEFINITIONS, ARCHITECTURE and COMMANDS name what the crates have."""
+"""Checks that what pages cite is there: calls, clauses and words of crates, groups of crates, commands, refusals."""
 
 import re
 from functools import cache
 
-from .pages import DOCS, cells_of, pages, shown
+from .comments import groups_of_crates
+from .pages import DOCS, by_hand, cells_of, shown
 from .sources import crates
 
 CRATES = {crate.name: crate for crate in crates()}
@@ -11,19 +12,6 @@ SPAN = re.compile(r"`([^`]+)`")
 
 # Words of the language, of its tools and of the kit that a page may put in code marks.
 PLAIN = {"Ok", "Err", "None", "Some", "Drop", "ensures", "requires", "limit", "out", "sync_all", "put_"}
-
-
-def sections_of(page):
-    """(crates, first line, lines) for each heading of the page that names crates."""
-    names, lines, begin = [], [], 0
-    for number, line in enumerate((DOCS / page).read_text().split("\n") + ["## "], 1):
-        if not line.startswith("## "):
-            lines.append(line)
-            continue
-        if names:
-            yield names, begin, lines
-        names = [name for name in re.split(r"[,\s]+", line[3:]) if name in CRATES]
-        lines, begin = [], number + 1
 
 
 # ---- what a span names
@@ -93,83 +81,52 @@ def is_known(span, names):
 
 # ---- PROMISES
 
-BEHIND_A_CALL = re.compile(r"(: |'s? |,)? ?(\(|clauses? |its clauses? |(now and as read: ))?$")
+
+def promises():
+    """(line, cells) for each row of the tables of promises."""
+    is_in = False
+    for number, line in enumerate((DOCS / "PROMISES.md").read_text().split("\n"), 1):
+        is_in = line.startswith("| Promise |") or is_in and line.startswith("|")
+        if is_in and not re.match(r"\| Promise \||\|-", line):
+            yield number, cells_of(line)
 
 
-def call_said(part, names, before):
-    """The call that a part of a span names. The bare name of a method is one of the last type that
-    the same row or item names before it and that has it: else it may be a clause, or another's."""
-    if "::" in part or any(part in CRATES[name].calls for name in names):
-        return call_of(part, names)
-    item = re.split(r"\n(?! )", before)[-1]
-    types = re.findall(r"`(?:[a-z]\w*::)?([A-Z]\w*)", item)
-    keys = (f"{one}::{part}" for one in reversed(types))
-    return next((call for key in keys if (call := call_of(key, names))), None)
+def cited_in(cell):
+    """(calls, clauses) for each part of a cell: `crate::call`, `crate::call`: `clause`, `clause`; .."""
+    for part in cell.split("; "):
+        calls, _, clauses = part.partition(": ")
+        yield [one for span in SPAN.findall(calls) for one in expanded(span)], SPAN.findall(clauses)
 
 
-def cited_in(names, lines, begin):
-    """What a section cites, in its order: (line, "call", calls), (line, "clause", label, calls) or
-    (line, "word", span)."""
-    calls, behind, was = [], 0, "word"
-    text = "\n".join(lines)
-    for match in SPAN.finditer(text):
-        between, span = text[behind:match.start()], match.group(1)
-        behind, line = match.end(), begin + text.count("\n", 0, match.start())
-        goes_on = re.fullmatch(r", | and |, and ", between)
-        named = [call_said(part, names, text[:match.start()]) for part in expanded(span)]
-        if was == "call" and not goes_on:
-            may_be_clause = BEHIND_A_CALL.fullmatch(between)
-        else:
-            may_be_clause = was == "clause" and goes_on
-        is_name = re.fullmatch(r"[a-z_0-9]+", span)
-        if may_be_clause and is_name and (not all(named) or is_label(span, calls)):
-            was = "clause"
-            yield line, was, span, calls
-        elif all(named):
-            calls = calls + named if was == "call" and goes_on else named
-            was = "call"
-            yield line, was, named
-        else:
-            was = was if was == "clause" and goes_on else "word"
-            yield line, "word", span
-
-
-def wrong_citations(names, lines, begin):
-    needs = [need for name in names for need in CRATES[name].needs if need in CRATES]
-    below = list(dict.fromkeys(names + needs))
-    for line, kind, span, *calls in cited_in(names, lines, begin):
-        if kind == "clause":
-            of_specs = any(span in said_in_specs(name) for name in below)
-            if span not in PLAIN and not of_specs and not is_label(span, calls[0]):
-                keys = ", ".join(key for _, key in calls[0])
-                yield f"docs/PROMISES.md:{line}: `{span}` is no clause of {keys}"
-        elif kind == "word" and re.fullmatch(r"\w[\w:]*", span) and not is_known(span, below):
-            yield f"docs/PROMISES.md:{line}: there is no `{span}`"
-
-
-def unnamed_calls(names, lines, begin):
-    """(crate, call) for each call that the section doesn't name."""
-    cited = {call for _, kind, named, *_ in cited_in(names, lines, begin) if kind == "call" for call in named}
-    for name in names:
-        yield from ((name, key) for key in CRATES[name].calls if (name, key) not in cited)
+def wrong_parts(cell):
+    for calls, clauses in cited_in(cell):
+        found = [call_of(one, []) for one in calls]
+        yield from (f"there is no call `{one}`" for one, call in zip(calls, found) if not call)
+        if not calls:
+            yield f"no call carries {', '.join(clauses) or cell}"
+        named = [call for call in found if call]
+        crates_below = {name for call in named for name in [call[0], *CRATES[call[0]].needs] if name in CRATES}
+        for clause in clauses:
+            if not is_label(clause, named) and not any(clause in said_in_specs(name) for name in crates_below):
+                yield f"`{clause}` is no clause of {', '.join(calls)}"
 
 
 def check_promises():
-    """PROMISES names each call of a crate, and the calls and clauses that it cites exist"""
-    listed = set()
-    for names, begin, lines in sections_of("PROMISES.md"):
-        listed |= set(names)
-        yield from wrong_citations(names, lines, begin)
-        for name, key in unnamed_calls(names, lines, begin):
-            yield f"docs/PROMISES.md:{begin}: `{key}` of {name} isn't named"
-    for name, crate in CRATES.items():
-        if crate.calls and name not in listed:
-            yield f"docs/PROMISES.md: no section for {name}"
+    """each promise of PROMISES has its words, what it supposes, and a call with its clauses, which are there"""
+    count = 0
+    for number, cells in promises():
+        count += 1
+        if len(cells) != 3 or not all(cells):
+            yield f"docs/PROMISES.md:{number}: a promise has three cells, and none is empty"
+        else:
+            yield from (f"docs/PROMISES.md:{number}: {what}" for what in wrong_parts(cells[2]))
+    if not count:
+        yield "docs/PROMISES.md: no promise was found"
 
 
 def check_names():
     """what a page cites as crate::name is there"""
-    for path in pages():
+    for path in by_hand():
         for number, line in enumerate(path.read_text().split("\n"), 1):
             for part in (part for span in SPAN.findall(line) for part in expanded(span)):
                 match = re.fullmatch(r"(\w+)::[\w:]+", part)
@@ -177,68 +134,7 @@ def check_names():
                     yield f"{shown(path, number)}: there is no `{part}`"
 
 
-# ---- DEFINITIONS
-
-
-def definitions_in(row):
-    """The definitions that a row names, without what stands in parentheses."""
-    return [span.split()[0] for span in SPAN.findall(re.sub(r"\([^)]*\)", "", cells_of(row)[0]))]
-
-
-def rows_of_definitions():
-    """(crate, line, words, files) for each row of the page."""
-    for names, begin, lines in sections_of("DEFINITIONS.md"):
-        for number, line in enumerate(lines, begin):
-            if line.startswith("|") and not re.match(r"\| Name |\|-", line):
-                files = re.findall(r"(?:\w*/?specs/)?([\w/]+)(?:\.antt)?", cells_of(line)[2])
-                yield names[0], number, definitions_in(line), files
-
-
-def as_defined(name, word):
-    """The word as its crate defines it: an operator has gaps around it. None where it doesn't."""
-    known = {one.name for one in CRATES[name].definitions}
-    return next((one for one in (word, f"◌{word}◌") if one in known), None)
-
-
-def missing_definitions():
-    """The definitions that the page doesn't name, by crate."""
-    listed = {(name, as_defined(name, word)) for name, _, words, _ in rows_of_definitions() for word in words}
-    for name, crate in CRATES.items():
-        missing = [one for one in crate.definitions if (name, one.name) not in listed]
-        if missing:
-            yield name, missing
-
-
-def wrong_files(name, words, files):
-    """The files of a row that have none of its definitions, and definitions that stand elsewhere."""
-    specs = CRATES[name].folder / "specs"
-    at = {word: set() for word in words}
-    for one in CRATES[name].definitions:
-        if one.name in at:
-            at[one.name].add(str(one.path.relative_to(specs))[:-len(".antt")])
-    yield from (f"`{word}` stands in {', '.join(at[word])}" for word in words if not at[word] & set(files))
-    yield from (f"none of these stands in {file}" for file in files if file not in set().union(*at.values()))
-
-
-def check_definitions():
-    """DEFINITIONS names each definition of a crate once, with its file, and no other"""
-    listed = {}
-    for name, number, words, files in rows_of_definitions():
-        for word in words:
-            if as_defined(name, word):
-                listed.setdefault((name, as_defined(name, word)), []).append(number)
-            elif word not in words_of(name):
-                yield f"docs/DEFINITIONS.md:{number}: {name} has no definition `{word}`"
-        known = [as_defined(name, word) for word in words if as_defined(name, word)]
-        for what in wrong_files(name, known, files):
-            yield f"docs/DEFINITIONS.md:{number}: {what}"
-    for (name, word), lines in listed.items():
-        if len(lines) > sum(one.name == word for one in CRATES[name].definitions):
-            yield f"docs/DEFINITIONS.md:{lines[-1]}: `{word}` of {name} stands {len(lines)} times"
-    for name, missing in missing_definitions():
-        some = ", ".join(one.name for one in missing[:8])
-        yield f"docs/DEFINITIONS.md: {len(missing)} of {name} aren't named: {some}"
-
+# ---- definitions
 
 
 def check_meanings():
@@ -255,40 +151,12 @@ def check_meanings():
 # ---- ARCHITECTURE, COMMANDS, crates.txt
 
 
-def stands_on(name):
-    """The crates of the repository on which a crate stands, through others too."""
-    found = set()
-    for need in CRATES[name].needs:
-        if need in CRATES:
-            found |= {need} | stands_on(need)
-    return found
-
-
-def wrong_arrows(name, cell):
-    below = stands_on(name)
-    kit = {need for one in below | {name} for need in CRATES[one].needs}
-    spans = SPAN.findall(cell)
-    yield from (f"{name} doesn't stand on {span}" for span in spans if span not in below | kit)
-    told = set(spans).union(*(stands_on(span) for span in spans if span in CRATES))
-    if not re.search(r"what (these|it) stands? on", cell):
-        yield from (f"{name} stands on {need} too" for need in CRATES[name].needs
-                    if need in CRATES and need not in told)
-
-
 def check_architecture():
-    """ARCHITECTURE has each crate once, with crates that it stands on"""
-    found = []
-    for number, line in enumerate((DOCS / "ARCHITECTURE.md").read_text().split("\n"), 1):
-        match = re.match(r"\| `(\w+)` \|([^|]*)\|", line)
-        if match and match.group(1) not in CRATES:
-            yield f"docs/ARCHITECTURE.md:{number}: there is no crate {match.group(1)}"
-        elif match:
-            found.append(match.group(1))
-            for what in wrong_arrows(*match.groups()):
-                yield f"docs/ARCHITECTURE.md:{number}: {what}"
-    for name in CRATES:
-        if found.count(name) != 1:
-            yield f"docs/ARCHITECTURE.md: {name} has {found.count(name)} rows"
+    """ARCHITECTURE names each group of crates.txt, and no crate that isn't there"""
+    text = (DOCS / "ARCHITECTURE.md").read_text()
+    named = set(re.findall(r"^\| \[([^\]]*)\]\(reference/CRATES\.md#", text, re.M))
+    for group in sorted({group for group, _ in groups_of_crates()} ^ named):
+        yield f"docs/ARCHITECTURE.md: {group} is {'no group' if group in named else 'a group without a row'}"
 
 
 @cache

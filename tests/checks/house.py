@@ -1,10 +1,11 @@
-"""Checks of the sources: lengths, columns, heads of files, words of comments, names that are imported and not used, edits."""
+"""Checks of the sources: lengths, columns, heads of files, comments and their words, names that are imported and not used, edits;
+and how many words stand in pages by hand."""
 
 import re
 
-from . import ledger
+from . import comments, ledger
 from .citations import CRATES
-from .pages import blocks_of, pages, private_words_in, shown
+from .pages import DOCS, blocks_of, by_hand, private_words_in, shown
 from .sources import ROOT
 
 LIMITS = ROOT / "tests" / "limits.txt"
@@ -168,7 +169,7 @@ COMMENT = {".rt": re.compile(r"//[/!]?(.*)"), ".antt": re.compile(r"(?:^|\s)--( 
 
 def private_words():
     """(page or crate, what) for each private word in a page, and in a comment of src or specs."""
-    for page in pages():
+    for page in by_hand():
         if page.name != "GLOSSARY.md":
             for line, text in blocks_of(page):
                 yield from ((page.name, f"{shown(page, line)}: {word}; {plain}") for word, plain in private_words_in(text))
@@ -179,8 +180,27 @@ def private_words():
                 yield name, f"{shown(path, number)}: {word}; {plain}"
 
 
+def bare_definitions(crate):
+    """The definitions of which nothing is said, nor of those before them; and the files of specs/ that begin with nothing."""
+    for path in sorted((crate.folder / "specs").rglob("*.antt")):
+        groups = comments.groups_of(path)
+        if groups and not comments.file_sentence(path):
+            yield f"{shown(path)}: says nothing of itself"
+        yield from (f"{shown(path)}: {one}" for group in groups if not group.comment and not group.title for one in group.shown)
+
+
+def without_comment():
+    """(crate, what) for each call, word of a trait and definition of which the sources say nothing."""
+    for name, crate in CRATES.items():
+        said = [(key, one.path, one.line) for key, one in crate.calls.items()]
+        said += [(f"{owner}.{word}", file.path, line) for file in crate.files for owner, word, line in file.trait_words]
+        yield from ((name, f"{shown(path, line)}: {key}") for key, path, line in said
+                    if not comments.doc_of(path.read_text().split("\n"), line))
+        yield from ((name, what) for what in bare_definitions(crate))
+
+
 LIMITED = {"lengths": long_parts, "columns": wide_lines, "imports": unused_names, "heads": bare_heads,
-           "vocabulary": private_words}
+           "comments": without_comment, "vocabulary": private_words}
 
 
 def by_crate(check):
@@ -223,18 +243,40 @@ def check_heads():
     yield from over_limit("heads")
 
 
+def check_comments():
+    """each call, word of a trait and definition has a comment, from which docs/reference/ is made"""
+    yield from over_limit("comments")
+
+
 def check_vocabulary():
     """pages and comments use the field's words"""
     yield from over_limit("vocabulary")
 
 
+def counts():
+    """How many words stand in pages by hand, and how many in those that have a limit of their own; what a script makes is left out."""
+    made = re.compile(r"<!-- (\w+): begin.*?<!-- \1: end -->", re.S)
+    found = {page.name: len(made.sub("", page.read_text()).split()) for page in by_hand()
+             if page.parent == DOCS or page.name == "README.md"}
+    own = {name for check, name in limits() if check == "counts"}
+    return {name: count for name, count in {"by_hand": sum(found.values()), **found}.items() if name in own}
+
+
+def check_counts():
+    """pages by hand have no more words than tests/limits.txt lets through"""
+    for name, count in counts().items():
+        if count > limits()["counts", name]:
+            yield f"{name} has {count} words, and tests/limits.txt lets {limits()['counts', name]} through"
+
+
 def lower_limits():
-    """Lowers each number to what there is. Where there is no number, nothing is let through."""
+    """Lowers each number to what there is, but how long one page may be. Where there is no number, nothing is let through."""
     old = limits()
     rows = [line for line in LIMITS.read_text().split("\n") if line.startswith("#")]
-    for check in LIMITED:
-        for name, lines in sorted(by_crate(check).items()):
+    found = {check: {name: len(lines) for name, lines in by_crate(check).items()} for check in LIMITED}
+    for check, numbers in {**found, "counts": counts()}.items():
+        for name, count in sorted(numbers.items()):
             most = old.get((check, name), 0)
             if most:
-                rows.append(f"{check} {name} {min(len(lines), most)}")
+                rows.append(f"{check} {name} {most if (check, name[-3:]) == ('counts', '.md') else min(count, most)}")
     LIMITS.write_text("\n".join(rows) + "\n")

@@ -36,6 +36,11 @@ def pages():
     return [path for path in tracked() if path.suffix == ".md"]
 
 
+def by_hand():
+    """The pages without those that a script makes from the sources."""
+    return [path for path in pages() if path.parent != DOCS / "reference"]
+
+
 def cells_of(row):
     return [cell.strip() for cell in re.split(r"(?<!\\)\|", row.strip())[1:-1]]
 
@@ -108,7 +113,7 @@ def private_words_in(text):
 
 def check_words():
     """pages use plain words, code marks left out"""
-    for path in pages():
+    for path in by_hand():
         for line, text in blocks_of(path):
             text = re.sub(r"`[^`]*`", "", text)
             for word, plain in PLAIN_WORDS.items():
@@ -119,7 +124,7 @@ def check_words():
 
 def check_sentences():
     """no sentence of a page has more than 40 words"""
-    for path in pages():
+    for path in by_hand():
         for line, text in blocks_of(path):
             for sentence in sentences_of(text):
                 count = len(re.findall(r"[\w'.,/^+:-]*\w", sentence))

@@ -18,6 +18,9 @@ class Function:
     line: int
     length: int = 0  # lines, without those of the contract
     labels: list = field(default_factory=list)
+    ensures: list = field(default_factory=list)  # the labels of what it ensures, nothing for a clause without one
+    requires: bool = False
+    of_trait: bool = False  # it stands in the impl of a trait
     is_test: bool = False
 
 
@@ -109,7 +112,8 @@ class SourceFile:
         for match in OWNER.finditer(self.bare):
             public = bool(match.group(1)) and match.group(2) == "trait"
             span = (match.start(), behind_braces(self.bare, match.end() - 1))
-            found.append((span, owner_name(match.group(2), match.group(3)), match.group(2), public))
+            kind = "impl of a trait" if match.group(2) == "impl" and " for " in match.group(3) else match.group(2)
+            found.append((span, owner_name(match.group(2), match.group(3)), kind, public))
         return found
 
     def owner_at(self, place):
@@ -125,7 +129,7 @@ class SourceFile:
             owner, kind, open_trait = self.owner_at(match.start())
             public = (match.group(2) or "").strip() == "pub" or (kind == "trait" and open_trait)
             line = self.bare.count("\n", 0, match.start()) + 1
-            one = Function(match.group(3), owner, public, self.path, line)
+            one = Function(match.group(3), owner, public, self.path, line, of_trait=kind == "impl of a trait")
             one.is_test = "#[test]" in self.text[:match.start()].rstrip().rsplit("\n\n", 1)[-1][-200:]
             place = behind_head(self.bare, match.end())
             begin = place
@@ -137,6 +141,8 @@ class SourceFile:
                 if not clause:
                     break
                 one.labels.append(clause.group(2) or "")
+                one.requires |= clause.group(1) == "requires"
+                one.ensures += [clause.group(2) or ""] * (clause.group(1) == "ensures")
                 place = behind_braces(self.bare, clause.end() - 1)
                 by = re.match(r"\s*by\s*\{", self.bare[place:])
                 if by:
@@ -154,6 +160,16 @@ class SourceFile:
     def members(self):
         """Ghost members of traits and types: meanings and laws."""
         return {match.group(1) for match in MEMBER.finditer(self.bare)}
+
+    @cached_property
+    def trait_words(self):
+        """(trait, name, line) for each ghost member of a public trait."""
+        found = []
+        for match in MEMBER.finditer(self.bare):
+            owner, _, is_open = self.owner_at(match.start())
+            if is_open:
+                found.append((owner, match.group(1), self.bare.count("\n", 0, match.start(1)) + 1))
+        return found
 
 
 DEFINED = re.compile(r"^( *)(?:abbrev pub|unfoldable pub|opaque pub|pub record|pub data) +([^\s:({]+)")
@@ -236,6 +252,15 @@ class Crate:
                 continue
             key = f"{one.owner}::{one.name}" if one.owner else one.name
             found.setdefault(key, one)
+        return found
+
+    @cached_property
+    def fulfilled(self):
+        """The calls of traits of which a type that others see ensures more than the trait does, by Type::name."""
+        found = {}
+        for one in self.functions:
+            if one.of_trait and one.ensures and one.owner in self.door and not one.is_test:
+                found.setdefault(f"{one.owner}::{one.name}", one)
         return found
 
     @cached_property
