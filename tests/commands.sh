@@ -69,6 +69,7 @@ checkpoint j|0|0b252c24fc2e873d|
 checkpoint k|7|-|mtc: checkpoint: k: Absent
 init-cosigner w 32473.2 32473.1 5 4 secret|0|4c943d8227c5919e|
 init-cosigner w 32473.2 32473.1 5 4 secret|7|-|mtc: init-cosigner: w: Exists
+keygen 5 4 secret|0|4c943d8227c5919e|
 init-cosigner x 32473.2 32473.1 5 4 r|2|-|mtc: init-cosigner: r: Trailing
 consist j 0 2 >a|0|01e33cf0379ef37a|
 consist j 2 3 >b|0|804c5e6b9646da87|
