@@ -1,4 +1,5 @@
--- Which stores accept the certificates of a log's entries, and when.
+-- Which stores accept the certificates of a log's entries, and when (the draft on Merkle Tree
+-- Certificates, where it verifies certificates).
 use Rattle.std.specs.Prelude.{◌≡◌, ◌⊎◌, ◌≤ℤ◌, ℕ, ℤ, false, [], slice_index_or, Option, Some, None}
 use Rattle.std.specs.Prelude.{Ok}
 use Rattle.std.specs.List.{AllByRecursion}
@@ -55,5 +56,6 @@ abbrev pub AcceptsIn : HashFunction → LogState → ℕ → Text → Option Spa
 AcceptsIn h s index bytes None = ⊥
 AcceptsIn h s index bytes (Some span) = StoresAccept h s index span.start span.end [] bytes
 
+-- So it is in the subtree that covers the entry, where an active landmark has one.
 abbrev pub StoresAcceptLightly : HashFunction → LogState → ℕ → Text → Type 0
 StoresAcceptLightly h s index bytes = AcceptsIn h s index bytes (covering_in (view_in s) index)

@@ -1,4 +1,5 @@
--- Certificates of the entries of a log, and why none is written.
+-- Certificates of the entries of a log (RFC 5280, section 4.1; of landmarks the draft on Merkle
+-- Tree Certificates), and why none is written.
 use Rattle.std.specs.Prelude.{◌≡◌, ◌≢◌, ℕ, ◌-◌, ◌<◌, ◌≤◌, ◌==◌, ◌||◌, not, nat_lt, nat_le, true}
 use Rattle.std.specs.Prelude.{[], length, map, slice_index_or, Option, Some, None, is_none, Result}
 use Rattle.std.specs.Prelude.{Ok, Err, if◌then◌else◌}

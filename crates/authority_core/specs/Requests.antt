@@ -1,4 +1,5 @@
--- Requests, and which can be issued.
+-- Requests, and which can be issued (RFC 5280, sections 4.1.2.5, 4.1.2.7 and 4.2.1.6, of their
+-- parts).
 use Rattle.std.specs.Prelude.{◌≤◌, ◌≤ℤ◌, List, length, Option}
 use Rattle.std.specs.Option.{IfSome}
 use Rattle.byte_formats.specs.Types.{Text}

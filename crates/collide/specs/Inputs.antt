@@ -1,5 +1,6 @@
--- The texts that are hashed: in the tree hash of a list, in the evaluation of an inclusion path and
--- in the opening of a consistency proof.
+-- The texts that are hashed: in the tree hash of a list (RFC 9162, section 2.1.1), in the
+-- evaluation of an inclusion path (section 2.1.3) and in the opening of a consistency proof (the
+-- draft on Merkle Tree Certificates, where it verifies them).
 use Rattle.std.specs.Prelude.{ℕ, zero, suc, ◌-◌, ◌&&◌, ◌==◌, Bool, false, nat_lt, nat_le}
 use Rattle.std.specs.Prelude.{if◌then◌else◌, List, [], ◌∷◌, ◌++◌, length, take, drop, reverse}
 use Rattle.std.specs.Prelude.{Option, Some, None}

@@ -1,4 +1,4 @@
--- What holds of the texts that are hashed, for a hash function h.
+-- What holds of the texts that are hashed (RFC 9162, section 2.1.1), for a hash function h.
 use Rattle.std.specs.Prelude.{◌≡◌, ℕ, ◌-◌, ◌≤◌, ◌⊎◌, List, [], ◌∷◌, ◌++◌, length, take}
 use Rattle.std.specs.Prelude.{drop, slice_index_or, true, Ok}
 use Rattle.std.specs.List.{AllByRecursion}

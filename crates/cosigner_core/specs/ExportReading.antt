@@ -84,6 +84,7 @@ unfoldable pub steps_left : HashFunction → ℕ → At → Result (List Step) R
 steps_left h keys a =
     all_exported_at h keys (length a.rest) 1 (first_progress h) a >>= λ xs. Ok xs.0
 
+-- An export of its head and its steps.
 abbrev pub export_with : Text × (Text × (Text × ℕ)) → List Step → Export
 export_with x steps = record { cosigner = x.0; log = x.1.0; public = x.1.1.0; steps = steps }
 

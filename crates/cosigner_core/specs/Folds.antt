@@ -1,5 +1,5 @@
 -- What the records of a journal make of a cosigner. The first one begins it, and each later one is
--- an Advance or a Sign that its state allows.
+-- an Advance or a Sign that its state allows. Its key counts up as RFC 8554, section 5.2 has it.
 use Rattle.std.specs.Prelude.{ℕ, ◌+◌, ◌^◌, List, Option, Some, None, option_map, option_and_then}
 use Rattle.std.specs.Prelude.{Result, if◌then◌else◌}
 use Rattle.byte_formats.specs.Types.{Hash, HashFunction, Text}

@@ -22,6 +22,7 @@ abbrev pub hashes_fault : HashesError → FormError
 hashes_fault (NotFitting s) = Short s.place
 hashes_fault NoMultiple = HashLength
 
+-- The hashes of a proof.
 abbrev pub proof_at : Reading (List Hash) FormError
 proof_at = lifted_at hashes_fault hashes_at
 
@@ -29,18 +30,23 @@ proof_at = lifted_at hashes_fault hashes_at
 abbrev pub log_id_at : Reading Text FormError
 log_id_at = tested_at has_bytes EmptyId (lifted_at short_fault (vector_at w8))
 
+-- A number of eight bytes.
 abbrev pub u64_at : Reading ℕ FormError
 u64_at = lifted_at short_fault (number_at w64)
 
+-- A hash.
 abbrev pub hash_at : Reading Hash FormError
 hash_at = lifted_at short_fault (bytes_at 32)
 
+-- A request to hold a larger log from what was read.
 abbrev pub to_advance : Text × (ℕ × (Hash × List Hash)) → AdvanceParts
 to_advance x = record { log = x.0; size = x.1.0; root = x.1.1.0; proof = x.1.1.1 }
 
+-- Such a request.
 unfoldable pub advance_at : Reading AdvanceParts FormError
 advance_at = mapped_at to_advance (both_at log_id_at (both_at u64_at (both_at hash_at proof_at)))
 
+-- A request to sign a subtree from what was read.
 abbrev pub to_subtree : Text × (ℕ × (ℕ × (Hash × List Hash))) → SubtreeParts
 to_subtree x = record {
   log = x.0;
@@ -50,6 +56,7 @@ to_subtree x = record {
   proof = x.1.1.1.1;
 }
 
+-- Such a request.
 unfoldable pub subtree_at : Reading SubtreeParts FormError
 subtree_at =
     mapped_at to_subtree

@@ -44,6 +44,7 @@ sign_record index start end hash proof =
     number w8 0x13 ++ (number w32 index ++ (number w64 start ++ (number w64 end
     ++ (hash ++ hashes proof))))
 
+-- The record of a step.
 abbrev pub step_record : Step → Text
 step_record (Advance size root proof) = advance_record size root proof
 step_record (Sign index start end hash proof) = sign_record index start end hash proof
@@ -60,6 +61,7 @@ cosigner_at a =
 unfoldable pub advance_step_at : Reading (ℕ × (Hash × List Hash)) FormError
 advance_step_at a = both_at u64_at (both_at hash_at proof_at) a
 
+-- The number of a one-time key.
 abbrev pub index_at : Reading ℕ FormError
 index_at = lifted_at short_fault (number_at w32)
 
@@ -99,9 +101,11 @@ first_by_tag (Err short) = None
 unfoldable pub cosigner_in : Text → Option (CosignerSettings × Text)
 cosigner_in body = first_by_tag (number_at w8 (at body 0))
 
+-- An Advance from what was read.
 abbrev pub advance_of : ℕ × (Hash × List Hash) → Step
 advance_of x = Advance x.0 x.1.0 x.1.1
 
+-- A Sign from what was read.
 abbrev pub sign_of : ℕ × (ℕ × (ℕ × (Hash × List Hash))) → Step
 sign_of x = Sign x.0 x.1.0 x.1.1.0 x.1.1.1.0 x.1.1.1.1
 

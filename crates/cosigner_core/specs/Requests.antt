@@ -1,5 +1,5 @@
 -- The requests to a cosigner: how their parts are spelled, in the presentation language of RFC 8446
--- (section 3).
+-- (sections 3.3 and 3.4).
 use Rattle.std.specs.Prelude.{◌≡◌, ℕ, ◌^◌, ◌<◌, List, ◌++◌, length}
 use Rattle.byte_formats.specs.Types.{Hash, Text}
 use Rattle.std.specs.Int.{w8, w64}
@@ -18,6 +18,7 @@ pub record AdvanceParts : Type 0 where
 abbrev pub advance_text : AdvanceParts → Text
 advance_text r = vector w8 r.log ++ (number w64 r.size ++ (r.root ++ hashes r.proof))
 
+-- What has such an encoding.
 pub record IsAdvance (r : AdvanceParts) : Type 0 where
   pub some : 0 < length r.log
   pub log : length r.log < 2 ^ 8
@@ -40,6 +41,7 @@ abbrev pub subtree_text : SubtreeParts → Text
 subtree_text r =
     vector w8 r.log ++ (number w64 r.start ++ (number w64 r.end ++ (r.hash ++ hashes r.proof)))
 
+-- What has such an encoding.
 pub record IsSubtreeRequest (r : SubtreeParts) : Type 0 where
   pub some : 0 < length r.log
   pub log : length r.log < 2 ^ 8

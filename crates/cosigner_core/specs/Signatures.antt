@@ -1,4 +1,4 @@
--- The signature of a cosigner.
+-- The signature of a cosigner (RFC 8554, section 6.2).
 use Rattle.std.specs.Prelude.{ℕ}
 use Rattle.byte_formats.specs.Types.{Hash, Text}
 use Rattle.hss_core.specs.Hss.{one_level_signature}

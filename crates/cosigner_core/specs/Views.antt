@@ -7,9 +7,11 @@ use Rattle.cosigner_core.specs.declared.step.Step.{Step}
 use Rattle.cosigner_core.specs.declared.step.Step.TheVariants.{Advance, Sign}
 use Rattle.cosigner_core.specs.Requests.{AdvanceParts, SubtreeParts}
 
+-- A request to hold a larger log.
 abbrev pub advance_parts : AdvanceRequest → AdvanceParts
 advance_parts r = record { log = r.log.now; size = r.size; root = r.root; proof = r.proof.now }
 
+-- A request to sign a subtree.
 abbrev pub subtree_parts : SubtreeRequest → SubtreeParts
 subtree_parts r = record {
   log = r.log.now;

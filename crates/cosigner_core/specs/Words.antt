@@ -25,6 +25,7 @@ of_cosigner_journal Exhausted = None
 of_cosigner_journal (Append why) = Some why
 
 module _ {H D : Type 0} {hashes : Hashes H} {g : Ghosts D} where
+  -- The disk of its journal.
   abbrev pub cosigner_disk : Cosigner H D hashes g → D
   cosigner_disk it = disk_of it.journal
 

@@ -249,12 +249,14 @@ impl<H: TreeHash, D: Disk> Cosigner<H, D> {
         self.key.public()
     }
 
+    /// The id of the cosigner.
     pub fn id(&self) -> &AnchorId
         ensures { result.now ≡ (cosigner_state self.now).id }
     {
         self.machine.contents.id()
     }
 
+    /// The disk, for another use.
     pub fn into_disk(self) -> D
         ensures { result ≡ cosigner_disk self }
     {

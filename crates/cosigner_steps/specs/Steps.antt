@@ -74,6 +74,7 @@ abbrev pub Shows : HashFunction → List Text → List Text → Finding → Type
 Shows h firsts seconds Same = ⊥
 Shows h firsts seconds (Pair x y) = IsCollision h firsts seconds x y
 
+-- The step is a Sign.
 abbrev pub IsSign : Step → Type 0
 IsSign (Advance size root proof) = ⊥
 IsSign (Sign index start end hash proof) = Unit {0}

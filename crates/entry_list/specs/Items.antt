@@ -1,4 +1,5 @@
--- Entries of a log with their keys, and the file that holds them.
+-- Entries of a log with their keys, and the file that holds them, in the presentation language of
+-- TLS (RFC 8446, section 3.4).
 use Rattle.std.specs.Prelude.{◌≡◌, ℕ, ◌<◌, ◌==◌, Bool, true, false, List, [], ◌++◌, length, map}
 use Rattle.std.specs.Prelude.{take, slice_index_or, Option, Some, None, Result, Ok, Err}
 use Rattle.std.specs.Prelude.{if◌then◌else◌}

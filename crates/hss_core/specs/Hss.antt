@@ -76,6 +76,7 @@ levels_refusal (suc pairs) key message s =
     (levels_refusal pairs (key_behind n s) message (behind_key n s)))
     (prefix_length s) (Some BadLength)
 
+-- The refusal under a key with these levels and top types.
 abbrev pub refusal_of_types : Option (ℕ × LmsType × OtsType) → Text → Text → Text → Option SigError
 refusal_of_types None key message s = Some BadKey
 refusal_of_types (Some (levels, l, t)) key message s =

@@ -29,6 +29,7 @@ pub record LogView : Type 0 where
   pub marks : List ℕ
   pub tiled : ℕ
 
+-- What the log shows of itself.
 abbrev pub view_in : LogState → LogView
 view_in s =
     record { settings = s.settings; size = length s.entries; marks = s.marks; tiled = s.tiled }

@@ -53,6 +53,7 @@ pub record AreKept (h : HashFunction) (v : LogView) (places : List ℕ) (leaves 
   pub hashed : AreHashed h v leaves list
 
 module _ {H T : Type 0} {hashes : Hashes H} {k : Ghosts T} where
+  -- The tiles of its nodes.
   abbrev pub items_tiles : Items H T hashes k → Tiles H T hashes k
   items_tiles items = items.nodes
 

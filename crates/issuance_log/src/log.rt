@@ -283,6 +283,7 @@ impl<H: TreeHash, D: Disk, T: Disk> Log<H, D, T> {
         let _ = self.numbers.size();
     }
 
+    /// The settings, which never change.
     pub fn settings(&self) -> &LogSettings
         ensures value { result.now ≡ (view_of self.now).settings }
         ensures allowed { AreAllowed result.now.max_active result.now.limit }

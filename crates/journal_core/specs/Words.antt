@@ -39,6 +39,7 @@ HasSize place size list = (prefix : List Text) (body : Text) (back : List Text)
     → place ≡ end_behind prefix → (size ≡ length body) × (length body ≤ 131072)
 
 module _ {D : Type 0} {g : Ghosts D} where
+  -- The disk of a journal.
   abbrev pub disk_of : Journal D g → D
   disk_of journal = journal.disk
 

@@ -124,6 +124,7 @@ impl<D: Disk> Journal<D> {
         (size + 22).min(self.end)
     }
 
+    /// The disk, for another use.
     pub fn into_disk(self) -> D
         ensures { result ≡ disk_of self }
     {

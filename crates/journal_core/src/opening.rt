@@ -177,6 +177,7 @@ impl<D: Disk> Opening<D> {
         }
     }
 
+    /// The disk, for another use.
     pub fn into_disk(self) -> D
         ensures { result ≡ opening_disk self }
     {

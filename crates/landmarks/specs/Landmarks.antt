@@ -29,6 +29,7 @@ landmark_size l number = slice_index l.sizes (l.last - number)
 abbrev pub active_of : LandmarkList → Span
 active_of l = record { start = l.last + 1 - active_count l; end = l.last + 1 }
 
+-- The number is one of these.
 pub record IsActive (l : LandmarkList) (number : ℕ) : Type 0 where
   pub from : l.last < number + active_count l
   pub below : number ≤ l.last
@@ -65,6 +66,7 @@ landmarks_of marks most = record {
 abbrev pub subtrees_of : LandmarkList → ℕ → Cover
 subtrees_of l number = cover_of (landmark_size l (number - 1)) (landmark_size l number)
 
+-- The second subtree where there is one, and else the first.
 abbrev pub or_second : Option Span → Span → Span
 or_second None first = first
 or_second (Some second) first = second

@@ -36,6 +36,8 @@ prefix_after t None s = None
 prefix_after t (Some l) s =
     if nat_lt (length s) (lms_signature_length l t) then None else Some (l, t)
 
+-- The types, where the whole signature is there: that of the one-time key, and then that of the
+-- tree.
 abbrev pub prefix_with : Option OtsType → Text → Option (LmsType × OtsType)
 prefix_with None s = None
 prefix_with (Some t) s =
@@ -54,6 +56,7 @@ root_of_key l t id s key =
     let r = 2 ^ height l + u32_at s 0 in
     climbed id r (drop (8 + signature_length t) s) (leaf_node id r key) (height l)
 
+-- There is a candidate key, and this is the root to which it leads.
 abbrev pub is_root : LmsType → OtsType → Text → Text → Hash → Option Hash → Bool
 is_root l t id s root None = false
 is_root l t id s root (Some key) = bytes_eq (root_of_key l t id s key) root
@@ -74,6 +77,7 @@ level_refusal key message l t s =
     else (if yields_root l t (take 16 (drop 8 key)) message s (value_at key 24) then None
     else Some WrongRoot))
 
+-- The same with the types that the bytes begin with: they must be one whole signature.
 abbrev pub refusal_with : Text → Text → Option (LmsType × OtsType) → Text → Option SigError
 refusal_with key message None s = Some BadLength
 refusal_with key message (Some (l, t)) s =

@@ -1,5 +1,6 @@
--- LMS, trees of one-time keys (RFC 8554, 5), with SHA-256. The nodes are numbered from the root,
--- which is 1; below node r are 2 * r and 2 * r + 1, and leaf q is node 2^h + q.
+-- LMS, trees of one-time keys (RFC 8554, section 5; of private keys 5.2), with SHA-256. The nodes
+-- are numbered from the root, which is 1; below node r are 2 * r and 2 * r + 1, and leaf q is node
+-- 2^h + q.
 use Rattle.std.specs.Prelude.{ℕ, zero, suc, ◌+◌, ◌-◌, ◌*◌, ◌/◌, ◌%◌, ◌^◌, ◌==◌, if◌then◌else◌, []}
 use Rattle.std.specs.Prelude.{◌∷◌, ◌++◌, take}
 use Rattle.std.specs.Int.{w32, to_be_bytes}

@@ -21,6 +21,7 @@ abbrev pub fresh_party : NodeStart → HistoryState
 fresh_party start =
     record { start = start; settled = []; pending = None; handed = []; may_hand = false }
 
+-- These records, and the pending one where there is one.
 abbrev pub with_pending : List Text → Option Text → List Text
 with_pending list None = list
 with_pending list (Some body) = list ++ body ∷ []

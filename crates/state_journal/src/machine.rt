@@ -16,12 +16,11 @@ pub trait StateMachine: Drop + Sized {
 
     // what contracts see of a machine
     ghost State: { Type 0 };
-    // the state that a first record begins, and the state after one record more, each none where
-    // the record breaks the rules
+    // the state that a first record begins, or none where the record breaks the rules
     ghost begins: { Text → Option State };
-
+    // the state after one record more, or none where the record breaks the rules
     ghost takes: { State → Text → Option State };
-
+    // the state of a machine
     ghost state: { Self → State };
     // what it keeps beside its state, where the records are known
     ghost Keeps: { Self → List Text → Type 0 } = { λ _ _. Unit {0} };
@@ -33,9 +32,9 @@ pub trait StateMachine: Drop + Sized {
     ghost IsBlank: { Self.Seed → Type 0 } = { λ _. Unit {0} };
     // what of a seed stays as it is while records are taken
     ghost Beside: { Type 0 };
-
+    // that of a seed
     ghost beside_of: { Self.Seed → Beside };
-
+    // that of a machine
     ghost beside: { Self → Beside };
 
     /// The machine that the first record begins. A refusal hands a blank seed back, beside which

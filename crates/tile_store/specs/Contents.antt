@@ -1,4 +1,4 @@
--- What tiles hold.
+-- What tiles hold (RFC 9162, section 2.1.1, of the hashes).
 use Rattle.std.specs.Prelude.{◌≡◌, ℕ, zero, suc, ◌+◌, ◌*◌, ◌/◌, ◌%◌, ◌^◌, ◌<◌, List, [], ◌∷◌, ◌++◌}
 use Rattle.std.specs.Prelude.{length}
 use Rattle.byte_formats.specs.Types.{Hash, HashFunction, Text}

@@ -1,4 +1,5 @@
--- The nodes inside a tile: its 256 hashes, the 128 above them, and so on up to the one above all.
+-- The nodes inside a tile (RFC 9162, section 2.1.1, of their hashes): its 256 hashes, the 128 above
+-- them, and so on up to the one above all.
 use Rattle.std.specs.Prelude.{◌≡◌, ℕ, ◌+◌, ◌*◌, ◌^◌, ◌<◌, ◌≤◌, List, [], length, slice_index_or}
 use Rattle.byte_formats.specs.Types.{Hash, HashFunction, Text}
 use Rattle.tile_store.specs.Contents.{hash_in}

@@ -12,6 +12,7 @@ use Rattle.tree_cache.specs.Rows.{HaveFilled, count_of, filled_of, filled_to, sp
 use Rattle.tree_core.specs.declared.hashing.TreeHash.{Ghosts as Hashes}
 
 module _ {H T : Type 0} {hashes : Hashes H} {g : Ghosts T} where
+  -- Its parts: the device, and the pool of frames.
   abbrev pub tiles_disk : Tiles H T hashes g → T
   tiles_disk tiles = tiles.disk
 

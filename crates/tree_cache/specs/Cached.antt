@@ -1,4 +1,4 @@
--- What a cache of nodes is to a caller.
+-- What a cache of nodes is to a caller (RFC 9162, section 2.1.1, of their hashes).
 use Rattle.std.specs.Prelude.{◌≡◌, ℕ, ◌+◌, ◌*◌, ◌/◌, ◌^◌, ◌<◌, List, [], length, slice_index_or}
 use Rattle.byte_formats.specs.Types.{Hash, HashFunction}
 use Rattle.tree_core.specs.Path.{part_of}

@@ -1,5 +1,5 @@
--- What an inclusion path evaluates to: the inverse of the standard's PATH (RFC 9162, section
--- 2.1.3.1), from the root down.
+-- What an inclusion path evaluates to (RFC 9162, section 2.1.3.2): the inverse of the standard's
+-- PATH (section 2.1.3.1), from the root down.
 use Rattle.std.specs.Prelude.{ℕ, ◌-◌, ◌%◌, ◌&&◌, ◌==◌, nat_lt, nat_le, not, if◌then◌else◌, List, []}
 use Rattle.std.specs.Prelude.{◌∷◌, reverse, Option, Some, None, option_map, Result, Err, ok_or}
 use Rattle.byte_formats.specs.Types.{Hash, HashFunction}

@@ -1,5 +1,5 @@
--- The tree hash and subtrees in the standard's own words, with powers of two as such and numbers
--- without a bound.
+-- The tree hash (RFC 9162, section 2.1.1) and subtrees (the draft on Merkle Tree Certificates) in
+-- the standards' own words, with powers of two as such and numbers without a bound.
 use Rattle.std.specs.Prelude.{◌≡◌, ℕ, ◌-◌, ◌%◌, ◌<◌, ◌≤◌, ◌↔◌, List, [], ◌∷◌, ◌++◌, length, take}
 use Rattle.std.specs.Prelude.{drop, IsTrue}
 use Rattle.std.specs.Int.{IsPowerOfTwo}

@@ -1,4 +1,5 @@
--- The inclusion path of an entry (RFC 9162, section 2.1.3.1).
+-- The inclusion path of an entry (RFC 9162, section 2.1.3.1), over parts of a list as the standard
+-- writes them (section 2.1.1).
 use Rattle.std.specs.Prelude.{ℕ, zero, suc, ◌-◌, nat_lt, nat_le, if◌then◌else◌, List, [], ◌∷◌, ◌++◌}
 use Rattle.std.specs.Prelude.{length, take, drop, map}
 use Rattle.byte_formats.specs.Types.{Hash, HashFunction, Text}

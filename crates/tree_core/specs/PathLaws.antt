@@ -1,4 +1,5 @@
--- What holds of inclusion paths and their evaluation, for a hash function h.
+-- What holds of inclusion paths (RFC 9162, sections 2.1.3 and 2.1.3.1) and their evaluation, for a
+-- hash function h.
 use Rattle.std.specs.Prelude.{◌≡◌, ◌≢◌, ℕ, ◌-◌, ◌<◌, ◌≤◌, ◌↔◌, List, [], ◌∷◌, ◌++◌, length, take}
 use Rattle.std.specs.Prelude.{drop, slice_index_or, IsSome, Some, Ok, Err}
 use Rattle.byte_formats.specs.Types.{Hash, HashFunction, Text}

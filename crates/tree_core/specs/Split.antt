@@ -1,4 +1,5 @@
--- Where a list of entries is split, and the powers of two around a number.
+-- Where a list of entries is split, and the powers of two around a number (RFC 9162, section 2.1.1;
+-- the draft on Merkle Tree Certificates, where it defines subtrees).
 use Rattle.std.specs.Prelude.{ℕ, zero, suc, ◌*◌, nat_lt, nat_le, if◌then◌else◌}
 
 -- The largest power of two below n, for n above 1 (RFC 9162, section 2.1.1); 1 for 0 and 1.

@@ -1,4 +1,5 @@
--- The whole answer to a consistency proof of a subtree.
+-- The whole answer to a consistency proof of a subtree (the draft on Merkle Tree Certificates,
+-- where it verifies them).
 use Rattle.std.specs.Prelude.{◌≡◌, ℕ, ◌≤◌, true, nat_le, not, if◌then◌else◌, List, Option, Some}
 use Rattle.std.specs.Prelude.{None, Result, Ok, Err, bytes_eq}
 use Rattle.byte_formats.specs.Types.{Hash, HashFunction}

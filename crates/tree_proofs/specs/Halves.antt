@@ -1,4 +1,4 @@
--- The parts of a list.
+-- The parts of a list (RFC 9162, section 2.1.1).
 use Rattle.std.specs.Prelude.{◌≡◌, ◌+◌, ◌<◌, List, length, take, drop}
 use Rattle.tree_core.specs.Split.{split_of}
 

@@ -11,6 +11,7 @@ pub trait AsEntry {
     /// The entry.
     ghost entry: { Self → Text };
 
+    /// The entry.
     fn as_entry(&self) -> &[u8]
         ensures { result.now ≡ entry self.now };
 }

@@ -60,6 +60,7 @@ of_interval a = record { start = a.start; end = a.end; hash = a.hash }
 abbrev pub of_checkpoint : Checkpoint → WantedHash
 of_checkpoint c = record { start = 0; end = c.size; hash = c.root }
 
+-- What is wanted: by a landmark the former, by cosigners the latter, where there is an export.
 abbrev pub wanted_hash : HashFunction → Accepted → Option Export → By → Option WantedHash
 wanted_hash h a kept Landmark = Some (of_interval a)
 wanted_hash h a kept (Cosigners set) =
@@ -69,6 +70,7 @@ wanted_hash h a kept (Cosigners set) =
 abbrev pub hash_there : HashFunction → List Text → WantedHash → Hash
 hash_there h entries w = tree_hash h (part_of entries w.start w.end)
 
+-- The list is too short, or has another hash there.
 abbrev pub is_lacking : HashFunction → List Text → WantedHash → Bool
 is_lacking h entries w =
     nat_lt (length entries) w.end || not (bytes_eq (hash_there h entries w) w.hash)
@@ -95,6 +97,7 @@ abbrev pub some_place : {A : Type 0} → (ℕ → A → Bool) → ℕ → List A
 some_place passes place [] = false
 some_place passes place (x ∷ xs) = passes place x || some_place passes (place + 1) xs
 
+-- A cosigner of the set has the id and the public key of the export.
 abbrev pub is_counted : Store → ℕ → Export → Bool
 is_counted store set e = some_place (is_counted_as set e.cosigner e.public) 0 store.cosigners
 
@@ -110,19 +113,23 @@ is_recorded store a set e =
     bytes_eq e.log store.log
     && (is_counted store set e && is_some (position (is_sign_of a) e.steps))
 
+-- A landmark wants no export; cosigners want one.
 abbrev pub is_recorded_by : Store → Accepted → By → Option Export → Bool
 is_recorded_by store a Landmark kept = true
 is_recorded_by store a (Cosigners set) None = false
 is_recorded_by store a (Cosigners set) (Some e) = is_recorded store a set e
 
+-- So it is of what was accepted.
 abbrev pub is_supported : AuditCase → Bool
 is_supported x = is_recorded_by x.store x.accepted x.accepted.by x.kept
 
 -- ---- the entry
 
+-- The entry of the list at this index; no bytes where there is none.
 abbrev pub listed_entry : ItemLists → ℕ → Text
 listed_entry items index = slice_index_or items.entries index []
 
+-- Its key.
 abbrev pub listed_key : ItemLists → ℕ → Text
 listed_key items index = slice_index_or items.keys index []
 
@@ -139,10 +146,12 @@ pub record HasOwn (h : HashFunction) (x : AuditCase) : Type 0 where
 
 -- ---- two texts
 
+-- The texts that are hashed for fronts of the list; none without an export.
 abbrev pub prefix_inputs_of : HashFunction → List Text → Option Export → List Text
 prefix_inputs_of h entries None = []
 prefix_inputs_of h entries (Some e) = prefix_inputs h entries e.steps
 
+-- Those that are hashed in the proofs of the export; none without one.
 abbrev pub proof_inputs_of : HashFunction → Option Export → List Text
 proof_inputs_of h None = []
 proof_inputs_of h (Some e) = proof_inputs h e.steps

@@ -39,6 +39,7 @@ impl Names {
         self.items
     }
 
+    /// The names, in their order.
     pub fn as_slice(&self) -> &[Bytes]
         ensures value { result.now ≡ self.now }
         ensures hosts { AreHostNames self.now }
@@ -46,6 +47,7 @@ impl Names {
         self.items.as_slice()
     }
 
+    /// Whether there are none.
     pub fn is_empty(&self) -> bool
         ensures value { result ≡ (length self.now == 0) }
         ensures hosts { AreHostNames self.now }
