@@ -1,0 +1,6 @@
+mod Steps
+mod Reading
+mod Opening
+pub mod Coming
+pub mod Facts
+pub mod Forms

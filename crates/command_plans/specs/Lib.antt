@@ -1,0 +1,7 @@
+pub mod Kinds
+pub mod Plans
+pub mod Outcomes
+pub mod Found
+pub mod Comes
+pub mod Names
+pub mod Facts

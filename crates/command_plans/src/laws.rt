@@ -1,0 +1,38 @@
+//! Laws of plans, over any kinds of journals: the clauses are the laws, and the functions do
+//! nothing.
+
+ghost use Rattle.command_plans.specs.Facts.{FoundIsValid, HeardHasPassed, MisreadIsAbout};
+ghost use Rattle.command_plans.specs.Facts.{NoCommandIsBadWords, OutcomesCome, UnopenedIsEarly};
+
+use crate::JournalKinds;
+
+/// Whatever its plan and whatever files there are, what a command has to answer is one of six
+/// outcomes: a file or a journal isn't there; a file is too long; a journal that is to be made is
+/// there; a file isn't in its form; a journal is none of its kind, or the file beside it lacks
+/// something; or all of these tests are passed, and the command does its work.
+pub fn law_outcomes_come<K: JournalKinds>()
+    ensures { OutcomesCome K.kinds }
+{}
+
+/// What a status says of a command. Status 1 is for words that are no command. Status 2 is about a
+/// file that the command reads, a journal that it opens and that is none of its kind, or a file
+/// beside one that lacks something. Where a journal isn't opened the status is one that may come
+/// before.
+pub fn law_statuses_tell<K: JournalKinds>()
+    ensures words { NoCommandIsBadWords K.kinds }
+    ensures misread { MisreadIsAbout K.kinds }
+    ensures early { UnopenedIsEarly K.kinds }
+{}
+
+/// A command opens and makes all of its journals or none. The records that it finds in one are
+/// those that the file represents, and a node of its kind has them; a journal that it makes had no
+/// file.
+pub fn law_found_records_are_valid<K: JournalKinds>()
+    ensures { FoundIsValid K.kinds }
+{}
+
+/// Where something goes to standard output a command has passed all tests: its files were read and
+/// are in their forms, its journals were found, and what it answered and did is the work for these.
+pub fn law_heard_commands_have_passed<K: JournalKinds>()
+    ensures { HeardHasPassed K.kinds }
+{}
