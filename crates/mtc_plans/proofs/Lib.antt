@@ -1,0 +1,7 @@
+mod Texts
+mod Reading
+mod Auditing
+mod Working
+mod Logs
+mod Cosigners
+mod Names

@@ -1,0 +1,55 @@
+-- The texts of the files of a plan, and what is told of them.
+use Rattle.std.proofs.Common.{◌≡◌, inl, inr, ℕ, Bool, true, false, List, [], ◌∷◌, None, refl, ap}
+use Rattle.std.proofs.Common.{if◌then◌else◌}
+use Rattle.mtc_command.specs.Answers.{Reply}
+use Rattle.mtc_command.specs.Made.{reads}
+use Rattle.mtc_command.specs.Steps.{Outcome, answers_on}
+use Rattle.mtc_command.specs.Wanted.{Wanted, exactly}
+use Rattle.command_plans.specs.Outcomes.{opened_did, wanted_of}
+use Rattle.command_plans.specs.Plans.{Input, Judged, Read}
+use Rattle.mtc_plans.specs.Steps.{Told}
+
+-- ---- what is read
+
+abbrev pub first_read : (one : Input) (rest : List Input) → List ℕ → Read (one ∷ rest)
+first_read one rest text = record { file = one; text = text; is_input = inl refl }
+
+abbrev pub second_read : (one two : Input) (rest : List Input) → List ℕ → Read (one ∷ (two ∷ rest))
+second_read one two rest text =
+    record { file = two; text = text; is_input = inr (inl refl) }
+
+abbrev pub third_read : (one two three : Input) (rest : List Input) → List ℕ
+    → Read (one ∷ (two ∷ (three ∷ rest)))
+third_read one two three rest text =
+    record { file = three; text = text; is_input = inr (inr (inl refl)) }
+
+abbrev pub fourth_read : (one two three four : Input) (rest : List Input) → List ℕ
+    → Read (one ∷ (two ∷ (three ∷ (four ∷ rest))))
+fourth_read one two three four rest text =
+    record { file = four; text = text; is_input = inr (inr (inr (inl refl))) }
+
+-- ---- what is told
+
+-- without a journal
+abbrev pub told_alone : Judged → Outcome
+told_alone judged = record { answer = wanted_of judged; journals = [] }
+
+-- over an open journal with these records
+abbrev pub told_on : List (List ℕ) → Told → Outcome
+told_on list told = record {
+  answer = wanted_of told.0;
+  journals = opened_did list told.1 ∷ [];
+}
+
+-- one of two answers
+pub either_same : (test : Bool) (one other : Reply) (first second : Judged)
+    → exactly one ≡ wanted_of first → exactly other ≡ wanted_of second
+    → exactly (if test then one else other) ≡ wanted_of (if test then first else second)
+either_same true one other first second so not = so
+either_same false one other first second so not = not
+
+pub on_list : (list : List (List ℕ)) (reply : Reply) (judged : Judged)
+    → exactly reply ≡ wanted_of judged → answers_on list reply ≡ told_on list (judged, None)
+on_list list reply judged same =
+    let F : Wanted → Outcome = λ wanted. record { answer = wanted; journals = reads list ∷ [] } in
+    ap F same

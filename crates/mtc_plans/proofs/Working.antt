@@ -1,0 +1,121 @@
+-- What a command has to reply over a log that was found is what its plan tells.
+use Rattle.std.proofs.Common.{◌≡◌, ℕ, false, nat_le, nat_lt, not, List, length, Option, None}
+use Rattle.std.proofs.Common.{Some, refl}
+use Rattle.byte_formats.specs.Types.{HashFunction}
+use Rattle.journal_core.specs.Format.{end_behind}
+use Rattle.authority_core.specs.Certificates.{cert_refusal, covering_in, light_refusal}
+use Rattle.authority_core.specs.Issues.{issued_entry}
+use Rattle.authority_core.specs.Requests.{RequestParts}
+use Rattle.authority_core.specs.declared.writing.error.WriteError.{WriteError}
+use Rattle.authority_core.specs.declared.writing.error.WriteError.TheVariants as write_error
+use Rattle.issuance_log.specs.Folds.{LogState, view_in}
+use Rattle.issuance_log.specs.Openings.{FoundLog}
+use Rattle.issuance_log.specs.Refusals.{add_refusal, mark_refusal, tile_refusal}
+use Rattle.issuance_log.specs.declared.error.LogError.{LogError}
+use Rattle.issuance_log.specs.declared.error.LogError.TheVariants as log_error
+use Rattle.tree_core.specs.Subtree.{is_subtree}
+use Rattle.mtc_command.specs.Wanted.{exactly}
+use Rattle.mtc_authority.specs.CertOutcome.{cert_refused, cert_replies, certificate_in}
+use Rattle.mtc_authority.specs.CertOutcome.{light_text}
+use Rattle.mtc_authority.specs.IssueOutcome.{issued}
+use Rattle.mtc_authority.specs.LandmarkOutcomes.{mark_refused, marked}
+use Rattle.mtc_authority.specs.LogOutcomes.{entries_reply}
+use Rattle.mtc_authority.specs.RequestOutcomes.{consist_reply, subtree_reply}
+use Rattle.mtc_authority.specs.TileOutcome.{tiled_by, tiles_refused}
+use Rattle.mtc_authority.specs.Works.{log_says}
+use Rattle.mtc_authority.specs.declared.work.Work.{Work}
+use Rattle.mtc_authority.specs.declared.work.Work.TheVariants.{Cert, Checkpoint, Consist, Entries}
+use Rattle.mtc_authority.specs.declared.work.Work.TheVariants.{Issue, Landmark, Landmarks}
+use Rattle.mtc_authority.specs.declared.work.Work.TheVariants.{LightCert, Subtree, Tile}
+use Rattle.command_plans.specs.Outcomes.{wanted_of}
+use Rattle.mtc_plans.specs.LogWork.{cert_judged, consist_judged, entries_judged}
+use Rattle.mtc_plans.specs.LogWork.{issue_told, log_judged, mark_told, subtree_judged, tile_told}
+use Rattle.mtc_plans.specs.LogWork.{work_told, write_judged}
+use Rattle.mtc_plans.proofs.Texts.{either_same, on_list, told_on}
+
+write_same : (why : WriteError) → exactly (cert_refused why) ≡ wanted_of (write_judged why)
+write_same write_error.NoSuchEntry = refl
+write_same write_error.NullEntry = refl
+write_same write_error.BadSubtree = refl
+write_same write_error.Outside = refl
+write_same (write_error.Beyond size) = refl
+write_same write_error.NotCovered = refl
+write_same write_error.TooManySignatures = refl
+write_same write_error.JournalFailed = refl
+write_same write_error.TilesFailed = refl
+write_same write_error.Memory = refl
+
+cert_same : (why : Option WriteError) (text : List ℕ)
+    → exactly (cert_replies why text) ≡ wanted_of (cert_judged why text)
+cert_same None text = refl
+cert_same (Some why) text = write_same why
+
+mark_same : (why : LogError) → exactly (mark_refused why) ≡ wanted_of (log_judged why)
+mark_same log_error.NothingNew = refl
+mark_same why = refl
+
+tiles_same : (why : LogError) → exactly (tiles_refused why) ≡ wanted_of (log_judged why)
+tiles_same log_error.NothingNew = refl
+tiles_same why = refl
+
+module _ (h : HashFunction) where
+  entries_same : (size : ℕ) (s : LogState)
+      → exactly (entries_reply size s) ≡ wanted_of (entries_judged size s)
+  entries_same size s = either_same (nat_lt (length s.entries) size) _ _ _ _ refl refl
+
+  consist_same : (old new : ℕ) (s : LogState)
+      → exactly (consist_reply h old new s) ≡ wanted_of (consist_judged h old new s)
+  consist_same old new s = either_same (nat_le new old) _ _ _ _ refl
+      (either_same (nat_lt (length s.entries) new) _ _ _ _ refl refl)
+
+  subtree_same : (start end size : ℕ) (s : LogState)
+      → exactly (subtree_reply h start end size s) ≡ wanted_of (subtree_judged h start end size s)
+  subtree_same start end size s = either_same (not (is_subtree start end)) _ _ _ _ refl
+      (either_same (nat_lt (length s.entries) size) _ _ _ _ refl
+      (either_same (nat_lt size end) _ _ _ _ refl refl))
+
+  issued_same : (r : RequestParts) (found : FoundLog) (why : Option LogError)
+      → issued h r found why ≡ told_on found.records (issue_told h r (view_in found.state) why)
+  issued_same r found None = refl
+  issued_same r found (Some why) = refl
+
+  marked_same : (found : FoundLog) (why : Option LogError)
+      → marked found why ≡ told_on found.records (mark_told (view_in found.state) why)
+  marked_same found None = refl
+  marked_same found (Some why) = on_list found.records (mark_refused why) (log_judged why)
+      (mark_same why)
+
+  tiled_same : (found : FoundLog) (why : Option LogError)
+      → tiled_by (view_in found.state) found.records why
+      ≡ told_on found.records (tile_told (view_in found.state) why)
+  tiled_same found None = refl
+  tiled_same found (Some why) = on_list found.records (tiles_refused why) (log_judged why)
+      (tiles_same why)
+
+  pub work_same : (work : Work) (found : FoundLog)
+      → log_says h work found ≡ told_on found.records (work_told h work found)
+  unfolding log_says
+  work_same Checkpoint found = refl
+  work_same (Entries size) found = on_list found.records (entries_reply size found.state)
+      (entries_judged size found.state) (entries_same size found.state)
+  work_same (Issue request) found = issued_same request found
+      (add_refusal (view_in found.state) false (end_behind found.records)
+      (issued_entry h found.state.settings request) request.key)
+  work_same (Consist old new) found = on_list found.records (consist_reply h old new found.state)
+      (consist_judged h old new found.state) (consist_same old new found.state)
+  work_same (Subtree start end size) found =
+      on_list found.records (subtree_reply h start end size found.state)
+      (subtree_judged h start end size found.state) (subtree_same start end size found.state)
+  work_same Landmark found =
+      marked_same found (mark_refusal (view_in found.state) false (end_behind found.records))
+  work_same Landmarks found = refl
+  work_same (LightCert index) found =
+      let why = light_refusal (view_in found.state) index in
+      let text = light_text h index found.state (covering_in (view_in found.state) index) in
+      on_list found.records (cert_replies why text) (cert_judged why text) (cert_same why text)
+  work_same (Cert index start end signatures) found =
+      let why = cert_refusal (view_in found.state) index start end signatures in
+      let text = certificate_in h index start end signatures found.state in
+      on_list found.records (cert_replies why text) (cert_judged why text) (cert_same why text)
+  work_same Tile found =
+      tiled_same found (tile_refusal (view_in found.state) false (end_behind found.records))

@@ -1,0 +1,61 @@
+-- The plan of `audit CERT STORE NOW ENTRIES EXPORT`.
+use Rattle.std.specs.Prelude.{ℕ, pos, Bool, true, false, List, [], ◌∷◌, Option, None, Some}
+use Rattle.std.specs.Prelude.{Result, Ok, Err}
+use Rattle.byte_formats.specs.Types.{Hash, HashFunction, Text}
+use Rattle.cosigner_core.specs.ExportReading.{export_in}
+use Rattle.cosigner_core.specs.declared.lists.Export.{Export}
+use Rattle.entry_list.specs.Items.{ItemLists}
+use Rattle.entry_list.specs.Reading.{items_in}
+use Rattle.policy_core.specs.Files.{store_of}
+use Rattle.policy_core.specs.declared.refusal.Refusal.{Refusal}
+use Rattle.policy_core.specs.declared.store.Store.{Store}
+use Rattle.world_core.specs.Audit.{AuditCase, firsts_of, foreign_of, has_own, is_supported}
+use Rattle.world_core.specs.Audit.{seconds_of}
+use Rattle.mtc_command.specs.declared.answer.Said.TheVariants.{Against, Collided, Done}
+use Rattle.mtc_monitor.specs.AuditOutcome.{AcceptedParts, accepted_in, case_of, collision_text}
+use Rattle.mtc_monitor.specs.AuditOutcome.{foreign_text, stands_text, unrecorded_text}
+use Rattle.mtc_monitor.specs.Reasons.{export_fault_text, items_fault_text}
+use Rattle.mtc_reads.specs.Reasons.{store_fault_text}
+use Rattle.command_plans.specs.Kinds.{Kinds}
+use Rattle.command_plans.specs.Plans.{Input, Judged, Plan, Read, Step, in_form, only_tells}
+use Rattle.command_plans.specs.Plans.{tells, tells_pair}
+use Rattle.mtc_plans.specs.ReadPlans.{verdict_step}
+use Rattle.mtc_plans.specs.Steps.{large_file, small_file}
+
+-- The hash that is wanted of the list and the one that it has, where they aren't the same; or else
+-- that no export supports the acceptance; or that the entry and the key stand at the index; or any
+-- two different strings with one hash, the first from the list, the second from the certificate or
+-- the cosigner.
+abbrev pub audit_judged_by : HashFunction → AuditCase → Option (Hash × Hash) → Bool → Bool → Judged
+audit_judged_by h x (Some hashes) supported own = tells Against (foreign_text hashes)
+audit_judged_by h x None false own = tells Against unrecorded_text
+audit_judged_by h x None true true = tells Done (stands_text x.accepted.index)
+audit_judged_by h x None true false =
+    tells_pair Collided h collision_text (firsts_of h x) (seconds_of h x)
+
+abbrev pub audit_judged : HashFunction → AuditCase → Judged
+audit_judged h x =
+    audit_judged_by h x (foreign_of h x) (is_supported x) (has_own h x.items x.accepted x.cert)
+
+-- A refused certificate is answered as by `verify`.
+abbrev pub audited_step : {k : Kinds} {inputs : List Input} → HashFunction → Read inputs → Store
+    → ItemLists → Option Export → Result AcceptedParts Refusal → Step {k = k} inputs []
+audited_step h cert store items kept (Ok j) =
+    only_tells (audit_judged h (case_of store items kept j))
+audited_step h cert store items kept (Err why) = verdict_step cert (Err why)
+
+-- The store, the entries and the export are read, and then the certificate is judged.
+abbrev pub audit_step : {k : Kinds} {inputs : List Input} → HashFunction → ℕ → Read inputs
+    → Read inputs → Read inputs → Read inputs → Step {k = k} inputs []
+audit_step h moment cert store entries export =
+    in_form store store_fault_text (store_of store.text) (λ s.
+    in_form entries items_fault_text (items_in h entries.text) (λ items.
+    in_form export export_fault_text (export_in h export.text) (λ kept.
+    audited_step h cert s items kept (accepted_in h cert.text s (pos moment)))))
+
+abbrev pub audit_plan : {k : Kinds} → HashFunction → Text → Text → ℕ → Text → Text → Plan k
+audit_plan h cert store moment entries export = record {
+  inputs = small_file cert ∷ (small_file store ∷ (large_file entries ∷ (large_file export ∷ [])));
+  journals = [];
+  steps = λ (c, (s, (e, (x, none)))). audit_step h moment c s e x;
+}

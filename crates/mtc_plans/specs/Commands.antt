@@ -1,0 +1,44 @@
+-- The plan of each command.
+use Rattle.byte_formats.specs.Types.{HashFunction}
+use Rattle.mtc_words.specs.Commands.{CommandValue, member, show, verify, init_log, issue}
+use Rattle.mtc_words.specs.Commands.{checkpoint, entries, consist, subtree, keygen}
+use Rattle.mtc_words.specs.Commands.{init_cosigner, advance, cosign, export, landmark, landmarks}
+use Rattle.mtc_words.specs.Commands.{light_cert, trust_landmarks, cert, audit, drill, tile}
+use Rattle.mtc_authority.specs.declared.work.Work.TheVariants.{Checkpoint, Consist, Entries}
+use Rattle.mtc_authority.specs.declared.work.Work.TheVariants.{Landmark, Landmarks, LightCert}
+use Rattle.mtc_authority.specs.declared.work.Work.TheVariants.{Subtree, Tile}
+use Rattle.command_plans.specs.Plans.{Plan, changes, only_reads}
+use Rattle.mtc_plans.specs.AuditPlans.{audit_plan}
+use Rattle.mtc_plans.specs.CosignerPlans.{advance_plan, cosign_plan, export_plan}
+use Rattle.mtc_plans.specs.CosignerPlans.{init_cosigner_plan}
+use Rattle.mtc_plans.specs.LogPlans.{cert_plan, init_log_plan, issue_plan, work_plan}
+use Rattle.mtc_plans.specs.NodeKinds.{node_kinds}
+use Rattle.mtc_plans.specs.ReadPlans.{drill_plan, keygen_plan, member_plan, show_plan}
+use Rattle.mtc_plans.specs.ReadPlans.{trust_plan, verify_plan}
+
+abbrev pub plan_of : (h : HashFunction) → CommandValue → Plan (node_kinds h)
+plan_of h (member file) = member_plan h file
+plan_of h (show file) = show_plan file
+plan_of h (verify certificate store moment) = verify_plan h certificate store moment
+plan_of h (init_log journal id active limit) = init_log_plan h journal id active limit
+plan_of h (issue journal request) = issue_plan h journal request
+plan_of h (checkpoint journal) = work_plan h only_reads journal Checkpoint
+plan_of h (entries journal size) = work_plan h only_reads journal (Entries size)
+plan_of h (consist journal old new) = work_plan h only_reads journal (Consist old new)
+plan_of h (subtree journal start end size) =
+    work_plan h only_reads journal (Subtree start end size)
+plan_of h (keygen height width file) = keygen_plan height width file
+plan_of h (init_cosigner journal id log height width file) =
+    init_cosigner_plan h journal id log height width file
+plan_of h (advance journal request) = advance_plan h journal request
+plan_of h (cosign journal request) = cosign_plan h journal request
+plan_of h (export journal) = export_plan h journal
+plan_of h (landmark journal) = work_plan h only_reads journal Landmark
+plan_of h (landmarks journal) = work_plan h only_reads journal Landmarks
+plan_of h (light_cert journal index) = work_plan h only_reads journal (LightCert index)
+plan_of h (trust_landmarks list active items) = trust_plan h list active items
+plan_of h (cert journal index start end file) = cert_plan h journal index start end file
+plan_of h (audit certificate store moment items kept) =
+    audit_plan h certificate store moment items kept
+plan_of h (drill number) = drill_plan number
+plan_of h (tile journal) = work_plan h changes journal Tile

@@ -1,0 +1,128 @@
+-- What a command tells over a log that was found, and which record it adds.
+use Rattle.std.specs.Prelude.{ℕ, false, nat_le, nat_lt, not, List, length, codes, Option}
+use Rattle.std.specs.Prelude.{None, Some, if◌then◌else◌}
+use Rattle.byte_formats.specs.Types.{HashFunction, Text}
+use Rattle.journal_core.specs.Format.{end_behind}
+use Rattle.authority_core.specs.Certificates.{cert_refusal, covering_in, light_refusal}
+use Rattle.authority_core.specs.Issues.{issued_entry, issued_record}
+use Rattle.authority_core.specs.Requests.{RequestParts}
+use Rattle.authority_core.specs.declared.writing.error.WriteError.{WriteError}
+use Rattle.authority_core.specs.declared.writing.error.WriteError.TheVariants as write_error
+use Rattle.cosigner_core.specs.Requests.{advance_text, subtree_text}
+use Rattle.entry_list.specs.Items.{file_text}
+use Rattle.issuance_log.specs.Folds.{LogState, LogView, view_in}
+use Rattle.issuance_log.specs.Openings.{FoundLog}
+use Rattle.issuance_log.specs.Records.{landmark_record, tiles_record}
+use Rattle.issuance_log.specs.Refusals.{add_refusal, full_size, mark_refusal, tile_refusal}
+use Rattle.issuance_log.specs.declared.error.LogError.{LogError}
+use Rattle.issuance_log.specs.declared.error.LogError.TheVariants as log_error
+use Rattle.landmarks.specs.Texts.{list_text}
+use Rattle.tree_core.specs.Subtree.{is_subtree}
+use Rattle.tree_core.specs.Tree.{tree_hash}
+use Rattle.mtc_command.specs.declared.answer.Said.TheVariants.{Done}
+use Rattle.mtc_authority.specs.CertOutcome.{certificate_in, light_text}
+use Rattle.mtc_authority.specs.IssueOutcome.{issued_text, log_fault_text}
+use Rattle.mtc_authority.specs.LandmarkOutcomes.{log_landmarks, next_line}
+use Rattle.mtc_authority.specs.LogOutcomes.{checkpoint_lines, items_of}
+use Rattle.mtc_authority.specs.RequestOutcomes.{advance_by_log, subtree_of}
+use Rattle.mtc_authority.specs.TileOutcome.{tiled_line}
+use Rattle.mtc_authority.specs.declared.work.Work.{Work}
+use Rattle.mtc_authority.specs.declared.work.Work.TheVariants.{Cert, Checkpoint, Consist, Entries}
+use Rattle.mtc_authority.specs.declared.work.Work.TheVariants.{Issue, Landmark, Landmarks}
+use Rattle.mtc_authority.specs.declared.work.Work.TheVariants.{LightCert, Subtree, Tile}
+use Rattle.command_plans.specs.Plans.{Judged, exceeds, forbids, tells}
+use Rattle.mtc_plans.specs.Steps.{Told, beyond_size}
+
+-- ---- what only reads the log
+
+abbrev pub checkpoint_judged : HashFunction → List Text → Judged
+checkpoint_judged h entries =
+    tells Done (checkpoint_lines (length entries) (tree_hash h entries))
+
+-- So many of the first items, where the log has them.
+abbrev pub entries_judged : ℕ → LogState → Judged
+entries_judged size s =
+    if nat_lt (length s.entries) size then beyond_size (length s.entries)
+    else tells Done (file_text (items_of s) size)
+
+-- The log must have more entries than the old ones, and as many as the new ones.
+abbrev pub consist_judged : HashFunction → ℕ → ℕ → LogState → Judged
+consist_judged h old new s =
+    if nat_le new old then forbids (codes "NothingNew")
+    else (if nat_lt (length s.entries) new then beyond_size (length s.entries)
+    else tells Done (advance_text (advance_by_log h s old new)))
+
+-- The interval must be a subtree, the log must have so many entries, and the subtree must lie among
+-- them.
+abbrev pub subtree_judged : HashFunction → ℕ → ℕ → ℕ → LogState → Judged
+subtree_judged h start end size s =
+    if not (is_subtree start end) then forbids (codes "BadSubtree")
+    else (if nat_lt (length s.entries) size then beyond_size (length s.entries)
+    else (if nat_lt size end then beyond_size size
+    else tells Done (subtree_text (subtree_of h s start end size))))
+
+-- Why no certificate is written.
+abbrev pub write_judged : WriteError → Judged
+write_judged write_error.NoSuchEntry = forbids (codes "NoSuchEntry")
+write_judged write_error.NullEntry = forbids (codes "NullEntry")
+write_judged write_error.BadSubtree = forbids (codes "BadSubtree")
+write_judged write_error.Outside = forbids (codes "Outside")
+write_judged (write_error.Beyond size) = beyond_size size
+write_judged write_error.NotCovered = forbids (codes "NotCovered")
+write_judged write_error.TooManySignatures = exceeds (codes "TooManySignatures")
+write_judged write_error.JournalFailed = exceeds (codes "Failed")
+write_judged write_error.TilesFailed = exceeds (codes "Failed")
+write_judged write_error.Memory = exceeds (codes "Memory")
+
+abbrev pub cert_judged : Option WriteError → Text → Judged
+cert_judged None text = tells Done text
+cert_judged (Some why) text = write_judged why
+
+-- ---- what adds a record
+
+-- The entry of a request is added with its key, unless the log refuses it.
+abbrev pub issue_told : HashFunction → RequestParts → LogView → Option LogError → Told
+issue_told h r v None = (tells Done (issued_text v.size), Some (issued_record h v.settings r))
+issue_told h r v (Some why) = (exceeds (log_fault_text why), None)
+
+-- Why a log takes no landmark, and stores no tiles.
+abbrev pub log_judged : LogError → Judged
+log_judged log_error.NothingNew = forbids (codes "NothingNew")
+log_judged why = exceeds (log_fault_text why)
+
+-- A landmark at the size of the log is set.
+abbrev pub mark_told : LogView → Option LogError → Told
+mark_told v None = (tells Done (next_line v), Some (landmark_record v.size))
+mark_told v (Some why) = (log_judged why, None)
+
+-- The tiles that the entries fill are stored.
+abbrev pub tile_told : LogView → Option LogError → Told
+tile_told v None = (tells Done (tiled_line (full_size v)), Some (tiles_record (full_size v)))
+tile_told v (Some why) = (log_judged why, None)
+
+-- ---- each work
+
+abbrev pub work_told : HashFunction → Work → FoundLog → Told
+work_told h Checkpoint found = (checkpoint_judged h found.state.entries, None)
+work_told h (Entries size) found = (entries_judged size found.state, None)
+work_told h (Issue request) found = issue_told h request (view_in found.state)
+    (add_refusal (view_in found.state) false (end_behind found.records)
+    (issued_entry h found.state.settings request) request.key)
+work_told h (Consist old new) found = (consist_judged h old new found.state, None)
+work_told h (Subtree start end size) found = (subtree_judged h start end size found.state, None)
+work_told h Landmark found = mark_told (view_in found.state)
+    (mark_refusal (view_in found.state) false (end_behind found.records))
+work_told h Landmarks found =
+    (tells Done (list_text (log_landmarks (view_in found.state))), None)
+work_told h (LightCert index) found = (
+  cert_judged (light_refusal (view_in found.state) index)
+      (light_text h index found.state (covering_in (view_in found.state) index)),
+  None,
+)
+work_told h (Cert index start end signatures) found = (
+  cert_judged (cert_refusal (view_in found.state) index start end signatures)
+      (certificate_in h index start end signatures found.state),
+  None,
+)
+work_told h Tile found = tile_told (view_in found.state)
+    (tile_refusal (view_in found.state) false (end_behind found.records))

@@ -1,0 +1,59 @@
+-- The kinds of journals that the program's commands work on: those of logs, each with the file of
+-- its tiles, and those of cosigners.
+use Rattle.std.specs.Prelude.{ℕ, Option, None, Some}
+use Rattle.byte_formats.specs.Types.{HashFunction, Text}
+use Rattle.journal_core.specs.Folds.{Fold}
+use Rattle.cosigner_core.specs.Folds.{CosignerState, cosigner_fold}
+use Rattle.cosigner_core.specs.declared.error.CosignerOpenError.{CosignerOpenError}
+use Rattle.issuance_log.specs.Folds.{LogState, log_fold}
+use Rattle.issuance_log.specs.declared.error.LogOpenError.{LogOpenError}
+use Rattle.mtc_command.specs.Answers.{bad_tile_text, tiles_name}
+use Rattle.mtc_authority.specs.BadTiles.{first_bad}
+use Rattle.mtc_authority.specs.Works.{log_open_text}
+use Rattle.mtc_cosigner.specs.Works.{cosigner_open_text}
+use Rattle.command_plans.specs.Kinds.{Kinds}
+
+pub data NodeKind : Type 0 where
+  log : NodeKind
+  cosigner : NodeKind
+
+abbrev pub NodeState : NodeKind → Type 0
+NodeState log = LogState
+NodeState cosigner = CosignerState
+
+abbrev pub NodeFault : NodeKind → Type 0
+NodeFault log = LogOpenError
+NodeFault cosigner = CosignerOpenError
+
+abbrev pub node_fold : HashFunction → (kind : NodeKind) → Fold (NodeState kind) (NodeFault kind)
+node_fold h log = log_fold h
+node_fold h cosigner = cosigner_fold h
+
+abbrev pub node_fault_text : (kind : NodeKind) → NodeFault kind → Text
+node_fault_text log = log_open_text
+node_fault_text cosigner = cosigner_open_text
+
+-- A log has a file of tiles.
+abbrev pub beside_node : NodeKind → Text → Option Text
+beside_node log journal = Some (tiles_name journal)
+beside_node cosigner journal = None
+
+-- The reason of the first tile that it has not.
+abbrev pub missing_text : Option (ℕ × ℕ) → Option Text
+missing_text None = None
+missing_text (Some tile) = Some (bad_tile_text tile.0 tile.1)
+
+abbrev pub node_lacks : HashFunction → (kind : NodeKind) → NodeState kind → Text → Option Text
+node_lacks h log state tiles = missing_text (first_bad h state tiles)
+node_lacks h cosigner state held = None
+
+abbrev pub node_kinds : HashFunction → Kinds
+node_kinds h = record {
+  Kind = NodeKind;
+  State = NodeState;
+  Fault = NodeFault;
+  fold = node_fold h;
+  fault_text = node_fault_text;
+  beside = beside_node;
+  lacks = node_lacks h;
+}

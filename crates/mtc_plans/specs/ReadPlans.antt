@@ -1,0 +1,125 @@
+-- The plans of `member`, `show`, `verify`, `trust-landmarks`, `keygen` and `drill`, which open no
+-- journal.
+use Rattle.std.specs.Prelude.{ℕ, pos, Bool, true, false, List, [], ◌∷◌, ◌++◌, length, codes}
+use Rattle.std.specs.Prelude.{Result, Ok, Err}
+use Rattle.std.specs.Fmt.{decimal}
+use Rattle.byte_formats.specs.Types.{HashFunction, Text}
+use Rattle.cert_fields.specs.Certificate.{parts_of}
+use Rattle.entry_list.specs.Reading.{items_in}
+use Rattle.landmarks.specs.Texts.{list_of}
+use Rattle.policy_core.specs.Files.{store_of}
+use Rattle.policy_core.specs.Judgement.{judgement}
+use Rattle.policy_core.specs.declared.answer.Accepted.{Accepted}
+use Rattle.policy_core.specs.declared.refusal.Refusal.{Refusal}
+use Rattle.policy_core.specs.declared.refusal.Refusal.TheVariants.{Grammar, ProofGrammar}
+use Rattle.tree_core.specs.declared.error.EvalError.{EvalError}
+use Rattle.mtc_command.specs.declared.answer.Said.TheVariants.{Done}
+use Rattle.mtc_cosigner.specs.KeygenOutcome.{lms_type, ots_type, public_line}
+use Rattle.mtc_drill.specs.Summary.{is_summary}
+use Rattle.mtc_monitor.specs.Reasons.{items_fault_text, list_fault_text}
+use Rattle.mtc_monitor.specs.TrustOutcome.{trust_text}
+use Rattle.mtc_reads.specs.Member.{member_file, member_judgement}
+use Rattle.mtc_reads.specs.Reasons.{cert_fault_text, hashes_fault_text, proof_fault_text}
+use Rattle.mtc_reads.specs.Reasons.{refusal_text, shape_text, store_fault_text}
+use Rattle.mtc_reads.specs.ShowOutcome.{show_text}
+use Rattle.command_plans.specs.Kinds.{Kinds}
+use Rattle.command_plans.specs.Plans.{Input, Judged, Plan, Read, Step, in_form, misreads}
+use Rattle.command_plans.specs.Plans.{only_tells, tells, tells_formed}
+use Rattle.mtc_plans.specs.Steps.{in_secret, tells_against, large_file, small_file}
+
+-- ---- member FILE
+
+-- What is answered to a judgement on the entry of this index.
+abbrev pub member_judged : ℕ → Result Bool EvalError → Judged
+member_judged index (Ok true) = tells Done (codes "member " ++ (decimal index ++ codes "\n"))
+member_judged index (Ok false) = tells_against (codes "HashDiffers")
+member_judged index (Err why) = tells_against (shape_text why)
+
+-- The file is cut into its parts and judged.
+abbrev pub member_step : {k : Kinds} {inputs : List Input} → HashFunction → Read inputs
+    → Step {k = k} inputs []
+member_step h file = in_form file hashes_fault_text (member_file file.text)
+    (λ m. only_tells (member_judged m.index (member_judgement h m)))
+
+abbrev pub member_plan : {k : Kinds} → HashFunction → Text → Plan k
+member_plan h file = record {
+  inputs = small_file file ∷ [];
+  journals = [];
+  steps = λ (m, none). member_step h m;
+}
+
+-- ---- show CERT
+
+abbrev pub show_step : {k : Kinds} {inputs : List Input} → Read inputs → Step {k = k} inputs []
+show_step cert = in_form cert cert_fault_text (parts_of cert.text)
+    (λ p. only_tells (tells Done (show_text p)))
+
+abbrev pub show_plan : {k : Kinds} → Text → Plan k
+show_plan cert = record {
+  inputs = small_file cert ∷ [];
+  journals = [];
+  steps = λ (c, none). show_step c;
+}
+
+-- ---- verify CERT STORE NOW
+
+-- What comes of a judgement. Bytes that are no certificate or no proof are faults of the file.
+abbrev pub verdict_step : {k : Kinds} {inputs : List Input} → Read inputs
+    → Result Accepted Refusal → Step {k = k} inputs []
+verdict_step cert (Ok accepted) =
+    only_tells (tells Done (codes "accepted " ++ (decimal accepted.index ++ codes "\n")))
+verdict_step cert (Err (Grammar why)) = misreads cert (cert_fault_text why)
+verdict_step cert (Err (ProofGrammar why)) = misreads cert (proof_fault_text why)
+verdict_step cert (Err why) = only_tells (tells_against (refusal_text why))
+
+-- The store is read, and the certificate is judged by it.
+abbrev pub verify_step : {k : Kinds} {inputs : List Input} → HashFunction → ℕ → Read inputs
+    → Read inputs → Step {k = k} inputs []
+verify_step h moment cert store = in_form store store_fault_text (store_of store.text)
+    (λ s. verdict_step cert (judgement h cert.text s (pos moment)))
+
+abbrev pub verify_plan : {k : Kinds} → HashFunction → Text → Text → ℕ → Plan k
+verify_plan h cert store moment = record {
+  inputs = small_file cert ∷ (small_file store ∷ []);
+  journals = [];
+  steps = λ (c, (s, none)). verify_step h moment c s;
+}
+
+-- ---- trust-landmarks LIST MAXACTIVE ENTRIES
+
+-- The entries are read, and then the list, of landmarks at no larger size than their number.
+abbrev pub trust_step : {k : Kinds} {inputs : List Input} → HashFunction → ℕ → Read inputs
+    → Read inputs → Step {k = k} inputs []
+trust_step h most list entries = in_form entries items_fault_text (items_in h entries.text)
+    (λ items. in_form list list_fault_text (list_of list.text most (length items.entries))
+    (λ l. only_tells (tells Done (trust_text h items.entries l))))
+
+abbrev pub trust_plan : {k : Kinds} → HashFunction → Text → ℕ → Text → Plan k
+trust_plan h list most entries = record {
+  inputs = small_file list ∷ (large_file entries ∷ []);
+  journals = [];
+  steps = λ (l, (e, none)). trust_step h most l e;
+}
+
+-- ---- keygen HEIGHT WIDTH SECRET
+
+abbrev pub keygen_step : {k : Kinds} {inputs : List Input} → ℕ → ℕ → Read inputs
+    → Step {k = k} inputs []
+keygen_step height width secret = in_secret secret
+    (only_tells (tells Done (public_line (lms_type height) (ots_type width) secret.text)))
+
+abbrev pub keygen_plan : {k : Kinds} → ℕ → ℕ → Text → Plan k
+keygen_plan height width file = record {
+  inputs = small_file file ∷ [];
+  journals = [];
+  steps = λ (s, none). keygen_step height width s;
+}
+
+-- ---- drill NUMBER
+
+abbrev pub drill_plan : {k : Kinds} → ℕ → Plan k
+drill_plan number = record {
+  inputs = [];
+  journals = [];
+  steps = λ none. only_tells (tells_formed Done (is_summary number));
+}
