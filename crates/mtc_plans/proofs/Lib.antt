@@ -5,3 +5,4 @@ mod Working
 mod Logs
 mod Cosigners
 mod Names
+mod Heard

@@ -6,3 +6,4 @@ pub mod LogWork
 pub mod LogPlans
 pub mod CosignerPlans
 pub mod Commands
+pub mod Heard

@@ -31,6 +31,7 @@ ghost use Rattle.command_plans.specs.Outcomes.{outcome_of};
 ghost use Rattle.command_plans.specs.Names.{beside_names, journal_names};
 ghost use Rattle.command_plans.specs.Plans.{Beside, Journal};
 ghost use Rattle.mtc_plans.specs.Commands.{plan_of};
+ghost use Rattle.mtc_plans.specs.Heard.{CosignedTextsAreOfRecords, IssuedTextsAreOfRecords};
 ghost use Rattle.mtc_plans.specs.LogPlans.{work_plan};
 ghost use Rattle.mtc_plans.specs.NodeKinds.{node_kinds};
 
@@ -107,4 +108,12 @@ pub fn law_commands_come()
     ensures early { (h : HashFunction) → UnopenedIsEarly (node_kinds h) }
     ensures valid { (h : HashFunction) → FoundIsValid (node_kinds h) }
     ensures passed { (h : HashFunction) → HeardHasPassed (node_kinds h) }
+{}
+
+/// Where `issue` answers with a text, its request was read, its log was found, and the entry of the
+/// request is added, of which the text is the index. Where `cosign` does, a Sign record is added
+/// with the next one-time key, of which the text is the signature.
+pub fn law_texts_are_of_their_records()
+    ensures issue { IssuedTextsAreOfRecords }
+    ensures cosign { CosignedTextsAreOfRecords }
 {}
