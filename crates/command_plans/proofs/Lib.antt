@@ -4,3 +4,4 @@ mod Opening
 pub mod Coming
 pub mod Facts
 pub mod Forms
+pub mod Devices

@@ -5,3 +5,4 @@ pub mod Found
 pub mod Comes
 pub mod Names
 pub mod Facts
+pub mod Devices

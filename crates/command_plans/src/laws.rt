@@ -1,10 +1,12 @@
-//! Laws of plans, over any kinds of journals: the clauses are the laws, and the functions do
-//! nothing.
+//! Laws of plans, over any kinds of journals, and of the work on devices: the clauses are the laws,
+//! and the functions do nothing.
 
+ghost use Rattle.command_plans.specs.Devices.{DevicesServe};
 ghost use Rattle.command_plans.specs.Facts.{FoundIsValid, HeardHasPassed, MisreadIsAbout};
 ghost use Rattle.command_plans.specs.Facts.{NoCommandIsBadWords, OutcomesCome, UnopenedIsEarly};
 
 use crate::JournalKinds;
+use mtc_room::Room;
 
 /// Whatever its plan and whatever files there are, what a command has to answer is one of six
 /// outcomes: a file or a journal isn't there; a file is too long; a journal that is to be made is
@@ -35,4 +37,12 @@ pub fn law_found_records_are_valid<K: JournalKinds>()
 /// are in their forms, its journals were found, and what it answered and did is the work for these.
 pub fn law_heard_commands_have_passed<K: JournalKinds>()
     ensures { HeardHasPassed K.kinds }
+{}
+
+/// A command opens the devices of any number of journals, each of which is there, and of other
+/// files, which are made empty where they aren't there. It closes them in the opposite order. Where
+/// its work on them gives the outcome of the files that they read as, whatever these are, it has
+/// done what the outcome of the room's files wants.
+pub fn law_work_on_devices_serves<R: Room>()
+    ensures { DevicesServe R.Room R.Dsk.Disk }
 {}
