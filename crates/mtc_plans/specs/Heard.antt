@@ -41,8 +41,8 @@ pub record IssuesSo (h : HashFunction) (files : Files) (journal file text : Text
       ≡ appended found.records (issued_record h (view_in found.state).settings request) ∷ []
   pub text_is : text ≡ issued_text (view_in found.state).size
 
--- A request was read, a cosigner was found, and a Sign record is added. The text is the signature by
--- the next one-time key.
+-- A request was read, a cosigner was found, and a Sign record is added. The text is the signature
+-- by the next one-time key.
 pub record CosignsSo (h : HashFunction) (files : Files) (journal file text : Text) : Type 0 where
   pub bytes : Text
   pub has_bytes : HoldsSmall files file bytes
