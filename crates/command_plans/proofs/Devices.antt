@@ -69,7 +69,7 @@ rose_on before count more rose later = elim rose [
   | inr last ↦ inr (omega (arith, last, later))
 ]
 
-there_not : (file : Option (List ℕ)) → IsSome file → file ≡ None → ⊥
+pub there_not : (file : Option (List ℕ)) → IsSome file → file ≡ None → ⊥
 there_not file there none = let wrong = subst IsSome none there in cc
 
 held_as : (file now contents : Option (List ℕ)) → OpensBytes now contents
@@ -82,7 +82,7 @@ held_as (Some bytes) now contents opens kept made = opens.same ∙ kept refl
 
 module _ {R S D : Type 0} (rooms : Rooms R S D) (g : Ghosts D) where
   -- a file of another name
-  through : (devices : List (Device D)) (old new : R) → OpensEach rooms g devices old new
+  pub through : (devices : List (Device D)) (old new : R) → OpensEach rooms g devices old new
       → (name : List ℕ) → EachDevice (λ device. name ≢ device.name) devices
       → Stays (rooms.file old) (rooms.file new) (rooms.device old) (rooms.device new) name
   through [] old new closes name differ = closes.others name tt
@@ -95,20 +95,20 @@ module _ {R S D : Type 0} (rooms : Rooms R S D) (g : Ghosts D) where
         disk = last.disk ∙ inner.disk ∙ first.disk;
       }
 
-  modelled : (devices : List (Device D)) (old new : R) → OpensEach rooms g devices old new
+  pub modelled : (devices : List (Device D)) (old new : R) → OpensEach rooms g devices old new
       → rooms.is_modelled old → rooms.is_modelled new
   modelled [] old new closes t = closes.is_modelled t
   modelled (device ∷ rest) old new opens t =
       opens.4.is_modelled (modelled rest opens.0 opens.1 opens.3 (opens.2.is_modelled t))
 
-  all_closed : (devices : List (Device D)) (old new : R) → OpensEach rooms g devices old new
+  pub all_closed : (devices : List (Device D)) (old new : R) → OpensEach rooms g devices old new
       → rooms.opened new ≡ rooms.opened old
   all_closed [] old new closes = closes.opened
   all_closed (device ∷ rest) old new opens =
       let inner = all_closed rest opens.0 opens.1 opens.3 in
       omega (arith, inner, opens.2.opened, opens.4.opened)
 
-  later : (devices : List (Device D)) (old new : R) → OpensEach rooms g devices old new
+  pub later : (devices : List (Device D)) (old new : R) → OpensEach rooms g devices old new
       → rooms.faults old ≤ rooms.faults new
   later [] old new closes = closes.later
   later (device ∷ rest) old new opens =
@@ -116,14 +116,14 @@ module _ {R S D : Type 0} (rooms : Rooms R S D) (g : Ghosts D) where
       omega (arith, inner, opens.2.fine, opens.4.count)
 
   -- what is so of one device beside the room before all and after all
-  record IsDeviceOf (old new : R) (device : Device D) : Type 0 where
-    held : rooms.is_modelled old
+  pub record IsDeviceOf (old new : R) (device : Device D) : Type 0 where
+    pub held : rooms.is_modelled old
         → g.contents device.before ≡ Some (held_in (rooms.file old device.name))
-    was : rooms.is_modelled old → IsSome (rooms.file old device.name)
+    pub was : rooms.is_modelled old → IsSome (rooms.file old device.name)
         → IsSomeAnd (rooms.device old device.name) (λ x. SameDevice g x device.before)
-    put : rooms.is_modelled old
+    pub put : rooms.is_modelled old
         → IsSomeAnd (rooms.device new device.name) (λ x. SameDevice g device.after x)
-    rose : Rose (g.faults device.before) (g.faults device.after)
+    pub rose : Rose (g.faults device.before) (g.faults device.after)
         → Rose (rooms.faults old) (rooms.faults new)
 
   first_device : (device : Device D) (rest : List (Device D)) (old new : R)
@@ -183,7 +183,7 @@ module _ {R S D : Type 0} (rooms : Rooms R S D) (g : Ghosts D) where
     each_moved one rest old mid kept new differ.1 opened closed each.1,
   )
 
-  each_device : (devices : List (Device D)) (old new : R) → AllDiffer devices
+  pub each_device : (devices : List (Device D)) (old new : R) → AllDiffer devices
       → OpensEach rooms g devices old new → EachDevice (IsDeviceOf old new) devices
   each_device [] old new differ opens = tt
   each_device (device ∷ rest) old new differ opens = (

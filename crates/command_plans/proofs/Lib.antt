@@ -5,3 +5,4 @@ pub mod Coming
 pub mod Facts
 pub mod Forms
 pub mod Devices
+pub mod Stops

@@ -102,10 +102,10 @@ module _ {D : Type 0} (g : Ghosts D) where
         → OfEach (λ name did. did ≡ untouched → IsEarly (status_of reply))
         (done_with (device_journals devices) (outcome files).journals))
 
--- ---- the room
+-- ---- the files
 
 module _ {R S D : Type 0} (rooms : Rooms R S D) (g : Ghosts D) where
-  -- The room opened them in their order, and closed them in the opposite one.
+  -- They were opened in their order, and closed in the opposite one.
   abbrev pub OpensEach : List (Device D) → R → R → Type 0
   OpensEach [] old new = ClosesAll rooms old new []
   OpensEach (device ∷ rest) old new = (mid : R) × (kept : R)
@@ -118,7 +118,7 @@ module _ {R S D : Type 0} (rooms : Rooms R S D) (g : Ghosts D) where
       EachDevice (λ device. IfJournal device.journal (IsSome (rooms.file old device.name)))
 
   -- A command that opened devices of different names, among those that it names, worked on them and
-  -- closed them has done what the outcome of the room's files wants.
+  -- closed them has done what the outcome of the files wants.
   abbrev pub DevicesServe : Type 0
   DevicesServe = (files : List Text) (outcome : Files → Outcome) (devices : List (Device D))
       (old new : R) (ending : Ending) → AllDiffer devices

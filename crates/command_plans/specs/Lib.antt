@@ -6,3 +6,4 @@ pub mod Comes
 pub mod Names
 pub mod Facts
 pub mod Devices
+pub mod Stops

@@ -4,6 +4,7 @@
 ghost use Rattle.command_plans.specs.Devices.{DevicesServe};
 ghost use Rattle.command_plans.specs.Facts.{FoundIsValid, HeardHasPassed, MisreadIsAbout};
 ghost use Rattle.command_plans.specs.Facts.{NoCommandIsBadWords, OutcomesCome, UnopenedIsEarly};
+ghost use Rattle.command_plans.specs.Stops.{StopsServe};
 
 use crate::JournalKinds;
 use mtc_room::Room;
@@ -42,7 +43,14 @@ pub fn law_heard_commands_have_passed<K: JournalKinds>()
 /// A command opens the devices of any number of journals, each of which is there, and of other
 /// files, which are made empty where they aren't there. It closes them in the opposite order. Where
 /// its work on them gives the outcome of the files that they read as, whatever these are, it has
-/// done what the outcome of the room's files wants.
+/// done what the outcome wants.
 pub fn law_work_on_devices_serves<R: Room>()
     ensures { DevicesServe R.Room R.Dsk.Disk }
+{}
+
+/// A command that stops before its work, after it has opened some devices, closes them and leaves
+/// nothing new of them. Where it replies as is wanted, with an early status, or stops at a fault,
+/// it has done what the outcome wants.
+pub fn law_stops_before_the_work_serve<R: Room>()
+    ensures { StopsServe R.Room R.Dsk.Disk }
 {}
