@@ -6,3 +6,4 @@ pub mod Facts
 pub mod Forms
 pub mod Devices
 pub mod Stops
+pub mod Opened
