@@ -2,11 +2,11 @@
 
 use crate::noted::{Call, Noted, Wanted};
 use crate::system::{disk_refusal, fresh_refusal, scratch_refusal};
+use disk_core::Disk;
 use journal_core::{HEADER, OpenError, Opening, Refused};
 use mtc_files::FileRoom;
-use mtc_io::Memory;
 use mtc_room::{Room, RoomError};
-use std::alloc::Global;
+use std::alloc::{AllocError, Global};
 use std::fs::{self, File, Permissions};
 use std::io;
 use std::os::unix::fs::PermissionsExt;
@@ -21,23 +21,26 @@ enum Asked {
     Tiles,
 }
 
-// Why the room doesn't lend it, and how many calls that took where each was the one to come.
-fn ended<R: Files<File = File>>(
+// Why the room doesn't lend it.
+fn refusal<R: Files<File = File>>(
     files: &R,
     asked: Asked,
     name: &str,
-    wanted: Wanted,
-) -> (Option<RoomError>, Option<usize>) {
-    let noted = Noted {
-        files,
-        wanted: &wanted,
-    };
-    let refusal = match asked {
+    wanted: &Wanted,
+) -> Option<RoomError> {
+    let noted = Noted { files, wanted };
+    match asked {
         Asked::Journal => disk_refusal(&noted, name),
         Asked::New => fresh_refusal(&noted, name),
         Asked::Tiles => scratch_refusal(&noted, name),
-    };
-    (refusal, wanted.met())
+    }
+}
+
+// Why it doesn't, and how many calls that took where each was the one to come.
+type Ended = (Option<RoomError>, Option<usize>);
+
+fn ended<R: Files<File = File>>(files: &R, asked: Asked, name: &str, wanted: &Wanted) -> Ended {
+    (refusal(files, asked, name, wanted), wanted.met())
 }
 
 // Of so many bytes, those from a place on are written again, in pieces of which the last one has a
@@ -59,8 +62,13 @@ const ENDS: [End; 12] = [
     (300_000, 164_832, 33, 4096, 22),
 ];
 
-// Puts the reads and the writes of so many pieces behind other calls.
-fn add_pieces(calls: &mut Vec<Call>, from: u64, pieces: u64, last: usize) -> Result<(), Memory> {
+// Puts the reads and the writes of so many pieces after other calls.
+fn add_pieces(
+    calls: &mut Vec<Call>,
+    from: u64,
+    pieces: u64,
+    last: usize,
+) -> Result<(), AllocError> {
     for piece in 0..pieces {
         let place = from.saturating_add(piece.saturating_mul(4096));
         let size = if piece + 1 == pieces { last } else { 4096 };
@@ -70,18 +78,22 @@ fn add_pieces(calls: &mut Vec<Call>, from: u64, pieces: u64, last: usize) -> Res
     Ok(())
 }
 
-// The calls for a journal with such an end: it is locked, and the name leads to it, before its
-// bytes are touched; all are written before the folder is synced.
-fn calls_of(alloc: Global, end: End) -> Result<Vec<Call>, Memory> {
+// Puts those for a journal with such an end after them: it is locked, and the name leads to it,
+// before its bytes are touched; all are written before the folder is synced.
+fn add_calls(calls: &mut Vec<Call>, end: End) -> Result<(), AllocError> {
     let (_, from, pieces, last, first) = end;
-    let prefix = [Call::Open, Call::Lock, Call::Look, Call::Find];
-    let mut calls = Vec::from_slice(alloc, &prefix)?;
+    calls.extend_from_slice(&[Call::Open, Call::Lock, Call::Look, Call::Find])?;
     if first > 0 {
         calls.push(Call::Read(0, first))?;
     }
-    add_pieces(&mut calls, from, pieces, last)?;
-    calls.push(Call::OpenFolder)?;
-    calls.push(Call::SyncFolder)?;
+    add_pieces(calls, from, pieces, last)?;
+    calls.extend_from_slice(&[Call::OpenFolder, Call::SyncFolder])?;
+    Ok(())
+}
+
+fn calls_of(alloc: Global, end: End) -> Result<Vec<Call>, AllocError> {
+    let mut calls = Vec::new(alloc);
+    add_calls(&mut calls, end)?;
     Ok(calls)
 }
 
@@ -110,16 +122,41 @@ fn holds<R: Files<File = File> + Alloc>(files: &R, path: &str, bytes: &[u8]) -> 
     Ok(fs::read(files, path)?.as_slice() == bytes)
 }
 
+// How a journal is lent where the calls for this end are to come, and how many these are.
+fn ended_by<R: Files<File = File>>(
+    files: &R,
+    alloc: Global,
+    path: &str,
+    end: End,
+) -> Result<(Ended, usize), AllocError> {
+    let calls = calls_of(alloc, end)?;
+    let count = calls.len();
+    Ok((
+        ended(files, Asked::Journal, path, &Wanted::new(calls)),
+        count,
+    ))
+}
+
+// The same of a file of so many bytes that begins with these, and whether it holds them then.
+fn ended_and_held<R: Files<File = File> + Alloc>(
+    files: &R,
+    alloc: Global,
+    path: &str,
+    begins: &[u8],
+    end: End,
+) -> io::Result<((Ended, usize), bool)> {
+    let bytes = make(files, alloc, path, begins, end.0)?;
+    let ended = ended_by(files, alloc, path, end)?;
+    Ok((ended, holds(files, path, &bytes)?))
+}
+
 #[test]
 fn the_end_of_a_journal_is_written_behind_its_lock(rt: HostRuntime) -> Result<(), Fail> {
     let path = "mtc_files_end_test";
     for end in ENDS {
-        let bytes = make(&rt, rt.alloc(), path, &HEADER, end.0)?;
-        let calls = calls_of(rt.alloc(), end)?;
-        let count = calls.len();
-        let ended = ended(&rt, Asked::Journal, path, Wanted::new(calls));
+        let ((ended, count), held) = ended_and_held(&rt, rt.alloc(), path, &HEADER, end)?;
         assert!(rt; ended == (None, Some(count)), "{} bytes", end.0);
-        assert!(rt; holds(&rt, path, &bytes)?, "the {} bytes", end.0);
+        assert!(rt; held, "the {} bytes", end.0);
     }
     fs::remove_file(&rt, path)?;
     Ok(())
@@ -134,14 +171,14 @@ fn another_file_is_not_written(rt: HostRuntime) -> Result<(), Fail> {
         b"-----BEGIN TRUST",
     ];
     for begins in others {
-        let bytes = make(&rt, rt.alloc(), path, begins, 5000)?;
-        let calls = calls_of(rt.alloc(), (5000, 0, 0, 0, 22))?;
-        let ended = ended(&rt, Asked::Journal, path, Wanted::new(calls));
-        assert!(rt;
-            ended == (None, Some(7)) && holds(&rt, path, &bytes)?,
-            "{}",
-            begins[15]
-        );
+        let ((ended, _), held) = ended_and_held(
+            &rt,
+            rt.alloc(),
+            path,
+            begins,
+            (5000, 0, 0, 0, 22),
+        )?;
+        assert!(rt; ended == (None, Some(7)) && held, "{}", begins[15]);
     }
     fs::remove_file(&rt, path)?;
     Ok(())
@@ -189,6 +226,13 @@ const TILES: [Call; 8] = [
     Call::Read(0, 22),
 ];
 
+fn first_bytes(asked: Asked) -> &'static [u8] {
+    match asked {
+        Asked::Journal => &HEADER,
+        _ => &[],
+    }
+}
+
 // Removes a file, or makes one of so many bytes, which is a journal where one is asked for.
 fn prepare<R: Files<File = File>>(
     files: &R,
@@ -198,22 +242,20 @@ fn prepare<R: Files<File = File>>(
     length: Option<u64>,
 ) -> io::Result<()> {
     let _ = fs::remove_file(files, path);
-    if let Some(length) = length {
-        let begins: &[u8] = if matches!(asked, Asked::Journal) {
-            &HEADER
-        } else {
-            &[]
-        };
-        make(files, alloc, path, begins, length)?;
+    match length {
+        Some(length) => {
+            make(files, alloc, path, first_bytes(asked), length)?;
+            Ok(())
+        }
+        None => Ok(()),
     }
-    Ok(())
 }
 
 // What is asked for, of a file of so many bytes or of none; the calls for it, and the number of the
 // one that finds the file by its name behind the lock.
 type Case = (Asked, Option<u64>, Vec<Call>, usize);
 
-fn cases(alloc: Global) -> Result<[Case; 6], Memory> {
+fn cases(alloc: Global) -> Result<[Case; 6], AllocError> {
     let short = calls_of(alloc, (4097, 0, 2, 1, 22))?;
     let long = calls_of(alloc, (135_169, 1, 33, 4096, 22))?;
     Ok([
@@ -245,7 +287,7 @@ fn tried<R: Files<File = File>>(
     let mut wanted = Wanted::new(Vec::from_slice(alloc, calls)?);
     wanted.failing = failing;
     wanted.elsewhere = elsewhere;
-    let ended = ended(files, *asked, path, wanted);
+    let ended = ended(files, *asked, path, &wanted);
     let _ = fs::remove_file(files, path);
     Ok(ended)
 }
@@ -291,9 +333,17 @@ fn a_file_is_moved_off_the_streams(rt: HostRuntime) -> Result<(), Fail> {
     ];
     let mut wanted = Wanted::new(Vec::from_slice(rt.alloc(), &calls)?);
     wanted.on_stream = true;
-    assert!(rt; ended(&rt, Asked::Journal, path, wanted) == (None, Some(7)));
+    assert!(rt; ended(&rt, Asked::Journal, path, &wanted) == (None, Some(7)));
     fs::remove_file(&rt, path)?;
     Ok(())
+}
+
+// A journal's device after its opening, and whether that failed.
+fn opened_once<D: Disk>(alloc: Global, disk: D) -> (D, bool) {
+    match Opening::begin(alloc, disk) {
+        Ok(opening) => (opening.into_disk(), false),
+        Err(Refused { disk, why }) => (disk, why == OpenError::Failed),
+    }
 }
 
 // Whether the opening of a journal syncs it first, of which the room has written the end again, and
@@ -309,24 +359,33 @@ fn syncs_first<R: Files<File = File>>(
     let Ok(disk) = room.disk(path) else {
         return false;
     };
-    let (disk, failed) = match Opening::begin(alloc, disk) {
-        Ok(opening) => (opening.into_disk(), false),
-        Err(Refused { disk, why }) => (disk, why == OpenError::Failed),
-    };
+    let (disk, failed) = opened_once(alloc, disk);
     room.keep(path, disk);
     failed
+}
+
+// Whether it does where this call after all of these fails, and which number that has.
+fn last_fails<R: Files<File = File>>(
+    files: &R,
+    alloc: Global,
+    path: &str,
+    call: Call,
+) -> Result<(bool, Option<usize>, usize), AllocError> {
+    let mut calls = calls_of(alloc, (4097, 0, 2, 1, 22))?;
+    calls.push(call)?;
+    let count = calls.len();
+    let mut wanted = Wanted::new(calls);
+    wanted.failing = Some(count.saturating_sub(1));
+    let synced = syncs_first(files, alloc, path, &wanted);
+    Ok((synced, wanted.met(), count))
 }
 
 #[test]
 fn the_opening_syncs_what_was_written_again(rt: HostRuntime) -> Result<(), Fail> {
     let path = "mtc_files_opening_test";
     make(&rt, rt.alloc(), path, &HEADER, 4097)?;
-    let mut calls = calls_of(rt.alloc(), (4097, 0, 2, 1, 22))?;
-    calls.push(Call::Sync)?;
-    let count = calls.len();
-    let mut wanted = Wanted::new(calls);
-    wanted.failing = Some(count.saturating_sub(1));
-    assert!(rt; syncs_first(&rt, rt.alloc(), path, &wanted) && wanted.met() == Some(count));
+    let (synced, met, count) = last_fails(&rt, rt.alloc(), path, Call::Sync)?;
+    assert!(rt; synced && met == Some(count));
     fs::remove_file(&rt, path)?;
     Ok(())
 }

@@ -17,57 +17,80 @@ const FOLDER: &str = "mtc_files_others";
 // The first bytes of a log's journal, and of a cosigner's.
 fn begins(alloc: Global, tag: u8) -> Result<Vec<u8>, AllocError> {
     let mut bytes = Vec::from_slice(alloc, &HEADER)?;
-    for byte in [1, 0, 0, 0, 19, tag, 7] {
-        bytes.push(byte)?;
-    }
+    bytes.extend_from_slice(&[1, 0, 0, 0, 19, tag, 7])?;
     Ok(bytes)
+}
+
+// A file that its owner alone may use.
+fn put<R: Files<File = File>>(files: &R, name: &str, bytes: &[u8]) -> io::Result<()> {
+    fs::write(files, name, bytes)?;
+    fs::set_permissions(files, name, Permissions::from_mode(0o600))
+}
+
+fn put_begun<R: Files<File = File>>(
+    files: &R,
+    alloc: Global,
+    name: &str,
+    tag: u8,
+) -> io::Result<()> {
+    let bytes = begins(alloc, tag)?;
+    put(files, name, bytes.as_slice())
+}
+
+fn put_journals<R: Files<File = File>>(files: &R, alloc: Global) -> io::Result<()> {
+    put_begun(files, alloc, "mtc_files_others/log", 0x01)?;
+    put_begun(files, alloc, "mtc_files_others/cosigner", 0x11)?;
+    put(files, "mtc_files_others/begun", &HEADER)?;
+    put(files, "mtc_files_others/tiles", &[7; 8192])
+}
+
+fn put_links<R: Files<File = File>>(files: &R) -> io::Result<()> {
+    fs::hard_link(
+        files,
+        "mtc_files_others/cosigner",
+        "mtc_files_others/hard.tiles",
+    )?;
+    files.symlink("cosigner", "mtc_files_others/soft.tiles")?;
+    files.symlink("tiles", "mtc_files_others/tiled.tiles")?;
+    files.symlink("nowhere", "mtc_files_others/dangling.tiles")
 }
 
 // A folder with journals, and files of tiles that are others' by a link of either kind.
 fn make<R: Files<File = File> + Alloc>(files: &R, alloc: Global) -> io::Result<()> {
     let _ = fs::remove_dir_all(files, FOLDER);
     fs::create_dir(files, FOLDER)?;
-    let (log, cosigner) = (begins(alloc, 0x01)?, begins(alloc, 0x11)?);
-    for (name, bytes) in [
-        ("mtc_files_others/log", log.as_slice()),
-        ("mtc_files_others/cosigner", cosigner.as_slice()),
-        ("mtc_files_others/begun", HEADER.as_slice()),
-        ("mtc_files_others/tiles", &[7; 8192]),
-    ] {
-        fs::write(files, name, bytes)?;
-        fs::set_permissions(files, name, Permissions::from_mode(0o600))?;
+    put_journals(files, alloc)?;
+    put_links(files)
+}
+
+// What is answered to each of these names that is asked for as a file of tiles.
+const TILES: &str = "\
+mtc_files_others/log refused
+mtc_files_others/cosigner refused
+mtc_files_others/begun refused
+mtc_files_others/hard.tiles refused
+mtc_files_others/soft.tiles refused
+mtc_files_others/tiled.tiles refused
+mtc_files_others/dangling.tiles refused
+mtc_files_others/tiles lent
+mtc_files_others/new.tiles lent
+";
+
+// Whether it answers as a line says.
+fn is_answered<R: Files<File = File>>(files: &R, line: &str) -> bool {
+    match line.split_once(' ') {
+        Some((name, "refused")) => scratch_refusal(files, name) == FAILED,
+        Some((name, "lent")) => scratch_refusal(files, name) == None,
+        _ => false,
     }
-    fs::hard_link(
-        files,
-        "mtc_files_others/cosigner",
-        "mtc_files_others/hard.tiles",
-    )?;
-    for (to, name) in [
-        ("cosigner", "mtc_files_others/soft.tiles"),
-        ("tiles", "mtc_files_others/tiled.tiles"),
-        ("nowhere", "mtc_files_others/dangling.tiles"),
-    ] {
-        files.symlink(to, name)?;
-    }
-    Ok(())
 }
 
 // No tile is written over a journal, and no link is followed to one.
 #[test]
 fn tiles_are_never_written_over_a_journal(rt: HostRuntime) -> Result<(), Fail> {
     make(&rt, rt.alloc())?;
-    for (name, wanted) in [
-        ("mtc_files_others/log", FAILED),
-        ("mtc_files_others/cosigner", FAILED),
-        ("mtc_files_others/begun", FAILED),
-        ("mtc_files_others/hard.tiles", FAILED),
-        ("mtc_files_others/soft.tiles", FAILED),
-        ("mtc_files_others/tiled.tiles", FAILED),
-        ("mtc_files_others/dangling.tiles", FAILED),
-        ("mtc_files_others/tiles", None),
-        ("mtc_files_others/new.tiles", None),
-    ] {
-        assert!(rt; scratch_refusal(&rt, name) == wanted, "{name}");
+    for line in TILES.lines() {
+        assert!(rt; is_answered(&rt, line), "{line}");
     }
     assert!(rt; !fs::exists(&rt, "mtc_files_others/nowhere")?);
     fs::remove_dir_all(&rt, FOLDER)?;
@@ -80,35 +103,59 @@ fn is_refused<R: Files<File = File>>(files: &R, name: &str, mode: u32) -> io::Re
     Ok(disk_refusal(files, name) == FAILED)
 }
 
+// Whether it refuses each of the three with this mode.
+fn are_refused<R: Files<File = File>>(files: &R, mode: u32) -> io::Result<[bool; 3]> {
+    Ok([
+        is_refused(files, "mtc_files_modes/cosigner", mode)?,
+        is_refused(files, "mtc_files_modes/log", mode)?,
+        is_refused(files, "mtc_files_modes/other", mode)?,
+    ])
+}
+
+// The journals of a cosigner and of a log, and another file.
+fn make_three<R: Files<File = File> + Alloc>(
+    files: &R,
+    alloc: Global,
+    folder: &str,
+) -> io::Result<()> {
+    let _ = fs::remove_dir_all(files, folder);
+    fs::create_dir(files, folder)?;
+    put_begun(files, alloc, "mtc_files_modes/cosigner", 0x11)?;
+    put_begun(files, alloc, "mtc_files_modes/log", 0x01)?;
+    put(
+        files,
+        "mtc_files_modes/other",
+        b"mtc-journal/v0\n\0.....\x11",
+    )
+}
+
 // The journal of a cosigner is refused where others may do anything with it; no other file is.
 #[test]
 fn a_cosigners_journal_is_its_owners_alone(rt: HostRuntime) -> Result<(), Fail> {
     let folder = "mtc_files_modes";
-    let _ = fs::remove_dir_all(&rt, folder);
-    fs::create_dir(&rt, folder)?;
-    fs::write(&rt, "mtc_files_modes/cosigner", begins(rt.alloc(), 0x11)?)?;
-    fs::write(&rt, "mtc_files_modes/log", begins(rt.alloc(), 0x01)?)?;
-    fs::write(&rt, "mtc_files_modes/other", b"mtc-journal/v0\n\0.....\x11")?;
+    make_three(&rt, rt.alloc(), folder)?;
     let modes = [
         0o600, 0o700, 0o640, 0o620, 0o610, 0o604, 0o602, 0o601, 0o666,
     ];
     for mode in modes {
-        let refused = is_refused(&rt, "mtc_files_modes/cosigner", mode)?;
-        assert!(rt; refused == (mode & 0o77 != 0), "{mode}");
-        for name in ["mtc_files_modes/log", "mtc_files_modes/other"] {
-            assert!(rt; !is_refused(&rt, name, mode)?, "{name} {mode}");
-        }
+        let refused = are_refused(&rt, mode)?;
+        assert!(rt; refused == [mode & 0o77 != 0, false, false], "{mode}");
     }
     fs::remove_dir_all(&rt, folder)?;
+    Ok(())
+}
+
+fn put_letters(name: &mut String, length: usize) -> Result<(), AllocError> {
+    for _ in 0..length {
+        name.push('n')?;
+    }
     Ok(())
 }
 
 // A name of so many bytes.
 fn long_name(alloc: Global, length: usize) -> Result<String, AllocError> {
     let mut name = String::new(alloc);
-    for _ in 0..length {
-        name.push('n')?;
-    }
+    put_letters(&mut name, length)?;
     Ok(name)
 }
 
