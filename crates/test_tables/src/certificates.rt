@@ -88,13 +88,21 @@ fn refused(alloc: Global, fault: CertError) -> Result<String> {
     Ok(format!(in alloc; "{name}")?)
 }
 
+// The lengths of the parts that were read.
+fn lengths_of_read(alloc: Global, read: Summary) -> Result<String> {
+    Ok(format!(in alloc;
+        "{} {} {} {} {}",
+        read.issuer, read.subject, read.spki, read.extensions, read.proof
+    )?)
+}
+
 // The text of what was read.
 fn text_of_read(alloc: Global, read: Summary) -> Result<String> {
-    let moments = format!(in alloc; "{} {}", read.not_before, read.not_after)?;
-    let names = format!(in alloc; "{} {}", read.issuer, read.subject)?;
-    let others = format!(in alloc; "{} {} {}", read.spki, read.extensions, read.proof)?;
-    let found = format!(in alloc; "{} {}", read.names, read.has_unknown as u8)?;
-    Ok(format!(in alloc; "Ok {} {moments} {names} {others} {found}", read.serial)?)
+    let lengths = lengths_of_read(alloc, read)?;
+    Ok(format!(in alloc;
+        "Ok {} {} {} {lengths} {} {}",
+        read.serial, read.not_before, read.not_after, read.names, read.has_unknown as u8
+    )?)
 }
 
 /// The text of an answer.

@@ -40,10 +40,15 @@ fn text_of(alloc: Global, answer: Answer) -> Result<String> {
     }
 }
 
-// Writes the run of values that have one answer behind those before it.
-fn add_run(alloc: Global, text: &mut String, from: u8, to: u8, answer: Answer) -> Result<()> {
+// A run of values that have one answer.
+fn run_of(alloc: Global, from: u8, to: u8, answer: Answer) -> Result<String> {
     let answer = text_of(alloc, answer)?;
-    let run = format!(in alloc; ", {from}-{to} {answer}")?;
+    Ok(format!(in alloc; ", {from}-{to} {answer}")?)
+}
+
+// Writes such a run behind those before it.
+fn add_run(alloc: Global, text: &mut String, from: u8, to: u8, answer: Answer) -> Result<()> {
+    let run = run_of(alloc, from, to, answer)?;
     text.push_str(run.as_str())?;
     Ok(())
 }
@@ -79,6 +84,24 @@ fn add_runs(
     }
 }
 
+// Writes the runs of an offset of a certificate.
+fn add_changes(
+    alloc: Global,
+    text: &mut String,
+    asked: Asked,
+    certificate: &[u8],
+    place: usize,
+) -> Result<()> {
+    let mut changed = Vec::from_slice(alloc, certificate)?;
+    add_runs(alloc, text, asked, changed.as_mut_slice(), place)
+}
+
+fn add_number(alloc: Global, text: &mut String, number: usize) -> Result<()> {
+    let digits = format!(in alloc; "{number}")?;
+    text.push_str(digits.as_str())?;
+    Ok(())
+}
+
 // Writes the line of an offset.
 fn add_row(
     alloc: Global,
@@ -87,18 +110,21 @@ fn add_row(
     certificate: &[u8],
     place: usize,
 ) -> Result<()> {
-    let mut changed = Vec::from_slice(alloc, certificate)?;
-    let offset = format!(in alloc; "{place}")?;
-    text.push_str(offset.as_str())?;
-    add_runs(alloc, text, asked, changed.as_mut_slice(), place)?;
+    add_number(alloc, text, place)?;
+    add_changes(alloc, text, asked, certificate, place)?;
     text.push_str("\n")?;
     Ok(())
 }
 
+// The line that answers a certificate itself.
+fn line_of(alloc: Global, label: &str, asked: Asked, certificate: &[u8]) -> Result<String> {
+    let itself = text_of(alloc, ask(asked, certificate))?;
+    Ok(format!(in alloc; "{label} {} {itself}\n", certificate.len())?)
+}
+
 // The lines that answer a certificate.
 fn table(alloc: Global, label: &str, asked: Asked, certificate: &[u8]) -> Result<String> {
-    let itself = text_of(alloc, ask(asked, certificate))?;
-    let mut text = format!(in alloc; "{label} {} {itself}\n", certificate.len())?;
+    let mut text = line_of(alloc, label, asked, certificate)?;
     for place in 0..certificate.len() {
         add_row(alloc, &mut text, asked, certificate, place)?;
     }
@@ -114,11 +140,12 @@ pub(crate) fn of_certificate(alloc: Global, line: &str) -> Result<String> {
 
 // The lines for a judgement, by its store.
 fn by_store(alloc: Global, line: &str, store: &Store) -> Result<String> {
+    let label = word(line, 0)?;
     let now = word(line, MOMENT)?.parse::<i64>().context("no moment")?;
     let certificate = bytes_of(alloc, word(line, CERTIFICATE)?)?;
     table(
         alloc,
-        word(line, 0)?,
+        label,
         Asked::Judge(store, now),
         certificate.as_slice(),
     )

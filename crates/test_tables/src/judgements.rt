@@ -33,16 +33,24 @@ pub(crate) fn text_of_judged(alloc: Global, answer: Judged) -> Result<String> {
     }
 }
 
-// The interval that is trusted, with its hash.
-fn subtree(alloc: Global, line: &str) -> Result<Trusted> {
-    let bytes = bytes_of(alloc, word(line, 5)?)?;
+fn hash_of(bytes: &[u8]) -> Result<[u8; 32]> {
     ensure!(bytes.len() == 32, "no hash of 32 bytes");
     let mut hash = [0; 32];
-    hash.copy_from_slice(&bytes);
+    hash.copy_from_slice(bytes);
+    Ok(hash)
+}
+
+fn hash_at(alloc: Global, line: &str, place: usize) -> Result<[u8; 32]> {
+    let bytes = bytes_of(alloc, word(line, place)?)?;
+    hash_of(&bytes)
+}
+
+// The interval that is trusted, with its hash.
+fn subtree(alloc: Global, line: &str) -> Result<Trusted> {
     Ok(Trusted {
         start: number(line, 3)?,
         end: number(line, 4)?,
-        hash,
+        hash: hash_at(alloc, line, 5)?,
     })
 }
 
@@ -58,14 +66,20 @@ fn revoked(alloc: Global, line: &str) -> Result<Revoked> {
     Ok(Revoked::from_vec(Vec::from_slice(alloc, &[range])?))
 }
 
+// The intervals that are trusted, and the numbers that are revoked.
+fn lists(alloc: Global, line: &str) -> Result<(Subtrees, Revoked)> {
+    let subtrees = subtrees(alloc, line)?;
+    let revoked = revoked(alloc, line)?;
+    Ok((subtrees, revoked))
+}
+
 /// The store that a line describes.
 pub(crate) fn store_of(alloc: Global, line: &str) -> Result<Store> {
     ensure!(line.split(' ').count() == CERTIFICATE + 1, "not nine words");
     let log = AnchorId::from_text(alloc, word(line, 2)?).ok();
     let log = log.context("no id")?;
     let name = log_name(alloc, &log).ok().context("no memory")?;
-    let subtrees = subtrees(alloc, line)?;
-    let revoked = revoked(alloc, line)?;
+    let (subtrees, revoked) = lists(alloc, line)?;
     Ok(Store {
         log,
         name,

@@ -4,12 +4,15 @@ ghost use Rattle.std.specs.Prelude.{IfSome};
 ghost use Rattle.lms_core.specs.Heights.{IsSigningHeight};
 
 use crate::verifying::name_of;
-use crate::words::bytes_of;
+use crate::words::{bytes_of, word};
 use anyhow::{Context, Result, bail, ensure};
 use hss_core::{Key, LmsType, OtsType, Secret, SigBuf, verify};
 use lms_core::Tree;
 use sha2::{Digest, Sha256};
 use std::alloc::Global;
+
+// The place of the first message among the words of a key.
+const MESSAGES: usize = 4;
 
 // A height of which keys are made.
 fn height_of(word: &str) -> Option<LmsType>
@@ -42,29 +45,37 @@ fn secret_of(alloc: Global, word: &str) -> Result<Secret> {
 fn key_of(alloc: Global, height: &str, width: &str, secret: &str, next: &str) -> Result<Key> {
     let lms = height_of(height).context("no height of keys")?;
     let ots = width_of(width).context("no width")?;
-    let secret = secret_of(alloc, secret)?;
     let next = next.parse::<u32>().context("no number")?;
     ensure!(next <= lms.leaves(), "no number of the tree");
+    let secret = secret_of(alloc, secret)?;
     match Key::make(alloc, lms, ots, &secret, next) {
         Ok(key) => Ok(key),
         Err(_) => bail!("no memory"),
     }
 }
 
+fn public_line(alloc: Global, tree: &Tree) -> Result<String> {
+    let public = hex::encode(alloc, tree.public())?;
+    Ok(format!(in alloc; "{public}\n")?)
+}
+
 /// The public key of the tree, for `HEIGHT WIDTH SECRET`.
 pub(crate) fn tree_answer(alloc: Global, rest: &str) -> Result<String> {
-    let mut words = rest.split(' ');
-    let lms = height_of(words.next().context("no height")?).context("no height of trees")?;
-    let ots = width_of(words.next().context("no width")?).context("no width")?;
-    let secret = secret_of(alloc, words.next().context("no secret")?)?;
-    ensure!(words.next().is_none(), "too many words");
+    ensure!(rest.split(' ').count() == 3, "not three words");
+    let lms = height_of(word(rest, 0)?).context("no height of trees")?;
+    let ots = width_of(word(rest, 1)?).context("no width")?;
+    let secret = secret_of(alloc, word(rest, 2)?)?;
     match Tree::make(alloc, lms, ots, &secret) {
-        Ok(tree) => {
-            let public = hex::encode(alloc, tree.public())?;
-            Ok(format!(in alloc; "{public}\n")?)
-        }
+        Ok(tree) => public_line(alloc, &tree),
         Err(_) => bail!("no memory"),
     }
+}
+
+// The number used, and the signature's length and SHA-256 and what `verify` says of it.
+fn signature_line(alloc: Global, used: u32, signature: &[u8], name: &str) -> Result<String> {
+    let length = signature.len();
+    let digest = hex::encode(alloc, Sha256::digest(signature))?;
+    Ok(format!(in alloc; "{used} {length} {digest} {name}\n")?)
 }
 
 // Signs a message, and answers with the number used, the signature's length and SHA-256, and
@@ -75,32 +86,43 @@ fn signed(alloc: Global, key: &mut Key, message: &[u8]) -> Result<String> {
     let public = key.public();
     let mut out = SigBuf::new();
     key.sign(message, &mut out);
-    let length = out.as_slice().len();
-    let digest = hex::encode(alloc, Sha256::digest(out.as_slice()))?;
     let name = name_of(verify(&public, message, out.as_slice()));
-    Ok(format!(in alloc; "{used} {length} {digest} {name}\n")?)
+    signature_line(alloc, used, out.as_slice(), name)
+}
+
+// The same of the message of a word.
+fn signed_word(alloc: Global, key: &mut Key, word: &str) -> Result<String> {
+    let message = bytes_of(alloc, word)?;
+    signed(alloc, key, &message)
 }
 
 // Writes what signing the message of a word answers behind what stands there.
 fn add_signed(alloc: Global, text: &mut String, key: &mut Key, word: &str) -> Result<()> {
-    let message = bytes_of(alloc, word)?;
-    let line = signed(alloc, key, &message)?;
+    let line = signed_word(alloc, key, word)?;
     text.push_str(line.as_str())?;
     Ok(())
 }
 
-/// The public key and each signature in turn, for `HEIGHT WIDTH SECRET NEXT MESSAGE ..`.
-pub(crate) fn key_answer(alloc: Global, rest: &str) -> Result<String> {
-    let mut words = rest.split(' ');
-    let height = words.next().context("no height")?;
-    let width = words.next().context("no width")?;
-    let secret = words.next().context("no secret")?;
-    let next = words.next().context("no number")?;
-    let mut key = key_of(alloc, height, width, secret, next)?;
+fn key_line(alloc: Global, height: &str, width: &str, key: &Key) -> Result<String> {
     let public = hex::encode(alloc, key.public())?;
-    let mut text = format!(in alloc; "{height} {width} {public}\n")?;
-    for word in words {
-        add_signed(alloc, &mut text, &mut key, word)?;
+    Ok(format!(in alloc; "{height} {width} {public}\n")?)
+}
+
+// The lines of a key, by the words that describe it and the messages.
+fn lines_of(alloc: Global, height: &str, width: &str, key: &mut Key, rest: &str) -> Result<String> {
+    let mut text = key_line(alloc, height, width, key)?;
+    for word in rest.split(' ').skip(MESSAGES) {
+        add_signed(alloc, &mut text, key, word)?;
     }
     Ok(text)
+}
+
+/// The public key and each signature in turn, for `HEIGHT WIDTH SECRET NEXT MESSAGE ..`.
+pub(crate) fn key_answer(alloc: Global, rest: &str) -> Result<String> {
+    let height = word(rest, 0)?;
+    let width = word(rest, 1)?;
+    let secret = word(rest, 2)?;
+    let next = word(rest, 3)?;
+    let mut key = key_of(alloc, height, width, secret, next)?;
+    lines_of(alloc, height, width, &mut key, rest)
 }

@@ -42,22 +42,46 @@ fn make_path(
     Ok(())
 }
 
-// The line of a subtree.
-fn subtree_line(alloc: Global, nodes: &mut Listed<Sha>, start: u64, end: u64) -> Result<String> {
+// Adds the paths of the entries of a subtree.
+fn add_paths(
+    nodes: &mut Listed<Sha>,
+    start: u64,
+    end: u64,
+    path: &mut Path,
+    digest: &mut Sha,
+) -> Result<()> {
+    for index in start..end {
+        make_path(nodes, index, start, end, path)?;
+        add_all(digest, path.as_slice());
+    }
+    Ok(())
+}
+
+// The SHA-256 of the paths of the entries of a subtree.
+fn paths_of(nodes: &mut Listed<Sha>, start: u64, end: u64) -> Result<[u8; 32]> {
     let mut path = Path::new();
     let mut digest = Sha::begin();
-    for index in start..end {
-        make_path(nodes, index, start, end, &mut path)?;
-        add_all(&mut digest, path.as_slice());
-    }
+    add_paths(nodes, start, end, &mut path, &mut digest)?;
+    Ok(digest.end())
+}
+
+// The hash of a subtree.
+fn hash_of(nodes: &mut Listed<Sha>, start: u64, end: u64) -> Result<[u8; 32]> {
     if !subtree_ok(start, end) || nodes.size() < end {
         bail!("no subtree of the list");
     }
-    let Ok(subtree) = node_of(nodes, start, end) else {
-        bail!("a node failed");
-    };
+    match node_of(nodes, start, end) {
+        Ok(subtree) => Ok(subtree),
+        Err(_) => bail!("a node failed"),
+    }
+}
+
+// The line of a subtree.
+fn subtree_line(alloc: Global, nodes: &mut Listed<Sha>, start: u64, end: u64) -> Result<String> {
+    let paths = paths_of(nodes, start, end)?;
+    let subtree = hash_of(nodes, start, end)?;
     let hash = hex::encode(alloc, &subtree)?;
-    let paths = hex::encode(alloc, &digest.end())?;
+    let paths = hex::encode(alloc, &paths)?;
     Ok(format!(in alloc; "{start} {end} {hash} {paths}\n")?)
 }
 
@@ -84,6 +108,15 @@ fn make_proof(
     Ok(())
 }
 
+// The number of hashes of the consistency proof of a subtree at a size, and their SHA-256.
+fn proof_of(nodes: &mut Listed<Sha>, start: u64, end: u64, size: u64) -> Result<(usize, [u8; 32])> {
+    let mut proof = Path::new();
+    make_proof(nodes, start, end, size, &mut proof)?;
+    let mut digest = Sha::begin();
+    add_all(&mut digest, proof.as_slice());
+    Ok((proof.as_slice().len(), digest.end()))
+}
+
 // The line of a subtree at a size.
 fn proof_line(
     alloc: Global,
@@ -92,16 +125,9 @@ fn proof_line(
     end: u64,
     size: u64,
 ) -> Result<String> {
-    let mut proof = Path::new();
-    make_proof(nodes, start, end, size, &mut proof)?;
-    let mut digest = Sha::begin();
-    add_all(&mut digest, proof.as_slice());
-    let hash = digest.end();
+    let (count, hash) = proof_of(nodes, start, end, size)?;
     let digits = hex::encode(alloc, &hash[..8])?;
-    Ok(format!(in alloc;
-        "{start} {end} {size} {} {digits}\n",
-        proof.as_slice().len()
-    )?)
+    Ok(format!(in alloc; "{start} {end} {size} {count} {digits}\n")?)
 }
 
 // Adds the entry that a word stands for to the list.

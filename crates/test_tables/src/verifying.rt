@@ -17,19 +17,35 @@ pub(crate) fn name_of(answer: std::result::Result<(), SigError>) -> &'static str
     }
 }
 
-// What `verify` answers to `KEY MESSAGE SIGNATURE`.
-fn verified(alloc: Global, words: &str, one_tree: bool) -> Result<&'static str> {
-    let (key, rest) = words.split_once(' ').context("no message")?;
-    let (message, signature) = rest.split_once(' ').context("no signature")?;
-    let key = bytes_of(alloc, key)?;
-    let message = bytes_of(alloc, message)?;
+// What `verify` answers to a signature.
+fn name_by(
+    alloc: Global,
+    key: &[u8],
+    message: &[u8],
+    signature: &str,
+    one_tree: bool,
+) -> Result<&'static str> {
     let signature = bytes_of(alloc, signature)?;
     let given = if one_tree {
-        lms_core::verify(&key, &message, &signature)
+        lms_core::verify(key, message, &signature)
     } else {
-        hss_core::verify(&key, &message, &signature)
+        hss_core::verify(key, message, &signature)
     };
     Ok(name_of(given))
+}
+
+// The same of `MESSAGE SIGNATURE`.
+fn verified_by(alloc: Global, key: &[u8], rest: &str, one_tree: bool) -> Result<&'static str> {
+    let (message, signature) = rest.split_once(' ').context("no signature")?;
+    let message = bytes_of(alloc, message)?;
+    name_by(alloc, key, &message, signature, one_tree)
+}
+
+// The same of `KEY MESSAGE SIGNATURE`.
+fn verified(alloc: Global, words: &str, one_tree: bool) -> Result<&'static str> {
+    let (key, rest) = words.split_once(' ').context("no message")?;
+    let key = bytes_of(alloc, key)?;
+    verified_by(alloc, &key, rest, one_tree)
 }
 
 /// `LABEL NAME` for the rest of a line, `LABEL KEY MESSAGE SIGNATURE`.
