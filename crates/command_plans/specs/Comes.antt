@@ -10,6 +10,8 @@ use Rattle.command_plans.specs.Names.{input_names, made_names, opened_names}
 use Rattle.command_plans.specs.Outcomes.{deed_outcome}
 use Rattle.command_plans.specs.Plans.{Deed, Finds, Plan, Read, ReadAll, misreads, works}
 
+-- An outcome comes of a plan over some files: one of the files stops the command, in one of five
+-- ways, or all are read, opened and found, and the work has its outcome.
 pub data Comes {k : Kinds} (plan : Plan k) (files : Files) : Outcome → Type 0 where
   -- A file that it reads, or a journal that it opens, isn't there.
   absent : (file : Text)

@@ -45,6 +45,7 @@ with_beside k kind state (Some file) files next =
     unless_lacking file (k.lacks kind state (held_in (files file))) next
 
 module _ {k : Kinds} where
+  -- The journals are opened or made, in their order, and then comes the rest of the command.
   abbrev pub open_from : (journals : List (Journal k)) → Files → (Finds journals → Outcome)
       → Outcome
   open_from [] files next = next tt
@@ -58,6 +59,7 @@ module _ {k : Kinds} where
 
 -- ---- the work
 
+-- The replies that a judgement wants.
 abbrev pub wanted_of : Judged → Wanted
 wanted_of (tells status text) = exactly (said status text)
 wanted_of (tells_formed status form) = formed status form
@@ -71,6 +73,8 @@ opened_did list None = reads list
 opened_did list (Some body) = appended list body
 
 module _ {k : Kinds} where
+  -- What the work leaves of each journal: one that was opened has its records, and maybe one more;
+  -- one that was made has its first record.
   abbrev pub journals_did : (journals : List (Journal k)) → Finds journals → Deeds journals
       → List Journaled
   journals_did [] founds does = []
@@ -79,6 +83,7 @@ module _ {k : Kinds} where
   journals_did (makes kind name ∷ rest) founds does =
       started does.0 ∷ journals_did rest founds does.1
 
+  -- The outcome of the work: its answer, and what it leaves of each journal.
   abbrev pub deed_outcome : (journals : List (Journal k)) → Finds journals → Deed journals
       → Outcome
   deed_outcome journals founds deed = record {
@@ -88,12 +93,14 @@ module _ {k : Kinds} where
 
   -- ---- the whole command
 
+  -- Behind the reading: a file that is not in its form stops the command, or else its work is done.
   abbrev pub step_outcome : {inputs : List Input} (journals : List (Journal k))
       → Step inputs journals → Files → Outcome
   step_outcome journals (misreads read reason) files = stops_at BadForm read.file.name reason
   step_outcome journals (works say) files =
       open_from journals files (λ founds. deed_outcome journals founds (say founds))
 
+  -- The outcome that a plan has over these files.
   abbrev pub outcome_of : Plan k → Files → Outcome
   outcome_of plan files = read_from plan.inputs plan.inputs (λ input is. is) files (λ later read.
       step_outcome plan.journals (plan.steps read) later)

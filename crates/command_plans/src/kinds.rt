@@ -5,5 +5,6 @@
 pub trait JournalKinds {
     ghost use Rattle.command_plans.specs.Kinds.{Kinds};
 
+    // What each kind is.
     ghost kinds: { Kinds };
 }

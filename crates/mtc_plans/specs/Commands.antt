@@ -16,6 +16,7 @@ use Rattle.mtc_plans.specs.NodeKinds.{node_kinds}
 use Rattle.mtc_plans.specs.ReadPlans.{drill_plan, keygen_plan, member_plan, show_plan}
 use Rattle.mtc_plans.specs.ReadPlans.{trust_plan, verify_plan}
 
+-- The plan of each command.
 abbrev pub plan_of : (h : HashFunction) → CommandValue → Plan (node_kinds h)
 plan_of h (member file) = member_plan h file
 plan_of h (show file) = show_plan file

@@ -4,7 +4,7 @@ use Rattle.std.specs.Prelude.{ℕ, Option, None, Some}
 use Rattle.byte_formats.specs.Types.{HashFunction, Text}
 use Rattle.journal_core.specs.Folds.{Fold}
 use Rattle.cosigner_core.specs.Folds.{CosignerState, cosigner_fold}
-use Rattle.cosigner_core.specs.declared.error.CosignerOpenError.{CosignerOpenError}
+use Rattle.state_journal.specs.declared.error.StateOpenError.{StateOpenError}
 use Rattle.issuance_log.specs.Folds.{LogState, log_fold}
 use Rattle.issuance_log.specs.declared.error.LogOpenError.{LogOpenError}
 use Rattle.mtc_command.specs.Answers.{bad_tile_text, tiles_name}
@@ -13,22 +13,27 @@ use Rattle.mtc_authority.specs.Works.{log_open_text}
 use Rattle.mtc_cosigner.specs.Works.{cosigner_open_text}
 use Rattle.command_plans.specs.Kinds.{Kinds}
 
+-- A journal is a log's or a cosigner's.
 pub data NodeKind : Type 0 where
   log : NodeKind
   cosigner : NodeKind
 
+-- What the records of such a journal make.
 abbrev pub NodeState : NodeKind → Type 0
 NodeState log = LogState
 NodeState cosigner = CosignerState
 
+-- Why they make nothing.
 abbrev pub NodeFault : NodeKind → Type 0
 NodeFault log = LogOpenError
-NodeFault cosigner = CosignerOpenError
+NodeFault cosigner = StateOpenError
 
+-- How the records of a journal make it.
 abbrev pub node_fold : HashFunction → (kind : NodeKind) → Fold (NodeState kind) (NodeFault kind)
 node_fold h log = log_fold h
 node_fold h cosigner = cosigner_fold h
 
+-- The words of a fault, as a command prints them.
 abbrev pub node_fault_text : (kind : NodeKind) → NodeFault kind → Text
 node_fault_text log = log_open_text
 node_fault_text cosigner = cosigner_open_text
@@ -43,10 +48,12 @@ abbrev pub missing_text : Option (ℕ × ℕ) → Option Text
 missing_text None = None
 missing_text (Some tile) = Some (bad_tile_text tile.0 tile.1)
 
+-- What the file beside a journal lacks, in the words of the refusal.
 abbrev pub node_lacks : HashFunction → (kind : NodeKind) → NodeState kind → Text → Option Text
 node_lacks h log state tiles = missing_text (first_bad h state tiles)
 node_lacks h cosigner state held = None
 
+-- The two kinds together.
 abbrev pub node_kinds : HashFunction → Kinds
 node_kinds h = record {
   Kind = NodeKind;

@@ -23,9 +23,9 @@ pub append_to-requires-clause-some : goal.append_to-requires-clause-some
 append_to-requires-clause-some g c =
     let it = c.args.self.now in
     let r = subtree_parts c.args.request.now in
-    some_body c.as_slice.result.now (sign_record (cosigner_state it).key.next r.start r.end
+    some_body c.as_slice-record.result.now (sign_record (cosigner_state it).key.next r.start r.end
     r.hash r.proof)
-    (c.as_slice.ensures.value ∙ c.record_of-body.ensures.bytes)
+    (c.as_slice-record.ensures.value ∙ c.record_of-body.ensures.bytes)
     (length-sign (cosigner_state it).key.next r.start r.end r.hash r.proof)
 
 pub returns-in_err-test_subtree-clause-records : goal.returns-in_err-test_subtree-clause-records
@@ -37,12 +37,12 @@ returns-in_err-append_to-clause-answer g c =
     let r = subtree_parts c.args.request.now in
     keeps_second (subtree_refusal g.H.TreeHash.hash (cosigner_state it) r) _
     c.from_residual-in_err-append_to.result c.in_ok-test_subtree.ensures.exact
-    (keeps_append (cosigner_broken it) (cosigner_end it) c.as_slice.result.now
+    (keeps_append (cosigner_broken it) (cosigner_end it) c.as_slice-record.result.now
     (sign_record (cosigner_state it).key.next r.start r.end r.hash r.proof)
     c.from_residual-in_err-append_to.result
     c.in_err-append_to.field-0.0 c.from_residual-in_err-append_to.ensures.1
-    (c.as_slice.ensures.value ∙ c.record_of-body.ensures.bytes) c.in_err-append_to.ensures.broken
-    c.in_err-append_to.ensures.full)
+    (c.as_slice-record.ensures.value ∙ c.record_of-body.ensures.bytes)
+    c.in_err-append_to.ensures.broken c.in_err-append_to.ensures.full)
 
 pub returns-in_err-append_to-clause-valid : goal.returns-in_err-append_to-clause-valid
 returns-in_err-append_to-clause-valid g c =
@@ -62,37 +62,41 @@ returns-clause-valid g c =
 pub append_to-requires-clause-allowed : goal.append_to-requires-clause-allowed
 append_to-requires-clause-allowed g c =
     let it = c.args.self.now in
-    let written = c.as_slice.ensures.value ∙ c.record_of-body.ensures.bytes in
+    let written = c.as_slice-record.ensures.value ∙ c.record_of-body.ensures.bytes in
     is_allowed _ _
     (sign_taken g.H.TreeHash.hash (cosigner_state it) (subtree_parts c.args.request.now)
-    c.record_of-body.ensures.fits c.as_slice.result.now written c.in_ok-test_subtree.ensures.exact)
+    c.record_of-body.ensures.fits c.as_slice-record.result.now written
+    c.in_ok-test_subtree.ensures.exact)
 
 pub returns-in_err-append_to-clause-appends : goal.returns-in_err-append_to-clause-appends
 returns-in_err-append_to-clause-appends g c =
     let it = c.args.self.now in
-    let written = c.as_slice.ensures.value ∙ c.record_of-body.ensures.bytes in
-    not_appended g.D.Disk _ _ _ c.as_slice.result.now _ c.from_residual-in_err-append_to.result
+    let written = c.as_slice-record.ensures.value ∙ c.record_of-body.ensures.bytes in
+    not_appended g.D.Disk _ _ _ c.as_slice-record.result.now _
+    c.from_residual-in_err-append_to.result
     c.in_err-append_to.field-0.0 c.from_residual-in_err-append_to.ensures.1 written
     (c.in_err-append_to.ensures.appends _
     (sign_taken g.H.TreeHash.hash (cosigner_state it) (subtree_parts c.args.request.now)
-    c.record_of-body.ensures.fits c.as_slice.result.now written c.in_ok-test_subtree.ensures.exact))
+    c.record_of-body.ensures.fits c.as_slice-record.result.now written
+    c.in_ok-test_subtree.ensures.exact))
 
 pub returns-clause-appends : goal.returns-clause-appends
 returns-clause-appends g c =
     let it = c.args.self.now in
-    let written = c.as_slice.ensures.value ∙ c.record_of-body.ensures.bytes in
-    grown g.D.Disk _ _ _ c.as_slice.result.now _ written (c.in_ok-append_to.ensures.appends _
+    let written = c.as_slice-record.ensures.value ∙ c.record_of-body.ensures.bytes in
+    grown g.D.Disk _ _ _ c.as_slice-record.result.now _ written (c.in_ok-append_to.ensures.appends _
     (sign_taken g.H.TreeHash.hash (cosigner_state it) (subtree_parts c.args.request.now)
-    c.record_of-body.ensures.fits c.as_slice.result.now written c.in_ok-test_subtree.ensures.exact))
+    c.record_of-body.ensures.fits c.as_slice-record.result.now written
+    c.in_ok-test_subtree.ensures.exact))
 
 -- the journal makes the cosigner, whose key has signed once more
 pub invariant_of-self-2 : goal.invariant_of-self-2
 invariant_of-self-2 g c =
     let it = c.args.self.now in
-    let written = c.as_slice.ensures.value ∙ c.record_of-body.ensures.bytes in
+    let written = c.as_slice-record.ensures.value ∙ c.record_of-body.ensures.bytes in
     let did = c.in_ok-append_to.ensures.appends _
     (sign_taken g.H.TreeHash.hash (cosigner_state it) (subtree_parts c.args.request.now)
-    c.record_of-body.ensures.fits c.as_slice.result.now written
+    c.record_of-body.ensures.fits c.as_slice-record.result.now written
     c.in_ok-test_subtree.ensures.exact) in
     record {
       settled = λ b contents.
