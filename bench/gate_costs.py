@@ -179,7 +179,7 @@ def summary(rows, whole, clock):
     return (
         f"{told} The proofs took {proofs:.0f} of them. The whole is {whole / proofs:.1f} times that, and {RATIO} is the most that it may be; "
         f"{FINISHED} minutes are the most for the finished program. "
-        f"Of the proofs of the program {chain:.0f} minutes follow one another, those of the longest chain of crates: "
+        f"Of the proofs of the program {chain:.0f} minutes can't run side by side, those of the longest chain of crates: "
         f"{chain / proofs:.2f} of all proofs."
     )
 
@@ -189,7 +189,7 @@ def sentence(rows, whole, clock):
     chain, proofs = chain_of(rows)
     return (
         "The first shows an unproved answer on standard error within some three minutes. Then it proves and builds the program, once. "
-        f"That is {proofs:.0f} processor minutes of proofs on the machine of the last whole run, of which {chain:.0f} follow one another. "
+        f"That is {proofs:.0f} processor minutes of proofs on the machine of the last whole run, of which {chain:.0f} can't run side by side. "
         f"The second took {whole} processor minutes, and {clock} ([COSTS](bench/COSTS.md))."
     )
 

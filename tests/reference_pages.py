@@ -96,7 +96,9 @@ def doc_of(path, line):
 
 
 def said_of(crate, one):
-    """What a call does; of a call of a trait without a comment, that it is one."""
+    """What a call does, and all that a law says; of a call of a trait without a comment, that it is one."""
+    if one.name.startswith("law_"):
+        return comments.doc_of(one.path.read_text().split("\n"), one.line)
     of_trait = (f"As {code(key)}." for key in crate.calls if one.of_trait and key.endswith(f"::{one.name}"))
     return doc_of(one.path, one.line) or next(of_trait, "")
 
@@ -138,8 +140,9 @@ def clauses_page():
     count = sum(len(crate.calls) for crate in with_some)
     return written([
         "# The calls and their clauses", "", MADE, "",
-        f"The {count} public calls, crate by crate: the labels of what each ensures, and the first sentence of its comment. Each clause "
-        "is proved for all inputs, and so is that the call is safe and returns. *It requires* marks a call with a condition. "
+        f"The {count} public calls, crate by crate: the labels of what each ensures, and the first sentence of its comment, of a law all of it. Each clause "
+        "is proved for all inputs that meet the call's condition, and so is that the call is safe and returns. *It requires* marks "
+        "a call with a condition. The clauses of a trait are owed by each type that implements it. "
         "A call of a trait is listed once more where a type ensures more than the trait does. A law does nothing: its clause is a "
         "theorem. "
         "[PROMISES](../PROMISES.md) says what these come to, and what no clause says.", "",

@@ -85,22 +85,24 @@ def parameters_of(lines):
 def groups_of(path):
     """The definitions of a file of specs/, each with those behind it that have no comment of their own."""
     lines = path.read_text().split("\n")
-    groups, comment, title, over, depth = [], [], "", "", 0
+    groups, comment, title, over, depth, body = [], [], "", "", 0, None
     for number, line in enumerate(lines):
         section, module, defined = SECTION.match(line), MODULE.match(line), DEFINED.match(line)
+        indent = len(line) - len(line.lstrip())
         if section:
             comment, title = [], section.group(1)
         elif line.strip().startswith("--"):
-            comment.append(line.strip()[2:].strip())
+            if body is None or indent <= body:  # what stands within a definition is of its fields or cases
+                comment.append(line.strip()[2:].strip())
         elif module:
-            depth, over = len(module.group(1)) + 1, parameters_of(lines[number:])
+            depth, over, body = len(module.group(1)) + 1, parameters_of(lines[number:]), None
             title, comment = title or " ".join(comment), []
         elif defined:
             over = over if len(defined.group(1)) >= depth else ""
             if comment or title or not groups or groups[-1].over != over:
                 groups.append(Group(as_prose(" ".join(comment)), [], as_prose(title), over))
             groups[-1].shown.append(head_of_definition(lines, number))
-            comment, title = [], ""
+            comment, title, body = [], "", indent
         elif line.startswith(("use ", "open ")):
             comment = []
         elif not line.strip() and comment:
