@@ -2,10 +2,11 @@
 
 import re
 from functools import cache
+from itertools import groupby, zip_longest
 
 from .comments import groups_of_crates
 from .pages import DOCS, by_hand, cells_of, shown
-from .sources import crates
+from .sources import WORD, crates
 
 CRATES = {crate.name: crate for crate in crates()}
 SPAN = re.compile(r"`([^`]+)`")
@@ -48,13 +49,30 @@ def is_label(span, calls):
 
 
 @cache
-def said_in_specs(name):
-    """The definitions of a crate, the fields of its records, and the members of its traits."""
-    crate = CRATES[name]
-    words = {one.name for one in crate.definitions} | crate.members
-    for path in (crate.folder / "specs").rglob("*.antt"):
-        words |= set(re.findall(r"^ +(?:pub )?(\w+) *:", path.read_text(), re.M))
+def texts_of(name):
+    """The texts of the definitions of a crate, by their names: each ends where the next begins."""
+    found = {}
+    for path, group in groupby(CRATES[name].definitions, lambda one: one.path):
+        lines, group = path.read_text().split("\n"), list(group)
+        for one, after in zip_longest(group, group[1:]):
+            text = "\n".join(lines[one.line - 1:after.line - 1 if after else None])
+            found[one.name] = re.sub(r"--( .*)?$", "", text, flags=re.M)
+    return found
+
+
+@cache
+def said_of(crate, name):
+    """The words of a call's clauses, and of the definitions that these name, and of those that these name in turn."""
+    below = [one for one in [crate, *CRATES[crate].needs] if one in CRATES]
+    words = set().union(*(one.words for one in CRATES[crate].functions if one.name == name))
+    for _ in range(2):
+        texts = (texts_of(one).get(word, "") for one in below for word in words)
+        words = words.union(*(WORD.findall(text) for text in texts))
     return words
+
+
+def is_said(word, calls):
+    return any(word in said_of(crate, key.split("::")[-1]) for crate, key in calls)
 
 
 @cache
@@ -105,9 +123,8 @@ def wrong_parts(cell):
         if not calls:
             yield f"no call carries {', '.join(clauses) or cell}"
         named = [call for call in found if call]
-        crates_below = {name for call in named for name in [call[0], *CRATES[call[0]].needs] if name in CRATES}
         for clause in clauses:
-            if not is_label(clause, named) and not any(clause in said_in_specs(name) for name in crates_below):
+            if not is_label(clause, named) and not is_said(clause, named):
                 yield f"`{clause}` is no clause of {', '.join(calls)}"
 
 

@@ -19,6 +19,7 @@ class Function:
     length: int = 0  # lines, without those of the contract
     labels: list = field(default_factory=list)
     ensures: list = field(default_factory=list)  # the labels of what it ensures, nothing for a clause without one
+    words: set = field(default_factory=set)  # the words of its clauses
     requires: bool = False
     of_trait: bool = False  # it stands in the impl of a trait
     is_test: bool = False
@@ -72,6 +73,7 @@ def behind_head(text, place):
     return len(text)
 
 
+WORD = re.compile(r"[^\W\d][\w-]*")
 CLAUSE = re.compile(rf"\s*(requires|ensures)\*?\s*({NAME})?\s*\{{")
 WHERE = re.compile(r"\s*where\b[^{;]*?(?=\{|;|\brequires\b|\bensures\b)", re.S)
 FUNCTION = re.compile(rf"^([ \t]*)(pub(?:\([a-z]+\))? +)?(?:const +)?fn +({NAME})", re.M)
@@ -144,6 +146,7 @@ class SourceFile:
                 one.requires |= clause.group(1) == "requires"
                 one.ensures += [clause.group(2) or ""] * (clause.group(1) == "ensures")
                 place = behind_braces(self.bare, clause.end() - 1)
+                one.words |= set(WORD.findall(self.bare[clause.end():place]))
                 by = re.match(r"\s*by\s*\{", self.bare[place:])
                 if by:
                     place = behind_braces(self.bare, place + by.end() - 1)
