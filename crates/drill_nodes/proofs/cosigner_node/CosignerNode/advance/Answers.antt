@@ -1,5 +1,8 @@
 use Rattle.std.proofs.Common.{[], ◌∷◌, arith}
 use Rattle.std.proofs.lemmas.Result.{IfOk-weaker}
+use Rattle.drill_nodes.specs.CosignerViews.{cosigner_shown, records_shown}
+use Rattle.drill_nodes.specs.declared.cosigner_calls.CosignerCall.TheVariants.{Advance}
+use Rattle.drill_nodes.proofs.CosignerStops.{more_twice, reopened_more}
 use Rattle.drill_nodes.proofs.MadeStops.{none_stopped}
 use Rattle.drill_nodes.proofs.cosigner_node.CosignerNode.advance.Goals as goal
 
@@ -14,3 +17,12 @@ pub returns-in_default-clause-stops : goal.returns-in_default-clause-stops
 returns-in_default-clause-stops g c =
     let none = none_stopped c.args.turn c.in_default.not-Some in
     IfOk-weaker c.done.result _ _ (λ it done. omega (arith, done, none)) c.done.ensures.stops
+
+pub returns-else-before-held-clause-grows : goal.returns-else-before-held-clause-grows
+returns-else-before-held-clause-grows g c =
+    IfOk-weaker c.done-else-before-held.result _ _ (λ it done.
+    more_twice (records_shown c.args.self) (records_shown c.in_ok-node.node) (records_shown it)
+    (reopened_more (Advance c.args.request.now) (cosigner_shown c.args.self)
+    (cosigner_shown c.in_ok-node.node) (records_shown c.args.self)
+    (records_shown c.in_ok-node.node) _ c.in_ok-node.field-0-1 c.in_ok-node.ensures.state)
+    (_ ∷ [], done)) c.done-else-before-held.ensures.records
