@@ -5,9 +5,10 @@ ghost use Rattle.std.specs.Option.{option_to_list};
 ghost use Rattle.byte_formats.specs.Types.{HashFunction, Text};
 ghost use Rattle.mtc_words.specs.Commands.{CommandValue, journal_of};
 ghost use Rattle.mtc_words.specs.Names.{is_tiles_name};
-ghost use Rattle.mtc_words.specs.Commands.{advance, audit, cert, cosign, drill, export};
-ghost use Rattle.mtc_words.specs.Commands.{init_cosigner, init_log, issue, keygen, member, show};
-ghost use Rattle.mtc_words.specs.Commands.{trust_landmarks, verify};
+ghost use Rattle.mtc_words.specs.Commands.{advance, audit, cert, checkpoint, consist, cosign};
+ghost use Rattle.mtc_words.specs.Commands.{drill, entries, export, init_cosigner, init_log, issue};
+ghost use Rattle.mtc_words.specs.Commands.{keygen, landmark, landmarks, light_cert, member, show};
+ghost use Rattle.mtc_words.specs.Commands.{subtree, tile, trust_landmarks, verify};
 ghost use Rattle.mtc_command.specs.Answers.{tiles_name};
 ghost use Rattle.mtc_command.specs.Served.{IsOther};
 ghost use Rattle.mtc_command.specs.Steps.{Files};
@@ -16,6 +17,9 @@ ghost use Rattle.mtc_authority.specs.IssueCommand.{issue_outcome};
 ghost use Rattle.mtc_authority.specs.LogOutcomes.{init_log_outcome};
 ghost use Rattle.mtc_authority.specs.Works.{log_outcome};
 ghost use Rattle.mtc_authority.specs.declared.work.Work.{Work};
+ghost use Rattle.mtc_authority.specs.declared.work.Work.TheVariants.{Checkpoint, Consist, Entries};
+ghost use Rattle.mtc_authority.specs.declared.work.Work.TheVariants.{Landmark, Landmarks};
+ghost use Rattle.mtc_authority.specs.declared.work.Work.TheVariants.{LightCert, Subtree, Tile};
 ghost use Rattle.mtc_cosigner.specs.InitOutcome.{init_cosigner_outcome};
 ghost use Rattle.mtc_cosigner.specs.KeygenOutcome.{keygen_outcome};
 ghost use Rattle.mtc_cosigner.specs.Works.{advance_outcome, cosign_outcome, export_outcome};
@@ -71,6 +75,31 @@ pub fn law_log_commands_have_plans()
     ensures work { (h : HashFunction) (files : Files) (beside : Beside) (journal : Text)
         (work : Work) → log_outcome h journal (files journal) (files (tiles_name journal)) work
         ≡ outcome_of (work_plan h beside journal work) files }
+    ensures checkpoint { (h : HashFunction) (files : Files) (journal : Text)
+        → log_outcome h journal (files journal) (files (tiles_name journal)) Checkpoint
+        ≡ outcome_of (plan_of h (checkpoint journal)) files }
+    ensures entries { (h : HashFunction) (files : Files) (journal : Text) (size : ℕ)
+        → log_outcome h journal (files journal) (files (tiles_name journal)) (Entries size)
+        ≡ outcome_of (plan_of h (entries journal size)) files }
+    ensures consist { (h : HashFunction) (files : Files) (journal : Text) (old new : ℕ)
+        → log_outcome h journal (files journal) (files (tiles_name journal)) (Consist old new)
+        ≡ outcome_of (plan_of h (consist journal old new)) files }
+    ensures subtree { (h : HashFunction) (files : Files) (journal : Text) (start end size : ℕ)
+        → log_outcome h journal (files journal) (files (tiles_name journal))
+        (Subtree start end size)
+        ≡ outcome_of (plan_of h (subtree journal start end size)) files }
+    ensures landmark { (h : HashFunction) (files : Files) (journal : Text)
+        → log_outcome h journal (files journal) (files (tiles_name journal)) Landmark
+        ≡ outcome_of (plan_of h (landmark journal)) files }
+    ensures landmarks { (h : HashFunction) (files : Files) (journal : Text)
+        → log_outcome h journal (files journal) (files (tiles_name journal)) Landmarks
+        ≡ outcome_of (plan_of h (landmarks journal)) files }
+    ensures light_cert { (h : HashFunction) (files : Files) (journal : Text) (index : ℕ)
+        → log_outcome h journal (files journal) (files (tiles_name journal)) (LightCert index)
+        ≡ outcome_of (plan_of h (light_cert journal index)) files }
+    ensures tile { (h : HashFunction) (files : Files) (journal : Text)
+        → log_outcome h journal (files journal) (files (tiles_name journal)) Tile
+        ≡ outcome_of (plan_of h (tile journal)) files }
 {}
 
 /// And of each command on the journal of a cosigner.
