@@ -311,12 +311,12 @@ def kit_rows():
 
 
 def edit_rows():
-    """The edits of each crate: how many were refused in which way at their last try, or that they wait for it."""
+    """The edits of each crate: and how many were refused in which way at their last try."""
     found = ledger.lines()
     yield from ("| Crate | Edits | By the search | By a proof | Wrong behaviours |", "|---|---|---|---|---|")
     for name in ledger.with_edits():
         edits = [edit.stem for edit in ledger.edits_of(name)]
-        tried = found.get(name, "").split()[4:] if name not in ledger.due() else ["due", ""]
+        tried = found.get(name, "").split()[4:]
         yield f"| `{name}` | {len(edits)} | {' | '.join(tried or ['', ''])} | {', '.join(map(spoken, edits))} |"
 
 
@@ -332,7 +332,7 @@ PARTS = (
     ("The laws of what is printed", "What they name themselves.", lambda: first_rows(PRINTS)),
     ("Words of the kit", "The definitions of the kit that count.", kit_rows),
     ("Edits by crate", "Wrong programs that are refused. The middle columns say how many of a crate's edits the search for proofs refused, "
-     "and how many a proof by hand that fits no longer; *due* are those that wait for a try.", edit_rows),
+     "and how many a proof by hand that fits no longer.", edit_rows),
 )
 
 
