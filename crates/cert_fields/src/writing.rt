@@ -1,6 +1,6 @@
 //! Writing a certificate.
 
-ghost use Rattle.std.specs.Prelude.{◌≡◌, ◌^◌, ◌<◌, ◌≤◌, ◌∷◌, Ok, IfOk};
+ghost use Rattle.std.specs.Prelude.{◌≡◌, ◌^◌, ◌<◌, ◌≤◌, ◌∷◌, [], Ok, IfOk, OnOk};
 ghost use Rattle.cert_fields.specs.Certificate.{parts_of};
 ghost use Rattle.cert_fields.specs.Grammar.{IsCertificate};
 ghost use Rattle.cert_fields.specs.Encoding.{tbs_fields, certificate_fields, certificate};
@@ -64,15 +64,25 @@ fn signed_contents(alloc: Global, parts: &CertParts) -> Result<Bytes, Memory>
     ensures serial { IfOk result (λ _. parts.now.serial < 2 ^ 64) }
 {
     let mut out = Bytes::new(alloc);
+    put_signed(parts, &mut out)?;
+    Ok(out)
+}
+
+// Puts the contents of what is signed into no bytes.
+fn put_signed(parts: &CertParts, out: &mut Bytes) -> Result<(), Memory>
+    requires empty { out.old ≡ [] }
+    ensures exact { OnOk result (out.new ≡ tbs_fields (given parts.now)) }
+    ensures serial { OnOk result (parts.now.serial < 2 ^ 64) }
+{
     out.append(&VERSION_3)?;
-    put_unsigned(parts.serial, &mut out)?;
+    put_unsigned(parts.serial, out)?;
     out.append(&MTC_PROOF)?;
     out.append(parts.issuer.as_slice())?;
-    put_validity(&parts.validity, &mut out)?;
+    put_validity(&parts.validity, out)?;
     out.append(parts.subject.as_slice())?;
     out.append(parts.spki.as_slice())?;
     out.append(parts.extensions.as_slice())?;
-    Ok(out)
+    Ok(())
 }
 
 // The contents of the signature: no unused bits, and the proof.
