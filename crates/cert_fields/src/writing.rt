@@ -1,10 +1,11 @@
 //! Writing a certificate.
 
-ghost use Rattle.std.specs.Prelude.{◌≡◌, ◌^◌, ◌<◌, ◌≤◌, ◌∷◌, [], Ok, IfOk, OnOk};
+ghost use Rattle.std.specs.Prelude.{◌≡◌, ◌^◌, ◌<◌, ◌≤◌, ◌∷◌, ◌++◌, [], length, Ok, IfOk, OnOk};
 ghost use Rattle.cert_fields.specs.Certificate.{parts_of};
 ghost use Rattle.cert_fields.specs.Grammar.{IsCertificate};
 ghost use Rattle.cert_fields.specs.Encoding.{tbs_fields, certificate_fields, certificate};
-ghost use Rattle.cert_fields.specs.Given.{given, size_of};
+ghost use Rattle.cert_fields.specs.Given.{given, mtc_proof, size_of};
+ghost use Rattle.der_core.specs.Elements.{element};
 
 use crate::identifiers::MTC_PROOF;
 use crate::parts::CertParts;
@@ -52,10 +53,22 @@ fn certificate_contents(alloc: Global, parts: &CertParts) -> Result<Bytes, Memor
     let signed = signed_contents(alloc, parts)?;
     let bits = signature_contents(alloc, &parts.proof)?;
     let mut out = Bytes::new(alloc);
-    put(SEQUENCE, signed.as_slice(), &mut out)?;
-    out.append(&MTC_PROOF)?;
-    put(BIT_STRING, bits.as_slice(), &mut out)?;
+    put_contents(signed.as_slice(), bits.as_slice(), &mut out)?;
     Ok(out)
+}
+
+// Puts what is signed, the algorithm and the signature into no bytes.
+fn put_contents(signed: &[u8], bits: &[u8], out: &mut Bytes) -> Result<(), Memory>
+    requires short { length signed.now < 2 ^ 24 }
+    requires few { length bits.now < 2 ^ 24 }
+    requires empty { out.old ≡ [] }
+    ensures { OnOk result
+        (out.new ≡ (element 0x30 signed.now ++ mtc_proof) ++ element 0x03 bits.now) }
+{
+    put(SEQUENCE, signed, out)?;
+    out.append(&MTC_PROOF)?;
+    put(BIT_STRING, bits, out)?;
+    Ok(())
 }
 
 // The contents of what is signed.
