@@ -1,13 +1,17 @@
 //! A whole certificate (RFC 5280, section 4.1).
 
 ghost use Rattle.std.specs.Prelude.{◌≡◌, Ok, IfOk};
-ghost use Rattle.byte_formats.specs.Readings.{Reads, Moves, Gives};
+ghost use Rattle.byte_formats.specs.Readings.{Reads, Moves, Gives, both_at, refused_at};
 ghost use Rattle.cert_fields.specs.Certificate.{Parts, version_at, serial_at, behind_serial_at};
 ghost use Rattle.cert_fields.specs.Certificate.{tbs_at, signed_at, certificate_at, parts_of};
 ghost use Rattle.cert_fields.specs.Certificate.{is_unique_id};
 ghost use Rattle.cert_fields.specs.Encoding.{certificate};
 ghost use Rattle.cert_fields.specs.Grammar.{IsCertificate};
+ghost use Rattle.cert_fields.specs.Extensions.{extensions_at};
+ghost use Rattle.cert_fields.specs.Keys.{spki_at};
+ghost use Rattle.cert_fields.specs.Names.{name_at};
 ghost use Rattle.cert_fields.specs.Views.{parts, body};
+ghost use Rattle.der_core.specs.declared.fault.CertError.TheVariants.{UniqueId};
 
 use crate::cert::Cert;
 use crate::extensions::read_extensions;
@@ -82,12 +86,7 @@ fn behind_serial<'a>(reader: &mut Reader<'a>) -> Result<Fields<'a>, CertError>
     let algorithm = algorithm(reader)?;
     let issuer = read_name(reader)?;
     let (validity_der, validity) = read_validity(reader)?;
-    let subject = read_name(reader)?;
-    let spki = spki(reader)?;
-    if has_unique_id(reader) {
-        return Err(CertError::UniqueId);
-    }
-    let extensions = read_extensions(reader)?;
+    let (subject, spki, extensions) = behind_validity(reader)?;
     Ok(Fields {
         algorithm,
         issuer,
@@ -97,6 +96,22 @@ fn behind_serial<'a>(reader: &mut Reader<'a>) -> Result<Fields<'a>, CertError>
         spki,
         extensions,
     })
+}
+
+// The subject, the public key and the extensions.
+fn behind_validity<'a>(
+    reader: &mut Reader<'a>,
+) -> Result<(&'a [u8], &'a [u8], &'a [u8]), CertError>
+    ensures { Moves (λ x. (x.0.now, (x.1.now, x.2.now))) (both_at name_at (both_at spki_at
+        (refused_at is_unique_id UniqueId extensions_at))) reader.old result reader.new }
+{
+    let subject = read_name(reader)?;
+    let spki = spki(reader)?;
+    if has_unique_id(reader) {
+        return Err(CertError::UniqueId);
+    }
+    let extensions = read_extensions(reader)?;
+    Ok((subject, spki, extensions))
 }
 
 // What is signed: the serial number, and the fields behind it.
