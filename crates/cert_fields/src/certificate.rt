@@ -1,17 +1,19 @@
 //! A whole certificate (RFC 5280, section 4.1).
 
-ghost use Rattle.std.specs.Prelude.{◌≡◌, Ok, IfOk};
-ghost use Rattle.byte_formats.specs.Readings.{Reads, Moves, Gives, both_at, refused_at};
+ghost use Rattle.std.specs.Prelude.{◌≡◌, ◌==◌, Ok, IfOk};
+ghost use Rattle.byte_formats.specs.Readings.{Reads, Moves, Gives, both_at, mapped_at};
+ghost use Rattle.byte_formats.specs.Readings.{refused_at, tested_at};
 ghost use Rattle.cert_fields.specs.Certificate.{Parts, version_at, serial_at, behind_serial_at};
 ghost use Rattle.cert_fields.specs.Certificate.{tbs_at, signed_at, certificate_at, parts_of};
-ghost use Rattle.cert_fields.specs.Certificate.{is_unique_id};
+ghost use Rattle.cert_fields.specs.Certificate.{is_unique_id, nothing};
 ghost use Rattle.cert_fields.specs.Encoding.{certificate};
 ghost use Rattle.cert_fields.specs.Grammar.{IsCertificate};
 ghost use Rattle.cert_fields.specs.Extensions.{extensions_at};
 ghost use Rattle.cert_fields.specs.Keys.{spki_at};
 ghost use Rattle.cert_fields.specs.Names.{name_at};
 ghost use Rattle.cert_fields.specs.Views.{parts, body};
-ghost use Rattle.der_core.specs.declared.fault.CertError.TheVariants.{UniqueId};
+ghost use Rattle.der_core.specs.Fields.{unsigned_at};
+ghost use Rattle.der_core.specs.declared.fault.CertError.TheVariants.{BadVersion, UniqueId};
 
 use crate::cert::Cert;
 use crate::extensions::read_extensions;
@@ -35,6 +37,18 @@ pub struct Fields<'a> {
     pub extensions: &'a [u8],
 }
 
+// The number of the version: 2.
+fn version(reader: &mut Reader) -> Result<(), CertError>
+    ensures { Moves (λ x. x) (mapped_at nothing (tested_at (λ n. n == 2) BadVersion
+        (unsigned_at BadVersion))) reader.old result reader.new }
+{
+    let number = reader.wanted(INTEGER)?;
+    if unsigned(&number)? != Some(2) {
+        return Err(CertError::BadVersion);
+    }
+    Ok(())
+}
+
 /// The version has to be 3, which is written as 2. After a refusal the reader stands where it
 /// stood.
 #[tactic(auto, unfolding(crate::specs::Certificate::version_at))]
@@ -47,10 +61,7 @@ pub fn read_version(reader: &mut Reader) -> Result<(), CertError>
     let mut ahead = reader.fork();
     let outer = ahead.wanted(VERSION)?;
     let mut inner = Reader::inside(&outer);
-    let number = inner.wanted(INTEGER)?;
-    if unsigned(&number)? != Some(2) {
-        return Err(CertError::BadVersion);
-    }
+    version(&mut inner)?;
     inner.end()?;
     *reader = ahead;
     Ok(())
@@ -99,9 +110,7 @@ fn behind_serial<'a>(reader: &mut Reader<'a>) -> Result<Fields<'a>, CertError>
 }
 
 // The subject, the public key and the extensions.
-fn behind_validity<'a>(
-    reader: &mut Reader<'a>,
-) -> Result<(&'a [u8], &'a [u8], &'a [u8]), CertError>
+fn behind_validity<'a>(reader: &mut Reader<'a>) -> Result<(&'a [u8], &'a [u8], &'a [u8]), CertError>
     ensures { Moves (λ x. (x.0.now, (x.1.now, x.2.now))) (both_at name_at (both_at spki_at
         (refused_at is_unique_id UniqueId extensions_at))) reader.old result reader.new }
 {

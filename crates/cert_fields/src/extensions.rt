@@ -3,23 +3,26 @@
 ghost use Rattle.std.specs.Prelude.{◌≡◌, ◌^◌, ◌<◌, [], length, Ok, Err, OnOk, IfErr};
 ghost use Rattle.std.specs.Prelude.{if◌then◌else◌};
 ghost use Rattle.std.specs.List.{list_any};
-ghost use Rattle.byte_formats.specs.Readings.{Reads, Moves, Gives, discarded};
+ghost use Rattle.byte_formats.specs.Readings.{Reads, Moves, Gives, both_at, discarded, mapped_at};
 ghost use Rattle.cert_fields.specs.Extensions.{new_identifier_at, critical_at};
 ghost use Rattle.cert_fields.specs.Extensions.{has_its_form, extension_at, extension_list_at};
 ghost use Rattle.cert_fields.specs.Extensions.{extension_sequence_at, extensions_at, identifiers};
 ghost use Rattle.cert_fields.specs.Extensions.{are_repeated, extensions_left, list_in};
 ghost use Rattle.cert_fields.specs.Extensions.{is_unknown_critical, has_unknown_critical};
 ghost use Rattle.cert_fields.specs.Extensions.{alt_name_octets, dns_names_in};
+ghost use Rattle.cert_fields.specs.Extensions.{to_extension};
 ghost use Rattle.cert_fields.specs.Views.{extension_fields};
+ghost use Rattle.der_core.specs.Fields.{contents_at};
 ghost use Rattle.der_core.specs.declared.fault.CertError.TheVariants.{RepeatedExtension};
 
 use crate::alt_names::{DnsNames, is_general_names};
 use crate::cert::Cert;
 use crate::identifiers::{is_known, is_subject_alt_name};
+use crate::keys::object_identifier;
 use crate::repeats::has_repeats;
 use crate::tags::EXTENSIONS;
-use der_core::tags::{BOOLEAN, OBJECT_IDENTIFIER, OCTET_STRING, SEQUENCE};
-use der_core::{CertError, DerError, Reader, boolean, oid};
+use der_core::tags::{BOOLEAN, OCTET_STRING, SEQUENCE};
+use der_core::{CertError, DerError, Reader, boolean};
 
 /// One extension.
 #[derive(Clone, Copy)]
@@ -34,8 +37,7 @@ pub struct Extension<'a> {
 fn identifier<'a>(reader: &mut Reader<'a>) -> Result<&'a [u8], CertError>
     ensures { Moves (λ bytes. bytes.now) (new_identifier_at []) reader.old result reader.new }
 {
-    let element = reader.wanted(OBJECT_IDENTIFIER)?;
-    Ok(oid(&element)?)
+    Ok(object_identifier(reader)?)
 }
 
 // Whether the extension is marked as critical. `BadExtension` where it is marked as not critical.
@@ -61,6 +63,21 @@ fn has_form(extension: &Extension) -> bool
     !is_subject_alt_name(extension.identifier) || is_general_names(extension.octets)
 }
 
+// The parts of an extension, one behind the other.
+fn extension_parts<'a>(reader: &mut Reader<'a>) -> Result<Extension<'a>, CertError>
+    ensures { Moves extension_fields (mapped_at to_extension (both_at (new_identifier_at [])
+        (both_at critical_at (contents_at 0x04)))) reader.old result reader.new }
+{
+    let identifier = identifier(reader)?;
+    let critical = critical(reader)?;
+    let octets = reader.wanted(OCTET_STRING)?.contents;
+    Ok(Extension {
+        identifier,
+        critical,
+        octets,
+    })
+}
+
 // The next extension, whatever came before it.
 #[tactic(auto, unfolding(crate::specs::Extensions::extension_at))]
 fn next_extension<'a>(reader: &mut Reader<'a>) -> Result<Extension<'a>, CertError>
@@ -69,14 +86,7 @@ fn next_extension<'a>(reader: &mut Reader<'a>) -> Result<Extension<'a>, CertErro
 {
     let outer = reader.wanted(SEQUENCE)?;
     let mut inner = Reader::inside(&outer);
-    let identifier = identifier(&mut inner)?;
-    let critical = critical(&mut inner)?;
-    let octets = inner.wanted(OCTET_STRING)?.contents;
-    let extension = Extension {
-        identifier,
-        critical,
-        octets,
-    };
+    let extension = extension_parts(&mut inner)?;
     if !has_form(&extension) {
         return Err(CertError::BadExtension);
     }

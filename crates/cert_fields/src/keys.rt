@@ -4,9 +4,19 @@ ghost use Rattle.std.specs.Prelude.{◌≡◌};
 ghost use Rattle.byte_formats.specs.Readings.{Moves, Gives};
 ghost use Rattle.cert_fields.specs.Keys.{algorithm_at, spki_at, is_public_key, whole_bits_of};
 ghost use Rattle.cert_fields.specs.Keys.{signature_at};
+ghost use Rattle.der_core.specs.Contents.{oid_of};
+ghost use Rattle.der_core.specs.Fields.{decoded_at};
 
 use der_core::tags::{BIT_STRING, OBJECT_IDENTIFIER, SEQUENCE};
 use der_core::{CertError, DerError, Element, Reader, bits, oid};
+
+/// An object identifier, as its contents.
+pub fn object_identifier<'a>(reader: &mut Reader<'a>) -> Result<&'a [u8], CertError>
+    ensures { Moves (λ bytes. bytes.now) (decoded_at 0x06 oid_of) reader.old result reader.new }
+{
+    let element = reader.wanted(OBJECT_IDENTIFIER)?;
+    Ok(oid(&element)?)
+}
 
 /// An AlgorithmIdentifier: an object identifier, and at most one element of parameters.
 #[tactic(auto, unfolding(crate::specs::Keys::algorithm_at))]
@@ -15,8 +25,7 @@ pub fn algorithm<'a>(reader: &mut Reader<'a>) -> Result<&'a [u8], CertError>
 {
     let outer = reader.wanted(SEQUENCE)?;
     let mut inner = Reader::inside(&outer);
-    let identifier = inner.wanted(OBJECT_IDENTIFIER)?;
-    oid(&identifier)?;
+    object_identifier(&mut inner)?;
     if !inner.is_at_end() {
         inner.element()?;
     }

@@ -5,8 +5,9 @@ ghost use Rattle.byte_formats.specs.Readings.{Reads, Moves, discarded};
 ghost use Rattle.byte_formats.specs.Lists.{up_to_end};
 ghost use Rattle.cert_fields.specs.Names.{attribute_at, set_at, name_at};
 
-use der_core::tags::{OBJECT_IDENTIFIER, SEQUENCE, SET};
-use der_core::{CertError, Reader, oid, set_in_order};
+use crate::keys::object_identifier;
+use der_core::tags::{SEQUENCE, SET};
+use der_core::{CertError, Reader, set_in_order};
 
 // An AttributeTypeAndValue: an object identifier and one element.
 #[tactic(auto, unfolding(crate::specs::Names::attribute_at))]
@@ -16,8 +17,7 @@ fn attribute<'a>(reader: &mut Reader<'a>) -> Result<&'a [u8], CertError>
 {
     let outer = reader.wanted(SEQUENCE)?;
     let mut inner = Reader::inside(&outer);
-    let identifier = inner.wanted(OBJECT_IDENTIFIER)?;
-    oid(&identifier)?;
+    object_identifier(&mut inner)?;
     inner.element()?;
     inner.end()?;
     Ok(outer.whole)
