@@ -1,4 +1,4 @@
-use Rattle.std.proofs.Common.{◌∙◌, ap, refl, subst}
+use Rattle.std.proofs.Common.{◌≡◌, ◌∙◌, ℕ, IfOk, ap, refl, subst}
 use Rattle.std.specs.Prelude.{is_some}
 use Rattle.byte_formats.proofs.Values.{err_is}
 use Rattle.issuance_log.specs.Folds.{one_item_more, with_item}
@@ -17,6 +17,9 @@ append_record-requires-clause-record_is g c =
     c.leaf.result c.size-index.ensures.sound (c.as_slice.ensures ∙ c.in_ok-body.ensures.body)
     c.leaf.ensures
 
+pub append_record-requires-clause-ready : goal.append_record-requires-clause-ready
+append_record-requires-clause-ready g c = c.in_ok-body.ensures.capacity
+
 pub returns-in_err-body-clause-appends : goal.returns-in_err-body-clause-appends
 returns-in_err-body-clause-appends g c =
     let log = c.args.self.now in
@@ -25,6 +28,9 @@ returns-in_err-body-clause-appends g c =
     (with_item c.args.entry.now c.args.spki.now) c.from_residual.result c.in_err-body.field-0.0
     c.from_residual.ensures.1 c.in_err-body.ensures.before refl (g.met.D.Disk.only_now _)
     (untouched log _ same refl refl refl refl)
+
+pub returns-in_err-body-clause-tiles : goal.returns-in_err-body-clause-tiles
+returns-in_err-body-clause-tiles g c = c.prepare_item.ensures.disk
 
 pub returns-in_err-body-clause-answer : goal.returns-in_err-body-clause-answer
 returns-in_err-body-clause-answer g c =
@@ -45,6 +51,13 @@ returns-clause-appends g c =
     (c.as_slice.ensures ∙ ready.body)
     (item_makes g.H.TreeHash.hash (view_of log) entry key ready.size ready.few c.requires)
     (c.append_record.ensures.appends (with_item entry key))
+
+pub returns-clause-tiles : goal.returns-clause-tiles
+returns-clause-tiles g c = c.append_record.ensures.tiles ∙ c.prepare_item.ensures.disk
+
+pub returns-clause-index : goal.returns-clause-index
+returns-clause-index g c = subst (λ (n : ℕ). IfOk c.append_record.result (λ index. index ≡ n))
+    c.size-index.ensures.value c.append_record.ensures.answer
 
 pub returns-clause-answer : goal.returns-clause-answer
 returns-clause-answer g c =

@@ -1,4 +1,5 @@
-use Rattle.std.proofs.Common.{◌∙◌, refl, subst, sym}
+use Rattle.std.proofs.Common.{◌≡◌, ◌∙◌, ℕ, ◌+◌, List, length, ap, refl, subst, sym}
+use Rattle.std.proofs.lemmas.Result.{IfOk-weaker}
 use Rattle.byte_formats.proofs.Values.{err_is}
 use Rattle.issuance_log.specs.Changes.{IsRecordOf}
 use Rattle.issuance_log.specs.Folds.{LogView, one_mark_more, with_mark}
@@ -20,6 +21,9 @@ append_record-requires-clause-record_is g c =
     subst (λ (v : LogView). IsRecordOf h v text Landmark) (sym same)
     (mark_record h (view_of c.args.self.now) (subst HasSoundNumbers same c.size-size.ensures.sound)
     c.in_ok-body.ensures.above text (c.as_slice.ensures ∙ c.in_ok-body.ensures.body))
+
+pub append_record-requires-clause-ready : goal.append_record-requires-clause-ready
+append_record-requires-clause-ready g c = c.in_ok-body.ensures.capacity
 
 pub returns-in_err-body-clause-appends : goal.returns-in_err-body-clause-appends
 returns-in_err-body-clause-appends g c =
@@ -45,6 +49,29 @@ returns-clause-appends g c =
     one_mark_more with_mark _ (c.as_slice.ensures ∙ c.in_ok-body.ensures.body)
     (mark_makes h (view_of log) (subst HasSoundNumbers same c.size-size.ensures.sound)
     c.in_ok-body.ensures.above) (c.append_record.ensures.appends with_mark)
+
+pub returns-clause-tiles : goal.returns-clause-tiles
+returns-clause-tiles g c = c.append_record.ensures.tiles
+
+pub returns-clause-number : goal.returns-clause-number
+returns-clause-number g c =
+    let marks : List ℕ = (view_of c.args.self.now).marks in
+    let same : c.marks.result.now ≡ marks =
+    c.marks.ensures.value ∙ ap (λ (v : LogView). v.marks) c.prepare_mark.ensures.same in
+    IfOk-weaker c.append_record.result
+    (λ (x : ℕ × ℕ). x ≡ (length c.marks.result.now + 1, c.size-size.result))
+    (λ (x : ℕ × ℕ). x.0 ≡ length marks + 1) (λ x is. ap (λ (y : ℕ × ℕ). y.0) is
+    ∙ ap (λ (l : List ℕ). length l + 1) same) c.append_record.ensures.answer
+
+pub returns-clause-size : goal.returns-clause-size
+returns-clause-size g c =
+    let size : ℕ = (view_of c.args.self.now).size in
+    let same : c.size-size.result ≡ size =
+    c.size-size.ensures.value ∙ ap (λ (v : LogView). v.size) c.prepare_mark.ensures.same in
+    IfOk-weaker c.append_record.result
+    (λ (x : ℕ × ℕ). x ≡ (length c.marks.result.now + 1, c.size-size.result))
+    (λ (x : ℕ × ℕ). x.1 ≡ size) (λ x is. ap (λ (y : ℕ × ℕ). y.1) is ∙ same)
+    c.append_record.ensures.answer
 
 pub returns-clause-answer : goal.returns-clause-answer
 returns-clause-answer g c =
