@@ -1,6 +1,6 @@
 //! Writing entries.
 
-ghost use Rattle.std.specs.Prelude.{◌≡◌, IfOk, Ok, Some};
+ghost use Rattle.std.specs.Prelude.{◌≡◌, [], IfOk, OnOk, Ok, Some};
 ghost use Rattle.cert_fields.specs.Views.{parts};
 ghost use Rattle.log_entry.specs.Entries.{tbs_text, IsTbs};
 ghost use Rattle.log_entry.specs.EntryOf.{entry_of};
@@ -16,18 +16,28 @@ use std::alloc::Global;
 use tree_core::TreeHash;
 
 // The entry with these fields.
-#[tactic(auto, unfolding(crate::specs::Entries::tbs_text))]
 fn written(alloc: Global, tbs: &TbsEntry) -> Result<Bytes, Memory>
     ensures { IfOk result (λ bytes. bytes ≡ tbs_text (tbs_parts tbs.now)) }
 {
-    let mut out = Bytes::copy_of(alloc, &HEAD)?;
+    let mut out = Bytes::new(alloc);
+    put_fields(tbs, &mut out)?;
+    Ok(out)
+}
+
+// Puts the entry with these fields into no bytes.
+#[tactic(auto, unfolding(crate::specs::Entries::tbs_text))]
+fn put_fields(tbs: &TbsEntry, out: &mut Bytes) -> Result<(), Memory>
+    requires empty { out.old ≡ [] }
+    ensures { OnOk result (out.new ≡ tbs_text (tbs_parts tbs.now)) }
+{
+    out.append(&HEAD)?;
     out.append(tbs.issuer)?;
     out.append(tbs.validity_der)?;
     out.append(tbs.subject)?;
     out.append(&HASH_HEAD)?;
     out.append(tbs.key_hash)?;
     out.append(tbs.extensions)?;
-    Ok(out)
+    Ok(())
 }
 
 /// The entry from which a certificate was made: its version, issuer, validity and subject, the hash
