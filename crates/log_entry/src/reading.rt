@@ -2,9 +2,11 @@
 
 ghost use Rattle.std.specs.Prelude.{◌≡◌, ◌≤◌, length, IfOk, Ok, Option};
 ghost use Rattle.byte_formats.specs.Places.{at};
-ghost use Rattle.byte_formats.specs.Readings.{Gives, Moves};
+ghost use Rattle.byte_formats.specs.Readings.{Gives, Moves, both_at};
+ghost use Rattle.cert_fields.specs.Extensions.{extensions_at};
+ghost use Rattle.cert_fields.specs.Names.{name_at};
 ghost use Rattle.log_entry.specs.Entries.{TbsParts, entry_text, IsEntry};
-ghost use Rattle.log_entry.specs.Reading.{key_hash_at, body_of, entry_in};
+ghost use Rattle.log_entry.specs.Reading.{field_at, key_hash_at, body_of, entry_in};
 ghost use Rattle.log_entry.specs.Views.{tbs_parts, entry_parts};
 
 use crate::entry::{Entry, TbsEntry};
@@ -26,6 +28,19 @@ fn key_hash<'a>(reader: &mut Reader<'a>) -> Result<&'a [u8], EntryError>
     }
 }
 
+// The subject, the hash of the public key and the extensions.
+fn behind_validity<'a>(
+    reader: &mut Reader<'a>,
+) -> Result<(&'a [u8], &'a [u8], &'a [u8]), EntryError>
+    ensures { Moves (λ x. (x.0.now, (x.1.now, x.2.now))) (both_at (field_at name_at)
+        (both_at key_hash_at (field_at extensions_at))) reader.old result reader.new }
+{
+    let subject = read_name(reader)?;
+    let key_hash = key_hash(reader)?;
+    let extensions = read_extensions(reader)?;
+    Ok((subject, key_hash, extensions))
+}
+
 // The fields behind the type, up to the end.
 #[tactic(auto, unfolding(crate::specs::Reading::body_of))]
 fn body(entry: &[u8]) -> Result<TbsEntry<'_>, EntryError>
@@ -36,9 +51,7 @@ fn body(entry: &[u8]) -> Result<TbsEntry<'_>, EntryError>
     read_version(&mut reader)?;
     let issuer = read_name(&mut reader)?;
     let (validity_der, validity) = read_validity(&mut reader)?;
-    let subject = read_name(&mut reader)?;
-    let key_hash = key_hash(&mut reader)?;
-    let extensions = read_extensions(&mut reader)?;
+    let (subject, key_hash, extensions) = behind_validity(&mut reader)?;
     reader.end()?;
     Ok(TbsEntry {
         issuer,
