@@ -42,6 +42,7 @@ use tree_core::TreeHash;
 pub struct Cosigner<H: TreeHash, D: Disk> {
     journal: Journal<D>,
     machine: Machine<H>,
+    // Both count the one-time keys that have signed.
     key: Key,
     ghost settled: { (b : List ℕ) → D.Disk.contents (disk_of journal) ≡ Some b → IsDurableAs
         H.TreeHash.hash machine.contents (end_of journal) b } by { Prim.hlevel (

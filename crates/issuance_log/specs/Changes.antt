@@ -1,4 +1,4 @@
--- What a record changes of a log, and when the log may append it.
+-- What a record changes of a log, and what is ready before it is appended.
 use Rattle.std.specs.Prelude.{◌≡◌, ◌<◌, ◌≤◌, ◌%◌, List, [], ◌∷◌, map, Option, Some, None}
 use Rattle.std.specs.Prelude.{length, option_to_list, Result, Ok, Err}
 use Rattle.byte_formats.specs.Types.{Hash, HashFunction, Text}
@@ -32,14 +32,16 @@ added_leaves (Item leaf) = leaf ∷ []
 added_leaves Landmark = []
 added_leaves (Tiles size) = []
 
--- A log that shows this may be changed so: it isn't full, its last landmark is below its size, or
--- the tiles are those of a multiple of 256 within its size.
+-- The numbers of a log that shows this stay sound if it is changed so: it isn't full, its last
+-- landmark is below its size, or the size of the tiles is a multiple of 256 within its size. Its
+-- rules refuse more: tiles whose size isn't above the last one.
 abbrev pub AllowsChange : Change → LogView → Type 0
 AllowsChange (Item leaf) v = v.size < v.settings.limit
 AllowsChange Landmark v = last_mark v.marks < v.size
 AllowsChange (Tiles size) v = (size % 256 ≡ 0) × (size ≤ v.size)
 
--- The change can't fail: there is capacity for the item or the landmark, and the tiles are stored.
+-- All is ready for the change: there is capacity for the item or the landmark, or the tiles are
+-- stored. So the change needs no memory, and no record tells of tiles that aren't stored.
 abbrev pub IsReadyFor : {H T : Type 0} {hashes : Hashes H} {k : Ghosts T} → Change → LogNumbers
     → Items H T hashes k → Type 0
 IsReadyFor (Item leaf) numbers items = HasItemCapacity items

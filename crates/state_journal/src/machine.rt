@@ -37,8 +37,8 @@ pub trait StateMachine: Drop + Sized {
     // that of a machine
     ghost beside: { Self → Beside };
 
-    /// The machine that the first record begins. A refusal hands a blank seed back, beside which
-    /// all is as it was.
+    /// The machine that the first record begins. A refusal hands a blank seed back, with what was
+    /// beside it as it was.
     fn begin(
         alloc: Global,
         seed: Self::Seed,

@@ -141,7 +141,7 @@ fn read_machine<M: StateMachine, D: Disk>(
 /// Errors: what [`Opening::begin`] and [`Opening::next`] refuse; `BadRecord` at the first record
 /// that breaks the rules, or where there is none; `Open(Memory)` where the machine is refused
 /// memory. Of the faults of the file the first is answered. The disk is handed back, and was only
-/// read. A blank seed is handed back, beside which all is as it was.
+/// read. A blank seed is handed back, with what was beside it as it was.
 pub fn open_state<M: StateMachine, D: Disk>(
     alloc: Global,
     disk: D,

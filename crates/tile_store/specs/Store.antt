@@ -26,8 +26,8 @@ module _ {H T : Type 0} {hashes : Hashes H} {g : Ghosts T} where
   abbrev pub tiles_spare : Tiles H T hashes g → ℕ
   tiles_spare tiles = spare_of tiles.rows
 
-  -- the nodes over the first so many leaves were made, and over how many they are once those over
-  -- the first `size` leaves are made too
+  -- the nodes over the first so many leaves are made; and over how many they are, once the nodes
+  -- over the first `size` leaves are made too
   abbrev pub tiles_filled : Tiles H T hashes g → ℕ
   tiles_filled tiles = filled_of tiles.rows
 
