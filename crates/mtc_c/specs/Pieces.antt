@@ -1,0 +1,46 @@
+-- What the C library hands out of a certificate.
+use Rattle.std.specs.Prelude.{ℕ, ◌≡◌, ◌×◌, ◌++◌, drop, length, nat_le, if◌then◌else◌}
+use Rattle.std.specs.Prelude.{Option, Some, None, Result, Ok, Err}
+use Rattle.std.specs.List.{slice_get}
+use Rattle.byte_formats.specs.Types.{Hash, HashFunction, Text}
+use Rattle.byte_formats.specs.Readings.{◌>>=◌}
+use Rattle.cert_fields.specs.Certificate.{Parts, parts_of}
+use Rattle.cert_fields.specs.Extensions.{dns_names_in}
+use Rattle.der_core.specs.declared.fault.CertError.{CertError}
+use Rattle.log_entry.specs.EntryOf.{entry_of}
+use Rattle.tree_core.specs.Tree.{leaf_hash}
+
+abbrev pub read_as_cert : Result Parts CertError → Result Parts ℕ
+read_as_cert (Ok c) = Ok c
+read_as_cert (Err why) = Err 2
+
+-- The certificate that these bytes are; 2 where they are none.
+abbrev pub cert_in : Text → Result Parts ℕ
+cert_in bytes = read_as_cert (parts_of bytes)
+
+-- The SubjectPublicKeyInfo of a certificate.
+abbrev pub public_key_in : Text → Result Text ℕ
+public_key_in bytes = cert_in bytes >>= λ c. Ok c.spki
+
+abbrev pub is_there : Option Text → Result Text ℕ
+is_there (Some name) = Ok name
+is_there None = Err 4
+
+-- The dNSName of a certificate with this number, counted from 0; 4 where there is none.
+abbrev pub name_in : Text → ℕ → Result Text ℕ
+name_in bytes number =
+    cert_in bytes >>= λ c. is_there (slice_get (dns_names_in c.extensions) number)
+
+-- The hash of its entry in the log.
+abbrev pub entry_hash_in : HashFunction → Text → Result Hash ℕ
+entry_hash_in h bytes = cert_in bytes >>= λ c. Ok (leaf_hash h (entry_of h c))
+
+-- What a call makes of a buffer. Bytes are put at its front, where they fit, and the rest stays; 9
+-- where they don't, and the buffer stays. The length is that of the bytes. Where there are none the
+-- buffer stays, the length is 0, and the status says why.
+abbrev pub IsHandedOut : Result Text ℕ → Text → Text → ℕ → ℕ → Type 0
+IsHandedOut (Err status) before behind len result =
+    (result ≡ status) × ((behind ≡ before) × (len ≡ 0))
+IsHandedOut (Ok piece) before behind len result = (len ≡ length piece)
+    × ((result, behind) ≡ (if nat_le (length piece) (length before)
+    then (0, piece ++ drop (length piece) before) else (9, before)))

@@ -1,0 +1,85 @@
+//! The judgement of a relying party as a C library, for programs in any language that calls C.
+//!
+//! The header `mtc.h` declares these functions, says what each answers and names the numbers. A
+//! slice is passed as a pointer and a length. The library keeps nothing between two calls, so
+//! threads may call it at once. It takes memory only to read a store, by the C library's `malloc`,
+//! and gives it back before it answers.
+#![tactic(auto)]
+
+ghost use Rattle.std.specs.Prelude.{◌≡◌};
+ghost use Rattle.mtc_c.specs.Pieces.{IsHandedOut, entry_hash_in, name_in, public_key_in};
+ghost use Rattle.mtc_c.specs.Verdicts.{IsVerdict};
+
+mod codes;
+mod pieces;
+mod verdict;
+
+use crate::pieces::{entry_hash_of, hand_out, name_of, public_key_of};
+use crate::verdict::verdict_on;
+use std::alloc::Global;
+use tree_core::{Sha, TreeHash};
+pub use verdict::Verdict;
+
+/// Judges a certificate (DER) by a store file (TOML) at a moment, in seconds since
+/// 1970-01-01T00:00:00Z, under SHA-256, and answers the status of the verdict that it writes.
+#[unsafe(no_mangle)]
+pub extern "C" fn mtc_judge(
+    alloc: Global,
+    cert: &[u8],
+    store: &[u8],
+    now: i64,
+    verdict: &mut Verdict,
+) -> u32
+    ensures verdict { IsVerdict ⟦<Sha as TreeHash>⟧.hash cert.now store.now now verdict.new }
+    ensures status { result ≡ verdict.new.status }
+{
+    *verdict = verdict_on(alloc, cert, store, now);
+    verdict.status
+}
+
+/// Writes the SubjectPublicKeyInfo of a certificate (RFC 5280, section 4.1) into a buffer, and its
+/// length. The bytes are to be those of a certificate that [`mtc_judge`] accepted.
+#[unsafe(no_mangle)]
+pub extern "C" fn mtc_public_key(cert: &[u8], out: &mut [u8], length: &mut u64) -> u32
+    ensures { IsHandedOut (public_key_in cert.now) out.old out.new length.new result }
+{
+    match public_key_of(cert) {
+        Ok(key) => hand_out(key, out, length),
+        Err(status) => nothing(status, length),
+    }
+}
+
+/// Writes a dNSName of a certificate (RFC 5280, section 4.2.1.6) into a buffer, and its length.
+/// The first name has the number 0. The bytes are to be those of a certificate that [`mtc_judge`]
+/// accepted.
+#[unsafe(no_mangle)]
+pub extern "C" fn mtc_dns_name(cert: &[u8], number: u64, out: &mut [u8], length: &mut u64) -> u32
+    ensures { IsHandedOut (name_in cert.now number) out.old out.new length.new result }
+{
+    match name_of(cert, number) {
+        Ok(name) => hand_out(name, out, length),
+        Err(status) => nothing(status, length),
+    }
+}
+
+/// Writes the hash that the log has for the entry of a certificate (RFC 9162, section 2.1) into a
+/// buffer, 32 bytes, and its length.
+#[unsafe(no_mangle)]
+pub extern "C" fn mtc_entry_hash(cert: &[u8], out: &mut [u8], length: &mut u64) -> u32
+    ensures { IsHandedOut (entry_hash_in ⟦<Sha as TreeHash>⟧.hash cert.now) out.old out.new
+        length.new result }
+{
+    match entry_hash_of::<Sha>(cert) {
+        Ok(hash) => hand_out(&hash, out, length),
+        Err(status) => nothing(status, length),
+    }
+}
+
+// There is nothing to write: the length is 0.
+fn nothing(status: u32, length: &mut u64) -> u32
+    ensures same { result ≡ status }
+    ensures none { length.new ≡ 0 }
+{
+    *length = 0;
+    status
+}

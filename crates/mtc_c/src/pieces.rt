@@ -1,0 +1,71 @@
+//! What a caller wants of a certificate that was accepted, put into buffers of the caller.
+
+ghost use Rattle.std.specs.Prelude.{◌≡◌, Ok};
+ghost use Rattle.byte_formats.specs.Readings.{Gives};
+ghost use Rattle.cert_fields.specs.Views.{parts};
+ghost use Rattle.mtc_c.specs.Pieces.{IsHandedOut, cert_in, entry_hash_in, name_in, public_key_in};
+
+use cert_fields::{Cert, dns_names, parse};
+use log_entry::entry_hash;
+use tree_core::TreeHash;
+
+const DONE: u32 = 0;
+
+const BAD_FORM: u32 = 2;
+
+const NO_SUCH_NAME: u32 = 4;
+
+const TOO_LONG: u32 = 9;
+
+/// Puts bytes at the front of a buffer, where they fit, and says how many they are.
+pub(crate) fn hand_out(piece: &[u8], out: &mut [u8], length: &mut u64) -> u32
+    ensures { IsHandedOut (Ok piece.now) out.old out.new length.new result }
+{
+    *length = piece.len() as u64;
+    if out.len() < piece.len() {
+        return TOO_LONG;
+    }
+    out[..piece.len()].copy_from_slice(piece);
+    DONE
+}
+
+// The certificate that these bytes are.
+fn cert_of(bytes: &[u8]) -> Result<Cert<'_>, u32>
+    ensures { Gives (λ c. parts c) result (cert_in bytes.now) }
+{
+    match parse(bytes) {
+        Ok(cert) => Ok(cert),
+        Err(_) => Err(BAD_FORM),
+    }
+}
+
+/// The key of a certificate.
+pub(crate) fn public_key_of(cert: &[u8]) -> Result<&[u8], u32>
+    ensures { Gives (λ key. key.now) result (public_key_in cert.now) }
+{
+    let cert = cert_of(cert)?;
+    Ok(cert.spki)
+}
+
+/// A name of a certificate.
+pub(crate) fn name_of(cert: &[u8], number: u64) -> Result<&[u8], u32>
+    ensures { Gives (λ name. name.now) result (name_in cert.now number) }
+{
+    let cert = cert_of(cert)?;
+    let mut left = number;
+    for name in dns_names(&cert) {
+        if left == 0 {
+            return Ok(name);
+        }
+        left -= 1;
+    }
+    Err(NO_SUCH_NAME)
+}
+
+/// The hash of the entry of a certificate.
+pub(crate) fn entry_hash_of<H: TreeHash>(cert: &[u8]) -> Result<[u8; 32], u32>
+    ensures { result ≡ entry_hash_in H.hash cert.now }
+{
+    let cert = cert_of(cert)?;
+    Ok(entry_hash::<H>(&cert))
+}

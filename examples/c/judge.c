@@ -1,0 +1,27 @@
+/* judge CERT STORE NOW: what the library says of a certificate, as `mtc verify` does. */
+#include "mtc.h"
+#include <stdio.h>
+#include <stdlib.h>
+
+static uint8_t *bytes_of(const char *name, size_t *length) {
+    static uint8_t room[2][1 << 20];
+    static int next = 0;
+    FILE *file = fopen(name, "rb");
+    if (!file) { perror(name); exit(5); }
+    *length = fread(room[next], 1, sizeof room[next], file);
+    fclose(file);
+    return room[next++];
+}
+
+int main(int count, char **words) {
+    if (count != 4) { fprintf(stderr, "judge CERT STORE NOW\n"); return 1; }
+    size_t cert_length, store_length;
+    uint8_t *cert = bytes_of(words[1], &cert_length), *store = bytes_of(words[2], &store_length);
+    struct mtc_verdict verdict;
+    uint32_t status = mtc_judge(cert, cert_length, store, store_length, atoll(words[3]), &verdict);
+    if (status == MTC_DONE)
+        printf("accepted %llu\n", (unsigned long long)verdict.index);
+    else
+        printf("not accepted: %u %llu\n", verdict.refusal, (unsigned long long)verdict.number);
+    return (int)status;
+}

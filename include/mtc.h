@@ -1,0 +1,143 @@
+/*
+ * mtc.h: how a relying party judges certificates that a Merkle tree log has issued.
+ *
+ * The library behind it is the crate mtc_c: each function keeps its contract, which is proved.
+ * docs/LIBRARY.md says how to build libmtc.a and libmtc.so, and shows callers.
+ *
+ * A caller owes: each pointer leads to as many bytes as its length says, which nobody changes
+ * during the call; no two buffers that the call writes lie over one another or over what it reads.
+ * Where a length is 0 the pointer may be any but a null pointer. malloc, realloc and free are of
+ * one allocator. No function is called in a signal handler, or in the child of a fork of a program
+ * with threads. Threads may call at the same time, each with buffers of its own.
+ */
+#ifndef MTC_H
+#define MTC_H
+
+#include <stddef.h>
+#include <stdint.h>
+
+#ifdef __cplusplus
+extern "C" {
+#endif
+
+/* What a function answers. */
+enum {
+    MTC_DONE = 0,         /* the certificate is accepted; or the bytes are written */
+    MTC_BAD_FORM = 2,     /* the certificate or the store isn't in its form */
+    MTC_REFUSED = 3,      /* the certificate is refused */
+    MTC_NO_SUCH_NAME = 4, /* the certificate has no dNSName with this number */
+    MTC_NO_MEMORY = 8,    /* memory was refused, and nothing is told of the certificate */
+    MTC_TOO_LONG = 9      /* the buffer is too short, and isn't written */
+};
+
+/* Why a certificate isn't accepted. Behind each stands what `number` then is. */
+enum {
+    MTC_NO_REFUSAL = 0,
+
+    /* the store, with the status MTC_BAD_FORM; a field is one of MTC_FIELD_.. */
+    MTC_NOT_TOML = 1,
+    MTC_UNKNOWN_KEY = 2,
+    MTC_MISSING = 3,   /* the field */
+    MTC_BAD_VALUE = 4, /* the field */
+    MTC_REPEATED_ID = 5,
+    MTC_REPEATED_SUBTREE = 6,
+    MTC_BAD_RANGE = 7,
+
+    /* the certificate, with the status MTC_BAD_FORM */
+    MTC_TRUNCATED = 16,   /* the offset of the element in the certificate; so up to MTC_TRAILING */
+    MTC_LONG_FORM = 17,
+    MTC_HIGH_TAG = 18,
+    MTC_WRONG_TAG = 19,
+    MTC_BAD_INTEGER = 20,
+    MTC_BAD_BOOL = 21,
+    MTC_BAD_OID = 22,
+    MTC_BAD_BITS = 23,
+    MTC_SET_ORDER = 24,
+    MTC_TRAILING = 25,
+    MTC_BAD_VERSION = 32,
+    MTC_BAD_SERIAL = 33,
+    MTC_BAD_TIME = 34,
+    MTC_ALGORITHMS_DIFFER = 35,
+    MTC_REPEATED_EXTENSION = 36,
+    MTC_UNIQUE_ID = 37,
+    MTC_BAD_EXTENSION = 38,
+    MTC_BAD_NAME = 39,
+
+    /* the proof in the certificate, with the status MTC_BAD_FORM */
+    MTC_PROOF_SHORT = 48, /* the offset in the proof */
+    MTC_PROOF_HASH_LENGTH = 49,
+    MTC_PROOF_TRAILING = 50,
+    MTC_PROOF_EMPTY_ID = 51, /* the offset in the proof */
+
+    /* the judgement, with the status MTC_REFUSED */
+    MTC_ALGORITHM = 64,
+    MTC_UNKNOWN_LOG = 65,
+    MTC_NOT_YET = 66,
+    MTC_EXPIRED = 67,
+    MTC_UNKNOWN_CRITICAL = 68,
+    MTC_REVOKED = 69,
+    MTC_BAD_SUBTREE = 70,
+    MTC_OUTSIDE = 71,
+    MTC_WRONG_LENGTH = 72,
+    MTC_LANDMARK_DIFFERS = 73,
+    MTC_TOO_FEW_COSIGNERS = 74 /* the first rule that isn't met, from 1; 0 where there is none */
+};
+
+/* The fields of a store file. */
+enum {
+    MTC_FIELD_LOG_ID = 0,
+    MTC_FIELD_COSIGNER_ID = 1,
+    MTC_FIELD_COSIGNER_KEY = 2,
+    MTC_FIELD_COUNT = 3,
+    MTC_FIELD_COSIGNERS = 4,
+    MTC_FIELD_START = 5,
+    MTC_FIELD_END = 6,
+    MTC_FIELD_HASH = 7,
+    MTC_FIELD_TABLE = 8
+};
+
+/* What is told of a certificate. */
+struct mtc_verdict {
+    uint32_t status;    /* MTC_DONE, MTC_BAD_FORM, MTC_REFUSED or MTC_NO_MEMORY */
+    uint32_t refusal;   /* why it isn't accepted, or 0 */
+    uint64_t number;    /* what belongs to the refusal, or 0 */
+    uint64_t index;     /* the index of its entry in the log; this and what follows is 0 where it
+                           isn't accepted */
+    uint64_t start;     /* the subtree [start, end) that its proof names */
+    uint64_t end;
+    uint64_t cosigners; /* bit i is set where the cosigner at place i of the store counts; 0 where
+                           the store trusts the hash of the subtree itself */
+};
+
+/*
+ * Judges a certificate (DER) by a store file (TOML) at a moment, in seconds since
+ * 1970-01-01T00:00:00Z. Writes the verdict, and answers its status. The first refusal in the order
+ * of `mtc verify` is told.
+ */
+uint32_t mtc_judge(const uint8_t *cert, size_t cert_length, const uint8_t *store,
+                   size_t store_length, int64_t now, struct mtc_verdict *verdict);
+
+/*
+ * The three calls that follow want the bytes of a certificate that mtc_judge has accepted: they
+ * read it, and judge nothing. Each writes the length of what it has to hand out, and puts that at
+ * the front of the buffer where it fits. They answer MTC_DONE, MTC_BAD_FORM where the bytes are no
+ * certificate, MTC_NO_SUCH_NAME or MTC_TOO_LONG. The length is 0 where there is nothing to hand out.
+ */
+
+/* The SubjectPublicKeyInfo of the certificate (DER). */
+uint32_t mtc_public_key(const uint8_t *cert, size_t cert_length, uint8_t *out, size_t out_length,
+                        uint64_t *length);
+
+/* The dNSName with this number, from 0 on. It may have any bytes: compare it by its length. */
+uint32_t mtc_dns_name(const uint8_t *cert, size_t cert_length, uint64_t number, uint8_t *out,
+                      size_t out_length, uint64_t *length);
+
+/* The hash of the certificate's entry in the log, 32 bytes: a leaf of the tree of RFC 9162. */
+uint32_t mtc_entry_hash(const uint8_t *cert, size_t cert_length, uint8_t *out, size_t out_length,
+                        uint64_t *length);
+
+#ifdef __cplusplus
+}
+#endif
+
+#endif

@@ -1,0 +1,216 @@
+#!/usr/bin/env python3
+"""Compares what the C library says of certificates, by calls from Python, C and Go, with what the readers of tests/reference say.
+
+The rows are those of tests/hostile_files.py for `verify`. Refusals and fields have the names of include/mtc.h. The calls are made
+one after the other, and then by eight threads at once. Of a certificate that is accepted, key, names and the entry's hash are
+compared too, in a buffer that is just long enough, and in one that is too short. With a number of rounds the certificates and
+stores of the rows are changed at random, so many of them. It needs a C compiler; where there is no Go compiler, or no Python
+library, that part is left out. Usage: tests/c_library.py [ROUNDS]
+"""
+
+import ctypes
+import hashlib
+import os
+import random
+import re
+import shutil
+import subprocess
+import sys
+import tempfile
+from concurrent.futures import ThreadPoolExecutor
+from pathlib import Path
+
+from hostile import judgements
+from reference import certificate, entry, judging, store
+
+ROOT = Path(__file__).resolve().parent.parent
+HEADER = ROOT / "include/mtc.h"
+# Every so manieth row is told by a program of C and of Go too.
+EACH = 40
+THREADS = 8
+# What a name of the header is told as, where it isn't the name alone.
+TOLD_AS = {"ProofShort": "Short", "ProofHashLength": "HashLength", "ProofTrailing": "Trailing", "ProofEmptyId": "EmptyId",
+           "BadSubtree": "ProofShape BadSubtree", "Outside": "ProofShape Outside", "WrongLength": "ProofShape WrongLength"}
+WITH_NUMBER = {"ProofShort", "ProofEmptyId", "TooFewCosigners"}
+
+
+def header_names():
+    """The names of the three lists of the header by their numbers: what is answered, refusals, and fields of a store."""
+    found = []
+    for block in re.findall(r"enum \{(.*?)\};", HEADER.read_text(), re.S):
+        lines = re.findall(r"MTC_(?:FIELD_)?([A-Z_]+) = (\d+)", block)
+        found.append({int(number): "".join(word.capitalize() for word in name.split("_")) for name, number in lines})
+    return found
+
+
+class Verdict(ctypes.Structure):
+    """The struct of the header."""
+    _fields_ = [("status", ctypes.c_uint32), ("refusal", ctypes.c_uint32)] + [
+        (name, ctypes.c_uint64) for name in ("number", "index", "start", "end", "cosigners")]
+
+
+    def told(self, names):
+        """The status and the texts of `verify` that say the same."""
+        _, refusals, fields = names
+        if self.status == 0:
+            return [(0, f"accepted {self.index}\n".encode(), b"")]
+        if self.status == 8:
+            return [(8, b"", b"")]
+        reason = refusals[self.refusal]
+        words = TOLD_AS.get(reason, reason)
+        if self.refusal in (3, 4):
+            words += " " + fields[self.number]
+        elif reason in WITH_NUMBER or 16 <= self.refusal < 32:
+            words += f" {self.number}"
+        if self.status == 3:
+            return [(3, f"refused {words}\n".encode(), b"")]
+        return [(2, b"", f"mtc: verify: {'store' if self.refusal < 16 else 'c'}: {words}\n".encode())]
+
+
+class Library:
+    """The shared object, called by Python."""
+
+    def __init__(self, path):
+        self.calls = ctypes.CDLL(str(path))
+
+    def judge(self, cert, known, now):
+        verdict = Verdict(7, 7, 7, 7, 7, 7, 7)
+        status = self.calls.mtc_judge(cert, ctypes.c_size_t(len(cert)), known, ctypes.c_size_t(len(known)), ctypes.c_int64(now),
+                                      ctypes.byref(verdict))
+        assert status == verdict.status
+        return verdict
+
+    def piece(self, call, cert, room, *words):
+        """What a call hands out into so many bytes: its answer, the length, and the buffer."""
+        buffer, length = ctypes.create_string_buffer(b"\xaa" * (room + 1), room + 1), ctypes.c_uint64(7)
+        status = getattr(self.calls, call)(cert, ctypes.c_size_t(len(cert)), *words, buffer, ctypes.c_size_t(room),
+                                           ctypes.byref(length))
+        return status, length.value, buffer.raw
+
+
+def dns_names(read):
+    """The dNSNames of a certificate: those of its first subjectAltName."""
+    return next((one.names for one in read.extension_list if one.identifier == certificate.ALT_NAME), [])
+
+
+def pieces_of(cert):
+    """The calls that hand out a part of a certificate, with the part, by the reader."""
+    read = certificate.read(cert)
+    yield "mtc_public_key", (), read.key
+    yield "mtc_entry_hash", (), hashlib.sha256(b"\0" + entry.of_certificate(read)).digest()
+    for number, name in enumerate(dns_names(read)):
+        yield "mtc_dns_name", (ctypes.c_uint64(number),), name
+
+
+def wrong_pieces(library, cert):
+    """What is handed out of a certificate otherwise than the reader says."""
+    count = 0
+    for call, words, part in pieces_of(cert):
+        count += call == "mtc_dns_name"
+        size = len(part)
+        if library.piece(call, cert, size, *words) != (0, size, part + b"\xaa"):
+            yield f"{call} {words}: not {part.hex()}"
+        if library.piece(call, cert, size + 3, *words) != (0, size, part + b"\xaa" * 4):
+            yield f"{call} {words}: not {part.hex()} in a longer buffer"
+        if size and library.piece(call, cert, size - 1, *words) != (9, size, b"\xaa" * size):
+            yield f"{call} {words}: a short buffer"
+    if library.piece("mtc_dns_name", cert, 4, ctypes.c_uint64(count)) != (4, 0, b"\xaa" * 5):
+        yield f"mtc_dns_name {count}: there is none"
+
+
+def wrong_row(library, names, row):
+    """What is told of a row otherwise than the readers say."""
+    cert, known, now = row
+    asked, verdict = judgements.wanted(*row), library.judge(*row)
+    if verdict.told(names) != asked:
+        yield f"{verdict.told(names)} in place of {asked}"
+    elif verdict.status == 0:
+        index, start, end = judging.judge(cert, store.read(known), now)
+        if (verdict.index, verdict.start, verdict.end, verdict.refusal, verdict.number) != (index, start, end, 0, 0):
+            yield f"{bytes(verdict).hex()}: another interval"
+        yield from wrong_pieces(library, cert)
+
+
+def rows():
+    """The rows of `verify`."""
+    return [row for kind, _, _ in judgements.KINDS for row in kind()]
+
+
+def changed(row):
+    """A row with one to three bytes of the certificate or of the store that are others, dropped or doubled."""
+    files = [bytearray(text) for text in row[:2]]
+    for _ in range(random.randint(1, 3)):
+        text = random.choice(files)
+        at = random.randrange(len(text) + 1)
+        text[at:at + random.randint(0, 2)] = random.choice([b"", random.randbytes(1), random.randbytes(2), bytes(text[at:at + 2])])
+    return bytes(files[0]), bytes(files[1]), row[2]
+
+
+def answer_of(command, row, folder):
+    """What a program that calls the library says of a row."""
+    paths = [Path(folder, name) for name in ("c", "store")]
+    for path, text in zip(paths, row):
+        path.write_bytes(text)
+    ended = subprocess.run([*command, *paths, str(row[2])], capture_output=True, text=True)
+    return ended.returncode, ended.stdout
+
+
+def line_of(verdict):
+    """What the example programs print of a verdict."""
+    if verdict.status == 0:
+        return 0, f"accepted {verdict.index}\n"
+    return verdict.status, f"not accepted: {verdict.refusal} {verdict.number}\n"
+
+
+def told(what, wrong, note=""):
+    """Prints a line, and what is wrong below it; whether anything is."""
+    print(f"{'wrong' if wrong else 'ok'}: {what}{note}", *wrong[:5], sep="\n    ")
+    return bool(wrong)
+
+
+def callers(folder, archive, shared):
+    """The programs that call the library, with their words; None where there is no compiler."""
+    program = Path(folder, "judge")
+    subprocess.run(["cc", "-std=c11", "-Wall", "-Wextra", "-Werror", "-O2", f"-I{ROOT}/include", ROOT / "examples/c/judge.c", archive,
+                    "-o", program], check=True)
+    yield "C", [program]
+    yield "Python", [sys.executable, ROOT / "examples/c/judge.py", shared]
+    if not shutil.which("go"):
+        yield "Go", None
+        return
+    shutil.copytree(ROOT / "examples/c/go", Path(folder, "go"))
+    environment = {"CGO_CFLAGS": f"-I{ROOT}/include", "CGO_LDFLAGS": str(archive), "CGO_ENABLED": "1"}
+    subprocess.run(["go", "build", "-o", Path(folder, "judge_go"), "."], cwd=Path(folder, "go"), check=True,
+                   env={**os.environ, **environment})
+    yield "Go", [Path(folder, "judge_go")]
+
+
+def main(words):
+    with tempfile.TemporaryDirectory() as folder:
+        archive, shared = Path(folder, "libmtc.a"), Path(folder, "libmtc.so")
+        if subprocess.run([ROOT / "tools/c_library.sh", folder]).returncode:
+            return 70
+        library, names, table, status = Library(shared), header_names(), rows(), False
+        status |= told("what is told of the rows of verify", [one for row in table for one in wrong_row(library, names, row)],
+                       f": {len(table)}")
+        with ThreadPoolExecutor(THREADS) as threads:
+            at_once = list(threads.map(lambda row: line_of(library.judge(*row)), table * THREADS))
+        alone = [line_of(library.judge(*row)) for row in table] * THREADS
+        status |= told(f"{THREADS} threads call at once", [f"{a} in place of {b}" for a, b in zip(at_once, alone) if a != b])
+        for language, command in callers(folder, archive, shared):
+            if command is None:
+                print(f"left out: c_library: {language}: there is no compiler")
+                continue
+            some = table[::EACH]
+            wrong = [f"{said} in place of {asked}" for row in some
+                     if (said := answer_of(command, row, folder)) != (asked := line_of(library.judge(*row)))]
+            status |= told(f"a program of {language} says the same of every {EACH}th row", wrong, f": {len(some)}")
+        random.seed(1)
+        rounds = int(words[0]) if words else 0
+        wrong = [one for _ in range(rounds) for one in wrong_row(library, names, changed(random.choice(table)))]
+        status |= rounds > 0 and told("rows that are changed at random", wrong, f": {rounds}")
+    return int(status)
+
+
+if __name__ == "__main__":
+    sys.exit(main(sys.argv[1:]))
