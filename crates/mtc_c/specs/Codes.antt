@@ -1,6 +1,6 @@
 -- The numbers of refusals in the C library, each with what belongs to it: an offset, the number of
 -- a field, or that of a rule.
-use Rattle.std.specs.Prelude.{ℕ, ◌×◌}
+use Rattle.std.specs.Prelude.{ℕ}
 use Rattle.der_core.specs.declared.fault.DerError.{DerError}
 use Rattle.der_core.specs.declared.fault.DerError.TheVariants.{Truncated, LongForm, HighTag}
 use Rattle.der_core.specs.declared.fault.DerError.TheVariants.{WrongTag, BadInteger, BadBool}

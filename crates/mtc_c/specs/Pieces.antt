@@ -1,5 +1,5 @@
 -- What the C library hands out of a certificate.
-use Rattle.std.specs.Prelude.{ℕ, ◌≡◌, ◌×◌, ◌++◌, drop, length, nat_le, if◌then◌else◌}
+use Rattle.std.specs.Prelude.{ℕ, ◌≡◌, ◌++◌, drop, length, nat_le, if◌then◌else◌}
 use Rattle.std.specs.Prelude.{Option, Some, None, Result, Ok, Err}
 use Rattle.std.specs.List.{slice_get}
 use Rattle.byte_formats.specs.Types.{Hash, HashFunction, Text}
@@ -35,12 +35,17 @@ name_in bytes number =
 abbrev pub entry_hash_in : HashFunction → Text → Result Hash ℕ
 entry_hash_in h bytes = cert_in bytes >>= λ c. Ok (leaf_hash h (entry_of h c))
 
--- What a call makes of a buffer. Bytes are put at its front, where they fit, and the rest stays; 9
--- where they don't, and the buffer stays. The length is that of the bytes. Where there are none the
--- buffer stays, the length is 0, and the status says why.
+-- Bytes are put at the front of a buffer, where they fit, and the rest of it stays; or 9 and the
+-- buffer as it was.
+abbrev pub put_in : Text → Text → ℕ × Text
+put_in piece before = if nat_le (length piece) (length before)
+    then (0, piece ++ drop (length piece) before) else (9, before)
+
+-- What a call that hands out a part of a certificate makes of the caller's buffer, of its length
+-- and of the status. Where there is no such part the buffer stays, the length is 0, and the status
+-- says why.
 abbrev pub IsHandedOut : Result Text ℕ → Text → Text → ℕ → ℕ → Type 0
 IsHandedOut (Err status) before behind len result =
     (result ≡ status) × ((behind ≡ before) × (len ≡ 0))
 IsHandedOut (Ok piece) before behind len result = (len ≡ length piece)
-    × ((result, behind) ≡ (if nat_le (length piece) (length before)
-    then (0, piece ++ drop (length piece) before) else (9, before)))
+    × ((result ≡ (put_in piece before).0) × (behind ≡ (put_in piece before).1))

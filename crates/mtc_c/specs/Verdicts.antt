@@ -1,5 +1,5 @@
 -- What the C library tells of a certificate by a store file.
-use Rattle.std.specs.Prelude.{ℕ, ℤ, ◌≡◌, ◌⊎◌, ◌×◌, Result, Ok, Err}
+use Rattle.std.specs.Prelude.{ℕ, ℤ, ◌≡◌, ◌⊎◌, Result, Ok, Err}
 use Rattle.byte_formats.specs.Types.{HashFunction, Text}
 use Rattle.policy_core.specs.Files.{store_of}
 use Rattle.policy_core.specs.Judgement.{judgement}

@@ -1,11 +1,12 @@
 //! What a caller wants of a certificate that was accepted, put into buffers of the caller.
 
-ghost use Rattle.std.specs.Prelude.{◌≡◌, Ok};
+ghost use Rattle.std.specs.Prelude.{◌≡◌, Ok, option_map};
+ghost use Rattle.std.specs.List.{slice_get};
 ghost use Rattle.byte_formats.specs.Readings.{Gives};
 ghost use Rattle.cert_fields.specs.Views.{parts};
 ghost use Rattle.mtc_c.specs.Pieces.{IsHandedOut, cert_in, entry_hash_in, name_in, public_key_in};
 
-use cert_fields::{Cert, dns_names, parse};
+use cert_fields::{Cert, DnsNames, dns_names, parse};
 use log_entry::entry_hash;
 use tree_core::TreeHash;
 
@@ -47,19 +48,20 @@ pub(crate) fn public_key_of(cert: &[u8]) -> Result<&[u8], u32>
     Ok(cert.spki)
 }
 
+// The name with this number, counted from 0.
+fn numbered<'a>(names: DnsNames<'a>, number: u64) -> Option<&'a [u8]>
+    ensures { option_map (λ name. name.now) result ≡ slice_get names.entry number }
+{
+    let mut names = names;
+    names.nth(number as usize)
+}
+
 /// A name of a certificate.
 pub(crate) fn name_of(cert: &[u8], number: u64) -> Result<&[u8], u32>
     ensures { Gives (λ name. name.now) result (name_in cert.now number) }
 {
     let cert = cert_of(cert)?;
-    let mut left = number;
-    for name in dns_names(&cert) {
-        if left == 0 {
-            return Ok(name);
-        }
-        left -= 1;
-    }
-    Err(NO_SUCH_NAME)
+    numbered(dns_names(&cert), number).ok_or(NO_SUCH_NAME)
 }
 
 /// The hash of the entry of a certificate.
