@@ -15,7 +15,7 @@ complain() {
 
 cp "$root/mtc" "$root/crates.txt" "$folder/"
 mkdir "$folder/bin" "$folder/examples"
-for crate in $(sed 's/#.*//; s/:.*//' "$root/crates.txt"); do
+for crate in $(sed 's/#.*//; s/[ :].*//' "$root/crates.txt"); do
     mkdir -p "$folder/crates/$crate/src" "$folder/crates/$crate/specs"
     touch "$folder/crates/$crate/src/lib.rt"
 done

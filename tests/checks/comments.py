@@ -129,6 +129,6 @@ def groups_of_crates():
         heading = HEADING.match(line)
         if heading:
             found.append((heading.group(1), []))
-        elif re.match(r"\w+:", line):
-            found[-1][1].append(line.split(":")[0])
+        elif re.match(r"\w+( staticlib)?:", line):
+            found[-1][1].append(line.split(":")[0].split()[0])
     return found

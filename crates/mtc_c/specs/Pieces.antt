@@ -10,6 +10,7 @@ use Rattle.der_core.specs.declared.fault.CertError.{CertError}
 use Rattle.log_entry.specs.EntryOf.{entry_of}
 use Rattle.tree_core.specs.Tree.{leaf_hash}
 
+-- Whatever is wrong with bytes that are no certificate is the status 2.
 abbrev pub read_as_cert : Result Parts CertError → Result Parts ℕ
 read_as_cert (Ok c) = Ok c
 read_as_cert (Err why) = Err 2
@@ -22,6 +23,7 @@ cert_in bytes = read_as_cert (parts_of bytes)
 abbrev pub public_key_in : Text → Result Text ℕ
 public_key_in bytes = cert_in bytes >>= λ c. Ok c.spki
 
+-- A name that isn't there is the status 4.
 abbrev pub is_there : Option Text → Result Text ℕ
 is_there (Some name) = Ok name
 is_there None = Err 4
@@ -44,8 +46,8 @@ put_in piece before = if nat_le (length piece) (length before)
 -- What a call that hands out a part of a certificate makes of the caller's buffer, of its length
 -- and of the status. Where there is no such part the buffer stays, the length is 0, and the status
 -- says why.
-abbrev pub IsHandedOut : Result Text ℕ → Text → Text → ℕ → ℕ → Type 0
-IsHandedOut (Err status) before behind len result =
-    (result ≡ status) × ((behind ≡ before) × (len ≡ 0))
-IsHandedOut (Ok piece) before behind len result = (len ≡ length piece)
-    × ((result ≡ (put_in piece before).0) × (behind ≡ (put_in piece before).1))
+abbrev pub IsPutInBuffer : Result Text ℕ → Text → Text → ℕ → ℕ → Type 0
+IsPutInBuffer (Err status) before after len result =
+    (result ≡ status) × ((after ≡ before) × (len ≡ 0))
+IsPutInBuffer (Ok piece) before after len result = (len ≡ length piece)
+    × ((result ≡ (put_in piece before).0) × (after ≡ (put_in piece before).1))

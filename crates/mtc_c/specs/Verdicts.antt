@@ -1,4 +1,4 @@
--- What the C library tells of a certificate by a store file.
+-- The verdicts of the C library on certificates.
 use Rattle.std.specs.Prelude.{ℕ, ℤ, ◌≡◌, ◌⊎◌, Result, Ok, Err}
 use Rattle.byte_formats.specs.Types.{HashFunction, Text}
 use Rattle.policy_core.specs.Files.{store_of}
@@ -50,8 +50,8 @@ abbrev pub verdict_by : Result Store StoreError → (Store → Result Accepted R
 verdict_by (Ok store) judged = verdict_of (judged store)
 verdict_by (Err why) judged = refused 2 (store_code why)
 
--- The verdict on a certificate by a store file at a moment; or memory was refused, and nothing is
--- told of it.
+-- The verdict on a certificate by a store file at a time; or memory was refused, and nothing is
+-- known of it.
 abbrev pub IsVerdict : HashFunction → Text → Text → ℤ → Verdict → Type 0
 IsVerdict h cert store now verdict = (verdict ≡ refused 8 (0, 0))
     ⊎ (verdict ≡ verdict_by (store_of store) (λ s. judgement h cert s now))

@@ -7,7 +7,7 @@
 #![tactic(auto)]
 
 ghost use Rattle.std.specs.Prelude.{◌≡◌};
-ghost use Rattle.mtc_c.specs.Pieces.{IsHandedOut, entry_hash_in, name_in, public_key_in};
+ghost use Rattle.mtc_c.specs.Pieces.{IsPutInBuffer, entry_hash_in, name_in, public_key_in};
 ghost use Rattle.mtc_c.specs.Verdicts.{IsVerdict};
 
 mod codes;
@@ -20,7 +20,7 @@ use std::alloc::Global;
 use tree_core::{Sha, TreeHash};
 pub use verdict::Verdict;
 
-/// Judges a certificate (DER) by a store file (TOML) at a moment, in seconds since
+/// Judges a certificate (DER) by a store file (TOML) at a time, in seconds since
 /// 1970-01-01T00:00:00Z, under SHA-256, and answers the status of the verdict that it writes.
 #[unsafe(no_mangle)]
 pub extern "C" fn mtc_judge(
@@ -41,7 +41,7 @@ pub extern "C" fn mtc_judge(
 /// length. The bytes are to be those of a certificate that [`mtc_judge`] accepted.
 #[unsafe(no_mangle)]
 pub extern "C" fn mtc_public_key(cert: &[u8], out: &mut [u8], length: &mut u64) -> u32
-    ensures { IsHandedOut (public_key_in cert.now) out.old out.new length.new result }
+    ensures { IsPutInBuffer (public_key_in cert.now) out.old out.new length.new result }
 {
     match public_key_of(cert) {
         Ok(key) => hand_out(key, out, length),
@@ -54,7 +54,7 @@ pub extern "C" fn mtc_public_key(cert: &[u8], out: &mut [u8], length: &mut u64) 
 /// accepted.
 #[unsafe(no_mangle)]
 pub extern "C" fn mtc_dns_name(cert: &[u8], number: u64, out: &mut [u8], length: &mut u64) -> u32
-    ensures { IsHandedOut (name_in cert.now number) out.old out.new length.new result }
+    ensures { IsPutInBuffer (name_in cert.now number) out.old out.new length.new result }
 {
     match name_of(cert, number) {
         Ok(name) => hand_out(name, out, length),
@@ -66,7 +66,7 @@ pub extern "C" fn mtc_dns_name(cert: &[u8], number: u64, out: &mut [u8], length:
 /// buffer, 32 bytes, and its length.
 #[unsafe(no_mangle)]
 pub extern "C" fn mtc_entry_hash(cert: &[u8], out: &mut [u8], length: &mut u64) -> u32
-    ensures { IsHandedOut (entry_hash_in ⟦<Sha as TreeHash>⟧.hash cert.now) out.old out.new
+    ensures { IsPutInBuffer (entry_hash_in ⟦<Sha as TreeHash>⟧.hash cert.now) out.old out.new
         length.new result }
 {
     match entry_hash_of::<Sha>(cert) {

@@ -4,7 +4,7 @@ ghost use Rattle.std.specs.Prelude.{◌≡◌, Ok, option_map};
 ghost use Rattle.std.specs.List.{slice_get};
 ghost use Rattle.byte_formats.specs.Readings.{Gives};
 ghost use Rattle.cert_fields.specs.Views.{parts};
-ghost use Rattle.mtc_c.specs.Pieces.{IsHandedOut, cert_in, entry_hash_in, name_in, public_key_in};
+ghost use Rattle.mtc_c.specs.Pieces.{IsPutInBuffer, cert_in, entry_hash_in, name_in, public_key_in};
 
 use cert_fields::{Cert, DnsNames, dns_names, parse};
 use log_entry::entry_hash;
@@ -20,7 +20,7 @@ const TOO_LONG: u32 = 9;
 
 /// Puts bytes at the front of a buffer, where they fit, and says how many they are.
 pub(crate) fn hand_out(piece: &[u8], out: &mut [u8], length: &mut u64) -> u32
-    ensures { IsHandedOut (Ok piece.now) out.old out.new length.new result }
+    ensures { IsPutInBuffer (Ok piece.now) out.old out.new length.new result }
 {
     *length = piece.len() as u64;
     if out.len() < piece.len() {

@@ -1,4 +1,4 @@
-//! What is told of a certificate.
+//! The verdict on a certificate.
 
 ghost use Rattle.std.specs.Prelude.{◌≡◌, Ok};
 ghost use Rattle.mtc_c.specs.Verdicts.{IsVerdict, refused, verdict_of};
@@ -17,7 +17,7 @@ const REFUSED: u32 = 3;
 
 const NO_MEMORY: u32 = 8;
 
-/// What is told of a certificate by a store.
+/// The verdict on a certificate by a store.
 #[repr(C)]
 #[derive(Clone, Copy, Debug, PartialEq, Eq)]
 pub struct Verdict {
@@ -32,7 +32,7 @@ pub struct Verdict {
     pub index: u64,
     /// The first entry of the subtree that its proof names.
     pub start: u64,
-    /// The end of that subtree: the first entry behind it.
+    /// The end of that subtree: the first entry after it.
     pub end: u64,
     /// The cosigners that count: bit i is set for the one at place i of the store. 0 where the
     /// store trusts the subtree itself.
@@ -84,7 +84,7 @@ fn verdict_of(judged: Result<Accepted, Refusal>) -> Verdict
     }
 }
 
-/// What is told of a certificate by a store file at a moment.
+/// The verdict on a certificate by a store file at a time.
 pub(crate) fn verdict_on(alloc: Global, cert: &[u8], store: &[u8], now: i64) -> Verdict
     ensures { IsVerdict ⟦<Sha as TreeHash>⟧.hash cert.now store.now now result }
 {
