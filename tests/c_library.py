@@ -25,11 +25,11 @@ from reference import certificate, entry, judging, store
 
 ROOT = Path(__file__).resolve().parent.parent
 HEADER = ROOT / "include/mtc.h"
-# Every so manieth row is told by a program of C and of Go too.
-EACH = 40
+# Programs of C, Python and Go judge one row of so many.
+EACH = 1 if os.environ.get("MTC_ALL") == "1" else 40
 THREADS = 8
-# What a name of the header is told as, where it isn't the name alone.
-TOLD_AS = {"ProofShort": "Short", "ProofHashLength": "HashLength", "ProofTrailing": "Trailing", "ProofEmptyId": "EmptyId",
+# What `verify` prints for a name of the header, where it isn't the name alone.
+PRINTED_AS = {"ProofShort": "Short", "ProofHashLength": "HashLength", "ProofTrailing": "Trailing", "ProofEmptyId": "EmptyId",
            "BadSubtree": "ProofShape BadSubtree", "Outside": "ProofShape Outside", "WrongLength": "ProofShape WrongLength"}
 WITH_NUMBER = {"ProofShort", "ProofEmptyId", "TooFewCosigners"}
 
@@ -49,7 +49,7 @@ class Verdict(ctypes.Structure):
         (name, ctypes.c_uint64) for name in ("number", "index", "start", "end", "cosigners")]
 
 
-    def told(self, names):
+    def printed(self, names):
         """The status and the texts of `verify` that say the same."""
         _, refusals, fields = names
         if self.status == 0:
@@ -57,7 +57,7 @@ class Verdict(ctypes.Structure):
         if self.status == 8:
             return [(8, b"", b"")]
         reason = refusals[self.refusal]
-        words = TOLD_AS.get(reason, reason)
+        words = PRINTED_AS.get(reason, reason)
         if self.refusal in (3, 4):
             words += " " + fields[self.number]
         elif reason in WITH_NUMBER or 16 <= self.refusal < 32:
@@ -119,11 +119,11 @@ def wrong_pieces(library, cert):
 
 
 def wrong_row(library, names, row):
-    """What is told of a row otherwise than the readers say."""
+    """How the verdict on a row differs from what the readers say."""
     cert, known, now = row
     asked, verdict = judgements.wanted(*row), library.judge(*row)
-    if verdict.told(names) != asked:
-        yield f"{verdict.told(names)} in place of {asked}"
+    if verdict.printed(names) != asked:
+        yield f"{verdict.printed(names)} in place of {asked}"
     elif verdict.status == 0:
         index, start, end = judging.judge(cert, store.read(known), now)
         if (verdict.index, verdict.start, verdict.end, verdict.refusal, verdict.number) != (index, start, end, 0, 0):
@@ -162,7 +162,7 @@ def line_of(verdict):
     return verdict.status, f"not accepted: {verdict.refusal} {verdict.number}\n"
 
 
-def told(what, wrong, note=""):
+def report(what, wrong, note=""):
     """Prints a line, and what is wrong below it; whether anything is."""
     print(f"{'wrong' if wrong else 'ok'}: {what}{note}", *wrong[:5], sep="\n    ")
     return bool(wrong)
@@ -191,12 +191,12 @@ def main(words):
         if subprocess.run([ROOT / "tools/c_library.sh", folder]).returncode:
             return 70
         library, names, table, status = Library(shared), header_names(), rows(), False
-        status |= told("what is told of the rows of verify", [one for row in table for one in wrong_row(library, names, row)],
+        status |= report("the verdicts on the rows of verify, called from Python", [one for row in table for one in wrong_row(library, names, row)],
                        f": {len(table)}")
         with ThreadPoolExecutor(THREADS) as threads:
             at_once = list(threads.map(lambda row: line_of(library.judge(*row)), table * THREADS))
         alone = [line_of(library.judge(*row)) for row in table] * THREADS
-        status |= told(f"{THREADS} threads call at once", [f"{a} in place of {b}" for a, b in zip(at_once, alone) if a != b])
+        status |= report(f"{THREADS} threads call at once", [f"{a} in place of {b}" for a, b in zip(at_once, alone) if a != b])
         for language, command in callers(folder, archive, shared):
             if command is None:
                 print(f"left out: c_library: {language}: there is no compiler")
@@ -204,11 +204,11 @@ def main(words):
             some = table[::EACH]
             wrong = [f"{said} in place of {asked}" for row in some
                      if (said := answer_of(command, row, folder)) != (asked := line_of(library.judge(*row)))]
-            status |= told(f"a program of {language} says the same of every {EACH}th row", wrong, f": {len(some)}")
+            status |= report(f"a program of {language} judges one row of {EACH} likewise", wrong, f": {len(some)}")
         random.seed(1)
         rounds = int(words[0]) if words else 0
         wrong = [one for _ in range(rounds) for one in wrong_row(library, names, changed(random.choice(table)))]
-        status |= rounds > 0 and told("rows that are changed at random", wrong, f": {rounds}")
+        status |= rounds > 0 and report("rows that are changed at random", wrong, f": {rounds}")
     return int(status)
 
 
