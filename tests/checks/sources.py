@@ -76,7 +76,7 @@ def behind_head(text, place):
 WORD = re.compile(r"[^\W\d][\w-]*")
 CLAUSE = re.compile(rf"\s*(requires|ensures)\*?\s*({NAME})?\s*\{{")
 WHERE = re.compile(r"\s*where\b[^{;]*?(?=\{|;|\brequires\b|\bensures\b)", re.S)
-FUNCTION = re.compile(rf"^([ \t]*)(pub(?:\([a-z]+\))? +)?(?:const +)?fn +({NAME})", re.M)
+FUNCTION = re.compile(rf"^([ \t]*)(pub(?:\([a-z]+\))? +)?(?:const +)?(?:extern +(?:\x22C\x22 +)?)?fn +({NAME})", re.M)
 OWNER = re.compile(rf"^(pub(?:\([a-z]+\))? +)?(impl|trait)\b([^{{;]*)\{{", re.M)
 MEMBER = re.compile(rf"^[ \t]+(?:pub +)?ghost +({NAME})\s*[:=]", re.M)
 LENT_SLICE = re.compile(r"&(?:'\w+ +)?\[")
@@ -228,7 +228,7 @@ class Crate:
     def offered_by(self, path):
         """The names that a file and the modules that it opens offer."""
         text = blanked(path.read_text())
-        names = set(re.findall(rf"^pub +(?:const +)?fn +({NAME})", text, re.M))
+        names = set(re.findall(rf"^pub +(?:const +)?(?:extern +(?:\x22C\x22 +)?)?fn +({NAME})", text, re.M))
         names |= set(re.findall(rf"^pub +(?:struct|enum|trait|type|const|static) +({NAME})", text, re.M))
         for group in re.findall(r"^pub use ([^;]+);", text, re.M):
             for part in re.findall(NAME, re.sub(r"[\w]+::", "", re.sub(r"\w+ as ", "", group))):
