@@ -4,6 +4,9 @@ import hashlib
 
 from .fault import Fault
 
+# The tree hash of no entries.
+NO_ENTRIES = hashlib.sha256().digest()
+
 
 def leaf(entry):
     return hashlib.sha256(b"\0" + entry).digest()
@@ -45,6 +48,34 @@ def climbed(value, index, size, path):
         return inner and pair(inner, beside)
     inner = climbed(value, index - split, size - split, below)
     return inner and pair(beside, inner)
+
+
+def opened(node, start, end, first, last, proof, known=True):
+    """The hashes of the subtree from `start` up to `end` and of the one from `first` up to `last`, by a consistency proof.
+
+    None where the proof has another length. With `known` the subtree's hash is `node`; else it stands in the proof
+    (2.1.4.2, and the draft).
+    """
+    if (start, end) == (first, last):
+        hashes = [node, *proof] if known else proof
+        return (hashes[0], hashes[0]) if len(hashes) == 1 else None
+    if not proof:
+        return None
+    split, (*below, beside) = first + split_of(last - first), proof
+    if end <= split:
+        inner = opened(node, start, end, first, split, below, known)
+        return inner and (inner[0], pair(inner[1], beside))
+    if split <= start:
+        inner = opened(node, start, end, split, last, below, known)
+        return inner and (inner[0], pair(beside, inner[1]))
+    inner = opened(node, split, end, split, last, below, False)
+    return inner and (pair(beside, inner[0]), pair(beside, inner[1]))
+
+
+def is_consistent(start, end, node, size, root, proof):
+    """Whether a proof shows that a subtree with this hash is part of the list of this size and root."""
+    fits = is_subtree(start, end) and end <= size
+    return fits and opened(node, start, end, 0, size, proof) == (node, root)
 
 
 class List:

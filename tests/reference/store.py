@@ -5,7 +5,7 @@ import re
 import tomllib
 from typing import NamedTuple
 
-from .der import SEQUENCE, SET, UTF8_STRING, encoded
+from .der import IDENTIFIER, SEQUENCE, SET, UTF8_STRING, Fields, encoded
 from .fault import Fault
 from .hss import is_hss_key
 from .merkle import is_subtree
@@ -38,12 +38,47 @@ def anchor_id(text):
     return found if max(arcs) < 1 << 64 and len(found) <= MOST_ID else None
 
 
+def is_anchor_id(octets):
+    """Whether bytes are an anchor id: each arc ends, is in the fewest bytes and below 2^64."""
+    arc, begins = 0, True
+    for byte in octets:
+        if begins and byte == 0x80:
+            return False
+        arc, begins = (0 if begins else arc) << 7 | byte & 0x7F, byte < 0x80
+        if arc >> 64:
+            return False
+    return begins and 1 <= len(octets) <= MOST_ID
+
+
+def id_text(octets):
+    """The text of an id, if it is an anchor id."""
+    arcs, arc = [], 0
+    for byte in octets:
+        arc = arc << 7 | byte & 0x7F
+        if byte < 0x80:
+            arcs, arc = [*arcs, str(arc)], 0
+    return ".".join(arcs) if is_anchor_id(octets) else None
+
+
 def log_name(text):
     """The name of the log whose id has this text ("The name of a log")."""
     name = LOG_NAME + encoded(UTF8_STRING, text.encode())
     for tag in (SEQUENCE, SET, SEQUENCE):
         name = encoded(tag, name)
     return name
+
+
+def log_of(name):
+    """The text of the id of the log whose name this is; none of another name."""
+    fields = Fields(name, 0, len(name))
+    try:
+        for tag in (SEQUENCE, SET, SEQUENCE):
+            fields = fields.next(tag).fields()
+        fields.next(IDENTIFIER)
+        text = fields.next(UTF8_STRING).contents.decode()
+    except (Fault, UnicodeDecodeError):
+        return None
+    return text if anchor_id(text) and log_name(text) == name else None
 
 
 def public_key(text):
@@ -121,10 +156,16 @@ def subtree(table):
     return start, end, field(table, "hash", "Hash", tree_hash)
 
 
+def older(found):
+    """The escape of TOML 1.0 for one that 1.1 has added; all others are as they were."""
+    word = found[1]
+    return "\\u001b" if word == "e" else "\\u00" + word[1:] if len(word) == 3 else found[0]
+
+
 def parsed(text):
-    """The tree of a text."""
+    """The tree of a text of TOML 1.1, as far as that differs from 1.0 within a line (docs/DECISIONS.md)."""
     try:
-        return tomllib.loads(text.decode())
+        return tomllib.loads(re.sub(r"\\(x[0-9A-Fa-f]{2}|.)", older, text.decode().removeprefix("\ufeff")))
     except ValueError:
         raise Fault("NotToml") from None
 

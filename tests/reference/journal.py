@@ -1,0 +1,38 @@
+"""Journals, by docs/FORMATS.md, "Journals": the bodies of their records, or the first fault with its offset."""
+
+from .fault import Fault
+
+HEADER, MOST = b"mtc-journal/v1\n\0", 131_072
+CLOSED, OPEN = 0, 1
+
+
+def bodies(text):
+    """The bodies of the records, of which each may be tested before the next one is read."""
+    place = len(HEADER)
+    if not text.startswith(HEADER):
+        raise Fault("NotJournal")
+    while place < len(text):
+        if text[place] == CLOSED:
+            return
+        length = text[place + 1:place + 5]
+        size = int.from_bytes(length, "big")
+        if len(length) == 4 and not 1 <= size <= MOST:
+            raise Fault("BadLength", place)
+        body = text[place + 5:place + 5 + size]
+        if len(length) < 4 or len(body) < size:
+            break
+        yield body
+        place += 5 + size
+    raise Fault("CutShort", place)
+
+
+def written(records):
+    """The journal of these records."""
+    return HEADER + b"".join(bytes([OPEN]) + len(body).to_bytes(4, "big") + body for body in records) + bytes([CLOSED])
+
+
+def appended(text, body):
+    """The journal behind an append: the commit byte that ended it is open, and what stood behind the record stays."""
+    end = len(HEADER) + sum(5 + len(one) for one in bodies(text))
+    record = bytes([OPEN]) + len(body).to_bytes(4, "big") + body + bytes([CLOSED])
+    return text[:end] + record + text[end + len(record):]
