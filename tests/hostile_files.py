@@ -1,40 +1,77 @@
 #!/usr/bin/env python3
-"""Changes certificates, proofs, signatures, stores and requests, and compares what `verify` and `issue` say of them with
-what the readers of tests/reference say; of `issue` also what it adds to a log.
+"""Changes certificates, proofs, signatures, stores, requests, entries, exports and journals, and compares what `verify`,
+`audit`, `issue` and `advance` say of them with what the readers of tests/reference say; and what is then in a journal.
 
 Where an element of a certificate is changed, dropped, doubled or moved, the lengths around it are fitted: so the change
-is met where it stands, and not as a length that doesn't fit. tests/certificate_table.py has the changes of single
-bytes. The readers are written from docs/FORMATS.md, docs/COMMANDS.md and the standards, and keys and signatures are
-made from RFC 8554. A line for each kind of change says how many files have which status, and below it stands what is
-wrong; a kind of which nothing is accepted is wrong too. It needs the built program, and takes half a minute.
+is met where it stands, and not as a length that doesn't fit. Else one byte is changed at a time, each of a file to each of
+sixteen values; with MTC_ALL=1 in the environment to each of all. tests/certificate_table.py and tests/run_table.py have
+single bytes too, over memory. The readers are written from docs/FORMATS.md, docs/COMMANDS.md and the standards, and keys
+and signatures are made from RFC 8554. A line for each kind of change says how many files have which status, and below it
+is what is wrong; a kind of which nothing is accepted is wrong too. It needs the built program, and takes a minute.
 Usage: tests/hostile_files.py [PROGRAM]
 """
 
 import os
+import resource
+import signal
 import subprocess
 import sys
 import tempfile
 from collections import Counter
+from functools import partial
 from multiprocessing import Pool
 from pathlib import Path
 
-from hostile import judgements, requests
+from hostile import cuts, judgements, requests, rows, single_bytes
 
 ROOT = Path(__file__).resolve().parent.parent
 # How much is shown of a file that is judged otherwise.
 SHOWN = 2000
+KINDS = rows.KINDS + single_bytes.KINDS + cuts.KINDS + judgements.KINDS + requests.KINDS
+# A file that can be opened, and of which no byte can be read.
+UNREADABLE = "/proc/self/mem"
+
+
+class Run:
+    """Runs the program in a folder."""
+
+    def __init__(self, program, folder):
+        self.program, self.folder = program, Path(folder)
+
+    def __call__(self, files, words, most=None):
+        """The status and the two texts of a command, over these files; of one without bytes the reading fails.
+
+        With `most` its output takes so many bytes, and then fails.
+        """
+        for name, text in files.items():
+            if text is None:
+                (self.folder / name).symlink_to(UNREADABLE)
+            else:
+                (self.folder / name).write_bytes(text)
+        if most is None:
+            ended = subprocess.run([self.program, *words], cwd=self.folder, capture_output=True)
+            return ended.returncode, ended.stdout, ended.stderr
+        with (self.folder / "out").open("w+b") as out:
+            ended = subprocess.run([self.program, *words], cwd=self.folder, stdout=out, stderr=subprocess.PIPE,
+                                   preexec_fn=partial(limited, most))
+            out.seek(0)
+            return ended.returncode, out.read(), ended.stderr
+
+    def left(self, name):
+        """What a file holds."""
+        return (self.folder / name).read_bytes()
+
+
+def limited(most):
+    """No file takes more bytes, and a write beyond them fails."""
+    signal.signal(signal.SIGXFSZ, signal.SIG_IGN)
+    resource.setrlimit(resource.RLIMIT_FSIZE, (most, most))
 
 
 def compared(program, wanted, said, case):
     """The status that a case is to have, and what the program says of it where that is something else."""
     with tempfile.TemporaryDirectory() as folder:
-        def run(files, words):
-            for name, text in files.items():
-                Path(folder, name).write_bytes(text)
-            ended = subprocess.run([program, *words], cwd=folder, capture_output=True)
-            return ended.returncode, ended.stdout, ended.stderr
-
-        found, asked = said(run, *case), wanted(*case)
+        found, asked = said(Run(program, folder), *case), wanted(*case)
     shown = " ".join(str(one)[:SHOWN] for one in case)
     return asked[0][0], [] if found == asked else [f"{found} in place of {asked}: {shown}"]
 
@@ -43,9 +80,11 @@ def main(words):
     if not words and subprocess.run([ROOT / "mtc", "member", ROOT / "examples/first.member"],
                                     stdout=subprocess.DEVNULL).returncode:
         return 70
+    # A cosigner's journal is its owner's alone.
+    os.umask(0o077)
     program, status = os.path.abspath(words[0] if words else ROOT / "crates/mtc_main/out/mtc_main"), 0
     with Pool() as pool:
-        for kind, wanted, said in judgements.KINDS + requests.KINDS:
+        for kind, wanted, said in KINDS:
             told = pool.starmap(compared, [(program, wanted, said, case) for case in kind()], 16)
             wrong = [one for _, differences in told for one in differences]
             counts = sorted(Counter(code for code, _ in told).items())

@@ -1,1 +1,2 @@
-"""What tests/hostile_files.py tries: `judgements` and `requests` have the cases, `files` and `changes` make them."""
+"""What tests/hostile_files.py tries: `rows`, `single_bytes`, `cuts`, `judgements` and `requests` have the cases; the others
+make them."""

@@ -5,9 +5,8 @@ import random
 from itertools import combinations, product
 
 from cosigned_log import vector, with_proof
-from reference import certificate, judging, store, times
+from reference import certificate, commands, judging, times
 from reference.der import SEQUENCE, encoded
-from reference.fault import Fault
 
 from .changes import other_tables, pieces, variants
 from .files import COSIGNERS, FIRST, LAST, LOG, asked, rebuilt, root_of, signed, signers, text_of, trusted
@@ -143,17 +142,7 @@ def stores():
 
 def wanted(text, store_file, now):
     """The status and the two texts of `verify`, by the readers."""
-    try:
-        known = store.read(store_file)
-    except Fault as fault:
-        return [(2, b"", f"mtc: verify: store: {fault}\n".encode())]
-    try:
-        return [(0, f"accepted {judging.judge(text, known, now)[0]}\n".encode(), b"")]
-    except judging.Refused as refused:
-        name, reason = refused.name, refused.reason
-    if name in ("Grammar", "ProofGrammar"):
-        return [(2, b"", f"mtc: verify: c: {reason}\n".encode())]
-    return [(3, " ".join(map(str, ["refused", name] + [reason] * (reason is not None))).encode() + b"\n", b"")]
+    return [commands.answer(["verify", "c", "store", str(now)], {"c": text, "store": store_file})]
 
 
 def said(run, text, store_file, now):

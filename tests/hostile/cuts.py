@@ -1,0 +1,57 @@
+"""Files that are cut or longer, and such with other records or items, and what the commands on them have to say."""
+
+from cosigned_log import vector
+from reference import cosigner, journal
+from reference.cosigner import Sign
+from reference.hss import u32
+
+from .scenes import LARGER, LATER, SPAN, advance, advanced, export, items, log, sign_body, steps
+from .single_bytes import answered, found, scenes
+
+
+def cuts():
+    """a file is cut at each length, or longer"""
+    for label, (_, files, name, _) in scenes().items():
+        whole = files[name]
+        yield from ((label, whole[:size]) for size in range(len(whole) + 1))
+        yield from ((label, whole + more) for more in (bytes(1), bytes(4), bytes(64), b"\xff", whole))
+
+
+def lists_of(parts):
+    """The list, and lists in which a part of it is missing, doubled or at another place."""
+    yield parts
+    for at, part in enumerate(parts):
+        others = [*parts[:at], *parts[at + 1:]]
+        yield from (others, [*parts[:at], part, *parts[at:]])
+        yield from ([*others[:to], part, *others[to:]] for to in range(len(parts)) if to != at)
+
+
+def sign(number, start, end, size):
+    """The body of the record of a signature of a subtree, at this size."""
+    return sign_body(Sign(number, start, end, log().hash(start, end), log().proof(start, end, 0, size)))
+
+
+def bodies():
+    """The records of a longer export."""
+    return [*steps(), sign(1, *SPAN, LATER), cosigner.advance_body(advance(LARGER, LATER)), sign(2, 4, 6, LARGER)]
+
+
+def exported(records):
+    """The export with these records."""
+    return export()[:-sum(4 + len(body) for body in steps())] + b"".join(u32(len(body)) + body for body in records)
+
+
+def lists():
+    """a record of an export or of a journal, an item of an entries file or a part of one, is missing, doubled or moved"""
+    first, *_ = journal.bodies(advanced())
+    for parts in lists_of(bodies()):
+        yield "export", exported(parts)
+    for parts in lists_of([first, *bodies()[:4]]):
+        yield "journal", journal.written(parts)
+    for parts in lists_of([vector(text) + vector(key) for text, key in items()[:4]]):
+        yield "entries", b"".join(parts)
+    for parts in lists_of([vector(text) for item in items()[:3] for text in item]):
+        yield "entries", b"".join(parts)
+
+
+KINDS = [(kind, answered, found) for kind in (cuts, lists)]

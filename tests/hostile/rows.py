@@ -1,0 +1,107 @@
+"""Files that are refused, an output that fails and a file that can't be read: what the commands on them have to say."""
+
+from typing import NamedTuple
+
+from reference import commands
+
+from .files import LOG, asked
+from .scenes import HELD, NOW, advance_request, advanced, cosigned, entries, export, ruled, trusting
+
+# So many bytes a call an output takes that takes all.
+ALL = 1000
+
+
+class Row(NamedTuple):
+    """A run: its words, its files, the file of which the first call fails, and what the output takes a call before it fails."""
+
+    label: str
+    words: list
+    files: dict
+    failing: str = None
+    takes: int = ALL
+    call: int = None
+    told: tuple = ()
+
+
+# The changes of single bytes of a certificate, each with its label.
+CERTIFICATES = {
+    "another-tag": {0: 0x31}, "a-length-of-no-form": {1: 0x80}, "version-2": {10: 0x01}, "serial-0": {13: 0x00},
+    "a-serial-below-0": {13: 0x80}, "month-13": {61: 0x31, 62: 0x33}, "not-critical": {146: 0x00}, "a-truth-of-01": {146: 0x01},
+    "two-algorithms": {175: 0x01}, "an-unused-bit": {178: 0x01}, "a-path-of-31-bytes": {196: 0x1F},
+    "a-path-that-is-cut": {196: 0x40}, "a-signature-that-is-cut": {230: 0x01}, "an-empty-interval": {194: 0x00},
+    "an-interval-before-the-entry": {194: 0x01}, "an-interval-of-three": {194: 0x03},
+}
+HEAD = f'[log]\nid = "{LOG}"\n'.encode()
+STORES = {
+    "empty": b"", "no-toml": b"[log", "no-table": b"log = 1", "another-key": b"x = 1",
+    "a-zero-in-front": b'[log]\nid = "32473.01"\n', "an-interval-twice": trusting() + trusting().removeprefix(HEAD),
+    "nothing-revoked": HEAD + b"[[revoked]]\nstart = 5\nend = 5\n",
+}
+
+
+def changed(text, places):
+    """The bytes with others at these places."""
+    return bytes(places.get(at, byte) for at, byte in enumerate(text))
+
+
+def verify_words():
+    return ["verify", "c", "store", str(NOW)]
+
+
+def audit_words():
+    return ["audit", "c", "store", str(NOW), "e", "x"]
+
+
+def requests(text):
+    """Requests to advance from a good one."""
+    return {"good": text, "a-byte-less": text[:-1], "a-byte-more": text + bytes(1), "another-log": changed(text, {4: 2}),
+            "as-large-as-held": changed(text, {12: HELD}), "another-proof": changed(text, {len(text) - 1: text[-1] ^ 1}),
+            "no-id": bytes(1) + text[5:], "hashes-of-31-bytes": changed(text, {46: 0x1F})}
+
+
+def rows():
+    """Each row with its label."""
+    cert, files = asked()["small"], {"c": asked()["small"], "store": trusting()}
+    yield Row("cert:good", verify_words(), files)
+    for label, places in CERTIFICATES.items():
+        yield Row(f"cert:{label}", verify_words(), {**files, "c": changed(cert, places)})
+    for label, text in STORES.items():
+        yield Row(f"store:{label}", verify_words(), {**files, "store": text})
+    audited = {"c": cosigned(), "store": ruled(), "e": entries(5), "x": export()}
+    yield Row("audit:good", audit_words(), audited)
+    yield Row("entries:an-empty-entry-alone", audit_words(), {**audited, "e": bytes(2)})
+    yield Row("export:a-length-alone", audit_words(), {**audited, "x": b"\4"})
+    asked_for = {"s": advanced(), "r": advance_request()}
+    for label, text in requests(asked_for["r"]).items():
+        yield Row(f"request:{label}", ["advance", "s", "r"], {**asked_for, "r": text}, told=("s",))
+    yield Row("show:good", ["show", "c"], files)
+    yield Row("show:the-output-fails", ["show", "c"], files, takes=1, call=7)
+    yield Row("verify:the-store-fails", verify_words(), files, failing="store")
+
+
+def answer(row):
+    """The status and the two texts of a run, and what the files hold then that are told."""
+    name, files = row.words[0], dict(row.files)
+    if row.failing:
+        found = 5, b"", f"mtc: {name}: {row.failing}: Failed\n".encode()
+    else:
+        found = commands.answer(row.words, files)
+    taken = len(found[1]) if row.call is None else row.takes * row.call
+    if taken < len(found[1]):
+        found = 6, found[1][:taken], f"mtc: {name}: OutputFailed\n".encode()
+    return [found, *(files[file] for file in row.told)]
+
+
+def tables():
+    """a file is refused, the output fails or a file can't be read"""
+    yield from ((row,) for row in rows())
+
+
+def said(run, row):
+    """What the program says over real files."""
+    files = {name: None if name == row.failing else text for name, text in row.files.items()}
+    found = run(files, row.words, None if row.call is None else row.takes * row.call)
+    return [found, *map(run.left, row.told)]
+
+
+KINDS = [(tables, answer, said)]

@@ -1,0 +1,123 @@
+"""Files that belong together: a log of a few entries, a certificate of it, stores, an export, and a cosigner's journal."""
+
+from functools import cache
+from hashlib import sha384
+
+from cosigned_log import vector
+from hss_vectors import Tree
+from reference import certificate, cosigner, entry, journal, merkle, request, store
+from reference.cosigner import Advance, Sign
+from reference.hss import u32
+
+from .files import COSIGNERS, FIRST, LAST, LOG, asked, root_of, signed, signers, text_of, trusted
+
+NOW = FIRST
+KEY_FRONT = bytes.fromhex("302a300506032b6570032100")
+HEIGHT_5, WIDTH_1 = 5, 1
+# The sizes at which the cosigner has advanced, and the subtree that it has signed.
+HELD, LATER, SPAN = 3, 5, (0, 2)
+# A log that the cosigner of the journal is asked to hold.
+LARGER = 7
+
+
+@cache
+def items():
+    """The first entries of the log, each with its key; that of the certificate `small` is the second."""
+    read = certificate.read(asked()["small"])
+    found = [(bytes(2), b""), (entry.of_certificate(read), read.key)]
+    for number in range(2, LARGER):
+        key = KEY_FRONT + number.to_bytes(32, "big")
+        asked_for = request.Request([FIRST, LAST], [f"n{number}.example"], None, key)
+        found.append((request.entry(asked_for, LOG), key))
+    return found
+
+
+@cache
+def log():
+    return merkle.List([text for text, _ in items()])
+
+
+def root(size):
+    return log().hash(0, size)
+
+
+def entries(count):
+    """The entries file of the first entries."""
+    return b"".join(vector(text) + vector(key) for text, key in items()[:count])
+
+
+def advance(size, held):
+    """A step to a size, with its proof from what is held."""
+    return Advance(size, root(size), log().proof(0, held, 0, size) if held else [])
+
+
+def sign_body(step):
+    """The body of the record of a signature."""
+    place = step.start.to_bytes(8, "big") + step.end.to_bytes(8, "big")
+    return bytes([cosigner.SIGN]) + u32(step.number) + place + step.node + vector(b"".join(step.proof))
+
+
+@cache
+def steps():
+    """The records of the cosigner: it advances, signs the subtree, and advances again."""
+    signed_step = Sign(0, *SPAN, log().hash(*SPAN), log().proof(*SPAN, 0, HELD))
+    return [cosigner.advance_body(advance(HELD, 0)), sign_body(signed_step),
+            cosigner.advance_body(advance(LATER, HELD))]
+
+
+def short(text):
+    return bytes([len(text)]) + text
+
+
+def export():
+    """What the cosigner exports that has signed the certificate."""
+    id, key, _ = signers()[0]
+    front = short(id) + short(store.anchor_id(LOG)) + vector(key)
+    return front + b"".join(u32(len(body)) + body for body in steps())
+
+
+def cosigned():
+    """The certificate with the signature of the cosigner."""
+    id, _, text = signers()[0]
+    return signed([(id, text)])
+
+
+def ruled():
+    """A store with a table of each kind, by whose rule the cosigned certificate is accepted."""
+    subtree = {"start": 0, "end": 4, "hash": root(4).hex()}
+    found = root_of(rule=[{"cosigners": COSIGNERS[:1], "count": 1}], subtree=[subtree], revoked=[{"start": 2, "end": 3}])
+    found["cosigner"] = found["cosigner"][:1]
+    return headed(found)
+
+
+def trusting():
+    """A store that trusts the subtree of the certificate."""
+    return headed({"log": {"id": LOG}, "subtree": [trusted()["small"]]})
+
+
+def headed(root):
+    """A store as text, with a header for each table."""
+    lines = []
+    for name, tables in root.items():
+        for table in tables if isinstance(tables, list) else [tables]:
+            lines.append(f"[[{name}]]" if isinstance(tables, list) else f"[{name}]")
+            lines += text_of(table).decode().splitlines()
+    return "\n".join([*lines, ""]).encode()
+
+
+@cache
+def secret():
+    return sha384(COSIGNERS[0].encode()).digest()
+
+
+@cache
+def advanced():
+    """The journal of a cosigner that holds a part of the log."""
+    ids = short(store.anchor_id(COSIGNERS[0])) + short(store.anchor_id(LOG))
+    first = bytes([cosigner.COSIGNER]) + ids + u32(HEIGHT_5) + u32(WIDTH_1) + secret()
+    return journal.written([first, cosigner.advance_body(advance(HELD, 0))])
+
+
+def advance_request():
+    """The request to hold more of the log."""
+    return short(store.anchor_id(LOG)) + cosigner.advance_body(advance(LARGER, HELD))[1:]
