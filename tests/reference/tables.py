@@ -6,7 +6,8 @@ from os.path import commonprefix
 from pathlib import Path
 
 FOLDER = Path(__file__).resolve().parents[2] / "crates/test_tables"
-SIGNATURES, CERTIFICATES, LISTS = ("hss", "lms", "tree", "sign"), ("certificate", "judgement"), ("list",)
+SIGNATURES, CERTIFICATES = ("hss", "lms", "tree", "sign"), ("certificate", "judgement")
+RUNS, LISTS = ("run", "each"), ("list",)
 # How much is shown of two lines that differ.
 COLUMNS = 100
 
@@ -26,16 +27,18 @@ def count_of(words):
     """How many lines answer a line of stdin that asks for no list."""
     if words[0] == "sign":
         return 1 + len(words[5:])
+    if words[0] == "each":
+        return next(len(hexadecimal(word.split("=")[1])) for word in words[4:] if word.startswith(f"{words[1]}="))
     return 1 + len(hexadecimal(words[-1])) if words[0] in CERTIFICATES else 1
 
 
 def answered(kinds):
     """The number of the first line of stdout that answers lines of these kinds, and all that do.
 
-    Signatures come first, then certificates; those of lists are all that are left.
+    Signatures come first, then certificates and runs; those of lists are all that are left.
     """
     found, begin = (FOLDER / "stdout").read_text().splitlines(), 0
-    for group in (SIGNATURES, CERTIFICATES):
+    for group in (SIGNATURES, CERTIFICATES, RUNS):
         count = sum(map(count_of, asked(group)))
         if group == kinds:
             return begin + 1, found[begin:begin + count]

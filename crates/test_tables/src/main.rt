@@ -16,16 +16,20 @@
 //! - `certificate LABEL CERTIFICATE`: what `parse` answers to it and to every change of one byte.
 //! - `judgement LABEL MOMENT LOG START END HASH FROM TO CERTIFICATE`: what `judge` answers to it
 //!   and to every change of one byte.
+//! - `run LABEL OUT FILE .. : WORD ..`: what a command answers over these files and this output.
+//! - `each NAME VALUES OUT FILE .. : WORD ..`: the same of each byte of a file set to each value.
 //! - `list ENTRY ..`: the inclusion paths and consistency proofs of every subtree of the list.
 //!
-//! Lines of the first four kinds come first, then certificates and judgements, then lists. What
-//! must be answered is made by scripts that use nothing of these crates: `tests/hss_vectors.py`,
-//! `tests/certificate_table.py` and `tests/list_table.py`.
+//! Lines of the first four kinds come first, then certificates and judgements, then commands, then
+//! lists. What must be answered is made by scripts that use nothing of these crates:
+//! `tests/hss_vectors.py`, `tests/certificate_table.py`, `tests/run_table.py` and
+//! `tests/list_table.py`.
 #![tactic(auto)]
 
 mod certificates;
 mod changes;
 mod judgements;
+mod runs;
 mod signing;
 mod subtrees;
 mod verifying;
@@ -44,6 +48,8 @@ fn answer(alloc: Global, line: &str) -> Result<String> {
         Some(("sign", rest)) => signing::key_answer(alloc, rest),
         Some(("certificate", rest)) => changes::of_certificate(alloc, rest),
         Some(("judgement", rest)) => changes::of_judgement(alloc, rest),
+        Some(("run", rest)) => runs::answer(alloc, rest),
+        Some(("each", rest)) => runs::each(alloc, rest),
         Some(("list", rest)) => subtrees::table(alloc, rest),
         _ => bail!("a line that is not known"),
     }
