@@ -1,0 +1,172 @@
+#!/usr/bin/env python3
+"""Refuses each growth of each command in turn, over files, devices and outputs in memory, which grow too.
+
+tests/allocations.py does so over real files. Here the program of crates/test_tables runs each command, and a preloaded
+library refuses one of its allocations. Some of these are its own: they read the line or write the answer, and where one of
+them is refused no answer comes. All others are those of the command and of what it works on. The command then ends with
+status 8; or as if nothing had been refused; or, only where a file or an output found no memory, with status 5 or 6, or
+with a line that is cut. Its journals then have their records from before, or these and the one of the command. Of a drill,
+which makes many, one allocation in so many is refused. Needs a C compiler and both built programs. It is no part of the
+gate, and takes half a minute.
+Usage: tests/refused_growth.py [COMMAND ..]     as tests/allocations.py has them; all where none is given
+"""
+
+import os
+import re
+import shutil
+import subprocess
+import sys
+import tempfile
+from collections import Counter
+from functools import partial
+from multiprocessing import Pool
+from pathlib import Path
+from typing import NamedTuple
+
+from allocations import COMMANDS, ROOT, STEPS, Folder, files_of, make_files
+from reference import journal
+from reference.fault import Fault
+
+PROGRAM, TABLES = ROOT / "crates/mtc_main/out/mtc_main", ROOT / "crates/test_tables/out/test_tables"
+# The commands that make a journal.
+MAKING = ("init-log", "init-cosigner")
+OWN, CUT = "of the tables", "with a line that is cut"
+
+
+class Ended(NamedTuple):
+    """How a command ended, and what the files hold then that were told."""
+
+    status: int
+    out: bytes
+    err: bytes
+    is_starved: bool
+    left: dict
+
+
+class Run(NamedTuple):
+    """A command: its line, the names of the files that are told, and these files as they were."""
+
+    words: str
+    line: bytes
+    told: list
+    files: dict
+
+
+def run_of(words, files):
+    """The run of a command over the files that it names, which are told then, and their files of tiles."""
+    told = [*dict.fromkeys(name for word in words.split()[1:] for name in (word, f"{word}.tiles"))]
+    named = {name: files[name] for name in told if name in files}
+    placed = [f"{name}={text.hex() or '-'}" for name, text in named.items()]
+    line = " ".join(["run x 1000", *placed, *(f"?{name}" for name in told or ["x"]), ":", words])
+    return Run(words, line.encode() + b"\n", told or ["x"], named)
+
+
+def ended_of(run, text):
+    """How a command ended, by the line that the tables answer."""
+    names = b"".join(rb" %s(?:=([0-9a-f]*))?" % re.escape(name.encode()) for name in run.told)
+    found = re.fullmatch(rb"x (\d+)(.*?)( starved)?" + names + rb"\n", text, re.DOTALL)
+    out, _, err = found[2].partition(b" ! ")
+    left = {name: bytes.fromhex(digits.decode()) for name, digits in zip(run.told, found.groups()[3:])
+            if digits is not None}
+    return Ended(int(found[1]), out, err, bool(found[3]), left)
+
+
+def refused(library, run, number):
+    """Whether an allocation of this number came, and how the command ended; none where the tables gave no answer."""
+    told, tells = os.pipe()
+    extra = {"LD_PRELOAD": str(library), "REFUSED": str(number), "TOLD": str(tells)}
+    made = subprocess.run([TABLES], input=run.line, pass_fds=[tells], env={**os.environ, **extra}, capture_output=True)
+    os.close(tells)
+    came = os.read(told, 1) != b""
+    os.close(told)
+    # The tables end with status 1 where they find no memory for themselves; nothing else ends them so.
+    if made.returncode not in (0, 1) or made.returncode == 1 and made.stdout:
+        return came, f"the tables ended with {made.returncode}: {made.stderr.decode()}"
+    return came, ended_of(run, made.stdout) if made.returncode == 0 else None
+
+
+def held(text):
+    """The records of a journal, or the bytes of another file; none of no file."""
+    try:
+        return text if text is None else [*journal.bodies(text)]
+    except Fault:
+        return text
+
+
+def fault_of(run, wanted, found):
+    """What is wrong about how a command ended, or nothing."""
+    name, same = run.words.split()[0], found._replace(is_starved=False)
+    records, old, new = ({file: held(ended.get(file)) for file in run.told} for ended in (found.left, run.files, wanted.left))
+    if same == wanted._replace(is_starved=False):
+        return None
+    if found.status == 8:
+        told = not found.out and found.err in (b"mtc: Memory|", f"mtc: {name}: Memory|".encode())
+        kept = all(records[file] == old[file] or file.endswith(".tiles") and found.left[file] == b"" for file in run.told)
+        return None if told and kept else "status 8"
+    if not found.is_starved:
+        return "another ending, though nothing found no memory"
+    if found.status == wanted.status and found.out == wanted.out and found.left == wanted.left:
+        return None if wanted.err.startswith(found.err) else "another line"
+    if found.status == 6:
+        told = wanted.out.startswith(found.out.rstrip(b"|")) or found.out[:4] == b"hex:" and wanted.out.startswith(found.out)
+        return None if told and found.err == f"mtc: {name}: OutputFailed|".encode() and records == new else "status 6"
+    if found.status == 5:
+        told = not found.out and re.fullmatch(rf"mtc: {name}: \S+: Failed\|".encode(), found.err)
+        kept = all(records[file] in (old[file], new[file]) or file.endswith(".tiles") or name in MAKING for file in run.told)
+        return None if told and kept else "status 5"
+    return "an ending of no kind"
+
+
+def kind_of(wanted, found):
+    """The word for how a command ended."""
+    if found is None:
+        return OWN
+    if found.status == wanted.status and found.err != wanted.err:
+        return CUT
+    return "as ever" if found[:3] == wanted[:3] else f"of status {found.status}"
+
+
+def tried(library, files, words):
+    """The endings of a command by their kinds, and what is wrong where one of its allocations was refused."""
+    run, number, step = run_of(words, files), 0, STEPS.get(words, 1)
+    wanted, counts, wrong = refused(library, run, 0)[1], Counter(), []
+    while True:
+        number += step
+        came, found = refused(library, run, number)
+        if not came:
+            break
+        fault = found if isinstance(found, str) else found and fault_of(run, wanted, found)
+        counts[kind_of(wanted, None if isinstance(found, str) else found)] += 1
+        if fault:
+            wrong.append(f"{words}: allocation {number}: {fault}: {str(found)[:500]}")
+    # The tables keep the line, and each command, or what it writes to, takes memory.
+    if step == 1 and not counts[OWN] or counts[OWN] == sum(counts.values()) or found != wanted:
+        wrong.append(f"{words}: {number} allocations: {dict(counts)}")
+    return counts, wrong
+
+
+def main(commands):
+    if not shutil.which("cc"):
+        print("left out: refused growth: there is no C compiler (cc)")
+        return 0
+    folder = Folder(PROGRAM)
+    os.umask(0o077)
+    make_files(folder)
+    files, counts, wrong = files_of(folder.path), Counter(), []
+    shutil.rmtree(folder.path)
+    with tempfile.TemporaryDirectory() as made, Pool() as pool:
+        library = Path(made, "refuse.so")
+        subprocess.run(["cc", "-O1", "-shared", "-fPIC", "-fno-builtin", "-o", library, ROOT / "tests/allocations/refuse.c"],
+                       check=True)
+        for count, faults in pool.imap_unordered(partial(tried, library, files), commands or COMMANDS):
+            counts, wrong = counts + count, wrong + faults
+    if not commands and not all(counts[f"of status {status}"] for status in (5, 6, 8)):
+        wrong.append("an ending never came")
+    told = ", ".join(f"{count} {kind}" for kind, count in sorted(counts.items()))
+    print(*wrong[:20], f"{'wrong' if wrong else 'ok'}: {sum(counts.values())} allocations of {len(commands or COMMANDS)} commands "
+          f"over memory were refused in turn: {told}", sep="\n")
+    return int(bool(wrong))
+
+
+if __name__ == "__main__":
+    sys.exit(main(sys.argv[1:]))
