@@ -1,0 +1,11 @@
+pub mod Openings
+pub mod Levels
+pub mod JoiningSteps
+pub mod TwoProofs
+pub mod Parted
+pub mod Joins
+pub mod JoiningCases
+pub mod Contrasts
+pub mod ContrastingCases
+pub mod MadeOpens
+pub mod Joinable

@@ -1,0 +1,4 @@
+pub mod Joining
+pub mod Contrasting
+pub mod Sizes
+pub mod Laws
