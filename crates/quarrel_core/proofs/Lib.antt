@@ -9,3 +9,10 @@ pub mod Contrasts
 pub mod ContrastingCases
 pub mod MadeOpens
 pub mod Joinable
+pub mod Places
+pub mod InConflict
+pub mod Seeking
+pub mod Noting
+pub mod Carries
+pub mod Collisions
+pub mod Verdicts

@@ -2,3 +2,8 @@ pub mod Joining
 pub mod Contrasting
 pub mod Sizes
 pub mod Laws
+pub mod Conflicts
+pub mod Firsts
+pub mod Carrying
+pub mod Quarrels
+pub mod ConflictLaws

@@ -1,31 +1,41 @@
-//! Two strings with one hash from two proofs alone: no list of entries is needed to show them.
+//! Two strings with one hash from the steps of one cosigner alone: it signed one subtree with two
+//! hashes, and no list of entries is needed to show it.
 //!
 //! [`join`] makes of a proof of a subtree, and of a proof that its list is the first part of a
 //! longer one, the proof of the subtree in the longer list. Or it finds two strings with one hash,
-//! one of each proof. [`two_proofs`] compares two proofs of one subtree.
+//! one of each proof. [`two_proofs`] compares two proofs of one subtree. [`quarrel`] looks in an
+//! export for two signatures of one interval with different hashes. It carries the proof of the
+//! first to the checkpoint of the second, and compares both there.
 //!
 //! ```rust
-//! use quarrel_core::{Joined, join};
+//! use cosigner_core::read_export;
+//! use quarrel_core::{Quarrel, quarrel};
 //! use tree_core::Sha;
 //!
-//! // the first proof is of a subtree of `old`, the second of all entries of `old` among 8
-//! match join::<Sha>(alloc, 4, 6, &node, &old, 8, &first, &second)? {
-//!     Joined::Proof(proof) => println!(rt; "a proof of {} hashes", proof.as_slice().len())?,
-//!     Joined::Pair(x, y) => println!(rt; "two strings with one hash")?,
-//!     Joined::Neither => println!(rt; "a proof is too short")?,
+//! if let Some(export) = read_export::<Sha>(alloc, bytes)? {
+//!     match quarrel::<Sha>(alloc, &export)? {
+//!         Quarrel::Agree => println!(rt; "no two signatures are in conflict")?,
+//!         Quarrel::Pair { first, second, .. } => println!(rt; "{first} and {second} are")?,
+//!     }
 //! }
 //! ```
 //!
-//! No clause says how many hashes a joined proof has.
+//! No clause says which two strings [`quarrel`] finds, if there are several.
 #![tactic(auto)]
 
+mod answer;
+mod carrying;
+mod conflicting;
 mod contrasting;
 mod joined;
 mod joining;
 pub mod laws;
 mod part;
+mod quarrelling;
 mod strings;
 
+pub use answer::Quarrel;
 pub use contrasting::two_proofs;
 pub use joined::Joined;
 pub use joining::join;
+pub use quarrelling::quarrel;
