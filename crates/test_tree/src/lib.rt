@@ -10,6 +10,8 @@ mod framing;
 #[cfg(test)]
 mod hashing;
 #[cfg(test)]
+mod joining;
+#[cfg(test)]
 mod keeping;
 #[cfg(test)]
 mod known;
