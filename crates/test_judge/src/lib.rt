@@ -26,6 +26,8 @@ mod lists;
 #[cfg(test)]
 mod one_time_keys;
 #[cfg(test)]
+mod quarrels;
+#[cfg(test)]
 mod records;
 #[cfg(test)]
 mod requests;

@@ -1,0 +1,91 @@
+//! Exports with two signatures in conflict, and the two strings that their proofs show.
+
+use crate::lists::are_strings;
+use crate::records::{PUBLIC, export_of};
+use cosigner_core::read_export;
+use mtc_io::Memory;
+use quarrel_core::{Quarrel, quarrel};
+use std::alloc::Global;
+use tree_core::Toy;
+
+// Steps, and the answer: both keys and both strings, or that the signatures agree. The proof of the
+// first signature is carried over an Advance, and joined to it; the strings are found at both
+// checkpoints, and while the proofs are joined. A signature of another interval is in no conflict.
+const CASES: &str = "\
+a:2:8 s:0:0:1:5:2 s:1:0:1:4:3|0 1 node:5:2 node:4:3
+a:2:8 s:0:0:1:5:2 a:4:20:11 s:1:0:1:4:3:11|0 1 node:5:2 node:4:3
+a:2:8 s:0:0:1:5:2 a:4:20:11 s:1:0:1:4:2:12|0 1 node:8:11 node:7:12
+a:3:16 s:0:0:2:8:7 a:4:21:6:4:9 s:1:0:2:9:11|0 1 node:8:7 node:9:6
+a:2:8 s:0:0:1:5:2 s:1:0:2:8 s:2:0:1:5:2 s:3:0:1:4:3|0 3 node:5:2 node:4:3
+a:2:8 s:0:0:1:5:2 s:1:0:1:4:3 s:2:0:1:3:4|0 1 node:5:2 node:4:3
+a:2:8 s:0:0:1:5:2 s:1:1:2:2:5 s:2:1:2:3:4 s:3:0:1:4:3|1 2 node:5:2 node:4:3
+a:2:8 s:0:0:1:5:2 s:1:0:1:5:2|agree
+a:2:8 s:0:0:1:5:2 s:1:1:2:4:3|agree
+a:2:8|agree
+-|agree
+";
+
+// What the steps of an export show; none of what is no export.
+fn shown(alloc: Global, export: &[u8]) -> Option<Result<Quarrel, Memory>> {
+    let kept = read_export::<Toy>(alloc, export).ok()??;
+    Some(quarrel::<Toy>(alloc, &kept))
+}
+
+// Whether the first word is this number; the words after it.
+fn after_number(words: &str, number: u32) -> Option<&str> {
+    let (word, rest) = words.split_once(' ')?;
+    if word.parse::<u32>() == Ok(number) {
+        return Some(rest);
+    }
+    None
+}
+
+// Whether these are the keys and the strings of the words.
+fn is_pair(first: u32, second: u32, x: &[u8], y: &[u8], words: &str) -> Option<bool> {
+    let rest = after_number(words, first)?;
+    let strings = after_number(rest, second)?;
+    Some(are_strings(x, y, strings))
+}
+
+// Whether the answer is that of the words.
+fn is(answer: &Option<Result<Quarrel, Memory>>, words: &str) -> bool {
+    match answer {
+        Some(Ok(Quarrel::Agree)) => words == "agree",
+        Some(
+            Ok(
+                Quarrel::Pair {
+                    first,
+                    second,
+                    x,
+                    y,
+                },
+            ),
+        ) => { is_pair(*first, *second, x.as_slice(), y.as_slice(), words) == Some(true) }
+        _ => false,
+    }
+}
+
+// Whether the steps of a line show what it says.
+fn is_shown(alloc: Global, line: &str) -> Option<bool> {
+    let (steps, words) = line.split_once('|')?;
+    let export = export_of(alloc, 2, 1, &PUBLIC, steps)?;
+    Some(is(&shown(alloc, export.as_slice()), words))
+}
+
+// How many lines are answered as they say, from the first on.
+fn count_shown(alloc: Global) -> u64 {
+    let mut count = 0u64;
+    for line in CASES.lines() {
+        if is_shown(alloc, line) != Some(true) {
+            return count;
+        }
+        count = count.saturating_add(1);
+    }
+    count
+}
+
+#[test]
+fn two_signatures_in_conflict_show_two_strings(rt: HostRuntime) {
+    let count = count_shown(rt.alloc());
+    assert!(rt; count == 11, "{count:?}");
+}
