@@ -1,0 +1,5 @@
+pub mod Tops
+pub mod Pushing
+pub mod Carries
+pub mod Folds
+pub mod Always
