@@ -1,0 +1,11 @@
+pub mod Under
+pub mod Reports
+pub mod Growing
+pub mod Exact
+pub mod Runs
+pub mod Domains
+pub mod Letters
+pub mod Skips
+pub mod PeakLines
+pub mod Again
+pub mod ReadBack

@@ -1,0 +1,80 @@
+-- Going past the lines of a report.
+use Rattle.std.proofs.Common.{◌≡◌, ℕ, zero, suc, ◌+◌, ◌-◌, ◌<◌, ◌≤◌, length, Some, None, refl, sym}
+use Rattle.std.proofs.Common.{ap, ◌∙◌, arith}
+use Rattle.std.specs.Prelude.{◌==◌, not, nat_lt, Bool, true, false, if◌then◌else◌}
+use Rattle.std.specs.List.{position}
+use Rattle.std.proofs.lemmas.Bool.{ltb-false}
+use Rattle.std.proofs.lemmas.List.Sums.{prefix_len-le-length}
+use Rattle.std.proofs.lemmas.Option.{same_Some}
+use Rattle.byte_formats.specs.Types.{Text}
+use Rattle.byte_formats.proofs.Values.{when_some}
+use Rattle.tls_wire.specs.Lines.{first_line}
+use Rattle.monitor_core.specs.Reading.{behind_report, behind_report_line, skipped, word_end}
+
+-- So many lines were passed, and what is left leads where the whole does.
+pub record Skips (text : Text) (n : ℕ) (rest : Text) : Type 0 where
+  pub few : n + length rest ≤ length text
+  pub same : behind_report (length text - n) n rest ≡ behind_report (length text) 0 text
+
+pub skips-from : (text : Text) → Skips text 0 text
+skips-from text =
+    let all : length text - 0 ≡ length text = omega arith in
+    record { few = omega arith; same = ap (λ k. behind_report k 0 text) all }
+
+one_line : (left n : ℕ) (text rest : Text) → behind_report_line (first_line text) ≡ Some rest
+    → behind_report (suc left) n text ≡ behind_report left (n + 1) rest
+unfolding behind_report
+one_line left n text rest is = ap (λ o. skipped n text o (behind_report left)) is
+
+pub skips-more : (text : Text) (n : ℕ) (rest behind : Text) → Skips text n rest
+    → behind_report_line (first_line rest) ≡ Some behind → length behind < length rest
+    → Skips text (n + 1) behind
+skips-more text n rest behind so_far is shorter =
+    let few = so_far.few in
+    let more : length text - n ≡ suc (length text - (n + 1)) = omega arith in
+    record {
+      few = omega arith;
+      same = sym (ap (λ k. behind_report k n rest) more
+          ∙ one_line (length text - (n + 1)) n rest behind is)
+          ∙ so_far.same;
+    }
+
+pub no_line : (left n : ℕ) (text : Text) → behind_report_line (first_line text) ≡ None
+    → behind_report left n text ≡ (n, text)
+unfolding behind_report
+no_line zero n text none = refl
+no_line (suc left) n text none = ap (λ o. skipped n text o (behind_report left)) none
+
+pub skips-end : (text : Text) (n : ℕ) (rest : Text) → Skips text n rest
+    → behind_report_line (first_line rest) ≡ None
+    → (n, rest) ≡ behind_report (length text) 0 text
+skips-end text n rest so_far none =
+    sym (no_line (length text - n) n rest none) ∙ so_far.same
+
+-- a line of a report
+pub skips_one : (left n : ℕ) (text rest : Text) → behind_report_line (first_line text) ≡ Some rest
+    → behind_report (suc left) n text ≡ behind_report left (n + 1) rest
+skips_one = one_line
+
+-- ---- where a word ends
+
+none_chosen : (test : Bool) (place : ℕ) → None ≡ (if test then Some place else None)
+    → test ≡ false
+none_chosen true place none = absurd cc
+none_chosen false place none = refl
+
+pub word_end-some : (text : Text) (place : ℕ) → Some place ≡ position (λ byte. byte == 0x20) text
+    → place ≡ word_end text
+word_end-some text place is =
+    let parts = when_some (nat_lt (word_end text) (length text)) (Some (word_end text)) place
+    (sym is) in
+    sym (same_Some (word_end text) place parts.1)
+
+pub word_end-none : (text : Text) → None ≡ position (λ byte. byte == 0x20) text
+    → length text ≡ word_end text
+word_end-none text none =
+    let past = ltb-false (word_end text) (length text)
+    (none_chosen (nat_lt (word_end text) (length text)) (word_end text) none) in
+    let within : word_end text ≤ length text =
+    prefix_len-le-length (λ (byte : ℕ). not (byte == 0x20)) text in
+    omega arith

@@ -1,0 +1,26 @@
+-- What holds of the texts of a monitor.
+use Rattle.std.specs.Prelude.{◌≡◌, ◌^◌, ◌<◌, ◌++◌, Ok}
+use Rattle.std.specs.List.{AllByRecursion}
+use Rattle.byte_formats.specs.Places.{IsBytes}
+use Rattle.byte_formats.specs.Types.{Text}
+use Rattle.monitor_core.specs.Reading.{state_in}
+use Rattle.monitor_core.specs.Report.{Findings}
+use Rattle.monitor_core.specs.States.{IsKept, MonitorState}
+use Rattle.monitor_core.specs.Written.{found_text, state_text}
+use Rattle.monitor_core.specs.declared.lines.Line.{Line}
+use Rattle.monitor_core.specs.declared.lines.Line.TheVariants.{Match, Unread}
+
+-- The index of a line is below 2^63.
+abbrev pub IsIndexed : Line → Type 0
+IsIndexed (Match index name) = index < 2 ^ 63
+IsIndexed (Unread index) = index < 2 ^ 63
+
+-- The text of what was found is read as the state that was found; a text that is read ends with the
+-- line of what was read; and states with one line are one state.
+pub record StatesAreReadAsWritten : Type 0 where
+  pub again : (found : Findings) → IsKept found.state → AllByRecursion IsIndexed found.lines
+      → state_in (found_text found) ≡ Ok found.state
+  pub read : (text : Text) (state : MonitorState) → IsBytes text → state_in text ≡ Ok state
+      → IsKept state × ((before : Text) × (text ≡ before ++ state_text state))
+  pub one : (first second : MonitorState) → IsKept first → IsKept second
+      → state_text first ≡ state_text second → first ≡ second

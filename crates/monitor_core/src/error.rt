@@ -1,0 +1,52 @@
+//! What can be wrong with a text or with a run.
+
+use mtc_io::Memory as NoMemory;
+
+/// Why a text isn't one of a monitor. Lines are numbered from 0 and read in order.
+#[derive(Clone, Copy, Debug, PartialEq, Eq)]
+pub enum TextError {
+    /// This line is the first that isn't in its form, is missing or is too many.
+    BadLine(usize),
+    /// Memory was refused.
+    Memory,
+}
+
+impl From<NoMemory> for TextError {
+    ghost use Rattle.std.specs.Prelude.{◌≡◌};
+    ghost use Rattle.monitor_core.specs.declared.error.TextError.TheVariants.{Memory};
+
+    ghost from_gives = { λ _ e. e ≡ Memory };
+
+    fn from(_refused: NoMemory) -> TextError {
+        TextError::Memory
+    }
+}
+
+/// Why a run is refused. The tests are made in this order.
+#[derive(Clone, Copy, Debug, PartialEq, Eq)]
+pub enum MonitorError {
+    /// The state is of a log with another id.
+    WrongLog,
+    /// The new size isn't above that of the state, which is the number.
+    NotNewer(u64),
+    /// There are so many new entries, and not as many as the new size is above the old one.
+    ItemCount { have: u64, want: u64 },
+    /// The proof doesn't show that the entries of the state are the first ones of the new list: the
+    /// consistency proof doesn't pass, or has hashes where there are no entries.
+    BadProof,
+    /// With the new entries the list has another root than the one that is wanted.
+    RootDiffers { wanted: [u8; 32], found: [u8; 32] },
+    /// Memory was refused.
+    Memory,
+}
+
+impl From<NoMemory> for MonitorError {
+    ghost use Rattle.std.specs.Prelude.{◌≡◌};
+    ghost use Rattle.monitor_core.specs.declared.error.MonitorError.TheVariants.{Memory};
+
+    ghost from_gives = { λ _ e. e ≡ Memory };
+
+    fn from(_refused: NoMemory) -> MonitorError {
+        MonitorError::Memory
+    }
+}

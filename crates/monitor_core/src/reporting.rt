@@ -1,0 +1,88 @@
+//! The report of entries.
+
+ghost use Rattle.std.specs.Prelude.{◌≡◌, ◌+◌, ◌^◌, ◌<◌, [], ◌∷◌, ◌++◌, length, IfOk, OnOk};
+ghost use Rattle.monitor_core.specs.Report.{lines_of, matches_of, report_of};
+ghost use Rattle.monitor_core.specs.declared.lines.Line.TheVariants.{Match};
+
+use crate::lines::Line;
+use crate::names::{is_watched, names_of};
+use cert_fields::DnsNames;
+use log_entry::{Entry, read_entry};
+use mtc_io::{Bytes, Memory};
+use std::alloc::Global;
+use tree_proofs::EntryList;
+
+fn push(lines: &mut Vec<Line>, line: Line) -> Result<(), Memory>
+    ensures { OnOk result (lines.new.items ≡ lines.old.items ++ line ∷ []) }
+{
+    lines.push(line)?;
+    Ok(())
+}
+
+// Puts a match after the lines.
+fn put_match(alloc: Global, lines: &mut Vec<Line>, index: u64, name: &[u8]) -> Result<(), Memory>
+    ensures { OnOk result (lines.new.items ≡ lines.old.items ++ Match index name.now ∷ []) }
+{
+    let name = Bytes::copy_of(alloc, name)?;
+    push(lines, Line::Match { index, name })
+}
+
+// Puts the matches of the names of an entry after the lines.
+fn put_matches(
+    alloc: Global,
+    lines: &mut Vec<Line>,
+    watch: &[Bytes],
+    index: u64,
+    names: DnsNames,
+) -> Result<(), Memory>
+    ensures { OnOk result
+        (lines.new.items ≡ lines.old.items ++ matches_of watch.now index names.entry) }
+{
+    for name in names {
+        if is_watched(watch, name) {
+            put_match(alloc, lines, index, name)?;
+        }
+    }
+    Ok(())
+}
+
+// Puts what is said of an entry after the lines.
+fn put_entry(
+    alloc: Global,
+    lines: &mut Vec<Line>,
+    watch: &[Bytes],
+    index: u64,
+    entry: &[u8],
+) -> Result<(), Memory>
+    ensures { OnOk result
+        (lines.new.items ≡ lines.old.items ++ lines_of watch.now index entry.now) }
+{
+    match read_entry(entry) {
+        Ok(Entry::Null) => Ok(()),
+        Ok(Entry::Tbs(tbs)) => put_matches(alloc, lines, watch, index, names_of(&tbs)),
+        Err(_fault) => push(lines, Line::Unread { index }),
+    }
+}
+
+// The report of entries, of which the first has this index.
+pub(crate) fn report<L: EntryList>(
+    alloc: Global,
+    watch: &[Bytes],
+    first: u64,
+    entries: &L,
+) -> Result<Vec<Line>, Memory>
+    requires { first + length (L.texts entries.now) < 2 ^ 64 }
+    ensures { IfOk result (λ lines. lines.items ≡ report_of watch.now first (L.texts entries.now)) }
+{
+    let mut lines = Vec::new(alloc);
+    for index in 0..entries.len() {
+        put_entry(
+            alloc,
+            &mut lines,
+            watch,
+            first + index as u64,
+            entries.entry(index),
+        )?;
+    }
+    Ok(lines)
+}
