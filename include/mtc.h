@@ -6,9 +6,10 @@
  *
  * A caller owes: each pointer leads to as many bytes as its length says, which nobody changes
  * during the call; no two buffers that the call writes lie over one another or over what it reads.
- * Where a length is 0 the pointer may be any but a null pointer. malloc, realloc and free are of
- * one allocator. No function is called in a signal handler, or in the child of a fork of a program
- * with threads. Threads may call at the same time, each with buffers of its own.
+ * Where a length is 0 the pointer may be any but a null pointer, also that of a buffer to write.
+ * malloc, realloc and free are of one allocator. No function is called in a signal handler, or in
+ * the child of a fork of a program with threads. Threads may call at the same time, each with
+ * buffers of its own.
  */
 #ifndef MTC_H
 #define MTC_H
@@ -112,7 +113,8 @@ struct mtc_verdict {
 /*
  * Judges a certificate (DER) by a store file (TOML) at a moment, in seconds since
  * 1970-01-01T00:00:00Z. Writes the verdict, and answers its status. The first refusal in the order
- * of `mtc verify` is told.
+ * of `mtc verify` is told. MTC_DONE says nothing of whom the caller wants to reach, nor for
+ * what the key may be used: compare the names (mtc_dns_name).
  */
 uint32_t mtc_judge(const uint8_t *cert, size_t cert_length, const uint8_t *store,
                    size_t store_length, int64_t now, struct mtc_verdict *verdict);

@@ -4,8 +4,8 @@
 The rows are those of tests/hostile_files.py for `verify`. Refusals and fields have the names of include/mtc.h. The calls are made
 one after the other, and then by eight threads at once. Of a certificate that is accepted, key, names and the entry's hash are
 compared too, in a buffer that is just long enough, and in one that is too short. With a number of rounds the certificates and
-stores of the rows are changed at random, so many of them. It needs a C compiler; where there is no Go compiler, or no Python
-library, that part is left out. Usage: tests/c_library.py [ROUNDS]
+stores of the rows are changed at random, so many of them. Where there is no C compiler all is left out, and
+where there is no Go compiler that part. Usage: tests/c_library.py [ROUNDS]
 """
 
 import ctypes
@@ -21,7 +21,7 @@ from concurrent.futures import ThreadPoolExecutor
 from pathlib import Path
 
 from hostile import judgements
-from reference import certificate, entry, judging, store
+from reference import certificate, entry, judging, merkle, proof, store
 
 ROOT = Path(__file__).resolve().parent.parent
 HEADER = ROOT / "include/mtc.h"
@@ -88,6 +88,28 @@ class Library:
         return status, length.value, buffer.raw
 
 
+HEADER_SAYS = """#include "mtc.h"
+{}
+_Static_assert(sizeof(struct mtc_verdict) == {}, "its size");
+typedef uint32_t hand_out(const uint8_t *, size_t, uint8_t *, size_t, uint64_t *);
+typedef uint32_t hand_out_one(const uint8_t *, size_t, uint64_t, uint8_t *, size_t, uint64_t *);
+typedef uint32_t judge(const uint8_t *, size_t, const uint8_t *, size_t, int64_t, struct mtc_verdict *);
+hand_out *const pieces[] = {{mtc_public_key, mtc_entry_hash}};
+hand_out_one *const name = mtc_dns_name;
+judge *const judges = mtc_judge;
+"""
+
+
+def wrong_header():
+    """What a C compiler says, where the header has not the struct and the functions that are called here from Python."""
+    fields = "".join(f'_Static_assert(offsetof(struct mtc_verdict, {name}) == {getattr(Verdict, name).offset}, "{name}");\n'
+                     f'_Static_assert(sizeof ((struct mtc_verdict *)0)->{name} == {getattr(Verdict, name).size}, "{name}");\n'
+                     for name, _ in Verdict._fields_)
+    tried = subprocess.run(["cc", "-std=c11", "-Wall", "-Wextra", "-Werror", "-fsyntax-only", f"-I{HEADER.parent}", "-xc", "-"],
+                           input=HEADER_SAYS.format(fields, ctypes.sizeof(Verdict)), capture_output=True, text=True)
+    return tried.stderr.splitlines()
+
+
 def dns_names(read):
     """The dNSNames of a certificate: those of its first subjectAltName."""
     return next((one.names for one in read.extension_list if one.identifier == certificate.ALT_NAME), [])
@@ -118,6 +140,18 @@ def wrong_pieces(library, cert):
         yield f"mtc_dns_name {count}: there is none"
 
 
+def counting(cert, known):
+    """The cosigners that count for an accepted certificate, as a set of bits; none where the store trusts its interval."""
+    read = certificate.read(cert)
+    found = proof.read(read.proof)
+    if any((start, end) == (found.start, found.end) for start, end, _ in known.subtrees):
+        return 0
+    leaf = merkle.leaf(entry.of_certificate(read))
+    node = merkle.evaluated(leaf, read.serial, found.start, found.end, found.path)
+    places = {place for places, _ in known.rules for place in places}
+    return sum(1 << place for place in places if judging.has_signed(*known.cosigners[place], known, found, node))
+
+
 def wrong_row(library, names, row):
     """How the verdict on a row differs from what the readers say."""
     cert, known, now = row
@@ -126,9 +160,15 @@ def wrong_row(library, names, row):
         yield f"{verdict.printed(names)} in place of {asked}"
     elif verdict.status == 0:
         index, start, end = judging.judge(cert, store.read(known), now)
-        if (verdict.index, verdict.start, verdict.end, verdict.refusal, verdict.number) != (index, start, end, 0, 0):
-            yield f"{bytes(verdict).hex()}: another interval"
+        if bytes(verdict) != bytes(Verdict(0, 0, 0, index, start, end, counting(cert, store.read(known)))):
+            yield f"{bytes(verdict).hex()}: another interval, or other cosigners"
         yield from wrong_pieces(library, cert)
+    elif any((verdict.index, verdict.start, verdict.end, verdict.cosigners)):
+        yield f"{bytes(verdict).hex()}: something of a certificate that isn't accepted"
+    elif 16 <= verdict.refusal < 48:
+        for call, words in ("mtc_public_key", ()), ("mtc_entry_hash", ()), ("mtc_dns_name", (ctypes.c_uint64(0),)):
+            if library.piece(call, cert, 32, *words) != (2, 0, b"\xaa" * 33):
+                yield f"{call}: something of bytes that are no certificate"
 
 
 def is_newer_toml(library, names, row):
@@ -195,14 +235,21 @@ def callers(folder, archive, shared):
 def main(words):
     with tempfile.TemporaryDirectory() as folder:
         archive, shared = Path(folder, "libmtc.a"), Path(folder, "libmtc.so")
+        for tool in ("ar", "ld", "objcopy", "cc"):
+            if not shutil.which(tool):
+                print(f"left out: c_library: there is no {tool}")
+                return 0
         if subprocess.run([ROOT / "tools/c_library.sh", folder]).returncode:
             return 70
         library, names, table, status = Library(shared), header_names(), rows(), False
+        status |= report("the struct and the functions of mtc.h, by a C compiler", wrong_header())
         wrong = [one for row in table for one in wrong_row(library, names, row)]
         status |= report("the verdicts on the rows of verify, called from Python", wrong, f": {len(table)}")
+        two_names = (ROOT / "examples/mail.cert").read_bytes()
+        status |= report("the parts of a certificate of two names", list(wrong_pieces(library, two_names)))
         with ThreadPoolExecutor(THREADS) as threads:
-            at_once = list(threads.map(lambda row: line_of(library.judge(*row)), table * THREADS))
-        alone = [line_of(library.judge(*row)) for row in table] * THREADS
+            at_once = list(threads.map(lambda row: bytes(library.judge(*row)).hex(), table * THREADS))
+        alone = [bytes(library.judge(*row)).hex() for row in table] * THREADS
         status |= report(f"{THREADS} threads call at once", [f"{a} in place of {b}" for a, b in zip(at_once, alone) if a != b])
         for language, command in callers(folder, archive, shared):
             if command is None:

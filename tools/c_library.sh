@@ -1,6 +1,7 @@
 #!/bin/bash
 # Puts the C library into a folder: libmtc.a, and libmtc.so for programs that load it. The crate mtc_c is proved and built
-# first, where that hasn't been done or a source was changed since. It needs ar and cc.
+# first, where that hasn't been done or a source was changed since. It needs ar, ld, objcopy and cc. Of the names of
+# the parts only those of mtc.h are seen outside: another library of the kit in the same program has the others too.
 # Usage: tools/c_library.sh FOLDER
 set -eu
 root=$(dirname "$(dirname "$(readlink -f "${BASH_SOURCE[0]}")")")
@@ -17,5 +18,7 @@ work=$(mktemp -d)
 trap 'rm -rf "$work"' EXIT
 (cd "$work" && ar x "$archive" && ar x "$heap")
 rm -f "$folder/libmtc.a"
-ar rcs "$folder/libmtc.a" "$work"/*.o
-cc -shared -o "$folder/libmtc.so" -Wl,--whole-archive "$folder/libmtc.a" -Wl,--no-whole-archive
+ld -r -o "$work/libmtc.o" "$work"/*.o
+objcopy --wildcard --keep-global-symbol='mtc_*' "$work/libmtc.o"
+ar rcs "$folder/libmtc.a" "$work/libmtc.o"
+cc -shared -o "$folder/libmtc.so" -Wl,-soname,libmtc.so -Wl,-z,defs "$work/libmtc.o"

@@ -4,13 +4,18 @@
 #include <stdlib.h>
 
 static uint8_t *bytes_of(const char *name, size_t *length) {
-    static uint8_t room[2][1 << 20];
-    static int next = 0;
+    size_t room = 1 << 16;
+    uint8_t *bytes = malloc(room);
     FILE *file = fopen(name, "rb");
     if (!file) { perror(name); exit(5); }
-    *length = fread(room[next], 1, sizeof room[next], file);
+    *length = 0;
+    while (bytes && (*length += fread(bytes + *length, 1, room - *length, file)) == room)
+        bytes = realloc(bytes, room *= 2);
+    if (!bytes) exit(8);
+    /* A store that is cut may lack what it says is revoked. */
+    if (ferror(file)) { perror(name); exit(5); }
     fclose(file);
-    return room[next++];
+    return bytes;
 }
 
 int main(int count, char **words) {
