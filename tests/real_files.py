@@ -9,6 +9,7 @@ Usage: tests/real_files.py [KILLS [CHECK ..]]      a command is killed so many t
 """
 
 import shutil
+import signal
 import subprocess
 import sys
 import time
@@ -64,6 +65,9 @@ def tried(kind, check, killed):
 
 
 def main(words):
+    # A signal that whoever began this ignores, as a shell does in the background, would be ignored by the program too.
+    for one in (signal.SIGHUP, signal.SIGINT, signal.SIGQUIT, signal.SIGTERM):
+        signal.signal(one, signal.SIG_DFL)
     if subprocess.run([ROOT / "mtc", "member", ROOT / "examples/first.member"], stdout=subprocess.DEVNULL).returncode:
         return 70
     killed, chosen = int(words[0]) if words else 100, words[1:]
