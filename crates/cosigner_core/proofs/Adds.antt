@@ -2,32 +2,28 @@
 use Rattle.std.proofs.Common.{◌≡◌, ℕ, ◌+◌, ◌<◌, ◌≤◌, nat_lt, ◌↔◌, Bool, true, false}
 use Rattle.std.proofs.Common.{length, Option, Some, None}
 use Rattle.std.proofs.Common.{Result, Ok}
-use Rattle.std.specs.Prelude.{if◌then◌else◌}
-use Rattle.std.proofs.Common.{Err, IsErrAnd, IsErrOf, IsTrue, refl, sym, subst, arith}
-use Rattle.std.proofs.lemmas.Bool.{ltb-true, lt-ltb}
+use Rattle.std.proofs.Common.{Err, IsErrAnd, IsErrOf, IsTrue, refl, sym, subst}
+use Rattle.byte_formats.proofs.Values.{err_is}
 use Rattle.byte_formats.specs.Types.{Text}
 use Rattle.byte_formats.specs.Refusals.{answer_of}
 use Rattle.disk_core.specs.declared.disk.Disk.{Ghosts}
-use Rattle.disk_core.specs.Moments.{LeavesOnly}
 use Rattle.tree_core.specs.declared.hashing.TreeHash.{Ghosts as Hashes}
-use Rattle.journal_core.specs.Format.{RepresentsEither, most_bytes}
+use Rattle.journal_core.specs.Format.{most_bytes}
 use Rattle.journal_core.specs.Owners.{Owner, OwnerAppends}
-use Rattle.journal_core.proofs.Appends.{untouched_after, untouched_moment}
 use Rattle.journal_core.specs.declared.error.AppendError.{AppendError}
 use Rattle.journal_core.specs.declared.error.AppendError.TheVariants.{Broken, Failed, Full}
 use Rattle.cosigner_core.specs.Folds.{CosignerState}
 use Rattle.cosigner_core.specs.Refusals.{IsOfRequest, CosignKeepsTo, earlier}
 use Rattle.cosigner_core.specs.Refusals.{journal_refusal}
-use Rattle.cosigner_core.specs.Words.{CosignerAppends, CosignerLeaves}
-use Rattle.cosigner_core.specs.Words.{cosigner_disk, cosigner_end}
+use Rattle.cosigner_core.specs.Words.{CosignerAppends, cosigner_disk, cosigner_state}
 use Rattle.cosigner_core.specs.Words.{of_cosigner_journal}
 use Rattle.cosigner_core.specs.declared.cosigner.Cosigner.{Cosigner}
 use Rattle.cosigner_core.specs.declared.error.CosignError.{CosignError}
 use Rattle.cosigner_core.specs.declared.error.CosignError.TheVariants.{WrongLog, NotNewer}
 use Rattle.cosigner_core.specs.declared.error.CosignError.TheVariants.{BadSubtree, Beyond, BadProof}
 use Rattle.cosigner_core.specs.declared.error.CosignError.TheVariants.{Exhausted, Append}
-use Rattle.state_journal.proofs.Kept.{of_sound}
-use Rattle.state_journal.proofs.Refusals.{err_is}
+use Rattle.state_journal.proofs.Owners.{owner_grows, owner_refused, owner_stays}
+use Rattle.state_journal.proofs.Answered.{AnswersSo, answered_so}
 
 -- the answers of an append
 abbrev pub Answer : Type 0
@@ -44,43 +40,25 @@ some_body body written is some = subst (λ (b : Text). 1 ≤ length b) (sym is) 
 
 -- ---- what is left of a cosigner
 
-module _ {H D : Type 0} {hashes : Hashes H} {g : Ghosts D} where
-  -- a refusal before the append
-  stays : (it : Cosigner H D hashes g) (body : Text) (next : CosignerState) (why : CosignError)
-      → IsOfRequest why
-      → CosignerLeaves body next it it (Err why)
-  stays it body next WrongLog kind = record { disk = refl; state = refl; end = refl; broken = refl }
-  stays it body next (NotNewer held) kind =
-      record { disk = refl; state = refl; end = refl; broken = refl }
-  stays it body next BadSubtree kind =
-      record { disk = refl; state = refl; end = refl; broken = refl }
-  stays it body next (Beyond held) kind =
-      record { disk = refl; state = refl; end = refl; broken = refl }
-  stays it body next BadProof kind =
-      record { disk = refl; state = refl; end = refl; broken = refl }
-  stays it body next Exhausted kind =
-      record { disk = refl; state = refl; end = refl; broken = refl }
-  stays it body next (Append why) kind = absurd kind
+-- a refusal before the append
+none_of_journal : (why : CosignError) → IsOfRequest why → of_cosigner_journal why ≡ None
+none_of_journal WrongLog kind = refl
+none_of_journal (NotNewer held) kind = refl
+none_of_journal BadSubtree kind = refl
+none_of_journal (Beyond held) kind = refl
+none_of_journal BadProof kind = refl
+none_of_journal Exhausted kind = refl
+none_of_journal (Append why) kind = absurd kind
 
-  pub refused : (it : Cosigner H D hashes g) (body : Text) (next : CosignerState)
-      (result : Result (Unit {0}) CosignError) (why : CosignError)
-      → IsErrAnd result (λ e. e ≡ why) → IsOfRequest why
-      → ((c : Text) → g.left_since (cosigner_disk it) (g.moment (cosigner_disk it)) c
-      → g.may_leave (cosigner_disk it) c)
-      → CosignerAppends body next it it result
-  refused it body next result why is kind only_now =
-      subst (CosignerAppends body next it it) (err_is result why is) (record {
-        leaves = stays it body next why kind;
-        kept = tt;
-        count = omega arith;
-        any_moment = λ sound. of_sound it.journal (λ list. LeavesOnly g (cosigner_disk it)
-            (cosigner_disk it) (RepresentsEither list body)) sound (untouched_moment g
-            (cosigner_disk it) (cosigner_end it) body (it.journal.settled sound) only_now);
-        afterwards = λ sound. of_sound it.journal (λ list. (c : Text)
-            → g.may_leave (cosigner_disk it) c → RepresentsEither list body c) sound
-            (untouched_after g (cosigner_disk it) (cosigner_end it) body
-            (it.journal.settled sound));
-      })
+pub refused : {H D : Type 0} {hashes : Hashes H} {g : Ghosts D} (it : Cosigner H D hashes g)
+    (body : Text) (next : CosignerState) (result : Result (Unit {0}) CosignError)
+    (why : CosignError) → IsErrAnd result (λ e. e ≡ why) → IsOfRequest why
+    → ((c : Text) → g.left_since (cosigner_disk it) (g.moment (cosigner_disk it)) c
+    → g.may_leave (cosigner_disk it) c) → CosignerAppends body next it it result
+refused {g = g} it body next result why is kind only_now =
+    subst (CosignerAppends body next it it) (err_is result why is)
+    (owner_stays g of_cosigner_journal body next it.journal (cosigner_state it) why
+    (none_of_journal why kind) only_now)
 
 -- what the append of the machine did, as an answer of the cosigner
 module _ {D S : Type 0} (g : Ghosts D) (next : S) (old new : Owner D S) where
@@ -90,13 +68,7 @@ module _ {D S : Type 0} (g : Ghosts D) (next : S) (old new : Owner D S) where
       → OwnerAppends {X = Unit {0}} g of_cosigner_journal body next old new (Ok tt)
   grown written body is did =
       subst (λ (b : Text). OwnerAppends {X = Unit {0}} g of_cosigner_journal b next old new
-      (Ok tt)) is (record {
-        leaves = did.leaves;
-        kept = did.kept;
-        count = did.count;
-        any_moment = did.any_moment;
-        afterwards = did.afterwards;
-      })
+      (Ok tt)) is (owner_grows g of_cosigner_journal written next old new tt did)
 
   -- what holds of both states holds of the one that it left
   pub left_state : (P : S → Type 0) (body : Text) (result : Answer)
@@ -115,13 +87,8 @@ module _ {D S : Type 0} (g : Ghosts D) (next : S) (old new : Owner D S) where
       subst (OwnerAppends g of_cosigner_journal body next old new)
       (err_is result (Append why) refused)
       (subst (λ (b : Text). OwnerAppends {X = Unit {0}} g of_cosigner_journal b next old new
-      (Err (Append why))) is (record {
-        leaves = did.leaves;
-        kept = tt;
-        count = did.count;
-        any_moment = did.any_moment;
-        afterwards = did.afterwards;
-      }))
+      (Err (Append why))) is
+      (owner_refused g of_cosigner_journal written next old new why (Append why) refl did))
 
 -- ---- which refusal it is
 
@@ -159,23 +126,14 @@ keeps_why : (broken : Bool) (end : ℕ) (body : Text) (why : AppendError)
     → (IsErrOf (contents why) Full
     ↔ (broken ≡ false) × (most_bytes < end + 5 + length body))
     → CosignKeepsTo (journal_refusal broken end body) (Err (Append why))
-keeps_why true end body Broken by_broken by_full = refl
-keeps_why false end body Broken by_broken by_full =
-    let wrong : false ≡ true = by_broken.0 refl in cc
-keeps_why broken end body Full by_broken by_full =
-    let full = by_full.0 refl in
-    rw (full.0, lt-ltb most_bytes (end + 5 + length body) full.1) refl
-keeps_why true end body Failed by_broken by_full =
-    let wrong : contents Failed ≡ contents Broken = by_broken.1 refl in cc
-keeps_why false end body Failed by_broken by_full =
-    capacity (nat_lt most_bytes (end + 5 + length body)) refl
+keeps_why broken end body why by_broken by_full =
+    at why (answered_so broken most_bytes (end + 5 + length body) (contents why) by_broken by_full)
   where
-    capacity : (b : Bool) → nat_lt most_bytes (end + 5 + length body) ≡ b
-        → (if b then Some (Append Full) else None) ≡ None
-    capacity true is =
-        let wrong : contents Failed ≡ contents Full =
-        by_full.1 (refl, ltb-true most_bytes (end + 5 + length body) is) in cc
-    capacity false is = refl
+    at : (e : AppendError) → AnswersSo (Err e) broken (nat_lt most_bytes (end + 5 + length body))
+        → CosignKeepsTo (journal_refusal broken end body) (Err (Append e))
+    at Broken is = rw is refl
+    at Full is = rw (is.0, is.1) refl
+    at Failed is = rw (is.0, is.1) refl
 
 pub keeps_append : (broken : Bool) (end : ℕ) (written body : Text)
     (result : Result (Unit {0}) CosignError) (why : AppendError)
@@ -193,14 +151,6 @@ pub keeps_ok : (broken : Bool) (end : ℕ) (body : Text)
     → (IsErrOf done Broken ↔ IsTrue broken)
     → (IsErrOf done Full ↔ (broken ≡ false) × (most_bytes < end + 5 + length body))
     → CosignKeepsTo (journal_refusal broken end body) (Ok tt)
-keeps_ok true end body by_broken by_full =
-    let wrong : done ≡ contents Broken = by_broken.1 refl in cc
-keeps_ok false end body by_broken by_full =
-    capacity (nat_lt most_bytes (end + 5 + length body)) refl
-  where
-    capacity : (b : Bool) → nat_lt most_bytes (end + 5 + length body) ≡ b
-        → (if b then Some (Append Full) else None) ≡ None
-    capacity true is =
-        let wrong : done ≡ contents Full =
-        by_full.1 (refl, ltb-true most_bytes (end + 5 + length body) is) in cc
-    capacity false is = refl
+keeps_ok broken end body by_broken by_full =
+    let is = answered_so broken most_bytes (end + 5 + length body) done by_broken by_full in
+    rw (is.0, is.1) refl

@@ -26,6 +26,8 @@ impl<H: TreeHash> Drop for Machine<H> {
 impl<H: TreeHash> StateMachine for Machine<H> {
     type Seed = ();
 
+    type Rest = ();
+
     ghost use Rattle.cosigner_core.specs.Folds.{CosignerState, begun_cosigner, next_state};
 
     ghost State = { CosignerState };
@@ -36,11 +38,11 @@ impl<H: TreeHash> StateMachine for Machine<H> {
 
     ghost state = { λ it. it.contents };
 
-    ghost Beside = { Unit {0} };
+    ghost rest_of = { λ _. tt };
 
-    ghost beside_of = { λ _. tt };
+    ghost rest = { λ _. tt };
 
-    ghost beside = { λ _. tt };
+    ghost becomes_stops = { λ _ _ _. tt };
 
     fn begin(alloc: Global, _seed: (), body: &[u8]) -> Result<Self, NotBegun<(), Misfit>> {
         match Contents::begin::<H>(alloc, body) {
@@ -49,11 +51,11 @@ impl<H: TreeHash> StateMachine for Machine<H> {
                 hash: PhantomData,
             }),
             Err(RecordError::Unfit) => Err(NotBegun {
-                seed: (),
+                rest: (),
                 why: Misfit::Unfit,
             }),
             Err(RecordError::Memory) => Err(NotBegun {
-                seed: (),
+                rest: (),
                 why: Misfit::Memory,
             }),
         }
@@ -67,5 +69,7 @@ impl<H: TreeHash> StateMachine for Machine<H> {
         }
     }
 
-    fn into_seed(self) {}
+    fn hand_back(_seed: ()) {}
+
+    fn into_rest(self) {}
 }

@@ -1,7 +1,9 @@
 -- What an append leaves of a journal and its machine.
-use Rattle.std.proofs.Common.{◌≡◌, ℕ, ◌+◌, ◌-◌, List, [], ◌∷◌, ◌++◌, length, Some}
+use Rattle.std.proofs.Common.{◌≡◌, ℕ, ◌+◌, ◌-◌, List, [], ◌∷◌, ◌++◌, length, Option, Some}
 use Rattle.std.proofs.Common.{IfSome, option_map, Result, Ok, Err, refl, sym, ap, ◌∙◌}
-use Rattle.std.proofs.Common.{false, subst, arith}
+use Rattle.std.proofs.Common.{IsTrue, false, subst, arith}
+use Rattle.std.specs.Prelude.{is_some}
+use Rattle.std.proofs.lemmas.Option.{same_Some}
 use Rattle.byte_formats.specs.Types.{Text}
 use Rattle.disk_core.specs.Moments.{LeavesOnly}
 use Rattle.disk_core.specs.declared.disk.Disk.{Ghosts}
@@ -19,10 +21,11 @@ use Rattle.state_journal.specs.Steps.{HasNextMachine}
 use Rattle.state_journal.specs.declared.machine.StateMachine.{Ghosts as Machines}
 use Rattle.state_journal.proofs.Kept.{appended_keeps, end_stays, of_sound, sound_records, stay_kept}
 
-some_value : {X : Type 0} (x y : X) → Some x ≡ Some y → x ≡ y
-some_value x y is = cc
+-- a record that makes a state is allowed
+pub is_allowed : {S : Type 0} (o : Option S) (t : S) → o ≡ Some t → IsTrue (is_some o)
+is_allowed o t is = subst (λ p. IsTrue (is_some p)) (sym is) refl
 
-module _ {M X : Type 0} (m : Machines M X) where
+module _ {M X R : Type 0} (m : Machines M X R) where
   makes_next : (was now : M) (place : ℕ) (body : Text)
       → HasNextMachine m.takes m.state m.Keeps place body was now
       → (list : List Text) → Makes m was list → place ≡ behind 16 list
@@ -89,7 +92,7 @@ module _ {M X : Type 0} (m : Machines M X) where
           leaves = record {
             records = sound_records new did.leaves.sound ∙ did.leaves.records
                 ∙ ap (option_map (λ list. list ++ body ∷ [])) (sym sound);
-            state = some_value (m.state now) next (sym took.next ∙ is);
+            state = same_Some (m.state now) next (sym took.next ∙ is);
             end = did.leaves.end;
             was_sound = did.leaves.was_sound;
             sound = did.leaves.sound;

@@ -2,6 +2,7 @@
 use Rattle.std.proofs.Common.{◌≡◌, ℕ, true, false, List, [], ◌∷◌, ◌++◌, Option, Some}
 use Rattle.std.proofs.Common.{None, IfSome, option_map, Ok, Err, refl, sym, ap, ◌∙◌, subst}
 use Rattle.std.specs.Prelude.{is_some}
+use Rattle.std.proofs.lemmas.Option.{same_Some}
 use Rattle.byte_formats.specs.Types.{Text}
 use Rattle.disk_core.specs.declared.disk.Disk.{Ghosts}
 use Rattle.journal_core.specs.Durable.{IsDurable}
@@ -22,11 +23,8 @@ use Rattle.state_journal.specs.Durable.{IsDurableWith}
 abbrev pub Each : Option Text → (Text → Type 0) → Type 0
 Each contents P = (bytes : Text) → contents ≡ Some bytes → P bytes
 
-some_is : (x y : Text) → Some x ≡ Some y → x ≡ y
-some_is x y is = cc
-
 only_some : (P : Text → Type 0) (bytes : Text) → P bytes → Each (Some bytes) P
-only_some P bytes is other same = subst P (some_is bytes other same) is
+only_some P bytes is other same = subst P (same_Some bytes other same) is
 
 none_modelled : (P : Text → Type 0) → Each None P
 none_modelled P other same = let wrong : None ≡ Some other = same in cc

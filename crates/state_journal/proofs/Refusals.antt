@@ -1,6 +1,6 @@
 -- What calls that read a journal leave, one behind another.
-use Rattle.std.proofs.Common.{◌≡◌, false, Bool, Some, None, Result, Ok, Err, IsErrAnd, OnErr, ap}
-use Rattle.std.proofs.Common.{sym, ◌∙◌}
+use Rattle.std.proofs.Common.{◌≡◌, ℕ, false, Bool, Some, None, Result, Ok, Err, IsErrAnd, OnErr, ap}
+use Rattle.std.proofs.Common.{refl, sym, ◌∙◌}
 use Rattle.disk_core.specs.Moments.{OnlyReads}
 use Rattle.disk_core.specs.declared.disk.Disk.{Ghosts}
 use Rattle.disk_core.proofs.Moments.{only_read_on}
@@ -9,19 +9,24 @@ use Rattle.journal_core.specs.Openings.{HasStepped, opening_disk}
 use Rattle.journal_core.specs.declared.error.OpenError.{OpenError}
 use Rattle.journal_core.specs.declared.opening.Opening.{Opening}
 use Rattle.journal_core.proofs.FoldSteps.{cause_later, refused_later}
-use Rattle.state_journal.specs.Causes.{HasReadOn, HasStateCause}
+use Rattle.state_journal.specs.Causes.{HasReadOn, HasStateCause, IsLeftAt, refusal_at}
+use Rattle.state_journal.specs.Steps.{IsLeftBy}
+use Rattle.state_journal.specs.declared.error.Misfit.{Misfit}
+use Rattle.state_journal.specs.declared.error.Misfit.TheVariants.{Unfit, Memory}
 use Rattle.state_journal.specs.declared.error.StateOpenError.{StateOpenError}
 use Rattle.state_journal.specs.declared.error.StateOpenError.TheVariants.{BadRecord, Open}
-
--- an error that is handed on
-pub err_is : {T E : Type 0} (r : Result T E) (e : E) → IsErrAnd r (λ x. x ≡ e) → Err e ≡ r
-err_is (Ok x) e is = absurd is
-err_is (Err x) e is = ap Err (sym is)
 
 -- where a call is refused, this
 pub on_err : {T E : Type 0} (r : Result T E) (P : Type 0) → P → OnErr r P
 on_err (Ok x) P is = tt
 on_err (Err e) P is = is
+
+-- what a record that isn't taken leaves, by its number
+pub left_at : {R : Type 0} (Becomes Stops : R → R → Type 0) (was now : R)
+    → (Becomes was now → Stops was now) → (k : ℕ) (why : Misfit)
+    → IsLeftBy Becomes Stops was now why → IsLeftAt Becomes Stops was now (refusal_at k why)
+left_at Becomes Stops was now stops k Unfit is = (stops is, λ other. is)
+left_at Becomes Stops was now stops k Memory is = (is, λ other. absurd (other refl))
 
 module _ {D S : Type 0} (g : Ghosts D) (fold : Fold S StateOpenError) (old mid new : D)
     (only_reads : OnlyReads g old mid) (fine : g.faults mid ≡ g.faults old) where

@@ -35,7 +35,8 @@ placed {D} {g} P opening holds =
     go None reading is = tt
     go (Some b) reading is = (is, (reading b refl).place_is)
 
-module _ {M X : Type 0} (m : Machines M X) {D : Type 0} {g : Ghosts D} (old new : Opening D g) where
+module _ {M X R : Type 0} (m : Machines M X R) {D : Type 0} {g : Ghosts D}
+    (old new : Opening D g) where
   module _ (body : Text) (last : last_body new ≡ body) (read : HasRead old new) where
     -- the first record begins the machine
     pub taken_first : (it : M)
@@ -98,7 +99,7 @@ module _ {M X : Type 0} (m : Machines M X) {D : Type 0} {g : Ghosts D} (old new 
   }
 
 -- all of them make it
-pub makes_all : {M X : Type 0} (m : Machines M X) {D : Type 0} {g : Ghosts D} (it : M)
+pub makes_all : {M X R : Type 0} (m : Machines M X R) {D : Type 0} {g : Ghosts D} (it : M)
     (opening : Opening D g) → HasTakenAll m it opening → IfSome (read_list opening) (Makes m it)
 makes_all m it opening all = go (read_list opening) all.found.made all.keeps
   where

@@ -15,8 +15,14 @@ abbrev pub refusal_at : ℕ → Misfit → StateOpenError
 refusal_at number Unfit = BadRecord number
 refusal_at number Memory = Open open_error.Memory
 
--- the answer, without the seed that a refusal hands back
-abbrev pub why_of : {M X E : Type 0} → Result M (NotBegun X E) → Result M E
+-- What is handed back where a journal isn't read: it became so, unless a record could not be taken.
+abbrev pub IsLeftAt : {R : Type 0} → (R → R → Type 0) → (R → R → Type 0) → R → R
+    → StateOpenError → Type 0
+IsLeftAt Becomes Stops was now why =
+    Stops was now × (why ≢ Open open_error.Memory → Becomes was now)
+
+-- the answer, without what a refusal hands back of the seed
+abbrev pub why_of : {M R E : Type 0} → Result M (NotBegun R E) → Result M E
 why_of (Ok it) = Ok it
 why_of (Err e) = Err e.why
 

@@ -18,7 +18,7 @@ use Rattle.state_journal.specs.declared.error.StateOpenError.{StateOpenError}
 use Rattle.state_journal.specs.declared.error.StateOpenError.TheVariants.{BadRecord, Open}
 use Rattle.state_journal.specs.declared.machine.StateMachine.{Ghosts as Machines}
 
-module _ {M X : Type 0} (m : Machines M X) where
+module _ {M X R : Type 0} (m : Machines M X R) where
   -- A machine as a kind of journal.
   abbrev pub fold_of : Fold m.State StateOpenError
   fold_of =

@@ -17,6 +17,11 @@ IsOutOfMemory (Ok done) = ⊥
 IsOutOfMemory (Err Unfit) = ⊥
 IsOutOfMemory (Err Memory) = Unit {0}
 
+-- What is handed back where a record isn't taken: it became so, unless it could not be taken.
+abbrev pub IsLeftBy : {R : Type 0} → (R → R → Type 0) → (R → R → Type 0) → R → R → Misfit → Type 0
+IsLeftBy Becomes Stops was now Unfit = Becomes was now
+IsLeftBy Becomes Stops was now Memory = Stops was now
+
 module _ {M S : Type 0} where
   -- the first record begins this machine
   pub record IsBegunMachine (begins : Text → Option S) (state : M → S)
@@ -25,8 +30,8 @@ module _ {M S : Type 0} where
     pub keeps : Keeps it (body ∷ [])
 
   -- what the first record begins, by the answer
-  abbrev pub BeginsMachine : {X : Type 0} → (Text → Option S) → (M → S) → (M → List Text → Type 0)
-      → Text → Result M (NotBegun X Misfit) → Type 0
+  abbrev pub BeginsMachine : {R : Type 0} → (Text → Option S) → (M → S) → (M → List Text → Type 0)
+      → Text → Result M (NotBegun R Misfit) → Type 0
   BeginsMachine begins state Keeps body (Ok it) = IsBegunMachine begins state Keeps body it
   BeginsMachine begins state Keeps body (Err e) = IsMisfitOf (begins body) e.why
 

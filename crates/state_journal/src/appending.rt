@@ -38,7 +38,7 @@ pub fn append_to<M: StateMachine, D: Disk>(
     ensures machine { OnErr result (machine.new ≡ machine.old) }
     ensures reach { D.known (disk_of journal.new)
         ≤ max (end_of journal.old + 5 + length body.now) (D.known (disk_of journal.old)) }
-    ensures beside { M.beside machine.new ≡ M.beside machine.old }
+    ensures rest { M.rest machine.new ≡ M.rest machine.old }
 {
     let place = journal.end() - 1;
     journal.append(body)?;

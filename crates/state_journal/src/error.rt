@@ -7,7 +7,8 @@ use journal_core::OpenError;
 pub enum Misfit {
     /// It breaks the rules.
     Unfit,
-    /// Memory was refused.
+    /// It can't be taken now: memory was refused, or what the machine has beside its records
+    /// failed. What a refused opening hands back shows which.
     Memory,
 }
 
@@ -22,17 +23,17 @@ pub enum StateOpenError {
     Open(OpenError),
 }
 
-/// A machine that isn't begun hands a seed back.
+/// A machine that isn't begun hands back what there is of its seed.
 #[derive(Debug, Drop)]
-pub struct NotBegun<S, E> {
-    pub seed: S,
+pub struct NotBegun<R, E> {
+    pub rest: R,
     pub why: E,
 }
 
-/// A refused opening hands the disk and a seed back.
+/// A refused opening hands back the disk and what there is of the seed.
 #[derive(Debug, Drop)]
-pub struct StateRefused<D, S> {
+pub struct StateRefused<D, R> {
     pub disk: D,
-    pub seed: S,
+    pub rest: R,
     pub why: StateOpenError,
 }

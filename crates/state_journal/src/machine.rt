@@ -1,18 +1,22 @@
 //! What the records of a journal make, record by record.
 
-ghost use Rattle.std.specs.Prelude.{◌≡◌, ℕ, ◌+◌, List, length, Option, IfOk, IfErr, OnOk};
+ghost use Rattle.std.specs.Prelude.{◌≡◌, ℕ, ◌+◌, List, length, Option, IfOk, OnOk};
 ghost use Rattle.std.specs.Prelude.{MatchResult};
 ghost use Rattle.byte_formats.specs.Types.{Text};
-ghost use Rattle.state_journal.specs.Steps.{BeginsMachine, IsOutOfMemory, TakesRecord};
+ghost use Rattle.state_journal.specs.Steps.{BeginsMachine, IsLeftBy, IsOutOfMemory, TakesRecord};
 
 use crate::error::{Misfit, NotBegun};
 use std::alloc::Global;
 
 /// A state machine: the first record of a journal begins it, and it takes each later one. Its state
 /// is a function of the records alone.
-pub trait StateMachine: Drop + Sized {
-    /// What a machine is begun with beside its first record, as the disk of its tiles.
-    type Seed: Drop;
+pub trait StateMachine: Sized {
+    /// What a machine is begun with beside its first record, as the disk of its tiles and frames
+    /// for them.
+    type Seed;
+
+    /// What of a seed a refused opening hands back, as that disk.
+    type Rest;
 
     // what contracts see of a machine
     ghost State: { Type 0 };
@@ -24,44 +28,54 @@ pub trait StateMachine: Drop + Sized {
     ghost state: { Self → State };
     // what it keeps beside its state, where the records are known
     ghost Keeps: { Self → List Text → Type 0 } = { λ _ _. Unit {0} };
-    // what it keeps of places in the journal, where the next record's gate stands here
+    // what it keeps over any disk, of places in the journal too, where the next record's gate
+    // stands here
     ghost Within: { Self → ℕ → Type 0 } = { λ _ _. Unit {0} };
-    // memory isn't refused for this record
+    // this record is taken with what is there: memory isn't refused, and nothing beside is called
     ghost HasCapacity: { Self → Text → Type 0 } = { λ _ _. Unit {0} };
     // a seed that a machine may be begun with
     ghost IsBlank: { Self.Seed → Type 0 } = { λ _. Unit {0} };
-    // what of a seed stays as it is while records are taken
-    ghost Beside: { Type 0 };
-    // that of a seed
-    ghost beside_of: { Self.Seed → Beside };
-    // that of a machine
-    ghost beside: { Self → Beside };
+    // what of a seed is handed back
+    ghost rest_of: { Self.Seed → Self.Rest };
+    // what a machine has of it
+    ghost rest: { Self → Self.Rest };
+    // what it may have become of one that was there before, while records are read
+    ghost Becomes: { Self.Rest → Self.Rest → Type 0 } = { λ _ _. Unit {0} };
+    // what it may be where a record can't be taken
+    ghost Stops: { Self.Rest → Self.Rest → Type 0 } = { λ _ _. Unit {0} };
 
-    /// The machine that the first record begins. A refusal hands a blank seed back, with what was
-    /// beside it as it was.
+    /// The machine that the first record begins.
     fn begin(
         alloc: Global,
         seed: Self::Seed,
         body: &[u8],
-    ) -> Result<Self, NotBegun<Self::Seed, Misfit>>
+    ) -> Result<Self, NotBegun<Self::Rest, Misfit>>
         requires { IsBlank seed }
         ensures begins { BeginsMachine begins state Keeps body.now result }
         ensures within { IfOk result (λ it. Within it (21 + length body.now)) }
-        ensures beside { MatchResult result (λ it. beside it ≡ beside_of seed)
-            (λ e. beside_of e.seed ≡ beside_of seed) }
-        ensures blank { IfErr result (λ e. IsBlank e.seed) };
+        ensures rest { (was : Self.Rest) → Becomes was (rest_of seed) → MatchResult result
+            (λ it. Becomes was (rest it)) (λ e. IsLeftBy Becomes Stops was e.rest e.why) };
 
     /// Takes one record more, whose gate stands at a place. `Unfit` comes exactly where it breaks
-    /// the rules, but where memory is refused.
+    /// the rules, but where it can't be taken for another reason.
     fn take(&mut self, place: u64, body: &[u8]) -> Result<(), Misfit>
         requires { Within self.old place }
         ensures takes { TakesRecord takes state Keeps place body.now self.old self.new result }
         ensures within { OnOk result (Within self.new (place + 5 + length body.now)) }
         ensures capacity { HasCapacity self.old body.now → IsOutOfMemory result → ⊥ }
-        ensures beside { beside self.new ≡ beside self.old };
+        ensures rest { (was : Self.Rest) → Becomes was (rest self.old) → MatchResult result
+            (λ _. Becomes was (rest self.new)) (λ why. IsLeftBy Becomes Stops was (rest self.new)
+            why) }
+        ensures still { HasCapacity self.old body.now → rest self.new ≡ rest self.old };
 
-    /// A blank seed, to begin with again. What the machine has beside its records stays.
-    fn into_seed(self) -> Self::Seed
-        ensures beside { beside_of result ≡ beside self }
-        ensures blank { IsBlank result };
+    /// What of a seed is handed back, where no machine is begun.
+    fn hand_back(seed: Self::Seed) -> Self::Rest
+        ensures { result ≡ rest_of seed };
+
+    /// What a machine has of it.
+    fn into_rest(self) -> Self::Rest
+        ensures { result ≡ rest self };
+
+    /// Where a record can't be taken it may be as it has become.
+    ghost becomes_stops: { (was now : Self.Rest) → Becomes was now → Stops was now };
 }

@@ -4,7 +4,7 @@ ghost use Rattle.std.specs.Prelude.{◌≡◌, ◌<◌, [], false, None, option_
 ghost use Rattle.std.specs.Prelude.{IfOk, IfErr, OnOk, Err, Ok};
 ghost use Rattle.journal_core.specs.Openings.{opening_disk, read_list, is_ended, refusal};
 ghost use Rattle.journal_core.specs.Openings.{bytes_left, next_place};
-ghost use Rattle.state_journal.specs.Causes.{HasReadOn, refusal_at, why_of};
+ghost use Rattle.state_journal.specs.Causes.{HasReadOn, IsLeftAt, refusal_at, why_of};
 ghost use Rattle.state_journal.specs.Machines.{HasOpenedMachine, HasTaken, HasTakenAll, IsMadeBy};
 ghost use Rattle.state_journal.specs.Machines.{fold_of};
 
@@ -29,33 +29,32 @@ fn read_first<M: StateMachine, D: Disk>(
     alloc: Global,
     opening: &mut Opening<D>,
     seed: M::Seed,
-) -> Result<M, NotBegun<M::Seed, StateOpenError>>
+) -> Result<M, NotBegun<M::Rest, StateOpenError>>
     requires list { read_list opening.old
         ≡ option_map (λ _. []) (D.contents (opening_disk opening.old)) }
     requires place { next_place opening.old ≡ 16 }
     requires goes_on { (is_ended opening.old ≡ false) × (refusal opening.old ≡ None) }
     requires blank { M.IsBlank seed }
     ensures taken { IfOk result (λ it. HasTaken M.StateMachine it opening.new) }
-    ensures beside { MatchResult result (λ it. M.beside it ≡ M.beside_of seed)
-        (λ e. M.beside_of e.seed ≡ M.beside_of seed) }
-    ensures blank { IfErr result (λ e. M.IsBlank e.seed) }
+    ensures rest { (was : M.Rest) → M.Becomes was (M.rest_of seed) → MatchResult result
+        (λ it. M.Becomes was (M.rest it)) (λ e. IsLeftAt M.Becomes M.Stops was e.rest e.why) }
     ensures read { HasReadOn D.Disk (fold_of M.StateMachine) (opening_disk opening.old)
         (opening_disk opening.new) (why_of result) }
 {
     match opening.next() {
         Ok(Some(body)) => match M::begin(alloc, seed, body) {
             Ok(machine) => Ok(machine),
-            Err(NotBegun { seed, why }) => Err(NotBegun {
-                seed,
+            Err(NotBegun { rest, why }) => Err(NotBegun {
+                rest,
                 why: refusal_at(0, why),
             }),
         },
         Ok(None) => Err(NotBegun {
-            seed,
+            rest: M::hand_back(seed),
             why: StateOpenError::BadRecord(0),
         }),
         Err(why) => Err(NotBegun {
-            seed,
+            rest: M::hand_back(seed),
             why: StateOpenError::Open(why),
         }),
     }
@@ -72,7 +71,9 @@ fn read_next<M: StateMachine, D: Disk>(
         (HasTakenAll M.StateMachine machine.new opening.new)) }
     ensures shorter { IfOk result
         (λ more. MatchBool more (bytes_left opening.new < bytes_left opening.old) (Unit {0})) }
-    ensures beside { M.beside machine.new ≡ M.beside machine.old }
+    ensures rest { (was : M.Rest) → M.Becomes was (M.rest machine.old) → MatchResult result
+        (λ _. M.Becomes was (M.rest machine.new))
+        (λ why. IsLeftAt M.Becomes M.Stops was (M.rest machine.new) why) }
     ensures read { HasReadOn D.Disk (fold_of M.StateMachine) (opening_disk opening.old)
         (opening_disk opening.new) result }
 {
@@ -94,7 +95,9 @@ fn read_rest<M: StateMachine, D: Disk>(
 ) -> Result<(), StateOpenError>
     requires { HasTaken M.StateMachine machine.old opening.old }
     ensures all { OnOk result (HasTakenAll M.StateMachine machine.new opening.new) }
-    ensures beside { M.beside machine.new ≡ M.beside machine.old }
+    ensures rest { (was : M.Rest) → M.Becomes was (M.rest machine.old) → MatchResult result
+        (λ _. M.Becomes was (M.rest machine.new))
+        (λ why. IsLeftAt M.Becomes M.Stops was (M.rest machine.new) why) }
     ensures read { HasReadOn D.Disk (fold_of M.StateMachine) (opening_disk opening.old)
         (opening_disk opening.new) result }
 {
@@ -110,16 +113,15 @@ fn read_machine<M: StateMachine, D: Disk>(
     alloc: Global,
     opening: &mut Opening<D>,
     seed: M::Seed,
-) -> Result<M, NotBegun<M::Seed, StateOpenError>>
+) -> Result<M, NotBegun<M::Rest, StateOpenError>>
     requires list { read_list opening.old
         ≡ option_map (λ _. []) (D.contents (opening_disk opening.old)) }
     requires place { next_place opening.old ≡ 16 }
     requires goes_on { (is_ended opening.old ≡ false) × (refusal opening.old ≡ None) }
     requires blank { M.IsBlank seed }
     ensures all { IfOk result (λ it. HasTakenAll M.StateMachine it opening.new) }
-    ensures beside { MatchResult result (λ it. M.beside it ≡ M.beside_of seed)
-        (λ e. M.beside_of e.seed ≡ M.beside_of seed) }
-    ensures blank { IfErr result (λ e. M.IsBlank e.seed) }
+    ensures rest { (was : M.Rest) → M.Becomes was (M.rest_of seed) → MatchResult result
+        (λ it. M.Becomes was (M.rest it)) (λ e. IsLeftAt M.Becomes M.Stops was e.rest e.why) }
     ensures read { HasReadOn D.Disk (fold_of M.StateMachine) (opening_disk opening.old)
         (opening_disk opening.new) (why_of result) }
 {
@@ -130,7 +132,7 @@ fn read_machine<M: StateMachine, D: Disk>(
     match read_rest(opening, &mut machine) {
         Ok(()) => Ok(machine),
         Err(why) => Err(NotBegun {
-            seed: machine.into_seed(),
+            rest: machine.into_rest(),
             why,
         }),
     }
@@ -140,19 +142,19 @@ fn read_machine<M: StateMachine, D: Disk>(
 ///
 /// Errors: what [`Opening::begin`] and [`Opening::next`] refuse; `BadRecord` at the first record
 /// that breaks the rules, or where there is none; `Open(Memory)` where the machine is refused
-/// memory. Of the faults of the file the first is answered. The disk is handed back, and was only
-/// read. A blank seed is handed back, with what was beside it as it was.
+/// memory, or stops for what it has beside its records. Of the faults of the file the first is
+/// answered. The disk is handed back, and was only read. What is handed back of the seed is what
+/// the records that were read made of it.
 pub fn open_state<M: StateMachine, D: Disk>(
     alloc: Global,
     disk: D,
     seed: M::Seed,
-) -> Result<(Journal<D>, M), StateRefused<D, M::Seed>>
+) -> Result<(Journal<D>, M), StateRefused<D, M::Rest>>
     requires { M.IsBlank seed }
     ensures opened { IfOk result (λ r. HasOpenedMachine M.StateMachine disk r.0 r.1) }
     ensures made { IfOk result (λ r. IsMadeBy M.StateMachine r.0 r.1) }
-    ensures beside { MatchResult result (λ r. M.beside r.1 ≡ M.beside_of seed)
-        (λ e. M.beside_of e.seed ≡ M.beside_of seed) }
-    ensures blank { IfErr result (λ e. M.IsBlank e.seed) }
+    ensures rest { (was : M.Rest) → M.Becomes was (M.rest_of seed) → MatchResult result
+        (λ r. M.Becomes was (M.rest r.1)) (λ e. IsLeftAt M.Becomes M.Stops was e.rest e.why) }
     ensures err { IfErr result (λ e. HasReadOn {X = Unit {0}} D.Disk (fold_of M.StateMachine)
         disk e.disk (Err e.why)) }
 {
@@ -161,16 +163,16 @@ pub fn open_state<M: StateMachine, D: Disk>(
         Err(Refused { disk, why }) => {
             return Err(StateRefused {
                 disk,
-                seed,
+                rest: M::hand_back(seed),
                 why: StateOpenError::Open(why),
             });
         }
     };
     match read_machine::<M, D>(alloc, &mut opening, seed) {
         Ok(machine) => Ok((opening.ready(), machine)),
-        Err(NotBegun { seed, why }) => Err(StateRefused {
+        Err(NotBegun { rest, why }) => Err(StateRefused {
             disk: opening.into_disk(),
-            seed,
+            rest,
             why,
         }),
     }

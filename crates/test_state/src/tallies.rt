@@ -52,7 +52,7 @@ fn open(alloc: Global, journal: MemDisk) -> Result<Answer, Memory>
 fn counted(alloc: Global, journal: MemDisk) -> Result<Result<(u8, u64), StateOpenError>, Memory> {
     match open(alloc, journal)? {
         Ok((_, tally)) => Ok(Ok((tally.total, tally.count))),
-        Err(StateRefused { seed, why, .. }) => Ok(if seed.bytes() == [7].as_slice() {
+        Err(StateRefused { rest, why, .. }) => Ok(if rest.bytes() == [7].as_slice() {
             Err(why)
         } else {
             Ok((0, 0))

@@ -19,6 +19,8 @@ pub(crate) struct Tally {
 impl StateMachine for Tally {
     type Seed = MemDisk;
 
+    type Rest = MemDisk;
+
     ghost use Rattle.disk_core.specs.declared.memory.mem_disk.MemDisk.{MemDisk};
     ghost use Rattle.test_state.specs.Tally.{Tally, begun_tally, next_tally};
 
@@ -34,16 +36,20 @@ impl StateMachine for Tally {
 
     ghost Within = { λ it gate. it.count < gate };
 
-    ghost Beside = { MemDisk };
+    ghost rest_of = { λ disk. disk };
 
-    ghost beside_of = { λ disk. disk };
+    ghost rest = { λ it. it.beside };
 
-    ghost beside = { λ it. it.beside };
+    ghost Becomes = { λ old new. new ≡ old };
+
+    ghost Stops = { λ old new. new ≡ old };
+
+    ghost becomes_stops = { λ _ _ same. same };
 
     fn begin(alloc: Global, seed: MemDisk, body: &[u8]) -> Result<Self, NotBegun<MemDisk, Misfit>> {
         if body.len() != 1 {
             return Err(NotBegun {
-                seed,
+                rest: seed,
                 why: Misfit::Unfit,
             });
         }
@@ -68,7 +74,11 @@ impl StateMachine for Tally {
         Ok(())
     }
 
-    fn into_seed(self) -> MemDisk {
+    fn hand_back(seed: MemDisk) -> MemDisk {
+        seed
+    }
+
+    fn into_rest(self) -> MemDisk {
         let Tally {
             limit: _,
             total: _,

@@ -1,9 +1,10 @@
 use Rattle.std.proofs.Common.{ℕ, ◌-◌, Result, ap, subst}
+use Rattle.byte_formats.proofs.Values.{err_is}
 use Rattle.journal_core.specs.declared.error.AppendError.{AppendError}
 use Rattle.state_journal.specs.Machines.{HasTakenAppended}
 use Rattle.state_journal.proofs.Appended.{has_appended, made_next, made_still, not_appended}
 use Rattle.state_journal.proofs.Appended.{records_stay}
-use Rattle.state_journal.proofs.Refusals.{err_is, on_err}
+use Rattle.state_journal.proofs.Refusals.{on_err}
 use Rattle.state_journal.proofs.appending.append_to.Goals as goal
 
 pub returns-in_err-append-clause-made : goal.returns-in_err-append-clause-made
@@ -38,3 +39,6 @@ returns-clause-appends g c = λ next is.
     has_appended g.M.StateMachine c.args.journal.now c.append.new.self c.args.machine.now
     c.take.new.self (c.end-place.result - 1) c.args.body.now next c.in_ok-append.ensures
     c.in-Ok.ensures.takes is
+
+pub returns-clause-rest : goal.returns-clause-rest
+returns-clause-rest g c = c.take.ensures.still c.requires.capacity

@@ -8,6 +8,7 @@ use Rattle.journal_core.specs.Format.{Represents, end_behind}
 use Rattle.journal_core.specs.Openings.{opening_disk, read_list}
 use Rattle.journal_core.specs.Words.{AllRepresent, disk_of, end_of}
 use Rattle.journal_core.proofs.FoldSteps.{cause_begin}
+use Rattle.state_journal.specs.Causes.{IsLeftAt}
 use Rattle.state_journal.specs.Machines.{Makes, fold_of}
 use Rattle.state_journal.specs.declared.error.StateOpenError.TheVariants.{Open}
 use Rattle.state_journal.proofs.Kept.{both_modelled, keeps_sound, of_sound, sound_records}
@@ -76,3 +77,10 @@ returns-in-Ok-read_machine-clause-made g c =
           (makes_all m it c.read_machine.new.opening all));
       within = subst (m.Within it) (omega (arith, c.ready.ensures.place)) all.within;
     }
+
+pub returns-in-Err-clause-rest : goal.returns-in-Err-clause-rest
+returns-in-Err-clause-rest g c = λ was is.
+    let m = g.M.StateMachine in
+    subst (λ rest. IsLeftAt m.Becomes m.Stops was rest (Open c.in-Err.field-0.why))
+    (sym c.hand_back.ensures)
+    (g.met.M.StateMachine.becomes_stops was (m.rest_of c.args.seed) is, λ other. is)

@@ -1,10 +1,11 @@
 use Rattle.std.proofs.Common.{ap, subst, sym, ◌∙◌, Ok, Err}
 use Rattle.journal_core.specs.Openings.{opening_disk, Nexts}
 use Rattle.journal_core.proofs.FoldSteps.{cause_first, missing_first}
-use Rattle.state_journal.specs.Causes.{HasReadOn}
+use Rattle.state_journal.specs.Causes.{HasReadOn, IsLeftAt}
 use Rattle.state_journal.specs.Machines.{fold_of}
 use Rattle.state_journal.specs.declared.error.StateOpenError.{StateOpenError}
-use Rattle.state_journal.proofs.Refusals.{misread, stepped, stopped}
+use Rattle.state_journal.specs.declared.error.StateOpenError.TheVariants.{BadRecord, Open}
+use Rattle.state_journal.proofs.Refusals.{left_at, misread, stepped, stopped}
 use Rattle.state_journal.proofs.Taken.{cause_begun, taken_first}
 use Rattle.state_journal.proofs.opening.read_first.Goals as goal
 
@@ -54,3 +55,27 @@ returns-in-Err-clause-read g c =
     stopped (fold_of g.M.StateMachine) old new c.in-Err.why refused.1
     (cause_first (fold_of g.M.StateMachine) old new c.in-Err.why c.requires.list
     c.requires.goes_on.1 refused.1)
+
+pub returns-in-Ok-clause-rest : goal.returns-in-Ok-clause-rest
+returns-in-Ok-clause-rest g c = c.in-Ok.ensures.rest
+
+pub returns-in-Err-begin-clause-rest : goal.returns-in-Err-begin-clause-rest
+returns-in-Err-begin-clause-rest g c = λ was is.
+    let m = g.M.StateMachine in
+    let e = c.in-Err-begin.field-0 in
+    subst (IsLeftAt m.Becomes m.Stops was e.rest) (sym c.refusal_at.ensures)
+    (left_at m.Becomes m.Stops was e.rest (g.met.M.StateMachine.becomes_stops was e.rest) 0 e.why
+    (c.in-Err-begin.ensures.rest was is))
+
+pub returns-in-Ok-None-clause-rest : goal.returns-in-Ok-None-clause-rest
+returns-in-Ok-None-clause-rest g c = λ was is.
+    let m = g.M.StateMachine in
+    subst (λ rest. IsLeftAt m.Becomes m.Stops was rest (BadRecord 0)) (sym c.hand_back.ensures)
+    (g.met.M.StateMachine.becomes_stops was (m.rest_of c.args.seed) is, λ other. is)
+
+pub returns-in-Err-clause-rest : goal.returns-in-Err-clause-rest
+returns-in-Err-clause-rest g c = λ was is.
+    let m = g.M.StateMachine in
+    subst (λ rest. IsLeftAt m.Becomes m.Stops was rest (Open c.in-Err.why))
+    (sym c.hand_back-in-Err.ensures)
+    (g.met.M.StateMachine.becomes_stops was (m.rest_of c.args.seed) is, λ other. is)

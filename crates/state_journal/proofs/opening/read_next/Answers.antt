@@ -1,10 +1,10 @@
 use Rattle.std.proofs.Common.{ap, subst, sym, ◌∙◌, Ok, Err}
 use Rattle.journal_core.specs.Openings.{opening_disk, Nexts}
 use Rattle.journal_core.proofs.FoldSteps.{cause_next}
-use Rattle.state_journal.specs.Causes.{HasReadOn}
+use Rattle.state_journal.specs.Causes.{HasReadOn, IsLeftAt}
 use Rattle.state_journal.specs.Machines.{fold_of}
 use Rattle.state_journal.specs.declared.error.StateOpenError.{StateOpenError}
-use Rattle.state_journal.proofs.Refusals.{misread, stepped, stopped}
+use Rattle.state_journal.proofs.Refusals.{left_at, misread, stepped, stopped}
 use Rattle.state_journal.proofs.Taken.{cause_taken, taken_all, taken_next}
 use Rattle.state_journal.proofs.opening.read_next.Goals as goal
 
@@ -63,3 +63,21 @@ returns-in-Err-clause-read g c =
     stopped (fold_of g.M.StateMachine) old new c.in-Err.why refused.1
     (cause_next (fold_of g.M.StateMachine) old new (g.M.StateMachine.state c.args.machine.now)
     c.in-Err.why c.requires.folded refused.1)
+
+pub returns-in-Ok-clause-rest : goal.returns-in-Ok-clause-rest
+returns-in-Ok-clause-rest g c = c.in-Ok.ensures.rest
+
+pub returns-in-Err-take-clause-rest : goal.returns-in-Err-take-clause-rest
+returns-in-Err-take-clause-rest g c = λ was is.
+    let m = g.M.StateMachine in
+    let rest = m.rest c.take.new.self in
+    subst (IsLeftAt m.Becomes m.Stops was rest) (sym c.refusal_at.ensures)
+    (left_at m.Becomes m.Stops was rest (g.met.M.StateMachine.becomes_stops was rest)
+    c.read_count-number.result c.in-Err-take.why (c.in-Err-take.ensures.rest was is))
+
+pub returns-in-Ok-None-clause-rest : goal.returns-in-Ok-None-clause-rest
+returns-in-Ok-None-clause-rest g c = λ was is. is
+
+pub returns-in-Err-clause-rest : goal.returns-in-Err-clause-rest
+returns-in-Err-clause-rest g c = λ was is.
+    (g.met.M.StateMachine.becomes_stops was _ is, λ other. is)

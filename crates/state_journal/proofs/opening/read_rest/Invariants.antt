@@ -7,7 +7,8 @@ use Rattle.state_journal.proofs.opening.read_rest.Given as goal
 abbrev pub invariant-records : goal.invariant-records
 invariant-records g l = record {
   taken : HasTaken g.M.StateMachine l.machine l.opening;
-  beside : g.M.StateMachine.beside l.machine ≡ g.M.StateMachine.beside l.initial.machine;
+  rest : (was : _) → g.M.StateMachine.Becomes was (g.M.StateMachine.rest l.initial.machine)
+      → g.M.StateMachine.Becomes was (g.M.StateMachine.rest l.machine);
   only_reads : OnlyReads g.D.Disk (opening_disk l.initial.opening) (opening_disk l.opening);
   fine : g.D.Disk.faults (opening_disk l.opening)
       ≡ g.D.Disk.faults (opening_disk l.initial.opening);
