@@ -69,7 +69,7 @@ new-between adopted size level place low behind below = record {
   other = λ full. let before = full-number adopted level place low full in omega arith;
 }
 
-stands : (h : List ℕ → List ℕ) (leaves : List (List ℕ)) (b : List ℕ) (level place : ℕ)
+pub stands : (h : List ℕ → List ℕ) (leaves : List (List ℕ)) (b : List ℕ) (level place : ℕ)
     → IsTile h leaves level place (part (tile_at level place) 8192 b)
     → StandsIn h leaves b level place
 stands h leaves b level place tile = record {

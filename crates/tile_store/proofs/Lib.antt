@@ -1,4 +1,5 @@
 pub mod Numbers
+pub mod Bad
 pub mod Bytes
 pub mod Halves
 pub mod NodeValues

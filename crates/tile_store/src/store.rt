@@ -152,6 +152,13 @@ impl<H: TreeHash, T: Disk> Tiles<H, T> {
         Ok(())
     }
 
+    /// The tiles that the first so many leaves fill were stored or adopted.
+    pub fn stored(&self) -> u64
+        ensures { result ≡ tiles_stored self.now }
+    {
+        self.stored
+    }
+
     /// The hash of the `2^level` leaves from `place * 2^level` on, as [`Nodes::node`]. Where its
     /// tile is adopted, at Ok a frame holds that tile, and where none did before it was read from
     /// the device in this call. A node in memory, or one whose tile a frame holds, makes no call of
