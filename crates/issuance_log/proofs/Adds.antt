@@ -1,27 +1,26 @@
 -- What an item, a landmark or tiles more make of a log that does not refuse them.
 use Rattle.std.proofs.Common.{◌≡◌, ◌≢◌, ℕ, ◌+◌, ◌<◌, ◌≤◌, ◌==◌, nat_lt, not, ◌∙◌, arith}
-use Rattle.std.proofs.Common.{if◌then◌else◌, Bool, true, false, List, [], ◌∷◌, ◌++◌, length}
-use Rattle.std.proofs.Common.{Option, Some, None, IfSome, option_map, Ok, refl, sym}
+use Rattle.std.proofs.Common.{if◌then◌else◌, Bool, true, false, length, Option, Some, None, refl}
+use Rattle.std.proofs.Common.{sym}
 use Rattle.std.proofs.lemmas.Bool.{leb-false, ltb-true, ltb-false, not-false}
 use Rattle.std.proofs.lemmas.Bool.Decides.{nat_tests}
-use Rattle.byte_formats.specs.Types.{HashFunction, Text}
+use Rattle.std.proofs.lemmas.Option.{IfSome_then}
+use Rattle.byte_formats.specs.Types.{Text}
 use Rattle.disk_core.specs.declared.disk.Disk.{Ghosts}
-use Rattle.journal_core.specs.declared.error.AppendError.{AppendError}
-use Rattle.journal_core.specs.declared.error.AppendError.TheVariants.{Broken}
 use Rattle.journal_core.proofs.Folds.{state_next}
 use Rattle.log_entry.specs.Matching.{matches}
 use Rattle.tree_core.specs.declared.hashing.TreeHash.{Ghosts as Hashes}
 use Rattle.issuance_log.specs.Changes.{MakesOfLog}
-use Rattle.issuance_log.specs.Folds.{LogState, LogView, log_fold, log_of, with_item, with_mark}
+use Rattle.issuance_log.specs.Counted.{log_keeps}
+use Rattle.issuance_log.specs.Folds.{LogState, LogView, log_fold, with_item, with_mark}
 use Rattle.issuance_log.specs.Folds.{with_tiles}
 use Rattle.issuance_log.specs.Marks.{last_mark}
 use Rattle.issuance_log.specs.Records.{entry_record, landmark_record, tiles_record}
 use Rattle.issuance_log.specs.Refusals.{add_refusal, full_size, mark_refusal, tile_refusal}
 use Rattle.issuance_log.specs.Settings.{most_item}
-use Rattle.issuance_log.specs.Shown.{recorded_items, shown_with}
+use Rattle.issuance_log.specs.Shown.{shown_with}
 use Rattle.issuance_log.specs.Sound.{HasSoundNumbers}
 use Rattle.issuance_log.specs.declared.error.LogError.{LogError}
-use Rattle.issuance_log.specs.declared.error.LogError.TheVariants.{Append}
 use Rattle.issuance_log.specs.Words.{LogWouldTake, log_broken, log_end, log_records, view_of}
 use Rattle.issuance_log.specs.declared.log.Log.{Log}
 use Rattle.issuance_log.proofs.Changes.{item_makes, mark_makes, tiles_make}
@@ -47,32 +46,19 @@ passed : (b : Bool) (e : LogError) (o : Option LogError) → (if b then Some e e
 passed true e o is = let wrong : Some e ≡ None = is in cc
 passed false e o is = (refl, is)
 
-unbroken : (b : Bool) (o : Option AppendError)
-    → option_map Append (if b then Some Broken else o) ≡ None → b ≡ false
-unbroken true o is = let wrong : Some (Append Broken) ≡ None = is in cc
-unbroken false o is = refl
-
 below : (a b : ℕ) → a ≤ b → (a == b) ≡ false → a < b
 below a b few other = grind (arith, nat_tests)
 
--- The records make the log that is shown, with as many items as are shown at least.
-pub record MakesShown (h : List ℕ → List ℕ) (v : LogView) (list : List (List ℕ)) : Type 0 where
-  pub made : log_of h list ≡ Ok (shown_with v list)
-  pub within : v.size ≤ length (recorded_items list)
-
--- behind them a record makes what it makes of any log that shows this
-makes_behind : (h : HashFunction) (v : LogView) (body : Text) (next : LogState → LogState)
-    → MakesOfLog h v body next → (o : Option (List Text)) → IfSome o (MakesShown h v)
-    → IfSome o (λ list. log_of h (list ++ body ∷ []) ≡ Ok (next (shown_with v list)))
-makes_behind h v body next makes None is = tt
-makes_behind h v body next makes (Some list) is =
-    state_next (log_fold h) list (shown_with v list) body (next (shown_with v list)) is.made
-    (makes (shown_with v list) (shown_view v list is.within))
-
 module _ {H D T : Type 0} {hashes : Hashes H} {g : Ghosts D} {k : Ghosts T}
-    (log : Log H D T hashes g k) (sound : HasSoundNumbers (view_of log))
-    (agrees : log_broken log ≡ false
-    → IfSome (log_records log) (MakesShown hashes.hash (view_of log))) where
+    (log : Log H D T hashes g k) (sound : HasSoundNumbers (view_of log)) where
+  -- behind its records a record makes what it makes of any log that shows this
+  makes_behind : (body : Text) (next : LogState → LogState)
+      → MakesOfLog hashes.hash (view_of log) body next → LogWouldTake body next log
+  makes_behind body next makes = IfSome_then (log_records log) (log_keeps log) (λ list is.
+      state_next (log_fold hashes.hash) list (shown_with (view_of log) list) body
+      (next (shown_with (view_of log) list)) is.made
+      (makes (shown_with (view_of log) list) (shown_view (view_of log) list is.all)))
+
   pub added_unrefused : (entry key : Text) → matches hashes.hash entry key ≡ true
       → add_refusal (view_of log) (log_broken log) (log_end log) entry key ≡ None
       → LogWouldTake (entry_record entry key) (with_item entry key) log
@@ -80,19 +66,17 @@ module _ {H D T : Type 0} {hashes : Hashes H} {g : Ghosts D} {k : Ghosts T}
   added_unrefused entry key belongs none =
       let first = passed _ _ _ none in
       let second = passed _ _ _ first.1 in
-      makes_behind hashes.hash (view_of log) (entry_record entry key) (with_item entry key)
+      makes_behind (entry_record entry key) (with_item entry key)
       (item_makes hashes.hash (view_of log) entry key (below _ _ sound.few first.0)
-      (ltb-false most_item (length entry + length key) second.0) belongs) (log_records log)
-      (agrees (unbroken (log_broken log) _ second.1))
+      (ltb-false most_item (length entry + length key) second.0) belongs)
 
   pub marked_unrefused : mark_refusal (view_of log) (log_broken log) (log_end log) ≡ None
       → LogWouldTake (landmark_record (view_of log).size) with_mark log
   unfolding mark_refusal
   marked_unrefused none =
       let first = passed _ _ _ none in
-      makes_behind hashes.hash (view_of log) (landmark_record (view_of log).size) with_mark
+      makes_behind (landmark_record (view_of log).size) with_mark
       (mark_makes hashes.hash (view_of log) sound (below _ _ (last_in (view_of log) sound) first.0))
-      (log_records log) (agrees (unbroken (log_broken log) _ first.1))
 
   pub tiled_unrefused : tile_refusal (view_of log) (log_broken log) (log_end log) ≡ None
       → LogWouldTake (tiles_record (full_size (view_of log))) (with_tiles (full_size (view_of log)))
@@ -102,7 +86,6 @@ module _ {H D T : Type 0} {hashes : Hashes H} {g : Ghosts D} {k : Ghosts T}
       let first = passed _ _ _ none in
       let size = full_size (view_of log) in
       let fits = size_fits (view_of log) sound in
-      makes_behind hashes.hash (view_of log) (tiles_record size) (with_tiles size)
+      makes_behind (tiles_record size) (with_tiles size)
       (tiles_make hashes.hash (view_of log) size (omega arith) (omega arith)
-      (leb-false size (view_of log).tiled first.0) (omega arith)) (log_records log)
-      (agrees (unbroken (log_broken log) _ first.1))
+      (leb-false size (view_of log).tiled first.0) (omega arith))

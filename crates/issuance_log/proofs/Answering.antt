@@ -2,14 +2,15 @@
 use Rattle.std.proofs.Common.{◌≡◌, ℕ, ◌+◌, ◌<◌, ◌≤◌, ◌==◌, nat_lt, if◌then◌else◌, Bool, true, false}
 use Rattle.std.specs.Prelude.{nat_le}
 use Rattle.std.proofs.Common.{length, Option, Some, None, option_map, Result, Ok, Err, refl}
-use Rattle.std.proofs.Common.{sym, ◌∙◌, ap, subst, ⊎_elim, arith}
+use Rattle.std.proofs.Common.{sym, ◌∙◌, ap, subst, arith}
 use Rattle.std.specs.Prelude.{◌↔◌, IsErrOf, IsTrue}
-use Rattle.std.proofs.lemmas.Bool.{cases_lt, le-ltb}
+use Rattle.std.proofs.lemmas.Bool.{le-ltb}
 use Rattle.std.proofs.lemmas.Bool.Decides.{nat_tests}
 use Rattle.byte_formats.specs.Types.{Text}
 use Rattle.journal_core.specs.Format.{most_bytes}
 use Rattle.journal_core.specs.declared.error.AppendError.{AppendError}
 use Rattle.journal_core.specs.declared.error.AppendError.TheVariants.{Broken, Failed, Full}
+use Rattle.state_journal.proofs.Answered.{AnswersSo, answered_so}
 use Rattle.issuance_log.specs.Changes.{IsJournalAnswer, KeepsToJournal}
 use Rattle.issuance_log.specs.Entries.{LogCounts}
 use Rattle.issuance_log.specs.Folds.{LogView}
@@ -21,19 +22,6 @@ use Rattle.issuance_log.specs.Settings.{most_item}
 use Rattle.issuance_log.specs.declared.error.LogError.{LogError}
 use Rattle.issuance_log.specs.declared.error.LogError.TheVariants.{Append, NothingNew}
 
--- a journal that answers so is broken, and so is too full
-abbrev AnswersBroken : Result (Unit {0}) AppendError → Bool → Type 0
-AnswersBroken result broken = IsErrOf result Broken ↔ IsTrue broken
-
-abbrev AnswersFull : Result (Unit {0}) AppendError → Bool → ℕ → Text → Type 0
-AnswersFull result broken end text =
-    IsErrOf result Full ↔ (broken ≡ false) × (most_bytes < end + 5 + length text)
-
--- where the journal would not answer so, the record fits
-fits_unless : (size most : ℕ) → (most < size → ⊥) → size ≤ most
-fits_unless size most never = ⊎_elim (λ more. absurd (never more)) (λ (fits : size ≤ most). fits)
-    (cases_lt most size)
-
 -- a test that fails
 else_is : {E : Type 0} (b : Bool) (e : E) (o : Option E) → b ≡ false
     → (if b then Some e else o) ≡ o
@@ -43,44 +31,30 @@ else_is false e o is = refl
 apart_test : (a b : ℕ) → a < b → (a == b) ≡ false
 apart_test a b less = grind (arith, nat_tests)
 
--- ---- a record that was appended
+-- ---- what the journal answers
 
-pub appended_none : (broken : Bool) (end : ℕ) (body : Text) (done : Unit {0}) → broken ≡ false
-    → AnswersFull (Ok done) broken end body → append_refusal broken end body ≡ None
-appended_none broken end body done sound full =
-    let fits = fits_unless (end + 5 + length body) most_bytes (λ more.
-    let wrong : ◌≡◌ {A = Result (Unit {0}) AppendError} (Ok done) (Err Full) =
-    full.1 (sound, more) in cc) in
-    else_is broken Broken _ sound
-    ∙ else_is (nat_lt most_bytes (end + 5 + length body)) Full None
-    (le-ltb most_bytes (end + 5 + length body) fits)
+pub appended_none : (broken : Bool) (end : ℕ) (body : Text) (done : Unit {0})
+    → (IsErrOf {T = Unit {0}} (Ok done) Broken ↔ IsTrue broken)
+    → (IsErrOf {T = Unit {0}} (Ok done) Full
+    ↔ (broken ≡ false) × (most_bytes < end + 5 + length body))
+    → append_refusal broken end body ≡ None
+appended_none broken end body done by_broken by_full =
+    let is = answered_so broken most_bytes (end + 5 + length body) (Ok done) by_broken by_full in
+    rw (is.0, is.1) refl
 
--- ---- one that was refused
-
-pub refused_keeps : (broken : Bool) (end : ℕ) (text : Text) (why : AppendError)
-    → AnswersBroken (Err why) broken → AnswersFull (Err why) broken end text
-    → IsJournalAnswer (append_refusal broken end text) why
-refused_keeps true end text Failed is_modelled full =
-    let wrong : ◌≡◌ {A = Result (Unit {0}) AppendError} (Err Failed) (Err Broken) =
-    is_modelled.1 refl in
-    let none : ⊥ = cc in absurd none
-refused_keeps false end text Failed is_modelled full =
-    let fits = fits_unless (end + 5 + length text) most_bytes (λ more.
-    let wrong : ◌≡◌ {A = Result (Unit {0}) AppendError} (Err Failed) (Err Full) =
-    full.1 (refl, more) in cc) in
-    else_is (nat_lt most_bytes (end + 5 + length text)) Full None
-    (le-ltb most_bytes (end + 5 + length text) fits)
-refused_keeps true end text Broken is_modelled full = refl
-refused_keeps false end text Broken is_modelled full =
-    let wrong : false ≡ true = is_modelled.0 refl in
-    let none : ⊥ = cc in absurd none
-refused_keeps true end text Full is_modelled full =
-    let wrong : true ≡ false = (full.0 refl).0 in
-    let none : ⊥ = cc in absurd none
-refused_keeps false end text Full is_modelled full =
-    let more = (full.0 refl).1 in
-    let test : nat_lt most_bytes (end + 5 + length text) ≡ true = grind (arith, nat_tests) in
-    ap (λ (b : Bool). if b then Some Full else None) test
+pub refused_keeps : (broken : Bool) (end : ℕ) (body : Text) (why : AppendError)
+    → (IsErrOf {T = Unit {0}} (Err why) Broken ↔ IsTrue broken)
+    → (IsErrOf {T = Unit {0}} (Err why) Full
+    ↔ (broken ≡ false) × (most_bytes < end + 5 + length body))
+    → IsJournalAnswer (append_refusal broken end body) why
+refused_keeps broken end body why by_broken by_full =
+    at why (answered_so broken most_bytes (end + 5 + length body) (Err why) by_broken by_full)
+  where
+    at : (e : AppendError) → AnswersSo (Err e) broken (nat_lt most_bytes (end + 5 + length body))
+        → IsJournalAnswer (append_refusal broken end body) e
+    at Failed is = rw (is.0, is.1) refl
+    at Broken is = rw is refl
+    at Full is = rw (is.0, is.1) refl
 
 -- ---- behind the tests of a call
 

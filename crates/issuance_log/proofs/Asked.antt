@@ -1,19 +1,20 @@
 -- What stays of a log that was asked, for the layers above.
-use Rattle.std.proofs.Common.{◌≡◌, option_map, ap, sym, subst, ◌∙◌}
-use Rattle.std.specs.Prelude.{map, option_and_then}
+use Rattle.std.proofs.Common.{◌≡◌, Err, option_map, ap, refl, sym, subst, ◌∙◌}
+use Rattle.std.specs.Prelude.{option_and_then}
 use Rattle.byte_formats.specs.Types.{Text}
 use Rattle.disk_core.proofs.Moments.{nothing_read}
 use Rattle.disk_core.specs.Moments.{OnlyReads}
 use Rattle.disk_core.specs.declared.disk.Disk.{Ghosts}
-use Rattle.journal_core.specs.Format.{records_of}
-use Rattle.tree_core.specs.Tree.{leaf_hash}
+use Rattle.journal_core.specs.Ends.{durable_of}
 use Rattle.tree_core.specs.declared.hashing.TreeHash.{Ghosts as Hashes}
-use Rattle.issuance_log.specs.Folds.{LogState}
+use Rattle.issuance_log.specs.Folds.{LogState, LogView}
 use Rattle.issuance_log.specs.Shown.{shown_with}
-use Rattle.issuance_log.specs.Words.{LogAsksTiles, LogStays, both_records, log_disk, log_leaves}
-use Rattle.issuance_log.specs.Words.{log_records, log_tiles_disk, modelled_by_both, modelled_state}
-use Rattle.issuance_log.specs.Words.{view_of}
+use Rattle.issuance_log.specs.Words.{LogAppends, LogAsksTiles, LogStays, both_records, log_disk}
+use Rattle.issuance_log.specs.Words.{log_end, log_records, log_tiles_disk, modelled_by_both}
+use Rattle.issuance_log.specs.Words.{modelled_state, view_of}
+use Rattle.issuance_log.specs.declared.error.LogError.TheVariants.{Memory}
 use Rattle.issuance_log.specs.declared.log.Log.{Log}
+use Rattle.issuance_log.proofs.Leaving.{appends_not}
 
 module _ {H D T : Type 0} {hashes : Hashes H} {g : Ghosts D} {k : Ghosts T} where
   -- Where nodes alone were asked for, the journal's disk was only looked at.
@@ -34,13 +35,17 @@ module _ {H D T : Type 0} {hashes : Hashes H} {g : Ghosts D} {k : Ghosts T} wher
       → modelled_state new ≡ modelled_state old
   asks_modelled old new is =
       ap (λ v. option_map (shown_with v) (log_records new)) is.view
-      ∙ ap (λ d. option_map (shown_with (view_of old)) (option_map records_of (g.contents d)))
-      is.disk
+      ∙ ap (λ n. option_map (shown_with (view_of old)) (option_map (durable_of n)
+      (g.contents (log_disk new)))) is.end
+      ∙ ap (λ d. option_map (shown_with (view_of old)) (option_map (durable_of (log_end old))
+      (g.contents d))) is.disk
 
   -- What the disks tell stays.
   module _ (old new : Log H D T hashes g k) (is : LogStays old new) where
     pub records_stay : log_records new ≡ log_records old
-    records_stay = ap (option_map records_of) is.only_reads.contents
+    records_stay =
+        ap (λ n. option_map (durable_of n) (g.contents (log_disk new))) is.end
+        ∙ ap (option_map (durable_of (log_end old))) is.only_reads.contents
 
     pub modelled_stays : modelled_state new ≡ modelled_state old
     modelled_stays =
@@ -57,6 +62,12 @@ module _ {H D T : Type 0} {hashes : Hashes H} {g : Ghosts D} {k : Ghosts T} wher
         ap (λ v. option_map (shown_with v) (both_records new)) is.view
         ∙ ap (option_map (shown_with (view_of old))) both_stay
 
-    pub leaves_stay : log_leaves new ≡ log_leaves old
-    leaves_stay = ap (option_map (λ (s : LogState). map (leaf_hash hashes.hash) s.entries))
-        modelled_by_both_stays
+-- What a call leaves that is refused memory before it touches the log.
+pub not_touched : {H D T X : Type 0} {hashes : Hashes H} {g : Ghosts D} {k : Ghosts T}
+    (log : Log H D T hashes g k) (body : Text) (seen : LogView → LogView)
+    (next : LogState → LogState)
+    → ((c : Text) → g.left_since (log_disk log) (g.moment (log_disk log)) c
+    → g.may_leave (log_disk log) c)
+    → LogAppends {X = X} body seen next log log (Err Memory)
+not_touched log body seen next only_now =
+    appends_not log log refl refl refl body seen next (Err Memory) Memory refl refl only_now

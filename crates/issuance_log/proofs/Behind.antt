@@ -2,7 +2,8 @@
 use Rattle.std.proofs.Common.{◌≡◌, ℕ, ◌+◌, ◌<◌, ◌≤◌, Bool, true, false}
 use Rattle.std.proofs.Common.{List, [], ◌∷◌, ◌++◌, length, drop, get_or, Option, Some, None, Result}
 use Rattle.std.proofs.Common.{Ok, Err, is_ok, option_map, refl, ap, sym, ◌∙◌}
-use Rattle.std.specs.Prelude.{if◌then◌else◌}
+use Rattle.std.specs.Prelude.{if◌then◌else◌, map, flat_map, option_to_list}
+use Rattle.std.proofs.lemmas.List.{append_assoc, append-nil, map-append}
 use Rattle.std.proofs.lemmas.Option.{same_Some}
 use Rattle.byte_formats.specs.Types.{Text, HashFunction}
 use Rattle.byte_formats.specs.Readings.{◌>>=◌, some_or}
@@ -86,33 +87,84 @@ pub when : (b : Bool) (s t : LogState) → (if b then Some s else None) ≡ Some
 when true s t is = same_Some s t is
 when false s t is = let wrong : None ≡ Some t = is in absurd cc
 
-by_item : (h : HashFunction) (s t : LogState) (item : Option (Text × Text)) (mark tiled : Option ℕ)
-    → changed_log h s item mark tiled ≡ Some t → t.settings ≡ s.settings
-by_item h s t (Some x) mark tiled is =
-    sym (ap (λ (u : LogState). u.settings)
-    (when (takes_entry h (view_in s) x) (with_item x.0 x.1 s) t is))
-by_item h s t None (Some size) tiled is =
-    sym (ap (λ (u : LogState). u.settings)
-    (when (takes_landmark (view_in s) size) (with_mark s) t is))
-by_item h s t None None (Some size) is =
-    sym (ap (λ (u : LogState). u.settings)
-    (when (takes_tiles (view_in s) size) (with_tiles size s) t is))
-by_item h s t None None None is = let wrong : None ≡ Some t = is in absurd cc
+-- the entries and the keys of items
+abbrev pub entries_of : List (Text × Text) → List Text
+entries_of items = map (λ item. item.0) items
 
-next_keeps : (h : HashFunction) (s t : LogState) (body : Text) → next_log h s body ≡ Some t
-    → t.settings ≡ s.settings
+abbrev pub keys_of : List (Text × Text) → List Text
+keys_of items = map (λ item. item.1) items
+
+-- the items in the records behind the first
+abbrev pub later_items : List Text → List (Text × Text)
+later_items bodies = flat_map (λ body. option_to_list (item_in body)) bodies
+
+-- the items of a log are those of another one, and these behind them
+pub record HasItems (s t : LogState) (items : List (Text × Text)) : Type 0 where
+  pub settings : t.settings ≡ s.settings
+  pub entries : t.entries ≡ s.entries ++ entries_of items
+  pub keys : t.keys ≡ s.keys ++ keys_of items
+
+no_items : (s t u : LogState) → u.settings ≡ s.settings → u.entries ≡ s.entries
+    → u.keys ≡ s.keys → u ≡ t → HasItems s t []
+no_items s t u settings entries keys made = record {
+  settings = sym (ap (λ (x : LogState). x.settings) made) ∙ settings;
+  entries = sym (ap (λ (x : LogState). x.entries) made) ∙ entries ∙ sym (append-nil s.entries);
+  keys = sym (ap (λ (x : LogState). x.keys) made) ∙ keys ∙ sym (append-nil s.keys);
+}
+
+by_items : (h : HashFunction) (s t : LogState) (item : Option (Text × Text))
+    (mark tiled : Option ℕ) → changed_log h s item mark tiled ≡ Some t
+    → HasItems s t (option_to_list item)
+by_items h s t (Some x) mark tiled is =
+    let made = when (takes_entry h (view_in s) x) (with_item x.0 x.1 s) t is in
+    record {
+      settings = sym (ap (λ (u : LogState). u.settings) made);
+      entries = sym (ap (λ (u : LogState). u.entries) made);
+      keys = sym (ap (λ (u : LogState). u.keys) made);
+    }
+by_items h s t None (Some size) tiled is =
+    no_items s t (with_mark s) refl refl refl
+    (when (takes_landmark (view_in s) size) (with_mark s) t is)
+by_items h s t None None (Some size) is =
+    no_items s t (with_tiles size s) refl refl refl
+    (when (takes_tiles (view_in s) size) (with_tiles size s) t is)
+by_items h s t None None None is = let wrong : None ≡ Some t = is in absurd cc
+
+pub next_items : (h : HashFunction) (s t : LogState) (body : Text) → next_log h s body ≡ Some t
+    → HasItems s t (option_to_list (item_in body))
 unfolding next_log
-next_keeps h s t body is = by_item h s t (item_in body) (mark_in body) (tiled_in body) is
+next_items h s t body is = by_items h s t (item_in body) (mark_in body) (tiled_in body) is
 
-behind_keeps : (h : HashFunction) (k : ℕ) (s t : LogState) (bodies : List Text)
-    → taken_from (log_fold h) k s bodies ≡ Ok t → t.settings ≡ s.settings
+pub behind_items : (h : HashFunction) (k : ℕ) (s t : LogState) (bodies : List Text)
+    → taken_from (log_fold h) k s bodies ≡ Ok t → HasItems s t (later_items bodies)
 unfolding taken_from
-behind_keeps h k s t [] is = sym (ap (λ (u : LogState). u.settings) (ok_is ℕ s t is))
-behind_keeps h k s t (body ∷ bodies) is =
+behind_items h k s t [] is =
+    let same = ok_is ℕ s t is in
+    record {
+      settings = sym (ap (λ (u : LogState). u.settings) same);
+      entries = sym (ap (λ (u : LogState). u.entries) same) ∙ sym (append-nil s.entries);
+      keys = sym (ap (λ (u : LogState). u.keys) same) ∙ sym (append-nil s.keys);
+    }
+behind_items h k s t (body ∷ bodies) is =
     let step = bind_ok (some_or k (next_log h s body))
     (λ (u : LogState). taken_from (log_fold h) (k + 1) u bodies) t is in
-    behind_keeps h (k + 1) step.0 t bodies step.2
-    ∙ next_keeps h s step.0 body (some_or_ok k (next_log h s body) step.0 step.1)
+    let one = next_items h s step.0 body (some_or_ok k (next_log h s body) step.0 step.1) in
+    let rest = behind_items h (k + 1) step.0 t bodies step.2 in
+    record {
+      settings = rest.settings ∙ one.settings;
+      entries = joined s.entries (λ item. item.0) _ _ (option_to_list (item_in body))
+          (later_items bodies) one.entries rest.entries;
+      keys = joined s.keys (λ item. item.1) _ _ (option_to_list (item_in body))
+          (later_items bodies) one.keys rest.keys;
+    }
+  where
+    joined : (xs : List Text) (f : Text × Text → Text) (mid new : List Text)
+        (first rest : List (Text × Text)) → mid ≡ xs ++ map f first → new ≡ mid ++ map f rest
+        → new ≡ xs ++ map f (first ++ rest)
+    joined xs f mid new first rest one two =
+        two ∙ ap (λ (l : List Text). l ++ map f rest) one
+        ∙ append_assoc xs (map f first) (map f rest)
+        ∙ ap (λ (l : List Text). xs ++ l) (sym (map-append f first rest))
 
 -- what stands behind settings that were read
 has_begun : (h : HashFunction) (first : Text) (bodies : List Text) (s t : LogState)
@@ -124,7 +176,7 @@ has_begun h first bodies s t (Some x) found is rest =
     let made = same_Some (new_log x) s is in
     let rest_is : taken_from (log_fold h) 1 (new_log x) bodies ≡ Ok t
     = ap (λ (u : LogState). taken_from (log_fold h) 1 u bodies) made ∙ rest in
-    let same : t.settings ≡ x = behind_keeps h 1 (new_log x) t bodies rest_is in (
+    let same : t.settings ≡ x = (behind_items h 1 (new_log x) t bodies rest_is).settings in (
       found ∙ ap Some (sym same),
       ap (λ (y : Settings). taken_from (log_fold h) 1 (new_log y) bodies) same ∙ rest_is,
     )

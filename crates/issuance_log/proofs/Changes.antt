@@ -1,35 +1,35 @@
--- The records of an item, of a landmark and of tiles, and what they change.
-use Rattle.std.proofs.Common.{◌≡◌, ℕ, ◌+◌, ◌%◌, ◌^◌, ◌<◌, ◌≤◌, List, length, Option, Some, None}
-use Rattle.std.proofs.Common.{refl, ap, sym, subst, ◌∙◌, true, arith}
-use Rattle.std.specs.Prelude.{map, option_to_list}
-use Rattle.byte_formats.specs.Types.{Hash, HashFunction, Text}
+-- The records of an item, of a landmark and of tiles: what they make, and what there is to be for
+-- them.
+use Rattle.std.proofs.Common.{◌≡◌, ℕ, ◌+◌, ◌%◌, ◌^◌, ◌<◌, ◌≤◌, length, Some, None}
+use Rattle.std.proofs.Common.{ap, sym, subst, ◌∙◌, true, arith}
+use Rattle.std.proofs.lemmas.Option.{same_Some}
+use Rattle.byte_formats.specs.Types.{HashFunction, Text}
 use Rattle.disk_core.specs.declared.disk.Disk.{Ghosts}
 use Rattle.log_entry.specs.Matching.{matches}
-use Rattle.tile_store.specs.Store.{tiles_stored}
-use Rattle.tree_core.specs.Tree.{leaf_hash}
 use Rattle.tree_core.specs.declared.hashing.TreeHash.{Ghosts as Hashes}
-use Rattle.issuance_log.specs.Changes.{IsReadyFor, IsRecordOf, MakesOfLog, added_leaves}
-use Rattle.issuance_log.specs.Changes.{changed_view}
-use Rattle.issuance_log.specs.Folds.{LogNumbers, LogView, next_log, with_item, with_mark}
-use Rattle.issuance_log.specs.Folds.{with_tiles}
-use Rattle.issuance_log.specs.Items.{items_tiles}
+use Rattle.issuance_log.specs.Changes.{IsTakenAs, MakesOfLog}
+use Rattle.issuance_log.specs.Folds.{LogNumbers, LogView, next_log, next_view, one_item_more}
+use Rattle.issuance_log.specs.Folds.{one_mark_more, tiled_to, with_item, with_mark, with_tiles}
+use Rattle.issuance_log.specs.Items.{HasItemCapacity}
+use Rattle.issuance_log.specs.Machine.{HasCapacityFor}
 use Rattle.issuance_log.specs.Marks.{last_mark}
-use Rattle.issuance_log.specs.Records.{IsShort, entry_record, landmark_record, tiles_record}
+use Rattle.issuance_log.specs.Records.{IsShort, entry_record, item_in, landmark_record, mark_in}
+use Rattle.issuance_log.specs.Records.{tiles_record}
+use Rattle.issuance_log.specs.Results.{HasMarkCapacity}
 use Rattle.issuance_log.specs.Settings.{most_item}
 use Rattle.issuance_log.specs.Sound.{HasSoundNumbers}
-use Rattle.issuance_log.specs.declared.change.Change.{Change}
-use Rattle.issuance_log.specs.declared.change.Change.TheVariants.{Item, Landmark, Tiles}
 use Rattle.issuance_log.specs.declared.items.Items.{Items}
 use Rattle.issuance_log.proofs.Encoded.{item_again, length-entry, length-landmark, length-tiles}
-use Rattle.issuance_log.proofs.Encoded.{mark_alone, next_added, next_marked, next_tiled}
-use Rattle.issuance_log.proofs.Encoded.{tiles_no_item}
+use Rattle.issuance_log.proofs.Encoded.{mark_again, mark_alone, next_added, next_marked, next_tiled}
+use Rattle.issuance_log.proofs.Encoded.{tiles_no_item, tiles_no_mark}
 use Rattle.issuance_log.proofs.Growth.{size_fits}
-use Rattle.issuance_log.proofs.Keeping.{short_item, short_none}
 use Rattle.issuance_log.proofs.Views.{view_added, view_marked, view_tiled}
 
--- the hashes of the entries in a record with this item
-abbrev leaves_in : HashFunction → Option (Text × Text) → List Hash
-leaves_in h item = map (λ x. leaf_hash h x.0) (option_to_list item)
+-- a record whose length may be appended, and which is taken
+pub record IsGoodRecord (h : HashFunction) (v w : LogView) (body : Text) : Type 0 where
+  pub some : 1 ≤ length body
+  pub few : length body ≤ 131072
+  pub takes : next_view h v body ≡ Some w
 
 -- ---- an item
 
@@ -46,22 +46,21 @@ module _ (h : HashFunction) (v : LogView) (entry key : Text) (capacity : v.size 
       next_added h s entry key (subst (λ (u : LogView). u.size < u.settings.limit) (sym is)
       capacity) short_entry short_key belongs
 
-  pub item_record : (text : Text) (leaf : Hash) → HasSoundNumbers v → text ≡ entry_record entry key
-      → leaf ≡ leaf_hash h entry → IsRecordOf h v text (Item leaf)
-  item_record text leaf sound text_is leaf_is =
-      let again = item_again entry key short_entry short_key in
+  pub item_taken_as : IsTakenAs h v (entry_record entry key) one_item_more (with_item entry key)
+  item_taken_as = record {
+    shows = view_added h v entry key capacity short_entry short_key belongs;
+    makes = item_makes;
+  }
+
+  pub item_record : (text : Text) → text ≡ entry_record entry key
+      → IsGoodRecord h v (one_item_more v) text
+  item_record text text_is =
       let size = length-entry entry key in
-      subst (λ (t : Text). IsRecordOf h v t (Item leaf)) (sym text_is)
-      (subst (λ (l : Hash). IsRecordOf h v (entry_record entry key) (Item l)) (sym leaf_is)
-      (record {
+      subst (λ (t : Text). IsGoodRecord h v (one_item_more v) t) (sym text_is) (record {
         some = omega arith;
         few = omega arith;
-        sound = sound;
-        allowed = capacity;
-        takes = view_added h v entry key capacity short_entry short_key belongs;
-        short = short_item _ entry key again short_entry short_key;
-        leaves = ap (leaves_in h) (sym again);
-      }))
+        takes = item_taken_as.shows;
+      })
 
 -- ---- a landmark
 
@@ -76,17 +75,18 @@ module _ (h : HashFunction) (v : LogView) (sound : HasSoundNumbers v)
       → next_log h s (landmark_record u.size) ≡ Some (with_mark s)) is (next_marked h s)
       size_in_bytes above
 
-  pub mark_record : (text : Text) → text ≡ landmark_record v.size → IsRecordOf h v text Landmark
+  pub mark_taken_as : IsTakenAs h v (landmark_record v.size) one_mark_more with_mark
+  mark_taken_as =
+      record { shows = view_marked h v size_in_bytes above; makes = mark_makes }
+
+  pub mark_record : (text : Text) → text ≡ landmark_record v.size
+      → IsGoodRecord h v (one_mark_more v) text
   mark_record text text_is =
       let size = length-landmark v.size in
-      subst (λ (t : Text). IsRecordOf h v t Landmark) (sym text_is) (record {
+      subst (λ (t : Text). IsGoodRecord h v (one_mark_more v) t) (sym text_is) (record {
         some = omega arith;
         few = omega arith;
-        sound = sound;
-        allowed = above;
-        takes = view_marked h v size_in_bytes above;
-        short = short_none _ (mark_alone v.size);
-        leaves = ap (leaves_in h) (sym (mark_alone v.size));
+        takes = mark_taken_as.shows;
       })
 
 -- ---- tiles
@@ -99,47 +99,54 @@ module _ (h : HashFunction) (v : LogView) (size : ℕ) (fits : size < 2 ^ 64)
       → next_log h s (tiles_record size) ≡ Some (with_tiles size s)) is
       (next_tiled h s size fits multiple) above within
 
-  pub tiles_record_of : (text : Text) (to : ℕ) → HasSoundNumbers v → text ≡ tiles_record size
-      → to ≡ size → IsRecordOf h v text (Tiles to)
-  tiles_record_of text to sound text_is to_is =
+  pub tiles_taken_as : IsTakenAs h v (tiles_record size) (tiled_to size) (with_tiles size)
+  tiles_taken_as =
+      record { shows = view_tiled h v size fits multiple above within; makes = tiles_make }
+
+  pub tiles_record_of : (text : Text) → text ≡ tiles_record size
+      → IsGoodRecord h v (tiled_to size v) text
+  tiles_record_of text text_is =
       let bytes = length-tiles size in
-      subst (λ (t : Text). IsRecordOf h v t (Tiles to)) (sym text_is)
-      (subst (λ (n : ℕ). IsRecordOf h v (tiles_record size) (Tiles n)) (sym to_is) (record {
+      subst (λ (t : Text). IsGoodRecord h v (tiled_to size v) t) (sym text_is) (record {
         some = omega arith;
         few = omega arith;
-        sound = sound;
-        allowed = (multiple, within);
-        takes = view_tiled h v size fits multiple above within;
-        short = short_none _ (tiles_no_item size);
-        leaves = ap (leaves_in h) (sym (tiles_no_item size));
-      }))
+        takes = tiles_taken_as.shows;
+      })
 
--- ---- any of them
+-- ---- what there is to be for them
 
--- as many items more as leaves
-pub changed_size : (change : Change) (v : LogView) (place : ℕ)
-    → v.size + length (map (λ (leaf : Hash). place) (added_leaves change))
-    ≡ (changed_view change v).size
-changed_size (Item leaf) v place = omega arith
-changed_size Landmark v place = omega arith
-changed_size (Tiles size) v place = omega arith
+module _ {H T : Type 0} {hashes : Hashes H} {k : Ghosts T} (numbers : LogNumbers)
+    (items : Items H T hashes k) (text : Text) where
+  pub item_ready : (entry key : Text) → text ≡ entry_record entry key → IsShort entry
+      → IsShort key → HasItemCapacity items → HasCapacityFor numbers items text
+  item_ready entry key is few_entry few_key capacity = record {
+    item = λ x there. capacity;
+    mark = λ none. let wrong : Some (entry, key) ≡ None =
+        sym (ap item_in is ∙ item_again entry key few_entry few_key) ∙ none in absurd cc;
+  }
 
-pub changed_stored : {H T : Type 0} {hashes : Hashes H} {k : Ghosts T} (change : Change)
-    (numbers : LogNumbers) (items : Items H T hashes k) → IsReadyFor change numbers items
-    → numbers.view.tiled ≤ tiles_stored (items_tiles items)
-    → (changed_view change numbers.view).tiled ≤ tiles_stored (items_tiles items)
-changed_stored (Item leaf) numbers items ready stored = stored
-changed_stored Landmark numbers items ready stored = stored
-changed_stored (Tiles size) numbers items ready stored = ready
+  -- where it has no item
+  without_item : item_in text ≡ None → HasMarkCapacity numbers (mark_in text)
+      → HasCapacityFor numbers items text
+  without_item alone capacity = record {
+    item = λ x there. let wrong : None ≡ Some x = sym alone ∙ there in absurd cc;
+    mark = λ none. capacity;
+  }
 
--- the places that it adds are those of the items in its record
-pub places_by : (h : HashFunction) (leaves : List Hash) (item : Option (Text × Text)) (place : ℕ)
-    → leaves ≡ map (λ x. leaf_hash h x.0) (option_to_list item)
-    → map (λ (leaf : Hash). place) leaves
-    ≡ map (λ (x : Text × Text). place) (option_to_list item)
-places_by h leaves item place is = ap (map (λ (leaf : Hash). place)) is ∙ each item
-  where
-    each : (o : Option (Text × Text)) → map (λ (leaf : Hash). place) (leaves_in h o)
-        ≡ map (λ (x : Text × Text). place) (option_to_list o)
-    each None = refl
-    each (Some x) = refl
+  pub mark_ready : (size : ℕ) → text ≡ landmark_record size → size < 2 ^ 64
+      → 1 ≤ numbers.mark_spare → HasCapacityFor numbers items text
+  mark_ready size is fits capacity =
+      without_item (ap item_in is ∙ mark_alone size)
+      (subst (HasMarkCapacity numbers) (sym (ap mark_in is ∙ mark_again size fits)) capacity)
+
+  pub tiles_ready : (size : ℕ) → text ≡ tiles_record size → HasCapacityFor numbers items text
+  tiles_ready size is =
+      without_item (ap item_in is ∙ tiles_no_item size)
+      (subst (HasMarkCapacity numbers) (sym (ap mark_in is ∙ tiles_no_mark size)) tt)
+
+-- the tiles of the size that the record makes are stored
+pub stored_by : (h : HashFunction) (v w : LogView) (body : Text) (stored : ℕ)
+    → next_view h v body ≡ Some w → w.tiled ≤ stored
+    → (u : LogView) → next_view h v body ≡ Some u → u.tiled ≤ stored
+stored_by h v w body stored is within u next =
+    subst (λ (x : LogView). x.tiled ≤ stored) (same_Some w u (sym is ∙ next)) within

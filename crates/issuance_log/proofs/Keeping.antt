@@ -4,7 +4,7 @@ use Rattle.std.proofs.Common.{Some, None, IfSome, option_map, Ok, refl, ap, sym,
 use Rattle.std.proofs.Common.{◌%◌, ◌==◌, ◌&&◌, nat_le, nat_lt}
 use Rattle.std.specs.Prelude.{map, option_to_list}
 use Rattle.std.proofs.lemmas.Bool.{and_parts, eqb-true, leb-true, ltb-true}
-use Rattle.std.proofs.lemmas.List.{map-append, take_all}
+use Rattle.std.proofs.lemmas.List.{map-append}
 use Rattle.std.proofs.lemmas.Option.{same_Some}
 use Rattle.byte_formats.specs.Types.{Text, HashFunction}
 use Rattle.byte_formats.proofs.Values.{map_some, when_some}
@@ -17,17 +17,17 @@ use Rattle.issuance_log.specs.Folds.{next_log, next_view, null_entry, takes_entr
 use Rattle.issuance_log.specs.Folds.{takes_landmark, takes_tiles, view_in, with_item, with_mark}
 use Rattle.issuance_log.specs.Items.{AreKept, HasShortItem}
 use Rattle.issuance_log.specs.Marks.{last_mark}
-use Rattle.issuance_log.specs.Places.{places_of}
-use Rattle.issuance_log.specs.Records.{IsShort, item_in, mark_in, settings_in, tiled_in}
+use Rattle.issuance_log.specs.Places.{places_behind, places_of}
+use Rattle.issuance_log.specs.Records.{item_in, mark_in, settings_in, tiled_in}
 use Rattle.issuance_log.specs.Settings.{Settings}
 use Rattle.issuance_log.specs.Shown.{recorded_items, shown_with}
 use Rattle.issuance_log.specs.Sound.{HasSoundNumbers, IsSound}
-use Rattle.issuance_log.proofs.Behind.{when}
+use Rattle.issuance_log.proofs.Behind.{entries_of, next_items, when}
 use Rattle.issuance_log.proofs.Growth.{numbers_marked, numbers_tiled, sound_with}
-use Rattle.issuance_log.proofs.Shown.{all_shown, entries_of, next_items, shown_size, shown_so}
+use Rattle.issuance_log.proofs.Shown.{all_shown, shown_size, shown_so}
 use Rattle.issuance_log.proofs.Shown.{shown_view}
 use Rattle.issuance_log.proofs.Encoded.{changed_log}
-use Rattle.issuance_log.proofs.Standing.{places_count, places_with}
+use Rattle.issuance_log.proofs.Standing.{places_with}
 use Rattle.issuance_log.proofs.Views.{views_follow}
 
 -- ---- sound with one record more
@@ -89,21 +89,21 @@ sound_next h s t body sound short is =
 
 -- The log that it makes, of which this is shown.
 pub next_of : (h : HashFunction) (v w : LogView) (list : List Text) (body : Text)
-    → v.size ≤ length (recorded_items list) → next_view h v body ≡ Some w
+    → v.size ≡ length (recorded_items list) → next_view h v body ≡ Some w
     → (t : LogState) × (next_log h (shown_with v list) body ≡ Some t) × (view_in t ≡ w)
-next_of h v w list body within is =
+next_of h v w list body all is =
     map_some view_in (next_log h (shown_with v list) body) w
     (sym (views_follow h (shown_with v list) body)
-    ∙ ap (λ (u : LogView). next_view h u body) (shown_view v list within) ∙ is)
+    ∙ ap (λ (u : LogView). next_view h u body) (shown_view v list all) ∙ is)
 
 -- It is what is shown behind the record.
 pub shown_next : (h : HashFunction) (v w : LogView) (list : List Text) (body : Text) (u : LogState)
-    → log_of h list ≡ Ok (shown_with v list) → v.size ≤ length (recorded_items list)
+    → log_of h list ≡ Ok (shown_with v list) → v.size ≡ length (recorded_items list)
     → next_view h v body ≡ Some w → next_log h (shown_with v list) body ≡ Some u
     → shown_with w (list ++ body ∷ []) ≡ u
-shown_next h v w list body u made within next is =
+shown_next h v w list body u made all next is =
     let more : List Text = list ++ body ∷ [] in
-    let step = next_of h v w list body within next in
+    let step = next_of h v w list body all next in
     let same : step.0 ≡ u = same_Some step.0 u (sym step.1 ∙ is) in
     let log_is : log_of h more ≡ Ok u = state_next (log_fold h) list (shown_with v list) body u
     made is in
@@ -114,6 +114,15 @@ hashed_twice : (h : HashFunction) (items : List (Text × Text))
     → map (leaf_hash h) (entries_of items) ≡ map (λ y. leaf_hash h y.0) items
 hashed_twice h [] = refl
 hashed_twice h (x ∷ items) = ap (λ l. leaf_hash h x.0 ∷ l) (hashed_twice h items)
+
+-- the hashes that are kept are these, with more of them too
+hashed_with : (leaves leaves' : Option (List Text)) (old new more : List Text)
+    → IfSome leaves (λ l. l ≡ old) → leaves' ≡ option_map (λ l. l ++ more) leaves
+    → new ≡ old ++ more → IfSome leaves' (λ l. l ≡ new)
+hashed_with None leaves' old new more was are is =
+    subst (λ o. IfSome o (λ l. l ≡ new)) (sym are) tt
+hashed_with (Some l) leaves' old new more was are is =
+    subst (λ o. IfSome o (λ l. l ≡ new)) (sym are) (ap (λ x. x ++ more) was ∙ sym is)
 
 -- One record more, which the log takes, is kept.
 pub kept_next : (h : HashFunction) (v w : LogView) (places places' : List ℕ)
@@ -129,55 +138,30 @@ kept_next h v w places places' leaves leaves' first bodies body is next short pl
     let list : List Text = first ∷ bodies in
     let more : List Text = list ++ body ∷ [] in
     let s = shown_with v list in
-    let step = next_of h v w list body is.stand.within next in
+    let step = next_of h v w list body is.all next in
     let t = step.0 in
     let log_is : log_of h more ≡ Ok t = state_next (log_fold h) list s body t is.made step.1 in
     let shown : shown_with w more ≡ t =
     ap (λ (u : LogView). shown_with u more) (sym step.2) ∙ shown_so h more t log_is in
     let size : w.size ≡ length (recorded_items more) =
     ap (λ (u : LogView). u.size) (sym step.2) ∙ all_shown h more t log_is in
-    let count = places_count first bodies in
-    let before : places ≡ places_of list =
-    is.stand.places_are ∙ take_all v.size (places_of list) (omega (arith, count, is.all)) in
-    let all : places' ≡ places_of more =
-    places_is
-    ∙ ap (λ (l : List ℕ). l
-    ++ map (λ x. behind 16 list) (option_to_list (item_in body))) before
-    ∙ sym (places_with first bodies body) in
-    let count' = places_count first (bodies ++ body ∷ []) in
     let items = next_items h s t body step.1 in
     record {
       made = log_is ∙ ap Ok (sym shown);
       all = size;
-      stand = record {
-        within = omega (arith, size);
-        places_are = all ∙ sym (take_all w.size (places_of more) (omega (arith, count', size)));
-        sound = subst (IsSound h) (sym shown) (sound_next h s t body is.stand.sound short step.1);
-      };
-      hashed = hashed leaves leaves' is.hashed leaves_is
-          (ap (λ (u : LogState). u.entries) shown ∙ items.entries);
+      places_are = places_is
+          ∙ ap (λ (l : List ℕ). l
+          ++ map (λ x. behind 16 list) (option_to_list (item_in body))) is.places_are
+          ∙ sym (places_with first bodies body);
+      sound = subst (IsSound h) (sym shown) (sound_next h s t body is.sound short step.1);
+      hashed = hashed_with leaves leaves' (map (leaf_hash h) s.entries) _
+          (map (λ x. leaf_hash h x.0) (option_to_list (item_in body))) is.hashed leaves_is
+          (ap (λ (u : LogState). map (leaf_hash h) u.entries) shown
+          ∙ ap (map (leaf_hash h)) items.entries
+          ∙ map-append (leaf_hash h) s.entries (entries_of (option_to_list (item_in body)))
+          ∙ ap (λ x. map (leaf_hash h) s.entries ++ x)
+          (hashed_twice h (option_to_list (item_in body))));
     }
-  where
-    hashed : (old new : Option (List (List ℕ)))
-        → IfSome old (λ l. l ≡ map (leaf_hash h) (shown_with v (first ∷ bodies)).entries)
-        → new ≡ option_map (λ l. l
-        ++ map (λ x. leaf_hash h x.0) (option_to_list (item_in body))) old
-        → (shown_with w ((first ∷ bodies) ++ body ∷ [])).entries
-        ≡ (shown_with v (first ∷ bodies)).entries ++ entries_of (option_to_list (item_in body))
-        → IfSome new (λ l. l
-        ≡ map (leaf_hash h) (shown_with w ((first ∷ bodies) ++ body ∷ [])).entries)
-    hashed None new was news entries =
-        subst (λ o. IfSome o (λ l. l
-        ≡ map (leaf_hash h) (shown_with w ((first ∷ bodies) ++ body ∷ [])).entries)) (sym news) tt
-    hashed (Some l) new was news entries =
-        subst (λ o. IfSome o (λ l. l
-        ≡ map (leaf_hash h) (shown_with w ((first ∷ bodies) ++ body ∷ [])).entries)) (sym news)
-        (ap (λ x. x ++ map (λ y. leaf_hash h y.0) (option_to_list (item_in body))) was
-        ∙ sym (ap (map (leaf_hash h)) entries
-        ∙ map-append (leaf_hash h) (shown_with v (first ∷ bodies)).entries
-        (entries_of (option_to_list (item_in body)))
-        ∙ ap (λ x. map (leaf_hash h) (shown_with v (first ∷ bodies)).entries ++ x)
-        (hashed_twice h (option_to_list (item_in body)))))
 
 -- So it is behind any records.
 pub kept_more : (h : HashFunction) (v w : LogView) (places places' : List ℕ)
@@ -189,27 +173,13 @@ pub kept_more : (h : HashFunction) (v w : LogView) (places places' : List ℕ)
     leaves
     → AreKept h w places' leaves' (list ++ body ∷ [])
 kept_more h v w places places' leaves leaves' [] body is next short places_is leaves_is =
-    let some = is.stand.sound.numbers.some in
-    let size = shown_size v [] is.stand.within in
+    let some = is.sound.numbers.some in
+    let size = shown_size v [] is.all in
     absurd (omega (arith, is.all))
 kept_more h v w places places' leaves leaves' (first ∷ bodies) body is next short places_is
     leaves_is =
     kept_next h v w places places' leaves leaves' first bodies body is next short places_is
     leaves_is
-
--- a fact of the records, and one of these with a record more
-pub if_more : (P Q : List Text → Type 0) (old new : Option (List Text)) (body : Text)
-    → new ≡ option_map (λ list. list ++ body ∷ []) old
-    → ((list : List Text) → old ≡ Some list → P list → Q (list ++ body ∷ [])) → IfSome old P
-    → IfSome new Q
-if_more P Q None new body is step fact =
-    subst (λ (o : Option (List Text)). IfSome o Q) (sym is) tt
-if_more P Q (Some list) new body is step fact =
-    subst (λ (o : Option (List Text)). IfSome o Q) (sym is) (step list refl fact)
-
-pub at_list : (P : List Text → Type 0) (o : Option (List Text)) (list : List Text) → o ≡ Some list
-    → IfSome o P → P list
-at_list P o list is fact = subst (λ (p : Option (List Text)). IfSome p P) is fact
 
 -- ---- the first record
 
@@ -234,7 +204,7 @@ pub kept_first : (h : HashFunction) (v : LogView) (body : Text) (places : List �
     → HasSoundNumbers v → places ≡ 0 ∷ [] → IfSome leaves (λ l. l ≡ [])
     → leaves' ≡ option_map (λ l. l ++ leaf_hash h null_entry ∷ []) leaves
     → (1 ≡ v.size) × AreKept h v places leaves' (body ∷ [])
-unfolding begun_log
+unfolding begun_log places_behind
 kept_first h v body places leaves leaves' begun sound one none leaves_is =
     let first = begun_so (settings_in body) v begun in
     let t = new_log first.0 in
@@ -243,44 +213,15 @@ kept_first h v body places leaves leaves' begun sound one none leaves_is =
     let shown : shown_with v (body ∷ []) ≡ t =
     ap (λ (u : LogView). shown_with u (body ∷ [])) (sym first.2)
     ∙ shown_so h (body ∷ []) t log_is in
-    let size : 1 ≡ v.size = ap (λ (u : LogView). u.size) first.2 in
-    let all : v.size ≡ length (recorded_items (body ∷ [])) =
-    sym size ∙ all_shown h (body ∷ []) t log_is in (
+    let size : 1 ≡ v.size = ap (λ (u : LogView). u.size) first.2 in (
       size,
       record {
         made = log_is ∙ ap Ok (sym shown);
-        all = all;
-        stand = record {
-          within = omega (arith, all);
-          places_are = one ∙ ap (λ (n : ℕ). take n (places_of (body ∷ []))) size;
-          sound = subst (IsSound h) (sym shown)
-              (sound_new h first.0 (subst HasSoundNumbers (sym first.2) sound));
-        };
-        hashed = hashed leaves leaves' none leaves_is
-            (ap (λ (s : LogState). map (leaf_hash h) s.entries) shown);
+        all = sym size ∙ all_shown h (body ∷ []) t log_is;
+        places_are = one;
+        sound = subst (IsSound h) (sym shown)
+            (sound_new h first.0 (subst HasSoundNumbers (sym first.2) sound));
+        hashed = hashed_with leaves leaves' [] _ (leaf_hash h null_entry ∷ []) none leaves_is
+            (ap (λ (u : LogState). map (leaf_hash h) u.entries) shown);
       },
     )
-  where
-    hashed : (old new : Option (List (List ℕ))) → IfSome old (λ l. l ≡ [])
-        → new ≡ option_map (λ l. l ++ leaf_hash h null_entry ∷ []) old
-        → map (leaf_hash h) (shown_with v (body ∷ [])).entries ≡ leaf_hash h null_entry ∷ []
-        → IfSome new (λ l. l ≡ map (leaf_hash h) (shown_with v (body ∷ [])).entries)
-    hashed None new empty news entries = subst (λ o. IfSome o (λ l. l
-        ≡ map (leaf_hash h) (shown_with v (body ∷ [])).entries)) (sym news) tt
-    hashed (Some l) new empty news entries = subst (λ o. IfSome o (λ m. m
-        ≡ map (leaf_hash h) (shown_with v (body ∷ [])).entries)) (sym news)
-        (ap (λ (x : List (List ℕ)). x ++ leaf_hash h null_entry ∷ []) empty ∙ sym entries)
-
--- an item that is short, and none
-pub short_item : (item : Option (Text × Text)) (entry key : Text) → item ≡ Some (entry, key)
-    → IsShort entry → IsShort key → HasShortItem item
-short_item item entry key is few_entry few_key other other_key also =
-    let same = same_Some (entry, key) (other, other_key) (sym is ∙ also) in (
-      subst IsShort (ap (λ (x : Text × Text). x.0) same) few_entry,
-      subst IsShort (ap (λ (x : Text × Text). x.1) same) few_key,
-    )
-
-pub short_none : (item : Option (Text × Text)) → item ≡ None → HasShortItem item
-short_none item is entry key also =
-    let wrong : ◌≡◌ {A = Option (Text × Text)} None (Some (entry, key)) = sym is ∙ also in
-    absurd cc

@@ -1,20 +1,24 @@
 mod Adds
-mod Adopting
 mod Answering
-mod Appending
 pub mod Asked
 pub mod Behind
 mod Changes
 mod Growth
+mod Fronts
 pub mod Ids
 mod Keeping
 pub mod Leaves
 mod Leaving
-mod Readings
+mod Made
+mod Opening
+mod ReadViews
+mod Resting
 mod Rereading
 mod Rules
 mod Shown
 pub mod Encoded
 mod Standing
+mod Taking
+mod Telling
 mod Tiling
 mod Views

@@ -5,14 +5,14 @@ use Rattle.std.proofs.Common.{slice_index_or, Option, Some, None, IfSome, option
 use Rattle.std.proofs.Common.{ap, subst, sym, ◌∙◌, arith, nat_lt}
 use Rattle.std.specs.Prelude.{if◌then◌else◌, Bool, IfErr, OnOk, Result}
 use Rattle.std.proofs.lemmas.Bool.{le-ltb, lt-ltb}
-use Rattle.std.proofs.lemmas.Result.{err_from_is_err_and}
 use Rattle.std.specs.Result.{IsErrAnd}
 use Rattle.std.proofs.lemmas.List.{get_or-map, get_or-take, take-append-le, take_all}
-use Rattle.byte_formats.specs.Types.{Text, HashFunction}
+use Rattle.byte_formats.specs.Types.{Hash, HashFunction, Text}
+use Rattle.byte_formats.proofs.Values.{err_is}
 use Rattle.journal_core.specs.Words.{HasSize, HoldsBody}
 use Rattle.issuance_log.specs.Entries.{IsBodyAt, IsNoAnswer}
 use Rattle.issuance_log.specs.Folds.{LogState, LogView, null_entry}
-use Rattle.issuance_log.specs.Items.{StandAt}
+use Rattle.issuance_log.specs.Items.{AreKept}
 use Rattle.issuance_log.specs.Places.{IsPlaced, places_of}
 use Rattle.issuance_log.specs.Refusals.{GivesItem, item_at}
 use Rattle.issuance_log.specs.Shown.{recorded_items, shown_with}
@@ -20,8 +20,9 @@ use Rattle.issuance_log.specs.declared.error.LogError.{LogError}
 use Rattle.issuance_log.specs.declared.error.LogError.TheVariants.{Full, TooLarge, NoSuchEntry}
 use Rattle.issuance_log.specs.declared.error.LogError.TheVariants.{NothingNew, Failed, Append}
 use Rattle.issuance_log.specs.declared.error.LogError.TheVariants.{Memory}
-use Rattle.issuance_log.proofs.Shown.{entries_of, keys_of, shown_size}
-use Rattle.issuance_log.proofs.Standing.{placed_of, some_record}
+use Rattle.issuance_log.proofs.Behind.{entries_of, keys_of}
+use Rattle.issuance_log.proofs.Shown.{shown_size}
+use Rattle.issuance_log.proofs.Standing.{placed_of}
 
 item_is : (s : LogState) (index : ℕ) (b : Bool) → nat_lt index (length s.entries) ≡ b
     → item_at s index
@@ -57,65 +58,66 @@ no_answer s index Memory entry key there is = (
   λ none. let wrong = sym (there_is s index there) ∙ none in absurd cc,
 )
 
-module _ (h : HashFunction) (v : LogView) (places : List ℕ) where
+-- what holds of the log that is shown
+pub shown_of : (v : LogView) (P : LogState → Type 0) {K : List Text → Type 0}
+    (o : Option (List Text)) → IfSome o K → ((list : List Text) → K list → P (shown_with v list))
+    → IfSome (option_map (shown_with v) o) P
+shown_of v P None kept holds = tt
+shown_of v P (Some list) kept holds = holds list kept
+
+module _ (h : HashFunction) (v : LogView) (places : List ℕ) (leaves : Option (List Hash))
+    (o : Option (List Text)) (kept : IfSome o (AreKept h v places leaves)) where
   -- an index past the size
-  pub gives_none : (index : ℕ) (entry key : Text) → v.size ≤ index → (o : Option (List Text))
-      → IfSome o (StandAt h v places) → IfSome (option_map (shown_with v) o)
+  pub gives_none : (index : ℕ) (entry key : Text) → v.size ≤ index
+      → IfSome (option_map (shown_with v) o)
       (λ s. GivesItem (item_at s index) (Err NoSuchEntry) entry key)
-  gives_none index entry key past None stand = tt
-  gives_none index entry key past (Some list) stand =
+  gives_none index entry key past = shown_of v
+      (λ s. GivesItem (item_at s index) (Err NoSuchEntry) entry key) o kept (λ list is.
       let none = none_is (shown_with v list) index
-      (subst (λ (n : ℕ). n ≤ index) (sym (shown_size v list stand.within)) past) in
-      (λ not_memory not_failed. none, λ is. refl)
+      (subst (λ (n : ℕ). n ≤ index) (sym (shown_size v list is.all)) past) in
+      (λ not_memory not_failed. none, λ is. refl))
 
   -- the null entry
   pub gives_first : (index : ℕ) (entry key : Text) → index ≡ 0 → entry ≡ null_entry → key ≡ []
-      → (o : Option (List Text)) → IfSome o (StandAt h v places)
       → IfSome (option_map (shown_with v) o)
       (λ s. GivesItem (item_at s index) (Ok tt) entry key)
-  gives_first index entry key first one two None stand = tt
-  gives_first index entry key first one two (Some list) stand =
+  gives_first index entry key first one two = shown_of v
+      (λ s. GivesItem (item_at s index) (Ok tt) entry key) o kept (λ list is.
       let s = shown_with v list in
-      ap (item_at s) first ∙ there_is s 0 (omega (arith, stand.sound.numbers.some))
-      ∙ ap (λ (e : Text). Ok (e, slice_index_or s.keys 0 [])) (stand.sound.first_entry ∙ sym one)
-      ∙ ap (λ (k : Text). Ok (entry, k)) (stand.sound.first_key ∙ sym two)
+      ap (item_at s) first ∙ there_is s 0 (omega (arith, is.sound.numbers.some))
+      ∙ ap (λ (e : Text). Ok (e, slice_index_or s.keys 0 [])) (is.sound.first_entry ∙ sym one)
+      ∙ ap (λ (k : Text). Ok (entry, k)) (is.sound.first_key ∙ sym two))
 
   -- memory was refused, or the disk failed
   gives_nothing : (index : ℕ) (why : LogError) (entry key : Text) → index < v.size
-      → IsNoAnswer why → (o : Option (List Text)) → IfSome o (StandAt h v places)
-      → IfSome (option_map (shown_with v) o)
+      → IsNoAnswer why → IfSome (option_map (shown_with v) o)
       (λ s. GivesItem (item_at s index) (Err why) entry key)
-  gives_nothing index why entry key there is None stand = tt
-  gives_nothing index why entry key there is (Some list) stand =
+  gives_nothing index why entry key there none = shown_of v
+      (λ s. GivesItem (item_at s index) (Err why) entry key) o kept (λ list is.
       no_answer (shown_with v list) index why entry key
-      (subst (λ (n : ℕ). index < n) (sym (shown_size v list stand.within)) there) is
+      (subst (λ (n : ℕ). index < n) (sym (shown_size v list is.all)) there) none)
 
   pub gives_error : (index : ℕ) (result : Result (Unit {0}) LogError) (why : LogError)
       (entry key : Text) → IsErrAnd result (λ e. e ≡ why) → index < v.size → IsNoAnswer why
-      → (o : Option (List Text)) → IfSome o (StandAt h v places)
-      → IfSome (option_map (shown_with v) o)
-      (λ s. GivesItem (item_at s index) result entry key)
-  gives_error index result why entry key is there none o stand =
-      let p = err_from_is_err_and result is in
+      → IfSome (option_map (shown_with v) o) (λ s. GivesItem (item_at s index) result entry key)
+  gives_error index result why entry key is there none =
       subst (λ (r : Result (Unit {0}) LogError). IfSome (option_map (shown_with v) o)
-      (λ s. GivesItem (item_at s index) r entry key)) (sym (p.1 ∙ ap Err p.2))
-      (gives_nothing index why entry key there none o stand)
+      (λ s. GivesItem (item_at s index) r entry key)) (err_is result why is)
+      (gives_nothing index why entry key there none)
 
   -- the item of the record at the place
   item_read : (index place : ℕ) (list : List Text) (entry key : Text) → 1 ≤ index
-      → index < v.size → place ≡ slice_index_or places index 0 → StandAt h v places list
+      → index < v.size → place ≡ slice_index_or places index 0 → AreKept h v places leaves list
       → ((item : Text × Text) → IsPlaced list place item → item ≡ (entry, key))
       → item_at (shown_with v list) index ≡ Ok (entry, key)
-  item_read index place [] entry key some there is stand gives =
-      absurd (omega (arith, some_record v [] (omega arith) stand.within))
-  item_read index place (first ∷ bodies) entry key some there is stand gives =
+  item_read index place [] entry key some there is kept gives = absurd (omega (arith, kept.all))
+  item_read index place (first ∷ bodies) entry key some there is kept gives =
       let list : List Text = first ∷ bodies in
       let items = recorded_items list in
-      let within = stand.within in
+      let all = kept.all in
       let item = slice_index_or items index ([], []) in
       let place_is : place ≡ slice_index_or (places_of list) index 0 =
-      is ∙ ap (λ (l : List ℕ). slice_index_or l index 0) stand.places_are
-      ∙ get_or-take v.size (places_of list) index 0 there in
+      is ∙ ap (λ (l : List ℕ). slice_index_or l index 0) kept.places_are in
       let same : item ≡ (entry, key) = gives item
       (subst (λ (n : ℕ). IsPlaced list n item) (sym place_is)
       (placed_of first bodies index some (omega arith))) in
@@ -128,23 +130,24 @@ module _ (h : HashFunction) (v : LogView) (places : List ℕ) where
       ∙ get_or-map (λ (x : Text × Text). x.1) items index ([], []) [] (omega arith)
       ∙ ap (λ (x : Text × Text). x.1) same in
       there_is (shown_with v list) index
-      (subst (λ (n : ℕ). index < n) (sym (shown_size v list within)) there)
+      (subst (λ (n : ℕ). index < n) (sym (shown_size v list all)) there)
       ∙ ap (λ (e : Text). Ok (e, slice_index_or (take v.size (keys_of items)) index [])) entry_is
       ∙ ap (λ (x : Text). Ok (entry, x)) key_is
 
-  pub gives_item : (index place : ℕ) (entry key : Text) → 1 ≤ index → index < v.size
-      → place ≡ slice_index_or places index 0 → (o : Option (List Text))
-      → IfSome o (StandAt h v places) → (result : Result (Unit {0}) LogError)
-      → IfErr result IsNoAnswer
-      → OnOk result (IfSome o (λ list. (item : Text × Text)
-      → IsPlaced list place item → item ≡ (entry, key)))
-      → IfSome (option_map (shown_with v) o)
-      (λ s. GivesItem (item_at s index) result entry key)
-  gives_item index place entry key some there is None stand result none gives = tt
-  gives_item index place entry key some there is (Some list) stand (Ok done) none gives =
-      item_read index place list entry key some there is stand gives
-  gives_item index place entry key some there is (Some list) stand (Err why) none gives =
-      gives_nothing index why entry key there none (Some list) stand
+-- what was read, by the answer
+pub gives_item : (h : HashFunction) (v : LogView) (places : List ℕ) (leaves : Option (List Hash))
+    (o : Option (List Text)) → IfSome o (AreKept h v places leaves) → (index place : ℕ)
+    (entry key : Text) → 1 ≤ index → index < v.size → place ≡ slice_index_or places index 0
+    → (result : Result (Unit {0}) LogError) → IfErr result IsNoAnswer
+    → OnOk result (IfSome o (λ list. (item : Text × Text)
+    → IsPlaced list place item → item ≡ (entry, key)))
+    → IfSome (option_map (shown_with v) o) (λ s. GivesItem (item_at s index) result entry key)
+gives_item h v places leaves None kept index place entry key some there is result none gives = tt
+gives_item h v places leaves (Some list) kept index place entry key some there is (Ok done) none
+    gives =
+    item_read h v places leaves (Some list) kept index place list entry key some there is kept gives
+gives_item h v places leaves (Some list) kept index place entry key some there is (Err why) none
+    gives = gives_nothing h v places leaves (Some list) kept index why entry key there none
 
 -- the body of the record at a place, by its length and the bytes that were read
 pub body_read : (place size : ℕ) (o later : Option (List Text)) (out items : List ℕ) (len : ℕ)

@@ -2,94 +2,17 @@
 use Rattle.std.proofs.Common.{◌≡◌, ℕ, ◌+◌, ◌≤◌, List, [], ◌∷◌, ◌++◌, length, take, Option, Some}
 use Rattle.std.proofs.Common.{None, Ok, refl, ap, subst, sym, ◌∙◌, arith}
 use Rattle.std.specs.Prelude.{map, flat_map, option_to_list}
-use Rattle.std.proofs.lemmas.List.{append_assoc, append-nil, length-append, length-map}
+use Rattle.std.proofs.lemmas.List.{append-nil, length-append, length-map}
 use Rattle.std.proofs.lemmas.List.{length-take-le, map-append, take-append-le, take_all}
 use Rattle.std.proofs.lemmas.Grind.{flat_map-append}
 use Rattle.byte_formats.specs.Types.{Text, HashFunction}
-use Rattle.byte_formats.specs.Readings.{some_or}
-use Rattle.byte_formats.proofs.Steps.{bind_ok, ok_is, some_or_ok}
-use Rattle.journal_core.specs.Folds.{taken_from}
-use Rattle.issuance_log.specs.Folds.{LogState, LogView, log_fold, log_of, new_log, next_log}
-use Rattle.issuance_log.specs.Folds.{null_entry, takes_entry, takes_landmark, takes_tiles, view_in}
-use Rattle.issuance_log.specs.Folds.{with_item, with_mark, with_tiles}
-use Rattle.issuance_log.specs.Records.{IsShort, entry_record, item_in, landmark_record, mark_in}
-use Rattle.issuance_log.specs.Records.{tiled_in, tiles_record}
+use Rattle.issuance_log.specs.Folds.{LogState, LogView, log_of, new_log, null_entry, view_in}
+use Rattle.issuance_log.specs.Folds.{with_item}
+use Rattle.issuance_log.specs.Records.{IsShort, entry_record, item_in, landmark_record}
+use Rattle.issuance_log.specs.Records.{tiles_record}
 use Rattle.issuance_log.specs.Shown.{recorded_items, shown_with}
-use Rattle.issuance_log.proofs.Behind.{only_begins, when}
-use Rattle.issuance_log.proofs.Encoded.{changed_log, item_again, mark_alone, tiles_no_item}
-
--- the entries and the keys of items
-abbrev pub entries_of : List (Text × Text) → List Text
-entries_of items = map (λ item. item.0) items
-
-abbrev pub keys_of : List (Text × Text) → List Text
-keys_of items = map (λ item. item.1) items
-
--- the items in the records behind the first
-abbrev pub later_items : List Text → List (Text × Text)
-later_items bodies = flat_map (λ body. option_to_list (item_in body)) bodies
-
--- the items of a log are those of another one, and these behind them
-pub record HasItems (s t : LogState) (items : List (Text × Text)) : Type 0 where
-  pub entries : t.entries ≡ s.entries ++ entries_of items
-  pub keys : t.keys ≡ s.keys ++ keys_of items
-
-no_items : (s t u : LogState) → u.entries ≡ s.entries → u.keys ≡ s.keys → u ≡ t → HasItems s t []
-no_items s t u entries keys made = record {
-  entries = sym (ap (λ (x : LogState). x.entries) made) ∙ entries ∙ sym (append-nil s.entries);
-  keys = sym (ap (λ (x : LogState). x.keys) made) ∙ keys ∙ sym (append-nil s.keys);
-}
-
-by_items : (h : HashFunction) (s t : LogState) (item : Option (Text × Text))
-    (mark tiled : Option ℕ) → changed_log h s item mark tiled ≡ Some t
-    → HasItems s t (option_to_list item)
-by_items h s t (Some x) mark tiled is =
-    let made = when (takes_entry h (view_in s) x) (with_item x.0 x.1 s) t is in
-    record {
-      entries = sym (ap (λ (u : LogState). u.entries) made);
-      keys = sym (ap (λ (u : LogState). u.keys) made);
-    }
-by_items h s t None (Some size) tiled is =
-    no_items s t (with_mark s) refl refl
-    (when (takes_landmark (view_in s) size) (with_mark s) t is)
-by_items h s t None None (Some size) is =
-    no_items s t (with_tiles size s) refl refl
-    (when (takes_tiles (view_in s) size) (with_tiles size s) t is)
-by_items h s t None None None is = let wrong : None ≡ Some t = is in absurd cc
-
-pub next_items : (h : HashFunction) (s t : LogState) (body : Text) → next_log h s body ≡ Some t
-    → HasItems s t (option_to_list (item_in body))
-unfolding next_log
-next_items h s t body is = by_items h s t (item_in body) (mark_in body) (tiled_in body) is
-
-behind_items : (h : HashFunction) (k : ℕ) (s t : LogState) (bodies : List Text)
-    → taken_from (log_fold h) k s bodies ≡ Ok t → HasItems s t (later_items bodies)
-unfolding taken_from
-behind_items h k s t [] is =
-    let same = ok_is ℕ s t is in
-    record {
-      entries = sym (ap (λ (u : LogState). u.entries) same) ∙ sym (append-nil s.entries);
-      keys = sym (ap (λ (u : LogState). u.keys) same) ∙ sym (append-nil s.keys);
-    }
-behind_items h k s t (body ∷ bodies) is =
-    let step = bind_ok (some_or k (next_log h s body))
-    (λ (u : LogState). taken_from (log_fold h) (k + 1) u bodies) t is in
-    let one = next_items h s step.0 body (some_or_ok k (next_log h s body) step.0 step.1) in
-    let rest = behind_items h (k + 1) step.0 t bodies step.2 in
-    record {
-      entries = joined s.entries (λ item. item.0) _ _ (option_to_list (item_in body))
-          (later_items bodies) one.entries rest.entries;
-      keys = joined s.keys (λ item. item.1) _ _ (option_to_list (item_in body))
-          (later_items bodies) one.keys rest.keys;
-    }
-  where
-    joined : (xs : List Text) (f : Text × Text → Text) (mid new : List Text)
-        (first rest : List (Text × Text)) → mid ≡ xs ++ map f first → new ≡ mid ++ map f rest
-        → new ≡ xs ++ map f (first ++ rest)
-    joined xs f mid new first rest one two =
-        two ∙ ap (λ (l : List Text). l ++ map f rest) one
-        ∙ append_assoc xs (map f first) (map f rest)
-        ∙ ap (λ (l : List Text). xs ++ l) (sym (map-append f first rest))
+use Rattle.issuance_log.proofs.Behind.{behind_items, entries_of, keys_of, later_items, only_begins}
+use Rattle.issuance_log.proofs.Encoded.{item_again, mark_alone, tiles_no_item}
 
 -- what is shown, with these entries and keys
 abbrev made : LogView → List Text → List Text → LogState
@@ -210,27 +133,19 @@ all_shown h list s is =
     ap (λ (l : List Text). length l) entries ∙ length-map items (λ item. item.0)
     ∙ ap (λ l. length (recorded_items l)) (sym begun.1.1.0)
 
--- as many as are shown, where they are there
-pub shown_size : (v : LogView) (list : List Text) → v.size ≤ length (recorded_items list)
+-- as many as are shown, where that are all
+pub shown_size : (v : LogView) (list : List Text) → v.size ≡ length (recorded_items list)
     → length (shown_with v list).entries ≡ v.size
-shown_size v list within =
-    length-take-le v.size (entries_of (recorded_items list))
-    (subst (λ (n : ℕ). v.size ≤ n)
-    (sym (length-map (recorded_items list) (λ item. item.0))) within)
-
--- So the log that records make, as it is shown, has all of their items.
-pub all_are_shown : (h : HashFunction) (v : LogView) (list : List Text)
-    → log_of h list ≡ Ok (shown_with v list) → v.size ≤ length (recorded_items list)
-    → v.size ≡ length (recorded_items list)
-all_are_shown h v list is within =
-    sym (shown_size v list within) ∙ all_shown h list (shown_with v list) is
+shown_size v list all =
+    let count = length-map (recorded_items list) (λ item. item.0) in
+    length-take-le v.size (entries_of (recorded_items list)) (omega arith)
 
 -- what is shown over every disk, of the log that is shown
-pub shown_view : (v : LogView) (list : List Text) → v.size ≤ length (recorded_items list)
+pub shown_view : (v : LogView) (list : List Text) → v.size ≡ length (recorded_items list)
     → view_in (shown_with v list) ≡ v
-shown_view v list within =
+shown_view v list all =
     ap (λ (n : ℕ). record { settings = v.settings; size = n; marks = v.marks; tiled = v.tiled })
-    (shown_size v list within)
+    (shown_size v list all)
 
 -- a Tiles has no item
 pub recorded_tiles : (list : List Text) (size : ℕ) → 1 ≤ length (recorded_items list)
@@ -241,11 +156,3 @@ recorded_tiles (first ∷ bodies) size some =
     (flat_map-append (λ b. option_to_list (item_in b)) bodies (tiles_record size ∷ []))
     ∙ ap (λ o. recorded_items (first ∷ bodies) ++ (option_to_list o ++ [])) (tiles_no_item size)
     ∙ append-nil (recorded_items (first ∷ bodies))
-
--- what is shown behind a record without an item
-pub shown_none : (v w : LogView) (list : List Text) (body : Text)
-    → recorded_items (list ++ body ∷ []) ≡ recorded_items list → w.size ≡ v.size
-    → (shown_with w (list ++ body ∷ [])).entries ≡ (shown_with v list).entries
-shown_none v w list body same size =
-    ap (λ l. take w.size (entries_of l)) same
-    ∙ ap (λ (n : ℕ). take n (entries_of (recorded_items list))) size

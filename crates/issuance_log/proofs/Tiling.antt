@@ -11,6 +11,7 @@ use Rattle.journal_core.specs.Format.{Represents, records_of}
 use Rattle.journal_core.specs.Durable.{IsDurable}
 use Rattle.journal_core.proofs.Records.{records_of-stands}
 use Rattle.journal_core.proofs.Modelled.{if_some}
+use Rattle.state_journal.proofs.Kept.{of_sound}
 use Rattle.tile_store.specs.Contents.{HoldsTiles}
 use Rattle.tile_store.specs.Layout.{tiles_end}
 use Rattle.tile_store.specs.Store.{tiles_stored}
@@ -18,13 +19,14 @@ use Rattle.tile_store.specs.Writing.{IsImageBehind}
 use Rattle.tile_store.proofs.Prefixes.{prefix-less}
 use Rattle.tile_store.proofs.Kept.{tiles-kept}
 use Rattle.tree_core.specs.declared.hashing.TreeHash.{Ghosts as Hashes}
+use Rattle.issuance_log.specs.Counted.{log_keeps}
 use Rattle.issuance_log.specs.Folds.{LogView}
-use Rattle.issuance_log.specs.Items.{AreHashed, items_leaves}
+use Rattle.issuance_log.specs.Items.{AreKept, items_leaves, items_places}
 use Rattle.issuance_log.specs.Sound.{HasSoundNumbers}
 use Rattle.issuance_log.specs.Words.{log_broken, log_disk, log_end, log_leaves, log_records}
 use Rattle.issuance_log.specs.Words.{log_tiles, log_tiles_disk, view_of}
 use Rattle.issuance_log.specs.declared.log.Log.{Log}
-use Rattle.issuance_log.proofs.Appending.{leaves_by}
+use Rattle.issuance_log.proofs.Telling.{leaves_by}
 use Rattle.issuance_log.proofs.Growth.{size_fits}
 
 -- tiles of fewer leaves end no later
@@ -48,14 +50,14 @@ module _ {T : Type 0} (k : Ghosts T) (old new : T) (h : HashFunction) (leaves : 
       is.keeps) (held is.before is.left)) any_moment
 
 -- the hashes of the entries are the nodes that are kept
-pub leaves_are : (h : HashFunction) (v : LogView) (contents : Option Text)
-    (kept : Text → List (List ℕ)) (records : Option (List Text)) (P : List (List ℕ) → Type 0)
-    → IfSome records (AreHashed h v (option_map kept contents))
-    → IfSome (option_map kept contents) P
+pub leaves_are : (h : HashFunction) (v : LogView) (places : List ℕ) (contents : Option Text)
+    (nodes : Text → List (List ℕ)) (records : Option (List Text)) (P : List (List ℕ) → Type 0)
+    → IfSome records (AreKept h v places (option_map nodes contents))
+    → IfSome (option_map nodes contents) P
     → IfSome (leaves_by h v contents records) P
-leaves_are h v None kept records P hashed is = tt
-leaves_are h v (Some t) kept None P hashed is = tt
-leaves_are h v (Some t) kept (Some list) P hashed is = subst P hashed is
+leaves_are h v places None nodes records P kept is = tt
+leaves_are h v places (Some t) nodes None P kept is = tt
+leaves_are h v places (Some t) nodes (Some list) P kept is = subst P kept.hashed is
 
 -- a journal that is all on the disk has no record more
 longer_other : (list : List Text) (body : Text) → list ≡ list ++ body ∷ [] → {X : Type 0} → X
@@ -114,8 +116,12 @@ module _ {H D T : Type 0} {hashes : Hashes H} {g : Ghosts D} {k : Ghosts T}
       → Represents c (list ++ body ∷ []) → (d : Text) → k.may_leave disk d
       → HoldsTiles hashes.hash leaves size d))
   behind_none only_now body size disk sound = each_some _ (log_leaves log) (λ leaves.
-      no_record g (log_disk log) (log_end log) body (log.journal.settled sound) only_now
-      (λ c. (d : Text) → k.may_leave disk d → HoldsTiles hashes.hash leaves size d))
+      of_sound log.journal (λ list. (c : Text)
+      → g.left_since (log_disk log) (g.moment (log_disk log)) c
+      → Represents c (list ++ body ∷ []) → (d : Text) → k.may_leave disk d
+      → HoldsTiles hashes.hash leaves size d) sound
+      (no_record g (log_disk log) (log_end log) body (log.journal.settled sound) only_now
+      (λ c. (d : Text) → k.may_leave disk d → HoldsTiles hashes.hash leaves size d)))
 
   -- they were written behind those of the last size
   pub keeps_stored : HasSoundNumbers (view_of log) → (disk later : T) → later ≡ disk
@@ -137,19 +143,20 @@ module _ {H D T : Type 0} {hashes : Hashes H} {g : Ghosts D} {k : Ghosts T}
   -- and all of them are certain
   pub behind_stored : (Left : Text → Type 0) (Stands : List Text → Text → Type 0)
       (stored size : ℕ) (disk later : T) → later ≡ disk → stored ≡ size
-      → IfSome (items_leaves log.items) (λ leaves. (d : Text) → k.may_leave disk d
+      → IfSome (items_leaves log.machine.items) (λ leaves. (d : Text) → k.may_leave disk d
       → HoldsTiles hashes.hash leaves stored d)
       → IfSome (log_leaves log) (λ leaves. IfSome (log_records log) (λ list. (c : Text) → Left c
       → Stands list c → (d : Text) → k.may_leave later d
       → HoldsTiles hashes.hash leaves size d))
   behind_stored Left Stands stored size disk later same is holds =
-      leaves_are hashes.hash (view_of log) (k.contents (log_tiles_disk log)) _ (log_records log)
+      leaves_are hashes.hash (view_of log) (items_places log.machine.items)
+      (k.contents (log_tiles_disk log)) _ (log_records log)
       (λ leaves. IfSome (log_records log) (λ list. (c : Text) → Left c
       → Stands list c → (d : Text) → k.may_leave later d → HoldsTiles hashes.hash leaves size d))
-      log.hashed
+      (log_keeps log)
       (if_some (λ leaves. (d : Text) → k.may_leave disk d → HoldsTiles hashes.hash leaves size d)
-      _ (items_leaves log.items) (λ leaves each. each_some _ (log_records log)
+      _ (items_leaves log.machine.items) (λ leaves each. each_some _ (log_records log)
       (λ list c left stands. subst (λ (at : T). (d : Text) → k.may_leave at d
       → HoldsTiles hashes.hash leaves size d) (sym same) each))
-      (subst (λ (n : ℕ). IfSome (items_leaves log.items) (λ leaves. (d : Text)
+      (subst (λ (n : ℕ). IfSome (items_leaves log.machine.items) (λ leaves. (d : Text)
       → k.may_leave disk d → HoldsTiles hashes.hash leaves n d)) is holds))

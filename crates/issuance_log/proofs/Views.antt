@@ -3,13 +3,17 @@ use Rattle.std.proofs.Common.{◌≡◌, ℕ, ◌+◌, ◌%◌, ◌^◌, ◌<◌
 use Rattle.std.proofs.Common.{[], ◌∷◌, ◌++◌, length, drop, Option, Some, None, option_map, Result}
 use Rattle.std.proofs.Common.{Ok, Err, IfOk, is_ok, refl, ap, sym, ◌∙◌}
 use Rattle.std.specs.Prelude.{if◌then◌else◌, nat_lt}
+use Rattle.std.specs.Result.{result_map_both}
 use Rattle.std.proofs.lemmas.Bool.{and_parts, eq-eqb, le-leb, lt-ltb, ltb-true}
 use Rattle.std.proofs.lemmas.List.{length_push}
 use Rattle.byte_formats.specs.Types.{Text, HashFunction}
 use Rattle.byte_formats.specs.Readings.{◌>>=◌, some_or}
-use Rattle.journal_core.specs.Folds.{Fold, taken_from}
+use Rattle.journal_core.specs.Folds.{Fold, state_behind, taken_from}
 use Rattle.log_entry.specs.Matching.{matches}
-use Rattle.issuance_log.specs.Folds.{LogState, LogView, begun_log, changed, log_fold, next_log}
+use Rattle.state_journal.specs.declared.error.StateOpenError.{StateOpenError}
+use Rattle.state_journal.specs.declared.error.StateOpenError.TheVariants.{BadRecord, Open}
+use Rattle.issuance_log.specs.Folds.{LogState, LogView, begun_log, begun_view, changed, log_fold}
+use Rattle.issuance_log.specs.Folds.{next_log}
 use Rattle.issuance_log.specs.Folds.{next_view, one_item_more, one_mark_more, takes_entry}
 use Rattle.issuance_log.specs.Folds.{takes_landmark, takes_tiles, tiled_to, view_in, with_item}
 use Rattle.issuance_log.specs.Folds.{with_mark, with_tiles}
@@ -17,16 +21,14 @@ use Rattle.issuance_log.specs.Marks.{last_mark}
 use Rattle.issuance_log.specs.Records.{IsShort, entry_record, item_in, landmark_record, mark_in}
 use Rattle.issuance_log.specs.Records.{tiled_in, tiles_record}
 use Rattle.issuance_log.specs.Results.{HasTried}
-use Rattle.issuance_log.specs.declared.error.LogOpenError.{LogOpenError}
-use Rattle.issuance_log.specs.declared.error.LogOpenError.TheVariants.{BadRecord, Open}
 use Rattle.issuance_log.proofs.Behind.{last_follows, last_not}
 use Rattle.issuance_log.proofs.Encoded.{item_again, mark_again, mark_alone, tiled_again}
 use Rattle.issuance_log.proofs.Encoded.{tiles_no_item, tiles_no_mark}
 
 -- what is shown as a kind of journal
-abbrev pub view_fold : HashFunction → Fold LogView LogOpenError
+abbrev pub view_fold : HashFunction → Fold LogView StateOpenError
 view_fold h = record {
-  begins = λ body. option_map view_in (begun_log body);
+  begins = begun_view;
   takes = next_view h;
   bad_record = BadRecord;
   not_read = Open;
@@ -62,25 +64,46 @@ pub views_follow : (h : HashFunction) (s : LogState) (body : Text)
 unfolding next_log next_view
 views_follow h s body = by_parts h s (item_in body) (mark_in body) (tiled_in body)
 
--- records are taken by what is shown exactly where they are taken
-on_each : (h : HashFunction) (k : ℕ) (bodies : List Text) (o : Option LogState)
-    → ((u : LogState) → is_ok (taken_from (view_fold h) (k + 1) (view_in u) bodies)
-    ≡ is_ok (taken_from (log_fold h) (k + 1) u bodies))
-    → is_ok (some_or k (option_map view_in o)
-    >>= λ (v : LogView). taken_from (view_fold h) (k + 1) v bodies)
-    ≡ is_ok (some_or k o >>= λ (u : LogState). taken_from (log_fold h) (k + 1) u bodies)
-on_each h k bodies None rest = refl
-on_each h k bodies (Some u) rest = rest u
+-- ---- records, by what is shown and by what they are
 
+abbrev pub shows : Result LogState ℕ → Result LogView ℕ
+shows = result_map_both view_in (λ k. k)
+
+each_shows : (h : HashFunction) (k : ℕ) (bodies : List Text) (o : Option LogState)
+    → ((s : LogState) → taken_from (view_fold h) (k + 1) (view_in s) bodies
+    ≡ shows (taken_from (log_fold h) (k + 1) s bodies))
+    → (some_or k (option_map view_in o)
+    >>= λ (v : LogView). taken_from (view_fold h) (k + 1) v bodies)
+    ≡ shows (some_or k o >>= λ (s : LogState). taken_from (log_fold h) (k + 1) s bodies)
+each_shows h k bodies None rest = refl
+each_shows h k bodies (Some s) rest = rest s
+
+taken_shows : (h : HashFunction) (k : ℕ) (s : LogState) (bodies : List Text)
+    → taken_from (view_fold h) k (view_in s) bodies ≡ shows (taken_from (log_fold h) k s bodies)
+unfolding taken_from
+taken_shows h k s [] = refl
+taken_shows h k s (body ∷ bodies) =
+    ap (λ (o : Option LogView). some_or k o
+    >>= λ (v : LogView). taken_from (view_fold h) (k + 1) v bodies) (views_follow h s body)
+    ∙ each_shows h k bodies (next_log h s body) (λ u. taken_shows h (k + 1) u bodies)
+
+pub state_shows : (h : HashFunction) (list : List Text)
+    → state_behind (view_fold h) list ≡ shows (state_behind (log_fold h) list)
+unfolding state_behind
+state_shows h [] = refl
+state_shows h (first ∷ bodies) =
+    each_shows h 0 bodies (begun_log first) (λ s. taken_shows h 1 s bodies)
+
+-- they are taken by what is shown exactly where they are taken
 pub views_taken : (h : HashFunction) (k : ℕ) (s : LogState) (bodies : List Text)
     → is_ok (taken_from (view_fold h) k (view_in s) bodies)
     ≡ is_ok (taken_from (log_fold h) k s bodies)
-unfolding taken_from
-views_taken h k s [] = refl
-views_taken h k s (body ∷ bodies) =
-    ap (λ (o : Option LogView). is_ok (some_or k o
-    >>= λ (v : LogView). taken_from (view_fold h) (k + 1) v bodies)) (views_follow h s body)
-    ∙ on_each h k bodies (next_log h s body) (λ u. views_taken h (k + 1) u bodies)
+views_taken h k s bodies =
+    ap is_ok (taken_shows h k s bodies) ∙ still (taken_from (log_fold h) k s bodies)
+  where
+    still : (r : Result LogState ℕ) → is_ok (shows r) ≡ is_ok r
+    still (Ok s) = refl
+    still (Err k) = refl
 
 pub last_tried : {E : Type 0} (h : HashFunction) (wanted : Result LogView ℕ) (k : ℕ)
     (v w : LogView) (bodies : List Text) (i : ℕ) (body : Text) (result : Result Bool E)

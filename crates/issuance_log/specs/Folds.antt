@@ -79,6 +79,10 @@ tiled_to size v = record v { tiled = size }
 unfoldable pub begun_log : Text → Option LogState
 begun_log body = option_map new_log (settings_in body)
 
+-- what it shows over every disk
+abbrev pub begun_view : Text → Option LogView
+begun_view body = option_map view_in (begun_log body)
+
 -- Whether a log that shows this takes an Entry: its key matches, and the log isn't full.
 abbrev pub takes_entry : HashFunction → LogView → Text × Text → Bool
 takes_entry h v x = nat_lt v.size v.settings.limit && matches h x.0 x.1

@@ -1,6 +1,6 @@
 -- What is kept of the items of a log: where each stands in the journal, and the nodes of the tree
 -- over the entries.
-use Rattle.std.specs.Prelude.{◌≡◌, ℕ, ◌+◌, ◌<◌, ◌≤◌, List, ◌++◌, length, map, take, slice_index_or}
+use Rattle.std.specs.Prelude.{◌≡◌, ℕ, ◌+◌, ◌<◌, ◌≤◌, List, ◌++◌, length, map, slice_index_or}
 use Rattle.std.specs.Prelude.{Option, Some, option_map, option_to_list, IfSome, Ok, vec_len}
 use Rattle.std.specs.Prelude.{vec_capacity}
 use Rattle.std.proofs.Props.{props}
@@ -21,19 +21,6 @@ use Rattle.issuance_log.specs.declared.items.Items.{Items}
 abbrev pub AreBelow : List ℕ → ℕ → Type 0
 AreBelow places end = (i : ℕ) → i < length places → slice_index_or places i 0 + 5 ≤ end
 
--- In a journal with these records stand the items of a log that shows this over every disk, each at
--- its place. They may be fewer than the records tell: behind an append that has failed the disk may
--- tell one more.
-pub record StandAt (h : HashFunction) (v : LogView) (places : List ℕ) (list : List Text)
-    : Type 0 where
-  pub within : v.size ≤ length (recorded_items list)
-  pub places_are : places ≡ take v.size (places_of list)
-  pub sound : IsSound h (shown_with v list)
-
-pub StandAt-prop : (h : HashFunction) (v : LogView) (places : List ℕ) (list : List Text)
-    → IsProp (StandAt h v places list)
-StandAt-prop h v places list = hlevel (props, IsSound-prop h (shown_with v list))
-
 -- The lengths of an item are told in two bytes.
 abbrev pub HasShortItem : Option (Text × Text) → Type 0
 HasShortItem item =
@@ -44,13 +31,19 @@ abbrev pub AreHashed : HashFunction → LogView → Option (List Hash) → List 
 AreHashed h v leaves list =
     IfSome leaves (λ hashes. hashes ≡ map (leaf_hash h) (shown_with v list).entries)
 
--- These records make what the log shows, and its items are kept.
+-- These records make what the log shows, and each of its items stands at its place.
 pub record AreKept (h : HashFunction) (v : LogView) (places : List ℕ) (leaves : Option (List Hash))
     (list : List Text) : Type 0 where
   pub made : log_of h list ≡ Ok (shown_with v list)
   pub all : v.size ≡ length (recorded_items list)
-  pub stand : StandAt h v places list
+  pub places_are : places ≡ places_of list
+  pub sound : IsSound h (shown_with v list)
   pub hashed : AreHashed h v leaves list
+
+-- it has one proof at most
+pub AreKept-prop : (h : HashFunction) (v : LogView) (places : List ℕ) (leaves : Option (List Hash))
+    (list : List Text) → IsProp (AreKept h v places leaves list)
+AreKept-prop h v places leaves list = hlevel (props, IsSound-prop h (shown_with v list))
 
 module _ {H T : Type 0} {hashes : Hashes H} {k : Ghosts T} where
   -- The tiles of its nodes.

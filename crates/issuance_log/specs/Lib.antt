@@ -1,10 +1,11 @@
 pub mod Changes
 pub mod Counted
+pub mod Durable
 pub mod Entries
 pub mod Faults
 pub mod Folds
-pub mod Gathered
 pub mod Items
+pub mod Machine
 pub mod Marks
 pub mod Opened
 pub mod Openings

@@ -1,9 +1,9 @@
 -- What the opening of a log answers.
-use Rattle.std.specs.Prelude.{◌≡◌, false, IfSome, Ok}
+use Rattle.std.specs.Prelude.{◌≡◌, false, option_map, IfSome, Ok}
 use Rattle.byte_formats.specs.Types.{HashFunction}
 use Rattle.disk_core.specs.Moments.{OnlyReads}
 use Rattle.disk_core.specs.declared.disk.Disk.{Ghosts}
-use Rattle.journal_core.specs.Format.{Represents, end_behind}
+use Rattle.journal_core.specs.Format.{Represents, end_behind, records_of}
 use Rattle.journal_core.specs.Words.{AllRepresent}
 use Rattle.tree_core.specs.declared.hashing.TreeHash.{Ghosts as Hashes}
 use Rattle.issuance_log.specs.Folds.{log_of}
@@ -26,6 +26,7 @@ module _ {H D T : Type 0} {hashes : Hashes H} {g : Ghosts D} {k : Ghosts T} wher
     pub only_reads_tiles : OnlyReads k file (log_tiles_disk log)
     pub fine : g.faults (log_disk log) ≡ g.faults journal
     pub fine_tiles : k.faults (log_tiles_disk log) ≡ k.faults file
+    pub list : log_records log ≡ option_map records_of (g.contents (log_disk log))
     pub found : IfSome (g.contents journal) (λ b. IfSome (log_records log) (λ list.
         log_read hashes.hash b
         ≡ Ok (record { records = list; state = shown_with (view_of log) list })))

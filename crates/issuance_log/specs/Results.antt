@@ -1,6 +1,6 @@
 -- What a call that takes a record answers, and what it leaves of what the log shows.
-use Rattle.std.specs.Prelude.{◌≡◌, Bool, true, false, Option, Some, None, Result, Ok, Err}
-use Rattle.issuance_log.specs.Folds.{LogView}
+use Rattle.std.specs.Prelude.{◌≡◌, ℕ, ◌≤◌, Bool, true, false, Option, Some, None, Result, Ok, Err}
+use Rattle.issuance_log.specs.Folds.{LogNumbers, LogView}
 use Rattle.issuance_log.specs.declared.error.RecordError.{RecordError}
 use Rattle.issuance_log.specs.declared.error.RecordError.TheVariants.{Unfit, Memory}
 
@@ -9,6 +9,17 @@ abbrev pub LogFinds : {X Y : Type 0} → (X → Y) → Option Y → Result X Rec
 LogFinds view wanted (Ok x) = wanted ≡ Some (view x)
 LogFinds view wanted (Err Unfit) = wanted ≡ None
 LogFinds view wanted (Err Memory) = Unit {0}
+
+-- memory was refused
+abbrev pub IsStarved : {X : Type 0} → Result X RecordError → Type 0
+IsStarved (Ok x) = ⊥
+IsStarved (Err Unfit) = ⊥
+IsStarved (Err Memory) = Unit {0}
+
+-- there is capacity for a landmark, where a record has one
+abbrev pub HasMarkCapacity : LogNumbers → Option ℕ → Type 0
+HasMarkCapacity numbers None = Unit {0}
+HasMarkCapacity numbers (Some size) = 1 ≤ numbers.mark_spare
 
 -- the log shows what was wanted; where there is none, or memory was refused, it shows what it did
 abbrev pub LogTakes : Option LogView → LogView → Result (Unit {0}) RecordError → LogView → Type 0

@@ -9,9 +9,10 @@ use Rattle.tile_store.specs.Store.{tiles_disk}
 use Rattle.tile_store.specs.declared.store.Tiles.{Tiles}
 use Rattle.tree_core.specs.Tree.{leaf_hash}
 use Rattle.tree_core.specs.declared.hashing.TreeHash.{Ghosts as Hashes}
+use Rattle.journal_core.specs.Ends.{durable_records}
 use Rattle.journal_core.specs.Format.{Represents}
 use Rattle.journal_core.specs.Owners.{Owner, OwnerAppends, OwnerHasGrown, owner_over}
-use Rattle.journal_core.specs.Words.{disk_of, end_of, is_broken, records}
+use Rattle.journal_core.specs.Words.{disk_of, end_of, is_broken}
 use Rattle.journal_core.specs.declared.error.AppendError.{AppendError}
 use Rattle.issuance_log.specs.Folds.{LogState, LogView, log_of}
 use Rattle.issuance_log.specs.Items.{items_tiles}
@@ -38,15 +39,16 @@ module _ {H D T : Type 0} {hashes : Hashes H} {g : Ghosts D} {k : Ghosts T} wher
   log_disk log = disk_of log.journal
 
   abbrev pub log_tiles : Log H D T hashes g k → Tiles H T hashes k
-  log_tiles log = items_tiles log.items
+  log_tiles log = items_tiles log.machine.items
 
   -- the disk of the tiles
   abbrev pub log_tiles_disk : Log H D T hashes g k → T
   log_tiles_disk log = tiles_disk (log_tiles log)
 
-  -- the records, where the journal's disk tells its bytes
+  -- The records that make the log, where the journal's disk tells its bytes. Unless an append has
+  -- failed they are all records of its journal.
   abbrev pub log_records : Log H D T hashes g k → Option (List Text)
-  log_records log = records log.journal
+  log_records log = durable_records log.journal
 
   -- the end of its journal
   abbrev pub log_end : Log H D T hashes g k → ℕ
@@ -59,7 +61,7 @@ module _ {H D T : Type 0} {hashes : Hashes H} {g : Ghosts D} {k : Ghosts T} wher
   -- Over every disk: the settings, how many entries there are, the landmarks, and the last size of
   -- the tiles.
   abbrev pub view_of : Log H D T hashes g k → LogView
-  view_of log = log.numbers.view
+  view_of log = log.machine.numbers.view
 
   -- The log as its journal tells it, where it does: what it shows over every disk, with the first
   -- items in the records.

@@ -4,13 +4,13 @@ ghost use Rattle.std.specs.Prelude.{◌≡◌};
 ghost use Rattle.issuance_log.specs.declared.error.LogError.TheVariants.{Append as NotAppended};
 ghost use Rattle.issuance_log.specs.declared.error.LogError.TheVariants.{Failed as LogFailed};
 ghost use Rattle.issuance_log.specs.declared.error.LogError.TheVariants.{Memory as LogMemory};
-ghost use Rattle.issuance_log.specs.declared.error.LogOpenError.TheVariants.{Tile as NotAdopted};
 ghost use Rattle.issuance_log.specs.declared.error.RecordError.TheVariants.{Unfit};
 ghost use Rattle.issuance_log.specs.declared.error.RecordError.TheVariants.{Memory as RecordMemory};
-ghost use Rattle.issuance_log.specs.Faults.{log_id_fault};
+ghost use Rattle.issuance_log.specs.Faults.{log_id_fault, open_refusal};
 
 use journal_core::{AppendError, OpenError};
 use mtc_io::{Failed, Memory};
+use state_journal::StateOpenError;
 use tile_store::TileError;
 use tls_wire::{AnchorBytesError, Short};
 
@@ -22,12 +22,18 @@ pub struct LogRefused<D, T> {
     pub why: LogOpenError,
 }
 
-pub(crate) fn hand_back<D, T>(disk: D, tiles: T, why: LogOpenError) -> LogRefused<D, T>
-    ensures disk { result.disk ≡ disk }
-    ensures tiles { result.tiles ≡ tiles }
-    ensures why { result.why ≡ why }
+/// Why a journal isn't opened as a log's, by why its records aren't read, and why tiles were not
+/// adopted: where a call of their disk failed, the records were read no further.
+pub(crate) fn open_refusal(why: StateOpenError, refusal: Option<TileError>) -> LogOpenError
+    ensures { result ≡ open_refusal why refusal }
 {
-    LogRefused { disk, tiles, why }
+    match (why, refusal) {
+        (StateOpenError::BadRecord(number), _) => LogOpenError::BadRecord(number),
+        (StateOpenError::Open(OpenError::Memory), Some(TileError::Failed)) => {
+            LogOpenError::Tile(TileError::Failed)
+        }
+        (StateOpenError::Open(why), _) => LogOpenError::Open(why),
+    }
 }
 
 /// Why a file is not opened as a log. The records are read and tested one by one, and the first
@@ -84,14 +90,6 @@ impl From<Failed> for LogError {
 
     fn from(_: Failed) -> Self {
         LogError::Failed
-    }
-}
-
-impl From<TileError> for LogOpenError {
-    ghost from_gives = { λ why e. e ≡ NotAdopted why };
-
-    fn from(why: TileError) -> Self {
-        LogOpenError::Tile(why)
     }
 }
 

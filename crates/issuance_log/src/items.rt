@@ -8,10 +8,10 @@ ghost use Rattle.disk_core.specs.Moments.{LeavesOnly, OnlyReads};
 ghost use Rattle.frame_pool.specs.Frames.{HoldsKey};
 ghost use Rattle.frame_pool.specs.declared.key.TileKey.{TileKey as Key};
 ghost use Rattle.mtc_io.specs.Counts.{HasCause};
-ghost use Rattle.tile_store.specs.Causes.{HasCauseOf, IsNewTile, StandsIn};
+ghost use Rattle.tile_store.specs.Causes.{HasCauseOf};
 ghost use Rattle.tile_store.specs.Contents.{HoldsTiles};
 ghost use Rattle.tile_store.specs.Layout.{tiles_end};
-ghost use Rattle.tile_store.specs.Store.{tiles_adopted, tiles_count, tiles_disk, tiles_stored};
+ghost use Rattle.tile_store.specs.Store.{tiles_count, tiles_disk, tiles_stored};
 ghost use Rattle.tile_store.specs.Writing.{IsImageBehind};
 ghost use Rattle.tree_core.specs.Tree.{leaf_hash};
 ghost use Rattle.tree_proofs.specs.Modelled.{IsRootOf};
@@ -43,7 +43,7 @@ impl<H: TreeHash, T: Disk> Items<H, T> {
         requires { (slot : ℕ) (key : Key) → HoldsKey pool slot key → ⊥ }
         ensures places { items_places result ≡ [] }
         ensures disk { tiles_disk (items_tiles result) ≡ disk }
-        ensures adopted { tiles_adopted (items_tiles result) ≡ 0 }
+        ensures stored { tiles_stored (items_tiles result) ≡ 0 }
         ensures leaves { IfSome (items_leaves result) (λ leaves. leaves ≡ []) }
     {
         Items {
@@ -55,11 +55,10 @@ impl<H: TreeHash, T: Disk> Items<H, T> {
     /// Makes room for one item more. The items stay as they were.
     pub(crate) fn reserve(&mut self) -> Result<(), Memory>
         ensures capacity { OnOk result (HasItemCapacity self.new) }
+        ensures full { OnErr result (HasItemCapacity self.old → ⊥) }
         ensures places { items_places self.new ≡ items_places self.old }
         ensures leaves { items_leaves self.new ≡ items_leaves self.old }
         ensures disk { tiles_disk (items_tiles self.new) ≡ tiles_disk (items_tiles self.old) }
-        ensures adopted { tiles_adopted (items_tiles self.new)
-            ≡ tiles_adopted (items_tiles self.old) }
         ensures stored { tiles_stored (items_tiles self.new) ≡ tiles_stored (items_tiles self.old) }
     {
         self.places.reserve(1)?;
@@ -75,8 +74,6 @@ impl<H: TreeHash, T: Disk> Items<H, T> {
         ensures leaves { items_leaves self.new
             ≡ option_map (λ list. list ++ leaf.now ∷ []) (items_leaves self.old) }
         ensures disk { tiles_disk (items_tiles self.new) ≡ tiles_disk (items_tiles self.old) }
-        ensures adopted { tiles_adopted (items_tiles self.new)
-            ≡ tiles_adopted (items_tiles self.old) }
         ensures stored { tiles_stored (items_tiles self.new) ≡ tiles_stored (items_tiles self.old) }
     {
         match self.places.push(place) {
@@ -99,9 +96,9 @@ impl<H: TreeHash, T: Disk> Items<H, T> {
             (λ list. list ++ leaf_hash H.hash entry.now ∷ []) (items_leaves self.old)) }
         ensures places_err { OnErr result (items_places self.new ≡ items_places self.old) }
         ensures leaves_err { OnErr result (items_leaves self.new ≡ items_leaves self.old) }
+        ensures full { OnErr result (HasItemCapacity self.old → ⊥) }
         ensures disk { tiles_disk (items_tiles self.new) ≡ tiles_disk (items_tiles self.old) }
-        ensures adopted { tiles_adopted (items_tiles self.new)
-            ≡ tiles_adopted (items_tiles self.old) }
+        ensures stored { tiles_stored (items_tiles self.new) ≡ tiles_stored (items_tiles self.old) }
     {
         self.reserve()?;
         self.push(place, &leaf::<H>(entry));
@@ -132,13 +129,18 @@ impl<H: TreeHash, T: Disk> Items<H, T> {
         self.nodes.tile_node(level, place)
     }
 
+    /// The tiles that the first so many entries fill were stored or adopted.
+    pub(crate) fn stored(&self) -> u64
+        ensures { result ≡ tiles_stored (items_tiles self.now) }
+    {
+        self.nodes.stored()
+    }
+
     /// Stores the tiles that the first `size` entries fill, as [`Tiles::store`].
     pub(crate) fn store(&mut self, size: u64) -> Result<(), Failed>
         requires { size ≤ length (items_places self.old) }
         ensures places { items_places self.new ≡ items_places self.old }
         ensures leaves { items_leaves self.new ≡ items_leaves self.old }
-        ensures adopted { tiles_adopted (items_tiles self.new)
-            ≡ tiles_adopted (items_tiles self.old) }
         ensures stored { OnOk result (tiles_stored (items_tiles self.new)
             ≡ max size (tiles_stored (items_tiles self.old))) }
         ensures stored_err { OnErr result (tiles_stored (items_tiles self.new)
@@ -170,11 +172,6 @@ impl<H: TreeHash, T: Disk> Items<H, T> {
             (tiles_disk (items_tiles self.new)) }
         ensures stored { OnOk result (tiles_stored (items_tiles self.new)
             ≡ max size (tiles_stored (items_tiles self.old))) }
-        ensures stands { OnOk result
-            (IfSome (T.contents (tiles_disk (items_tiles self.old))) (λ bytes.
-            IfSome (items_leaves self.old) (λ leaves. (level place : ℕ)
-            → IsNewTile (tiles_adopted (items_tiles self.old)) size level place
-            → StandsIn H.hash leaves bytes level place))) }
         ensures fine { OnOk result (T.faults (tiles_disk (items_tiles self.new))
             ≡ T.faults (tiles_disk (items_tiles self.old))) }
         ensures cause { IfErr result (HasCauseOf (items_tiles self.old)

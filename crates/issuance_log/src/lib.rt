@@ -12,10 +12,10 @@
 //! A log keeps the place of each entry in the journal, from which [`Log::entry`] reads it back. It
 //! is the [`Nodes`](tree_proofs::Nodes) of the tree over its entries, in
 //! [`Tiles`](tile_store::Tiles) on a second disk: [`Log::tile`] stores those that are full and then
-//! appends their size, and the next opening adopts them.
+//! appends their size, and the next opening adopts them where it reads that record. So an opening
+//! keeps the nodes over the entries behind the last such record alone.
 #![tactic(auto)]
 
-mod change;
 mod creation;
 mod entries;
 mod error;
@@ -23,10 +23,10 @@ mod following;
 mod items;
 pub mod laws;
 mod log;
+mod machine;
 mod nodes;
 mod numbers;
 mod preparing;
-mod reading;
 mod record;
 mod settings;
 

@@ -1,48 +1,48 @@
 //! A log that is open for more entries.
 
-ghost use Rattle.std.specs.Prelude.{◌≡◌, ◌↔◌, ℕ, ◌≤◌, ◌+◌, ◌*◌, ◌^◌, [], length, true};
-ghost use Rattle.std.specs.Prelude.{false, None, Ok, IfSome, IfOk, IfErr, IsErrOf, OnOk, OnErr};
-ghost use Rattle.std.specs.Prelude.{max};
+ghost use Rattle.std.specs.Prelude.{◌≡◌, ◌↔◌, ℕ, ◌≤◌, ◌+◌, ◌*◌, ◌^◌, List, [], length, true, false};
+ghost use Rattle.std.specs.Prelude.{Some, None, IfSome, IfOk, IfErr, IsErrOf, IsTrue, OnOk, OnErr};
+ghost use Rattle.std.specs.Prelude.{is_some, max};
 ghost use Rattle.std.proofs.Props.{props};
 ghost use Rattle.byte_formats.specs.Types.{Text};
 ghost use Rattle.frame_pool.specs.Frames.{HoldsKey};
 ghost use Rattle.frame_pool.specs.declared.key.TileKey.{TileKey as Key};
-ghost use Rattle.journal_core.specs.Words.{end_of, is_broken, records};
+ghost use Rattle.journal_core.specs.Words.{disk_of, end_of};
 ghost use Rattle.log_entry.specs.Matching.{matches};
 ghost use Rattle.mtc_io.specs.Counts.{HasCause};
 ghost use Rattle.tile_store.specs.Layout.{tiles_end};
 ghost use Rattle.tile_store.specs.Store.{tiles_stored};
 ghost use Rattle.tree_proofs.specs.Modelled.{IsRootOf};
-ghost use Rattle.issuance_log.specs.Changes.{IsReadyFor, IsRecordOf, KeepsToJournal, MakesOfLog};
-ghost use Rattle.issuance_log.specs.Changes.{changed_view};
+ghost use Rattle.issuance_log.specs.Changes.{IsTakenAs, KeepsToJournal};
+ghost use Rattle.issuance_log.specs.Durable.{IsDurableLog, IsDurableLog-prop};
 ghost use Rattle.issuance_log.specs.Entries.{LogCounts};
-ghost use Rattle.issuance_log.specs.Folds.{LogState, log_of, with_item, with_mark, with_tiles};
+ghost use Rattle.issuance_log.specs.Faults.{open_refusal};
+ghost use Rattle.issuance_log.specs.Folds.{LogState, LogView, next_view, with_item, with_mark};
 ghost use Rattle.issuance_log.specs.Folds.{one_item_more, one_mark_more, tiled_to, view_in};
-ghost use Rattle.issuance_log.specs.Items.{AreBelow, AreHashed, StandAt, StandAt-prop};
-ghost use Rattle.issuance_log.specs.Items.{items_leaves, items_places, items_tiles};
+ghost use Rattle.issuance_log.specs.Folds.{with_tiles};
+ghost use Rattle.issuance_log.specs.Items.{AreBelow, items_leaves, items_places, items_tiles};
+ghost use Rattle.issuance_log.specs.Machine.{HasRecordCapacity};
 ghost use Rattle.issuance_log.specs.Marks.{AreRising};
 ghost use Rattle.issuance_log.specs.Records.{entry_record, landmark_record, tiles_record, IsShort};
 ghost use Rattle.issuance_log.specs.Refusals.{add_refusal, ItemKeepsTo, mark_refusal, MarkKeepsTo};
 ghost use Rattle.issuance_log.specs.Refusals.{full_size, tile_refusal, TilesKeepTo};
 ghost use Rattle.issuance_log.specs.Refusals.{append_refusal, item_at, GivesItem};
 ghost use Rattle.issuance_log.specs.Settings.{AreAllowed};
-ghost use Rattle.issuance_log.specs.Shown.{shown_with};
 ghost use Rattle.issuance_log.specs.Sound.{HasSoundNumbers, IsSound};
 
-use crate::change::Change;
 use crate::entries::read_entry;
-use crate::error::{LogError, LogOpenError, LogRefused, hand_back};
-use crate::items::{Items, NULL_ENTRY};
-use crate::numbers::Numbers;
-use crate::preparing::{make_change, prepare_item, prepare_mark, prepare_tiles};
-use crate::reading::read_tiled;
+use crate::error::{LogError, LogOpenError, LogRefused, open_refusal};
+use crate::items::NULL_ENTRY;
+use crate::machine::{LogMachine, TileRest, TileSeed};
+use crate::preparing::{prepare_item, prepare_mark, prepare_tiles};
 use crate::settings::LogSettings;
 use disk_core::Disk;
 use frame_pool::Pool;
-use journal_core::{Journal, Opening, Refused};
+use journal_core::Journal;
 use mtc_io::{Bytes, Failed};
+use state_journal::{StateRefused, append_to, open_state};
 use std::alloc::Global;
-use tree_core::{TreeHash, leaf};
+use tree_core::TreeHash;
 
 /// The entries of a log, each with the key to it, and the sizes at its landmarks, over the journal
 /// of their records; and the nodes of the tree over the entries, of which those in full tiles that
@@ -55,25 +55,41 @@ use tree_core::{TreeHash, leaf};
 /// adopts none hashes no pair.
 ///
 /// So a log shows its numbers over every disk, and its entries where the disk of the journal tells
-/// its bytes. Unless an append has failed, they are what the records on the disk make.
+/// its bytes. They are what its records on the disk make. Where an append has failed, the disk may
+/// hold one record more.
 pub struct Log<H: TreeHash, D: Disk, T: Disk> {
     alloc: Global,
     journal: Journal<D>,
-    numbers: Numbers,
-    items: Items<H, T>,
-    ghost counted: { length (items_places items) ≡ numbers.view.size },
-    ghost stored: { numbers.view.tiled ≤ tiles_stored (items_tiles items) },
-    ghost below: { AreBelow (items_places items) (end_of journal) } by { Prim.hlevel props },
-    ghost agrees: { is_broken journal ≡ false → IfSome (records journal)
-        (λ list. log_of H.TreeHash.hash list
-        ≡ Ok (shown_with numbers.view list)) } by { Prim.hlevel props },
-    ghost stand: { IfSome (records journal)
-        (StandAt H.TreeHash.hash numbers.view (items_places items)) } by { Prim.hlevel (
+    machine: LogMachine<H, T>,
+    ghost counted: { length (items_places machine.items) ≡ machine.numbers.view.size },
+    ghost adopted: { is_some machine.refusal ≡ false },
+    ghost stored: { machine.numbers.view.tiled ≤ tiles_stored (items_tiles machine.items) },
+    ghost below: { AreBelow (items_places machine.items)
+        (end_of journal) } by { Prim.hlevel props },
+    ghost durable: { (b : List ℕ) → D.Disk.contents (disk_of journal) ≡ Some b → IsDurableLog
+        H.TreeHash.hash machine.numbers.view (items_places machine.items)
+        (items_leaves machine.items) (end_of journal) b } by { Prim.hlevel (
           props,
-          StandAt-prop,
+          IsDurableLog-prop,
         ) },
-    ghost hashed: { IfSome (records journal) (AreHashed H.TreeHash.hash numbers.view
-        (items_leaves items)) } by { Prim.hlevel props },
+}
+
+// A log whose records are not read.
+fn not_opened<D, T>(refused: StateRefused<D, TileRest<T>>) -> LogRefused<D, T>
+    ensures disk { result.disk ≡ refused.disk }
+    ensures tiles { result.tiles ≡ refused.rest.disk }
+    ensures why { result.why ≡ open_refusal refused.why refused.rest.refusal }
+{
+    let StateRefused { disk, rest, why } = refused;
+    let TileRest {
+        disk: tiles,
+        refusal,
+    } = rest;
+    LogRefused {
+        disk,
+        tiles,
+        why: open_refusal(why, refusal),
+    }
 }
 
 // A drop in one step: a derived one is proved field by field wherever a value is let go.
@@ -82,8 +98,7 @@ impl<H: TreeHash, D: Disk + Drop, T: Disk + Drop> Drop for Log<H, D, T> {
         let Log {
             alloc: _,
             journal: _,
-            numbers: _,
-            items: _,
+            machine: _,
         } = self;
     }
 }
@@ -97,13 +112,14 @@ impl<H: TreeHash, D: Disk, T: Disk> Log<H, D, T> {
     ghost use Rattle.issuance_log.specs.Words.{KeepsTiles, TilesStandBehind};
 
     /// Opens the log in a journal, with its tiles on a second disk and a pool whose frames hold no
-    /// tile. The records are read and tested one by one, and then the tiles of the last size are
-    /// read back and compared.
+    /// tile. The records are read and tested one by one. At each that has a size of tiles these
+    /// are read back and compared, and the nodes in them are let go; but where one of them is bad,
+    /// no more are compared before the last record.
     ///
-    /// Errors, of which the first that is met is answered: what [`Opening::begin`] and
-    /// [`Opening::next`] refuse, and `BadRecord` at the first record that breaks the rules, or
-    /// where there is none; and then what [`tile_store::Tiles::adopt`] refuses. The disks are
-    /// handed back, and were only looked at.
+    /// Errors: what [`open_state`] refuses, where `BadRecord` comes at the first record that breaks
+    /// the rules, or where there is none; where the disk of the tiles fails, `Tile(Failed)` at
+    /// once; and after the last record the first bad tile. The disks are handed back, and were only
+    /// read.
     pub fn open(
         alloc: Global,
         disk: D,
@@ -115,21 +131,26 @@ impl<H: TreeHash, D: Disk, T: Disk> Log<H, D, T> {
         ensures refused { IfErr result
             (λ e. LogIsNotOpened D.Disk T.Disk H.hash disk e.disk tiles e.tiles e.why) }
     {
-        let mut opening = match Opening::begin(alloc, disk) {
-            Ok(opening) => opening,
-            Err(Refused { disk, why }) => {
-                return Err(hand_back(disk, tiles, LogOpenError::Open(why)));
-            }
+        let seed = TileSeed { disk: tiles, pool };
+        let (journal, mut machine) = match open_state::<LogMachine<H, T>, D>(alloc, disk, seed) {
+            Ok(opened) => opened,
+            Err(refused) => return Err(not_opened(refused)),
         };
-        let mut items = Items::new(alloc, tiles, pool);
-        match read_tiled::<H, D, T>(alloc, &mut opening, &mut items) {
-            Ok(numbers) => Ok(Log {
-                alloc,
-                journal: opening.ready(),
-                numbers,
-                items,
+        let size = machine.numbers.tiled();
+        match machine.items.adopt(size) {
+            Ok(()) => {
+                machine.refusal = None;
+                Ok(Log {
+                    alloc,
+                    journal,
+                    machine,
+                })
+            }
+            Err(why) => Err(LogRefused {
+                disk: journal.into_disk(),
+                tiles: machine.into_disk(),
+                why: LogOpenError::Tile(why),
             }),
-            Err(why) => Err(hand_back(opening.into_disk(), items.into_disk(), why)),
         }
     }
 
@@ -151,9 +172,15 @@ impl<H: TreeHash, D: Disk, T: Disk> Log<H, D, T> {
         ensures answer { ItemKeepsTo (add_refusal (view_of self.old) (log_broken self.old)
             (log_end self.old) entry.now spki.now) result }
     {
-        let index = self.numbers.size();
-        let body = prepare_item(self.alloc, &self.numbers, &mut self.items, entry, spki)?;
-        self.append_record(body.as_slice(), Change::Item(leaf::<H>(entry)), index)
+        let index = self.machine.numbers.size();
+        let body = prepare_item(
+            self.alloc,
+            &self.machine.numbers,
+            &mut self.machine.items,
+            entry,
+            spki,
+        )?;
+        self.append_record(body.as_slice(), index)
     }
 
     /// Sets a landmark at the size of the log, and answers its number, counted from 1, and that
@@ -174,10 +201,10 @@ impl<H: TreeHash, D: Disk, T: Disk> Log<H, D, T> {
         ensures answer { MarkKeepsTo
             (mark_refusal (view_of self.old) (log_broken self.old) (log_end self.old)) result }
     {
-        let body = prepare_mark(self.alloc, &mut self.numbers)?;
-        let size = self.numbers.size();
-        let number = self.numbers.marks().len() as u64 + 1;
-        self.append_record(body.as_slice(), Change::Landmark, (number, size))
+        let body = prepare_mark(self.alloc, &mut self.machine.numbers)?;
+        let size = self.machine.numbers.size();
+        let number = self.machine.numbers.marks().len() as u64 + 1;
+        self.append_record(body.as_slice(), (number, size))
     }
 
     /// Stores the tiles that the entries fill, makes them certain, and then appends the greatest
@@ -208,33 +235,29 @@ impl<H: TreeHash, D: Disk, T: Disk> Log<H, D, T> {
         ensures cause { LogCounts (T.faults (log_tiles_disk self.old))
             (T.faults (log_tiles_disk self.new)) result }
     {
-        let size = self.numbers.full_size();
-        let body = prepare_tiles(self.alloc, &self.numbers)?;
-        self.items.store(size)?;
-        self.append_record(body.as_slice(), Change::Tiles(size), size)
+        let size = self.machine.numbers.full_size();
+        let body = prepare_tiles(self.alloc, &self.machine.numbers)?;
+        self.machine.items.store(size)?;
+        self.append_record(body.as_slice(), size)
     }
 
-    // Appends a record, changes the log by it, and answers `answer`. The change can't fail, so that
-    // the log shows what its journal holds.
-    fn append_record<X: Drop>(
-        &mut self,
-        body: &[u8],
-        change: Change,
-        answer: X,
-    ) -> Result<X, LogError>
-        requires record_is { IsRecordOf H.hash (view_of self.old) body.now change }
-        requires ready { IsReadyFor change self.old.numbers self.old.items }
-        ensures appends { (next : LogState → LogState)
-            → MakesOfLog H.hash (view_of self.old) body.now next
-            → LogAppends body.now (changed_view change) next self.old self.new result }
+    // Appends a record that the log allows and has capacity for, and answers `answer`. No disk but
+    // the journal's is called.
+    fn append_record<X: Drop>(&mut self, body: &[u8], answer: X) -> Result<X, LogError>
+        requires some { 1 ≤ length body.now }
+        requires few { length body.now ≤ 131072 }
+        requires sound { HasSoundNumbers (view_of self.old) }
+        requires allowed { IsTrue (is_some (next_view H.hash (view_of self.old) body.now)) }
+        requires capacity { HasRecordCapacity self.old.machine body.now }
+        ensures appends { (seen : LogView → LogView) (next : LogState → LogState)
+            → IsTakenAs H.hash (view_of self.old) body.now seen next
+            → LogAppends body.now seen next self.old self.new result }
         ensures answer { IfOk result (λ x. x ≡ answer) }
         ensures refusal { KeepsToJournal
             (append_refusal (log_broken self.old) (log_end self.old) body.now) result }
         ensures tiles { log_tiles_disk self.new ≡ log_tiles_disk self.old }
     {
-        let place = self.journal.end() - 1;
-        self.journal.append(body)?;
-        make_change(&mut self.numbers, &mut self.items, place, change);
+        append_to(&mut self.journal, &mut self.machine, body)?;
         Ok(answer)
     }
 
@@ -244,14 +267,14 @@ impl<H: TreeHash, D: Disk, T: Disk> Log<H, D, T> {
         ensures some { 1 ≤ result }
         ensures few { result ≤ (view_of self.now).settings.limit }
     {
-        self.numbers.size()
+        self.machine.numbers.size()
     }
 
     /// The last size of the tiles, 0 where there is none.
     pub fn tiled(&self) -> u64
         ensures { result ≡ (view_of self.now).tiled }
     {
-        self.numbers.tiled()
+        self.machine.numbers.tiled()
     }
 
     /// What holds of every log: the clauses say it, and the call does nothing. Over any disk the
@@ -264,7 +287,7 @@ impl<H: TreeHash, D: Disk, T: Disk> Log<H, D, T> {
         ensures view { IfSome (modelled_state self.now) (λ s. view_in s ≡ view_of self.now) }
         ensures items { IfSome (modelled_state self.now) (IsSound H.hash) }
     {
-        let _ = self.numbers.size();
+        let _ = self.machine.numbers.size();
     }
 
     /// A record that the call of its kind does not refuse keeps to the rules: after the records of
@@ -280,7 +303,7 @@ impl<H: TreeHash, D: Disk, T: Disk> Log<H, D, T> {
             ≡ None → LogWouldTake (tiles_record (full_size (view_of self.now)))
             (with_tiles (full_size (view_of self.now))) self.now }
     {
-        let _ = self.numbers.size();
+        let _ = self.machine.numbers.size();
     }
 
     /// The settings, which never change.
@@ -288,7 +311,7 @@ impl<H: TreeHash, D: Disk, T: Disk> Log<H, D, T> {
         ensures value { result.now ≡ (view_of self.now).settings }
         ensures allowed { AreAllowed result.now.max_active result.now.limit }
     {
-        self.numbers.settings()
+        self.machine.numbers.settings()
     }
 
     /// The sizes at the landmarks, from the first to the last. They rise strictly, and none is
@@ -297,7 +320,7 @@ impl<H: TreeHash, D: Disk, T: Disk> Log<H, D, T> {
         ensures value { result.now ≡ (view_of self.now).marks }
         ensures rising { AreRising 0 (view_of self.now).size result.now }
     {
-        self.numbers.marks()
+        self.machine.numbers.marks()
     }
 
     // The hash of the `2^level` entries from `place * 2^level` on. The journal's disk isn't called.
@@ -310,7 +333,7 @@ impl<H: TreeHash, D: Disk, T: Disk> Log<H, D, T> {
         ensures cause { HasCause (T.faults (log_tiles_disk self.old))
             (T.faults (log_tiles_disk self.new)) result }
     {
-        self.items.node(level, place)
+        self.machine.items.node(level, place)
     }
 
     /// The entry at an index and its key, in the place of what the two byte strings held. It is
@@ -342,7 +365,7 @@ impl<H: TreeHash, D: Disk, T: Disk> Log<H, D, T> {
             entry.append(&NULL_ENTRY)?;
             return Ok(());
         }
-        let place = self.items.place(index);
+        let place = self.machine.items.place(index);
         read_entry(self.alloc, &mut self.journal, place, entry, spki)
     }
 
@@ -354,9 +377,8 @@ impl<H: TreeHash, D: Disk, T: Disk> Log<H, D, T> {
         let Log {
             alloc: _,
             journal,
-            numbers: _,
-            items,
+            machine,
         } = self;
-        (journal.into_disk(), items.into_disk())
+        (journal.into_disk(), machine.into_disk())
     }
 }

@@ -2,14 +2,14 @@
 
 ghost use Rattle.std.specs.Prelude.{◌≡◌, ◌%◌, ◌<◌, ◌≤◌, ◌++◌, [], ◌∷◌, true, false, Some, None};
 ghost use Rattle.std.specs.Prelude.{if◌then◌else◌, nat_lt, not, option_map, option_and_then};
-ghost use Rattle.std.specs.Prelude.{vec_len, vec_capacity, IfOk, IfErr, OnOk};
+ghost use Rattle.std.specs.Prelude.{vec_len, vec_capacity, IfOk, IfErr, OnOk, OnErr};
 ghost use Rattle.issuance_log.specs.Folds.{begun_log, new_log, next_view, one_item_more};
 ghost use Rattle.issuance_log.specs.Folds.{one_mark_more, takes_entry, takes_landmark, takes_tiles};
 ghost use Rattle.issuance_log.specs.Folds.{tiled_to, view_in};
 ghost use Rattle.issuance_log.specs.Marks.{last_mark, AreRising};
-ghost use Rattle.issuance_log.specs.Records.{item_in, tiled_in};
+ghost use Rattle.issuance_log.specs.Records.{item_in, mark_in, tiled_in};
 ghost use Rattle.issuance_log.specs.Refusals.{full_size};
-ghost use Rattle.issuance_log.specs.Results.{LogFinds, LogTakes};
+ghost use Rattle.issuance_log.specs.Results.{HasMarkCapacity, IsStarved, LogFinds, LogTakes};
 ghost use Rattle.issuance_log.specs.Settings.{AreAllowed};
 ghost use Rattle.issuance_log.specs.Sound.{HasSoundNumbers};
 
@@ -78,6 +78,7 @@ impl Numbers {
     pub(crate) fn begin(alloc: Global, body: &[u8]) -> Result<Numbers, RecordError>
         ensures found { LogFinds (λ n. n.view) (option_map view_in (begun_log body.now)) result }
         ensures sound { IfOk result (λ n. HasSoundNumbers n.view) }
+        ensures untiled { IfOk result (λ n. n.view.tiled ≡ 0) }
     {
         let settings = read_settings(alloc, body)?;
         Ok(Numbers::new(alloc, settings))
@@ -86,6 +87,7 @@ impl Numbers {
     /// Those of a new log with these settings. It takes no memory.
     pub(crate) fn new(alloc: Global, settings: LogSettings) -> Numbers
         ensures view { result.view ≡ view_in (new_log settings) }
+        ensures untiled { result.view.tiled ≡ 0 }
         ensures sound { HasSoundNumbers result.view }
     {
         Numbers {
@@ -128,8 +130,9 @@ impl Numbers {
     #[tactic(auto, unfolding(crate::specs::Folds::next_view))]
     pub(crate) fn take_other<H: TreeHash>(&mut self, body: &[u8]) -> Result<(), RecordError>
         requires { item_in body.now ≡ None }
-        ensures { LogTakes (next_view H.hash self.old.view body.now)
+        ensures taken { LogTakes (next_view H.hash self.old.view body.now)
             self.old.view result self.new.view }
+        ensures capacity { HasMarkCapacity self.old (mark_in body.now) → IsStarved result → ⊥ }
     {
         match read_mark(body) {
             Ok(size) => self.take_mark(size),
@@ -139,8 +142,9 @@ impl Numbers {
     }
 
     fn take_mark(&mut self, size: u64) -> Result<(), RecordError>
-        ensures { LogTakes (if takes_landmark self.old.view size
+        ensures taken { LogTakes (if takes_landmark self.old.view size
             then Some (one_mark_more self.old.view) else None) self.old.view result self.new.view }
+        ensures full { IsStarved result → self.old.mark_spare ≡ 0 }
     {
         if size != self.size || size <= self.last_mark() {
             return Err(RecordError::Unfit);
@@ -152,9 +156,10 @@ impl Numbers {
 
     // Takes a record that is neither an Entry nor a Landmark.
     fn take_tiles(&mut self, body: &[u8]) -> Result<(), RecordError>
-        ensures { LogTakes (option_and_then (λ size. if takes_tiles self.old.view size
+        ensures taken { LogTakes (option_and_then (λ size. if takes_tiles self.old.view size
             then Some (tiled_to size self.old.view) else None) (tiled_in body.now))
             self.old.view result self.new.view }
+        ensures sure { IsStarved result → ⊥ }
     {
         let size = read_tiles(body)?;
         if size % TILE != 0 || size <= self.tiled || size > self.size {
@@ -242,6 +247,7 @@ impl Numbers {
     /// Makes room for a landmark. All else stays as it was.
     pub(crate) fn prepare_mark(&mut self) -> Result<(), Memory>
         ensures spare { OnOk result (1 ≤ self.new.mark_spare) }
+        ensures full { OnErr result (self.old.mark_spare ≡ 0) }
         ensures same { self.new.view ≡ self.old.view }
     {
         self.marks.reserve(1)?;

@@ -1,10 +1,8 @@
-//! Around an append to the journal of a log: what is tested and made ready before it, and the
-//! change after it, which can't fail.
+//! What is tested and made ready before a record is appended to the journal of a log.
 
-ghost use Rattle.std.specs.Prelude.{◌≡◌, ℕ, ◌+◌, ◌<◌, ◌≤◌, ◌^◌, ◌++◌, Bool, None, length, map};
-ghost use Rattle.std.specs.Prelude.{option_map, Err, IfOk, IfErr, OnOk};
+ghost use Rattle.std.specs.Prelude.{◌≡◌, ℕ, ◌+◌, ◌<◌, ◌≤◌, Bool, None, length, Err, IfOk, IfErr};
+ghost use Rattle.std.specs.Prelude.{OnOk};
 ghost use Rattle.tile_store.specs.Store.{tiles_disk, tiles_stored};
-ghost use Rattle.issuance_log.specs.Changes.{AllowsChange, IsReadyFor, added_leaves, changed_view};
 ghost use Rattle.issuance_log.specs.Entries.{LogCounts};
 ghost use Rattle.issuance_log.specs.Items.{HasItemCapacity, items_leaves, items_places};
 ghost use Rattle.issuance_log.specs.Items.{items_tiles};
@@ -15,7 +13,6 @@ ghost use Rattle.issuance_log.specs.Refusals.{full_size, tile_refusal, TilesKeep
 ghost use Rattle.issuance_log.specs.Settings.{most_item};
 ghost use Rattle.issuance_log.specs.Words.{of_log_journal};
 
-use crate::change::Change;
 use crate::error::LogError;
 use crate::items::Items;
 use crate::numbers::Numbers;
@@ -96,32 +93,4 @@ pub(crate) fn prepare_tiles(alloc: Global, numbers: &Numbers) -> Result<Bytes, L
     }
     let body = tiles_record(alloc, size)?;
     Ok(body)
-}
-
-/// Makes a change that can't fail. The place is that of the record in the journal.
-pub(crate) fn make_change<H: TreeHash, T: Disk>(
-    numbers: &mut Numbers,
-    items: &mut Items<H, T>,
-    place: u64,
-    change: Change,
-)
-    requires ready { IsReadyFor change numbers.old items.old }
-    requires allowed { AllowsChange change numbers.old.view }
-    requires few { length (items_places items.old) + 1 < 2 ^ 32 }
-    ensures view { numbers.new.view ≡ changed_view change numbers.old.view }
-    ensures places { items_places items.new
-        ≡ items_places items.old ++ map (λ leaf. place) (added_leaves change) }
-    ensures leaves { items_leaves items.new
-        ≡ option_map (λ list. list ++ added_leaves change) (items_leaves items.old) }
-    ensures disk { tiles_disk (items_tiles items.new) ≡ tiles_disk (items_tiles items.old) }
-    ensures stored { tiles_stored (items_tiles items.new) ≡ tiles_stored (items_tiles items.old) }
-{
-    match change {
-        Change::Item(leaf) => {
-            items.push(place, &leaf);
-            numbers.add_item();
-        }
-        Change::Landmark => numbers.push_mark(),
-        Change::Tiles(size) => numbers.set_tiled(size),
-    }
 }

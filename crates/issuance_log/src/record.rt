@@ -1,6 +1,6 @@
 //! The bodies of a log's records.
 
-ghost use Rattle.std.specs.Prelude.{◌≡◌, ◌+◌, ◌<◌, ◌≤◌, length, true, IfOk};
+ghost use Rattle.std.specs.Prelude.{◌≡◌, ◌+◌, ◌<◌, ◌≤◌, length, true, IfOk, IfErr};
 ghost use Rattle.byte_formats.specs.Readings.{Moves};
 ghost use Rattle.issuance_log.specs.Records.{settings_at, entry_at, log_settings_with, settings_in};
 ghost use Rattle.issuance_log.specs.Records.{item_in, mark_in, tiled_in, settings_record, IsShort};
@@ -94,7 +94,8 @@ pub(crate) fn read_settings(alloc: Global, body: &[u8]) -> Result<LogSettings, R
 // The entry and the key in the body of an Entry.
 #[tactic(auto, unfolding(crate::specs::Records::item_in))]
 fn item_in(body: &[u8]) -> Result<(&[u8], &[u8]), RecordError>
-    ensures { LogFinds (λ x. (x.0.now, x.1.now)) (item_in body.now) result }
+    ensures found { LogFinds (λ x. (x.0.now, x.1.now)) (item_in body.now) result }
+    ensures unfit { IfErr result (λ why. why ≡ RecordError.Unfit) }
 {
     let mut cursor = Cursor::new(body);
     if cursor.u8()? != ENTRY {
@@ -112,6 +113,7 @@ pub(crate) fn read_item(body: &[u8]) -> Result<(&[u8], &[u8]), RecordError>
     ensures found { LogFinds (λ x. (x.0.now, x.1.now)) (item_in body.now) result }
     ensures short_entry { IfOk result (λ x. IsShort x.0.now) }
     ensures short_key { IfOk result (λ x. IsShort x.1.now) }
+    ensures unfit { IfErr result (λ why. why ≡ RecordError.Unfit) }
 {
     let item = item_in(body)?;
     Ok(item)
@@ -120,7 +122,8 @@ pub(crate) fn read_item(body: &[u8]) -> Result<(&[u8], &[u8]), RecordError>
 /// The size in the body of a Landmark.
 #[tactic(auto, unfolding(crate::specs::Records::mark_in))]
 pub(crate) fn read_mark(body: &[u8]) -> Result<u64, RecordError>
-    ensures { LogFinds (λ size. size) (mark_in body.now) result }
+    ensures found { LogFinds (λ size. size) (mark_in body.now) result }
+    ensures unfit { IfErr result (λ why. why ≡ RecordError.Unfit) }
 {
     let mut cursor = Cursor::new(body);
     if cursor.u8()? != LANDMARK {
@@ -136,7 +139,8 @@ pub(crate) fn read_mark(body: &[u8]) -> Result<u64, RecordError>
 /// The size in the body of a Tiles.
 #[tactic(auto, unfolding(crate::specs::Records::tiled_in))]
 pub(crate) fn read_tiles(body: &[u8]) -> Result<u64, RecordError>
-    ensures { LogFinds (λ size. size) (tiled_in body.now) result }
+    ensures found { LogFinds (λ size. size) (tiled_in body.now) result }
+    ensures unfit { IfErr result (λ why. why ≡ RecordError.Unfit) }
 {
     let mut cursor = Cursor::new(body);
     if cursor.u8()? != TILES {

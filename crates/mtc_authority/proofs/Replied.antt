@@ -9,10 +9,11 @@ use Rattle.mtc_io.specs.Counts.{Rose}
 use Rattle.tree_core.specs.declared.hashing.TreeHash.{Ghosts as Hashes}
 use Rattle.issuance_log.specs.Folds.{LogState, view_in}
 use Rattle.issuance_log.specs.Shown.{shown_with}
-use Rattle.issuance_log.specs.Words.{LogAsksTiles, LogStays, log_disk, log_records, log_tiles_disk}
+use Rattle.issuance_log.specs.Words.{LogAsksTiles, LogStays, log_disk, log_end, log_records}
+use Rattle.issuance_log.specs.Words.{log_tiles_disk}
 use Rattle.issuance_log.specs.Words.{modelled_by_both, modelled_state, view_of}
 use Rattle.issuance_log.specs.declared.log.Log.{Log}
-use Rattle.journal_core.specs.Format.{records_of}
+use Rattle.journal_core.specs.Ends.{durable_of}
 use Rattle.mtc_command.specs.Answers.{Ending, Reply, no_memory, replied, room_failed, status_of}
 use Rattle.mtc_command.specs.Answers.{tiles_name}
 use Rattle.mtc_command.proofs.Served.{rose_since}
@@ -37,9 +38,12 @@ module _ {H D : Type 0} {hashes : Hashes H} {g : Ghosts D} where
   both_modelled old new is =
       ap (λ v. option_map (shown_with v) (option_and_then (λ (t : Text). log_records new)
       (g.contents (log_tiles_disk new)))) is.view
+      ∙ ap (λ n. option_map (shown_with (view_of old)) (option_and_then
+      (λ (t : Text). option_map (durable_of n) (g.contents (log_disk new)))
+      (g.contents (log_tiles_disk new)))) is.end
       ∙ ap (λ d. option_map (shown_with (view_of old)) (option_and_then
-      (λ (t : Text). option_map records_of (g.contents d)) (g.contents (log_tiles_disk new))))
-      is.disk
+      (λ (t : Text). option_map (durable_of (log_end old)) (g.contents d))
+      (g.contents (log_tiles_disk new)))) is.disk
       ∙ ap (λ o. option_map (shown_with (view_of old)) (option_and_then
       (λ (t : Text). log_records old) o)) is.tiles.contents
 

@@ -1,4 +1,4 @@
-use Rattle.std.proofs.Common.{ap, option_map}
+use Rattle.std.proofs.Common.{ap, option_map, ◌∙◌}
 use Rattle.journal_core.specs.Format.{records_of}
 use Rattle.issuance_log.specs.Folds.{log_fold}
 use Rattle.issuance_log.specs.Shown.{shown_with}
@@ -13,7 +13,7 @@ returns-in-Ok g c =
       sound = opened.sound;
       found = found_modelled (log_fold g.H.TreeHash.hash) (g.D.Disk.contents c.args.disk)
           (log_records c.in-Ok.log) (shown_with (view_of c.in-Ok.log))
-          (ap (option_map records_of) opened.only_reads.contents) opened.found;
+          (opened.list ∙ ap (option_map records_of) opened.only_reads.contents) opened.found;
       valid = opened.valid;
       images = opened.all;
     }

@@ -15,7 +15,8 @@ use Rattle.authority_core.specs.Acceptance.{IsOwnEntry}
 use Rattle.authority_core.specs.Issuing.{entry_for}
 use Rattle.authority_core.specs.Issues.{KeepsToOrMemory, issued_entry, issued_log, issued_record}
 use Rattle.authority_core.specs.Requests.{RequestParts}
-use Rattle.authority_core.proofs.Answered.{not_touched, of_refusal, or_memory}
+use Rattle.issuance_log.proofs.Asked.{not_touched}
+use Rattle.authority_core.proofs.Answered.{of_refusal, or_memory}
 use Rattle.authority_core.proofs.Modelled.{own_modelled}
 use Rattle.authority_core.proofs.issuing.adding.issue.Goals as goal
 

@@ -1,33 +1,49 @@
-use Rattle.std.proofs.Common.{◌≡◌, ◌∙◌, ℕ, IfOk, ap, refl, subst}
+use Rattle.std.proofs.Common.{◌≡◌, ◌∙◌, ℕ, IfOk, ap, arith, refl, subst}
 use Rattle.std.specs.Prelude.{is_some}
 use Rattle.byte_formats.proofs.Values.{err_is}
+use Rattle.state_journal.proofs.Appended.{is_allowed}
 use Rattle.issuance_log.specs.Folds.{one_item_more, with_item}
 use Rattle.issuance_log.specs.Records.{entry_record}
 use Rattle.issuance_log.specs.Refusals.{ItemKeepsTo, add_refusal}
 use Rattle.issuance_log.specs.Words.{log_broken, log_end, view_of}
 use Rattle.issuance_log.proofs.Answering.{added_answer}
-use Rattle.issuance_log.proofs.Changes.{item_makes, item_record}
-use Rattle.issuance_log.proofs.Leaving.{appends_from, appends_not, untouched}
+use Rattle.issuance_log.proofs.Changes.{item_ready, item_record, item_taken_as, stored_by}
+use Rattle.issuance_log.proofs.Leaving.{appends_from, appends_not}
 use Rattle.issuance_log.proofs.log.Log.add.Goals as goal
 
-pub append_record-requires-clause-record_is : goal.append_record-requires-clause-record_is
-append_record-requires-clause-record_is g c =
-    item_record g.H.TreeHash.hash (view_of c.args.self.now) c.args.entry.now c.args.spki.now
-    c.in_ok-body.ensures.size c.in_ok-body.ensures.few c.requires c.as_slice.result.now
-    c.leaf.result c.size-index.ensures.sound (c.as_slice.ensures ∙ c.in_ok-body.ensures.body)
-    c.leaf.ensures
-
-pub append_record-requires-clause-ready : goal.append_record-requires-clause-ready
-append_record-requires-clause-ready g c = c.in_ok-body.ensures.capacity
+pub append_record-requires : goal.append_record-requires
+append_record-requires g c =
+    let log = c.args.self.now in
+    let v = view_of log in
+    let was = log.stored in
+    let stored = c.prepare_item.ensures.stored in
+    let entry = c.args.entry.now in
+    let key = c.args.spki.now in
+    let ready = c.in_ok-body.ensures in
+    let text = c.as_slice.result.now in
+    let text_is = c.as_slice.ensures ∙ ready.body in
+    let few = ready.few in
+    let good =
+    item_record g.H.TreeHash.hash v entry key ready.size ready.few c.requires text text_is in
+    record {
+      some = good.some;
+      few = good.few;
+      sound = c.size-index.ensures.sound;
+      allowed = is_allowed _ _ good.takes;
+      capacity = record {
+        capacity = item_ready log.machine.numbers c.prepare_item.new.items text entry key text_is
+            (omega arith) (omega arith) ready.capacity;
+        stored = stored_by g.H.TreeHash.hash v (one_item_more v) text _ good.takes (omega arith);
+      };
+    }
 
 pub returns-in_err-body-clause-appends : goal.returns-in_err-body-clause-appends
 returns-in_err-body-clause-appends g c =
     let log = c.args.self.now in
     let same = ap (λ disk. is_some (g.T.Disk.contents disk)) c.prepare_item.ensures.disk in
-    appends_not log _ same (entry_record c.args.entry.now c.args.spki.now) one_item_more
+    appends_not log _ refl refl same (entry_record c.args.entry.now c.args.spki.now) one_item_more
     (with_item c.args.entry.now c.args.spki.now) c.from_residual.result c.in_err-body.field-0.0
-    c.from_residual.ensures.1 c.in_err-body.ensures.before refl (g.met.D.Disk.only_now _)
-    (untouched log _ same refl refl refl refl)
+    c.from_residual.ensures.1 c.in_err-body.ensures.before (g.met.D.Disk.only_now _)
 
 pub returns-in_err-body-clause-tiles : goal.returns-in_err-body-clause-tiles
 returns-in_err-body-clause-tiles g c = c.prepare_item.ensures.disk
@@ -45,12 +61,12 @@ returns-clause-appends g c =
     let entry = c.args.entry.now in
     let key = c.args.spki.now in
     let ready = c.in_ok-body.ensures in
-    appends_from log _ _ refl refl
-    (ap (λ disk. is_some (g.T.Disk.contents disk)) c.prepare_item.ensures.disk)
+    appends_from log _ refl refl
+    (ap (λ disk. is_some (g.T.Disk.contents disk)) c.prepare_item.ensures.disk) _
     c.as_slice.result.now (entry_record entry key) one_item_more (with_item entry key) _
     (c.as_slice.ensures ∙ ready.body)
-    (item_makes g.H.TreeHash.hash (view_of log) entry key ready.size ready.few c.requires)
-    (c.append_record.ensures.appends (with_item entry key))
+    (item_taken_as g.H.TreeHash.hash (view_of log) entry key ready.size ready.few c.requires)
+    (c.append_record.ensures.appends one_item_more (with_item entry key))
 
 pub returns-clause-tiles : goal.returns-clause-tiles
 returns-clause-tiles g c = c.append_record.ensures.tiles ∙ c.prepare_item.ensures.disk

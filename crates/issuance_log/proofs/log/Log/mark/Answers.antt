@@ -1,37 +1,48 @@
-use Rattle.std.proofs.Common.{◌≡◌, ◌∙◌, ℕ, ◌+◌, List, length, ap, refl, subst, sym}
+use Rattle.std.proofs.Common.{◌≡◌, ◌∙◌, ℕ, ◌+◌, List, length, ap, arith, refl, subst}
 use Rattle.std.proofs.lemmas.Result.{IfOk-weaker}
 use Rattle.byte_formats.proofs.Values.{err_is}
-use Rattle.issuance_log.specs.Changes.{IsRecordOf}
-use Rattle.issuance_log.specs.Folds.{LogView, one_mark_more, with_mark}
+use Rattle.state_journal.proofs.Appended.{is_allowed}
+use Rattle.issuance_log.specs.Folds.{LogView, next_view, one_mark_more, with_mark}
 use Rattle.issuance_log.specs.Records.{landmark_record}
 use Rattle.issuance_log.specs.Refusals.{MarkKeepsTo, mark_refusal}
 use Rattle.issuance_log.specs.Sound.{HasSoundNumbers}
 use Rattle.issuance_log.specs.Words.{log_broken, log_end, view_of}
-use Rattle.issuance_log.specs.declared.change.Change.TheVariants.{Landmark}
 use Rattle.issuance_log.proofs.Answering.{marked_answer}
-use Rattle.issuance_log.proofs.Changes.{mark_makes, mark_record}
-use Rattle.issuance_log.proofs.Leaving.{appends_from, appends_not, untouched}
+use Rattle.issuance_log.proofs.Changes.{mark_ready, mark_record, mark_taken_as, stored_by}
+use Rattle.issuance_log.proofs.Growth.{size_fits}
+use Rattle.issuance_log.proofs.Leaving.{appends_from, appends_not}
 use Rattle.issuance_log.proofs.log.Log.mark.Goals as goal
 
-pub append_record-requires-clause-record_is : goal.append_record-requires-clause-record_is
-append_record-requires-clause-record_is g c =
-    let h = g.H.TreeHash.hash in
-    let text = c.as_slice.result.now in
+pub append_record-requires : goal.append_record-requires
+append_record-requires g c =
+    let log = c.args.self.now in
+    let v = view_of log in
     let same = c.prepare_mark.ensures.same in
-    subst (λ (v : LogView). IsRecordOf h v text Landmark) (sym same)
-    (mark_record h (view_of c.args.self.now) (subst HasSoundNumbers same c.size-size.ensures.sound)
-    c.in_ok-body.ensures.above text (c.as_slice.ensures ∙ c.in_ok-body.ensures.body))
-
-pub append_record-requires-clause-ready : goal.append_record-requires-clause-ready
-append_record-requires-clause-ready g c = c.in_ok-body.ensures.capacity
+    let sound = subst HasSoundNumbers same c.size-size.ensures.sound in
+    let text = c.as_slice.result.now in
+    let text_is = c.as_slice.ensures ∙ c.in_ok-body.ensures.body in
+    let small = size_fits v sound in
+    let good =
+    mark_record g.H.TreeHash.hash v sound c.in_ok-body.ensures.above text text_is in
+    let takes = ap (λ (u : LogView). next_view g.H.TreeHash.hash u text) same ∙ good.takes in
+    record {
+      some = good.some;
+      few = good.few;
+      sound = c.size-size.ensures.sound;
+      allowed = is_allowed _ _ takes;
+      capacity = record {
+        capacity = mark_ready c.prepare_mark.new.numbers log.machine.items text v.size text_is
+            (omega arith) c.in_ok-body.ensures.capacity;
+        stored = stored_by g.H.TreeHash.hash _ (one_mark_more v) text _ takes log.stored;
+      };
+    }
 
 pub returns-in_err-body-clause-appends : goal.returns-in_err-body-clause-appends
 returns-in_err-body-clause-appends g c =
     let log = c.args.self.now in
-    appends_not log _ refl (landmark_record (view_of log).size) one_mark_more with_mark
-    c.from_residual.result c.in_err-body.field-0.0 c.from_residual.ensures.1
-    c.in_err-body.ensures.before refl (g.met.D.Disk.only_now _)
-    (untouched log _ refl c.prepare_mark.ensures.same refl refl refl)
+    appends_not log _ refl c.prepare_mark.ensures.same refl (landmark_record (view_of log).size)
+    one_mark_more with_mark c.from_residual.result c.in_err-body.field-0.0
+    c.from_residual.ensures.1 c.in_err-body.ensures.before (g.met.D.Disk.only_now _)
 
 pub returns-in_err-body-clause-answer : goal.returns-in_err-body-clause-answer
 returns-in_err-body-clause-answer g c =
@@ -45,10 +56,10 @@ returns-clause-appends g c =
     let log = c.args.self.now in
     let h = g.H.TreeHash.hash in
     let same = c.prepare_mark.ensures.same in
-    appends_from log _ _ refl same refl c.as_slice.result.now (landmark_record (view_of log).size)
+    appends_from log _ refl same refl _ c.as_slice.result.now (landmark_record (view_of log).size)
     one_mark_more with_mark _ (c.as_slice.ensures ∙ c.in_ok-body.ensures.body)
-    (mark_makes h (view_of log) (subst HasSoundNumbers same c.size-size.ensures.sound)
-    c.in_ok-body.ensures.above) (c.append_record.ensures.appends with_mark)
+    (mark_taken_as h (view_of log) (subst HasSoundNumbers same c.size-size.ensures.sound)
+    c.in_ok-body.ensures.above) (c.append_record.ensures.appends one_mark_more with_mark)
 
 pub returns-clause-tiles : goal.returns-clause-tiles
 returns-clause-tiles g c = c.append_record.ensures.tiles

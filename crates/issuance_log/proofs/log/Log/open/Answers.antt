@@ -1,131 +1,140 @@
-use Rattle.std.proofs.Common.{ℕ, IfSome, Ok, [], option_map, ap, refl, subst, sym, ◌∙◌, ◌≡◌}
-use Rattle.disk_core.proofs.Moments.{only_read_on, nothing_read}
-use Rattle.disk_core.specs.Moments.{OnlyReads}
-use Rattle.journal_core.proofs.FoldSteps.{cause_begin}
-use Rattle.journal_core.specs.Format.{Represents}
-use Rattle.journal_core.specs.Openings.{opening_disk, read_list}
-use Rattle.journal_core.specs.Words.{is_broken, records}
+use Rattle.std.proofs.Common.{◌≡◌, ◌%◌, List, None, Ok, ℕ, ap, arith, length, refl, subst, sym, ◌∙◌}
+use Rattle.std.specs.Prelude.{IfSome, option_map}
+use Rattle.std.proofs.lemmas.Option.{IfSome_then}
+use Rattle.disk_core.proofs.Moments.{only_read_on}
+use Rattle.journal_core.specs.Ends.{durable_of, durable_records}
+use Rattle.journal_core.specs.Words.{disk_of, end_of}
+use Rattle.tile_store.specs.Causes.{HasCauseOf}
+use Rattle.tile_store.specs.Sound.{leaves_with}
 use Rattle.tile_store.specs.Store.{tiles_disk}
-use Rattle.issuance_log.specs.Folds.{log_fold}
-use Rattle.issuance_log.specs.Items.{AreBelow, AreKept, items_leaves, items_places, items_tiles}
-use Rattle.issuance_log.specs.Openings.{HasItsTiles, HasOpenCause, TilesCountNoOther, log_read}
+use Rattle.tile_store.proofs.Bad.{all-stand, bad-of-all}
+use Rattle.issuance_log.specs.Counted.{kept_in}
+use Rattle.issuance_log.specs.Items.{AreBelow, items_leaves, items_places}
+use Rattle.issuance_log.specs.Openings.{HasItsTiles, IsBadTile, log_read}
 use Rattle.issuance_log.specs.Shown.{shown_with}
-use Rattle.issuance_log.specs.declared.error.LogOpenError.TheVariants.{Open}
-use Rattle.issuance_log.proofs.Adopting.{if_shown, open_later}
-use Rattle.issuance_log.proofs.Appending.{made_of, modelled_of}
+use Rattle.issuance_log.proofs.Opening.{bad_so, durable_as, found_so, refused_so, tile_refused}
+use Rattle.issuance_log.proofs.Opening.{tiles_so, tiles_there}
 use Rattle.issuance_log.proofs.log.Log.open.Goals as goal
+
+pub adopt-requires : goal.adopt-requires
+adopt-requires g c =
+    let sound = c.tiled-size.ensures.sound in
+    let within = sound.tiled in
+    let value = c.tiled-size.ensures.value in
+    let counted = c.in-Ok.ensures.made.within.counted in
+    record {
+      multiple = ap (λ (n : ℕ). n % 256) value ∙ sound.multiple;
+      within = omega arith;
+    }
 
 pub invariant_of-result : goal.invariant_of-result
 invariant_of-result g c =
-    let v = c.in-Ok-read_tiled.numbers.view in
-    let items = c.read_tiled.new.items in
+    let journal = c.in-Ok.opened.0 in
+    let it = c.in-Ok.opened.1 in
+    let made = c.in-Ok.ensures.made in
+    let adopted = c.adopt.ensures in
+    let begun = journal.begun in
+    let value = c.tiled-size.ensures.value in
+    let stored = c.in-Ok-adopt.ensures.stored in
+    record {
+      counted = ap (λ (l : List ℕ). length l) adopted.places ∙ made.within.counted;
+      adopted = refl;
+      stored = omega arith;
+      below = subst (λ (l : List ℕ). AreBelow l (end_of journal)) (sym adopted.places)
+          (subst (AreBelow (items_places it.items)) (omega arith) made.within.below);
+      durable = λ b contents.
+          let is = made.durable b contents in
+          durable_as g.H.TreeHash.hash it.numbers.view _ _ _ _ (end_of journal) b adopted.places
+          adopted.leaves is.durable is.holds.keeps;
+    }
+
+pub returns-in-Ok-adopt-clause-opened : goal.returns-in-Ok-adopt-clause-opened
+returns-in-Ok-adopt-clause-opened g c =
+    let h = g.H.TreeHash.hash in
+    let journal = c.in-Ok.opened.0 in
+    let it = c.in-Ok.opened.1 in
+    let v = it.numbers.view in
+    let items = c.adopt.new.self in
     let places = items_places items in
     let leaves = items_leaves items in
-    let found = c.in-Ok-read_tiled.ensures.found in
-    let journal = c.ready.result in
-    let contents =
-    modelled_of g.H.TreeHash.hash v places leaves (is_broken journal) (records journal)
-    (subst (λ o. IfSome o (AreKept g.H.TreeHash.hash v places leaves)) (sym c.ready.ensures.list)
-    found.kept) in
+    let tiles = items.nodes in
+    let opened = c.in-Ok.ensures.opened in
+    let made = c.in-Ok.ensures.made in
+    let adopted = c.adopt.ensures in
+    let left = c.in-Ok.ensures.rest (record { disk = c.args.tiles; refusal = None })
+    (tiles_there g.T.Disk c.args.tiles (g.met.T.Disk.only_now c.args.tiles)) in
+    let value = c.tiled-size.ensures.value in
+    let stored = c.in-Ok-adopt.ensures.stored in
+    let told = g.D.Disk.contents (disk_of journal) in
+    let only_reads =
+    only_read_on g.T.Disk c.args.tiles (tiles_disk it.items.nodes) (tiles_disk tiles)
+    left.only_reads adopted.only_reads in
+    let kept = kept_in h v places leaves (end_of journal) told (λ b contents.
+    let is = made.durable b contents in
+    durable_as h v _ _ _ _ (end_of journal) b adopted.places adopted.leaves is.durable
+    is.holds.keeps) in
     record {
-      counted = found.counted;
-      stored = c.in-Ok-read_tiled.ensures.stored;
-      below = subst (λ (n : ℕ). AreBelow places n) (sym c.ready.ensures.place) found.below;
-      agrees = contents.agrees;
-      stand = contents.stand;
-      hashed = contents.hashed;
+      sound = opened.sound;
+      only_reads = opened.only_reads;
+      only_reads_tiles = only_reads;
+      fine = opened.fine;
+      fine_tiles = c.in-Ok-adopt.ensures.fine ∙ left.fine;
+      list = opened.list;
+      found = subst (λ t. IfSome t (λ b. IfSome (durable_records journal) (λ list. log_read h b
+          ≡ Ok (record { records = list; state = shown_with v list })))) opened.only_reads.contents
+          (found_so h v places (durable_of (end_of journal)) leaves told opened.stands kept);
+      valid = IfSome_then (durable_records journal) kept (λ list is. is.made);
+      tiles = subst (λ t. IfSome (option_map (shown_with v) (durable_records journal)) (λ s.
+          IfSome t (HasItsTiles h s))) only_reads.contents
+          (tiles_so h v places (durable_of (end_of journal)) (leaves_with tiles.adopted tiles.rows)
+          told (g.T.Disk.contents (tiles_disk tiles)) kept
+          (all-stand tiles v.tiled (omega arith)));
+      stands = opened.stands;
+      all = opened.all;
+      end = opened.end;
     }
 
-pub read_tiled-requires : goal.read_tiled-requires
-read_tiled-requires g c =
-    let begun = c.in-Ok.ensures.ok in
-    let items = c.new-items.ensures in
-    record {
-      list = begun.list ∙ ap (λ o. option_map (λ _. []) o) (sym begun.only_reads.contents);
-      place = begun.place;
-      goes_on = begun.goes_on;
-      none = items.places;
-      no_leaves = items.leaves;
-      unadopted = items.adopted;
-    }
-
-pub returns-in-Ok-read_tiled-clause-opened : goal.returns-in-Ok-read_tiled-clause-opened
-returns-in-Ok-read_tiled-clause-opened g c =
+pub returns-in-Err-adopt-clause-refused : goal.returns-in-Err-adopt-clause-refused
+returns-in-Err-adopt-clause-refused g c =
     let h = g.H.TreeHash.hash in
-    let v = c.in-Ok-read_tiled.numbers.view in
-    let items = c.read_tiled.new.items in
-    let list = read_list c.read_tiled.new.opening in
-    let read = opening_disk c.read_tiled.new.opening in
-    let later = records c.ready.result in
-    let begun = c.in-Ok.ensures.ok in
-    let found = c.in-Ok-read_tiled.ensures.found in
-    let ready = c.ready.ensures in
-    record {
-      sound = ready.sound;
-      only_reads = subst (λ disk. OnlyReads g.D.Disk c.args.disk disk) (sym ready.disk)
-          (only_read_on g.D.Disk c.args.disk (opening_disk c.in-Ok.opening) read begun.only_reads
-          c.read_tiled.ensures.only_reads);
-      only_reads_tiles = subst (λ disk. OnlyReads g.T.Disk disk (tiles_disk (items_tiles items)))
-          c.new-items.ensures.disk c.read_tiled.ensures.only_reads_tiles;
-      fine = ap (λ disk. g.D.Disk.faults disk) ready.disk ∙ c.in-Ok-read_tiled.ensures.fine
-          ∙ begun.fine;
-      fine_tiles = c.in-Ok-read_tiled.ensures.fine_tiles
-          ∙ ap (λ disk. g.T.Disk.faults disk) c.new-items.ensures.disk;
-      found = subst (λ contents. IfSome contents (λ b. IfSome later (λ l. log_read h b
-          ≡ Ok (record { records = l; state = shown_with v l }))))
-          (c.read_tiled.ensures.only_reads.contents ∙ begun.only_reads.contents)
-          (subst (λ o. IfSome (g.D.Disk.contents read) (λ b. IfSome o (λ l. log_read h b
-          ≡ Ok (record { records = l; state = shown_with v l })))) (sym ready.list) found.found);
-      valid = made_of h v (items_places items) (items_leaves items) later
-          (subst (λ o. IfSome o (AreKept h v (items_places items) (items_leaves items)))
-          (sym ready.list) found.kept);
-      tiles = if_shown v (λ s. IfSome (g.T.Disk.contents c.args.tiles) (HasItsTiles h s)) list later
-          ready.list (subst (λ disk. IfSome list (λ l. IfSome (g.T.Disk.contents disk)
-          (HasItsTiles h (shown_with v l)))) c.new-items.ensures.disk
-          c.in-Ok-read_tiled.ensures.tiles);
-      stands = subst (λ disk. IfSome (g.D.Disk.contents disk) (λ b. IfSome later (Represents b)))
-          (sym ready.disk) (subst (λ o. IfSome (g.D.Disk.contents read) (λ b.
-          IfSome o (Represents b))) (sym ready.list) found.stands);
-      all = ready.all;
-      end = ready.end;
-    }
-
-pub returns-in-Err-read_tiled-clause-refused : goal.returns-in-Err-read_tiled-clause-refused
-returns-in-Err-read_tiled-clause-refused g c =
-    let h = g.H.TreeHash.hash in
-    let begun = opening_disk c.in-Ok.opening in
-    let read = opening_disk c.read_tiled.new.opening in
-    let later = tiles_disk (items_tiles c.read_tiled.new.items) in
-    let why = c.in-Err-read_tiled.why in
-    let ok = c.in-Ok.ensures.ok in
-    let was = c.new-items.ensures.disk in
-    rw (
-      c.hand_back-in-Err-read_tiled.ensures.disk,
-      c.into_disk.ensures,
-      c.hand_back-in-Err-read_tiled.ensures.tiles,
-      c.into_disk-in-Err-read_tiled.ensures,
-      c.hand_back-in-Err-read_tiled.ensures.why,
-    )
-    (record {
-      only_reads = only_read_on g.D.Disk c.args.disk begun read ok.only_reads
-          c.read_tiled.ensures.only_reads;
-      only_reads_tiles = subst (λ disk. OnlyReads g.T.Disk disk later) was
-          c.read_tiled.ensures.only_reads_tiles;
-      cause = open_later g.D.Disk g.T.Disk h c.args.disk begun read c.args.tiles later why
-          ok.only_reads (subst (λ disk. HasOpenCause g.D.Disk g.T.Disk h begun read disk later why)
-          was c.in-Err-read_tiled.ensures.err);
-      fine = λ other. c.in-Err-read_tiled.ensures.fine_err other ∙ ok.fine;
-      fine_tiles = subst (λ disk. TilesCountNoOther g.T.Disk disk later why) was
-          c.in-Err-read_tiled.ensures.fine_tiles_err;
-    })
+    let journal = c.in-Ok.opened.0 in
+    let it = c.in-Ok.opened.1 in
+    let v = it.numbers.view in
+    let places = items_places it.items in
+    let leaves = items_leaves it.items in
+    let tiles = it.items.nodes in
+    let opened = c.in-Ok.ensures.opened in
+    let made = c.in-Ok.ensures.made in
+    let left = c.in-Ok.ensures.rest (record { disk = c.args.tiles; refusal = None })
+    (tiles_there g.T.Disk c.args.tiles (g.met.T.Disk.only_now c.args.tiles)) in
+    let sound = c.tiled-size.ensures.sound in
+    let fits = sound.allowed.few in
+    let few = sound.few in
+    let within = sound.tiled in
+    let told = g.D.Disk.contents (disk_of journal) in
+    let kept = kept_in h v places leaves (end_of journal) told (λ b contents.
+    let is = made.durable b contents in record { durable = is.durable; kept = is.holds.keeps }) in
+    rw (c.into_disk.ensures, c.into_disk-in-Err-adopt.ensures) (tile_refused g.D.Disk c.args.disk
+    (disk_of journal) (record { disk = c.args.tiles; refusal = None }) tiles it.refusal
+    (tiles_disk c.adopt.new.self.nodes) c.tiled-size.result c.in-Err-adopt.why opened.only_reads
+    opened.fine left c.adopt.ensures.only_reads c.in-Err-adopt.ensures.cause (λ level place bad.
+    subst (λ t. IfSome t (λ b. IfSome (g.T.Disk.contents c.args.tiles) (λ bytes.
+    IsBadTile h b bytes level place))) opened.only_reads.contents
+    (subst (λ t. IfSome told (λ b. IfSome t (λ bytes. IsBadTile h b bytes level place)))
+    left.only_reads.contents
+    (bad_so h v places (durable_of (end_of journal)) (leaves_with tiles.adopted tiles.rows) told
+    (g.T.Disk.contents (tiles_disk tiles)) c.tiled-size.result level place c.tiled-size.ensures.value
+    (omega arith) kept
+    (found_so h v places (durable_of (end_of journal)) leaves told opened.stands kept)
+    (bad-of-all tiles c.tiled-size.result level place
+    (subst (HasCauseOf tiles (tiles_disk c.adopt.new.self.nodes) c.tiled-size.result) bad
+    c.in-Err-adopt.ensures.cause).1)))))
 
 pub returns-in-Err-clause-refused : goal.returns-in-Err-clause-refused
 returns-in-Err-clause-refused g c =
-    rw (c.hand_back.ensures.disk, c.hand_back.ensures.tiles, c.hand_back.ensures.why) (record {
-      only_reads = c.in-Err.ensures.only_reads;
-      only_reads_tiles = nothing_read g.T.Disk c.args.tiles (g.met.T.Disk.only_now _);
-      cause = cause_begin g.D.Disk (log_fold g.H.TreeHash.hash) c.args.disk c.in-Err.field-0.disk
-          c.in-Err.field-0.why c.in-Err.ensures.reason c.in-Err.ensures.kind;
-      fine = λ other. c.in-Err.ensures.fine (λ is. other (ap Open is));
-      fine_tiles = λ other. refl;
-    })
+    let e = c.in-Err.refused in
+    rw (c.not_opened.ensures.disk, c.not_opened.ensures.tiles, c.not_opened.ensures.why)
+    (refused_so g.D.Disk g.T.Disk g.H.TreeHash.hash c.args.disk e.disk
+    (record { disk = c.args.tiles; refusal = None }) e.rest e.why c.in-Err.ensures.err
+    (c.in-Err.ensures.rest (record { disk = c.args.tiles; refusal = None })
+    (tiles_there g.T.Disk c.args.tiles (g.met.T.Disk.only_now c.args.tiles))))

@@ -1,5 +1,6 @@
 use Rattle.std.proofs.Common.{◌≡◌, ◌∙◌, ℕ, IfOk, ap, arith, refl, subst}
 use Rattle.byte_formats.proofs.Values.{err_is}
+use Rattle.state_journal.proofs.Appended.{is_allowed}
 use Rattle.issuance_log.specs.Entries.{LogCounts}
 use Rattle.issuance_log.specs.Folds.{tiled_to, with_tiles}
 use Rattle.issuance_log.specs.Records.{tiles_record}
@@ -7,10 +8,10 @@ use Rattle.issuance_log.specs.Refusals.{TilesKeepTo, full_size, tile_refusal}
 use Rattle.issuance_log.specs.Words.{log_broken, log_end, log_tiles_disk, view_of}
 use Rattle.issuance_log.specs.declared.error.LogError.TheVariants.{Failed}
 use Rattle.issuance_log.proofs.Answering.{counts_none, tiled_answer, tiles_not_old}
-use Rattle.issuance_log.proofs.Appending.{some_modelled}
-use Rattle.issuance_log.proofs.Changes.{tiles_make, tiles_record_of}
+use Rattle.issuance_log.proofs.Telling.{some_modelled}
+use Rattle.issuance_log.proofs.Changes.{stored_by, tiles_ready, tiles_record_of, tiles_taken_as}
 use Rattle.issuance_log.proofs.Growth.{size_fits}
-use Rattle.issuance_log.proofs.Leaving.{appends_from, appends_not, tiled_as, untouched}
+use Rattle.issuance_log.proofs.Leaving.{appends_from, appends_not}
 use Rattle.issuance_log.proofs.Tiling.{behind_none, behind_stored, keeps_still, keeps_stored}
 use Rattle.issuance_log.proofs.Tiling.{reach_to}
 use Rattle.issuance_log.proofs.log.Log.tile.Goals as goal
@@ -21,23 +22,38 @@ store-requires g c =
     let size = c.full_size-size.ensures.value in
     omega arith
 
-pub append_record-requires-clause-record_is : goal.append_record-requires-clause-record_is
-append_record-requires-clause-record_is g c =
+pub append_record-requires : goal.append_record-requires
+append_record-requires g c =
+    let it = c.args.self.now.machine in
     let v = view_of c.args.self.now in
     let sound = c.full_size-size.ensures.sound in
     let small = size_fits v sound in
+    let text = c.as_slice.result.now in
+    let text_is = c.as_slice.ensures ∙ c.in_ok-body.ensures.body in
+    let value = c.full_size-size.ensures.value in
+    let stored = c.in_ok-store.ensures.stored in
+    let good =
     tiles_record_of g.H.TreeHash.hash v (full_size v) (omega arith) (omega arith)
-    c.in_ok-body.ensures.above (omega arith) c.as_slice.result.now c.full_size-size.result sound
-    (c.as_slice.ensures ∙ c.in_ok-body.ensures.body) c.full_size-size.ensures.value
+    c.in_ok-body.ensures.above (omega arith) text text_is in
+    record {
+      some = good.some;
+      few = good.few;
+      sound = sound;
+      allowed = is_allowed _ _ good.takes;
+      capacity = record {
+        capacity = tiles_ready it.numbers c.store.new.self text (full_size v) text_is;
+        stored = stored_by g.H.TreeHash.hash v (tiled_to (full_size v) v) text _ good.takes
+            (omega arith);
+      };
+    }
 
 pub returns-in_err-body-clause-appends : goal.returns-in_err-body-clause-appends
 returns-in_err-body-clause-appends g c =
     let log = c.args.self.now in
     let size = full_size (view_of log) in
-    appends_not log log refl (tiles_record size) (tiled_to size) (with_tiles size)
+    appends_not log log refl refl refl (tiles_record size) (tiled_to size) (with_tiles size)
     c.from_residual.result c.in_err-body.field-0.0 c.from_residual.ensures.1
-    c.in_err-body.ensures.before refl (g.met.D.Disk.only_now _)
-    (untouched log log refl refl refl refl refl)
+    c.in_err-body.ensures.before (g.met.D.Disk.only_now _)
 
 pub returns-in_err-body-clause-answer : goal.returns-in_err-body-clause-answer
 returns-in_err-body-clause-answer g c =
@@ -64,11 +80,11 @@ pub returns-in_err-store-clause-appends : goal.returns-in_err-store-clause-appen
 returns-in_err-store-clause-appends g c =
     let log = c.args.self.now in
     let size = full_size (view_of log) in
-    let same =
-    some_modelled _ _ (g.T.Disk.contents (log_tiles_disk log)) _ c.store.ensures.leaves in
-    appends_not log _ same (tiles_record size) (tiled_to size) (with_tiles size)
-    c.from_residual-in_err-store.result Failed c.from_residual-in_err-store.ensures.1 refl refl
-    (g.met.D.Disk.only_now _) (untouched log _ same refl refl refl refl)
+    appends_not log _ refl refl
+    (some_modelled _ _ (g.T.Disk.contents (log_tiles_disk log)) _ c.store.ensures.leaves)
+    (tiles_record size) (tiled_to size) (with_tiles size)
+    c.from_residual-in_err-store.result Failed c.from_residual-in_err-store.ensures.1 refl
+    (g.met.D.Disk.only_now _)
 
 pub returns-in_err-store-clause-answer : goal.returns-in_err-store-clause-answer
 returns-in_err-store-clause-answer g c =
@@ -102,13 +118,12 @@ returns-clause-appends g c =
     let v = view_of log in
     let size = full_size v in
     let small = size_fits v c.full_size-size.ensures.sound in
-    tiled_as log _ (tiles_record size) _ size (with_tiles size) _ c.full_size-size.ensures.value
-    (appends_from log _ _ refl refl
-    (some_modelled _ _ (g.T.Disk.contents (log_tiles_disk log)) _ c.store.ensures.leaves)
-    c.as_slice.result.now (tiles_record size) (tiled_to c.full_size-size.result) (with_tiles size) _
+    appends_from log _ refl refl
+    (some_modelled _ _ (g.T.Disk.contents (log_tiles_disk log)) _ c.store.ensures.leaves) _
+    c.as_slice.result.now (tiles_record size) (tiled_to size) (with_tiles size) _
     (c.as_slice.ensures ∙ c.in_ok-body.ensures.body)
-    (tiles_make g.H.TreeHash.hash v size (omega arith) (omega arith) c.in_ok-body.ensures.above
-    (omega arith)) (c.append_record.ensures.appends (with_tiles size)))
+    (tiles_taken_as g.H.TreeHash.hash v size (omega arith) (omega arith) c.in_ok-body.ensures.above
+    (omega arith)) (c.append_record.ensures.appends (tiled_to size) (with_tiles size))
 
 pub returns-clause-size : goal.returns-clause-size
 returns-clause-size g c = subst (λ (n : ℕ). IfOk c.append_record.result (λ size. size ≡ n))
