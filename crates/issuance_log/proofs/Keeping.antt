@@ -1,5 +1,5 @@
 -- A record more of a journal that is read, as a log keeps it.
-use Rattle.std.proofs.Common.{◌≡◌, ℕ, ◌<◌, ◌≤◌, List, [], ◌∷◌, ◌++◌, length, take, Option}
+use Rattle.std.proofs.Common.{◌≡◌, ℕ, ◌<◌, ◌≤◌, List, [], ◌∷◌, ◌++◌, length, Option}
 use Rattle.std.proofs.Common.{Some, None, IfSome, option_map, Ok, refl, ap, sym, subst, ◌∙◌, arith}
 use Rattle.std.proofs.Common.{◌%◌, ◌==◌, ◌&&◌, nat_le, nat_lt}
 use Rattle.std.specs.Prelude.{map, option_to_list}
@@ -17,7 +17,7 @@ use Rattle.issuance_log.specs.Folds.{next_log, next_view, null_entry, takes_entr
 use Rattle.issuance_log.specs.Folds.{takes_landmark, takes_tiles, view_in, with_item, with_mark}
 use Rattle.issuance_log.specs.Items.{AreKept, HasShortItem}
 use Rattle.issuance_log.specs.Marks.{last_mark}
-use Rattle.issuance_log.specs.Places.{places_behind, places_of}
+use Rattle.issuance_log.specs.Places.{places_behind}
 use Rattle.issuance_log.specs.Records.{item_in, mark_in, settings_in, tiled_in}
 use Rattle.issuance_log.specs.Settings.{Settings}
 use Rattle.issuance_log.specs.Shown.{recorded_items, shown_with}

@@ -1,5 +1,5 @@
 -- A journal that was opened with the machine of a log, or refused.
-use Rattle.std.proofs.Common.{◌≡◌, ◌≢◌, ℕ, ◌<◌, ◌^◌, List, Option, Some, None, IfSome, option_map}
+use Rattle.std.proofs.Common.{◌≡◌, ℕ, ◌<◌, ◌^◌, List, Option, Some, None, IfSome, option_map}
 use Rattle.std.proofs.Common.{Ok, Err, ap, subst, sym, ◌∙◌, refl}
 use Rattle.byte_formats.specs.Types.{Hash, HashFunction, Text}
 use Rattle.disk_core.proofs.Moments.{nothing_read, only_read_on}

@@ -1,5 +1,5 @@
 use Rattle.std.proofs.Common.{ℕ, ◌+◌, List, [], ◌∷◌, ◌++◌, length, ap, subst, sym, ◌∙◌, arith}
-use Rattle.std.proofs.Common.{None, Some, refl}
+use Rattle.std.proofs.Common.{Some, refl}
 use Rattle.state_journal.specs.Steps.{IsLeftBy}
 use Rattle.issuance_log.specs.Folds.{null_entry}
 use Rattle.issuance_log.specs.Items.{AreBelow, items_leaves, items_places}
