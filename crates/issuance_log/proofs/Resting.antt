@@ -1,6 +1,6 @@
 -- What the machine of a log leaves of its tiles.
-use Rattle.std.proofs.Common.{◌≡◌, ◌<◌, Option, Some, Result, Ok, Err, ap, false, true, subst, sym, ◌∙◌}
-use Rattle.std.proofs.Common.{arith}
+use Rattle.std.proofs.Common.{◌≡◌, ◌<◌, Option, Some, Result, Ok, Err, ap, false, true, subst, sym}
+use Rattle.std.proofs.Common.{◌∙◌, arith}
 use Rattle.std.specs.Prelude.{IfErr, IsOk, MatchResult, OnErr, OnOk, is_some}
 use Rattle.disk_core.proofs.Moments.{only_read_on}
 use Rattle.disk_core.specs.Moments.{OnlyReads}
@@ -16,7 +16,7 @@ use Rattle.tree_core.specs.declared.hashing.TreeHash.{Ghosts as Hashes}
 use Rattle.issuance_log.specs.Items.{items_tiles}
 use Rattle.issuance_log.specs.Machine.{HasStored, IsUsable, TilesAreLeft, TilesAreRead}
 use Rattle.issuance_log.specs.Machine.{machine_view}
-use Rattle.issuance_log.specs.Results.{IsStarved}
+use Rattle.issuance_log.specs.Results.{WantsMemory}
 use Rattle.issuance_log.specs.declared.error.RecordError.{RecordError}
 use Rattle.issuance_log.specs.declared.error.RecordError.TheVariants as record_error
 use Rattle.issuance_log.specs.declared.machine.LogMachine.{LogMachine}
@@ -24,8 +24,8 @@ use Rattle.issuance_log.specs.declared.machine.TileRest.{TileRest}
 
 -- memory was refused, and it wasn't
 pub starved_is : {X : Type 0} (r : Result X RecordError) → r ≡ Err record_error.Memory
-    → IsStarved r
-starved_is r is = subst IsStarved (sym is) tt
+    → WantsMemory r
+starved_is r is = subst WantsMemory (sym is) tt
 
 pub not_starved : {X : Type 0} (r : Result X Misfit) → IsOk r → IsOutOfMemory r → ⊥
 not_starved (Ok x) is starved = starved

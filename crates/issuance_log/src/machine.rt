@@ -12,7 +12,7 @@ ghost use Rattle.issuance_log.specs.Items.{items_tiles};
 ghost use Rattle.issuance_log.specs.Machine.{HasCapacityFor, HasNoTiles, TilesAreLeft};
 ghost use Rattle.issuance_log.specs.Machine.{TilesAreRead, rest_of_seed};
 ghost use Rattle.issuance_log.specs.Records.{item_in};
-ghost use Rattle.issuance_log.specs.Results.{IsStarved, LogFinds, LogTakes};
+ghost use Rattle.issuance_log.specs.Results.{WantsMemory, LogFinds, LogTakes};
 ghost use Rattle.issuance_log.specs.Sound.{HasSoundNumbers};
 
 use crate::error::RecordError;
@@ -110,7 +110,7 @@ fn take_record<H: TreeHash, T: Disk>(
     ensures short { HasShortItem (item_in body.now) }
     ensures disk { tiles_disk (items_tiles items.new) ≡ tiles_disk (items_tiles items.old) }
     ensures stored { tiles_stored (items_tiles items.new) ≡ tiles_stored (items_tiles items.old) }
-    ensures capacity { HasCapacityFor numbers.old items.old body.now → IsStarved result → ⊥ }
+    ensures capacity { HasCapacityFor numbers.old items.old body.now → WantsMemory result → ⊥ }
 {
     match read_item(body) {
         Ok((entry, key)) => {

@@ -9,7 +9,7 @@ ghost use Rattle.issuance_log.specs.Folds.{tiled_to, view_in};
 ghost use Rattle.issuance_log.specs.Marks.{last_mark, AreRising};
 ghost use Rattle.issuance_log.specs.Records.{item_in, mark_in, tiled_in};
 ghost use Rattle.issuance_log.specs.Refusals.{full_size};
-ghost use Rattle.issuance_log.specs.Results.{HasMarkCapacity, IsStarved, LogFinds, LogTakes};
+ghost use Rattle.issuance_log.specs.Results.{HasMarkCapacity, WantsMemory, LogFinds, LogTakes};
 ghost use Rattle.issuance_log.specs.Settings.{AreAllowed};
 ghost use Rattle.issuance_log.specs.Sound.{HasSoundNumbers};
 
@@ -132,7 +132,7 @@ impl Numbers {
         requires { item_in body.now ≡ None }
         ensures taken { LogTakes (next_view H.hash self.old.view body.now)
             self.old.view result self.new.view }
-        ensures capacity { HasMarkCapacity self.old (mark_in body.now) → IsStarved result → ⊥ }
+        ensures capacity { HasMarkCapacity self.old (mark_in body.now) → WantsMemory result → ⊥ }
     {
         match read_mark(body) {
             Ok(size) => self.take_mark(size),
@@ -144,7 +144,7 @@ impl Numbers {
     fn take_mark(&mut self, size: u64) -> Result<(), RecordError>
         ensures taken { LogTakes (if takes_landmark self.old.view size
             then Some (one_mark_more self.old.view) else None) self.old.view result self.new.view }
-        ensures full { IsStarved result → self.old.mark_spare ≡ 0 }
+        ensures full { WantsMemory result → self.old.mark_spare ≡ 0 }
     {
         if size != self.size || size <= self.last_mark() {
             return Err(RecordError::Unfit);
@@ -159,7 +159,7 @@ impl Numbers {
         ensures taken { LogTakes (option_and_then (λ size. if takes_tiles self.old.view size
             then Some (tiled_to size self.old.view) else None) (tiled_in body.now))
             self.old.view result self.new.view }
-        ensures sure { IsStarved result → ⊥ }
+        ensures sure { WantsMemory result → ⊥ }
     {
         let size = read_tiles(body)?;
         if size % TILE != 0 || size <= self.tiled || size > self.size {

@@ -123,8 +123,8 @@ returns-in-Err-adopt-clause-refused g c =
     (subst (λ t. IfSome told (λ b. IfSome t (λ bytes. IsBadTile h b bytes level place)))
     left.only_reads.contents
     (bad_so h v places (durable_of (end_of journal)) (leaves_with tiles.adopted tiles.rows) told
-    (g.T.Disk.contents (tiles_disk tiles)) c.tiled-size.result level place c.tiled-size.ensures.value
-    (omega arith) kept
+    (g.T.Disk.contents (tiles_disk tiles)) c.tiled-size.result level place
+    c.tiled-size.ensures.value (omega arith) kept
     (found_so h v places (durable_of (end_of journal)) leaves told opened.stands kept)
     (bad-of-all tiles c.tiled-size.result level place
     (subst (HasCauseOf tiles (tiles_disk c.adopt.new.self.nodes) c.tiled-size.result) bad
