@@ -16,7 +16,7 @@ use Rattle.cosigner_core.specs.declared.step.Step.TheVariants.{Sign}
 use Rattle.cosigner_core.proofs.Encoded.{step_again}
 use Rattle.drill_nodes.specs.CosignerCalls.{IsNumbered, IsSignature, body_called, cosigner_behind}
 use Rattle.drill_nodes.specs.CosignerNodes.{HasMore, HasRecorded, HasSign, HasSigned, IsAsBefore}
-use Rattle.drill_nodes.specs.CosignerNodes.{IsBehindCall, IsLeftBy, IsReopened, most_of}
+use Rattle.drill_nodes.specs.CosignerNodes.{IsBehindCall, IsLeftByStop, IsReopened, most_of}
 use Rattle.drill_nodes.specs.declared.cosigner_calls.CosignerCall.{CosignerCall}
 use Rattle.drill_nodes.specs.declared.cosigner_calls.CosignerCall.TheVariants.{Cosign}
 use Rattle.drill_nodes.specs.declared.turns.Stop.{Stop}
@@ -24,7 +24,7 @@ use Rattle.drill_nodes.specs.declared.turns.Stop.{Stop}
 -- the cosigner that is opened again is one of the two, and the latter where the call was done
 pub reopened_by : (h : HashFunction) (call : CosignerCall) (s t : CosignerState)
     (before after : List Text) (images : Text → Type 0) (bytes out : Text) (done : Bool)
-    → IsLeftBy h call s before images out done → images bytes
+    → IsLeftByStop h call s before images out done → images bytes
     → ((list : List Text) (u : CosignerState) → Represents bytes list → cosigner_of h list ≡ Ok u
     → (t ≡ u) × (after ≡ list)) → IsReopened call s t before after out done
 reopened_by h call s t before after images bytes out done left image opened =

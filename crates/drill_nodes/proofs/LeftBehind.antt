@@ -13,7 +13,7 @@ use Rattle.cosigner_core.specs.declared.cosigner.Cosigner.{Cosigner}
 use Rattle.drill_nodes.specs.CosignerCalls.{HasCalledCosigner, IsCosignerWith, IsNumbered}
 use Rattle.drill_nodes.specs.CosignerCalls.{IsSignature}
 use Rattle.drill_nodes.specs.CosignerCalls.{body_called, cosigner_behind}
-use Rattle.drill_nodes.specs.CosignerNodes.{IsLeftBy}
+use Rattle.drill_nodes.specs.CosignerNodes.{IsLeftByStop}
 use Rattle.drill_nodes.specs.declared.cosigner_calls.CosignerCall.{CosignerCall}
 
 module _ {H D : Type 0} {hashes : Hashes H} {g : Ghosts D} (h : HashFunction)
@@ -21,7 +21,7 @@ module _ {H D : Type 0} {hashes : Hashes H} {g : Ghosts D} (h : HashFunction)
   pub cosigner_left : (call : CosignerCall) (old new : Cosigner H D hashes g) (out : Text)
       (done : Bool) (s : CosignerState) (list : List Text)
       → ((c : Text) → images c → g.may_leave (cosigner_disk new) c) → IsCosignerWith h s list old
-      → HasCalledCosigner h call old new out done → IsLeftBy h call s list images out done
+      → HasCalledCosigner h call old new out done → IsLeftByStop h call s list images out done
   cosigner_left call old new out done s list leaves is called =
       let valid = subst (λ (o : Option (List Text)). IfSome o (λ xs.
       cosigner_of h (xs ++ body_called (cosigner_state old) call ∷ [])

@@ -41,8 +41,8 @@ IsCosignerDisk-prop h s disk =
 -- A disk that a stop within a call has left: each of its images stands for the records from before,
 -- or for these and that of the call, and where the call was done for the latter; and both are those
 -- of a cosigner. The signature of a call that was done is given.
-pub record IsLeftBy (h : HashFunction) (call : CosignerCall) (s : CosignerState) (list : List Text)
-    (images : Text → Type 0) (out : Text) (done : Bool) : Type 0 where
+pub record IsLeftByStop (h : HashFunction) (call : CosignerCall) (s : CosignerState)
+    (list : List Text) (images : Text → Type 0) (out : Text) (done : Bool) : Type 0 where
   pub old : cosigner_of h list ≡ Ok s
   pub new : cosigner_of h (list ++ body_called s call ∷ []) ≡ Ok (cosigner_behind s call)
   pub either : (c : Text) → images c → RepresentsEither list (body_called s call) c

@@ -6,7 +6,7 @@ ghost use Rattle.disk_core.specs.Memory.{bytes_of, images_of};
 ghost use Rattle.journal_core.specs.Format.{Represents};
 ghost use Rattle.cosigner_core.specs.Folds.{CosignerState, cosigner_of, holding, new_cosigner};
 ghost use Rattle.drill_nodes.specs.CosignerCalls.{IsCosignerWith};
-ghost use Rattle.drill_nodes.specs.CosignerNodes.{HasMore, HasRecorded, HasSigned, IsLeftBy};
+ghost use Rattle.drill_nodes.specs.CosignerNodes.{HasMore, HasRecorded, HasSigned, IsLeftByStop};
 ghost use Rattle.drill_nodes.specs.CosignerNodes.{IsReopened};
 ghost use Rattle.drill_nodes.specs.CosignerNodes.{cosigner_settings, secret_of};
 ghost use Rattle.drill_nodes.specs.CosignerViews.{cosigner_shown, cosigner_stops, records_shown};
@@ -94,7 +94,7 @@ fn halted<H: TreeHash>(
 ) -> Result<(MemDisk, bool), Memory>
     ensures { IfOk result (λ left. (s : CosignerState) (list : List Text)
         → IsCosignerWith H.hash s list cosigner
-        → IsLeftBy H.hash call.now s list (images_of left.0) out.new left.1) }
+        → IsLeftByStop H.hash call.now s list (images_of left.0) out.new left.1) }
 {
     let mut cosigner = cosigner;
     let done = call_cosigner(&mut cosigner, call, out)?;
