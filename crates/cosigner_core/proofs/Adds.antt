@@ -10,18 +10,18 @@ use Rattle.disk_core.specs.declared.disk.Disk.{Ghosts}
 use Rattle.tree_core.specs.declared.hashing.TreeHash.{Ghosts as Hashes}
 use Rattle.journal_core.specs.Format.{most_bytes}
 use Rattle.journal_core.specs.Owners.{Owner, OwnerAppends}
+use Rattle.journal_core.specs.Words.{disk_of}
 use Rattle.journal_core.specs.declared.error.AppendError.{AppendError}
 use Rattle.journal_core.specs.declared.error.AppendError.TheVariants.{Broken, Failed, Full}
 use Rattle.cosigner_core.specs.Folds.{CosignerState}
+use Rattle.cosigner_core.specs.Keyless.{keyless_owner, of_cosigner_journal}
 use Rattle.cosigner_core.specs.Refusals.{IsOfRequest, CosignKeepsTo, earlier}
 use Rattle.cosigner_core.specs.Refusals.{journal_refusal}
-use Rattle.cosigner_core.specs.Words.{CosignerAppends, cosigner_disk, cosigner_state}
-use Rattle.cosigner_core.specs.Words.{of_cosigner_journal}
-use Rattle.cosigner_core.specs.declared.cosigner.Cosigner.{Cosigner}
 use Rattle.cosigner_core.specs.declared.error.CosignError.{CosignError}
 use Rattle.cosigner_core.specs.declared.error.CosignError.TheVariants.{WrongLog, NotNewer}
 use Rattle.cosigner_core.specs.declared.error.CosignError.TheVariants.{BadSubtree, Beyond, BadProof}
 use Rattle.cosigner_core.specs.declared.error.CosignError.TheVariants.{Exhausted, Append}
+use Rattle.cosigner_core.specs.declared.keyless.KeylessCosigner.{KeylessCosigner}
 use Rattle.state_journal.proofs.Owners.{owner_grows, owner_refused, owner_stays}
 use Rattle.state_journal.proofs.Answered.{AnswersSo, answered_so}
 
@@ -50,15 +50,16 @@ none_of_journal BadProof kind = refl
 none_of_journal Exhausted kind = refl
 none_of_journal (Append why) kind = absurd kind
 
-pub refused : {H D : Type 0} {hashes : Hashes H} {g : Ghosts D} (it : Cosigner H D hashes g)
+pub refused : {H D : Type 0} {hashes : Hashes H} {g : Ghosts D} (it : KeylessCosigner H D hashes g)
     (body : Text) (next : CosignerState) (result : Result (Unit {0}) CosignError)
     (why : CosignError) → IsErrAnd result (λ e. e ≡ why) → IsOfRequest why
-    → ((c : Text) → g.left_since (cosigner_disk it) (g.moment (cosigner_disk it)) c
-    → g.may_leave (cosigner_disk it) c) → CosignerAppends body next it it result
+    → ((c : Text) → g.left_since (disk_of it.journal) (g.moment (disk_of it.journal)) c
+    → g.may_leave (disk_of it.journal) c)
+    → OwnerAppends g of_cosigner_journal body next (keyless_owner it) (keyless_owner it) result
 refused {g = g} it body next result why is kind only_now =
-    subst (CosignerAppends body next it it) (err_is result why is)
-    (owner_stays g of_cosigner_journal body next it.journal (cosigner_state it) why
-    (none_of_journal why kind) only_now)
+    subst (OwnerAppends g of_cosigner_journal body next (keyless_owner it) (keyless_owner it))
+    (err_is result why is) (owner_stays g of_cosigner_journal body next it.journal
+    it.machine.contents why (none_of_journal why kind) only_now)
 
 -- what the append of the machine did, as an answer of the cosigner
 module _ {D S : Type 0} (g : Ghosts D) (next : S) (old new : Owner D S) where
@@ -69,15 +70,6 @@ module _ {D S : Type 0} (g : Ghosts D) (next : S) (old new : Owner D S) where
   grown written body is did =
       subst (λ (b : Text). OwnerAppends {X = Unit {0}} g of_cosigner_journal b next old new
       (Ok tt)) is (owner_grows g of_cosigner_journal written next old new tt did)
-
-  -- what holds of both states holds of the one that it left
-  pub left_state : (P : S → Type 0) (body : Text) (result : Answer)
-      → OwnerAppends {X = Unit {0}} {E = AppendError} g (λ why. Some why) body next old new result
-      → P old.state → P next → P new.state
-  left_state P body (Ok _) did was will = subst P (sym did.leaves.state) will
-  left_state P body (Err Broken) did was will = subst P (sym did.leaves.state) was
-  left_state P body (Err Full) did was will = subst P (sym did.leaves.state) was
-  left_state P body (Err Failed) did was will = subst P (sym did.leaves.state) was
 
   pub not_appended : (written body : Text) (result : Result (Unit {0}) CosignError)
       (why : AppendError) → IsErrAnd result (λ e. e ≡ Append why) → written ≡ body

@@ -4,6 +4,7 @@ pub mod Exports
 pub mod Faults
 pub mod Folds
 pub mod DurableRecords
+pub mod Keyless
 pub mod Openings
 pub mod Progress
 pub mod Reading

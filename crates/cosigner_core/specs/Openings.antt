@@ -1,11 +1,15 @@
 -- What is read of a file that is opened as a cosigner's.
-use Rattle.std.specs.Prelude.{Result}
+use Rattle.std.specs.Prelude.{◌≡◌, false, option_map, IfSome, Ok, Result}
 use Rattle.byte_formats.specs.Types.{Text, HashFunction}
+use Rattle.disk_core.specs.Moments.{OnlyReads}
 use Rattle.disk_core.specs.declared.disk.Disk.{Ghosts}
 use Rattle.journal_core.specs.Folds.{Found, read_by}
+use Rattle.journal_core.specs.Format.{Represents, end_behind, records_of}
+use Rattle.journal_core.specs.Owners.{Owner}
+use Rattle.journal_core.specs.Words.{AllRepresent}
 use Rattle.state_journal.specs.Causes.{CountsNoOther, HasStateCause}
 use Rattle.state_journal.specs.declared.error.StateOpenError.{StateOpenError}
-use Rattle.cosigner_core.specs.Folds.{CosignerState, cosigner_fold}
+use Rattle.cosigner_core.specs.Folds.{CosignerState, cosigner_fold, cosigner_of}
 
 -- a cosigner that was read, and the records of its journal
 abbrev pub FoundCosigner : Type 0
@@ -24,3 +28,20 @@ HasCosignerCause g h old new why = HasStateCause g (cosigner_fold h) old new why
 -- no fault was counted, unless it is the refusal
 abbrev pub CosignerCountsNoOther : {D : Type 0} → Ghosts D → D → D → StateOpenError → Type 0
 CosignerCountsNoOther g old new why = CountsNoOther g old new why
+
+-- What an opened cosigner shows, over the disk before the call: no append has failed, and the disk
+-- was only read, without a fault. Where it tells its bytes, they are read as these records and this
+-- cosigner, which they make; they and each image of the disk represent the records; and the journal
+-- ends behind them.
+pub record IsOpenedCosigner {D : Type 0} (g : Ghosts D) (h : HashFunction) (disk : D)
+    (it : Owner D CosignerState) : Type 0 where
+  pub sound : it.broken ≡ false
+  pub only_reads : OnlyReads g disk it.disk
+  pub fine : g.faults it.disk ≡ g.faults disk
+  pub list : it.records ≡ option_map records_of (g.contents it.disk)
+  pub found : IfSome (g.contents disk) (λ b. IfSome it.records
+      (λ list. cosigner_read h b ≡ Ok (record { records = list; state = it.state })))
+  pub valid : IfSome it.records (λ list. cosigner_of h list ≡ Ok it.state)
+  pub stands : IfSome (g.contents it.disk) (λ b. IfSome it.records (Represents b))
+  pub all : IfSome it.records (AllRepresent g it.disk)
+  pub end : IfSome it.records (λ list. it.end ≡ end_behind list)

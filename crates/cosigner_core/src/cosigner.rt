@@ -1,19 +1,19 @@
 //! A cosigner that is open for requests.
 
-ghost use Rattle.std.specs.Prelude.{◌≡◌, ◌<◌, ◌^◌, ◌++◌, ℕ, List, [], ◌∷◌, length, false, None};
-ghost use Rattle.std.specs.Prelude.{Some, option_map, Ok, IfSome, IfOk, IfErr, OnOk, OnErr};
+ghost use Rattle.std.specs.Prelude.{◌≡◌, ◌<◌, ◌^◌, ◌++◌, [], ◌∷◌, length, false, None, option_map};
+ghost use Rattle.std.specs.Prelude.{Ok, IfSome, IfOk, IfErr, OnOk, OnErr};
 ghost use Rattle.std.proofs.Props.{props};
 ghost use Rattle.std.specs.Io.KnownBytes.{Appends};
 ghost use Rattle.mtc_io.specs.Streams.{AppendsPrefix};
 ghost use Rattle.disk_core.specs.Moments.{OnlyReads};
 ghost use Rattle.journal_core.specs.Copies.{HasCopyCause};
 ghost use Rattle.journal_core.specs.Format.{Represents, end_behind, records_of};
-ghost use Rattle.journal_core.specs.Words.{disk_of, end_of, AllRepresent};
+ghost use Rattle.journal_core.specs.Words.{AllRepresent};
 ghost use Rattle.hss_core.specs.Hss.{Verifies, one_level_public};
 ghost use Rattle.mtc_proof.specs.Inputs.{signed_text};
 ghost use Rattle.cosigner_core.specs.Exports.{export_text};
 ghost use Rattle.cosigner_core.specs.Folds.{cosigner_of, having_signed, holding};
-ghost use Rattle.cosigner_core.specs.DurableRecords.{IsDurableAs, IsDurableAs-prop};
+ghost use Rattle.cosigner_core.specs.Keyless.{keyless_owner};
 ghost use Rattle.cosigner_core.specs.Openings.{CosignerCountsNoOther, HasCosignerCause};
 ghost use Rattle.cosigner_core.specs.Openings.{cosigner_read};
 ghost use Rattle.cosigner_core.specs.Records.{advance_record, sign_record};
@@ -22,16 +22,13 @@ ghost use Rattle.cosigner_core.specs.Signatures.{signature_by};
 ghost use Rattle.cosigner_core.specs.Views.{advance_parts, subtree_parts};
 
 use crate::error::{CosignError, CosignerOpenError};
-use crate::export::{first_size, write_prefix};
-use crate::machine::Machine;
+use crate::keyless::KeylessCosigner;
 use crate::requests::{AdvanceRequest, SubtreeRequest};
-use crate::step_record::StepRecord;
 use disk_core::Disk;
 use hss_core::{Key, PUBLIC_KEY_LEN, SigBuf};
-use journal_core::{CopyError, Journal, OpenError, Refused, copy_behind};
-use mtc_io::{Failed, Memory, Sink};
+use journal_core::{CopyError, OpenError, Refused};
+use mtc_io::{Memory, Sink};
 use mtc_proof::InputBuf;
-use state_journal::{append_to, open_state};
 use std::alloc::Global;
 use tls_wire::AnchorId;
 use tree_core::TreeHash;
@@ -40,40 +37,30 @@ use tree_core::TreeHash;
 /// They are what its records on the disk make. Where an append has failed, the disk may hold one
 /// record more. `H` is the hash function of the log's tree.
 pub struct Cosigner<H: TreeHash, D: Disk> {
-    journal: Journal<D>,
-    machine: Machine<H>,
+    keyless: KeylessCosigner<H, D>,
     // Both count the one-time keys that have signed.
     key: Key,
-    ghost settled: { (b : List ℕ) → D.Disk.contents (disk_of journal) ≡ Some b → IsDurableAs
-        H.TreeHash.hash machine.contents (end_of journal) b } by { Prim.hlevel (
-          props,
-          IsDurableAs-prop,
-        ) },
-    ghost same: { key ≡ machine.contents.key } by { Prim.hlevel props },
+    ghost same: { key ≡ (keyless_owner keyless).state.key } by { Prim.hlevel props },
 }
 
 // A drop in one step: a derived one is proved field by field wherever a value is let go.
 impl<H: TreeHash, D: Disk + Drop> Drop for Cosigner<H, D> {
     fn drop(self) {
-        let Cosigner {
-            journal: _,
-            machine: _,
-            key: _,
-        } = self;
+        let Cosigner { keyless: _, key: _ } = self;
     }
 }
 
 impl<H: TreeHash, D: Disk> Cosigner<H, D> {
     ghost use Rattle.cosigner_core.specs.Words.{cosigner_disk, cosigner_records, cosigner_end};
-    ghost use Rattle.cosigner_core.specs.Words.{cosigner_broken, cosigner_state, CosignerAppends};
-    ghost use Rattle.cosigner_core.specs.Words.{IsShown};
+    ghost use Rattle.cosigner_core.specs.Words.{cosigner_broken, cosigner_owner, cosigner_state};
+    ghost use Rattle.cosigner_core.specs.Words.{CosignerAppends, IsShown};
 
     /// Opens the cosigner in a journal. Its records are read and tested one by one, and then its
-    /// key is made anew: the one-time keys that have signed by these records are used.
+    /// key is rebuilt: the one-time keys that have signed by these records are used.
     ///
     /// Errors, of which the first that is met is answered: what [`Opening::begin`] and
     /// [`Opening::next`] refuse; `BadRecord` at the first record that breaks the rules, or where
-    /// there is none; `Open(Memory)` for the key. The disk is handed back, and was only looked at.
+    /// there is none; `Open(Memory)` for the key. The disk is handed back, and was only read.
     pub fn open(alloc: Global, disk: D) -> Result<Cosigner<H, D>, Refused<D, CosignerOpenError>>
         ensures sound { IfOk result (λ it. cosigner_broken it ≡ false) }
         ensures only_reads { IfOk result (λ it. OnlyReads D.Disk disk (cosigner_disk it)) }
@@ -96,24 +83,34 @@ impl<H: TreeHash, D: Disk> Cosigner<H, D> {
         ensures cause { IfErr result (λ e. HasCosignerCause D.Disk H.hash disk e.disk e.why) }
         ensures fine_err { IfErr result (λ e. CosignerCountsNoOther D.Disk disk e.disk e.why) }
     {
-        let (journal, machine) = match open_state::<Machine<H>, D>(alloc, disk, ()) {
-            Ok(opened) => opened,
-            Err(refused) => {
-                return Err(Refused {
-                    disk: refused.disk,
-                    why: refused.why,
-                });
-            }
-        };
-        match machine.contents.key(alloc) {
-            Ok(key) => Ok(Cosigner {
-                journal,
-                machine,
-                key,
-            }),
+        match KeylessCosigner::<H, D>::open(alloc, disk) {
+            Ok(keyless) => match keyless.key(alloc) {
+                Ok(key) => Ok(Cosigner { keyless, key }),
+                Err(Memory) => Err(Refused {
+                    disk: keyless.into_disk(),
+                    why: CosignerOpenError::Open(OpenError::Memory),
+                }),
+            },
+            Err(refused) => Err(refused),
+        }
+    }
+
+    /// The cosigner with its key, which is rebuilt from the secret in its first record: the
+    /// one-time keys that have signed by its records are used.
+    ///
+    /// The one error is `Memory`, for the key. The disk is handed back as it was.
+    pub fn with_key(
+        alloc: Global,
+        keyless: KeylessCosigner<H, D>,
+    ) -> Result<Cosigner<H, D>, Refused<D, Memory>>
+        ensures ok { IfOk result (λ it. cosigner_owner it ≡ keyless_owner keyless) }
+        ensures err { IfErr result (λ e. e.disk ≡ (keyless_owner keyless).disk) }
+    {
+        match keyless.key(alloc) {
+            Ok(key) => Ok(Cosigner { keyless, key }),
             Err(Memory) => Err(Refused {
-                disk: journal.into_disk(),
-                why: CosignerOpenError::Open(OpenError::Memory),
+                disk: keyless.into_disk(),
+                why: Memory,
             }),
         }
     }
@@ -143,10 +140,7 @@ impl<H: TreeHash, D: Disk> Cosigner<H, D> {
             ≡ Ok (holding request.now.size request.now.root (cosigner_state self.old))) }
         ensures records { OnErr result (cosigner_records self.new ≡ cosigner_records self.old) }
     {
-        self.machine.contents.test_advance::<H>(request)?;
-        let body = StepRecord::advance(request.size, &request.root, request.proof);
-        append_to(&mut self.journal, &mut self.machine, body.as_slice())?;
-        Ok(())
+        self.keyless.advance(request)
     }
 
     /// Signs a subtree of the log that is held, by the next one-time key: the signature is the
@@ -190,17 +184,16 @@ impl<H: TreeHash, D: Disk> Cosigner<H, D> {
         ensures nothing { OnErr result (out.new ≡ []) }
     {
         out.clear();
-        self.machine.contents.test_subtree::<H>(request)?;
-        let body = self.machine.contents.record_of(request);
-        let record = body.as_slice();
         let mut input = InputBuf::new();
-        self.machine
-            .contents
-            .put_input(request.start, request.end, &request.hash, &mut input);
+        self.keyless.put_input(request, &mut input);
         let signed = input.as_slice();
-        append_to(&mut self.journal, &mut self.machine, record)?;
-        self.key.sign(signed, out);
-        Ok(())
+        match self.keyless.record_sign(request) {
+            Ok(()) => {
+                self.key.sign(signed, out);
+                Ok(())
+            }
+            Err(why) => Err(why),
+        }
     }
 
     /// Writes what others may know of the cosigner: its id and that of its log, each behind its
@@ -223,14 +216,8 @@ impl<H: TreeHash, D: Disk> Cosigner<H, D> {
         ensures cause { HasCopyCause (D.faults (cosigner_disk self.old)) (O.faults out.old)
             (D.faults (cosigner_disk self.new)) (O.faults out.new) result }
     {
-        match write_prefix(&self.machine.contents, &self.key, out) {
-            Ok(()) => {}
-            Err(Failed) => return Err(CopyError::Write),
-        }
-        let from = self
-            .journal
-            .end_behind_first(first_size(&self.machine.contents));
-        copy_behind(&mut self.journal, from, out)
+        let public = self.key.public();
+        self.keyless.export_with(&public, out)
     }
 
     /// The size of the log that is held, and its root.
@@ -240,7 +227,7 @@ impl<H: TreeHash, D: Disk> Cosigner<H, D> {
           (cosigner_state self.now).held.root,
         ) }
     {
-        self.machine.contents.held()
+        self.keyless.held()
     }
 
     /// The public key of its signatures (RFC 8554, section 6.1).
@@ -254,18 +241,14 @@ impl<H: TreeHash, D: Disk> Cosigner<H, D> {
     pub fn id(&self) -> &AnchorId
         ensures { result.now ≡ (cosigner_state self.now).id }
     {
-        self.machine.contents.id()
+        self.keyless.id()
     }
 
     /// The disk, for another use.
     pub fn into_disk(self) -> D
         ensures { result ≡ cosigner_disk self }
     {
-        let Cosigner {
-            journal,
-            machine: _,
-            key: _,
-        } = self;
-        journal.into_disk()
+        let Cosigner { keyless, key: _ } = self;
+        keyless.into_disk()
     }
 }

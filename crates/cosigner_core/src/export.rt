@@ -9,7 +9,7 @@ ghost use Rattle.hss_core.specs.Hss.{one_level_public};
 ghost use Rattle.cosigner_core.specs.Exports.{prefix_text};
 
 use crate::contents::Contents;
-use hss_core::Key;
+use hss_core::PUBLIC_KEY_LEN;
 use mtc_io::{Failed, Sink, write_pieces};
 
 // The length of the first record without the ids in it: the tag, the lengths of the ids, the two
@@ -26,13 +26,13 @@ pub(crate) fn first_size(contents: &Contents) -> u64
     FIRST_FIELDS + ids as u64
 }
 
-/// Writes the ids of a cosigner and of its log, and its public key.
+/// Writes the ids of a cosigner and of its log, and its public key, which is given.
 pub(crate) fn write_prefix<O: Sink>(
     contents: &Contents,
-    key: &Key,
+    public: &[u8; PUBLIC_KEY_LEN],
     out: &mut O,
 ) -> Result<(), Failed>
-    requires { key.now ≡ contents.now.key }
+    requires { public.now ≡ one_level_public contents.now.key.key }
     ensures ok { OnOk result (Appends (O.taken out.old) (O.taken out.new)
         (prefix_text contents.now.id contents.now.log (one_level_public contents.now.key.key))) }
     ensures prefix { AppendsPrefix (O.taken out.old) (O.taken out.new)
@@ -41,10 +41,9 @@ pub(crate) fn write_prefix<O: Sink>(
 {
     let id = contents.id().as_bytes();
     let log = contents.log().as_bytes();
-    let public = key.public();
     let id_size = (id.len() as u8).to_be_bytes();
     let log_size = (log.len() as u8).to_be_bytes();
     let public_size = (public.len() as u16).to_be_bytes();
-    let pieces: [&[u8]; 6] = [&id_size, id, &log_size, log, &public_size, &public];
+    let pieces: [&[u8]; 6] = [&id_size, id, &log_size, log, &public_size, public];
     write_pieces(out, &pieces)
 }

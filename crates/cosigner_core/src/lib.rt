@@ -2,10 +2,12 @@
 //! log and sign subtrees of it, each over a journal of its own.
 //!
 //! [`create`] begins the journal of a new cosigner, and [`pack`] takes the memory for it before
-//! there is a disk. [`Cosigner::open`] reads and tests the records of a journal one by one, and
-//! makes the key anew. [`Cosigner::advance`] holds the root of a larger log, and
-//! [`Cosigner::cosign`] signs a subtree by the next one-time key, once every image of the disk
-//! holds the record with its number: so no one-time key signs twice, whenever the machine stops.
+//! there is a disk. [`KeylessCosigner::open`] reads and tests the records of a journal one by one,
+//! and [`KeylessCosigner::advance`] holds the root of a larger log. [`Cosigner::with_key`] rebuilds
+//! the key, which costs more than all else in an opening, and which only a signature and an export
+//! need; [`Cosigner::open`] does both. [`Cosigner::cosign`] signs a subtree by the next one-time
+//! key, once every image of the disk holds the record with its number: so no one-time key signs
+//! twice, whenever the machine stops.
 //!
 //! What the records of a journal make of a cosigner is one function of them. A cosigner keeps to
 //! it: unless an append has failed, what it holds and its next one-time key are what the records on
@@ -25,6 +27,7 @@ mod export;
 mod export_reading;
 mod fault;
 mod following;
+mod keyless;
 pub mod laws;
 mod lists;
 mod machine;
@@ -44,6 +47,7 @@ pub use export_reading::read_export;
 pub use fault::FormError;
 pub use following::may_follow;
 pub use journal_core::CopyError as ExportError;
+pub use keyless::KeylessCosigner;
 pub use lists::{Export, StepList};
 pub use progress::Progress;
 pub use reading::{read_advance, read_subtree};

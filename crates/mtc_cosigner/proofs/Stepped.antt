@@ -13,7 +13,7 @@ use Rattle.tree_core.specs.declared.hashing.TreeHash.{Ghosts as Hashes}
 use Rattle.cosigner_core.specs.Folds.{CosignerState, cosigner_of}
 use Rattle.cosigner_core.specs.Openings.{FoundCosigner}
 use Rattle.cosigner_core.specs.Refusals.{CosignKeepsTo}
-use Rattle.cosigner_core.specs.Words.{CosignerAppends, CosignerLeaves, cosigner_broken}
+use Rattle.cosigner_core.specs.Words.{CosignerAppends, cosigner_broken}
 use Rattle.cosigner_core.specs.Words.{cosigner_disk, cosigner_end, cosigner_records, cosigner_state}
 use Rattle.cosigner_core.specs.declared.cosigner.Cosigner.{Cosigner}
 use Rattle.cosigner_core.specs.declared.error.CosignError.{CosignError}

@@ -1,37 +1,40 @@
 use Rattle.std.proofs.Common.{◌∙◌, sym}
 use Rattle.disk_core.proofs.Moments.{nothing_read}
 use Rattle.journal_core.proofs.Copies.{when_ok}
-use Rattle.cosigner_core.specs.Words.{cosigner_disk, cosigner_end, cosigner_records, cosigner_state}
+use Rattle.cosigner_core.specs.Keyless.{keyless_owner}
 use Rattle.cosigner_core.proofs.Exported.{export_begun, export_prefix, export_whole}
-use Rattle.cosigner_core.proofs.cosigner.Cosigner.export.Goals as goal
+use Rattle.cosigner_core.proofs.keyless.KeylessCosigner.export_with.Goals as goal
 
 pub returns-in-Err-clause-prefix : goal.returns-in-Err-clause-prefix
 returns-in-Err-clause-prefix g c =
-    export_begun (cosigner_state c.args.self.now) (cosigner_records c.args.self.now)
+    let old = keyless_owner c.args.self.now in
+    export_begun old.state old.records
     (g.O.Sink.taken c.args.out.now) (g.O.Sink.taken c.write_prefix.new.out)
     c.write_prefix.ensures.prefix
 
 pub returns-clause-written : goal.returns-clause-written
 returns-clause-written g c =
     let it = c.args.self.now in
-    when_ok c.copy_behind.result _ _ (export_whole g.H.TreeHash.hash (cosigner_state it)
-    c.end_behind_first-from.result (cosigner_end it)
+    let old = keyless_owner it in
+    when_ok c.copy_behind.result _ _ (export_whole g.H.TreeHash.hash old.state
+    c.end_behind_first-from.result old.end
     (λ first long. c.end_behind_first-from.ensures.end first
     (long ∙ sym c.first_size.ensures.value))
-    (g.D.Disk.contents (cosigner_disk it)) (g.O.Sink.taken c.args.out.now)
+    (g.D.Disk.contents old.disk) (g.O.Sink.taken c.args.out.now)
     (g.O.Sink.taken c.write_prefix.new.out) (g.O.Sink.taken c.copy_behind.new.out) it.settled
-    (g.met.D.Disk.contents_bytes (cosigner_disk it)) c.in-Ok.ensures.ok) c.copy_behind.ensures.ok
+    (g.met.D.Disk.contents_bytes old.disk) c.in-Ok.ensures.ok) c.copy_behind.ensures.ok
 
 pub returns-clause-prefix : goal.returns-clause-prefix
 returns-clause-prefix g c =
     let it = c.args.self.now in
-    export_prefix g.H.TreeHash.hash (cosigner_state it) c.end_behind_first-from.result
-    (cosigner_end it)
+    let old = keyless_owner it in
+    export_prefix g.H.TreeHash.hash old.state c.end_behind_first-from.result
+    old.end
     (λ first long. c.end_behind_first-from.ensures.end first
     (long ∙ sym c.first_size.ensures.value))
-    (g.D.Disk.contents (cosigner_disk it)) (g.O.Sink.taken c.args.out.now)
+    (g.D.Disk.contents old.disk) (g.O.Sink.taken c.args.out.now)
     (g.O.Sink.taken c.write_prefix.new.out) (g.O.Sink.taken c.copy_behind.new.out) it.settled
-    (g.met.D.Disk.contents_bytes (cosigner_disk it)) c.in-Ok.ensures.ok c.copy_behind.ensures.prefix
+    (g.met.D.Disk.contents_bytes old.disk) c.in-Ok.ensures.ok c.copy_behind.ensures.prefix
 
 pub returns-in-Err-clause-only_reads : goal.returns-in-Err-clause-only_reads
 returns-in-Err-clause-only_reads g c = nothing_read g.D.Disk _ (g.met.D.Disk.only_now _)
