@@ -1,3 +1,4 @@
+pub mod Keyed
 pub mod Opened
 pub mod Stepped
 pub mod Asked

@@ -7,15 +7,13 @@ use Rattle.byte_formats.specs.Types.{HashFunction, Text}
 use Rattle.disk_core.specs.Moments.{LeavesOnly}
 use Rattle.disk_core.specs.declared.disk.Disk.{Ghosts}
 use Rattle.journal_core.specs.Format.{RepresentsEither, end_behind}
+use Rattle.journal_core.specs.Owners.{Owner, OwnerAppends}
 use Rattle.journal_core.specs.Words.{AllRepresent}
 use Rattle.journal_core.specs.declared.error.AppendError.TheVariants as append_error
-use Rattle.tree_core.specs.declared.hashing.TreeHash.{Ghosts as Hashes}
 use Rattle.cosigner_core.specs.Folds.{CosignerState, cosigner_of}
+use Rattle.cosigner_core.specs.Keyless.{of_cosigner_journal}
 use Rattle.cosigner_core.specs.Openings.{FoundCosigner}
 use Rattle.cosigner_core.specs.Refusals.{CosignKeepsTo}
-use Rattle.cosigner_core.specs.Words.{CosignerAppends, cosigner_broken}
-use Rattle.cosigner_core.specs.Words.{cosigner_disk, cosigner_end, cosigner_records, cosigner_state}
-use Rattle.cosigner_core.specs.declared.cosigner.Cosigner.{Cosigner}
 use Rattle.cosigner_core.specs.declared.error.CosignError.{CosignError}
 use Rattle.cosigner_core.specs.declared.error.CosignError.TheVariants.{Append}
 use Rattle.mtc_command.specs.Answers.{refused, replied, said, stopped_code}
@@ -41,50 +39,48 @@ no_words why kind one = elim kind [
 
 -- A call that appends this record and has this text, by the refusal of a cosigner that no append
 -- has broken and whose journal ends at this place.
-module _ {H D : Type 0} {hashes : Hashes H} {g : Ghosts D} (name : Text)
-    (old new : Cosigner H D hashes g) (ready : IsReadyCosigner old) (body text : Text)
-    (next : CosignerState) (refusal : Bool → ℕ → Option CosignError) where
+module _ {D : Type 0} (g : Ghosts D) (name : Text) (old new : Owner D CosignerState)
+    (ready : IsReadyCosigner old) (body text : Text) (next : CosignerState)
+    (refusal : Bool → ℕ → Option CosignError) where
   -- what is wanted of it
   abbrev pub says : FoundCosigner → Outcome
   says found = stepped found body text (refusal false (end_behind found.records))
 
   abbrev pub met : Option CosignError
-  met = refusal (cosigner_broken old) (cosigner_end old)
+  met = refusal old.broken old.end
 
   same_says : (found : Option CosignError) → met ≡ found
-      → IfSome (cosigner_records old) (λ list.
-      stepped (found_cosigner (cosigner_state old) list) body text found
-      ≡ says (found_cosigner (cosigner_state old) list))
-  same_says found is = IfSome_then (cosigner_records old) ready.end (λ list end.
-      ap (stepped (found_cosigner (cosigner_state old) list) body text) (sym is
-      ∙ ap (λ broken. refusal broken (cosigner_end old)) ready.sound
+      → IfSome old.records (λ list. stepped (found_cosigner old.state list) body text found
+      ≡ says (found_cosigner old.state list))
+  same_says found is = IfSome_then old.records ready.end (λ list end.
+      ap (stepped (found_cosigner old.state list) body text) (sym is
+      ∙ ap (λ broken. refusal broken old.end) ready.sound
       ∙ ap (refusal false) end))
 
   pub step_made : met ≡ None
-      → CosignerAppends body next old new (Ok tt)
-      → HasWorkedOnCosigner name says old new (replied (said Done text))
-  step_made free made = says_so g name (cosigner_records old) (cosigner_disk old)
-      (cosigner_disk new) _ _ _ (same_says None free)
-      (appended_on g name (cosigner_records old) (cosigner_disk old) (cosigner_disk new) body text
-      made.count (made.any_moment ready.sound) made.kept)
+      → OwnerAppends {X = Unit {0}} g of_cosigner_journal body next old new (Ok tt)
+      → HasWorkedOnCosigner g name says old new.disk (replied (said Done text))
+  step_made free made = says_so g name old.records old.disk new.disk _ _ _ (same_says None free)
+      (appended_on g name old.records old.disk new.disk body text made.count
+      (made.any_moment ready.sound) made.kept)
 
-  untaken : (why : CosignError) → met ≡ Some why → cosigner_disk new ≡ cosigner_disk old
+  untaken : (why : CosignError) → met ≡ Some why → new.disk ≡ old.disk
       → (step_stopped why ≡ NotAllowed) ⊎ (step_stopped why ≡ OverLimit)
-      → HasWorkedOnCosigner name says old new
+      → HasWorkedOnCosigner g name says old new.disk
       (replied (refused (step_stopped why) None (step_fault_text why)))
-  untaken why is same kind = says_so g name (cosigner_records old) (cosigner_disk old)
-      (cosigner_disk new) _ _ _ (same_says (Some why) is)
-      (read_on g name (cosigner_records old) (cosigner_disk old) (cosigner_disk new)
+  untaken why is same kind = says_so g name old.records old.disk new.disk _ _ _
+      (same_says (Some why) is) (read_on g name old.records old.disk new.disk
       (refused (step_stopped why) None (step_fault_text why)) _ (inl same)
       (refl, λ one. no_words (step_stopped why) kind one))
 
-  pub step_refused : (why : CosignError) → CosignerAppends body next old new (Err why)
-      → CosignKeepsTo met (Err why) → HasWorkedOnCosigner name says old new (step_ending name why)
+  pub step_refused : (why : CosignError)
+      → OwnerAppends {X = Unit {0}} g of_cosigner_journal body next old new (Err why)
+      → CosignKeepsTo met (Err why)
+      → HasWorkedOnCosigner g name says old new.disk (step_ending name why)
   step_refused (Append append_error.Failed) made is =
-      says_so g name (cosigner_records old) (cosigner_disk old) (cosigner_disk new) _ _ _
-      (same_says None is)
-      (failed_on g name (cosigner_records old) (cosigner_disk old) (cosigner_disk new) body text
-      made.leaves.cause made.count (made.any_moment ready.sound) (made.afterwards ready.sound))
+      says_so g name old.records old.disk new.disk _ _ _ (same_says None is)
+      (failed_on g name old.records old.disk new.disk body text made.leaves.cause made.count
+      (made.any_moment ready.sound) (made.afterwards ready.sound))
   step_refused (Append other) made is = untaken (Append other) is made.leaves.disk (inr refl)
   step_refused other made is = untaken other is made.leaves.disk (inl refl)
 
@@ -92,22 +88,22 @@ module _ {H D : Type 0} {hashes : Hashes H} {g : Ghosts D} (name : Text)
   made_valid : (h : HashFunction) (list : List Text) (found : Option CosignError)
       → (found ≡ None → cosigner_of h (list ++ body ∷ []) ≡ Ok next)
       → AddsValid (IsCosigner h)
-      (journaled_by (stepped (found_cosigner (cosigner_state old) list) body text found))
+      (journaled_by (stepped (found_cosigner old.state list) body text found))
   made_valid h list None valid = subst IsOk (sym (valid refl)) refl
   made_valid h list (Some why) valid = tt
 
   each_valid : (h : HashFunction) (records : Option (List Text))
-      → IfSome records (λ list. cosigner_end old ≡ end_behind list)
+      → IfSome records (λ list. old.end ≡ end_behind list)
       → (met ≡ None → IfSome records (λ list. cosigner_of h (list ++ body ∷ []) ≡ Ok next))
       → IfSome records (λ list.
-      AddsValid (IsCosigner h) (journaled_by (says (found_cosigner (cosigner_state old) list))))
+      AddsValid (IsCosigner h) (journaled_by (says (found_cosigner old.state list))))
   each_valid h None end valid = tt
   each_valid h (Some list) end valid = made_valid h list (refusal false (end_behind list))
-      (λ free. valid (ap (λ broken. refusal broken (cosigner_end old)) ready.sound
+      (λ free. valid (ap (λ broken. refusal broken old.end) ready.sound
       ∙ ap (refusal false) end ∙ free))
 
   pub step_valid : (h : HashFunction)
-      → (met ≡ None → IfSome (cosigner_records old)
+      → (met ≡ None → IfSome old.records
       (λ list. cosigner_of h (list ++ body ∷ []) ≡ Ok next))
-      → StaysCosigner h says old new
-  step_valid h valid = inr (each_valid h (cosigner_records old) ready.end valid)
+      → StaysCosigner g h says old new.disk
+  step_valid h valid = inr (each_valid h old.records ready.end valid)

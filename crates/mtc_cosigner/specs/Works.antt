@@ -4,15 +4,12 @@ use Rattle.std.specs.Fmt.{decimal}
 use Rattle.byte_formats.specs.Types.{HashFunction, Text}
 use Rattle.disk_core.specs.declared.disk.Disk.{Ghosts}
 use Rattle.journal_core.specs.Format.{end_behind}
+use Rattle.journal_core.specs.Owners.{Owner}
 use Rattle.journal_core.specs.declared.error.OpenError.TheVariants as open_error
-use Rattle.tree_core.specs.declared.hashing.TreeHash.{Ghosts as Hashes}
 use Rattle.cosigner_core.specs.Folds.{CosignerState, cosigner_of}
 use Rattle.cosigner_core.specs.Openings.{FoundCosigner, cosigner_read}
 use Rattle.cosigner_core.specs.Reading.{advance_in, subtree_in}
 use Rattle.cosigner_core.specs.Views.{advance_parts, subtree_parts}
-use Rattle.cosigner_core.specs.Words.{cosigner_broken, cosigner_disk, cosigner_end}
-use Rattle.cosigner_core.specs.Words.{cosigner_records, cosigner_state}
-use Rattle.cosigner_core.specs.declared.cosigner.Cosigner.{Cosigner}
 use Rattle.state_journal.specs.declared.error.StateOpenError.{StateOpenError}
 use Rattle.state_journal.specs.declared.error.StateOpenError.TheVariants.{BadRecord, Open}
 use Rattle.mtc_command.specs.Answers.{Ending, replied, room_failed, no_memory, refused}
@@ -79,23 +76,20 @@ export_outcome h journal files = cosigner_outcome h journal (files journal) expo
 abbrev pub IsCosigner : HashFunction → List Text → Type 0
 IsCosigner h list = IsOk (cosigner_of h list)
 
-module _ {H D : Type 0} {hashes : Hashes H} {g : Ghosts D} where
-  -- A cosigner that was opened just now.
-  pub record IsReadyCosigner (it : Cosigner H D hashes g) : Type 0 where
-    pub sound : cosigner_broken it ≡ false
-    pub end : IfSome (cosigner_records it) (λ list. cosigner_end it ≡ end_behind list)
+-- A cosigner that was opened just now.
+pub record IsReadyCosigner {D : Type 0} (it : Owner D CosignerState) : Type 0 where
+  pub sound : it.broken ≡ false
+  pub end : IfSome it.records (λ list. it.end ≡ end_behind list)
 
-  -- The work on the cosigner of this journal, which has to give that outcome.
-  abbrev pub HasWorkedOnCosigner : Text → (FoundCosigner → Outcome) → Cosigner H D hashes g
-      → Cosigner H D hashes g → Ending → Type 0
-  HasWorkedOnCosigner name says old new ending = HasWorkedWith g name (cosigner_records old)
-      (λ list. says (found_cosigner (cosigner_state old) list)) (cosigner_disk old)
-      (cosigner_disk new)
-      ending
+module _ {D : Type 0} (g : Ghosts D) where
+  -- The work on this cosigner of the journal, which has to give that outcome.
+  abbrev pub HasWorkedOnCosigner : Text → (FoundCosigner → Outcome) → Owner D CosignerState → D
+      → Ending → Type 0
+  HasWorkedOnCosigner name says it new ending = HasWorkedWith g name it.records
+      (λ list. says (found_cosigner it.state list)) it.disk new ending
 
   -- And by which its records make a cosigner again.
-  abbrev pub StaysCosigner : HashFunction → (FoundCosigner → Outcome) → Cosigner H D hashes g
-      → Cosigner H D hashes g → Type 0
-  StaysCosigner h says old new = WorksValidly g (IsCosigner h) (cosigner_records old)
-      (λ list. says (found_cosigner (cosigner_state old) list)) (cosigner_disk old)
-      (cosigner_disk new)
+  abbrev pub StaysCosigner : HashFunction → (FoundCosigner → Outcome) → Owner D CosignerState → D
+      → Type 0
+  StaysCosigner h says it new = WorksValidly g (IsCosigner h) it.records
+      (λ list. says (found_cosigner it.state list)) it.disk new

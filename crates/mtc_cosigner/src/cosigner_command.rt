@@ -10,7 +10,7 @@ ghost use Rattle.mtc_cosigner.specs.Works.{IsCosigner, cosigner_bytes_say, cosig
 ghost use Rattle.mtc_cosigner.specs.Works.{cosigner_open_ending, cosigner_says};
 
 use crate::work::{Work, carry_out};
-use cosigner_core::{Cosigner, CosignerOpenError};
+use cosigner_core::{CosignerOpenError, KeylessCosigner};
 use disk_core::Disk;
 use journal_core::{OpenError, Refused};
 use mtc_command::{Answer, Reason, Stop, Stopped, close, open_file, refuse_file};
@@ -53,11 +53,8 @@ fn on_device<'a, H: TreeHash, D: Disk>(
     ensures valid { ServesValidly D.Disk (IsCosigner H.hash) (cosigner_bytes_say H.hash journal.now
         (cosigner_says H.hash work.now)) disk result.0 }
 {
-    match Cosigner::<H, D>::open(alloc, disk) {
-        Ok(mut cosigner) => {
-            let answer = carry_out(alloc, journal, &mut cosigner, work);
-            (cosigner.into_disk(), answer)
-        }
+    match KeylessCosigner::<H, D>::open(alloc, disk) {
+        Ok(keyless) => carry_out(alloc, journal, keyless, work),
         Err(Refused { disk, why }) => (disk, Err(refuse_cosigner(journal, why))),
     }
 }

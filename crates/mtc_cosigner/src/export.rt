@@ -1,6 +1,7 @@
 //! The command `export`: what others may know of a cosigner.
 
 ghost use Rattle.std.specs.Prelude.{◌≡◌, ◌<◌, ◌^◌, [], ◌∷◌, Some};
+ghost use Rattle.cosigner_core.specs.Words.{cosigner_disk, cosigner_owner};
 ghost use Rattle.mtc_command.specs.Answers.{ending_of};
 ghost use Rattle.mtc_cosigner.specs.CosignerOutcomes.{export_says};
 ghost use Rattle.mtc_command.specs.Served.{HasServed};
@@ -59,10 +60,11 @@ pub(crate) fn export_on<'a, H: TreeHash, D: Disk>(
     journal: &'a str,
     cosigner: &mut Cosigner<H, D>,
 ) -> Result<Answer, Stop<'a>>
-    requires { IsReadyCosigner cosigner.old }
-    ensures works { HasWorkedOnCosigner journal.now export_says cosigner.old cosigner.new
-        (ending_of result) }
-    ensures valid { StaysCosigner H.hash export_says cosigner.old cosigner.new }
+    requires { IsReadyCosigner (cosigner_owner cosigner.old) }
+    ensures works { HasWorkedOnCosigner D.Disk journal.now export_says
+        (cosigner_owner cosigner.old) (cosigner_disk cosigner.new) (ending_of result) }
+    ensures valid { StaysCosigner D.Disk H.hash export_says (cosigner_owner cosigner.old)
+        (cosigner_disk cosigner.new) }
 {
     let mut out = TextSink::new(alloc);
     match cosigner.export(&mut out) {

@@ -1,8 +1,9 @@
 //! The commands of a cosigner: `keygen`, `init-cosigner`, `advance`, `cosign` and `export`.
 //!
-//! A journal is lent by the room, opened as a cosigner's, worked on and given back
-//! ([`on_cosigner`]); what is done with the cosigner is a [`Work`]. What each command has to reply,
-//! and what it does with the journal, are definitions in `specs/`.
+//! A journal is opened by the file system and read as a cosigner's, worked on and closed
+//! ([`on_cosigner`]); what is done with the cosigner is a [`Work`]. The key is made only for a
+//! signature and an export. What each command has to reply, and what it does with the journal, are
+//! definitions in `specs/`.
 //!
 //! No clause says that a signature that is printed counts for its cosigner in a certificate:
 //! `relying_party::law_cosignatures_count` says it of a list of signatures, and no law reads that

@@ -4,7 +4,9 @@ ghost use Rattle.std.specs.Prelude.{◌≡◌, ◌≢◌, ◌<◌, ◌≤◌, �
 ghost use Rattle.std.specs.Prelude.{vec_len, vec_capacity};
 ghost use Rattle.std.specs.Int.{w8, w16};
 ghost use Rattle.tls_wire.specs.Encoding.{vector};
+ghost use Rattle.cosigner_core.specs.Keyless.{keyless_owner};
 ghost use Rattle.cosigner_core.specs.Views.{advance_parts, subtree_parts};
+ghost use Rattle.cosigner_core.specs.Words.{cosigner_disk, cosigner_owner};
 ghost use Rattle.mtc_command.specs.Answers.{stop_ending, ending_of, reason_text};
 ghost use Rattle.mtc_command.specs.Served.{HasServed};
 ghost use Rattle.mtc_command.specs.Valid.{KeepsValid};
@@ -16,7 +18,8 @@ ghost use Rattle.mtc_cosigner.specs.Works.{StaysCosigner, advance_outcome, cosig
 use crate::cosigner_command::on_cosigner;
 use crate::work::Work;
 use cosigner_core::{
-    AdvanceRequest, CosignError, Cosigner, FormError, SubtreeRequest, read_advance, read_subtree,
+    AdvanceRequest, CosignError, Cosigner, FormError, KeylessCosigner, SubtreeRequest,
+    read_advance, read_subtree,
 };
 use disk_core::Disk;
 use hss_core::SigBuf;
@@ -72,20 +75,20 @@ fn line_of_size(alloc: Global, size: u64) -> Result<Bytes, Memory>
     Ok(Bytes::from_vec(format!(in alloc; "advanced {size}\n")?.into_bytes()))
 }
 
-/// The work of `advance S REQUEST`. The text is made before the record is added, so that nothing
-/// wants memory behind the append.
+/// The work of `advance S REQUEST`, which needs no key. The text is made before the record is
+/// added, so that nothing wants memory after the append.
 pub(crate) fn advance_on<'a, H: TreeHash, D: Disk>(
     alloc: Global,
     journal: &'a str,
-    cosigner: &mut Cosigner<H, D>,
+    cosigner: &mut KeylessCosigner<H, D>,
     request: &AdvanceRequest<'_>,
 ) -> Result<Answer, Stop<'a>>
-    requires { IsReadyCosigner cosigner.old }
-    ensures works { HasWorkedOnCosigner journal.now (advance_says H.hash
-        (advance_parts request.now))
-        cosigner.old cosigner.new (ending_of result) }
-    ensures valid { StaysCosigner H.hash (advance_says H.hash (advance_parts request.now))
-        cosigner.old cosigner.new }
+    requires { IsReadyCosigner (keyless_owner cosigner.old) }
+    ensures works { HasWorkedOnCosigner D.Disk journal.now (advance_says H.hash
+        (advance_parts request.now)) (keyless_owner cosigner.old)
+        (keyless_owner cosigner.new).disk (ending_of result) }
+    ensures valid { StaysCosigner D.Disk H.hash (advance_says H.hash (advance_parts request.now))
+        (keyless_owner cosigner.old) (keyless_owner cosigner.new).disk }
 {
     let text = line_of_size(alloc, request.size)?;
     match cosigner.advance(request) {
@@ -133,11 +136,12 @@ pub(crate) fn cosign_on<'a, H: TreeHash, D: Disk>(
     cosigner: &mut Cosigner<H, D>,
     request: &SubtreeRequest<'_>,
 ) -> Result<Answer, Stop<'a>>
-    requires { IsReadyCosigner cosigner.old }
-    ensures works { HasWorkedOnCosigner journal.now (cosign_says H.hash (subtree_parts request.now))
-        cosigner.old cosigner.new (ending_of result) }
-    ensures valid { StaysCosigner H.hash (cosign_says H.hash (subtree_parts request.now))
-        cosigner.old cosigner.new }
+    requires { IsReadyCosigner (cosigner_owner cosigner.old) }
+    ensures works { HasWorkedOnCosigner D.Disk journal.now (cosign_says H.hash
+        (subtree_parts request.now)) (cosigner_owner cosigner.old)
+        (cosigner_disk cosigner.new) (ending_of result) }
+    ensures valid { StaysCosigner D.Disk H.hash (cosign_says H.hash (subtree_parts request.now))
+        (cosigner_owner cosigner.old) (cosigner_disk cosigner.new) }
 {
     let text = begun_with(alloc, cosigner.id())?;
     let mut signature = SigBuf::new();

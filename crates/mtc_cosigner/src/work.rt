@@ -1,14 +1,16 @@
 //! The work of a command on a cosigner whose journal is open: its own refusals, its text, and at
 //! most one append, behind which nothing wants memory.
 
+ghost use Rattle.cosigner_core.specs.Keyless.{keyless_owner};
 ghost use Rattle.mtc_command.specs.Answers.{ending_of};
 ghost use Rattle.mtc_cosigner.specs.Works.{HasWorkedOnCosigner, IsReadyCosigner, StaysCosigner};
 ghost use Rattle.mtc_cosigner.specs.Works.{cosigner_says};
 
 use crate::export::export_on;
 use crate::requests::{advance_on, cosign_on};
-use cosigner_core::{AdvanceRequest, Cosigner, SubtreeRequest};
+use cosigner_core::{AdvanceRequest, Cosigner, KeylessCosigner, SubtreeRequest};
 use disk_core::Disk;
+use journal_core::Refused;
 use mtc_command::{Answer, Stop};
 use std::alloc::Global;
 use tree_core::TreeHash;
@@ -24,25 +26,39 @@ pub enum Work<'r> {
     Export,
 }
 
-/// Carries out a command on the cosigner of a journal. A failure of its device is told by the
-/// journal's name.
+/// Carries out a command on the cosigner of a journal, and hands its device back. It makes the key
+/// for a signature and for an export alone. A failure of the device is told by the journal's name.
 #[tactic(auto, unfolding(crate::specs::Works::cosigner_says))]
 pub(crate) fn carry_out<'a, H: TreeHash, D: Disk>(
     alloc: Global,
     journal: &'a str,
-    cosigner: &mut Cosigner<H, D>,
+    mut keyless: KeylessCosigner<H, D>,
     work: &Work<'_>,
-) -> Result<Answer, Stop<'a>>
-    requires { IsReadyCosigner cosigner.old }
-    ensures works { HasWorkedOnCosigner journal.now (cosigner_says H.hash work.now)
-        cosigner.old cosigner.new
-        (ending_of result) }
-    ensures valid { StaysCosigner H.hash (cosigner_says H.hash work.now) cosigner.old
-        cosigner.new }
+) -> (D, Result<Answer, Stop<'a>>)
+    requires { IsReadyCosigner (keyless_owner keyless) }
+    ensures works { HasWorkedOnCosigner D.Disk journal.now (cosigner_says H.hash work.now)
+        (keyless_owner keyless) result.0 (ending_of result.1) }
+    ensures valid { StaysCosigner D.Disk H.hash (cosigner_says H.hash work.now)
+        (keyless_owner keyless) result.0 }
 {
     match work {
-        Work::Advance(request) => advance_on(alloc, journal, cosigner, request),
-        Work::Cosign(request) => cosign_on(alloc, journal, cosigner, request),
-        Work::Export => export_on(alloc, journal, cosigner),
+        Work::Advance(request) => {
+            let answer = advance_on(alloc, journal, &mut keyless, request);
+            (keyless.into_disk(), answer)
+        }
+        Work::Cosign(request) => match Cosigner::with_key(alloc, keyless) {
+            Ok(mut cosigner) => {
+                let answer = cosign_on(alloc, journal, &mut cosigner, request);
+                (cosigner.into_disk(), answer)
+            }
+            Err(Refused { disk, .. }) => (disk, Err(Stop::Memory)),
+        },
+        Work::Export => match Cosigner::with_key(alloc, keyless) {
+            Ok(mut cosigner) => {
+                let answer = export_on(alloc, journal, &mut cosigner);
+                (cosigner.into_disk(), answer)
+            }
+            Err(Refused { disk, .. }) => (disk, Err(Stop::Memory)),
+        },
     }
 }

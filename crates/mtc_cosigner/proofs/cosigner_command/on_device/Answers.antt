@@ -1,6 +1,6 @@
 use Rattle.std.proofs.Common.{inl, List, Option, subst, sym}
 use Rattle.byte_formats.specs.Types.{Text}
-use Rattle.cosigner_core.specs.Words.{cosigner_disk, cosigner_records, cosigner_state}
+use Rattle.cosigner_core.specs.Keyless.{keyless_owner}
 use Rattle.mtc_command.specs.Answers.{Ending, ending_of}
 use Rattle.mtc_command.specs.Steps.{Outcome}
 use Rattle.mtc_command.specs.Valid.{WorksValidly}
@@ -12,32 +12,32 @@ use Rattle.mtc_cosigner.specs.Works.{cosigner_says}
 use Rattle.mtc_cosigner.proofs.Opened.{IsFound, found_says, refused_says}
 use Rattle.mtc_cosigner.proofs.cosigner_command.on_device.Goals as goal
 
+pub carry_out-requires : goal.carry_out-requires
+carry_out-requires g c =
+    let opened = c.in-Ok.ensures.opened in record { sound = opened.sound; end = opened.end }
+
 pub returns-in-Ok-clause-serves : goal.returns-in-Ok-clause-serves
 returns-in-Ok-clause-serves g c =
     let d = g.D.Disk in
     let h = g.H.TreeHash.hash in
     let name = c.args.journal.now in
     let says = cosigner_says h c.args.work.now in
-    let it = c.in-Ok.cosigner in
-    let opened = c.in-Ok.ensures in
-    let next : List Text → Outcome = λ list. says (found_cosigner (cosigner_state it) list) in
-    let done = cosigner_disk c.carry_out-answer.new.cosigner in
-    let ending = ending_of c.carry_out-answer.result in
-    let found = subst (IsFound d (cosigner_bytes_say h name says) next c.args.disk
-    (cosigner_disk it))
+    let it = keyless_owner c.in-Ok.keyless in
+    let opened = c.in-Ok.ensures.opened in
+    let next : List Text → Outcome = λ list. says (found_cosigner it.state list) in
+    let done = c.carry_out.result.0 in
+    let ending = ending_of c.carry_out.result.1 in
+    let found = subst (IsFound d (cosigner_bytes_say h name says) next c.args.disk it.disk)
     opened.list (record {
       contents =
-          found_says h name says (d.contents c.args.disk) (cosigner_records it) (cosigner_state it)
-          opened.found;
+          found_says h name says (d.contents c.args.disk) it.records it.state opened.found;
       stands = opened.stands;
       all = opened.all;
     }) in
-    rw c.into_disk.ensures (worked_on d name (cosigner_bytes_say h name says) next c.args.disk
-    (cosigner_disk it) done ending g.met.D.Disk.reads_image opened.only_reads opened.fine
-    found.contents
-    found.stands found.all
-    (subst (λ (o : Option (List Text)). HasWorkedWith d name o next (cosigner_disk it) done ending)
-    opened.list c.carry_out-answer.ensures.works))
+    worked_on d name (cosigner_bytes_say h name says) next c.args.disk it.disk done ending
+    g.met.D.Disk.reads_image opened.only_reads opened.fine found.contents found.stands found.all
+    (subst (λ (o : Option (List Text)). HasWorkedWith d name o next it.disk done ending)
+    opened.list c.carry_out.ensures.works)
 
 pub returns-in-Err-clause-serves : goal.returns-in-Err-clause-serves
 returns-in-Err-clause-serves g c =
@@ -56,23 +56,21 @@ returns-in-Ok-clause-valid g c =
     let h = g.H.TreeHash.hash in
     let name = c.args.journal.now in
     let says = cosigner_says h c.args.work.now in
-    let it = c.in-Ok.cosigner in
-    let opened = c.in-Ok.ensures in
-    let next : List Text → Outcome = λ list. says (found_cosigner (cosigner_state it) list) in
-    let done = cosigner_disk c.carry_out-answer.new.cosigner in
-    let found = subst (IsFound d (cosigner_bytes_say h name says) next c.args.disk
-    (cosigner_disk it))
+    let it = keyless_owner c.in-Ok.keyless in
+    let opened = c.in-Ok.ensures.opened in
+    let next : List Text → Outcome = λ list. says (found_cosigner it.state list) in
+    let done = c.carry_out.result.0 in
+    let found = subst (IsFound d (cosigner_bytes_say h name says) next c.args.disk it.disk)
     opened.list (record {
       contents =
-          found_says h name says (d.contents c.args.disk) (cosigner_records it) (cosigner_state it)
-          opened.found;
+          found_says h name says (d.contents c.args.disk) it.records it.state opened.found;
       stands = opened.stands;
       all = opened.all;
     }) in
-    rw c.into_disk.ensures (valid_on d (IsCosigner h) name (cosigner_bytes_say h name says) next
-    c.args.disk (cosigner_disk it) done opened.only_reads found.contents found.stands found.all
-    (subst (λ (o : Option (List Text)). WorksValidly d (IsCosigner h) o next (cosigner_disk it)
-    done) opened.list c.carry_out-answer.ensures.valid))
+    valid_on d (IsCosigner h) name (cosigner_bytes_say h name says) next c.args.disk it.disk done
+    opened.only_reads found.contents found.stands found.all
+    (subst (λ (o : Option (List Text)). WorksValidly d (IsCosigner h) o next it.disk done)
+    opened.list c.carry_out.ensures.valid)
 
 pub returns-in-Err-clause-valid : goal.returns-in-Err-clause-valid
 returns-in-Err-clause-valid g c = inl c.in-Err.ensures.err

@@ -6,7 +6,7 @@ use Rattle.cosigner_core.specs.Folds.{having_signed}
 use Rattle.cosigner_core.specs.Records.{sign_record}
 use Rattle.cosigner_core.specs.Refusals.{cosign_refused}
 use Rattle.cosigner_core.specs.Views.{subtree_parts}
-use Rattle.cosigner_core.specs.Words.{cosigner_broken, cosigner_end, cosigner_state}
+use Rattle.cosigner_core.specs.Words.{cosigner_owner}
 use Rattle.mtc_command.specs.Answers.{Ending, replied, said}
 use Rattle.mtc_command.specs.declared.answer.Said.TheVariants.{Done}
 use Rattle.mtc_cosigner.specs.CosignerOutcomes.{cosign_says, cosigned_text}
@@ -18,64 +18,65 @@ use Rattle.mtc_cosigner.proofs.requests.cosign_on.Goals as goal
 pub refuse_step-requires : goal.refuse_step-requires
 refuse_step-requires g c = λ broken.
     let h = g.H.TreeHash.hash in
-    let old = c.args.cosigner.now in
-    cosign_sound h (cosigner_state old) (cosigner_broken old) (cosigner_end old)
+    let old = cosigner_owner c.args.cosigner.now in
+    cosign_sound h old.state old.broken old.end
     (subtree_parts c.args.request.now) c.requires.sound (search rules)
 
 pub returns-in-Ok-clause-works : goal.returns-in-Ok-clause-works
 returns-in-Ok-clause-works g c =
     let h = g.H.TreeHash.hash in
     let name = c.args.journal.now in
-    let old = c.args.cosigner.now in
-    let new = c.cosign.new.self in
+    let old = cosigner_owner c.args.cosigner.now in
+    let new = cosigner_owner c.cosign.new.self in
     let r = subtree_parts c.args.request.now in
-    subst (λ (t : Text). HasWorkedOnCosigner name (cosign_says h r) old new (replied (said Done t)))
+    subst (λ (t : Text). HasWorkedOnCosigner g.D.Disk name (cosign_says h r) old new.disk
+    (replied (said Done t)))
     (sym (c.with_signature.ensures
     ∙ ap (λ (t : Text). t ++ vector w16 c.as_slice.result.now)
     (c.in_ok-text.ensures.text ∙ ap (vector w8) c.id.ensures)
-    ∙ ap (λ (t : Text). vector w8 (cosigner_state old).id ++ vector w16 t)
+    ∙ ap (λ (t : Text). vector w8 old.state.id ++ vector w16 t)
     (c.as_slice.ensures.value ∙ c.in-Ok.ensures.signature)))
-    (step_made name old new c.requires
-    (sign_record (cosigner_state old).key.next r.start r.end r.hash r.proof)
-    (cosigned_text (cosigner_state old) r) (having_signed (cosigner_state old))
-    (λ broken end. cosign_refused h (cosigner_state old) broken end r) c.in-Ok.ensures.answer
+    (step_made g.D.Disk name old new c.requires
+    (sign_record old.state.key.next r.start r.end r.hash r.proof)
+    (cosigned_text old.state r) (having_signed old.state)
+    (λ broken end. cosign_refused h old.state broken end r) c.in-Ok.ensures.answer
     c.in-Ok.ensures.appends)
 
 pub returns-in-Err-clause-works : goal.returns-in-Err-clause-works
 returns-in-Err-clause-works g c =
     let h = g.H.TreeHash.hash in
     let name = c.args.journal.now in
-    let old = c.args.cosigner.now in
-    let new = c.cosign.new.self in
+    let old = cosigner_owner c.args.cosigner.now in
+    let new = cosigner_owner c.cosign.new.self in
     let r = subtree_parts c.args.request.now in
-    subst (λ (e : Ending). HasWorkedOnCosigner name (cosign_says h r) old new e)
+    subst (λ (e : Ending). HasWorkedOnCosigner g.D.Disk name (cosign_says h r) old new.disk e)
     (sym c.refuse_step.ensures)
-    (step_refused name old new c.requires
-    (sign_record (cosigner_state old).key.next r.start r.end r.hash r.proof)
-    (cosigned_text (cosigner_state old) r) (having_signed (cosigner_state old))
-    (λ broken end. cosign_refused h (cosigner_state old) broken end r) c.in-Err.why
+    (step_refused g.D.Disk name old new c.requires
+    (sign_record old.state.key.next r.start r.end r.hash r.proof)
+    (cosigned_text old.state r) (having_signed old.state)
+    (λ broken end. cosign_refused h old.state broken end r) c.in-Err.why
     c.in-Err.ensures.appends c.in-Err.ensures.answer)
 
 pub returns-in-Ok-clause-valid : goal.returns-in-Ok-clause-valid
 returns-in-Ok-clause-valid g c =
     let h = g.H.TreeHash.hash in
     let name = c.args.journal.now in
-    let old = c.args.cosigner.now in
+    let old = cosigner_owner c.args.cosigner.now in
     let r = subtree_parts c.args.request.now in
-    step_valid name old c.cosign.new.self c.requires
-    (sign_record (cosigner_state old).key.next r.start r.end r.hash r.proof)
-    (cosigned_text (cosigner_state old) r) (having_signed (cosigner_state old))
-    (λ broken end. cosign_refused h (cosigner_state old) broken end r) h
+    step_valid g.D.Disk name old (cosigner_owner c.cosign.new.self) c.requires
+    (sign_record old.state.key.next r.start r.end r.hash r.proof)
+    (cosigned_text old.state r) (having_signed old.state)
+    (λ broken end. cosign_refused h old.state broken end r) h
     c.in-Ok.ensures.valid
 
 pub returns-in-Err-clause-valid : goal.returns-in-Err-clause-valid
 returns-in-Err-clause-valid g c =
     let h = g.H.TreeHash.hash in
     let name = c.args.journal.now in
-    let old = c.args.cosigner.now in
+    let old = cosigner_owner c.args.cosigner.now in
     let r = subtree_parts c.args.request.now in
-    step_valid name old c.cosign.new.self c.requires
-    (sign_record (cosigner_state old).key.next r.start r.end r.hash r.proof)
-    (cosigned_text (cosigner_state old) r) (having_signed (cosigner_state old))
-    (λ broken end. cosign_refused h (cosigner_state old) broken end r) h
+    step_valid g.D.Disk name old (cosigner_owner c.cosign.new.self) c.requires
+    (sign_record old.state.key.next r.start r.end r.hash r.proof)
+    (cosigned_text old.state r) (having_signed old.state)
+    (λ broken end. cosign_refused h old.state broken end r) h
     c.in-Err.ensures.valid

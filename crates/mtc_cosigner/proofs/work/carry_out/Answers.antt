@@ -1,13 +1,34 @@
+use Rattle.cosigner_core.specs.Keyless.{keyless_owner}
+use Rattle.cosigner_core.specs.Words.{cosigner_disk, cosigner_owner}
+use Rattle.mtc_command.specs.Answers.{ending_of}
+use Rattle.mtc_cosigner.specs.Works.{cosigner_says}
+use Rattle.mtc_cosigner.proofs.Keyed.{with_key}
 use Rattle.mtc_cosigner.proofs.work.carry_out.Goals as goal
 
 pub returns-in-Advance-clause-works : goal.returns-in-Advance-clause-works
 unfolding Rattle.mtc_cosigner.specs.Works.cosigner_says
-returns-in-Advance-clause-works g c = rw c.in-Advance.is c.advance_on.ensures.works
+returns-in-Advance-clause-works g c =
+    rw (c.in-Advance.is, c.into_disk.ensures) c.advance_on-answer.ensures.works
 
-pub returns-in-Cosign-clause-works : goal.returns-in-Cosign-clause-works
+pub returns-in-Advance-clause-valid : goal.returns-in-Advance-clause-valid
 unfolding Rattle.mtc_cosigner.specs.Works.cosigner_says
-returns-in-Cosign-clause-works g c = rw c.in-Cosign.is c.cosign_on.ensures.works
+returns-in-Advance-clause-valid g c =
+    rw (c.in-Advance.is, c.into_disk.ensures) c.advance_on-answer.ensures.valid
 
-pub returns-in-Export-clause-works : goal.returns-in-Export-clause-works
+pub returns-in-Ok-clause-works : goal.returns-in-Ok-clause-works
 unfolding Rattle.mtc_cosigner.specs.Works.cosigner_says
-returns-in-Export-clause-works g c = rw c.in-Export.is c.export_on.ensures.works
+returns-in-Ok-clause-works g c =
+    with_key g.D.Disk c.args.journal.now (cosigner_says g.H.TreeHash.hash c.args.work.now)
+    (keyless_owner c.args.keyless) (cosigner_owner c.in-Ok.cosigner) c.in-Ok.ensures.ok
+    (cosigner_disk c.cosign_on-answer.new.cosigner) c.into_disk-in-Ok.result
+    c.into_disk-in-Ok.ensures (ending_of c.cosign_on-answer.result)
+    (rw c.in-Cosign.is c.cosign_on-answer.ensures.works)
+
+pub returns-in-Ok-with_key-clause-works : goal.returns-in-Ok-with_key-clause-works
+unfolding Rattle.mtc_cosigner.specs.Works.cosigner_says
+returns-in-Ok-with_key-clause-works g c =
+    with_key g.D.Disk c.args.journal.now (cosigner_says g.H.TreeHash.hash c.args.work.now)
+    (keyless_owner c.args.keyless) (cosigner_owner c.in-Ok-with_key.cosigner)
+    c.in-Ok-with_key.ensures.ok (cosigner_disk c.export_on-answer.new.cosigner)
+    c.into_disk-in-Ok-with_key.result c.into_disk-in-Ok-with_key.ensures
+    (ending_of c.export_on-answer.result) (rw c.in-Export.is c.export_on-answer.ensures.works)
