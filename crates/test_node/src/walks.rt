@@ -6,9 +6,10 @@ use crate::cosigners::{
 };
 use crate::journals::disk;
 use crate::known::{
-    JOURNALS, LAST_JOURNAL, LAST_SIGNATURE, LOG, NEW, PUBLIC, ROOT_OF_4, ROOT_OF_8, SIGNATURES,
+    JOURNALS, LAST_JOURNAL, LAST_SIGNATURE, LOG, NEW, NODE_4_TO_8, PUBLIC, ROOT_OF_4, ROOT_OF_8,
+    SIGNATURES,
 };
-use cosigner_core::CosignError;
+use cosigner_core::{AdvanceRequest, CosignError, KeylessCosigner};
 use disk_core::MemDisk;
 use hss_core::{SigBuf, verify};
 use journal_core::StartError;
@@ -16,6 +17,7 @@ use mtc_io::Memory;
 use mtc_proof::{InputBuf, signature_input};
 use std::alloc::Global;
 use std::test::Fail;
+use tree_core::Sha;
 
 // Whether the journal of a new cosigner is the known one.
 fn is_begun(alloc: Global) -> Result<bool, Memory> {
@@ -136,6 +138,46 @@ fn signs(alloc: Global) -> Result<bool, Memory> {
 #[test]
 fn signatures_are_those_of_the_standard(rt: HostRuntime) -> Result<(), Fail> {
     assert!(rt; signs(rt.alloc())?);
+    Ok(())
+}
+
+// The cosigner without its key that has made the first two calls of the walk.
+fn advanced_without_key(alloc: Global) -> Result<Option<KeylessCosigner<Sha, MemDisk>>, Memory> {
+    let journal = disk(alloc, &NEW, &[])?;
+    let Ok(mut keyless) = KeylessCosigner::<Sha, MemDisk>::open(alloc, journal) else {
+        return Ok(None);
+    };
+    let to_4 = AdvanceRequest {
+        log: &LOG,
+        size: 4,
+        root: ROOT_OF_4,
+        proof: &[],
+    };
+    let to_8 = AdvanceRequest {
+        log: &LOG,
+        size: 8,
+        root: ROOT_OF_8,
+        proof: &[NODE_4_TO_8],
+    };
+    let advanced = keyless.advance(&to_4).is_ok() && keyless.advance(&to_8).is_ok();
+    Ok(if advanced { Some(keyless) } else { None })
+}
+
+// Whether it makes the others with its key, and leaves the known journal.
+fn signs_with_key(alloc: Global) -> Result<bool, Memory> {
+    let Some(keyless) = advanced_without_key(alloc)? else {
+        return Ok(false);
+    };
+    let Ok(mut cosigner) = MemCosigner::with_key(alloc, keyless) else {
+        return Ok(false);
+    };
+    let signed = has_the_key(&cosigner) && signs_both(&mut cosigner, &mut SigBuf::new());
+    Ok(is_left(&disk_behind(cosigner), 3) && signed)
+}
+
+#[test]
+fn an_advance_needs_no_key(rt: HostRuntime) -> Result<(), Fail> {
+    assert!(rt; signs_with_key(rt.alloc())?);
     Ok(())
 }
 
