@@ -32,7 +32,7 @@ measured() {
 # shellcheck disable=SC2016
 {
     measured 0 '`verify` of a certificate of 1,024 entries' '3 cosignatures' verify c store 1767225600
-    measured 0 '`advance`, with its key of height 10' 'a new cosigner' advance s advance
+    measured 0 '`advance`' 'a new cosigner' advance s advance
     measured 0 '`cosign`, with its key of height 10' 'a new cosigner' cosign s subtree
     measured 4 'opening a cosigner' '1024 signatures' cosign full subtree
     measured 0 '`export`' '1024 signatures' export full

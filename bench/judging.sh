@@ -1,9 +1,9 @@
 #!/bin/bash
 # How long a certificate is judged that three cosigners have signed, of a log of 1,024 entries, and
-# how long `advance` and `cosign` take on real files, each against as many hashes of one block by the
-# kit's sha2: as the judgement takes, and as making a key of height 10 and width 4 takes, which each of
-# these commands does anew. Times are processor times, so that no wait for a disk is in them. Needs
-# python3. Not part of the gate.
+# how long `cosign` takes on a real file, each against as many hashes of one block by the kit's sha2:
+# as the judgement takes, and as making a key of height 10 and width 4 takes, which `cosign` does anew.
+# Times are processor times, so that no wait for a disk is in them. Needs python3. Not part of the
+# gate.
 # Usage: bench/judging.sh [--write]   with --write the ratios go into bench/judging/figures.txt
 # The variable PROGRAM names another program than that of ./mtc.
 set -eu
@@ -30,7 +30,6 @@ awk -v against="as many bare hashes of \`sha2\`" -v blocks="$(cut -d ' ' -f 4 "$
     !($1 in least) || each < least[$1] { least[$1] = each }
     END {
         printf "judging a certificate with three cosignatures|%s|%.2f\n", against, least["judge"] / (blocks * least["bare"])
-        printf "`advance` on a real file|%s|%.2f\n", against, least["advance"] / (key * least["bare"])
         printf "`cosign` on a real file|%s|%.2f\n", against, least["cosign"] / (key * least["bare"])
     }' "$work/printed" "$work/commands" | tee "$work/figures"
 if [ "${1-}" = --write ]; then

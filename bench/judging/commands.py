@@ -1,4 +1,4 @@
-"""Times `advance` and `cosign` on real files: commands.py PROGRAM FOLDER.
+"""Times `cosign` on real files: commands.py PROGRAM FOLDER.
 
 The folder has what make_files.py made. Prints lines WORK NANOSECONDS, of processor time.
 """
@@ -27,7 +27,7 @@ def main():
         journal = f"s{number}"
         words = ["32473.2", "32473.1", "10", "4", "secret"]
         spent([program, "init-cosigner", journal, *words], folder)
-        print("advance", spent([program, "advance", journal, "advance"], folder))
+        spent([program, "advance", journal, "advance"], folder)
         print("cosign", spent([program, "cosign", journal, "subtree"], folder))
 
 
