@@ -6,10 +6,11 @@ use Rattle.disk_core.specs.Memory.{bytes_of, images_of}
 use Rattle.disk_core.specs.declared.memory.mem_disk.MemDisk.{MemDisk}
 use Rattle.journal_core.specs.Format.{Represents, RepresentsEither}
 use Rattle.journal_core.specs.Durable.{Represents-prop}
+use Rattle.journal_core.specs.Ends.{durable_of}
 use Rattle.disk_core.specs.declared.disk.Disk.{Ghosts}
 use Rattle.issuance_log.specs.Folds.{LogState, log_of, view_in}
 use Rattle.issuance_log.specs.Shown.{shown_with}
-use Rattle.issuance_log.specs.Words.{log_disk, view_of}
+use Rattle.issuance_log.specs.Words.{log_disk, log_end, view_of}
 use Rattle.issuance_log.specs.declared.log.Log.{Log}
 use Rattle.tree_core.specs.declared.hashing.TreeHash.{Ghosts as Hashes}
 use Rattle.drill_nodes.specs.Disks.{records_on}
@@ -17,10 +18,10 @@ use Rattle.drill_core.specs.Calls.{log_called, record_of}
 use Rattle.drill_core.specs.declared.calls.LogCall.{LogCall}
 
 -- The log whose journal stands on a disk in memory: what it shows over every disk, with the items
--- in the records of that disk.
+-- in the records on that disk before the end of the journal.
 abbrev pub log_seen : {H T : Type 0} {hashes : Hashes H} {g : Ghosts MemDisk} {k : Ghosts T}
     → Log H MemDisk T hashes g k → LogState
-log_seen log = shown_with (view_of log) (records_on (log_disk log))
+log_seen log = shown_with (view_of log) (durable_of (log_end log) (bytes_of (log_disk log)))
 
 -- What a disk holds and all that a crash now may leave of it stand for its records, and these make
 -- this log.
