@@ -8,6 +8,8 @@ use Rattle.disk_core.specs.declared.disk.Disk.{Ghosts}
 use Rattle.disk_core.proofs.Moments.{only_read_on}
 use Rattle.mtc_io.specs.Counts.{Rose}
 use Rattle.journal_core.specs.Folds.{IsCauseOf}
+use Rattle.journal_core.specs.Format.{Represents}
+use Rattle.journal_core.specs.Words.{AllRepresent}
 use Rattle.journal_core.specs.declared.error.OpenError.{OpenError}
 use Rattle.journal_core.specs.declared.error.OpenError.TheVariants as open_error
 use Rattle.issuance_log.specs.Folds.{LogState, log_fold}
@@ -18,7 +20,7 @@ use Rattle.issuance_log.specs.declared.error.LogOpenError.TheVariants.{Tile as N
 use Rattle.tile_store.specs.declared.error.TileError.TheVariants as tile_error
 use Rattle.mtc_command.specs.Answers.{bad_tile, no_memory, refused, replied, room_failed}
 use Rattle.mtc_command.specs.Answers.{tiles_name}
-use Rattle.mtc_command.specs.Steps.{answers, with_form}
+use Rattle.mtc_command.specs.Steps.{Outcome, answers, with_form}
 use Rattle.mtc_command.specs.Works.{HasWorkedOn, HasWorkedTiledOn}
 use Rattle.mtc_command.specs.declared.answer.Stopped.TheVariants.{BadForm}
 use Rattle.mtc_command.proofs.Tiled.{tiled_early}
@@ -28,6 +30,15 @@ use Rattle.mtc_authority.specs.Works.{log_says, tested_says, unless_missing}
 use Rattle.mtc_authority.specs.declared.work.Work.{Work}
 use Rattle.mtc_authority.proofs.Appends.{mapped_some}
 use Rattle.mtc_authority.proofs.BadTiles.{bad_is, none_bad}
+
+-- What is known behind an opening of these records beside these tiles: the outcome of the bytes is
+-- that of them, and the device and each image of it stand for them.
+pub record IsFoundBeside {D : Type 0} (g : Ghosts D) (says : Text → Text → Outcome)
+    (next : List Text → Outcome) (old new tiles : D) (records : Option (List Text)) : Type 0 where
+  pub contents : IfSome (g.contents tiles) (λ held. IfSome (g.contents old) (λ b.
+      IfSome records (λ list. says b held ≡ next list)))
+  pub stands : IfSome (g.contents new) (λ b. IfSome records (Represents b))
+  pub all : IfSome records (AllRepresent g new)
 
 module _ (h : HashFunction) (name : Text) (work : Work) where
   -- the outcome of the bytes of both is that of the log that was found

@@ -1,22 +1,25 @@
 use Rattle.std.proofs.Common.{◌∙◌, ◌≡◌, None, Some, Ok, Option, List, IfSome, option_map, subst}
 use Rattle.std.proofs.Common.{inl, sym}
+use Rattle.std.specs.Prelude.{option_and_then}
 use Rattle.byte_formats.specs.Types.{HashFunction, Text}
 use Rattle.disk_core.specs.Moments.{OnlyReads}
 use Rattle.disk_core.specs.declared.disk.Disk.{Ghosts}
+use Rattle.journal_core.specs.Format.{Represents, records_of}
+use Rattle.journal_core.specs.Words.{AllRepresent}
 use Rattle.issuance_log.specs.Folds.{LogState}
 use Rattle.issuance_log.specs.Openings.{HasItsTiles, log_read}
 use Rattle.issuance_log.specs.Shown.{shown_with}
 use Rattle.issuance_log.specs.Words.{log_disk, log_records, log_tiles_disk, view_of}
 use Rattle.mtc_command.specs.Answers.{Ending, ending_of}
 use Rattle.mtc_command.specs.Steps.{Outcome}
-use Rattle.mtc_command.specs.Valid.{ServesValidly}
-use Rattle.mtc_command.specs.Works.{HasWorkedTiledOn}
+use Rattle.mtc_command.specs.Valid.{ServesValidly, WorksValidly}
+use Rattle.mtc_command.specs.Works.{HasWorkedTiled, HasWorkedTiledOn}
 use Rattle.mtc_command.proofs.Beside.{only_reads_of}
 use Rattle.mtc_command.proofs.Tiled.{tiled_on, valid_tiled_on}
 use Rattle.disk_core.proofs.Moments.{only_read_on}
 use Rattle.mtc_authority.specs.Works.{IsLog, log_bytes_say, found_log, log_says}
 use Rattle.mtc_authority.specs.declared.work.Work.{Work}
-use Rattle.mtc_authority.proofs.Opened.{found_tiles, refused_says}
+use Rattle.mtc_authority.proofs.Opened.{IsFoundBeside, found_tiles, refused_says}
 use Rattle.mtc_authority.proofs.log_command.on_devices.Goals as goal
 
 pub open-requires : goal.open-requires
@@ -24,18 +27,27 @@ open-requires g c = λ slot key holds.
     let none : None ≡ Some key = sym (c.requires.empty slot) ∙ holds.held in
     absurd cc
 
--- what was found of the bytes is so of those before the device was read
+-- What was found of the bytes is so of those before the device was read, and of the records that it
+-- tells now.
 found_since : {D : Type 0} (g : Ghosts D) (h : HashFunction) (name : Text) (work : Work)
-    (old mid tiles : D) (list : Option (List Text)) (state : List Text → LogState)
-    → OnlyReads g old mid
+    (old mid new tiles : D) (list : Option (List Text)) (state : List Text → LogState)
+    → OnlyReads g old mid → list ≡ option_map records_of (g.contents new)
     → IfSome (g.contents mid) (λ b. IfSome list (λ l. log_read h b ≡ Ok (found_log (state l) l)))
     → IfSome (option_map state list) (λ s. IfSome (g.contents tiles) (HasItsTiles h s))
-    → IfSome (g.contents tiles) (λ held. IfSome (g.contents old) (λ b. IfSome list (λ l.
-    log_bytes_say h name work b held ≡ log_says h work (found_log (state l) l))))
-found_since g h name work old mid tiles list state first found all =
-    found_tiles h name work (g.contents old) (g.contents tiles) list state
-    (subst (λ (o : Option Text). IfSome o (λ b. IfSome list
-    (λ l. log_read h b ≡ Ok (found_log (state l) l)))) first.contents found) all
+    → IfSome (g.contents new) (λ b. IfSome list (Represents b))
+    → IfSome list (AllRepresent g new)
+    → IsFoundBeside g (log_bytes_say h name work)
+    (λ l. log_says h work (found_log (state l) l)) old new tiles
+    (option_map records_of (g.contents new))
+found_since g h name work old mid new tiles list state first told found held stands all =
+    subst (IsFoundBeside g (log_bytes_say h name work)
+    (λ l. log_says h work (found_log (state l) l)) old new tiles) told (record {
+      contents = found_tiles h name work (g.contents old) (g.contents tiles) list state
+          (subst (λ (o : Option Text). IfSome o (λ b. IfSome list
+          (λ l. log_read h b ≡ Ok (found_log (state l) l)))) first.contents found) held;
+      stands = stands;
+      all = all;
+    })
 
 pub returns-in-Ok-clause-serves : goal.returns-in-Ok-clause-serves
 returns-in-Ok-clause-serves g c = λ opened first fine.
@@ -43,17 +55,23 @@ returns-in-Ok-clause-serves g c = λ opened first fine.
     let h = g.H.TreeHash.hash in
     let name = c.args.journal.now in
     let log = c.in-Ok.log in
-    let found = c.in-Ok.ensures.opened in
+    let new = log_disk c.carry_out-answer.new.log in
+    let tiles = log_tiles_disk log in
+    let tiles' = log_tiles_disk c.carry_out-answer.new.log in
+    let next : List Text → Outcome =
+    λ list. log_says h c.args.work (found_log (shown_with (view_of log) list) list) in
+    let ending = ending_of c.carry_out-answer.result in
+    let is = c.in-Ok.ensures.opened in
+    let found = found_since d h name c.args.work opened c.args.disk (log_disk log) c.args.tiles
+    (log_records log) (shown_with (view_of log)) first is.list is.found is.tiles is.stands is.all in
     rw (c.into_disks-disk.ensures.journal, c.into_disks-disk.ensures.tiles) (tiled_on d name
-    (log_bytes_say h name c.args.work)
-    (λ list. log_says h c.args.work (found_log (shown_with (view_of log) list) list)) opened
-    (log_disk log) (log_disk c.carry_out-answer.new.log) c.args.tiles (log_tiles_disk log)
-    (log_tiles_disk c.carry_out-answer.new.log) (ending_of c.carry_out-answer.result)
-    g.met.D.Disk.reads_image (only_read_on d opened c.args.disk (log_disk log) first
-    found.only_reads) (found.fine ∙ fine) found.only_reads_tiles found.fine_tiles
-    (found_since d h name c.args.work opened c.args.disk c.args.tiles (log_records log)
-    (shown_with (view_of log)) first found.found found.tiles) found.stands found.all
-    c.carry_out-answer.ensures.works)
+    (log_bytes_say h name c.args.work) next opened (log_disk log) new c.args.tiles tiles tiles'
+    ending g.met.D.Disk.reads_image
+    (only_read_on d opened c.args.disk (log_disk log) first is.only_reads) (is.fine ∙ fine)
+    is.only_reads_tiles is.fine_tiles found.contents found.stands found.all
+    (subst (λ (o : Option (List Text)). HasWorkedTiled d name
+    (option_and_then (λ bytes. o) (d.contents tiles)) next (log_disk log) new tiles tiles' ending)
+    is.list c.carry_out-answer.ensures.works))
 
 pub returns-in-Err-clause-serves : goal.returns-in-Err-clause-serves
 returns-in-Err-clause-serves g c = λ opened first fine.
@@ -89,15 +107,18 @@ returns-in-Ok-clause-valid g c = λ opened first.
     let h = g.H.TreeHash.hash in
     let name = c.args.journal.now in
     let log = c.in-Ok.log in
-    let found = c.in-Ok.ensures.opened in
+    let new = log_disk c.carry_out-answer.new.log in
+    let next : List Text → Outcome =
+    λ list. log_says h c.args.work (found_log (shown_with (view_of log) list) list) in
+    let is = c.in-Ok.ensures.opened in
+    let found = found_since d h name c.args.work opened c.args.disk (log_disk log) c.args.tiles
+    (log_records log) (shown_with (view_of log)) first is.list is.found is.tiles is.stands is.all in
     rw c.into_disks-disk.ensures.journal (valid_tiled_on d (IsLog h) name
-    (log_bytes_say h name c.args.work)
-    (λ list. log_says h c.args.work (found_log (shown_with (view_of log) list) list)) opened
-    (log_disk log) (log_disk c.carry_out-answer.new.log) (d.contents c.args.tiles)
-    (only_read_on d opened c.args.disk (log_disk log) first found.only_reads)
-    (found_since d h name c.args.work opened c.args.disk c.args.tiles (log_records log)
-    (shown_with (view_of log)) first found.found found.tiles) found.stands found.all
-    c.carry_out-answer.ensures.valid)
+    (log_bytes_say h name c.args.work) next opened (log_disk log) new (d.contents c.args.tiles)
+    (only_read_on d opened c.args.disk (log_disk log) first is.only_reads) found.contents
+    found.stands found.all
+    (subst (λ (o : Option (List Text)). WorksValidly d (IsLog h) o next (log_disk log) new)
+    is.list c.carry_out-answer.ensures.valid))
 
 pub returns-in-Ok-clause-only_read : goal.returns-in-Ok-clause-only_read
 returns-in-Ok-clause-only_read g c = λ other.
