@@ -4,6 +4,7 @@ pub mod Outcomes
 pub mod Found
 pub mod Comes
 pub mod Names
+pub mod Rules
 pub mod Facts
 pub mod Devices
 pub mod Stops

@@ -1,8 +1,8 @@
 mod Texts
-mod Reading
-mod Auditing
+pub mod Reading
+pub mod Auditing
 mod Working
-mod Logs
-mod Cosigners
-mod Names
-mod Heard
+pub mod Logs
+pub mod Cosigners
+pub mod Names
+pub mod Heard
