@@ -6,7 +6,7 @@ use Rattle.journal_core.specs.Folds.{Found}
 use Rattle.journal_core.proofs.Standing.{found_stands}
 use Rattle.mtc_command.specs.Answers.{Reply, IsEarly, refused, said, said_code, status_of}
 use Rattle.mtc_command.specs.Answers.{stopped_code}
-use Rattle.mtc_command.specs.Made.{Journaled, started, untouched}
+use Rattle.mtc_command.specs.Made.{IsOnOld, Journaled, started, untouched}
 use Rattle.mtc_command.specs.Served.{OfEach, done_with}
 use Rattle.mtc_command.specs.Steps.{Files, Outcome}
 use Rattle.mtc_command.specs.Wanted.{Meets}
@@ -211,6 +211,46 @@ module _ (k : Kinds) (files : Files)
 pub found_valid : (k : Kinds) → FoundIsValid k
 found_valid k plan files are =
     valid k files are plan (outcome_of plan files) (outcomes_come k plan files)
+
+-- ---- a journal that is made
+
+-- each of them was there, or has no file
+abbrev pub AreNew : Files → List (List ℕ) → List Journaled → Type 0
+AreNew files names dids =
+    OfEach (λ name did. IsOnOld did ⊎ (files name ≡ None)) (done_with names dids)
+
+none_new : (files : Files) (names : List (List ℕ)) → AreNew files names []
+none_new files [] = tt
+none_new files (name ∷ names) = (inl tt, none_new files names)
+
+opened_old : (list : List (List ℕ)) (more : Option (List ℕ)) → IsOnOld (opened_did list more)
+opened_old list None = tt
+opened_old list (Some body) = tt
+
+each_new : {k : Kinds} (files : Files) (journals : List (Journal k)) (founds : Finds journals)
+    (deeds : Deeds journals) → AreFound k files journals founds
+    → AreNew files (journal_names journals) (journals_did journals founds deeds)
+each_new files [] founds deeds found = tt
+each_new files (opens kind beside name ∷ rest) founds deeds found = (
+  inl (opened_old founds.0.records deeds.0),
+  each_new files rest founds.1 deeds.1 found.1,
+)
+each_new files (makes kind name ∷ rest) founds deeds found =
+    (inr found.0, each_new files rest founds deeds.1 found.1)
+
+plan_new : {k : Kinds} (plan : Plan k) (files : Files) (o : Outcome) → Comes plan files o
+    → AreNew files (journal_names plan.journals) o.journals
+plan_new plan files o (absent file named none) = none_new files _
+plan_new plan files o (too_long file long) = none_new files _
+plan_new plan files o (exists file bytes named there) = none_new files _
+plan_new plan files o (misread read are input reason is) = none_new files _
+plan_new plan files o (no_node file reason not) = none_new files _
+plan_new plan files o (does read are say is founds found) =
+    each_new files plan.journals founds (say founds).does found
+
+pub made_new : (k : Kinds) (plan : Plan k) (files : Files)
+    → AreNew files (journal_names plan.journals) (outcome_of plan files).journals
+made_new k plan files = plan_new plan files (outcome_of plan files) (outcomes_come k plan files)
 
 -- ---- what was passed
 
