@@ -1,43 +1,57 @@
 -- What follows from the text of a command, by its plan.
-use Rattle.std.proofs.Common.{◌≡◌, ℕ, false, List, [], ◌∷◌, Option, None, Some}
-use Rattle.std.proofs.Common.{Result, Ok, Err, refl, sym, ap, subst, ◌∙◌}
+use Rattle.std.proofs.Common.{◌≡◌, ℕ, Bool, true, false, List, [], ◌∷◌, ◌++◌, Option, None, Some}
+use Rattle.std.proofs.Common.{Result, Ok, Err, refl, sym, ap, subst, ◌∙◌, codes, length, nat_lt}
+use Rattle.std.proofs.Common.{if◌then◌else◌}
+use Rattle.std.specs.Fmt.{decimal}
 use Rattle.byte_formats.specs.Types.{HashFunction}
+use Rattle.journal_core.specs.Folds.{Found, read_by}
 use Rattle.journal_core.specs.Format.{end_behind}
 use Rattle.authority_core.specs.Files.{request_of}
 use Rattle.authority_core.specs.Issues.{issued_entry, issued_record}
 use Rattle.authority_core.specs.Requests.{RequestParts}
-use Rattle.cosigner_core.specs.Reading.{subtree_in}
-use Rattle.cosigner_core.specs.Records.{sign_record}
-use Rattle.cosigner_core.specs.Refusals.{cosign_refused}
+use Rattle.cosigner_core.specs.Reading.{advance_in, subtree_in}
+use Rattle.cosigner_core.specs.Records.{advance_record, cosigner_record, sign_record}
+use Rattle.cosigner_core.specs.Refusals.{advance_refused, cosign_refused}
 use Rattle.cosigner_core.specs.declared.error.CosignError.{CosignError}
 use Rattle.cosigner_core.specs.declared.error.CosignError.TheVariants.{Append}
 use Rattle.issuance_log.specs.Folds.{LogView, view_in}
+use Rattle.issuance_log.specs.Openings.{FoundLog}
 use Rattle.issuance_log.specs.Refusals.{add_refusal}
 use Rattle.issuance_log.specs.declared.error.LogError.{LogError}
-use Rattle.mtc_command.specs.Answers.{out_of, refused, said}
-use Rattle.mtc_command.specs.Steps.{Outcome}
+use Rattle.mtc_command.specs.Answers.{refused, said}
+use Rattle.mtc_command.specs.Steps.{Files, Outcome}
 use Rattle.mtc_command.specs.Wanted.{Meets}
 use Rattle.mtc_command.specs.declared.answer.Said.{Said}
+use Rattle.mtc_command.specs.declared.answer.Said.TheVariants.{Done}
 use Rattle.mtc_command.specs.declared.answer.Stopped.{Stopped}
 use Rattle.mtc_command.specs.declared.answer.Stopped.TheVariants.{Beyond, NotAllowed}
+use Rattle.mtc_authority.specs.IssueCommand.{issue_outcome}
 use Rattle.mtc_authority.specs.IssueOutcome.{issued_text, log_fault_text, request_fault_text}
 use Rattle.mtc_authority.specs.declared.work.Work.TheVariants.{Issue}
-use Rattle.mtc_cosigner.specs.CosignerOutcomes.{cosigned_text, form_fault_text}
+use Rattle.mtc_cosigner.specs.CosignerOutcomes.{advanced_text, cosigned_text, form_fault_text}
 use Rattle.mtc_cosigner.specs.CosignerOutcomes.{step_fault_text}
+use Rattle.mtc_cosigner.specs.InitOutcome.{cosigner_settings_of}
+use Rattle.mtc_cosigner.specs.KeygenOutcome.{lms_type, ots_type, public_line}
+use Rattle.mtc_cosigner.specs.Works.{advance_outcome, cosign_outcome}
 use Rattle.command_plans.specs.Kinds.{Kinds}
-use Rattle.command_plans.specs.Outcomes.{deed_outcome, opened_did, wanted_of}
-use Rattle.command_plans.specs.Plans.{Deed, Finds, Input, Journal, Read, Step, in_form}
-use Rattle.command_plans.specs.Plans.{misreads, only_reads, works}
+use Rattle.command_plans.specs.Outcomes.{deed_outcome, opened_did, outcome_of, wanted_of}
+use Rattle.command_plans.specs.Plans.{Beside, Deed, Finds, Input, Journal, Plan, Read, Step}
+use Rattle.command_plans.specs.Plans.{in_form, misreads, only_reads, only_tells, opens, tells}
+use Rattle.command_plans.specs.Plans.{works}
 use Rattle.command_plans.proofs.Facts.{heard_passed}
-use Rattle.mtc_plans.specs.CosignerPlans.{cosign_plan, cosign_told, step_told, told_step}
-use Rattle.mtc_plans.specs.Heard.{CosignedTextsAreOfRecords}
-use Rattle.mtc_plans.specs.Heard.{IssuedTextsAreOfRecords}
-use Rattle.mtc_plans.specs.LogPlans.{issue_plan, work_step}
+use Rattle.mtc_plans.specs.CosignerPlans.{advance_told, cosign_told, export_plan, export_told}
+use Rattle.mtc_plans.specs.CosignerPlans.{init_cosigner_plan, step_told}
+use Rattle.mtc_plans.specs.Heard.{AdvancedTextsAreOfRecords, BegunTextsAreOfSecrets}
+use Rattle.mtc_plans.specs.Heard.{CosignedTextsAreOfRecords, ExportedTextsAreOfRecords}
+use Rattle.mtc_plans.specs.Heard.{HoldsSmall, IssuedTextsAreOfRecords, KeyTextsAreOfSecrets}
 use Rattle.mtc_plans.specs.LogWork.{issue_told, work_told}
-use Rattle.mtc_plans.specs.NodeKinds.{node_kinds}
-use Rattle.mtc_plans.specs.Steps.{deed_on}
-use Rattle.mtc_plans.proofs.Cosigners.{cosign_plans}
+use Rattle.mtc_plans.specs.NodeKinds.{NodeKind, NodeState, cosigner, log, node_fold, node_kinds}
+use Rattle.mtc_plans.specs.ReadPlans.{keygen_plan}
+use Rattle.mtc_plans.specs.Steps.{Told, deed_new, deed_on, in_secret, small_file}
+use Rattle.mtc_plans.proofs.Cosigners.{advance_plans, cosign_plans, export_plans}
+use Rattle.mtc_plans.proofs.Cosigners.{init_cosigner_plans}
 use Rattle.mtc_plans.proofs.Logs.{issue_plans}
+use Rattle.mtc_plans.proofs.Reading.{keygen_plans}
 
 -- ---- which step was taken
 
@@ -67,103 +81,240 @@ module _ {k : Kinds} {inputs : List Input} {journals : List (Journal k)} where
   same_work one other founds step is so =
       ap (λ (s : Step inputs journals). work_in one s founds) (so ∙ is)
 
+  -- a test that was passed, and the two of a secret
+  test_passed : (test : Bool) (read : Read inputs) (reason : List ℕ)
+      (next : Step inputs journals) (say : Finds journals → Deed journals)
+      → (if test then misreads read reason else next) ≡ works say → next ≡ works say
+  test_passed true read reason next say is = absurd (misread_works read reason say is)
+  test_passed false read reason next say is = is
+
+  secret_passed : (secret : Read inputs) (next : Step inputs journals)
+      (say : Finds journals → Deed journals) → in_secret secret next ≡ works say
+      → next ≡ works say
+  secret_passed secret next say is =
+      test_passed (nat_lt 48 (length secret.text)) secret (codes "Trailing") next say
+      (test_passed (nat_lt (length secret.text) 48) secret (codes "Short " ++ decimal 0)
+      (if nat_lt 48 (length secret.text) then misreads secret (codes "Trailing") else next) say is)
+
 not_refused : (status : Said) (text : List ℕ) (why : Stopped) (file : Option (List ℕ))
     (reason : List ℕ) → said status text ≡ refused why file reason → ⊥
 not_refused status text why file reason is = cc
+
+-- ---- a command that reads one file in some form, and then works on a journal that is there
+
+module _ {F E : Type 0} (h : HashFunction) (files : Files) (kind : NodeKind) (beside : Beside)
+    (journal file : List ℕ) (fault_text : E → List ℕ) (reading : List ℕ → Result F E)
+    (told : F → Found (NodeState kind) → Told) where
+  abbrev told_on : F → Step {k = node_kinds h} (small_file file ∷ [])
+      (opens kind beside journal ∷ [])
+  told_on form = works (λ founds. deed_on (told form founds.0))
+
+  abbrev formed_plan : Plan (node_kinds h)
+  formed_plan = record {
+    inputs = small_file file ∷ [];
+    journals = opens kind beside journal ∷ [];
+    steps = λ (r, none). in_form r fault_text (reading r.text) told_on;
+  }
+
+  -- its file was read, its journal was found, and this is what it told and added
+  pub record HasTold (wanted : Outcome) (status : Said) (text : List ℕ) : Type 0 where
+    pub bytes : List ℕ
+    pub has_bytes : HoldsSmall files file bytes
+    pub form : F
+    pub asked : reading bytes ≡ Ok form
+    pub held : List ℕ
+    pub there : files journal ≡ Some held
+    pub found : Found (NodeState kind)
+    pub is_node : read_by (node_fold h kind) held ≡ Ok found
+    pub did : wanted.journals ≡ opened_did found.records (told form found).1 ∷ []
+    pub meets : Meets (wanted_of (told form found).0) (said status text)
+
+  has_told : (wanted : Outcome) (status : Said) (text : List ℕ)
+      → wanted ≡ outcome_of formed_plan files → Meets wanted.answer (said status text)
+      → HasTold wanted status text
+  has_told wanted status text same meets =
+      let passed = heard_passed (node_kinds h) formed_plan files status text
+      (subst (λ (o : Outcome). Meets o.answer (said status text)) same meets) in
+      let read = passed.read.0 in
+      let form = form_passed read fault_text (reading read.text) told_on passed.say
+      passed.works_so in
+      let found = passed.founds.0 in
+      let deed : Deed formed_plan.journals = deed_on (told form.0 found) in
+      let eq : deed ≡ passed.say passed.founds = same_work passed.say
+      (λ founds. deed_on (told form.0 founds.0)) passed.founds (works passed.say) refl form.1.1 in
+      record {
+        bytes = read.text;
+        has_bytes = record { there = passed.are_read.0.there; few = passed.are_read.0.few };
+        form = form.0;
+        asked = form.1.0;
+        held = passed.are_found.0.bytes;
+        there = passed.are_found.0.there;
+        found = found;
+        is_node = passed.are_found.0.is;
+        did = ap (λ (o : Outcome). o.journals) (same ∙ passed.is)
+            ∙ ap (λ (d : Deed formed_plan.journals).
+            (deed_outcome formed_plan.journals passed.founds d).journals) (sym eq);
+        meets = subst (λ (d : Deed formed_plan.journals).
+            Meets (wanted_of d.answer) (said status text)) (sym eq) passed.meets;
+      }
 
 -- ---- issue
 
 issue_so : (h : HashFunction) (r : RequestParts) (v : LogView) (why : Option LogError)
     (status : Said) (text : List ℕ)
     → Meets (wanted_of (issue_told h r v why).0) (said status text)
-    → ((issue_told h r v why).1 ≡ Some (issued_record h v.settings r))
-    × (text ≡ issued_text v.size)
-issue_so h r v None status text meets = (refl, ap out_of meets)
+    → (why ≡ None) × (((issue_told h r v why).1 ≡ Some (issued_record h v.settings r))
+    × (said status text ≡ said Done (issued_text v.size)))
+issue_so h r v None status text meets = (refl, (refl, meets))
 issue_so h r v (Some why) status text meets =
     absurd (not_refused status text Beyond None (log_fault_text why) meets)
 
 pub issued_so : IssuedTextsAreOfRecords
 issued_so h files journal file status text meets =
-    let same = issue_plans h files journal file in
-    let plan = issue_plan h journal file in
-    let passed = heard_passed (node_kinds h) plan files status text
-    (subst (λ (o : Outcome). Meets o.answer (said status text)) same meets) in
-    let read = passed.read.0 in
-    let form = form_passed read request_fault_text (request_of read.text)
-    (λ r. work_step h only_reads journal (Issue r)) passed.say passed.works_so in
-    let r = form.0 in
-    let found = passed.founds.0 in
-    let v = view_in found.state in
-    let why = add_refusal v false (end_behind found.records)
-    (issued_entry h found.state.settings r) r.key in
-    let told = issue_told h r v why in
-    let deed : Deed plan.journals = deed_on told in
-    let eq : deed ≡ passed.say passed.founds = same_work passed.say
-    (λ founds. deed_on (work_told h (Issue r) founds.0)) passed.founds (works passed.say) refl
-    form.1.1 in
-    let so = issue_so h r v why status text (subst
-    (λ (d : Deed plan.journals). Meets (wanted_of d.answer) (said status text)) (sym eq)
-    passed.meets) in
+    let t = has_told h files log only_reads journal file request_fault_text request_of
+    (λ (r : RequestParts) (found : FoundLog). work_told h (Issue r) found)
+    (issue_outcome h journal file files) status text (issue_plans h files journal file) meets in
+    let v = view_in t.found.state in
+    let so = issue_so h t.form v (add_refusal v false (end_behind t.found.records)
+    (issued_entry h t.found.state.settings t.form) t.form.key) status text t.meets in
     record {
-      bytes = read.text;
-      has_bytes = record { there = passed.are_read.0.there; few = passed.are_read.0.few };
-      request = r;
-      asked = form.1.0;
-      held = passed.are_found.0.bytes;
-      there = passed.are_found.0.there;
-      found = found;
-      is_log = passed.are_found.0.is;
-      did = ap (λ (o : Outcome). o.journals) (same ∙ passed.is)
-          ∙ ap (λ (d : Deed plan.journals).
-          (deed_outcome plan.journals passed.founds d).journals) (sym eq)
-          ∙ ap (λ (m : Option (List ℕ)). opened_did found.records m ∷ []) so.0;
-      text_is = so.1;
+      bytes = t.bytes;
+      has_bytes = t.has_bytes;
+      request = t.form;
+      asked = t.asked;
+      held = t.held;
+      there = t.there;
+      found = t.found;
+      is_log = t.is_node;
+      fits = so.0;
+      did = t.did ∙ ap (λ (m : Option (List ℕ)). opened_did t.found.records m ∷ []) so.1.0;
+      reply_is = so.1.1;
     }
 
--- ---- cosign
+-- ---- a cosigner's journal
 
 step_so : (body line : List ℕ) (why : Option CosignError) (status : Said) (text : List ℕ)
     → Meets (wanted_of (step_told body line why).0) (said status text)
-    → ((step_told body line why).1 ≡ Some body) × (text ≡ line)
-step_so body line None status text meets = (refl, ap out_of meets)
+    → (why ≡ None) × (((step_told body line why).1 ≡ Some body)
+    × (said status text ≡ said Done line))
+step_so body line None status text meets = (refl, (refl, meets))
 step_so body line (Some (Append why)) status text meets =
     absurd (not_refused status text Beyond None (step_fault_text (Append why)) meets)
 step_so body line (Some why) status text meets =
     absurd (not_refused status text NotAllowed None (step_fault_text why) meets)
 
+pub advanced_so : AdvancedTextsAreOfRecords
+advanced_so h files journal file status text meets =
+    let t = has_told h files cosigner only_reads journal file form_fault_text advance_in
+    (advance_told h) (advance_outcome h journal file files) status text
+    (advance_plans h files journal file) meets in
+    let r = t.form in
+    let so = step_so (advance_record r.size r.root r.proof) (advanced_text r.size)
+    (advance_refused h t.found.state false (end_behind t.found.records) r) status text t.meets in
+    record {
+      bytes = t.bytes;
+      has_bytes = t.has_bytes;
+      request = r;
+      asked = t.asked;
+      held = t.held;
+      there = t.there;
+      found = t.found;
+      is_cosigner = t.is_node;
+      fits = so.0;
+      did = t.did ∙ ap (λ (m : Option (List ℕ)). opened_did t.found.records m ∷ []) so.1.0;
+      reply_is = so.1.1;
+    }
+
 pub cosigned_so : CosignedTextsAreOfRecords
 cosigned_so h files journal file status text meets =
-    let same = cosign_plans h files journal file in
-    let plan = cosign_plan h journal file in
+    let t = has_told h files cosigner only_reads journal file form_fault_text subtree_in
+    (cosign_told h) (cosign_outcome h journal file files) status text
+    (cosign_plans h files journal file) meets in
+    let r = t.form in
+    let state = t.found.state in
+    let so = step_so (sign_record state.key.next r.start r.end r.hash r.proof)
+    (cosigned_text state r) (cosign_refused h state false (end_behind t.found.records) r) status
+    text t.meets in
+    record {
+      bytes = t.bytes;
+      has_bytes = t.has_bytes;
+      request = r;
+      asked = t.asked;
+      held = t.held;
+      there = t.there;
+      found = t.found;
+      is_cosigner = t.is_node;
+      fits = so.0;
+      did = t.did ∙ ap (λ (m : Option (List ℕ)). opened_did t.found.records m ∷ []) so.1.0;
+      reply_is = so.1.1;
+    }
+
+pub exported_so : ExportedTextsAreOfRecords
+exported_so h files journal status text meets =
+    let same = export_plans h files journal in
+    let plan = export_plan h journal in
     let passed = heard_passed (node_kinds h) plan files status text
     (subst (λ (o : Outcome). Meets o.answer (said status text)) same meets) in
-    let read = passed.read.0 in
-    let form = form_passed read form_fault_text (subtree_in read.text)
-    (λ r. told_step h journal (cosign_told h r)) passed.say passed.works_so in
-    let r = form.0 in
     let found = passed.founds.0 in
-    let body = sign_record found.state.key.next r.start r.end r.hash r.proof in
-    let line = cosigned_text found.state r in
-    let why = cosign_refused h found.state false (end_behind found.records) r in
-    let deed : Deed plan.journals = deed_on (step_told body line why) in
+    let deed : Deed plan.journals = deed_on (export_told found) in
     let eq : deed ≡ passed.say passed.founds = same_work passed.say
-    (λ founds. deed_on (cosign_told h r founds.0)) passed.founds (works passed.say) refl form.1.1
-    in
-    let so = step_so body line why status text (subst
-    (λ (d : Deed plan.journals). Meets (wanted_of d.answer) (said status text)) (sym eq)
-    passed.meets) in
+    (λ founds. deed_on (export_told founds.0)) passed.founds (works passed.say) refl
+    passed.works_so in
     record {
-      bytes = read.text;
-      has_bytes = record { there = passed.are_read.0.there; few = passed.are_read.0.few };
-      request = r;
-      asked = form.1.0;
       held = passed.are_found.0.bytes;
       there = passed.are_found.0.there;
       found = found;
       is_cosigner = passed.are_found.0.is;
       did = ap (λ (o : Outcome). o.journals) (same ∙ passed.is)
           ∙ ap (λ (d : Deed plan.journals).
-          (deed_outcome plan.journals passed.founds d).journals) (sym eq)
-          ∙ ap (λ (m : Option (List ℕ)). opened_did found.records m ∷ []) so.0;
-      text_is = so.1;
+          (deed_outcome plan.journals passed.founds d).journals) (sym eq);
+      reply_is = subst (λ (d : Deed plan.journals).
+          Meets (wanted_of d.answer) (said status text)) (sym eq) passed.meets;
+    }
+
+-- ---- a secret file
+
+pub keyed_so : HashFunction → KeyTextsAreOfSecrets
+keyed_so h files height width file status text meets =
+    let same = keygen_plans (node_kinds h) h height width file files in
+    let plan : Plan (node_kinds h) = keygen_plan height width file in
+    let passed = heard_passed (node_kinds h) plan files status text
+    (subst (λ (o : Outcome). Meets o.answer (said status text)) same meets) in
+    let read = passed.read.0 in
+    let judged = tells Done (public_line (lms_type height) (ots_type width) read.text) in
+    let deed : Deed plan.journals = record { answer = judged; does = tt } in
+    let eq : deed ≡ passed.say passed.founds = same_work passed.say (λ none. deed)
+    passed.founds (works passed.say) refl
+    (secret_passed read (only_tells judged) passed.say passed.works_so) in
+    record {
+      secret = read.text;
+      has_secret = record { there = passed.are_read.0.there; few = passed.are_read.0.few };
+      reply_is = subst (λ (d : Deed plan.journals).
+          Meets (wanted_of d.answer) (said status text)) (sym eq) passed.meets;
+    }
+
+pub begun_so : HashFunction → BegunTextsAreOfSecrets
+begun_so h files journal id log_id height width file status text meets =
+    let same = init_cosigner_plans h files journal id log_id height width file in
+    let plan = init_cosigner_plan h journal id log_id height width file in
+    let passed = heard_passed (node_kinds h) plan files status text
+    (subst (λ (o : Outcome). Meets o.answer (said status text)) same meets) in
+    let read = passed.read.0 in
+    let s = cosigner_settings_of id log_id height width in
+    let line = public_line s.lms s.ots read.text in
+    let deed : Deed plan.journals = deed_new (cosigner_record s read.text) (tells Done line) in
+    let eq : deed ≡ passed.say passed.founds = same_work passed.say (λ none. deed)
+    passed.founds (works passed.say) refl
+    (secret_passed read (works (λ none. deed)) passed.say passed.works_so) in
+    record {
+      keys = record {
+        secret = read.text;
+        has_secret = record { there = passed.are_read.0.there; few = passed.are_read.0.few };
+        reply_is = subst (λ (d : Deed plan.journals).
+            Meets (wanted_of d.answer) (said status text)) (sym eq) passed.meets;
+      };
+      fresh = passed.are_found.0;
+      did = ap (λ (o : Outcome). o.journals) (same ∙ passed.is)
+          ∙ ap (λ (d : Deed plan.journals).
+          (deed_outcome plan.journals passed.founds d).journals) (sym eq);
     }

@@ -1,34 +1,49 @@
--- What of its files and journals follows from the text of `issue` and of `cosign`: the request that
--- was read, the records that were found, and the record that is added.
-use Rattle.std.specs.Prelude.{◌≡◌, ◌≤◌, [], ◌∷◌, length, Ok, Some}
+-- What of its files and journals follows from the text of a command: of `issue`, and of those that
+-- open a cosigner's journal or are given a secret file.
+use Rattle.std.specs.Prelude.{◌≡◌, ◌≤◌, ℕ, false, [], ◌∷◌, length, None, Ok, Some}
 use Rattle.byte_formats.specs.Types.{HashFunction, Text}
+use Rattle.journal_core.specs.Format.{end_behind}
 use Rattle.authority_core.specs.Files.{request_of}
-use Rattle.authority_core.specs.Issues.{issued_record}
+use Rattle.authority_core.specs.Issues.{issued_entry, issued_record}
 use Rattle.authority_core.specs.Requests.{RequestParts}
+use Rattle.cosigner_core.specs.Exports.{export_text}
 use Rattle.cosigner_core.specs.Openings.{FoundCosigner, cosigner_read}
-use Rattle.cosigner_core.specs.Reading.{subtree_in}
-use Rattle.cosigner_core.specs.Records.{sign_record}
-use Rattle.cosigner_core.specs.Requests.{SubtreeParts}
+use Rattle.cosigner_core.specs.Reading.{advance_in, subtree_in}
+use Rattle.cosigner_core.specs.Records.{advance_record, cosigner_record, sign_record}
+use Rattle.cosigner_core.specs.Refusals.{advance_refused, cosign_refused}
+use Rattle.cosigner_core.specs.Requests.{AdvanceParts, SubtreeParts}
 use Rattle.issuance_log.specs.Folds.{view_in}
 use Rattle.issuance_log.specs.Openings.{FoundLog, log_read}
-use Rattle.mtc_command.specs.Answers.{said}
-use Rattle.mtc_command.specs.Made.{appended}
-use Rattle.mtc_command.specs.Steps.{Files}
+use Rattle.issuance_log.specs.Refusals.{add_refusal}
+use Rattle.mtc_command.specs.Answers.{Reply, said}
+use Rattle.mtc_command.specs.Made.{appended, reads, started}
+use Rattle.mtc_command.specs.Steps.{Files, Outcome}
 use Rattle.mtc_command.specs.Wanted.{Meets}
 use Rattle.mtc_command.specs.declared.answer.Said.{Said}
+use Rattle.mtc_command.specs.declared.answer.Said.TheVariants.{Done}
 use Rattle.mtc_authority.specs.IssueCommand.{issue_outcome}
 use Rattle.mtc_authority.specs.IssueOutcome.{issued_text}
-use Rattle.mtc_cosigner.specs.CosignerOutcomes.{cosigned_text}
-use Rattle.mtc_cosigner.specs.Works.{cosign_outcome}
+use Rattle.mtc_cosigner.specs.CosignerOutcomes.{advanced_text, cosigned_text}
+use Rattle.mtc_cosigner.specs.InitOutcome.{cosigner_settings_of, init_cosigner_outcome}
+use Rattle.mtc_cosigner.specs.KeygenOutcome.{keygen_outcome, lms_type, ots_type, public_line}
+use Rattle.mtc_cosigner.specs.Works.{advance_outcome, cosign_outcome, export_outcome}
 
 -- The file holds this, within the limit of a small file.
 pub record HoldsSmall (files : Files) (file text : Text) : Type 0 where
   pub there : files file ≡ Some text
   pub few : length text ≤ 16777216
 
--- A request was read, a log was found, and the entry of the request is added. The text is the index
--- of that.
-pub record IssuesSo (h : HashFunction) (files : Files) (journal file text : Text) : Type 0 where
+-- So it is of each text that this outcome may say.
+abbrev pub OfSaid : Outcome → (Reply → Type 0) → Type 0
+OfSaid wanted P =
+    (status : Said) (text : Text) → Meets wanted.answer (said status text) → P (said status text)
+
+-- ---- `issue`
+
+-- A request was read, a log was found that takes its entry, and the entry is added. The text is the
+-- index of that.
+pub record IssuesSo (h : HashFunction) (files : Files) (journal file : Text) (reply : Reply)
+    : Type 0 where
   pub bytes : Text
   pub has_bytes : HoldsSmall files file bytes
   pub request : RequestParts
@@ -37,13 +52,45 @@ pub record IssuesSo (h : HashFunction) (files : Files) (journal file text : Text
   pub there : files journal ≡ Some held
   pub found : FoundLog
   pub is_log : log_read h held ≡ Ok found
+  pub fits : add_refusal (view_in found.state) false (end_behind found.records)
+      (issued_entry h found.state.settings request) request.key ≡ None
   pub did : (issue_outcome h journal file files).journals
       ≡ appended found.records (issued_record h (view_in found.state).settings request) ∷ []
-  pub text_is : text ≡ issued_text (view_in found.state).size
+  pub reply_is : reply ≡ said Done (issued_text (view_in found.state).size)
 
--- A request was read, a cosigner was found, and a Sign record is added. The text is the signature
--- by the next one-time key.
-pub record CosignsSo (h : HashFunction) (files : Files) (journal file text : Text) : Type 0 where
+-- So it is of each text that `issue` may say.
+abbrev pub IssuedTextsAreOfRecords : Type 0
+IssuedTextsAreOfRecords = (h : HashFunction) (files : Files) (journal file : Text)
+    → OfSaid (issue_outcome h journal file files) (IssuesSo h files journal file)
+
+-- ---- a cosigner's journal
+
+-- A request was read, a cosigner was found that takes the step, and an Advance record is added. The
+-- text is the size of the request.
+pub record AdvancesSo (h : HashFunction) (files : Files) (journal file : Text) (reply : Reply)
+    : Type 0 where
+  pub bytes : Text
+  pub has_bytes : HoldsSmall files file bytes
+  pub request : AdvanceParts
+  pub asked : advance_in bytes ≡ Ok request
+  pub held : Text
+  pub there : files journal ≡ Some held
+  pub found : FoundCosigner
+  pub is_cosigner : cosigner_read h held ≡ Ok found
+  pub fits : advance_refused h found.state false (end_behind found.records) request ≡ None
+  pub did : (advance_outcome h journal file files).journals
+      ≡ appended found.records (advance_record request.size request.root request.proof) ∷ []
+  pub reply_is : reply ≡ said Done (advanced_text request.size)
+
+-- So it is of each text that `advance` may say.
+abbrev pub AdvancedTextsAreOfRecords : Type 0
+AdvancedTextsAreOfRecords = (h : HashFunction) (files : Files) (journal file : Text)
+    → OfSaid (advance_outcome h journal file files) (AdvancesSo h files journal file)
+
+-- A request was read, a cosigner was found that takes the step, and a Sign record is added. The
+-- text is the signature by the next one-time key.
+pub record CosignsSo (h : HashFunction) (files : Files) (journal file : Text) (reply : Reply)
+    : Type 0 where
   pub bytes : Text
   pub has_bytes : HoldsSmall files file bytes
   pub request : SubtreeParts
@@ -52,19 +99,56 @@ pub record CosignsSo (h : HashFunction) (files : Files) (journal file text : Tex
   pub there : files journal ≡ Some held
   pub found : FoundCosigner
   pub is_cosigner : cosigner_read h held ≡ Ok found
+  pub fits : cosign_refused h found.state false (end_behind found.records) request ≡ None
   pub did : (cosign_outcome h journal file files).journals
       ≡ appended found.records (sign_record found.state.key.next request.start request.end
       request.hash request.proof) ∷ []
-  pub text_is : text ≡ cosigned_text found.state request
+  pub reply_is : reply ≡ said Done (cosigned_text found.state request)
 
--- So it is of each text that the command may say.
-abbrev pub IssuedTextsAreOfRecords : Type 0
-IssuedTextsAreOfRecords = (h : HashFunction) (files : Files) (journal file : Text) (status : Said)
-    (text : Text) → Meets (issue_outcome h journal file files).answer (said status text)
-    → IssuesSo h files journal file text
-
+-- So it is of each text that `cosign` may say.
 abbrev pub CosignedTextsAreOfRecords : Type 0
 CosignedTextsAreOfRecords = (h : HashFunction) (files : Files) (journal file : Text)
-    (status : Said) (text : Text)
-    → Meets (cosign_outcome h journal file files).answer (said status text)
-    → CosignsSo h files journal file text
+    → OfSaid (cosign_outcome h journal file files) (CosignsSo h files journal file)
+
+-- A cosigner was found, and no record is added. The text is what others may know of it.
+pub record ExportsSo (h : HashFunction) (files : Files) (journal : Text) (reply : Reply)
+    : Type 0 where
+  pub held : Text
+  pub there : files journal ≡ Some held
+  pub found : FoundCosigner
+  pub is_cosigner : cosigner_read h held ≡ Ok found
+  pub did : (export_outcome h journal files).journals ≡ reads found.records ∷ []
+  pub reply_is : reply ≡ said Done (export_text found.state found.records)
+
+-- So it is of each text that `export` may say.
+abbrev pub ExportedTextsAreOfRecords : Type 0
+ExportedTextsAreOfRecords = (h : HashFunction) (files : Files) (journal : Text)
+    → OfSaid (export_outcome h journal files) (ExportsSo h files journal)
+
+-- ---- a secret file
+
+-- A secret was read. The text is its public key.
+pub record KeysSo (files : Files) (height width : ℕ) (file : Text) (reply : Reply)
+    : Type 0 where
+  pub secret : Text
+  pub has_secret : HoldsSmall files file secret
+  pub reply_is : reply ≡ said Done (public_line (lms_type height) (ots_type width) secret)
+
+-- So it is of each text that `keygen` may say.
+abbrev pub KeyTextsAreOfSecrets : Type 0
+KeyTextsAreOfSecrets = (files : Files) (height width : ℕ) (file : Text)
+    → OfSaid (keygen_outcome height width file files) (KeysSo files height width file)
+
+-- A new cosigner says so, its journal had no file, and its first record is of the secret.
+pub record BeginsSo (files : Files) (journal id log_id : Text) (height width : ℕ) (file : Text)
+    (reply : Reply) : Type 0 where
+  pub keys : KeysSo files height width file reply
+  pub fresh : files journal ≡ None
+  pub did : (init_cosigner_outcome journal id log_id height width file files).journals
+      ≡ started (cosigner_record (cosigner_settings_of id log_id height width) keys.secret) ∷ []
+
+-- So it is of each text that `init-cosigner` may say.
+abbrev pub BegunTextsAreOfSecrets : Type 0
+BegunTextsAreOfSecrets = (files : Files) (journal id log_id : Text) (height width : ℕ)
+    (file : Text) → OfSaid (init_cosigner_outcome journal id log_id height width file files)
+    (BeginsSo files journal id log_id height width file)

@@ -35,7 +35,9 @@ ghost use Rattle.command_plans.specs.Outcomes.{outcome_of};
 ghost use Rattle.command_plans.specs.Names.{beside_names, journal_names};
 ghost use Rattle.command_plans.specs.Plans.{Beside, Journal};
 ghost use Rattle.mtc_plans.specs.Commands.{plan_of};
-ghost use Rattle.mtc_plans.specs.Heard.{CosignedTextsAreOfRecords, IssuedTextsAreOfRecords};
+ghost use Rattle.mtc_plans.specs.Heard.{AdvancedTextsAreOfRecords, BegunTextsAreOfSecrets};
+ghost use Rattle.mtc_plans.specs.Heard.{CosignedTextsAreOfRecords, ExportedTextsAreOfRecords};
+ghost use Rattle.mtc_plans.specs.Heard.{IssuedTextsAreOfRecords, KeyTextsAreOfSecrets};
 ghost use Rattle.mtc_plans.specs.LogPlans.{work_plan};
 ghost use Rattle.mtc_plans.specs.NodeKinds.{node_kinds};
 
@@ -139,10 +141,18 @@ pub fn law_commands_come()
     ensures passed { (h : HashFunction) → HeardHasPassed (node_kinds h) }
 {}
 
-/// Where `issue` answers with a text, its request was read, its log was found, and the entry of the
-/// request is added, of which the text is the index. Where `cosign` does, a Sign record is added
-/// with the next one-time key, of which the text is the signature.
+/// Where `issue` answers with a text, its request was read, its log was found and takes the entry
+/// of the request, which is added, and the text is its index. Where `cosign` does, a Sign record is
+/// added with the next one-time key, and the text is the signature by that; where `advance` does,
+/// an Advance record, and the text is the size of the request. The text of `export` is what others
+/// may know of the cosigner that was found, and no record is added. The text of `keygen` and of
+/// `init-cosigner` is the public key of the secret that was read, and the new cosigner's first
+/// record is of that secret.
 pub fn law_texts_are_of_their_records()
     ensures issue { IssuedTextsAreOfRecords }
     ensures cosign { CosignedTextsAreOfRecords }
+    ensures advance { AdvancedTextsAreOfRecords }
+    ensures export { ExportedTextsAreOfRecords }
+    ensures keygen { KeyTextsAreOfSecrets }
+    ensures init { BegunTextsAreOfSecrets }
 {}

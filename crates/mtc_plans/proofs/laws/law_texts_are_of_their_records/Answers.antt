@@ -1,4 +1,5 @@
-use Rattle.mtc_plans.proofs.Heard.{cosigned_so, issued_so}
+use Rattle.mtc_plans.proofs.Heard.{advanced_so, begun_so, cosigned_so, exported_so, issued_so}
+use Rattle.mtc_plans.proofs.Heard.{keyed_so}
 use Rattle.mtc_plans.proofs.laws.law_texts_are_of_their_records.Goals as goal
 
 pub returns-clause-issue : goal.returns-clause-issue
@@ -6,3 +7,15 @@ returns-clause-issue c = issued_so
 
 pub returns-clause-cosign : goal.returns-clause-cosign
 returns-clause-cosign c = cosigned_so
+
+pub returns-clause-advance : goal.returns-clause-advance
+returns-clause-advance c = advanced_so
+
+pub returns-clause-export : goal.returns-clause-export
+returns-clause-export c = exported_so
+
+pub returns-clause-keygen : goal.returns-clause-keygen
+returns-clause-keygen c = keyed_so (λ text. text)
+
+pub returns-clause-init : goal.returns-clause-init
+returns-clause-init c = begun_so (λ text. text)
