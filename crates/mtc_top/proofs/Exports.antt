@@ -26,7 +26,6 @@ use Rattle.cosigner_core.specs.declared.settings.CosignerSettings.{CosignerSetti
 use Rattle.cosigner_core.specs.declared.step.Step.{Step}
 use Rattle.cosigner_core.proofs.ExportAgain.{export_again}
 use Rattle.mtc_command.specs.Made.{reads}
-use Rattle.mtc_command.specs.Served.{Journals}
 use Rattle.mtc_command.specs.Steps.{Files, Outcome, stops_at, with_file, with_form}
 use Rattle.mtc_command.specs.Wanted.{Meets}
 use Rattle.mtc_command.specs.declared.answer.Stopped.TheVariants.{Missing}
@@ -37,12 +36,12 @@ use Rattle.node_history.specs.Rules.{IsReadAs, StartsWith}
 use Rattle.node_history.specs.declared.start.NodeStart.{NodeStart}
 use Rattle.node_history.specs.declared.start.NodeStart.TheVariants.{Cosigner}
 use Rattle.node_history.proofs.Cosigners.{of_first}
-use Rattle.mtc_top.specs.Courses.{AreAmong, Link, Turn, HasTurned, IsCourse, IsBegun, IsHeard}
+use Rattle.mtc_top.specs.Courses.{Link, Turn, HasTurned, IsCourse, IsBegun, IsHeard}
 use Rattle.mtc_top.specs.Courses.{IsRecovered}
 use Rattle.mtc_top.specs.ExportLaws.{ExportsHoldTheSteps, HasExported}
 use Rattle.mtc_top.specs.Facts.{facts}
 use Rattle.mtc_top.specs.Run.{Answered}
-use Rattle.mtc_top.proofs.Printed.{HasDone, done_so}
+use Rattle.mtc_top.proofs.Printed.{did_so}
 use Rattle.mtc_top.proofs.Recovered.{held_prefix, last, read_again}
 use Rattle.mtc_top.proofs.Turns.{file_bytes, heard_run, not_refused, printed_so, modelled_file}
 use Rattle.mtc_top.proofs.Turns.{contents_image}
@@ -159,11 +158,6 @@ module _ {R S D O E : Type 0} (h : HashFunction) (rooms : Rooms R S D) (disks : 
         let meets = replied (export_says found)
         (asked_there h name (rooms.file new) c found there opened.1) in
         let text = export_text opened.0 node.records in
-        let done = subst
-        (HasDone h rooms disks outs errs contents bytes (name ∷ []) new turn run heard)
-        (asked_there h name (rooms.file new) c found there opened.1)
-        (done_so h rooms disks outs errs contents bytes (name ∷ []) new turn run heard (export name)
-        is_modelled spoken refl) in
         let recovered : IsRecovered h rooms disks outs errs name new node.records
         = (
           c,
@@ -177,8 +171,9 @@ module _ {R S D O E : Type 0} (h : HashFunction) (rooms : Rooms R S D) (disks : 
         record {
           list = node.records;
           recovered = recovered;
-          was_read = subst (λ (js : Journals). AreAmong js name (reads node.records))
-              (sym done.journals_are) (inl (refl, refl));
+          was_read = did_so h rooms disks outs errs new turn (export name) spoken name
+              (reads node.records) refl (ap (λ (o : Outcome). o.journals)
+              (asked_there h name (rooms.file new) c found there opened.1));
           state = opened.0;
           state_is = stands.1;
           text = text;
