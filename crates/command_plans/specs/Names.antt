@@ -1,5 +1,5 @@
 -- The names of the files of a command, computed from its plan.
-use Rattle.std.specs.Prelude.{List, [], ◌∷◌, ◌++◌, Option}
+use Rattle.std.specs.Prelude.{List, [], ◌∷◌, ◌++◌, Option, None, Some}
 use Rattle.std.specs.Option.{option_to_list}
 use Rattle.byte_formats.specs.Types.{Text}
 use Rattle.command_plans.specs.Kinds.{Kinds}
@@ -25,6 +25,12 @@ abbrev pub made_names : {k : Kinds} → List (Journal k) → List Text
 made_names [] = []
 made_names (opens kind beside name ∷ rest) = made_names rest
 made_names (makes kind name ∷ rest) = name ∷ made_names rest
+
+-- The first one that it makes.
+abbrev pub first_made : {k : Kinds} → List (Journal k) → Option Text
+first_made [] = None
+first_made (opens kind beside name ∷ rest) = first_made rest
+first_made (makes kind name ∷ rest) = Some name
 
 -- The files beside those that it opens, and of these the ones that it only reads.
 abbrev pub beside_names : {k : Kinds} → List (Journal k) → List Text

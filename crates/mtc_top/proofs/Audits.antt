@@ -21,7 +21,7 @@ use Rattle.disk_core.specs.declared.disk.Disk.{Ghosts as Disks}
 use Rattle.mtc_io.specs.declared.sink.Sink.{Ghosts as Sinks}
 use Rattle.mtc_room.specs.Room.{ModelsFile}
 use Rattle.mtc_room.specs.declared.room.Room.{Ghosts as Rooms}
-use Rattle.mtc_words.specs.Commands.{CommandValue}
+use Rattle.mtc_words.specs.Commands.{CommandValue, audit}
 use Rattle.mtc_words.specs.declared.error.WordError.{WordError}
 use Rattle.cosigner_core.specs.ExportReading.{export_in}
 use Rattle.cosigner_core.specs.declared.error.ReadExportError.{ReadExportError}
@@ -51,6 +51,7 @@ use Rattle.mtc_top.specs.Concluded.{Prints}
 use Rattle.mtc_top.specs.Courses.{Turn}
 use Rattle.mtc_top.specs.Facts.{facts}
 use Rattle.mtc_top.proofs.Exports.{exports_hold}
+use Rattle.mtc_top.proofs.Planned.{outcome_planned}
 
 -- ---- what is asked for
 
@@ -213,7 +214,8 @@ module _ {R S D O E : Type 0} (h : HashFunction) (rooms : Rooms R S D) (disks : 
       not6 not8 =
       let a = run.answered not5 not8 in
       let asked = ap (λ (q : Result CommandValue WordError). (facts h q).outcome (rooms.file old))
-      spoken ∙ audit_asked h (rooms.file old) cert store moment entries kept x is
+      spoken ∙ sym (outcome_planned h (audit cert store moment entries kept) (rooms.file old))
+      ∙ audit_asked h (rooms.file old) cert store moment entries kept x is
       ∙ ap (λ f. audit_by h x f (is_supported x) (has_own h x.items x.accepted x.cert)) own_list
       ∙ ap (λ (b : Bool). audit_by h x None b (has_own h x.items x.accepted x.cert))
       (supported x is.kept_text is.kept_read backed) in

@@ -1,6 +1,6 @@
 -- A journal is never a file beside another one.
 use Rattle.std.proofs.Common.{◌≡◌, inl, inr, ℕ, false, List, ◌++◌, Option, None, Some}
-use Rattle.std.proofs.Common.{Result, Ok, Err, refl, sym, subst, ◌∙◌}
+use Rattle.std.proofs.Common.{Result, Ok, Err, refl, subst}
 use Rattle.std.specs.Option.{option_to_list}
 use Rattle.std.specs.Prelude.{IfSome}
 use Rattle.byte_formats.specs.Types.{HashFunction}
@@ -16,7 +16,6 @@ use Rattle.mtc_plans.specs.Commands.{plan_of}
 use Rattle.mtc_plans.proofs.Names.{journals_named, no_journal_beside}
 use Rattle.mtc_top.specs.Courses.{AreAmong}
 use Rattle.mtc_top.specs.Facts.{facts}
-use Rattle.mtc_top.proofs.Planned.{besides_planned, journals_planned}
 
 -- the name isn't that of a tile file
 abbrev pub IsOwn : List ℕ → Type 0
@@ -42,16 +41,14 @@ journal_own h words dids name did among = go (command_of words) refl among
         → AreAmong (done_with (facts h r).journals dids) name did → IsOwn name
     go (Ok command) is among = named_own (journal_of command) dids name did
         (subst (λ (names : List (List ℕ)). AreAmong (done_with names dids) name did)
-        (journals_planned h command ∙ journals_named h command) among)
+        (journals_named h command) among)
         (journals_have_own_names words command is)
     go (Err why) is among = absurd among
 
 -- it is none of the files beside those of a command
 pub none_beside : (h : HashFunction) (r : Result CommandValue WordError) (name : List ℕ)
     → IsOwn name → IsOther (facts h r).besides name
-none_beside h (Ok command) name own =
-    subst (λ (names : List (List ℕ)). IsOther names name) (sym (besides_planned h command))
-    (no_journal_beside h (plan_of h command).journals name own)
+none_beside h (Ok command) name own = no_journal_beside h (plan_of h command).journals name own
 none_beside h (Err why) name own = tt
 
 -- a name that is none of its journals'

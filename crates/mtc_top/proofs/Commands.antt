@@ -9,7 +9,6 @@ use Rattle.mtc_plans.specs.Commands.{plan_of}
 use Rattle.mtc_plans.specs.NodeKinds.{NodeKind, cosigner, log, node_kinds}
 use Rattle.node_history.specs.Rules.{AreRecords}
 use Rattle.mtc_top.specs.Facts.{facts}
-use Rattle.mtc_top.proofs.Planned.{valid_first}
 
 kind_records : (h : HashFunction) (kind : NodeKind) (list : List (List ℕ))
     → AreOfKind (node_kinds h) kind list → AreRecords h list
@@ -24,6 +23,5 @@ first_records h (makes kind name ∷ rest) list is = kind_records h kind list is
 
 pub spoken_records : (h : HashFunction) (r : Result CommandValue WordError)
     (list : List (List ℕ)) → (facts h r).Valid list → AreRecords h list
-spoken_records h (Ok command) list is =
-    first_records h (plan_of h command).journals list (valid_first h command list is)
+spoken_records h (Ok command) list is = first_records h (plan_of h command).journals list is
 spoken_records h (Err why) list is = absurd is

@@ -41,6 +41,7 @@ use Rattle.mtc_top.specs.Courses.{IsRecovered}
 use Rattle.mtc_top.specs.ExportLaws.{ExportsHoldTheSteps, HasExported}
 use Rattle.mtc_top.specs.Facts.{facts}
 use Rattle.mtc_top.specs.Run.{Answered}
+use Rattle.mtc_top.proofs.Planned.{outcome_planned}
 use Rattle.mtc_top.proofs.Printed.{did_so}
 use Rattle.mtc_top.proofs.Recovered.{held_prefix, last, read_again}
 use Rattle.mtc_top.proofs.Turns.{file_bytes, heard_run, not_refused, printed_so, modelled_file}
@@ -99,6 +100,7 @@ spoken_export : (h : HashFunction) (r : Result CommandValue WordError) (name : L
     → (facts h r).outcome files ≡ export_outcome h name files
 spoken_export h r name files is =
     ap (λ (q : Result CommandValue WordError). (facts h q).outcome files) is
+    ∙ sym (outcome_planned h (export name) files)
 
 -- a node that began as a cosigner is read as one
 read_cosigner : (h : HashFunction) (start : NodeStart) (settings : CosignerSettings)

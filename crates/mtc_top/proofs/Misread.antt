@@ -18,9 +18,8 @@ use Rattle.mtc_words.specs.declared.error.WordError.{WordError}
 use Rattle.cosigner_core.specs.Folds.{cosigner_fold}
 use Rattle.issuance_log.specs.Folds.{log_fold}
 use Rattle.mtc_command.specs.Answers.{Reply, bad_tile_text, err_of, refused, tiles_name}
-use Rattle.mtc_command.specs.Endings.{IsNamed}
 use Rattle.mtc_command.specs.Lines.{line_of}
-use Rattle.mtc_command.specs.Steps.{Files, Outcome, held_in}
+use Rattle.mtc_command.specs.Steps.{Files, held_in}
 use Rattle.mtc_command.specs.Wanted.{Meets}
 use Rattle.mtc_command.specs.declared.answer.Stopped.TheVariants.{BadForm}
 use Rattle.mtc_command.proofs.Made.{OnlyNow, ReadsImage}
@@ -44,7 +43,6 @@ use Rattle.mtc_top.specs.Courses.{Turn, HasTurned}
 use Rattle.mtc_top.specs.Facts.{facts, facts_of}
 use Rattle.mtc_top.specs.StatusLaws.{IsAboutInput, LacksTile, MisreadFilesAreInputs}
 use Rattle.mtc_top.proofs.Begun.{made_so}
-use Rattle.mtc_top.proofs.Planned.{inputs_planned, journals_planned, outcome_planned, valid_first}
 use Rattle.mtc_top.proofs.Recovered.{last, read_again}
 use Rattle.mtc_top.proofs.Turns.{file_bytes}
 
@@ -171,14 +169,12 @@ module _ {R S D O E : Type 0} (h : HashFunction) (rooms : Rooms R S D) (disks : 
       Meets ((facts h r).outcome (rooms.file room)).answer a.reply) spoken (a.is (inl is_modelled))
       in
       let about = misread_about (node_kinds h) (plan_of h command) (rooms.file room) a.reply
-      (subst (λ (o : Outcome). Meets o.answer a.reply)
-      (outcome_planned h command (rooms.file room)) meets) (sym (a.code not6) ∙ two) in
+      meets (sym (a.code not6) ∙ two) in
       record {
         file = about.file;
         reason = about.reason;
         input = elim about.about [
-          | inl named ↦ inl (subst (λ (names : List (List ℕ)). IsNamed names about.file)
-              (sym (inputs_planned h command)) named)
+          | inl named ↦ inl named
           | inr any ↦ inr (lacks about.file about.reason any)
         ];
         asked = subst (λ (r : Reply).
@@ -199,5 +195,4 @@ module _ {R S D O E : Type 0} (h : HashFunction) (rooms : Rooms R S D) (disks : 
       let are = file_bytes disks (rooms.file new name) (rooms.device new name) c bytes
       (contents new name end.at.is_modelled) is in
       (node.records, (stands_of h start c node.records are node.read, node.of_party)))
-      (plan_of h command).journals file reason (sym (journals_planned h command) ∙ on.works)
-      (λ list party. valid_first h command list (on.kind list party)) any)
+      (plan_of h command).journals file reason on.works on.kind any)

@@ -19,7 +19,7 @@ use Rattle.command_plans.proofs.Facts.{found_valid, made_new}
 use Rattle.mtc_plans.specs.Commands.{plan_of}
 use Rattle.mtc_plans.specs.NodeKinds.{node_kinds}
 use Rattle.mtc_top.specs.Facts.{facts, facts_of}
-use Rattle.mtc_top.proofs.Planned.{each_planned, first_valid, one_planned}
+use Rattle.mtc_top.proofs.Planned.{one_planned}
 
 -- the file is a journal of these records, which keep to the rules
 pub record IsFound (Valid : List (List ℕ) → Type 0) (file : Option (List ℕ))
@@ -119,11 +119,10 @@ pub spoken_finds : (h : HashFunction) (files : Files)
     → (r : Result CommandValue WordError)
     → OfEach (λ name did. Finds (facts h r).Valid (files name) did)
     (done_with (facts h r).journals ((facts h r).outcome files).journals)
-spoken_finds h files are (Ok command) = each_planned h command files
-    (λ name did. Finds (facts_of h command).Valid (files name) did)
-    (plan_finds (node_kinds h) files (facts_of h command).Valid (plan_of h command)
+spoken_finds h files are (Ok command) =
+    plan_finds (node_kinds h) files (facts_of h command).Valid (plan_of h command)
     (first_keeps (node_kinds h) files (facts_of h command).Valid (plan_of h command).journals
-    (one_planned h command) (first_valid h command)) are)
+    (one_planned h command) (λ list is. is)) are
 spoken_finds h files are (Err why) = tt
 
 -- ---- where a journal is made
@@ -131,6 +130,5 @@ spoken_finds h files are (Err why) = tt
 pub spoken_new : (h : HashFunction) (r : Result CommandValue WordError) (files : Files)
     → OfEach (IsNewAt files)
     (done_with (facts h r).journals ((facts h r).outcome files).journals)
-spoken_new h (Ok command) files = each_planned h command files (IsNewAt files)
-    (made_new (node_kinds h) (plan_of h command) files)
+spoken_new h (Ok command) files = made_new (node_kinds h) (plan_of h command) files
 spoken_new h (Err why) files = tt

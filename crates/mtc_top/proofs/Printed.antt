@@ -20,6 +20,7 @@ use Rattle.issuance_log.specs.Folds.{log_fold, view_in}
 use Rattle.mtc_command.specs.Answers.{Reply, refused, said}
 use Rattle.mtc_command.specs.Made.{Journaled, appended}
 use Rattle.mtc_command.specs.Served.{Journals, done_with}
+use Rattle.mtc_command.specs.Steps.{Outcome}
 use Rattle.mtc_command.specs.Wanted.{Meets}
 use Rattle.mtc_command.specs.declared.answer.Said.{Said}
 use Rattle.mtc_cosigner.specs.CosignerOutcomes.{cosigned_text}
@@ -29,8 +30,10 @@ use Rattle.mtc_plans.proofs.Heard.{cosigned_so, issued_so}
 use Rattle.node_history.proofs.Cosigners.{number_added, sign_read}
 use Rattle.node_history.proofs.Entries.{item_read}
 use Rattle.mtc_top.specs.Courses.{Turn, HasTurned, DidWith, AreAmong, IsHeard}
+use Rattle.mtc_top.specs.Cited.{command_outcome}
 use Rattle.mtc_top.specs.Facts.{facts, facts_of}
 use Rattle.mtc_top.specs.PrintLaws.{IndicesArePrinted, SignaturesArePrinted}
+use Rattle.mtc_top.proofs.Planned.{outcome_planned}
 use Rattle.mtc_top.proofs.Turns.{file_bytes, heard_run, not_refused, printed_so}
 
 module _ {R S D O E : Type 0} (h : HashFunction) (rooms : Rooms R S D) (disks : Disks D)
@@ -38,14 +41,16 @@ module _ {R S D O E : Type 0} (h : HashFunction) (rooms : Rooms R S D) (disks : 
     (spoken : command_of turn.words ≡ Ok command) where
   -- the run did with its one journal what the outcome says
   pub did_so : (name : List ℕ) (did : Journaled) → (facts_of h command).journals ≡ name ∷ []
-      → ((facts_of h command).outcome (rooms.file old)).journals ≡ did ∷ []
+      → (command_outcome h command (rooms.file old)).journals ≡ did ∷ []
       → DidWith h rooms disks outs errs old turn name did
   did_so name did named is =
       let are = ap (λ (r : Result CommandValue WordError).
       done_with (facts h r).journals ((facts h r).outcome (rooms.file old)).journals) spoken
       ∙ (ap (λ (names : List (List ℕ)).
       done_with names ((facts_of h command).outcome (rooms.file old)).journals) named
-      ∙ ap (λ (dids : List Journaled). done_with (name ∷ []) dids) is) in
+      ∙ (ap (λ (o : Outcome). done_with (name ∷ []) o.journals)
+      (sym (outcome_planned h command (rooms.file old)))
+      ∙ ap (λ (dids : List Journaled). done_with (name ∷ []) dids) is)) in
       subst (λ (js : Journals). AreAmong js name did) (sym are) (inl (refl, refl))
 
   module _ (is_modelled : rooms.is_modelled old)
@@ -62,14 +67,16 @@ module _ {R S D O E : Type 0} (h : HashFunction) (rooms : Rooms R S D) (disks : 
 
     -- what is so of each text that the command may say is so of the run's
     pub heard_so : (P : Reply → Type 0)
-        → OfSaid ((facts_of h command).outcome (rooms.file old)) P → P reply
+        → OfSaid (command_outcome h command (rooms.file old)) P → P reply
     heard_so P each =
         let s = has_said reply refl in
         let meets = subst (λ (r : Result CommandValue WordError).
         Meets ((facts h r).outcome (rooms.file old)).answer reply) spoken
         ((heard_run h rooms disks outs errs old turn run heard).is (inl is_modelled)) in
         subst P (sym s.1.1) (each s.0 s.1.0 (subst (λ (r : Reply).
-        Meets ((facts_of h command).outcome (rooms.file old)).answer r) s.1.1 meets))
+        Meets (command_outcome h command (rooms.file old)).answer r) s.1.1
+        (subst (λ (o : Outcome). Meets o.answer reply)
+        (sym (outcome_planned h command (rooms.file old))) meets)))
 
 module _ {R S D O E : Type 0} (h : HashFunction) (rooms : Rooms R S D) (disks : Disks D)
     (outs : Sinks O) (errs : Sinks E)

@@ -22,8 +22,10 @@ use Rattle.mtc_command.proofs.Served.{each_so, each_is}
 use Rattle.mtc_authority.specs.NoJournal.{SparesTiles}
 use Rattle.mtc_io.proofs.Streams.{prefix_whole}
 use Rattle.mtc_top.specs.Concluded.{Wrote, Lost, Reported, Concludes, word_of}
+use Rattle.mtc_top.specs.Cited.{spoken_outcome}
 use Rattle.mtc_top.specs.Facts.{Facts, facts}
 use Rattle.mtc_top.specs.Run.{HasRun}
+use Rattle.mtc_top.proofs.Planned.{spoken_planned}
 
 -- a reply's status is none of those without a reply
 pub record IsReply (status : ℕ) : Type 0 where
@@ -70,6 +72,10 @@ module _ {R S D O E : Type 0} (h : List ℕ → List ℕ) (rooms : Rooms R S D) 
 
   abbrev want : Outcome
   want = asked.outcome (rooms.file old)
+
+  -- the outcome that the contracts of the commands cite
+  abbrev cited : Outcome
+  cited = spoken_outcome h (command_of words) (rooms.file old)
 
   abbrev Did : Ending → Type 0
   Did = HasDone rooms disks Bad (asked.journals ++ (asked.besides ++ asked.inputs)) asked.journals
@@ -226,7 +232,7 @@ module _ {R S D O E : Type 0} (h : List ℕ → List ℕ) (rooms : Rooms R S D) 
         (done_with asked.journals want.journals);
   }
 
-  pub has_run : (ending : Ending) (status : ℕ) → Did ending → Valid → OnlyRead → Spares
+  has_run : (ending : Ending) (status : ℕ) → Did ending → Valid → OnlyRead → Spares
       → New ending
       → Concludes outs errs (known_word words) out out' err err' ending (rooms.why new) status
       → HasRun h rooms disks outs errs words old new out out' err err' status
@@ -240,3 +246,24 @@ module _ {R S D O E : Type 0} (h : List ℕ → List ℕ) (rooms : Rooms R S D) 
       run_failed file status valid only_read spares began done contents
   has_run no_memory status done valid only_read spares began contents =
       run_starved status valid only_read spares began done contents
+
+  -- the same where it was done as the contracts of the commands say
+  pub planned_run : (ending : Ending) (status : ℕ)
+      → HasDone rooms disks Bad (asked.journals ++ (asked.besides ++ asked.inputs)) asked.journals
+      asked.besides cited old new ending
+      → KeepsValid rooms disks asked.Valid asked.journals cited old new → OnlyRead
+      → OfEach (λ name did. SparesTiles rooms old new name)
+      (done_with asked.journals cited.journals) → New ending
+      → Concludes outs errs (known_word words) out out' err err' ending (rooms.why new) status
+      → HasRun h rooms disks outs errs words old new out out' err err' status
+  planned_run ending status done valid only_read spares =
+      let same : cited ≡ want = spoken_planned h (command_of words) (rooms.file old) in
+      has_run ending status
+      (subst (λ (o : Outcome). HasDone rooms disks Bad
+      (asked.journals ++ (asked.besides ++ asked.inputs)) asked.journals asked.besides o old new
+      ending) same done)
+      (subst (λ (o : Outcome). KeepsValid rooms disks asked.Valid asked.journals o old new) same
+      valid)
+      only_read
+      (subst (λ (o : Outcome). OfEach (λ name did. SparesTiles rooms old new name)
+      (done_with asked.journals o.journals)) same spares)

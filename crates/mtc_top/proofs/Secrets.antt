@@ -28,10 +28,10 @@ use Rattle.mtc_plans.specs.Heard.{AdvancesSo, BeginsSo, ExportsSo, KeysSo, OfSai
 use Rattle.mtc_plans.specs.NodeKinds.{cosigner, log, node_kinds}
 use Rattle.mtc_plans.proofs.Heard.{advanced_so, begun_so, exported_so, keyed_so}
 use Rattle.mtc_top.specs.Courses.{Turn, HasHeld, HasTurned, IsHeard}
-use Rattle.mtc_top.specs.Facts.{facts, facts_of}
+use Rattle.mtc_top.specs.Cited.{command_outcome}
+use Rattle.mtc_top.specs.Facts.{facts}
 use Rattle.mtc_top.specs.PrintLaws.{OnlyCosignSigns, Says}
 use Rattle.mtc_top.specs.WordsOutcome.{word_fault_text}
-use Rattle.mtc_top.proofs.Planned.{valid_first}
 use Rattle.mtc_top.proofs.Printed.{did_so, heard_so, signatures_printed}
 use Rattle.mtc_top.proofs.Turns.{file_bytes, heard_run, held_rules, not_refused, printed_so}
 
@@ -68,7 +68,7 @@ module _ {R S D O E : Type 0} (h : HashFunction) (rooms : Rooms R S D) (disks : 
     answer = (heard_run h rooms disks outs errs old turn run heard).reply
 
     by_text : (command : CommandValue) → Speaks command → (P : Reply → Type 0)
-        → OfSaid ((facts_of h command).outcome (rooms.file old)) P → P answer
+        → OfSaid (command_outcome h command (rooms.file old)) P → P answer
     by_text command spoken P each =
         heard_so h rooms disks outs errs old turn command spoken is_modelled run heard P each
 
@@ -125,11 +125,11 @@ module _ {R S D O E : Type 0} (h : HashFunction) (rooms : Rooms R S D) (disks : 
         → are_logs h (plan_of h command).journals ≡ true → (name : List ℕ) (list : List (List ℕ))
         → HasHeld h rooms disks outs errs name old turn list → IsLog h list
     logs command spoken are name list held =
-        first_log h (plan_of h command).journals list are (valid_first h command list
+        first_log h (plan_of h command).journals list are
         (subst (λ (r : Result CommandValue WordError). (facts h r).Valid list) spoken
         (held_rules h rooms disks outs errs image only contents bytes name old turn list is_modelled
         run
-        held)))
+        held))
 
     pub says_so : (command : CommandValue) → Speaks command → SaysSo command
     says_so (cosign name file) spoken =

@@ -1,5 +1,6 @@
 pub mod Nodes
 pub mod Facts
+pub mod Cited
 pub mod Concluded
 pub mod Run
 pub mod RunLaws

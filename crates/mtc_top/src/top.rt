@@ -10,6 +10,7 @@ ghost use Rattle.mtc_authority.specs.NoJournal.{SparesTiles};
 ghost use Rattle.mtc_command.specs.Served.{HasDone, LeavesEach, OfEach, done_with};
 ghost use Rattle.mtc_command.specs.Valid.{KeepsValid};
 ghost use Rattle.mtc_command.specs.Works.{ModelsNew};
+ghost use Rattle.mtc_top.specs.Cited.{command_outcome, spoken_outcome};
 ghost use Rattle.mtc_top.specs.Facts.{facts, facts_of};
 ghost use Rattle.mtc_top.specs.Run.{HasRun};
 
@@ -46,18 +47,21 @@ fn perform<'a, H: TreeHash, R: Room>(
     requires range { IsInRange (command_value command) }
     ensures done { let asked = facts_of H.hash (command_value command.entry) in
         HasDone R.Room R.Dsk.Disk ⊥ (asked.journals ++ (asked.besides ++ asked.inputs))
-        asked.journals asked.besides (asked.outcome (R.file room.old)) room.old room.new
+        asked.journals asked.besides
+        (command_outcome H.hash (command_value command.entry) (R.file room.old)) room.old room.new
         (ending_of result) }
     ensures valid { let asked = facts_of H.hash (command_value command.entry) in
         KeepsValid R.Room R.Dsk.Disk asked.Valid asked.journals
-        (asked.outcome (R.file room.old)) room.old room.new }
+        (command_outcome H.hash (command_value command.entry) (R.file room.old))
+        room.old room.new }
     ensures began { IfSome (facts_of H.hash (command_value command.entry)).makes (λ name.
         ModelsNew R.Room R.Dsk.Disk name room.old room.new (ending_of result)) }
     ensures only_read { R.is_modelled room.old → LeavesEach R.Room R.Dsk.Disk room.old room.new
         (done_with (facts_of H.hash (command_value command.entry)).only_reads []) HasKept }
     ensures spares { let asked = facts_of H.hash (command_value command.entry) in
         OfEach (λ name did. SparesTiles R.Room room.old room.new name)
-        (done_with asked.journals (asked.outcome (R.file room.old)).journals) }
+        (done_with asked.journals
+        (command_outcome H.hash (command_value command.entry) (R.file room.old)).journals) }
 {
     match command {
         Command::Member(file) => member::<H, R>(alloc, room, file),
@@ -104,17 +108,19 @@ fn answer<'a, H: TreeHash, R: Room>(
         let asked = facts H.hash said in
         HasDone R.Room R.Dsk.Disk (IsErr said)
         (asked.journals ++ (asked.besides ++ asked.inputs)) asked.journals asked.besides
-        (asked.outcome (R.file room.old)) room.old room.new (ending_of result) }
-    ensures valid { let asked = facts H.hash (command_of (map string_bytes words.now)) in
+        (spoken_outcome H.hash said (R.file room.old)) room.old room.new (ending_of result) }
+    ensures valid { let said = command_of (map string_bytes words.now) in
+        let asked = facts H.hash said in
         KeepsValid R.Room R.Dsk.Disk asked.Valid asked.journals
-        (asked.outcome (R.file room.old)) room.old room.new }
+        (spoken_outcome H.hash said (R.file room.old)) room.old room.new }
     ensures began { IfSome (facts H.hash (command_of (map string_bytes words.now))).makes (λ name.
         ModelsNew R.Room R.Dsk.Disk name room.old room.new (ending_of result)) }
     ensures only_read { R.is_modelled room.old → LeavesEach R.Room R.Dsk.Disk room.old room.new
         (done_with (facts H.hash (command_of (map string_bytes words.now))).only_reads []) HasKept }
-    ensures spares { let asked = facts H.hash (command_of (map string_bytes words.now)) in
+    ensures spares { let said = command_of (map string_bytes words.now) in
+        let asked = facts H.hash said in
         OfEach (λ name did. SparesTiles R.Room room.old room.new name)
-        (done_with asked.journals (asked.outcome (R.file room.old)).journals) }
+        (done_with asked.journals (spoken_outcome H.hash said (R.file room.old)).journals) }
 {
     match read_words(alloc, words) {
         Ok(command) => perform::<H, R>(alloc, room, command),
