@@ -24,7 +24,7 @@ use Rattle.command_plans.specs.Names.{journal_names}
 use Rattle.command_plans.specs.Outcomes.{journals_did, opened_did, outcome_of}
 use Rattle.command_plans.specs.Outcomes.{wanted_of}
 use Rattle.command_plans.specs.Plans.{Beside, Deeds, Finds, Journal, Judged, Plan, exceeds}
-use Rattle.command_plans.specs.Plans.{forbids, makes, opens, tells, tells_formed, tells_pair}
+use Rattle.command_plans.specs.Plans.{forbids, makes, opens, prints, prints_formed, prints_pair}
 use Rattle.command_plans.proofs.Coming.{outcomes_come}
 use Rattle.command_plans.proofs.Reading.{input_named}
 
@@ -41,13 +41,13 @@ said_judged Collided = inr (inr (inl refl))
 
 meets_judged : (judged : Judged) (reply : Reply) → Meets (wanted_of judged) reply
     → IsJudged (status_of reply)
-meets_judged (tells status text) reply meets =
+meets_judged (prints status text) reply meets =
     subst (λ (r : Reply). IsJudged (status_of r)) (sym meets) (said_judged status)
-meets_judged (tells_formed status form) (said kind text) meets = said_judged kind
-meets_judged (tells_formed status form) (refused why file reason) meets = absurd meets
-meets_judged (tells_pair status h encoded firsts seconds) (said kind text) meets =
+meets_judged (prints_formed status form) (said kind text) meets = said_judged kind
+meets_judged (prints_formed status form) (refused why file reason) meets = absurd meets
+meets_judged (prints_pair status h encoded firsts seconds) (said kind text) meets =
     said_judged kind
-meets_judged (tells_pair status h encoded firsts seconds) (refused why file reason) meets =
+meets_judged (prints_pair status h encoded firsts seconds) (refused why file reason) meets =
     absurd meets
 meets_judged (forbids reason) reply meets =
     subst (λ (r : Reply). IsJudged (status_of r)) (sym meets) (inr (inr (inr (inl refl))))

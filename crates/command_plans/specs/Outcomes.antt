@@ -13,8 +13,8 @@ use Rattle.mtc_command.specs.Wanted.{Wanted, exactly, formed, pair_of}
 use Rattle.mtc_command.specs.declared.answer.Stopped.TheVariants.{BadForm, Beyond, NotAllowed}
 use Rattle.command_plans.specs.Kinds.{Kinds}
 use Rattle.command_plans.specs.Plans.{Input, IsInputOf, ReadEach, Journal}
-use Rattle.command_plans.specs.Plans.{opens, makes, Finds, Deeds, Judged, tells, tells_formed}
-use Rattle.command_plans.specs.Plans.{tells_pair, forbids, exceeds, Deed, Step, misreads, works}
+use Rattle.command_plans.specs.Plans.{opens, makes, Finds, Deeds, Judged, prints, prints_formed}
+use Rattle.command_plans.specs.Plans.{prints_pair, forbids, exceeds, Deed, Step, misreads, works}
 use Rattle.command_plans.specs.Plans.{Plan}
 
 -- ---- the files are read
@@ -61,9 +61,9 @@ module _ {k : Kinds} where
 
 -- The replies that a judgement wants.
 abbrev pub wanted_of : Judged → Wanted
-wanted_of (tells status text) = exactly (said status text)
-wanted_of (tells_formed status form) = formed status form
-wanted_of (tells_pair status h encoded firsts seconds) = pair_of status h encoded firsts seconds
+wanted_of (prints status text) = exactly (said status text)
+wanted_of (prints_formed status form) = formed status form
+wanted_of (prints_pair status h encoded firsts seconds) = pair_of status h encoded firsts seconds
 wanted_of (forbids reason) = exactly (refused NotAllowed None reason)
 wanted_of (exceeds reason) = exactly (refused Beyond None reason)
 

@@ -65,9 +65,9 @@ Deeds (makes kind name ∷ rest) = Text × Deeds rest
 -- two strings of some lists with one hash; or that the state of a journal doesn't allow the work;
 -- or that a limit doesn't.
 pub data Judged : Type 0 where
-  tells : Said → Text → Judged
-  tells_formed : Said → (Text → Bool) → Judged
-  tells_pair : Said → HashFunction → (Text → Text → Text) → List Text → List Text → Judged
+  prints : Said → Text → Judged
+  prints_formed : Said → (Text → Bool) → Judged
+  prints_pair : Said → HashFunction → (Text → Text → Text) → List Text → List Text → Judged
   forbids : Text → Judged
   exceeds : Text → Judged
 
@@ -89,9 +89,9 @@ abbrev pub in_form : {k : Kinds} {F E : Type 0} {inputs : List Input} {journals 
 in_form read fault_text (Ok form) next = next form
 in_form read fault_text (Err why) next = misreads read (fault_text why)
 
--- A command without a journal tells this.
-abbrev pub only_tells : {k : Kinds} {inputs : List Input} → Judged → Step {k = k} inputs []
-only_tells judged = works (λ none. record { answer = judged; does = tt })
+-- A command without a journal prints this.
+abbrev pub only_prints : {k : Kinds} {inputs : List Input} → Judged → Step {k = k} inputs []
+only_prints judged = works (λ none. record { answer = judged; does = tt })
 
 -- The command.
 pub record Plan (k : Kinds) : Type 0 where

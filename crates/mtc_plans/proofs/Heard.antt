@@ -36,7 +36,7 @@ use Rattle.mtc_cosigner.specs.Works.{advance_outcome, cosign_outcome}
 use Rattle.command_plans.specs.Kinds.{Kinds}
 use Rattle.command_plans.specs.Outcomes.{deed_outcome, opened_did, outcome_of, wanted_of}
 use Rattle.command_plans.specs.Plans.{Beside, Deed, Finds, Input, Journal, Plan, Read, Step}
-use Rattle.command_plans.specs.Plans.{in_form, misreads, only_reads, only_tells, opens, tells}
+use Rattle.command_plans.specs.Plans.{in_form, misreads, only_reads, only_prints, opens, prints}
 use Rattle.command_plans.specs.Plans.{works}
 use Rattle.command_plans.proofs.Facts.{heard_passed}
 use Rattle.mtc_plans.specs.CosignerPlans.{advance_told, cosign_told, export_plan, export_told}
@@ -281,11 +281,11 @@ keyed_so h files height width file status text meets =
     let passed = heard_passed (node_kinds h) plan files status text
     (subst (λ (o : Outcome). Meets o.answer (said status text)) same meets) in
     let read = passed.read.0 in
-    let judged = tells Done (public_line (lms_type height) (ots_type width) read.text) in
+    let judged = prints Done (public_line (lms_type height) (ots_type width) read.text) in
     let deed : Deed plan.journals = record { answer = judged; does = tt } in
     let eq : deed ≡ passed.say passed.founds = same_work passed.say (λ none. deed)
     passed.founds (works passed.say) refl
-    (secret_passed read (only_tells judged) passed.say passed.works_so) in
+    (secret_passed read (only_prints judged) passed.say passed.works_so) in
     record {
       secret = read.text;
       has_secret = record { there = passed.are_read.0.there; few = passed.are_read.0.few };
@@ -302,7 +302,7 @@ begun_so h files journal id log_id height width file status text meets =
     let read = passed.read.0 in
     let s = cosigner_settings_of id log_id height width in
     let line = public_line s.lms s.ots read.text in
-    let deed : Deed plan.journals = deed_new (cosigner_record s read.text) (tells Done line) in
+    let deed : Deed plan.journals = deed_new (cosigner_record s read.text) (prints Done line) in
     let eq : deed ≡ passed.say passed.founds = same_work passed.say (λ none. deed)
     passed.founds (works passed.say) refl
     (secret_passed read (works (λ none. deed)) passed.say passed.works_so) in

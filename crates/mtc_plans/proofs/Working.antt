@@ -1,4 +1,4 @@
--- What a command has to reply over a log that was found is what its plan tells.
+-- What a command has to reply over a log that was found is what its plan prints.
 use Rattle.std.proofs.Common.{◌≡◌, ℕ, false, nat_le, nat_lt, not, List, length, Option, None}
 use Rattle.std.proofs.Common.{Some, refl}
 use Rattle.byte_formats.specs.Types.{HashFunction}

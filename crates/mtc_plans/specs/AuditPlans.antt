@@ -17,8 +17,8 @@ use Rattle.mtc_monitor.specs.AuditOutcome.{foreign_text, stands_text, unrecorded
 use Rattle.mtc_monitor.specs.Reasons.{export_fault_text, items_fault_text}
 use Rattle.mtc_reads.specs.Reasons.{store_fault_text}
 use Rattle.command_plans.specs.Kinds.{Kinds}
-use Rattle.command_plans.specs.Plans.{Input, Judged, Plan, Read, Step, in_form, only_tells}
-use Rattle.command_plans.specs.Plans.{tells, tells_pair}
+use Rattle.command_plans.specs.Plans.{Input, Judged, Plan, Read, Step, in_form, only_prints}
+use Rattle.command_plans.specs.Plans.{prints, prints_pair}
 use Rattle.mtc_plans.specs.ReadPlans.{verdict_step}
 use Rattle.mtc_plans.specs.Steps.{large_file, small_file}
 
@@ -27,11 +27,11 @@ use Rattle.mtc_plans.specs.Steps.{large_file, small_file}
 -- two different strings with one hash, the first from the list, the second from the certificate or
 -- the cosigner.
 abbrev pub audit_judged_by : HashFunction → AuditCase → Option (Hash × Hash) → Bool → Bool → Judged
-audit_judged_by h x (Some hashes) supported own = tells Against (foreign_text hashes)
-audit_judged_by h x None false own = tells Against unrecorded_text
-audit_judged_by h x None true true = tells Done (stands_text x.accepted.index)
+audit_judged_by h x (Some hashes) supported own = prints Against (foreign_text hashes)
+audit_judged_by h x None false own = prints Against unrecorded_text
+audit_judged_by h x None true true = prints Done (stands_text x.accepted.index)
 audit_judged_by h x None true false =
-    tells_pair Collided h collision_text (firsts_of h x) (seconds_of h x)
+    prints_pair Collided h collision_text (firsts_of h x) (seconds_of h x)
 
 abbrev pub audit_judged : HashFunction → AuditCase → Judged
 audit_judged h x =
@@ -41,7 +41,7 @@ audit_judged h x =
 abbrev pub audited_step : {k : Kinds} {inputs : List Input} → HashFunction → Read inputs → Store
     → ItemLists → Option Export → Result AcceptedParts Refusal → Step {k = k} inputs []
 audited_step h cert store items kept (Ok j) =
-    only_tells (audit_judged h (case_of store items kept j))
+    only_prints (audit_judged h (case_of store items kept j))
 audited_step h cert store items kept (Err why) = verdict_step cert (Err why)
 
 -- The store, the entries and the export are read, and then the certificate is judged.

@@ -17,7 +17,7 @@ use Rattle.mtc_cosigner.specs.CosignerOutcomes.{step_fault_text}
 use Rattle.mtc_cosigner.specs.InitOutcome.{cosigner_settings_of}
 use Rattle.mtc_cosigner.specs.KeygenOutcome.{public_line}
 use Rattle.command_plans.specs.Plans.{Input, Journal, Judged, Plan, Read, Step, exceeds, forbids}
-use Rattle.command_plans.specs.Plans.{in_form, makes, only_reads, opens, tells, works}
+use Rattle.command_plans.specs.Plans.{in_form, makes, only_reads, opens, prints, works}
 use Rattle.mtc_plans.specs.NodeKinds.{cosigner, node_kinds}
 use Rattle.mtc_plans.specs.Steps.{Told, deed_new, deed_on, in_secret, small_file}
 
@@ -28,7 +28,7 @@ step_judged why = forbids (step_fault_text why)
 
 -- A record more and its text, unless the step is refused.
 abbrev pub step_told : Text → Text → Option CosignError → Told
-step_told body text None = (tells Done text, Some body)
+step_told body text None = (prints Done text, Some body)
 step_told body text (Some why) = (step_judged why, None)
 
 abbrev pub advance_told : HashFunction → AdvanceParts → FoundCosigner → Told
@@ -43,7 +43,7 @@ cosign_told h r found =
 
 -- What others may know of a cosigner.
 abbrev pub export_told : FoundCosigner → Told
-export_told found = (tells Done (export_text found.state found.records), None)
+export_told found = (prints Done (export_text found.state found.records), None)
 
 module _ (h : HashFunction) where
   -- The journal of a cosigner that is there. No file goes with it.
@@ -60,7 +60,7 @@ module _ (h : HashFunction) where
   abbrev pub init_step : {inputs : List Input} (journal : Text) → CosignerSettings → Read inputs
       → Step {k = node_kinds h} inputs (makes cosigner journal ∷ [])
   init_step journal s secret = in_secret secret (works (λ nothing.
-      deed_new (cosigner_record s secret.text) (tells Done (public_line s.lms s.ots secret.text))))
+      deed_new (cosigner_record s secret.text) (prints Done (public_line s.lms s.ots secret.text))))
 
   abbrev pub init_cosigner_plan : Text → Text → Text → ℕ → ℕ → Text → Plan (node_kinds h)
   init_cosigner_plan journal id log_id height width file = record {

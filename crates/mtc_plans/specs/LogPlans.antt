@@ -10,7 +10,7 @@ use Rattle.mtc_authority.specs.LogOutcomes.{log_line, log_settings_of}
 use Rattle.mtc_authority.specs.declared.work.Work.{Work}
 use Rattle.mtc_authority.specs.declared.work.Work.TheVariants.{Cert, Issue}
 use Rattle.command_plans.specs.Plans.{Beside, Input, Journal, Plan, Read, Step}
-use Rattle.command_plans.specs.Plans.{in_form, makes, only_reads, opens, tells, works}
+use Rattle.command_plans.specs.Plans.{in_form, makes, only_reads, opens, prints, works}
 use Rattle.mtc_plans.specs.LogWork.{work_told}
 use Rattle.mtc_plans.specs.NodeKinds.{log, node_kinds}
 use Rattle.mtc_plans.specs.Steps.{deed_new, deed_on, small_file}
@@ -42,7 +42,7 @@ module _ (h : HashFunction) where
     inputs = [];
     journals = makes log journal ∷ [];
     steps = λ none. works (λ nothing.
-        deed_new (settings_record (log_settings_of id active limit)) (tells Done (log_line id)));
+        deed_new (settings_record (log_settings_of id active limit)) (prints Done (log_line id)));
   }
 
   -- `issue J REQUEST`: the request is read, and then its entry is added.

@@ -1,4 +1,4 @@
--- What a command tells over a log that was found, and which record it adds.
+-- What a command prints over a log that was found, and which record it adds.
 use Rattle.std.specs.Prelude.{ℕ, false, nat_le, nat_lt, not, List, length, codes, Option}
 use Rattle.std.specs.Prelude.{None, Some, if◌then◌else◌}
 use Rattle.byte_formats.specs.Types.{HashFunction, Text}
@@ -30,27 +30,27 @@ use Rattle.mtc_authority.specs.declared.work.Work.{Work}
 use Rattle.mtc_authority.specs.declared.work.Work.TheVariants.{Cert, Checkpoint, Consist, Entries}
 use Rattle.mtc_authority.specs.declared.work.Work.TheVariants.{Issue, Landmark, Landmarks}
 use Rattle.mtc_authority.specs.declared.work.Work.TheVariants.{LightCert, Subtree, Tile}
-use Rattle.command_plans.specs.Plans.{Judged, exceeds, forbids, tells}
+use Rattle.command_plans.specs.Plans.{Judged, exceeds, forbids, prints}
 use Rattle.mtc_plans.specs.Steps.{Told, beyond_size}
 
 -- ---- what only reads the log
 
 abbrev pub checkpoint_judged : HashFunction → List Text → Judged
 checkpoint_judged h entries =
-    tells Done (checkpoint_lines (length entries) (tree_hash h entries))
+    prints Done (checkpoint_lines (length entries) (tree_hash h entries))
 
 -- So many of the first items, where the log has them.
 abbrev pub entries_judged : ℕ → LogState → Judged
 entries_judged size s =
     if nat_lt (length s.entries) size then beyond_size (length s.entries)
-    else tells Done (file_text (items_of s) size)
+    else prints Done (file_text (items_of s) size)
 
 -- The log must have more entries than the old ones, and as many as the new ones.
 abbrev pub consist_judged : HashFunction → ℕ → ℕ → LogState → Judged
 consist_judged h old new s =
     if nat_le new old then forbids (codes "NothingNew")
     else (if nat_lt (length s.entries) new then beyond_size (length s.entries)
-    else tells Done (advance_text (advance_by_log h s old new)))
+    else prints Done (advance_text (advance_by_log h s old new)))
 
 -- The interval must be a subtree, the log must have so many entries, and the subtree must lie among
 -- them.
@@ -59,7 +59,7 @@ subtree_judged h start end size s =
     if not (is_subtree start end) then forbids (codes "BadSubtree")
     else (if nat_lt (length s.entries) size then beyond_size (length s.entries)
     else (if nat_lt size end then beyond_size size
-    else tells Done (subtree_text (subtree_of h s start end size))))
+    else prints Done (subtree_text (subtree_of h s start end size))))
 
 -- Why no certificate is written.
 abbrev pub write_judged : WriteError → Judged
@@ -75,14 +75,14 @@ write_judged write_error.TilesFailed = exceeds (codes "Failed")
 write_judged write_error.Memory = exceeds (codes "Memory")
 
 abbrev pub cert_judged : Option WriteError → Text → Judged
-cert_judged None text = tells Done text
+cert_judged None text = prints Done text
 cert_judged (Some why) text = write_judged why
 
 -- ---- what adds a record
 
 -- The entry of a request is added with its key, unless the log refuses it.
 abbrev pub issue_told : HashFunction → RequestParts → LogView → Option LogError → Told
-issue_told h r v None = (tells Done (issued_text v.size), Some (issued_record h v.settings r))
+issue_told h r v None = (prints Done (issued_text v.size), Some (issued_record h v.settings r))
 issue_told h r v (Some why) = (exceeds (log_fault_text why), None)
 
 -- Why a log takes no landmark, and stores no tiles.
@@ -92,12 +92,12 @@ log_judged why = exceeds (log_fault_text why)
 
 -- A landmark at the size of the log is set.
 abbrev pub mark_told : LogView → Option LogError → Told
-mark_told v None = (tells Done (next_line v), Some (landmark_record v.size))
+mark_told v None = (prints Done (next_line v), Some (landmark_record v.size))
 mark_told v (Some why) = (log_judged why, None)
 
 -- The tiles that the entries fill are stored.
 abbrev pub tile_told : LogView → Option LogError → Told
-tile_told v None = (tells Done (tiled_line (full_size v)), Some (tiles_record (full_size v)))
+tile_told v None = (prints Done (tiled_line (full_size v)), Some (tiles_record (full_size v)))
 tile_told v (Some why) = (log_judged why, None)
 
 -- ---- each work
@@ -113,7 +113,7 @@ work_told h (Subtree start end size) found = (subtree_judged h start end size fo
 work_told h Landmark found = mark_told (view_in found.state)
     (mark_refusal (view_in found.state) false (end_behind found.records))
 work_told h Landmarks found =
-    (tells Done (list_text (log_landmarks (view_in found.state))), None)
+    (prints Done (list_text (log_landmarks (view_in found.state))), None)
 work_told h (LightCert index) found = (
   cert_judged (light_refusal (view_in found.state) index)
       (light_text h index found.state (covering_in (view_in found.state) index)),

@@ -24,22 +24,22 @@ use Rattle.mtc_reads.specs.Reasons.{refusal_text, shape_text, store_fault_text}
 use Rattle.mtc_reads.specs.ShowOutcome.{show_text}
 use Rattle.command_plans.specs.Kinds.{Kinds}
 use Rattle.command_plans.specs.Plans.{Input, Judged, Plan, Read, Step, in_form, misreads}
-use Rattle.command_plans.specs.Plans.{only_tells, tells, tells_formed}
-use Rattle.mtc_plans.specs.Steps.{in_secret, tells_against, large_file, small_file}
+use Rattle.command_plans.specs.Plans.{only_prints, prints, prints_formed}
+use Rattle.mtc_plans.specs.Steps.{in_secret, prints_against, large_file, small_file}
 
 -- ---- member FILE
 
 -- What is answered to a judgement on the entry of this index.
 abbrev pub member_judged : ℕ → Result Bool EvalError → Judged
-member_judged index (Ok true) = tells Done (codes "member " ++ (decimal index ++ codes "\n"))
-member_judged index (Ok false) = tells_against (codes "HashDiffers")
-member_judged index (Err why) = tells_against (shape_text why)
+member_judged index (Ok true) = prints Done (codes "member " ++ (decimal index ++ codes "\n"))
+member_judged index (Ok false) = prints_against (codes "HashDiffers")
+member_judged index (Err why) = prints_against (shape_text why)
 
 -- The file is cut into its parts and judged.
 abbrev pub member_step : {k : Kinds} {inputs : List Input} → HashFunction → Read inputs
     → Step {k = k} inputs []
 member_step h file = in_form file hashes_fault_text (member_file file.text)
-    (λ m. only_tells (member_judged m.index (member_judgement h m)))
+    (λ m. only_prints (member_judged m.index (member_judgement h m)))
 
 abbrev pub member_plan : {k : Kinds} → HashFunction → Text → Plan k
 member_plan h file = record {
@@ -52,7 +52,7 @@ member_plan h file = record {
 
 abbrev pub show_step : {k : Kinds} {inputs : List Input} → Read inputs → Step {k = k} inputs []
 show_step cert = in_form cert cert_fault_text (parts_of cert.text)
-    (λ p. only_tells (tells Done (show_text p)))
+    (λ p. only_prints (prints Done (show_text p)))
 
 abbrev pub show_plan : {k : Kinds} → Text → Plan k
 show_plan cert = record {
@@ -67,10 +67,10 @@ show_plan cert = record {
 abbrev pub verdict_step : {k : Kinds} {inputs : List Input} → Read inputs
     → Result Accepted Refusal → Step {k = k} inputs []
 verdict_step cert (Ok accepted) =
-    only_tells (tells Done (codes "accepted " ++ (decimal accepted.index ++ codes "\n")))
+    only_prints (prints Done (codes "accepted " ++ (decimal accepted.index ++ codes "\n")))
 verdict_step cert (Err (Grammar why)) = misreads cert (cert_fault_text why)
 verdict_step cert (Err (ProofGrammar why)) = misreads cert (proof_fault_text why)
-verdict_step cert (Err why) = only_tells (tells_against (refusal_text why))
+verdict_step cert (Err why) = only_prints (prints_against (refusal_text why))
 
 -- The store is read, and the certificate is judged by it.
 abbrev pub verify_step : {k : Kinds} {inputs : List Input} → HashFunction → ℕ → Read inputs
@@ -92,7 +92,7 @@ abbrev pub trust_step : {k : Kinds} {inputs : List Input} → HashFunction → �
     → Read inputs → Step {k = k} inputs []
 trust_step h most list entries = in_form entries items_fault_text (items_in h entries.text)
     (λ items. in_form list list_fault_text (list_of list.text most (length items.entries))
-    (λ l. only_tells (tells Done (trust_text h items.entries l))))
+    (λ l. only_prints (prints Done (trust_text h items.entries l))))
 
 abbrev pub trust_plan : {k : Kinds} → HashFunction → Text → ℕ → Text → Plan k
 trust_plan h list most entries = record {
@@ -106,7 +106,7 @@ trust_plan h list most entries = record {
 abbrev pub keygen_step : {k : Kinds} {inputs : List Input} → ℕ → ℕ → Read inputs
     → Step {k = k} inputs []
 keygen_step height width secret = in_secret secret
-    (only_tells (tells Done (public_line (lms_type height) (ots_type width) secret.text)))
+    (only_prints (prints Done (public_line (lms_type height) (ots_type width) secret.text)))
 
 abbrev pub keygen_plan : {k : Kinds} → ℕ → ℕ → Text → Plan k
 keygen_plan height width file = record {
@@ -121,5 +121,5 @@ abbrev pub drill_plan : {k : Kinds} → ℕ → Plan k
 drill_plan number = record {
   inputs = [];
   journals = [];
-  steps = λ none. only_tells (tells_formed Done (is_summary number));
+  steps = λ none. only_prints (prints_formed Done (is_summary number));
 }

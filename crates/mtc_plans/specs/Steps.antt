@@ -6,7 +6,7 @@ use Rattle.byte_formats.specs.Types.{Text}
 use Rattle.mtc_command.specs.declared.answer.Said.TheVariants.{Against}
 use Rattle.command_plans.specs.Kinds.{Kinds}
 use Rattle.command_plans.specs.Plans.{Beside, Deed, Input, Journal, Judged, Read, Step, forbids}
-use Rattle.command_plans.specs.Plans.{makes, misreads, opens, tells}
+use Rattle.command_plans.specs.Plans.{makes, misreads, opens, prints}
 
 -- ---- inputs
 
@@ -20,8 +20,8 @@ large_file name = record { limit = 1073741824; name = name }
 -- ---- judgements
 
 -- A judgement against, for this reason.
-abbrev pub tells_against : Text → Judged
-tells_against reason = tells Against (codes "refused " ++ (reason ++ codes "\n"))
+abbrev pub prints_against : Text → Judged
+prints_against reason = prints Against (codes "refused " ++ (reason ++ codes "\n"))
 
 -- The asked size is above that of the log.
 abbrev pub beyond_size : ℕ → Judged
