@@ -6,4 +6,5 @@ pub mod LogWork
 pub mod LogPlans
 pub mod CosignerPlans
 pub mod Commands
+pub mod Words
 pub mod Heard

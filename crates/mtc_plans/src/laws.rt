@@ -32,7 +32,8 @@ ghost use Rattle.mtc_reads.specs.VerifyOutcome.{verify_outcome};
 ghost use Rattle.command_plans.specs.Facts.{FoundIsValid, HeardHasPassed, MisreadIsAbout};
 ghost use Rattle.command_plans.specs.Facts.{NoCommandIsBadWords, OutcomesCome, UnopenedIsEarly};
 ghost use Rattle.command_plans.specs.Outcomes.{outcome_of};
-ghost use Rattle.command_plans.specs.Names.{beside_names, journal_names};
+ghost use Rattle.command_plans.specs.Names.{beside_names, journal_names, made_names};
+ghost use Rattle.command_plans.specs.Names.{only_read_names};
 ghost use Rattle.command_plans.specs.Plans.{Beside, Journal};
 ghost use Rattle.mtc_plans.specs.Commands.{plan_of};
 ghost use Rattle.mtc_plans.specs.Heard.{AdvancedTextsAreOfRecords, BegunTextsAreOfSecrets};
@@ -40,6 +41,7 @@ ghost use Rattle.mtc_plans.specs.Heard.{CosignedTextsAreOfRecords, ExportedTexts
 ghost use Rattle.mtc_plans.specs.Heard.{IssuedTextsAreOfRecords, KeyTextsAreOfSecrets};
 ghost use Rattle.mtc_plans.specs.LogPlans.{work_plan};
 ghost use Rattle.mtc_plans.specs.NodeKinds.{node_kinds};
+ghost use Rattle.mtc_plans.specs.Words.{journal_made_by, only_read_by};
 
 /// What each command that opens no journal has to answer is what comes of its plan.
 pub fn law_reading_commands_have_plans()
@@ -119,13 +121,20 @@ pub fn law_cosigner_commands_have_plans()
         → export_outcome h journal files ≡ outcome_of (plan_of h (export journal)) files }
 {}
 
-/// The journals of a command's plan are those that its words name. A file beside a journal of any
-/// plan is one of tiles, so a journal whose name isn't that of a tile file is none of these.
+/// The journals of a command's plan are those that its words name, and it makes one where the words
+/// begin a log or a cosigner. A file beside a journal of any plan is one of tiles, so a journal
+/// whose name isn't that of a tile file is none of these. `tile` alone writes such a file: every
+/// other command only reads the one beside its journal.
 pub fn law_plans_name_their_files()
     ensures journals { (h : HashFunction) (command : CommandValue)
         → journal_names (plan_of h command).journals ≡ option_to_list (journal_of command) }
+    ensures makes { (h : HashFunction) (command : CommandValue)
+        → made_names (plan_of h command).journals ≡ option_to_list (journal_made_by command) }
     ensures beside { (h : HashFunction) (journals : List (Journal (node_kinds h))) (name : Text)
         → is_tiles_name name ≡ false → IsOther (beside_names journals) name }
+    ensures only_read { (h : HashFunction) (command : CommandValue)
+        → only_read_names (plan_of h command).journals
+        ≡ only_read_by command (beside_names (plan_of h command).journals) }
 {}
 
 /// What is proved of every plan holds of the program's kinds of journals: each outcome is one of

@@ -1,0 +1,16 @@
+-- What the arguments of a command say of its journal and of the file beside it, which its plan has
+-- to say too.
+use Rattle.std.specs.Prelude.{List, [], Option, None, Some}
+use Rattle.byte_formats.specs.Types.{Text}
+use Rattle.mtc_words.specs.Commands.{CommandValue, init_cosigner, init_log, tile}
+
+-- The journal that it makes: two commands begin one.
+abbrev pub journal_made_by : CommandValue → Option Text
+journal_made_by (init_log journal id active limit) = Some journal
+journal_made_by (init_cosigner journal id log height width file) = Some journal
+journal_made_by other = None
+
+-- Of the files beside its journal those that it only reads: all, but that `tile` writes its own.
+abbrev pub only_read_by : CommandValue → List Text → List Text
+only_read_by (tile journal) besides = []
+only_read_by other besides = besides
