@@ -4,5 +4,6 @@ pub mod Auditing
 mod Working
 pub mod Logs
 pub mod Cosigners
+pub mod Planned
 pub mod Names
 pub mod Heard

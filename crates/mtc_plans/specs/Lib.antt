@@ -7,4 +7,5 @@ pub mod LogPlans
 pub mod CosignerPlans
 pub mod Commands
 pub mod Words
+pub mod Cited
 pub mod Heard

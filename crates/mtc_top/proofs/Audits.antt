@@ -32,6 +32,7 @@ use Rattle.policy_core.specs.declared.answer.Accepted.{Accepted}
 use Rattle.policy_core.specs.declared.answer.By.{By}
 use Rattle.policy_core.specs.declared.answer.By.TheVariants.{Cosigners, Landmark}
 use Rattle.policy_core.specs.declared.store.Store.{Store}
+use Rattle.mtc_plans.proofs.Planned.{outcome_planned}
 use Rattle.node_history.specs.declared.start.NodeStart.TheVariants.{Cosigner}
 use Rattle.world_core.specs.Audit.{AuditCase, has_own, is_counted, is_counted_as, is_recorded}
 use Rattle.world_core.specs.Audit.{is_recorded_by, is_sign_of, is_supported, some_place}
@@ -51,7 +52,6 @@ use Rattle.mtc_top.specs.Concluded.{Prints}
 use Rattle.mtc_top.specs.Courses.{Turn}
 use Rattle.mtc_top.specs.Facts.{facts}
 use Rattle.mtc_top.proofs.Exports.{exports_hold}
-use Rattle.mtc_top.proofs.Planned.{outcome_planned}
 
 -- ---- what is asked for
 

@@ -32,6 +32,7 @@ use Rattle.mtc_command.specs.declared.answer.Stopped.TheVariants.{Missing}
 use Rattle.mtc_command.proofs.Made.{OnlyNow, ReadsImage}
 use Rattle.mtc_cosigner.specs.CosignerOutcomes.{export_says}
 use Rattle.mtc_cosigner.specs.Works.{cosigner_bytes_say, export_outcome, cosigner_open_text}
+use Rattle.mtc_plans.proofs.Planned.{outcome_planned}
 use Rattle.node_history.specs.Rules.{IsReadAs, StartsWith}
 use Rattle.node_history.specs.declared.start.NodeStart.{NodeStart}
 use Rattle.node_history.specs.declared.start.NodeStart.TheVariants.{Cosigner}
@@ -41,7 +42,6 @@ use Rattle.mtc_top.specs.Courses.{IsRecovered}
 use Rattle.mtc_top.specs.ExportLaws.{ExportsHoldTheSteps, HasExported}
 use Rattle.mtc_top.specs.Facts.{facts}
 use Rattle.mtc_top.specs.Run.{Answered}
-use Rattle.mtc_top.proofs.Planned.{outcome_planned}
 use Rattle.mtc_top.proofs.Printed.{did_so}
 use Rattle.mtc_top.proofs.Recovered.{held_prefix, last, read_again}
 use Rattle.mtc_top.proofs.Turns.{file_bytes, heard_run, not_refused, printed_so, modelled_file}

@@ -25,15 +25,15 @@ use Rattle.mtc_command.specs.Wanted.{Meets}
 use Rattle.mtc_command.specs.declared.answer.Said.{Said}
 use Rattle.mtc_cosigner.specs.CosignerOutcomes.{cosigned_text}
 use Rattle.mtc_authority.specs.IssueOutcome.{issued_text}
+use Rattle.mtc_plans.specs.Cited.{command_outcome}
 use Rattle.mtc_plans.specs.Heard.{CosignsSo, IssuesSo, OfSaid}
 use Rattle.mtc_plans.proofs.Heard.{cosigned_so, issued_so}
+use Rattle.mtc_plans.proofs.Planned.{outcome_planned}
 use Rattle.node_history.proofs.Cosigners.{number_added, sign_read}
 use Rattle.node_history.proofs.Entries.{item_read}
 use Rattle.mtc_top.specs.Courses.{Turn, HasTurned, DidWith, AreAmong, IsHeard}
-use Rattle.mtc_top.specs.Cited.{command_outcome}
 use Rattle.mtc_top.specs.Facts.{facts, facts_of}
 use Rattle.mtc_top.specs.PrintLaws.{IndicesArePrinted, SignaturesArePrinted}
-use Rattle.mtc_top.proofs.Planned.{outcome_planned}
 use Rattle.mtc_top.proofs.Turns.{file_bytes, heard_run, not_refused, printed_so}
 
 module _ {R S D O E : Type 0} (h : HashFunction) (rooms : Rooms R S D) (disks : Disks D)

@@ -24,11 +24,11 @@ use Rattle.mtc_authority.specs.Works.{IsLog}
 use Rattle.command_plans.specs.Plans.{Journal, makes, opens}
 use Rattle.command_plans.specs.Rules.{AreOfFirst}
 use Rattle.mtc_plans.specs.Commands.{plan_of}
+use Rattle.mtc_plans.specs.Cited.{command_outcome}
 use Rattle.mtc_plans.specs.Heard.{AdvancesSo, BeginsSo, ExportsSo, KeysSo, OfSaid}
 use Rattle.mtc_plans.specs.NodeKinds.{cosigner, log, node_kinds}
 use Rattle.mtc_plans.proofs.Heard.{advanced_so, begun_so, exported_so, keyed_so}
 use Rattle.mtc_top.specs.Courses.{Turn, HasHeld, HasTurned, IsHeard}
-use Rattle.mtc_top.specs.Cited.{command_outcome}
 use Rattle.mtc_top.specs.Facts.{facts}
 use Rattle.mtc_top.specs.PrintLaws.{OnlyCosignSigns, Says}
 use Rattle.mtc_top.specs.WordsOutcome.{word_fault_text}

@@ -1,68 +1,14 @@
--- The outcomes that the contracts of the commands cite: one line for each. Each stands in a file of
--- its own, in mtc_reads, mtc_authority, mtc_cosigner, mtc_monitor or mtc_drill.
+-- The outcome of what the words say, as the contracts of the commands cite it.
 use Rattle.std.specs.Prelude.{Result, Ok, Err}
-use Rattle.byte_formats.specs.Types.{HashFunction, Text}
+use Rattle.byte_formats.specs.Types.{HashFunction}
 use Rattle.mtc_words.specs.declared.error.WordError.{WordError}
-use Rattle.mtc_words.specs.Commands.{CommandValue, member, show, verify, init_log, issue}
-use Rattle.mtc_words.specs.Commands.{checkpoint, entries, consist, subtree, keygen}
-use Rattle.mtc_words.specs.Commands.{init_cosigner, advance, cosign, export, landmark, landmarks}
-use Rattle.mtc_words.specs.Commands.{light_cert, trust_landmarks, cert, audit, drill, tile}
-use Rattle.mtc_command.specs.Answers.{tiles_name}
+use Rattle.mtc_words.specs.Commands.{CommandValue}
 use Rattle.mtc_command.specs.Steps.{Files, Outcome, stops}
 use Rattle.mtc_command.specs.declared.answer.Stopped.TheVariants.{BadWords}
-use Rattle.mtc_cosigner.specs.InitOutcome.{init_cosigner_outcome}
-use Rattle.mtc_cosigner.specs.KeygenOutcome.{keygen_outcome}
-use Rattle.mtc_cosigner.specs.Works.{advance_outcome, cosign_outcome, export_outcome}
-use Rattle.mtc_drill.specs.Summary.{drill_outcome}
-use Rattle.mtc_authority.specs.CertCommand.{cert_outcome}
-use Rattle.mtc_authority.specs.IssueCommand.{issue_outcome}
-use Rattle.mtc_authority.specs.LogOutcomes.{init_log_outcome}
-use Rattle.mtc_authority.specs.Works.{log_outcome}
-use Rattle.mtc_authority.specs.declared.work.Work.{Work}
-use Rattle.mtc_authority.specs.declared.work.Work.TheVariants.{Checkpoint, Entries, Consist}
-use Rattle.mtc_authority.specs.declared.work.Work.TheVariants.{Subtree}
-use Rattle.mtc_authority.specs.declared.work.Work.TheVariants.{Landmark, Landmarks, LightCert, Tile}
-use Rattle.mtc_monitor.specs.AuditOutcome.{audit_outcome}
-use Rattle.mtc_monitor.specs.TrustOutcome.{trust_outcome}
-use Rattle.mtc_reads.specs.MemberOutcome.{member_outcome}
-use Rattle.mtc_reads.specs.ShowOutcome.{show_outcome}
-use Rattle.mtc_reads.specs.VerifyOutcome.{verify_outcome}
+use Rattle.mtc_plans.specs.Cited.{command_outcome}
 use Rattle.mtc_top.specs.WordsOutcome.{word_fault_text}
 
--- The outcome of a command on the log of a journal, by its words alone.
-abbrev pub outcome_on_log : HashFunction → Text → Work → Files → Outcome
-outcome_on_log h journal work files =
-    log_outcome h journal (files journal) (files (tiles_name journal)) work
-
--- The outcome of each command.
-abbrev pub command_outcome : HashFunction → CommandValue → Files → Outcome
-command_outcome h (member file) = member_outcome h file
-command_outcome h (show file) = show_outcome file
-command_outcome h (verify certificate store moment) = verify_outcome h certificate store moment
-command_outcome h (init_log journal id active limit) = init_log_outcome journal id active limit
-command_outcome h (issue journal request) = issue_outcome h journal request
-command_outcome h (checkpoint journal) = outcome_on_log h journal Checkpoint
-command_outcome h (entries journal size) = outcome_on_log h journal (Entries size)
-command_outcome h (consist journal old new) = outcome_on_log h journal (Consist old new)
-command_outcome h (subtree journal start end size) =
-    outcome_on_log h journal (Subtree start end size)
-command_outcome h (keygen height width file) = keygen_outcome height width file
-command_outcome h (init_cosigner journal id log height width file) =
-    init_cosigner_outcome journal id log height width file
-command_outcome h (advance journal request) = advance_outcome h journal request
-command_outcome h (cosign journal request) = cosign_outcome h journal request
-command_outcome h (export journal) = export_outcome h journal
-command_outcome h (landmark journal) = outcome_on_log h journal Landmark
-command_outcome h (landmarks journal) = outcome_on_log h journal Landmarks
-command_outcome h (light_cert journal index) = outcome_on_log h journal (LightCert index)
-command_outcome h (trust_landmarks list active items) = trust_outcome h list active items
-command_outcome h (cert journal index start end file) = cert_outcome h journal index start end file
-command_outcome h (audit certificate store moment items kept) =
-    audit_outcome h certificate store moment items kept
-command_outcome h (drill number) = λ files. drill_outcome number
-command_outcome h (tile journal) = outcome_on_log h journal Tile
-
--- The same where the words say this. Words that are no command are refused.
+-- That of the command; words that are no command are refused.
 abbrev pub spoken_outcome : HashFunction → Result CommandValue WordError → Files → Outcome
 spoken_outcome h (Ok command) = command_outcome h command
 spoken_outcome h (Err why) = λ files. stops BadWords (word_fault_text why)

@@ -10,7 +10,8 @@ ghost use Rattle.mtc_authority.specs.NoJournal.{SparesTiles};
 ghost use Rattle.mtc_command.specs.Served.{HasDone, LeavesEach, OfEach, done_with};
 ghost use Rattle.mtc_command.specs.Valid.{KeepsValid};
 ghost use Rattle.mtc_command.specs.Works.{ModelsNew};
-ghost use Rattle.mtc_top.specs.Cited.{command_outcome, spoken_outcome};
+ghost use Rattle.mtc_plans.specs.Cited.{command_outcome};
+ghost use Rattle.mtc_top.specs.Cited.{spoken_outcome};
 ghost use Rattle.mtc_top.specs.Facts.{facts, facts_of};
 ghost use Rattle.mtc_top.specs.Run.{HasRun};
 

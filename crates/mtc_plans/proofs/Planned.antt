@@ -1,0 +1,59 @@
+-- What each command has to answer, as its contract cites it, is what comes of its plan.
+use Rattle.std.proofs.Common.{◌≡◌}
+use Rattle.byte_formats.specs.Types.{HashFunction}
+use Rattle.mtc_words.specs.Commands.{CommandValue, member, show, verify, init_log, issue}
+use Rattle.mtc_words.specs.Commands.{checkpoint, entries, consist, subtree, keygen}
+use Rattle.mtc_words.specs.Commands.{init_cosigner, advance, cosign, export, landmark, landmarks}
+use Rattle.mtc_words.specs.Commands.{light_cert, trust_landmarks, cert, audit, drill, tile}
+use Rattle.mtc_command.specs.Steps.{Files}
+use Rattle.mtc_authority.specs.declared.work.Work.TheVariants.{Checkpoint, Consist, Entries}
+use Rattle.mtc_authority.specs.declared.work.Work.TheVariants.{Landmark, Landmarks, LightCert}
+use Rattle.mtc_authority.specs.declared.work.Work.TheVariants.{Subtree, Tile}
+use Rattle.command_plans.specs.Outcomes.{outcome_of}
+use Rattle.command_plans.specs.Plans.{changes, only_reads}
+use Rattle.mtc_plans.specs.Cited.{command_outcome}
+use Rattle.mtc_plans.specs.Commands.{plan_of}
+use Rattle.mtc_plans.specs.NodeKinds.{node_kinds}
+use Rattle.mtc_plans.proofs.Auditing.{audit_plans}
+use Rattle.mtc_plans.proofs.Cosigners.{advance_plans, cosign_plans, export_plans}
+use Rattle.mtc_plans.proofs.Cosigners.{init_cosigner_plans}
+use Rattle.mtc_plans.proofs.Logs.{cert_plans, init_log_plans, issue_plans, work_plans}
+use Rattle.mtc_plans.proofs.Reading.{drill_plans, keygen_plans, member_plans, show_plans}
+use Rattle.mtc_plans.proofs.Reading.{trust_plans, verify_plans}
+
+module _ (h : HashFunction) where
+  pub outcome_planned : (command : CommandValue) (files : Files)
+      → command_outcome h command files ≡ outcome_of (plan_of h command) files
+  outcome_planned (member file) files = member_plans (node_kinds h) h file files
+  outcome_planned (show file) files = show_plans (node_kinds h) h file files
+  outcome_planned (verify certificate store moment) files =
+      verify_plans (node_kinds h) h certificate store moment files
+  outcome_planned (init_log journal id active limit) files =
+      init_log_plans h files journal id active limit
+  outcome_planned (issue journal request) files = issue_plans h files journal request
+  outcome_planned (checkpoint journal) files = work_plans h files only_reads journal Checkpoint
+  outcome_planned (entries journal size) files =
+      work_plans h files only_reads journal (Entries size)
+  outcome_planned (consist journal old new) files =
+      work_plans h files only_reads journal (Consist old new)
+  outcome_planned (subtree journal start end size) files =
+      work_plans h files only_reads journal (Subtree start end size)
+  outcome_planned (keygen height width file) files =
+      keygen_plans (node_kinds h) h height width file files
+  outcome_planned (init_cosigner journal id log_id height width file) files =
+      init_cosigner_plans h files journal id log_id height width file
+  outcome_planned (advance journal request) files = advance_plans h files journal request
+  outcome_planned (cosign journal request) files = cosign_plans h files journal request
+  outcome_planned (export journal) files = export_plans h files journal
+  outcome_planned (landmark journal) files = work_plans h files only_reads journal Landmark
+  outcome_planned (landmarks journal) files = work_plans h files only_reads journal Landmarks
+  outcome_planned (light_cert journal index) files =
+      work_plans h files only_reads journal (LightCert index)
+  outcome_planned (trust_landmarks list active items) files =
+      trust_plans (node_kinds h) h list active items files
+  outcome_planned (cert journal index start end file) files =
+      cert_plans h files journal index start end file
+  outcome_planned (audit certificate store moment items kept) files =
+      audit_plans (node_kinds h) h certificate store moment items kept files
+  outcome_planned (drill number) files = drill_plans (node_kinds h) h number files
+  outcome_planned (tile journal) files = work_plans h files changes journal Tile
