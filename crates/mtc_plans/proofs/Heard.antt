@@ -25,14 +25,12 @@ use Rattle.mtc_command.specs.declared.answer.Said.{Said}
 use Rattle.mtc_command.specs.declared.answer.Said.TheVariants.{Done}
 use Rattle.mtc_command.specs.declared.answer.Stopped.{Stopped}
 use Rattle.mtc_command.specs.declared.answer.Stopped.TheVariants.{Beyond, NotAllowed}
-use Rattle.mtc_authority.specs.IssueCommand.{issue_outcome}
 use Rattle.mtc_authority.specs.IssueOutcome.{issued_text, log_fault_text, request_fault_text}
 use Rattle.mtc_authority.specs.declared.work.Work.TheVariants.{Issue}
 use Rattle.mtc_cosigner.specs.CosignerOutcomes.{advanced_text, cosigned_text, form_fault_text}
 use Rattle.mtc_cosigner.specs.CosignerOutcomes.{step_fault_text}
 use Rattle.mtc_cosigner.specs.InitOutcome.{cosigner_settings_of}
 use Rattle.mtc_cosigner.specs.KeygenOutcome.{lms_type, ots_type, public_line}
-use Rattle.mtc_cosigner.specs.Works.{advance_outcome, cosign_outcome}
 use Rattle.command_plans.specs.Kinds.{Kinds}
 use Rattle.command_plans.specs.Outcomes.{deed_outcome, opened_did, outcome_of, wanted_of}
 use Rattle.command_plans.specs.Plans.{Beside, Deed, Finds, Input, Journal, Plan, Read, Step}
@@ -48,10 +46,6 @@ use Rattle.mtc_plans.specs.LogWork.{issue_told, work_told}
 use Rattle.mtc_plans.specs.NodeKinds.{NodeKind, NodeState, cosigner, log, node_fold, node_kinds}
 use Rattle.mtc_plans.specs.ReadPlans.{keygen_plan}
 use Rattle.mtc_plans.specs.Steps.{Told, deed_new, deed_on, in_secret, small_file}
-use Rattle.mtc_plans.proofs.Cosigners.{advance_plans, cosign_plans, export_plans}
-use Rattle.mtc_plans.proofs.Cosigners.{init_cosigner_plans}
-use Rattle.mtc_plans.proofs.Logs.{issue_plans}
-use Rattle.mtc_plans.proofs.Reading.{keygen_plans}
 
 -- ---- which step was taken
 
@@ -117,7 +111,7 @@ module _ {F E : Type 0} (h : HashFunction) (files : Files) (kind : NodeKind) (be
   }
 
   -- its file was read, its journal was found, and this is what it told and added
-  pub record HasTold (wanted : Outcome) (status : Said) (text : List ℕ) : Type 0 where
+  pub record HasTold (status : Said) (text : List ℕ) : Type 0 where
     pub bytes : List ℕ
     pub has_bytes : HoldsSmall files file bytes
     pub form : F
@@ -126,15 +120,14 @@ module _ {F E : Type 0} (h : HashFunction) (files : Files) (kind : NodeKind) (be
     pub there : files journal ≡ Some held
     pub found : Found (NodeState kind)
     pub is_node : read_by (node_fold h kind) held ≡ Ok found
-    pub did : wanted.journals ≡ opened_did found.records (told form found).1 ∷ []
+    pub did : (outcome_of formed_plan files).journals
+        ≡ opened_did found.records (told form found).1 ∷ []
     pub meets : Meets (wanted_of (told form found).0) (said status text)
 
-  has_told : (wanted : Outcome) (status : Said) (text : List ℕ)
-      → wanted ≡ outcome_of formed_plan files → Meets wanted.answer (said status text)
-      → HasTold wanted status text
-  has_told wanted status text same meets =
-      let passed = heard_passed (node_kinds h) formed_plan files status text
-      (subst (λ (o : Outcome). Meets o.answer (said status text)) same meets) in
+  has_told : (status : Said) (text : List ℕ)
+      → Meets (outcome_of formed_plan files).answer (said status text) → HasTold status text
+  has_told status text meets =
+      let passed = heard_passed (node_kinds h) formed_plan files status text meets in
       let read = passed.read.0 in
       let form = form_passed read fault_text (reading read.text) told_on passed.say
       passed.works_so in
@@ -151,7 +144,7 @@ module _ {F E : Type 0} (h : HashFunction) (files : Files) (kind : NodeKind) (be
         there = passed.are_found.0.there;
         found = found;
         is_node = passed.are_found.0.is;
-        did = ap (λ (o : Outcome). o.journals) (same ∙ passed.is)
+        did = ap (λ (o : Outcome). o.journals) passed.is
             ∙ ap (λ (d : Deed formed_plan.journals).
             (deed_outcome formed_plan.journals passed.founds d).journals) (sym eq);
         meets = subst (λ (d : Deed formed_plan.journals).
@@ -172,8 +165,7 @@ issue_so h r v (Some why) status text meets =
 pub issued_so : IssuedTextsAreOfRecords
 issued_so h files journal file status text meets =
     let t = has_told h files log only_reads journal file request_fault_text request_of
-    (λ (r : RequestParts) (found : FoundLog). work_told h (Issue r) found)
-    (issue_outcome h journal file files) status text (issue_plans h files journal file) meets in
+    (λ (r : RequestParts) (found : FoundLog). work_told h (Issue r) found) status text meets in
     let v = view_in t.found.state in
     let so = issue_so h t.form v (add_refusal v false (end_behind t.found.records)
     (issued_entry h t.found.state.settings t.form) t.form.key) status text t.meets in
@@ -206,8 +198,7 @@ step_so body line (Some why) status text meets =
 pub advanced_so : AdvancedTextsAreOfRecords
 advanced_so h files journal file status text meets =
     let t = has_told h files cosigner only_reads journal file form_fault_text advance_in
-    (advance_told h) (advance_outcome h journal file files) status text
-    (advance_plans h files journal file) meets in
+    (advance_told h) status text meets in
     let r = t.form in
     let so = step_so (advance_record r.size r.root r.proof) (advanced_text r.size)
     (advance_refused h t.found.state false (end_behind t.found.records) r) status text t.meets in
@@ -228,8 +219,7 @@ advanced_so h files journal file status text meets =
 pub cosigned_so : CosignedTextsAreOfRecords
 cosigned_so h files journal file status text meets =
     let t = has_told h files cosigner only_reads journal file form_fault_text subtree_in
-    (cosign_told h) (cosign_outcome h journal file files) status text
-    (cosign_plans h files journal file) meets in
+    (cosign_told h) status text meets in
     let r = t.form in
     let state = t.found.state in
     let so = step_so (sign_record state.key.next r.start r.end r.hash r.proof)
@@ -251,10 +241,8 @@ cosigned_so h files journal file status text meets =
 
 pub exported_so : ExportedTextsAreOfRecords
 exported_so h files journal status text meets =
-    let same = export_plans h files journal in
     let plan = export_plan h journal in
-    let passed = heard_passed (node_kinds h) plan files status text
-    (subst (λ (o : Outcome). Meets o.answer (said status text)) same meets) in
+    let passed = heard_passed (node_kinds h) plan files status text meets in
     let found = passed.founds.0 in
     let deed : Deed plan.journals = deed_on (export_told found) in
     let eq : deed ≡ passed.say passed.founds = same_work passed.say
@@ -265,7 +253,7 @@ exported_so h files journal status text meets =
       there = passed.are_found.0.there;
       found = found;
       is_cosigner = passed.are_found.0.is;
-      did = ap (λ (o : Outcome). o.journals) (same ∙ passed.is)
+      did = ap (λ (o : Outcome). o.journals) passed.is
           ∙ ap (λ (d : Deed plan.journals).
           (deed_outcome plan.journals passed.founds d).journals) (sym eq);
       reply_is = subst (λ (d : Deed plan.journals).
@@ -274,12 +262,10 @@ exported_so h files journal status text meets =
 
 -- ---- a secret file
 
-pub keyed_so : HashFunction → KeyTextsAreOfSecrets
+pub keyed_so : KeyTextsAreOfSecrets
 keyed_so h files height width file status text meets =
-    let same = keygen_plans (node_kinds h) h height width file files in
     let plan : Plan (node_kinds h) = keygen_plan height width file in
-    let passed = heard_passed (node_kinds h) plan files status text
-    (subst (λ (o : Outcome). Meets o.answer (said status text)) same meets) in
+    let passed = heard_passed (node_kinds h) plan files status text meets in
     let read = passed.read.0 in
     let judged = prints Done (public_line (lms_type height) (ots_type width) read.text) in
     let deed : Deed plan.journals = record { answer = judged; does = tt } in
@@ -293,12 +279,10 @@ keyed_so h files height width file status text meets =
           Meets (wanted_of d.answer) (said status text)) (sym eq) passed.meets;
     }
 
-pub begun_so : HashFunction → BegunTextsAreOfSecrets
+pub begun_so : BegunTextsAreOfSecrets
 begun_so h files journal id log_id height width file status text meets =
-    let same = init_cosigner_plans h files journal id log_id height width file in
     let plan = init_cosigner_plan h journal id log_id height width file in
-    let passed = heard_passed (node_kinds h) plan files status text
-    (subst (λ (o : Outcome). Meets o.answer (said status text)) same meets) in
+    let passed = heard_passed (node_kinds h) plan files status text meets in
     let read = passed.read.0 in
     let s = cosigner_settings_of id log_id height width in
     let line = public_line s.lms s.ots read.text in
@@ -314,7 +298,7 @@ begun_so h files journal id log_id height width file status text meets =
             Meets (wanted_of d.answer) (said status text)) (sym eq) passed.meets;
       };
       fresh = passed.are_found.0;
-      did = ap (λ (o : Outcome). o.journals) (same ∙ passed.is)
+      did = ap (λ (o : Outcome). o.journals) passed.is
           ∙ ap (λ (d : Deed plan.journals).
           (deed_outcome plan.journals passed.founds d).journals) (sym eq);
     }

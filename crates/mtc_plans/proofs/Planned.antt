@@ -9,10 +9,9 @@ use Rattle.mtc_command.specs.Steps.{Files}
 use Rattle.mtc_authority.specs.declared.work.Work.TheVariants.{Checkpoint, Consist, Entries}
 use Rattle.mtc_authority.specs.declared.work.Work.TheVariants.{Landmark, Landmarks, LightCert}
 use Rattle.mtc_authority.specs.declared.work.Work.TheVariants.{Subtree, Tile}
-use Rattle.command_plans.specs.Outcomes.{outcome_of}
 use Rattle.command_plans.specs.Plans.{changes, only_reads}
 use Rattle.mtc_plans.specs.Cited.{command_outcome}
-use Rattle.mtc_plans.specs.Commands.{plan_of}
+use Rattle.mtc_plans.specs.Commands.{planned_outcome}
 use Rattle.mtc_plans.specs.NodeKinds.{node_kinds}
 use Rattle.mtc_plans.proofs.Auditing.{audit_plans}
 use Rattle.mtc_plans.proofs.Cosigners.{advance_plans, cosign_plans, export_plans}
@@ -23,7 +22,7 @@ use Rattle.mtc_plans.proofs.Reading.{trust_plans, verify_plans}
 
 module _ (h : HashFunction) where
   pub outcome_planned : (command : CommandValue) (files : Files)
-      → command_outcome h command files ≡ outcome_of (plan_of h command) files
+      → command_outcome h command files ≡ planned_outcome h command files
   outcome_planned (member file) files = member_plans (node_kinds h) h file files
   outcome_planned (show file) files = show_plans (node_kinds h) h file files
   outcome_planned (verify certificate store moment) files =

@@ -4,9 +4,11 @@ use Rattle.mtc_words.specs.Commands.{CommandValue, member, show, verify, init_lo
 use Rattle.mtc_words.specs.Commands.{checkpoint, entries, consist, subtree, keygen}
 use Rattle.mtc_words.specs.Commands.{init_cosigner, advance, cosign, export, landmark, landmarks}
 use Rattle.mtc_words.specs.Commands.{light_cert, trust_landmarks, cert, audit, drill, tile}
+use Rattle.mtc_command.specs.Steps.{Files, Outcome}
 use Rattle.mtc_authority.specs.declared.work.Work.TheVariants.{Checkpoint, Consist, Entries}
 use Rattle.mtc_authority.specs.declared.work.Work.TheVariants.{Landmark, Landmarks, LightCert}
 use Rattle.mtc_authority.specs.declared.work.Work.TheVariants.{Subtree, Tile}
+use Rattle.command_plans.specs.Outcomes.{outcome_of}
 use Rattle.command_plans.specs.Plans.{Plan, changes, only_reads}
 use Rattle.mtc_plans.specs.AuditPlans.{audit_plan}
 use Rattle.mtc_plans.specs.CosignerPlans.{advance_plan, cosign_plan, export_plan}
@@ -43,3 +45,7 @@ plan_of h (audit certificate store moment items kept) =
     audit_plan h certificate store moment items kept
 plan_of h (drill number) = drill_plan number
 plan_of h (tile journal) = work_plan h changes journal Tile
+
+-- What comes of it over these files.
+abbrev pub planned_outcome : HashFunction → CommandValue → Files → Outcome
+planned_outcome h command files = outcome_of (plan_of h command) files

@@ -15,18 +15,18 @@ use Rattle.cosigner_core.specs.Requests.{AdvanceParts, SubtreeParts}
 use Rattle.issuance_log.specs.Folds.{view_in}
 use Rattle.issuance_log.specs.Openings.{FoundLog, log_read}
 use Rattle.issuance_log.specs.Refusals.{add_refusal}
+use Rattle.mtc_words.specs.Commands.{advance, cosign, export, init_cosigner, issue, keygen}
 use Rattle.mtc_command.specs.Answers.{Reply, said}
 use Rattle.mtc_command.specs.Made.{appended, reads, started}
 use Rattle.mtc_command.specs.Steps.{Files, Outcome}
 use Rattle.mtc_command.specs.Wanted.{Meets}
 use Rattle.mtc_command.specs.declared.answer.Said.{Said}
 use Rattle.mtc_command.specs.declared.answer.Said.TheVariants.{Done}
-use Rattle.mtc_authority.specs.IssueCommand.{issue_outcome}
 use Rattle.mtc_authority.specs.IssueOutcome.{issued_text}
 use Rattle.mtc_cosigner.specs.CosignerOutcomes.{advanced_text, cosigned_text}
-use Rattle.mtc_cosigner.specs.InitOutcome.{cosigner_settings_of, init_cosigner_outcome}
-use Rattle.mtc_cosigner.specs.KeygenOutcome.{keygen_outcome, lms_type, ots_type, public_line}
-use Rattle.mtc_cosigner.specs.Works.{advance_outcome, cosign_outcome, export_outcome}
+use Rattle.mtc_cosigner.specs.InitOutcome.{cosigner_settings_of}
+use Rattle.mtc_cosigner.specs.KeygenOutcome.{lms_type, ots_type, public_line}
+use Rattle.mtc_plans.specs.Commands.{planned_outcome}
 
 -- The file holds this, within the limit of a small file.
 pub record HoldsSmall (files : Files) (file text : Text) : Type 0 where
@@ -54,14 +54,14 @@ pub record IssuesSo (h : HashFunction) (files : Files) (journal file : Text) (re
   pub is_log : log_read h held ≡ Ok found
   pub fits : add_refusal (view_in found.state) false (end_behind found.records)
       (issued_entry h found.state.settings request) request.key ≡ None
-  pub did : (issue_outcome h journal file files).journals
+  pub did : (planned_outcome h (issue journal file) files).journals
       ≡ appended found.records (issued_record h (view_in found.state).settings request) ∷ []
   pub reply_is : reply ≡ said Done (issued_text (view_in found.state).size)
 
 -- So it is of each text that `issue` may say.
 abbrev pub IssuedTextsAreOfRecords : Type 0
 IssuedTextsAreOfRecords = (h : HashFunction) (files : Files) (journal file : Text)
-    → OfSaid (issue_outcome h journal file files) (IssuesSo h files journal file)
+    → OfSaid (planned_outcome h (issue journal file) files) (IssuesSo h files journal file)
 
 -- ---- a cosigner's journal
 
@@ -78,14 +78,14 @@ pub record AdvancesSo (h : HashFunction) (files : Files) (journal file : Text) (
   pub found : FoundCosigner
   pub is_cosigner : cosigner_read h held ≡ Ok found
   pub fits : advance_refused h found.state false (end_behind found.records) request ≡ None
-  pub did : (advance_outcome h journal file files).journals
+  pub did : (planned_outcome h (advance journal file) files).journals
       ≡ appended found.records (advance_record request.size request.root request.proof) ∷ []
   pub reply_is : reply ≡ said Done (advanced_text request.size)
 
 -- So it is of each text that `advance` may say.
 abbrev pub AdvancedTextsAreOfRecords : Type 0
 AdvancedTextsAreOfRecords = (h : HashFunction) (files : Files) (journal file : Text)
-    → OfSaid (advance_outcome h journal file files) (AdvancesSo h files journal file)
+    → OfSaid (planned_outcome h (advance journal file) files) (AdvancesSo h files journal file)
 
 -- A request was read, a cosigner was found that takes the step, and a Sign record is added. The
 -- text is the signature by the next one-time key.
@@ -100,7 +100,7 @@ pub record CosignsSo (h : HashFunction) (files : Files) (journal file : Text) (r
   pub found : FoundCosigner
   pub is_cosigner : cosigner_read h held ≡ Ok found
   pub fits : cosign_refused h found.state false (end_behind found.records) request ≡ None
-  pub did : (cosign_outcome h journal file files).journals
+  pub did : (planned_outcome h (cosign journal file) files).journals
       ≡ appended found.records (sign_record found.state.key.next request.start request.end
       request.hash request.proof) ∷ []
   pub reply_is : reply ≡ said Done (cosigned_text found.state request)
@@ -108,7 +108,7 @@ pub record CosignsSo (h : HashFunction) (files : Files) (journal file : Text) (r
 -- So it is of each text that `cosign` may say.
 abbrev pub CosignedTextsAreOfRecords : Type 0
 CosignedTextsAreOfRecords = (h : HashFunction) (files : Files) (journal file : Text)
-    → OfSaid (cosign_outcome h journal file files) (CosignsSo h files journal file)
+    → OfSaid (planned_outcome h (cosign journal file) files) (CosignsSo h files journal file)
 
 -- A cosigner was found, and no record is added. The text is what others may know of it.
 pub record ExportsSo (h : HashFunction) (files : Files) (journal : Text) (reply : Reply)
@@ -117,13 +117,13 @@ pub record ExportsSo (h : HashFunction) (files : Files) (journal : Text) (reply 
   pub there : files journal ≡ Some held
   pub found : FoundCosigner
   pub is_cosigner : cosigner_read h held ≡ Ok found
-  pub did : (export_outcome h journal files).journals ≡ reads found.records ∷ []
+  pub did : (planned_outcome h (export journal) files).journals ≡ reads found.records ∷ []
   pub reply_is : reply ≡ said Done (export_text found.state found.records)
 
 -- So it is of each text that `export` may say.
 abbrev pub ExportedTextsAreOfRecords : Type 0
 ExportedTextsAreOfRecords = (h : HashFunction) (files : Files) (journal : Text)
-    → OfSaid (export_outcome h journal files) (ExportsSo h files journal)
+    → OfSaid (planned_outcome h (export journal) files) (ExportsSo h files journal)
 
 -- ---- a secret file
 
@@ -136,19 +136,20 @@ pub record KeysSo (files : Files) (height width : ℕ) (file : Text) (reply : Re
 
 -- So it is of each text that `keygen` may say.
 abbrev pub KeyTextsAreOfSecrets : Type 0
-KeyTextsAreOfSecrets = (files : Files) (height width : ℕ) (file : Text)
-    → OfSaid (keygen_outcome height width file files) (KeysSo files height width file)
+KeyTextsAreOfSecrets = (h : HashFunction) (files : Files) (height width : ℕ) (file : Text)
+    → OfSaid (planned_outcome h (keygen height width file) files) (KeysSo files height width file)
 
 -- A new cosigner says so, its journal had no file, and its first record is of the secret.
-pub record BeginsSo (files : Files) (journal id log_id : Text) (height width : ℕ) (file : Text)
-    (reply : Reply) : Type 0 where
+pub record BeginsSo (h : HashFunction) (files : Files) (journal id log_id : Text)
+    (height width : ℕ) (file : Text) (reply : Reply) : Type 0 where
   pub keys : KeysSo files height width file reply
   pub fresh : files journal ≡ None
-  pub did : (init_cosigner_outcome journal id log_id height width file files).journals
+  pub did : (planned_outcome h (init_cosigner journal id log_id height width file) files).journals
       ≡ started (cosigner_record (cosigner_settings_of id log_id height width) keys.secret) ∷ []
 
 -- So it is of each text that `init-cosigner` may say.
 abbrev pub BegunTextsAreOfSecrets : Type 0
-BegunTextsAreOfSecrets = (files : Files) (journal id log_id : Text) (height width : ℕ)
-    (file : Text) → OfSaid (init_cosigner_outcome journal id log_id height width file files)
-    (BeginsSo files journal id log_id height width file)
+BegunTextsAreOfSecrets = (h : HashFunction) (files : Files) (journal id log_id : Text)
+    (height width : ℕ) (file : Text)
+    → OfSaid (planned_outcome h (init_cosigner journal id log_id height width file) files)
+    (BeginsSo h files journal id log_id height width file)

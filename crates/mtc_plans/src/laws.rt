@@ -11,10 +11,9 @@ ghost use Rattle.command_plans.specs.Facts.{FoundIsValid, HeardHasPassed, Misrea
 ghost use Rattle.command_plans.specs.Facts.{NoCommandIsBadWords, OutcomesCome, UnopenedIsEarly};
 ghost use Rattle.command_plans.specs.Names.{beside_names, journal_names, made_names};
 ghost use Rattle.command_plans.specs.Names.{only_read_names};
-ghost use Rattle.command_plans.specs.Outcomes.{outcome_of};
 ghost use Rattle.command_plans.specs.Plans.{Journal};
 ghost use Rattle.mtc_plans.specs.Cited.{command_outcome};
-ghost use Rattle.mtc_plans.specs.Commands.{plan_of};
+ghost use Rattle.mtc_plans.specs.Commands.{plan_of, planned_outcome};
 ghost use Rattle.mtc_plans.specs.Heard.{AdvancedTextsAreOfRecords, BegunTextsAreOfSecrets};
 ghost use Rattle.mtc_plans.specs.Heard.{CosignedTextsAreOfRecords, ExportedTextsAreOfRecords};
 ghost use Rattle.mtc_plans.specs.Heard.{IssuedTextsAreOfRecords, KeyTextsAreOfSecrets};
@@ -24,7 +23,7 @@ ghost use Rattle.mtc_plans.specs.Words.{journal_made_by, only_read_by};
 /// What each command has to answer, as its contract cites it, is what comes of its plan.
 pub fn law_commands_have_plans()
     ensures { (h : HashFunction) (command : CommandValue) (files : Files)
-        → command_outcome h command files ≡ outcome_of (plan_of h command) files }
+        → command_outcome h command files ≡ planned_outcome h command files }
 {}
 
 /// The journals of a command's plan are those that its words name, and it makes one where the words

@@ -1,6 +1,6 @@
 -- A run of `export` behind a course.
-use Rattle.std.proofs.Common.{◌≡◌, inl, inr, ℕ, suc, List, [], ◌∷◌, ◌++◌, drop, Option}
-use Rattle.std.proofs.Common.{None, Some, Result, Ok, codes, refl, sym, subst, ap, ◌∙◌, arith}
+use Rattle.std.proofs.Common.{◌≡◌, inr, ℕ, suc, List, [], ◌∷◌, ◌++◌, drop}
+use Rattle.std.proofs.Common.{Some, Result, Ok, refl, sym, subst, ap, ◌∙◌, arith}
 use Rattle.std.proofs.Common.{append_assoc}
 use Rattle.std.proofs.lemmas.Option.{option_and_then_some, same_Some}
 use Rattle.std.specs.Prelude.{Contains, option_map}
@@ -12,27 +12,23 @@ use Rattle.journal_core.proofs.Standing.{found_stands}
 use Rattle.mtc_io.specs.declared.sink.Sink.{Ghosts as Sinks}
 use Rattle.mtc_room.specs.Room.{ModelsFile}
 use Rattle.mtc_room.specs.declared.room.Room.{Ghosts as Rooms}
-use Rattle.mtc_words.specs.Commands.{CommandValue, export}
+use Rattle.mtc_words.specs.Commands.{export}
 use Rattle.mtc_words.specs.Words.{command_of}
-use Rattle.mtc_words.specs.declared.error.WordError.{WordError}
 use Rattle.cosigner_core.specs.ExportReading.{export_of}
 use Rattle.cosigner_core.specs.Folds.{progress_of, CosignerState, cosigner_fold, cosigner_of}
 use Rattle.cosigner_core.specs.Exports.{export_text}
 use Rattle.cosigner_core.specs.Openings.{FoundCosigner, cosigner_read}
 use Rattle.cosigner_core.specs.Progress.{steps_in}
 use Rattle.cosigner_core.specs.Records.{step_in}
-use Rattle.state_journal.specs.declared.error.StateOpenError.{StateOpenError}
 use Rattle.cosigner_core.specs.declared.settings.CosignerSettings.{CosignerSettings}
 use Rattle.cosigner_core.specs.declared.step.Step.{Step}
 use Rattle.cosigner_core.proofs.ExportAgain.{export_again}
+use Rattle.mtc_command.specs.Answers.{Reply, said}
 use Rattle.mtc_command.specs.Made.{reads}
-use Rattle.mtc_command.specs.Steps.{Files, Outcome, stops_at, with_file, with_form}
-use Rattle.mtc_command.specs.Wanted.{Meets}
-use Rattle.mtc_command.specs.declared.answer.Stopped.TheVariants.{Missing}
+use Rattle.mtc_command.specs.declared.answer.Said.TheVariants.{Done}
 use Rattle.mtc_command.proofs.Made.{OnlyNow, ReadsImage}
-use Rattle.mtc_cosigner.specs.CosignerOutcomes.{export_says}
-use Rattle.mtc_cosigner.specs.Works.{cosigner_bytes_say, export_outcome, cosigner_open_text}
-use Rattle.mtc_plans.proofs.Planned.{outcome_planned}
+use Rattle.mtc_plans.specs.Heard.{ExportsSo}
+use Rattle.mtc_plans.proofs.Heard.{exported_so}
 use Rattle.node_history.specs.Rules.{IsReadAs, StartsWith}
 use Rattle.node_history.specs.declared.start.NodeStart.{NodeStart}
 use Rattle.node_history.specs.declared.start.NodeStart.TheVariants.{Cosigner}
@@ -40,11 +36,9 @@ use Rattle.node_history.proofs.Cosigners.{of_first}
 use Rattle.mtc_top.specs.Courses.{Link, Turn, HasTurned, IsCourse, IsBegun, IsHeard}
 use Rattle.mtc_top.specs.Courses.{IsRecovered}
 use Rattle.mtc_top.specs.ExportLaws.{ExportsHoldTheSteps, HasExported}
-use Rattle.mtc_top.specs.Facts.{facts}
-use Rattle.mtc_top.specs.Run.{Answered}
-use Rattle.mtc_top.proofs.Printed.{did_so}
+use Rattle.mtc_top.proofs.Printed.{did_so, heard_so}
 use Rattle.mtc_top.proofs.Recovered.{held_prefix, last, read_again}
-use Rattle.mtc_top.proofs.Turns.{file_bytes, heard_run, not_refused, printed_so, modelled_file}
+use Rattle.mtc_top.proofs.Turns.{file_bytes, heard_run, printed_so, modelled_file}
 use Rattle.mtc_top.proofs.Turns.{contents_image}
 
 -- ---- the steps of records
@@ -78,29 +72,11 @@ behind_first : (first : List ℕ) (prefix more : List (List ℕ)) (body : List �
 behind_first first prefix more body rest list is =
     ap (λ (l : List (List ℕ)). drop 1 l) (sym is) ∙ append_assoc prefix (body ∷ more) rest
 
--- ---- what is asked for
+-- ---- what was read
 
-asked_absent : (h : HashFunction) (name : List ℕ) (files : Files) → files name ≡ None
-    → export_outcome h name files ≡ stops_at Missing name (codes "Absent")
-unfolding export_outcome
-asked_absent h name files none =
-    ap (λ (o : Option (List ℕ)). with_file name o (cosigner_bytes_say h name export_says)) none
-
-asked_there : (h : HashFunction) (name : List ℕ) (files : Files) (bytes : List ℕ)
-    (found : FoundCosigner) → files name ≡ Some bytes → cosigner_read h bytes ≡ Ok found
-    → export_outcome h name files ≡ export_says found
-unfolding export_outcome
-asked_there h name files bytes found there read =
-    ap (λ (o : Option (List ℕ)). with_file name o (cosigner_bytes_say h name export_says)) there
-    ∙ ap (λ (r : Result FoundCosigner StateOpenError).
-    with_form cosigner_open_text name r export_says) read
-
-spoken_export : (h : HashFunction) (r : Result CommandValue WordError) (name : List ℕ)
-    (files : Files) → r ≡ Ok (export name)
-    → (facts h r).outcome files ≡ export_outcome h name files
-spoken_export h r name files is =
-    ap (λ (q : Result CommandValue WordError). (facts h q).outcome files) is
-    ∙ sym (outcome_planned h (export name) files)
+same_found : {F E : Type 0} (r : Result F E) (one other : F) → r ≡ Ok one → r ≡ Ok other
+    → one ≡ other
+same_found r one other is so = cc
 
 -- a node that began as a cosigner is read as one
 read_cosigner : (h : HashFunction) (start : NodeStart) (settings : CosignerSettings)
@@ -124,25 +100,14 @@ module _ {R S D O E : Type 0} (h : HashFunction) (rooms : Rooms R S D) (disks : 
       (run : HasTurned h rooms disks outs errs new turn)
       (spoken : command_of turn.words ≡ Ok (export name)) (heard : IsHeard outs turn)
       (is_modelled : rooms.is_modelled new) where
-    -- the reply is the one that is asked for
-    abbrev heard_so : Answered h rooms disks outs errs turn.words new turn.room turn.out
-        turn.out_after turn.err turn.err_after turn.status
-    heard_so = heard_run h rooms disks outs errs new turn run heard
+    abbrev SaysSo : Reply → Type 0
+    SaysSo = ExportsSo h (rooms.file new) name
 
-    replied : (wanted : Outcome) → export_outcome h name (rooms.file new) ≡ wanted
-        → Meets wanted.answer heard_so.reply
-    replied wanted asked =
-        subst (λ (w : Outcome). Meets w.answer heard_so.reply)
-        (spoken_export h (command_of turn.words) name (rooms.file new) spoken ∙ asked)
-        (heard_so.is (inl is_modelled))
-
-    exported : (file : Option (List ℕ)) → rooms.file new name ≡ file
+    exported : SaysSo (heard_run h rooms disks outs errs new turn run heard).reply
         → HasExported h rooms disks outs errs settings public name begins links new turn
-    exported None none =
-        absurd (not_refused h rooms disks outs errs new turn run heard Missing (Some name)
-        (codes "Absent") (replied (stops_at Missing name (codes "Absent"))
-        (asked_absent h name (rooms.file new) none)))
-    exported (Some c) there =
+    exported s =
+        let c = s.held in
+        let there = s.there in
         let node =
         read_again h rooms disks outs errs image only contents bytes name start first begins
         new
@@ -157,8 +122,9 @@ module _ {R S D O E : Type 0} (h : HashFunction) (rooms : Rooms R S D) (disks : 
         let own = of_first h settings public first node.of_party.others opened.0
         (subst (λ (n : NodeStart). StartsWith n first) is begun.starts)
         (subst (λ (l : List (List ℕ)). cosigner_of h l ≡ Ok opened.0) node.of_party.is stands.1) in
-        let meets = replied (export_says found)
-        (asked_there h name (rooms.file new) c found there opened.1) in
+        let same = same_found (cosigner_read h c) s.found found s.is_cosigner opened.1 in
+        let meets = s.reply_is
+        ∙ ap (λ (f : FoundCosigner). said Done (export_text f.state f.records)) same in
         let text = export_text opened.0 node.records in
         let recovered : IsRecovered h rooms disks outs errs name new node.records
         = (
@@ -174,8 +140,8 @@ module _ {R S D O E : Type 0} (h : HashFunction) (rooms : Rooms R S D) (disks : 
           list = node.records;
           recovered = recovered;
           was_read = did_so h rooms disks outs errs new turn (export name) spoken name
-              (reads node.records) refl (ap (λ (o : Outcome). o.journals)
-              (asked_there h name (rooms.file new) c found there opened.1));
+              (reads node.records) refl
+              (s.did ∙ ap (λ (f : FoundCosigner). reads f.records ∷ []) same);
           state = opened.0;
           state_is = stands.1;
           text = text;
@@ -204,8 +170,9 @@ module _ {R S D O E : Type 0} (h : HashFunction) (rooms : Rooms R S D) (disks : 
   pub exports_hold : ExportsHoldTheSteps h rooms disks outs errs
   exports_hold name start first begins new links begun course settings public is turn run spoken
       heard =
+      let is_modelled = (last h rooms disks outs errs image only contents bytes name start first
+      begins new links begun course).at.is_modelled in
       exported name start first begins new links begun course settings public is turn run spoken
-      heard
-      (last h rooms disks outs errs image only contents bytes name start first begins new links
-      begun
-      course).at.is_modelled (rooms.file new name) refl
+      heard is_modelled
+      (heard_so h rooms disks outs errs new turn (export name) spoken is_modelled run heard
+      (ExportsSo h (rooms.file new) name) (exported_so h (rooms.file new) name))

@@ -25,10 +25,9 @@ use Rattle.mtc_command.specs.Wanted.{Meets}
 use Rattle.mtc_command.specs.declared.answer.Said.{Said}
 use Rattle.mtc_cosigner.specs.CosignerOutcomes.{cosigned_text}
 use Rattle.mtc_authority.specs.IssueOutcome.{issued_text}
-use Rattle.mtc_plans.specs.Cited.{command_outcome}
+use Rattle.mtc_plans.specs.Commands.{planned_outcome}
 use Rattle.mtc_plans.specs.Heard.{CosignsSo, IssuesSo, OfSaid}
 use Rattle.mtc_plans.proofs.Heard.{cosigned_so, issued_so}
-use Rattle.mtc_plans.proofs.Planned.{outcome_planned}
 use Rattle.node_history.proofs.Cosigners.{number_added, sign_read}
 use Rattle.node_history.proofs.Entries.{item_read}
 use Rattle.mtc_top.specs.Courses.{Turn, HasTurned, DidWith, AreAmong, IsHeard}
@@ -39,18 +38,17 @@ use Rattle.mtc_top.proofs.Turns.{file_bytes, heard_run, not_refused, printed_so}
 module _ {R S D O E : Type 0} (h : HashFunction) (rooms : Rooms R S D) (disks : Disks D)
     (outs : Sinks O) (errs : Sinks E) (old : R) (turn : Turn R O E) (command : CommandValue)
     (spoken : command_of turn.words ≡ Ok command) where
+  abbrev planned : Outcome
+  planned = planned_outcome h command (rooms.file old)
+
   -- the run did with its one journal what the outcome says
   pub did_so : (name : List ℕ) (did : Journaled) → (facts_of h command).journals ≡ name ∷ []
-      → (command_outcome h command (rooms.file old)).journals ≡ did ∷ []
-      → DidWith h rooms disks outs errs old turn name did
+      → planned.journals ≡ did ∷ [] → DidWith h rooms disks outs errs old turn name did
   did_so name did named is =
       let are = ap (λ (r : Result CommandValue WordError).
       done_with (facts h r).journals ((facts h r).outcome (rooms.file old)).journals) spoken
-      ∙ (ap (λ (names : List (List ℕ)).
-      done_with names ((facts_of h command).outcome (rooms.file old)).journals) named
-      ∙ (ap (λ (o : Outcome). done_with (name ∷ []) o.journals)
-      (sym (outcome_planned h command (rooms.file old)))
-      ∙ ap (λ (dids : List Journaled). done_with (name ∷ []) dids) is)) in
+      ∙ (ap (λ (names : List (List ℕ)). done_with names planned.journals) named
+      ∙ ap (λ (dids : List Journaled). done_with (name ∷ []) dids) is) in
       subst (λ (js : Journals). AreAmong js name did) (sym are) (inl (refl, refl))
 
   module _ (is_modelled : rooms.is_modelled old)
@@ -66,17 +64,14 @@ module _ {R S D O E : Type 0} (h : HashFunction) (rooms : Rooms R S D) (disks : 
         absurd (not_refused h rooms disks outs errs old turn run heard why file reason is)
 
     -- what is so of each text that the command may say is so of the run's
-    pub heard_so : (P : Reply → Type 0)
-        → OfSaid (command_outcome h command (rooms.file old)) P → P reply
+    pub heard_so : (P : Reply → Type 0) → OfSaid planned P → P reply
     heard_so P each =
         let s = has_said reply refl in
         let meets = subst (λ (r : Result CommandValue WordError).
         Meets ((facts h r).outcome (rooms.file old)).answer reply) spoken
         ((heard_run h rooms disks outs errs old turn run heard).is (inl is_modelled)) in
-        subst P (sym s.1.1) (each s.0 s.1.0 (subst (λ (r : Reply).
-        Meets (command_outcome h command (rooms.file old)).answer r) s.1.1
-        (subst (λ (o : Outcome). Meets o.answer reply)
-        (sym (outcome_planned h command (rooms.file old))) meets)))
+        subst P (sym s.1.1)
+        (each s.0 s.1.0 (subst (λ (r : Reply). Meets planned.answer r) s.1.1 meets))
 
 module _ {R S D O E : Type 0} (h : HashFunction) (rooms : Rooms R S D) (disks : Disks D)
     (outs : Sinks O) (errs : Sinks E)

@@ -23,8 +23,7 @@ use Rattle.mtc_cosigner.specs.KeygenOutcome.{lms_type, ots_type, public_line}
 use Rattle.mtc_authority.specs.Works.{IsLog}
 use Rattle.command_plans.specs.Plans.{Journal, makes, opens}
 use Rattle.command_plans.specs.Rules.{AreOfFirst}
-use Rattle.mtc_plans.specs.Commands.{plan_of}
-use Rattle.mtc_plans.specs.Cited.{command_outcome}
+use Rattle.mtc_plans.specs.Commands.{plan_of, planned_outcome}
 use Rattle.mtc_plans.specs.Heard.{AdvancesSo, BeginsSo, ExportsSo, KeysSo, OfSaid}
 use Rattle.mtc_plans.specs.NodeKinds.{cosigner, log, node_kinds}
 use Rattle.mtc_plans.proofs.Heard.{advanced_so, begun_so, exported_so, keyed_so}
@@ -68,7 +67,7 @@ module _ {R S D O E : Type 0} (h : HashFunction) (rooms : Rooms R S D) (disks : 
     answer = (heard_run h rooms disks outs errs old turn run heard).reply
 
     by_text : (command : CommandValue) → Speaks command → (P : Reply → Type 0)
-        → OfSaid (command_outcome h command (rooms.file old)) P → P answer
+        → OfSaid (planned_outcome h command (rooms.file old)) P → P answer
     by_text command spoken P each =
         heard_so h rooms disks outs errs old turn command spoken is_modelled run heard P each
 
@@ -140,7 +139,7 @@ module _ {R S D O E : Type 0} (h : HashFunction) (rooms : Rooms R S D) (disks : 
     says_so (export name) spoken = exported name spoken
     says_so (init_cosigner name id log_id height width file) spoken =
         keys_printed height width file (by_text (init_cosigner name id log_id height width file)
-        spoken (BeginsSo (rooms.file old) name id log_id height width file)
+        spoken (BeginsSo h (rooms.file old) name id log_id height width file)
         (begun_so h (rooms.file old) name id log_id height width file)).keys
     says_so (keygen height width file) spoken =
         keys_printed height width file (by_text (keygen height width file) spoken

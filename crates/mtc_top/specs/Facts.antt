@@ -7,9 +7,8 @@ use Rattle.mtc_command.specs.Steps.{Files, Outcome, stops}
 use Rattle.mtc_command.specs.declared.answer.Stopped.TheVariants.{BadWords}
 use Rattle.command_plans.specs.Names.{beside_names, first_made, input_names, journal_names}
 use Rattle.command_plans.specs.Names.{only_read_names}
-use Rattle.command_plans.specs.Outcomes.{outcome_of}
 use Rattle.command_plans.specs.Rules.{AreOfFirst}
-use Rattle.mtc_plans.specs.Commands.{plan_of}
+use Rattle.mtc_plans.specs.Commands.{plan_of, planned_outcome}
 use Rattle.mtc_plans.specs.NodeKinds.{node_kinds}
 use Rattle.mtc_top.specs.WordsOutcome.{word_fault_text}
 
@@ -36,7 +35,7 @@ facts_of h command = record {
   makes = first_made (plan_of h command).journals;
   inputs = input_names (plan_of h command).inputs;
   Valid = AreOfFirst (node_kinds h) (plan_of h command).journals;
-  outcome = outcome_of (plan_of h command);
+  outcome = planned_outcome h command;
 }
 
 -- Words that are no command name no file, and are answered so.

@@ -15,7 +15,7 @@ pub returns-clause-export : goal.returns-clause-export
 returns-clause-export c = exported_so
 
 pub returns-clause-keygen : goal.returns-clause-keygen
-returns-clause-keygen c = keyed_so (λ text. text)
+returns-clause-keygen c = keyed_so
 
 pub returns-clause-init : goal.returns-clause-init
-returns-clause-init c = begun_so (λ text. text)
+returns-clause-init c = begun_so
