@@ -31,12 +31,15 @@ PLACES = [
            ("Names.antt", r"^takes_journal {Name} ="), ("Words.antt", r"^command_from {Name} ")]),
     Place(f"{WORDS}/proofs/Journals.antt", "a line of `from_words`", [("", r"^from_words {Name} ")]),
     Place(f"{TOP}/src/top.rt", "a line of `perform`: the call, in the crate of its role", [("", r"Command::{Name}\(")]),
-    Place(f"{TOP}/specs/Facts.antt", "a line of `facts_of`: its journals, its other files, which lists of records are valid there, and its "
-          "outcome, a nest of the steps of `Steps` in `specs/` of that crate", [("", r"^facts_of h \({value} ")]),
+    Place("crates/mtc_plans", "in `specs/Commands.antt` a line of `plan_of`: the plan, which stands beside it in `specs/`, has its inputs, "
+          "its journals and its steps. In `specs/Cited.antt` a line of `command_outcome`: the outcome that its contract cites, a nest of the "
+          "steps of `Steps`, in `specs/` of its crate. In `proofs/Planned.antt` a line of `outcome_planned`: that is what comes of the plan. "
+          "Where it opens a cosigner's journal, or is given a secret file, a line of `says_so` in `crates/mtc_top/proofs/Secrets.antt`: what "
+          "it prints",
+          [("specs/Commands.antt", r"^plan_of h \({value} "), ("specs/Cited.antt", r"^command_outcome h \({value} "),
+           ("proofs/Planned.antt", r"^ *outcome_planned \({value} ")]),
     Place("crates/mtc_authority/src/work.rt", "where it works on an open log: a variant of `Work`, and a line of `carry_out`",
           [("", r"^    {Name}[,(]"), ("", r"Work::{Name}\b")], on_log=True),
-    Place(f"{TOP}/proofs", "a line of `says_so`, what it prints. Where it works on a journal a line of `of_command`, what it finds there; "
-          "and one of `records_of_command`, unless it is that of a log", [("Secrets.antt", r"^ *says_so \({value} ")]),
     Place("crates/test_run/src", "each of its statuses and lines, over a file system in memory", [("", r'^\$ {word}\b|"{word}[ "]')]),
     Place("docs/COMMANDS.md", "a row of the table; a section with each refusal in the order of the tests",
           [("", r"^\| `{word}[ `]"), ("", r"^## (?:.*, )?{word}(?:,|$)")]),
@@ -63,10 +66,10 @@ def text_at(path):
 
 
 def works_on_a_log(word):
-    """Whether its line of `facts_of` asks for work on an open log."""
-    facts = text_at(ROOT / TOP / "specs/Facts.antt")
-    line = re.search(filled(r"^facts_of h \({value} .*?(?=^\S|\Z)", word), facts, re.M | re.S)
-    return bool(line) and re.search(r"\blog_outcome\b", line.group()) is not None
+    """Whether its line of `command_outcome` asks for work on an open log."""
+    cited = text_at(ROOT / "crates/mtc_plans/specs/Cited.antt")
+    line = re.search(filled(r"^command_outcome h \({value} .*?(?=^\S|\Z)", word), cited, re.M | re.S)
+    return bool(line) and re.search(r"\boutcome_on_log\b", line.group()) is not None
 
 
 def missing_at(place, word):
