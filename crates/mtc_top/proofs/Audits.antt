@@ -22,6 +22,7 @@ use Rattle.mtc_io.specs.declared.sink.Sink.{Ghosts as Sinks}
 use Rattle.mtc_room.specs.Room.{ModelsFile}
 use Rattle.mtc_room.specs.declared.room.Room.{Ghosts as Rooms}
 use Rattle.mtc_words.specs.Commands.{CommandValue, audit}
+use Rattle.mtc_words.specs.Words.{known_word}
 use Rattle.mtc_words.specs.declared.error.WordError.{WordError}
 use Rattle.cosigner_core.specs.ExportReading.{export_in}
 use Rattle.cosigner_core.specs.declared.error.ReadExportError.{ReadExportError}
@@ -52,6 +53,7 @@ use Rattle.mtc_top.specs.Concluded.{Prints}
 use Rattle.mtc_top.specs.Courses.{Turn}
 use Rattle.mtc_top.specs.Facts.{facts}
 use Rattle.mtc_top.proofs.Exports.{exports_hold}
+use Rattle.mtc_top.proofs.Runs.{answered, wrote_of}
 
 -- ---- what is asked for
 
@@ -212,7 +214,10 @@ module _ {R S D O E : Type 0} (h : HashFunction) (rooms : Rooms R S D) (disks : 
   audits_stand old turn cert store moment entries kept x is_modelled run spoken is own_list backed
       not5
       not6 not8 =
-      let a = run.answered not5 not8 in
+      let a = answered h rooms disks outs errs turn.words old turn.room turn.out turn.out_after
+      turn.err turn.err_after turn.status run not5 not8 in
+      let wrote = wrote_of outs errs (known_word turn.words) turn.out turn.out_after turn.err
+      turn.err_after a.reply turn.status a.concludes not6 in
       let asked = ap (λ (q : Result CommandValue WordError). (facts h q).outcome (rooms.file old))
       spoken ∙ sym (outcome_planned h (audit cert store moment entries kept) (rooms.file old))
       ∙ audit_asked h (rooms.file old) cert store moment entries kept x is
@@ -220,5 +225,5 @@ module _ {R S D O E : Type 0} (h : HashFunction) (rooms : Rooms R S D) (disks : 
       ∙ ap (λ (b : Bool). audit_by h x None b (has_own h x.items x.accepted x.cert))
       (supported x is.kept_text is.kept_read backed) in
       by_reply x turn (has_own h x.items x.accepted x.cert) refl a.reply
-      (subst (λ (w : Outcome). Meets w.answer a.reply) asked (a.is (inl is_modelled))) (a.code not6)
-      (a.text not6)
+      (subst (λ (w : Outcome). Meets w.answer a.reply) asked (a.is (inl is_modelled)))
+      wrote.code wrote.text

@@ -1,5 +1,5 @@
 -- Status 2 behind a course is about an input, or a tile that the file of a log's tiles hasn't.
-use Rattle.std.proofs.Common.{◌≡◌, ◌≢◌, inl, inr, ℕ, List, [], ◌∷◌, Option, None, Some}
+use Rattle.std.proofs.Common.{◌≡◌, inl, inr, ℕ, List, [], ◌∷◌, Option, None, Some}
 use Rattle.std.proofs.Common.{Result, Ok, Err, IsOk, refl, sym, subst, ◌∙◌, arith}
 use Rattle.std.proofs.lemmas.Option.{same_Some}
 use Rattle.byte_formats.specs.Places.{IsBytes}
@@ -44,6 +44,7 @@ use Rattle.mtc_top.specs.Facts.{facts, facts_of}
 use Rattle.mtc_top.specs.StatusLaws.{IsAboutInput, LacksTile, MisreadFilesAreInputs}
 use Rattle.mtc_top.proofs.Begun.{made_so}
 use Rattle.mtc_top.proofs.Recovered.{last, read_again}
+use Rattle.mtc_top.proofs.Runs.{answered, wrote_of}
 use Rattle.mtc_top.proofs.Turns.{file_bytes}
 
 one_is : (x y : List ℕ) (xs : List (List ℕ)) → x ∷ xs ≡ y ∷ [] → x ≡ y
@@ -162,14 +163,16 @@ module _ {R S D O E : Type 0} (h : HashFunction) (rooms : Rooms R S D) (disks : 
       → LacksTile h (rooms.file room) name file reason)
       → IsAboutInput h rooms disks outs errs name command room turn
   about_input name room command turn is_modelled run spoken two lacks =
-      let a = run.answered (λ five. omega (arith, two, five)) (λ eight. omega (arith, two, eight))
-      in
-      let not6 : turn.status ≢ 6 = λ six. omega (arith, two, six) in
+      let a = answered h rooms disks outs errs turn.words room turn.room turn.out turn.out_after
+      turn.err turn.err_after turn.status run (λ five. omega (arith, two, five))
+      (λ eight. omega (arith, two, eight)) in
+      let wrote = wrote_of outs errs (known_word turn.words) turn.out turn.out_after turn.err
+      turn.err_after a.reply turn.status a.concludes (λ six. omega (arith, two, six)) in
       let meets = subst (λ (r : Result CommandValue WordError).
       Meets ((facts h r).outcome (rooms.file room)).answer a.reply) spoken (a.is (inl is_modelled))
       in
       let about = misread_about (node_kinds h) (plan_of h command) (rooms.file room) a.reply
-      meets (sym (a.code not6) ∙ two) in
+      meets (sym wrote.code ∙ two) in
       record {
         file = about.file;
         reason = about.reason;
@@ -179,7 +182,7 @@ module _ {R S D O E : Type 0} (h : HashFunction) (rooms : Rooms R S D) (disks : 
         ];
         asked = subst (λ (r : Reply).
             Meets ((facts_of h command).outcome (rooms.file room)).answer r) about.is meets;
-        line = refused_line turn a.reply about.file about.reason about.is (a.line not6);
+        line = refused_line turn a.reply about.file about.reason about.is wrote.line;
       }
 
   pub misread_inputs : MisreadFilesAreInputs h rooms disks outs errs

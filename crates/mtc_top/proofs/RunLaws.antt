@@ -1,8 +1,8 @@
 -- What follows of each run, and how it ends as steps of a node.
 use Rattle.std.proofs.Common.{◌≡◌, ◌≢◌, ◌≤◌, ◌<◌, ◌⊎◌, inl, inr, ℕ, List, [], ◌∷◌, ◌++◌, Option}
-use Rattle.std.proofs.Common.{None, Some, IsErr, codes, length, take, refl, sym, ap, subst, ◌∙◌}
+use Rattle.std.proofs.Common.{None, Some, codes, length, take, refl, sym, ap, subst, ◌∙◌}
 use Rattle.std.proofs.Common.{arith, rules, length-take, take_all}
-use Rattle.std.proofs.lemmas.Bool.Decides.{eqb_tells, leb_tells}
+use Rattle.std.proofs.lemmas.Bool.Decides.{leb_tells}
 use Rattle.std.proofs.lemmas.List.{append_cancel_left, take-take}
 use Rattle.std.specs.Io.KnownBytes.{Appends}
 use Rattle.disk_core.specs.declared.disk.Disk.{Ghosts as Disks}
@@ -12,7 +12,8 @@ use Rattle.mtc_io.specs.declared.sink.Sink.{Ghosts as Sinks}
 use Rattle.mtc_room.specs.Room.{ModelsFile}
 use Rattle.mtc_room.specs.declared.room.Room.{Ghosts as Rooms}
 use Rattle.journal_core.specs.Format.{Represents}
-use Rattle.mtc_command.specs.Answers.{Reply, said, refused, IsEarly, status_of, out_of}
+use Rattle.mtc_command.specs.Answers.{Ending, Reply, replied, room_failed, no_memory, said}
+use Rattle.mtc_command.specs.Answers.{refused, IsEarly, status_of, out_of}
 use Rattle.mtc_command.specs.Made.{Journaled, Images, Leaving, untouched, reads, appended, started}
 use Rattle.mtc_command.specs.Made.{HasKept, HasMade, IsOnOld, Kept, MayHaveMade, Leaves}
 use Rattle.mtc_command.specs.Made.{images_at, images_since, moment_at}
@@ -22,7 +23,7 @@ use Rattle.mtc_command.specs.declared.answer.Said.TheVariants.{Done, Against, Co
 use Rattle.mtc_command.proofs.Made.{ReadsImage}
 use Rattle.mtc_command.proofs.Served.{each_so, both_so}
 use Rattle.mtc_command.specs.Lines.{line_of}
-use Rattle.mtc_top.specs.Concluded.{Prints, PrintsPrefix, Reports}
+use Rattle.mtc_top.specs.Concluded.{Concludes, Prints, PrintsPrefix, Reports}
 use Rattle.mtc_words.specs.Words.{command_of, known_word}
 use Rattle.node_history.specs.Nodes.{HistoryState, fresh_party}
 use Rattle.node_history.specs.Rules.{AreRecords}
@@ -31,7 +32,8 @@ use Rattle.mtc_top.specs.Nodes.{AllRepresentParty, TookSome}
 use Rattle.mtc_top.specs.Facts.{facts}
 use Rattle.mtc_top.specs.Run.{journals, Answered, HasRun}
 use Rattle.mtc_top.specs.RunLaws.{PrefixesAreRuns, RunShows, RunSteps, is_heard}
-use Rattle.mtc_top.proofs.Runs.{reply_code}
+use Rattle.mtc_top.proofs.Runs.{HasFailed, HasStarved, all_early, answered, ended, first_words}
+use Rattle.mtc_top.proofs.Runs.{lost_of, only_words, prefix_of, reply_code, wrote_of}
 use Rattle.mtc_top.proofs.Commands.{spoken_records}
 use Rattle.mtc_top.proofs.Nodes.{Heard, kept_ends, failed_ends, made_ends, heard_dec, file_stands}
 use Rattle.mtc_top.proofs.Nodes.{none_stands, some_image}
@@ -113,98 +115,107 @@ module _ {R S D O E : Type 0} (h : List ℕ → List ℕ) (rooms : Rooms R S D) 
     (outs : Sinks O) (errs : Sinks E) (words : List (List ℕ))
     (old new : R) (out out' : O) (err err' : E) (status : ℕ)
     (run : HasRun h rooms disks outs errs words old new out out' err err' status) where
-  -- where it was heard neither the room nor memory ended it
-  pub not_failed : is_heard h rooms disks outs errs words old new out out' err err' status
-      → status ≢ 5
-  not_failed any is = unheard status 5 _ _ is (omega arith) (λ six. omega (arith, six))
-      (run.room_failed is).text any
+  abbrev Failed : Type 0
+  Failed = HasFailed h rooms disks outs errs words old new out out' err err' status
 
-  pub not_wanting : is_heard h rooms disks outs errs words old new out out' err err' status
-      → status ≢ 8
-  not_wanting any is = unheard status 8 _ _ is (omega arith) (λ six. omega (arith, six))
-      (run.no_memory is).text any
+  abbrev Starved : Type 0
+  Starved = HasStarved h rooms disks outs errs words old new out out' err err' status
+
+  abbrev how : Answered h rooms disks outs errs words old new out out' err err' status
+      ⊎ (Failed ⊎ Starved)
+  how = ended h rooms disks outs errs words old new out out' err err' status run
+
+  abbrev went : Type 0
+  went = is_heard h rooms disks outs errs words old new out out' err err' status
+
+  -- where the room or memory ended it, it isn't heard
+  not_failed : Failed → went → ⊥
+  not_failed failed any = unheard status 5 _ _ failed.code (omega arith)
+      (λ six. omega (arith, six)) failed.text any
+
+  not_starved : Starved → went → ⊥
+  not_starved starved any = unheard status 8 _ _ starved.code (omega arith)
+      (λ six. omega (arith, six)) starved.text any
 
   pub run_shows : RunShows h rooms disks outs errs words old new out out' err err' status
   run_shows = record {
-    known = elim (eqb_tells status 5) [
-      | inl is5 ↦ omega (arith, is5.1)
-      | inr not5 ↦ elim (eqb_tells status 6) [
-        | inl is6 ↦ omega (arith, is6.1)
-        | inr not6 ↦ elim (eqb_tells status 8) [
-          | inl is8 ↦ omega (arith, is8.1)
-          | inr not8 ↦
-              (let a = run.answered not5.1 not8.1 in
-              subst (λ n. n ≤ 10) (sym (a.code not6.1)) (reply_code a.reply).known)
-        ]
+    known = elim how [
+      | inl a ↦ elim a.concludes [
+        | inl wrote ↦ subst (λ n. n ≤ 10) (sym wrote.code) (reply_code a.reply).known
+        | inr lost ↦ omega (arith, lost.code)
+      ]
+      | inr other ↦ elim other [
+        | inl failed ↦ omega (arith, failed.code)
+        | inr starved ↦ omega (arith, starved.code)
       ]
     ];
-    complete = λ room sink memory.
-        let a = run.answered (λ is. room (run.room_failed is).cause) memory in
-        (λ is. sink (a.cause is), a);
-    silent = λ not0 not3 not6 not10. elim (eqb_tells status 5) [
-      | inl is5 ↦ (run.room_failed is5.1).text
-      | inr not5 ↦ elim (eqb_tells status 8) [
-        | inl is8 ↦ (run.no_memory is8.1).text
-        | inr not8 ↦
-            (let a = run.answered not5.1 not8.1 in
-            silent_reply (Prints outs out out')
-            a.reply status (a.code not6) not0 not3 not10 (a.text not6))
+    only = only_words h rooms disks outs errs words old new out out' err err' status run;
+    first = first_words h rooms disks outs errs words old new out out' err err' status run;
+    early = all_early h rooms disks outs errs words old new out out' err err' status run;
+    answers = answered h rooms disks outs errs words old new out out' err err' status run;
+    complete = λ room sink memory. elim how [
+      | inl a ↦ (
+        λ is. sink (lost_of outs errs (known_word words) out out' err err' a.reply status
+            a.concludes is).cause,
+        a,
+      )
+      | inr other ↦ elim other [
+        | inl failed ↦ absurd (room failed.cause)
+        | inr starved ↦ absurd (memory starved.code)
       ]
     ];
-    heard = λ any. run.answered (not_failed any) (not_wanting any);
+    silent = λ not0 not3 not6 not10. elim how [
+      | inl a ↦ (let wrote = wrote_of outs errs (known_word words) out out' err err' a.reply status
+          a.concludes not6 in
+          silent_reply (Prints outs out out') a.reply status wrote.code not0 not3 not10 wrote.text)
+      | inr other ↦ elim other [
+        | inl failed ↦ failed.text
+        | inr starved ↦ starved.text
+      ]
+    ];
+    heard = λ any. elim how [
+      | inl a ↦ a
+      | inr other ↦ elim other [
+        | inl failed ↦ absurd (not_failed failed any)
+        | inr starved ↦ absurd (not_starved starved any)
+      ]
+    ];
   }
 
   -- ---- a front of what went out
 
-  module _ (some : TookSome (outs.taken out) (outs.taken out')) where
-    abbrev heard_all : Answered h rooms disks outs errs words old new out out' err err' status
-    heard_all = run_shows.heard (inr (inl some))
+  module _ (some : TookSome (outs.taken out) (outs.taken out')) (failed : O) (contents : E)
+      (text : List ℕ) (is : Prints outs out out' text) (prefix : PrintsPrefix outs out failed text)
+      (cause : Rose (outs.faults out) (outs.faults failed))
+      (line : Reports errs err contents (line_of (known_word words) None (codes "OutputFailed")))
+    where
+      lost_by : (ending : Ending)
+          → Concludes outs errs (known_word words) out out' err err' ending (rooms.why new) status
+          → Concludes outs errs (known_word words) out failed err contents ending (rooms.why new) 6
+      lost_by (replied reply) ends =
+          let whole = prefix_of outs errs (known_word words) out out' err err' reply status ends in
+          inr (record {
+            code = refl;
+            some = prefix_some _ _ _ whole some;
+            cause = cause;
+            prefix = prefix_on _ _ _ _ _ some is whole prefix;
+            line = line;
+          })
+      lost_by (room_failed file) ends = absurd (took_none _ _ ends.nothing some)
+      lost_by no_memory ends = absurd (took_none _ _ ends.nothing some)
 
-    silent_none : status ≢ 0 → status ≢ 3 → status ≢ 6 → status ≢ 10 → ⊥
-    silent_none not0 not3 not6 not10 =
-        took_none _ _ (run_shows.silent not0 not3 not6 not10) some
-
-    spoken_words : IsErr (command_of words) → ⊥
-    spoken_words bad =
-        let one = run.first bad (not_wanting (inr (inl some))) in
-        silent_none (λ is. omega (arith, one, is)) (λ is. omega (arith, one, is))
-        (λ is. omega (arith, one, is)) (λ is. omega (arith, one, is))
-
-    not_early : IsEarly status → ⊥
-    not_early early = silent_none (λ z. omega (arith, z, early)) (λ z. omega (arith, z, early))
-        (λ z. omega (arith, z, early)) (λ z. omega (arith, z, early))
-
-    prefix_is_run : (failed : O) (contents : E) (text : List ℕ) → Prints outs out out' text
-        → PrintsPrefix outs out failed text → Rose (outs.faults out) (outs.faults failed)
-        → Reports errs err contents (line_of (known_word words) None (codes "OutputFailed"))
-        → HasRun h rooms disks outs errs words old new out failed err contents 6
-    prefix_is_run failed contents text is prefix cause line = record {
-      answered = λ not5 not8. record {
-        reply = heard_all.reply;
-        is = heard_all.is;
-        made = heard_all.made;
-        began = heard_all.began;
-        prefix = prefix_on _ _ _ _ _ some is heard_all.prefix prefix;
-        code = λ not6. absurd (not6 refl);
-        text = λ not6. absurd (not6 refl);
-        line = λ not6. absurd (not6 refl);
-        some = λ six. prefix_some _ _ _ heard_all.prefix some;
-        cause = λ six. cause;
-        lost = λ six. line;
-      };
-      room_failed = λ five. absurd (omega (arith, five));
-      no_memory = λ eight. absurd (omega (arith, eight));
-      only = λ one. absurd (omega (arith, one));
-      first = λ bad not8. absurd (spoken_words bad);
-      back = run.back;
-      only_read = run.only_read;
-      spares = run.spares;
-      no_file = run.no_file;
-      early = λ is_modelled. each_so _ _ (λ name did early is. absurd (not_early (early is)))
-          (journals h rooms disks outs errs words old new out out' err err')
-          (run.early is_modelled);
-      valid = run.valid;
-    }
+      prefix_is_run : HasRun h rooms disks outs errs words old new out failed err contents 6
+      prefix_is_run = record {
+        ending = run.ending;
+        ends = run.ends;
+        concludes = lost_by run.ending run.concludes;
+        back = run.back;
+        made = run.made;
+        began = run.began;
+        only_read = run.only_read;
+        spares = run.spares;
+        valid = run.valid;
+      }
 
   abbrev pub ModelsFiles : R → Type 0
   ModelsFiles room =
@@ -223,9 +234,6 @@ module _ {R S D O E : Type 0} (h : List ℕ → List ℕ) (rooms : Rooms R S D) 
     abbrev between : List ℕ → Images
     between name =
         images_since disks (rooms.device new name) (moment_at disks (rooms.device old name))
-
-    abbrev went : Type 0
-    went = is_heard h rooms disks outs errs words old new out out' err err' status
 
     abbrev pub Steps : List ℕ → Journaled → Type 0
     Steps = RunSteps h rooms disks outs errs words old new out out' err err' status
@@ -303,20 +311,18 @@ module _ {R S D O E : Type 0} (h : List ℕ → List ℕ) (rooms : Rooms R S D) 
     answered_steps : rooms.is_modelled old → OfEach (LeftBoth HasMade) js → OfEach Steps js
     answered_steps is_modelled made = both_so _ _ Steps made_steps js
         (both_so _ _ MadeEarly (λ name did left early. (left, early)) js made
-        (run.early is_modelled))
+        (run_shows.early is_modelled))
         (knows is_modelled)
 
     pub run_steps : rooms.is_modelled old → OfEach Steps js
-    run_steps is_modelled = elim (eqb_tells status 8) [
-      | inl is8 ↦
-          (let r = run.no_memory is8.1 in
-          each_so _ Steps (kept_steps is8.1 (λ any. not_wanting any is8.1)) js (r.made is_modelled))
-      | inr not8 ↦ elim (eqb_tells status 5) [
-        | inl is5 ↦
-            (let r = run.room_failed is5.1 in
-            both_so _ _ Steps (failed_steps is5.1 (λ any. not_failed any is5.1)) js
-            (r.made is_modelled) (knows is_modelled))
-        | inr not5 ↦ answered_steps is_modelled ((run.answered not5.1 not8.1).made is_modelled)
+    run_steps is_modelled = elim how [
+      | inl a ↦ answered_steps is_modelled (a.made is_modelled)
+      | inr other ↦ elim other [
+        | inl failed ↦ both_so _ _ Steps (failed_steps failed.code (not_failed failed)) js
+            (failed.made is_modelled) (knows is_modelled)
+        | inr starved ↦
+            each_so _ Steps (kept_steps starved.code (not_starved starved)) js
+            (starved.made is_modelled)
       ]
     ]
 

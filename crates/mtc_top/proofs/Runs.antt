@@ -1,15 +1,16 @@
--- A command that was done, and whose ending went out, is a run.
-use Rattle.std.proofs.Common.{◌≡◌, ◌≤◌, ◌⊎◌, inl, inr, ℕ, List, [], ◌++◌, None, Some}
-use Rattle.std.proofs.Common.{codes}
+-- How a run ends: it answers, or the room failed, or memory was refused.
+use Rattle.std.proofs.Common.{◌≡◌, ◌≢◌, ◌≤◌, ◌<◌, ◌⊎◌, inl, inr, ℕ, List, [], ◌++◌, length}
 use Rattle.std.proofs.Common.{refl, sym, subst, ◌∙◌, arith, IsErr, IfSome}
 use Rattle.disk_core.specs.declared.disk.Disk.{Ghosts as Disks}
+use Rattle.mtc_io.specs.Counts.{Rose}
 use Rattle.mtc_io.specs.declared.sink.Sink.{Ghosts as Sinks}
 use Rattle.mtc_room.specs.declared.room.Room.{Ghosts as Rooms}
 use Rattle.mtc_words.specs.Words.{command_of, known_word}
 use Rattle.mtc_command.specs.Answers.{Ending, Reply, replied, room_failed, no_memory, said, refused}
-use Rattle.mtc_command.specs.Answers.{status_of, IsEarly}
-use Rattle.mtc_command.specs.Made.{untouched, HasKept, IsOnOld}
-use Rattle.mtc_command.specs.Served.{HasDone, LeavesEach, OfEach, IsUnmade, done_with}
+use Rattle.mtc_command.specs.Answers.{status_of, out_of, IsEarly}
+use Rattle.mtc_command.specs.Made.{untouched, HasKept, MayHaveMade}
+use Rattle.mtc_command.specs.Served.{EndsAs, HasDone, Journals, LeavesEach, LeavesJournals, OfEach}
+use Rattle.mtc_command.specs.Served.{done_with}
 use Rattle.mtc_command.specs.Steps.{Outcome}
 use Rattle.mtc_command.specs.Valid.{KeepsValid}
 use Rattle.mtc_command.specs.declared.answer.Said.{Said}
@@ -21,10 +22,10 @@ use Rattle.mtc_command.specs.Works.{ModelsNew}
 use Rattle.mtc_command.proofs.Served.{each_so, each_is}
 use Rattle.mtc_authority.specs.NoJournal.{SparesTiles}
 use Rattle.mtc_io.proofs.Streams.{prefix_whole}
-use Rattle.mtc_top.specs.Concluded.{Wrote, Lost, Reported, Concludes, word_of}
+use Rattle.mtc_top.specs.Concluded.{Wrote, Lost, Concludes, Prints, PrintsPrefix}
 use Rattle.mtc_top.specs.Cited.{spoken_outcome}
 use Rattle.mtc_top.specs.Facts.{Facts, facts}
-use Rattle.mtc_top.specs.Run.{HasRun}
+use Rattle.mtc_top.specs.Run.{Answered, HasRun}
 use Rattle.mtc_top.proofs.Planned.{spoken_planned}
 
 -- a reply's status is none of those without a reply
@@ -58,11 +59,59 @@ said_late : (kind : Said) (text : List ℕ) → (status_of (said kind text) ≡ 
 said_late Done text = (λ is. omega (arith, is), λ is. omega (arith, is))
 said_late other text = (λ is. omega (arith, is), λ is. omega (arith, is))
 
+text_late : (reply : Reply) → 0 < length (out_of reply) → (status_of reply ≡ 1 → ⊥)
+    × (IsEarly (status_of reply) → ⊥)
+text_late (said kind text) some = said_late kind text
+text_late (refused why file reason) some = let none : 0 < 0 = some in absurd (omega (arith, none))
+
+-- ---- what goes out of a reply
+
+module _ {O E : Type 0} (outs : Sinks O) (errs : Sinks E) (command : List ℕ) (out out' : O)
+    (err err' : E) (reply : Reply) (status : ℕ)
+    (ends : Wrote outs errs command out out' err err' reply status
+    ⊎ Lost outs errs command out out' err err' (out_of reply) status) where
+  -- a front of its text
+  pub prefix_of : PrintsPrefix outs out out' (out_of reply)
+  prefix_of = elim ends [
+    | inl wrote ↦ prefix_whole _ _ _ wrote.text
+    | inr lost ↦ lost.prefix
+  ]
+
+  -- all of it, and the line; or standard output failed
+  pub wrote_of : status ≢ 6 → Wrote outs errs command out out' err err' reply status
+  wrote_of not6 = elim ends [
+    | inl wrote ↦ wrote
+    | inr lost ↦ absurd (not6 lost.code)
+  ]
+
+  pub lost_of : status ≡ 6 → Lost outs errs command out out' err err' (out_of reply) status
+  lost_of six = elim ends [
+    | inl wrote ↦ absurd ((reply_code reply).not6 (sym wrote.code ∙ six))
+    | inr lost ↦ lost
+  ]
+
+  pub not5_of : status ≢ 5
+  not5_of five = elim ends [
+    | inl wrote ↦ (reply_code reply).not5 (sym wrote.code ∙ five)
+    | inr lost ↦ omega (arith, lost.code, five)
+  ]
+
+  pub not8_of : status ≢ 8
+  not8_of eight = elim ends [
+    | inl wrote ↦ (reply_code reply).not8 (sym wrote.code ∙ eight)
+    | inr lost ↦ omega (arith, lost.code, eight)
+  ]
+
+-- ---- the endings
+
 module _ {R S D O E : Type 0} (h : List ℕ → List ℕ) (rooms : Rooms R S D) (disks : Disks D)
     (outs : Sinks O) (errs : Sinks E) (words : List (List ℕ))
     (old new : R) (out out' : O) (err err' : E) where
   abbrev Run : ℕ → Type 0
   Run = HasRun h rooms disks outs errs words old new out out' err err'
+
+  abbrev Answers : ℕ → Type 0
+  Answers = Answered h rooms disks outs errs words old new out out' err err'
 
   abbrev Bad : Type 0
   Bad = IsErr (command_of words)
@@ -73,197 +122,150 @@ module _ {R S D O E : Type 0} (h : List ℕ → List ℕ) (rooms : Rooms R S D) 
   abbrev want : Outcome
   want = asked.outcome (rooms.file old)
 
-  -- the outcome that the contracts of the commands cite
-  abbrev cited : Outcome
-  cited = spoken_outcome h (command_of words) (rooms.file old)
+  abbrev js : Journals
+  js = done_with asked.journals want.journals
 
-  abbrev Did : Ending → Type 0
-  Did = HasDone rooms disks Bad (asked.journals ++ (asked.besides ++ asked.inputs)) asked.journals
-      asked.besides want old new
+  abbrev files : List (List ℕ)
+  files = asked.journals ++ (asked.besides ++ asked.inputs)
+
+  abbrev Ends : Ending → Type 0
+  Ends = EndsAs (rooms.is_modelled old) (Rose (rooms.faults old) (rooms.faults new)) Bad files js
+      want
+
+  abbrev Left : Ending → Type 0
+  Left ending = rooms.is_modelled old → LeavesJournals rooms disks old new js ending
 
   abbrev New : Ending → Type 0
   New ending = IfSome asked.makes (λ name. ModelsNew rooms disks name old new ending)
 
-  abbrev Valid : Type 0
-  Valid = KeepsValid rooms disks asked.Valid asked.journals want old new
-
-  abbrev OnlyRead : Type 0
-  OnlyRead =
-      rooms.is_modelled old → LeavesEach rooms disks old new (done_with asked.only_reads []) HasKept
-
-  abbrev Spares : Type 0
-  Spares =
-      OfEach (λ name did. SparesTiles rooms old new name) (done_with asked.journals want.journals)
-
-  no_file : (ending : Ending) → Did ending → rooms.is_modelled old
-      → OfEach (λ name did. IsOnOld did → IsUnmade rooms old new name)
-      (done_with asked.journals want.journals)
-  no_file ending done is_modelled = (done.made is_modelled).no_file
-
-  -- the reply went out
-  run_wrote : (reply : Reply) (status : ℕ) → Valid → OnlyRead → Spares → New (replied reply)
-      → Did (replied reply)
-      → Wrote outs errs (known_word words) out out' err err' reply status → Run status
-  run_wrote reply status valid only_read spares began done wrote =
-      let code = reply_code reply in
-      record {
-        answered = λ not5 not8. record {
-          reply = reply;
-          is = λ where_. elim where_ [
-            | inl is_modelled ↦ done.ends.reply is_modelled
-            | inr bad ↦ (done.ends.words bad).0
-          ];
-          made = λ is_modelled. (done.made is_modelled).left;
-          began = began;
-          prefix = prefix_whole _ _ _ wrote.text;
-          code = λ not6. wrote.code;
-          text = λ not6. wrote.text;
-          line = λ not6. wrote.line;
-          some = λ six. absurd (code.not6 (sym wrote.code ∙ six));
-          cause = λ six. absurd (code.not6 (sym wrote.code ∙ six));
-          lost = λ six. absurd (code.not6 (sym wrote.code ∙ six));
-        };
-        room_failed = λ is. absurd (code.not5 (sym wrote.code ∙ is));
-        only = λ one. done.ends.not_words (sym wrote.code ∙ one);
-        first = λ bad not8. wrote.code ∙ (done.ends.words bad).1;
-        no_memory = λ is. absurd (code.not8 (sym wrote.code ∙ is));
-        back = done.back;
-        only_read = only_read;
-        spares = spares;
-        no_file = no_file (replied reply) done;
-        valid = valid;
-        early = λ is_modelled. subst (λ n. OfEach (λ name did. did ≡ untouched → IsEarly n)
-            (done_with asked.journals want.journals)) (sym wrote.code)
-            (done.ends.early is_modelled);
-      }
-
-  -- standard output failed
-  run_lost : (kind : Said) (text : List ℕ) (status : ℕ) → Valid → OnlyRead → Spares
-      → New (replied (said kind text)) → Did (replied (said kind text))
-      → Lost outs errs (known_word words) out out' err err' text status → Run status
-  run_lost kind text status valid only_read spares began done lost = record {
-    answered = λ not5 not8. record {
-      reply = said kind text;
-      is = λ where_. elim where_ [
-        | inl is_modelled ↦ done.ends.reply is_modelled
-        | inr bad ↦ (done.ends.words bad).0
-      ];
-      made = λ is_modelled. (done.made is_modelled).left;
-      began = began;
-      prefix = lost.prefix;
-      code = λ not6. absurd (not6 lost.code);
-      text = λ not6. absurd (not6 lost.code);
-      line = λ not6. absurd (not6 lost.code);
-      some = λ six. lost.some;
-      cause = λ six. lost.cause;
-      lost = λ six. lost.line;
-    };
-    room_failed = λ is. absurd (omega (arith, lost.code, is));
-    only = λ one. absurd (omega (arith, lost.code, one));
-    first = λ bad not8. absurd ((said_late kind text).0 (done.ends.words bad).1);
-    no_memory = λ is. absurd (omega (arith, lost.code, is));
-    back = done.back;
-    only_read = only_read;
-    spares = spares;
-    no_file = no_file (replied (said kind text)) done;
-    valid = valid;
-    early =
-        λ is_modelled. each_so (λ name did. did ≡ untouched → IsEarly (status_of (said kind text)))
-        (λ name did. did ≡ untouched → IsEarly status)
-        (λ name did late of. absurd ((said_late kind text).1 (late of)))
-        (done_with asked.journals want.journals)
-        (done.ends.early is_modelled);
-  }
+  abbrev Out : Ending → ℕ → Type 0
+  Out ending status =
+      Concludes outs errs (known_word words) out out' err err' ending (rooms.why new) status
 
   -- the room failed
-  run_failed : (file : List ℕ) (status : ℕ) → Valid → OnlyRead → Spares → New (room_failed file)
-      → Did (room_failed file)
-      → Reported outs errs (known_word words) out out' err err' 5 (Some file)
-      (word_of (rooms.why new))
-      status
-      → Run status
-  run_failed file status valid only_read spares began done contents = record {
-    only = λ one. absurd (omega (arith, contents.is, one));
-    first = λ bad not8. absurd (done.ends.words bad);
-    answered = λ not5 not8. absurd (not5 contents.is);
-    room_failed = λ is. record {
-      cause = done.ends.fault.0;
-      text = contents.nothing;
-      file = file;
-      began = began;
-      named = done.ends.fault.1;
-      line = contents.line;
-      made = λ is_modelled. (done.made is_modelled).left;
-    };
-    no_memory = λ is. absurd (omega (arith, contents.is, is));
-    back = done.back;
-    only_read = only_read;
-    spares = spares;
-    no_file = no_file (room_failed file) done;
-    valid = valid;
-    early = λ is_modelled. each_is (λ name did. did ≡ untouched → IsEarly status)
-        (λ name did of. inr (inr (inl contents.is)))
-        (done_with asked.journals want.journals);
-  }
+  pub record HasFailed (status : ℕ) : Type 0 where
+    pub code : status ≡ 5
+    pub cause : Rose (rooms.faults old) (rooms.faults new)
+    pub text : Prints outs out out' []
+    pub made : rooms.is_modelled old → LeavesEach rooms disks old new js MayHaveMade
 
   -- memory was refused
-  run_starved : (status : ℕ) → Valid → OnlyRead → Spares → New no_memory → Did no_memory
-      → Reported outs errs (known_word words) out out' err err' 8 None (codes "Memory") status
-      → Run status
-  run_starved status valid only_read spares began done contents = record {
-    only = λ one. absurd (omega (arith, contents.is, one));
-    first = λ bad not8. absurd (not8 contents.is);
-    answered = λ not5 not8. absurd (not8 contents.is);
-    room_failed = λ is. absurd (omega (arith, contents.is, is));
-    no_memory = λ is. record {
-      began = began;
-      text = contents.nothing;
-      line = contents.line;
-      made = λ is_modelled. (done.made is_modelled).left;
-      unmade = λ is_modelled. (done.made is_modelled).unmade refl;
-    };
-    back = done.back;
-    only_read = only_read;
-    spares = spares;
-    no_file = no_file no_memory done;
-    valid = valid;
-    early = λ is_modelled. each_is (λ name did. did ≡ untouched → IsEarly status)
-        (λ name did of. inr (inr (inr (inr (inl contents.is)))))
-        (done_with asked.journals want.journals);
-  }
+  pub record HasStarved (status : ℕ) : Type 0 where
+    pub code : status ≡ 8
+    pub text : Prints outs out out' []
+    pub made : rooms.is_modelled old → LeavesEach rooms disks old new js HasKept
 
-  has_run : (ending : Ending) (status : ℕ) → Did ending → Valid → OnlyRead → Spares
-      → New ending
-      → Concludes outs errs (known_word words) out out' err err' ending (rooms.why new) status
-      → HasRun h rooms disks outs errs words old new out out' err err' status
-  has_run (replied (said kind text)) status done valid only_read spares began ends = elim ends [
-    | inl wrote ↦ run_wrote (said kind text) status valid only_read spares began done wrote
-    | inr lost ↦ run_lost kind text status valid only_read spares began done lost
+  ended_by : (ending : Ending) (status : ℕ) → Ends ending → Out ending status → Left ending
+      → New ending → Answers status ⊎ (HasFailed status ⊎ HasStarved status)
+  ended_by (replied reply) status ends gone left began = inl (record {
+    reply = reply;
+    is = λ where_. elim where_ [
+      | inl is_modelled ↦ ends.reply is_modelled
+      | inr bad ↦ (ends.words bad).0
+    ];
+    made = λ is_modelled. (left is_modelled).left;
+    began = began;
+    concludes = gone;
+  })
+  ended_by (room_failed file) status ends gone left began = inr (inl (record {
+    code = gone.is;
+    cause = ends.fault.0;
+    text = gone.nothing;
+    made = λ is_modelled. (left is_modelled).left;
+  }))
+  ended_by no_memory status ends gone left began = inr (inr (record {
+    code = gone.is;
+    text = gone.nothing;
+    made = λ is_modelled. (left is_modelled).left;
+  }))
+
+  only_by : (ending : Ending) (status : ℕ) → Ends ending → Out ending status → status ≡ 1 → Bad
+  only_by (replied reply) status ends gone one = elim gone [
+    | inl wrote ↦ ends.not_words (sym wrote.code ∙ one)
+    | inr lost ↦ absurd (omega (arith, lost.code, one))
   ]
-  has_run (replied (refused why file reason)) status done valid only_read spares began wrote =
-      run_wrote (refused why file reason) status valid only_read spares began done wrote
-  has_run (room_failed file) status done valid only_read spares began contents =
-      run_failed file status valid only_read spares began done contents
-  has_run no_memory status done valid only_read spares began contents =
-      run_starved status valid only_read spares began done contents
+  only_by (room_failed file) status ends gone one = absurd (omega (arith, gone.is, one))
+  only_by no_memory status ends gone one = absurd (omega (arith, gone.is, one))
 
-  -- the same where it was done as the contracts of the commands say
+  first_by : (ending : Ending) (status : ℕ) → Ends ending → Out ending status → Bad → status ≢ 8
+      → status ≡ 1
+  first_by (replied reply) status ends gone bad not8 = elim gone [
+    | inl wrote ↦ wrote.code ∙ (ends.words bad).1
+    | inr lost ↦ absurd ((text_late reply lost.some).0 (ends.words bad).1)
+  ]
+  first_by (room_failed file) status ends gone bad not8 = absurd (ends.words bad)
+  first_by no_memory status ends gone bad not8 = absurd (not8 gone.is)
+
+  abbrev Early : ℕ → Type 0
+  Early status = OfEach (λ name did. did ≡ untouched → IsEarly status) js
+
+  early_by : (ending : Ending) (status : ℕ) → Ends ending → Out ending status
+      → rooms.is_modelled old → Early status
+  early_by (replied reply) status ends gone is_modelled = elim gone [
+    | inl wrote ↦ subst Early (sym wrote.code) (ends.early is_modelled)
+    | inr lost ↦ each_so (λ name did. did ≡ untouched → IsEarly (status_of reply))
+        (λ name did. did ≡ untouched → IsEarly status)
+        (λ name did early is. absurd ((text_late reply lost.some).1 (early is))) js
+        (ends.early is_modelled)
+  ]
+  early_by (room_failed file) status ends gone is_modelled =
+      each_is (λ name did. did ≡ untouched → IsEarly status)
+      (λ name did is. inr (inr (inl gone.is))) js
+  early_by no_memory status ends gone is_modelled =
+      each_is (λ name did. did ≡ untouched → IsEarly status)
+      (λ name did is. inr (inr (inr (inr (inl gone.is))))) js
+
+  module _ (status : ℕ) (run : Run status) where
+    pub ended : Answers status ⊎ (HasFailed status ⊎ HasStarved status)
+    ended = ended_by run.ending status run.ends run.concludes run.made run.began
+
+    pub only_words : status ≡ 1 → Bad
+    only_words = only_by run.ending status run.ends run.concludes
+
+    pub first_words : Bad → status ≢ 8 → status ≡ 1
+    first_words = first_by run.ending status run.ends run.concludes
+
+    pub all_early : rooms.is_modelled old → Early status
+    all_early = early_by run.ending status run.ends run.concludes
+
+    -- where the room didn't fail and memory was had it answered
+    pub answered : status ≢ 5 → status ≢ 8 → Answers status
+    answered not5 not8 = elim ended [
+      | inl a ↦ a
+      | inr other ↦ elim other [
+        | inl failed ↦ absurd (not5 failed.code)
+        | inr starved ↦ absurd (not8 starved.code)
+      ]
+    ]
+
+  -- ---- what the program does
+
+  -- the outcome that the contracts of the commands cite
+  abbrev cited : Outcome
+  cited = spoken_outcome h (command_of words) (rooms.file old)
+
+  -- a command that was done, as their contracts say, and whose ending went out, is a run
   pub planned_run : (ending : Ending) (status : ℕ)
-      → HasDone rooms disks Bad (asked.journals ++ (asked.besides ++ asked.inputs)) asked.journals
-      asked.besides cited old new ending
-      → KeepsValid rooms disks asked.Valid asked.journals cited old new → OnlyRead
+      → HasDone rooms disks Bad files asked.journals asked.besides cited old new ending
+      → KeepsValid rooms disks asked.Valid asked.journals cited old new
+      → (rooms.is_modelled old
+      → LeavesEach rooms disks old new (done_with asked.only_reads []) HasKept)
       → OfEach (λ name did. SparesTiles rooms old new name)
-      (done_with asked.journals cited.journals) → New ending
-      → Concludes outs errs (known_word words) out out' err err' ending (rooms.why new) status
-      → HasRun h rooms disks outs errs words old new out out' err err' status
-  planned_run ending status done valid only_read spares =
+      (done_with asked.journals cited.journals) → New ending → Out ending status → Run status
+  planned_run ending status done valid only_read spares began gone =
       let same : cited ≡ want = spoken_planned h (command_of words) (rooms.file old) in
-      has_run ending status
-      (subst (λ (o : Outcome). HasDone rooms disks Bad
-      (asked.journals ++ (asked.besides ++ asked.inputs)) asked.journals asked.besides o old new
-      ending) same done)
-      (subst (λ (o : Outcome). KeepsValid rooms disks asked.Valid asked.journals o old new) same
-      valid)
-      only_read
-      (subst (λ (o : Outcome). OfEach (λ name did. SparesTiles rooms old new name)
-      (done_with asked.journals o.journals)) same spares)
+      let did = subst (λ (o : Outcome). HasDone rooms disks Bad files asked.journals asked.besides
+      o old new ending) same done in
+      record {
+        ending = ending;
+        ends = did.ends;
+        concludes = gone;
+        back = did.back;
+        made = did.made;
+        began = began;
+        only_read = only_read;
+        spares = subst (λ (o : Outcome). OfEach (λ name did. SparesTiles rooms old new name)
+            (done_with asked.journals o.journals)) same spares;
+        valid = subst (λ (o : Outcome).
+            KeepsValid rooms disks asked.Valid asked.journals o old new) same valid;
+      }

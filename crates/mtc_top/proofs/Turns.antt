@@ -2,7 +2,6 @@
 use Rattle.std.proofs.Common.{◌≡◌, ◌≢◌, ◌⊎◌, inl, inr, ℕ, true, false, Bool, List, [], ◌∷◌}
 use Rattle.std.proofs.Common.{◌++◌, ◌<◌, Option, None, Some, refl, sym, subst, ap, ◌∙◌, arith}
 use Rattle.std.proofs.Common.{true≢false, length, length-append}
-use Rattle.std.proofs.lemmas.Bool.Decides.{eqb_tells}
 use Rattle.std.proofs.lemmas.Slice.Eq.{bytes_eq-Decides}
 use Rattle.std.specs.Str.{bytes_eq}
 use Rattle.std.proofs.lemmas.Option.{same_Some}
@@ -13,7 +12,7 @@ use Rattle.mtc_io.specs.declared.sink.Sink.{Ghosts as Sinks}
 use Rattle.journal_core.specs.Format.{Represents}
 use Rattle.mtc_room.specs.Room.{ModelsFile}
 use Rattle.mtc_room.specs.declared.room.Room.{Ghosts as Rooms}
-use Rattle.mtc_words.specs.Words.{command_of}
+use Rattle.mtc_words.specs.Words.{command_of, known_word}
 use Rattle.mtc_command.specs.Answers.{Reply, out_of, refused, said, status_of, stopped_code}
 use Rattle.mtc_command.specs.declared.answer.Said.TheVariants.{Done}
 use Rattle.mtc_command.specs.declared.answer.Stopped.{Stopped}
@@ -26,7 +25,7 @@ use Rattle.mtc_command.specs.Valid.{LeavesValid}
 use Rattle.mtc_command.proofs.Made.{OnlyNow, ReadsImage}
 use Rattle.node_history.proofs.Chains.{no_some}
 use Rattle.mtc_top.specs.Courses.{Turn, Link, ran, stops, cut, died, writes, AreAmong, HasTurned}
-use Rattle.mtc_top.specs.Concluded.{Prints, PrintsPrefix}
+use Rattle.mtc_top.specs.Concluded.{Prints, PrintsPrefix, Wrote}
 use Rattle.mtc_top.specs.Courses.{images_in, images_from, IsCourse, HasHeld, HasPrinted, IsHeard}
 use Rattle.mtc_top.specs.Courses.{DidWith, OfEachTurn, WasHeld, Releases, WasReleased}
 use Rattle.mtc_top.specs.Run.{Answered, journals}
@@ -35,7 +34,8 @@ use Rattle.mtc_top.specs.Facts.{facts}
 use Rattle.mtc_top.specs.Nodes.{records_left}
 use Rattle.mtc_top.proofs.Nodes.{no_file_stands, one_list, some_image}
 use Rattle.mtc_top.proofs.Opened.{Finds, IsFound, IsNewAt, spoken_finds, spoken_new}
-use Rattle.mtc_top.proofs.RunLaws.{prefix_none, run_steps, unheard}
+use Rattle.mtc_top.proofs.RunLaws.{prefix_none, run_shows, run_steps}
+use Rattle.mtc_top.proofs.Runs.{answered, lost_of, not5_of, not8_of, prefix_of, wrote_of}
 
 -- ---- the journals of a run
 
@@ -85,43 +85,56 @@ no_stop other is = omega (arith, is)
 module _ {R S D O E : Type 0} (h : HashFunction) (rooms : Rooms R S D) (disks : Disks D)
     (outs : Sinks O) (errs : Sinks E) (old : R) (turn : Turn R O E)
     (run : HasTurned h rooms disks outs errs old turn) (heard : IsHeard outs turn) where
-  heard_not5 : turn.status ≢ 5
-  heard_not5 five = unheard turn.status 5 _ _ five (omega arith) (λ six. omega (arith, six))
-      (run.room_failed five).text heard
-
-  heard_not8 : turn.status ≢ 8
-  heard_not8 eight = unheard turn.status 8 _ _ eight (omega arith) (λ six. omega (arith, six))
-      (run.no_memory eight).text heard
-
   pub heard_run : Answered h rooms disks outs errs turn.words old turn.room turn.out
       turn.out_after turn.err turn.err_after turn.status
-  heard_run = run.answered heard_not5 heard_not8
+  heard_run = (run_shows h rooms disks outs errs turn.words old turn.room turn.out turn.out_after
+      turn.err turn.err_after turn.status run).heard heard
+
+  abbrev word : List ℕ
+  word = known_word turn.words
+
+  heard_not5 : turn.status ≢ 5
+  heard_not5 = not5_of outs errs word turn.out turn.out_after turn.err turn.err_after
+      heard_run.reply turn.status heard_run.concludes
+
+  heard_not8 : turn.status ≢ 8
+  heard_not8 = not8_of outs errs word turn.out turn.out_after turn.err turn.err_after
+      heard_run.reply turn.status heard_run.concludes
+
+  heard_prefix : PrintsPrefix outs turn.out turn.out_after (out_of heard_run.reply)
+  heard_prefix = prefix_of outs errs word turn.out turn.out_after turn.err turn.err_after
+      heard_run.reply turn.status heard_run.concludes
+
+  heard_wrote : turn.status ≡ 0 → Wrote outs errs word turn.out turn.out_after turn.err
+      turn.err_after heard_run.reply turn.status
+  heard_wrote zero_ = wrote_of outs errs word turn.out turn.out_after turn.err turn.err_after
+      heard_run.reply turn.status heard_run.concludes (λ six. omega (arith, zero_, six))
 
   -- a text that was asked for went out, or a front of it
   pub printed_so : (text : List ℕ) → heard_run.reply ≡ said Done text → HasPrinted outs turn text
   printed_so text is = record {
-    ends = elim (eqb_tells turn.status 6) [
-      | inl is6 ↦ inr is6.1
-      | inr not6 ↦ inl (heard_run.code not6.1 ∙ ap status_of is)
+    ends = elim heard_run.concludes [
+      | inl wrote ↦ inl (wrote.code ∙ ap status_of is)
+      | inr lost ↦ inr lost.code
     ];
     prefix = subst (λ (r : Reply). PrintsPrefix outs turn.out turn.out_after (out_of r)) is
-        heard_run.prefix;
+        heard_prefix;
     whole = λ zero_. subst (λ (r : Reply). Prints outs turn.out turn.out_after (out_of r)) is
-        (heard_run.text (λ six. omega (arith, zero_, six)));
+        (heard_wrote zero_).text;
   }
 
   -- no refusal was asked for
   pub not_refused : (why : Stopped) (file : Option (List ℕ)) (reason : List ℕ)
       → heard_run.reply ≡ refused why file reason → ⊥
   not_refused why file reason is = elim heard [
-    | inl zero_ ↦ no_stop why (ap status_of (sym is)
-        ∙ sym (heard_run.code (λ six. omega (arith, zero_, six))) ∙ zero_)
+    | inl zero_ ↦ no_stop why (ap status_of (sym is) ∙ sym (heard_wrote zero_).code ∙ zero_)
     | inr any ↦ elim any [
       | inl took ↦ prefix_none _ _ (subst (λ (r : Reply).
-          PrintsPrefix outs turn.out turn.out_after (out_of r)) is heard_run.prefix) took
+          PrintsPrefix outs turn.out turn.out_after (out_of r)) is heard_prefix) took
       | inr lost ↦
-          (let empty : 0 < 0
-          = subst (λ (r : Reply). 0 < length (out_of r)) is (heard_run.some lost.0) in
+          (let some = (lost_of outs errs word turn.out turn.out_after turn.err turn.err_after
+          heard_run.reply turn.status heard_run.concludes lost.0).some in
+          let empty : 0 < 0 = subst (λ (r : Reply). 0 < length (out_of r)) is some in
           omega (arith, empty))
     ]
   ]
@@ -214,7 +227,8 @@ module _ {R S D O E : Type 0} (h : HashFunction) (rooms : Rooms R S D) (disks : 
       → Turned old turn → rooms.is_modelled old → HasHeld h rooms disks outs errs name old turn list
       → (c : List ℕ) → Images turn.room name c → Represents c list
   held_stands old turn name list run is_modelled held =
-      let made = (run.answered held.no_failure held.no_want).made is_modelled in
+      let made = (answered h rooms disks outs errs turn.words old turn.room turn.out turn.out_after
+      turn.err turn.err_after turn.status run held.no_failure held.no_want).made is_modelled in
       left_stands held.did list _ _ _ held.held
       (of_each (λ n d. Leaves disks (HasMade d) (rooms.device old n) (rooms.device turn.room n))
       (journals h rooms disks outs errs turn.words old turn.room turn.out turn.out_after

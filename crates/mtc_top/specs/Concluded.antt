@@ -7,7 +7,7 @@ use Rattle.mtc_io.specs.Streams.{AppendsPrefix}
 use Rattle.mtc_io.specs.declared.sink.Sink.{Ghosts as Sinks}
 use Rattle.mtc_room.specs.declared.cause.Cause.{Cause}
 use Rattle.mtc_room.specs.declared.cause.Cause.TheVariants.{Locked, Failed}
-use Rattle.mtc_command.specs.Answers.{Ending, Reply, replied, room_failed, no_memory, said, refused}
+use Rattle.mtc_command.specs.Answers.{Ending, Reply, replied, room_failed, no_memory}
 use Rattle.mtc_command.specs.Answers.{status_of, out_of, err_of}
 use Rattle.mtc_command.specs.Lines.{line_of, WritesLine}
 
@@ -50,11 +50,9 @@ module _ {O E : Type 0} (outs : Sinks O) (errs : Sinks E) (command : Text)
     pub nothing : Prints outs out out' []
     pub line : Reports errs err err' (line_of command file reason)
 
-  -- How it ended; and why the room failed last, where that is how.
+  -- How it ended; and why the room failed last, where that is how. A reply went out, or standard
+  -- output failed at its text.
   abbrev pub Concludes : Ending → Cause → ℕ → Type 0
-  Concludes (replied (said kind text)) cause status =
-      Wrote (said kind text) status ⊎ Lost text status
-  Concludes (replied (refused why file reason)) cause status =
-      Wrote (refused why file reason) status
+  Concludes (replied reply) cause status = Wrote reply status ⊎ Lost (out_of reply) status
   Concludes (room_failed file) cause status = Reported 5 (Some file) (word_of cause) status
   Concludes no_memory cause status = Reported 8 None (codes "Memory") status

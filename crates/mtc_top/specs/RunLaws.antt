@@ -1,14 +1,16 @@
 -- What follows of each run, and how it ends as steps of the nodes whose journals it works on.
 use Rattle.std.specs.Prelude.{◌≡◌, ◌≢◌, ◌≤◌, ◌⊎◌, ℕ, List, [], ◌∷◌, ◌++◌, None, codes, IfSome}
+use Rattle.std.specs.Prelude.{IsErr}
 use Rattle.byte_formats.specs.Types.{HashFunction, Text}
 use Rattle.disk_core.specs.declared.disk.Disk.{Ghosts as Disks}
 use Rattle.journal_core.specs.Format.{Represents}
 use Rattle.mtc_io.specs.Counts.{Rose}
 use Rattle.mtc_io.specs.declared.sink.Sink.{Ghosts as Sinks}
 use Rattle.mtc_room.specs.declared.room.Room.{Ghosts as Rooms}
-use Rattle.mtc_words.specs.Words.{known_word}
+use Rattle.mtc_words.specs.Words.{command_of, known_word}
+use Rattle.mtc_command.specs.Answers.{IsEarly}
 use Rattle.mtc_command.specs.Lines.{line_of}
-use Rattle.mtc_command.specs.Made.{Journaled, appended, started, Images, images_at}
+use Rattle.mtc_command.specs.Made.{Journaled, appended, started, untouched, Images, images_at}
 use Rattle.mtc_command.specs.Made.{images_since, moment_at}
 use Rattle.mtc_command.specs.Served.{OfEach}
 use Rattle.mtc_top.specs.Concluded.{Prints, PrintsPrefix, Reports}
@@ -33,6 +35,16 @@ module _ {R S D O E : Type 0} (h : HashFunction) (rooms : Rooms R S D) (disks : 
   pub record RunShows (status : ℕ) : Type 0 where
     -- The status is one of the eleven.
     pub known : status ≤ 10
+    -- Status 1 says that the words are no command, and such words are answered by it.
+    pub only : status ≡ 1 → IsErr (command_of words)
+    pub first : IsErr (command_of words) → status ≢ 8 → status ≡ 1
+    -- A journal that isn't opened goes with a status that may come before.
+    pub early : rooms.is_modelled old
+        → OfEach (λ name did. did ≡ untouched → IsEarly status)
+        (journals h rooms disks outs errs words old new out out' err err')
+    -- With another status than those of a failed file and of refused memory it answers.
+    pub answers : status ≢ 5 → status ≢ 8
+        → Answered h rooms disks outs errs words old new out out' err err' status
     -- Without a failure and want of memory it answers, and by another status than 6.
     pub complete : (Rose (rooms.faults old) (rooms.faults new) → ⊥)
         → (Rose (outs.faults out) (outs.faults out') → ⊥) → status ≢ 8 → (status ≢ 6)
