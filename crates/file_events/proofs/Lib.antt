@@ -1,0 +1,12 @@
+pub mod Records
+pub mod Stays
+pub mod Uses
+pub mod Levels
+pub mod TwoLevels
+pub mod Histories
+pub mod Links
+pub mod Tiles
+pub mod Mirrors
+pub mod Works
+pub mod Owners
+pub mod Apart

@@ -1,0 +1,11 @@
+pub mod Executions
+pub mod Events
+pub mod Keys
+pub mod Laws
+pub mod Histories
+pub mod Tiles
+pub mod Mirrors
+pub mod Works
+pub mod Worlds
+pub mod Owners
+pub mod Apart
