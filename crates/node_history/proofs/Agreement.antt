@@ -19,7 +19,7 @@ use Rattle.issuance_log.specs.Records.{settings_at, settings_in, log_settings_wi
 use Rattle.issuance_log.specs.Settings.{Settings}
 use Rattle.issuance_log.proofs.Behind as logs
 use Rattle.cosigner_core.specs.Counts.{AreCounted}
-use Rattle.cosigner_core.specs.Folds.{CosignerState, cosigner_fold, cosigner_of}
+use Rattle.cosigner_core.specs.Folds.{cosigner_fold, cosigner_of}
 use Rattle.cosigner_core.specs.Progress.{progress_by, progress_in, steps_in}
 use Rattle.cosigner_core.specs.Records.{cosigner_in, first_by_tag}
 use Rattle.cosigner_core.specs.declared.settings.CosignerSettings.{CosignerSettings}
@@ -76,22 +76,17 @@ apart first s x log cosigner =
 
 -- ---- valid records
 
-made_log : (h : HashFunction) (r : Result LogState ℕ) → IsOk r → (s : LogState) × (r ≡ Ok s)
-made_log h (Ok s) is = (s, refl)
-made_log h (Err k) is = let wrong : false ≡ true = is in absurd cc
+pub made_so : {S : Type 0} (r : Result S ℕ) → IsOk r → (s : S) × (r ≡ Ok s)
+made_so (Ok s) is = (s, refl)
+made_so (Err k) is = let wrong : false ≡ true = is in absurd cc
 
-made_cosigner : (h : HashFunction) (r : Result CosignerState ℕ) → IsOk r
-    → (s : CosignerState) × (r ≡ Ok s)
-made_cosigner h (Ok s) is = (s, refl)
-made_cosigner h (Err k) is = let wrong : false ≡ true = is in absurd cc
-
-cons_is : (x y : Text) (xs ys : List Text) → x ∷ xs ≡ y ∷ ys → x ≡ y
+pub cons_is : (x y : Text) (xs ys : List Text) → x ∷ xs ≡ y ∷ ys → x ≡ y
 cons_is x y xs ys is = cc
 
 first_of_log : (h : HashFunction) (first : Text) (bodies : List Text)
     → IsOk (log_of h (first ∷ bodies)) → (s : Settings) × (settings_in first ≡ Some s)
 first_of_log h first bodies is =
-    let made = made_log h (log_of h (first ∷ bodies)) is in
+    let made = made_so (log_of h (first ∷ bodies)) is in
     let found = logs.only_begins h (first ∷ bodies) made.0 made.1 in
     let same = cons_is first found.0 bodies found.1.0 found.1.1.0 in
     (made.0.settings, ap settings_in same ∙ found.1.1.1)
@@ -100,7 +95,7 @@ first_of_cosigner : (h : HashFunction) (first : Text) (bodies : List Text)
     → IsOk (cosigner_of h (first ∷ bodies))
     → (x : CosignerSettings × Text) × (cosigner_in first ≡ Some x)
 first_of_cosigner h first bodies is =
-    let made = made_cosigner h (cosigner_of h (first ∷ bodies)) is in
+    let made = made_so (cosigner_of h (first ∷ bodies)) is in
     let found = cosigners.only_begins h (first ∷ bodies) made.0 made.1 in
     let same = cons_is first found.0 bodies found.1.0 found.1.1.1.1.0 in
     ((found.1.1.0, found.1.1.1.0), ap cosigner_in same ∙ found.1.1.1.1.1)
@@ -144,12 +139,12 @@ pub read : (h : HashFunction) (start : NodeStart) (first : Text) (bodies : List 
     (bytes : Text) → StartsWith start first → may_follow h start bodies ≡ true
     → Represents bytes (first ∷ bodies) → IsReadAs h start bytes (first ∷ bodies)
 read h (Log settings) first bodies bytes starts may stands =
-    let made = made_log h (log_of h (first ∷ bodies))
+    let made = made_so (log_of h (first ∷ bodies))
     (ap (λ (r : Result LogState ℕ). is_ok r) (logs.begins_so h first settings bodies starts)
     ∙ may) in
     (made.0, read_standing (log_fold h) bytes (first ∷ bodies) made.0 stands made.1)
 read h (Cosigner settings public) first bodies bytes starts may stands =
-    let made = made_cosigner h (cosigner_of h (first ∷ bodies))
+    let made = made_so (cosigner_of h (first ∷ bodies))
     (cosigners.begins_so h first settings starts.0 bodies starts.1.0 ∙ may) in
     (made.0, read_standing (cosigner_fold h) bytes (first ∷ bodies) made.0 stands made.1)
 

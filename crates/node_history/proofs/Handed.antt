@@ -4,7 +4,8 @@ use Rattle.std.proofs.Common.{refl, ap, sym, ◌∙◌, append_assoc, arith, suc
 use Rattle.std.proofs.lemmas.List.{get_or_append_left, length-append, map-append}
 use Rattle.std.proofs.Math.Seq.{get_or-append_seam}
 use Rattle.byte_formats.specs.Types.{Text}
-use Rattle.node_history.specs.Laws.{AreAtMost, Begins, body_in, released_bodies}
+use Rattle.file_events.specs.Executions.{IsPrefix}
+use Rattle.node_history.specs.Laws.{AreAtMost, body_in, released_bodies}
 use Rattle.node_history.specs.Nodes.{HistoryState}
 
 -- the body of a number stays where more bodies are settled
@@ -19,19 +20,19 @@ all_there xs ys (n ∷ ns) few =
     ∙ ap (λ (l : List Text). body_in xs n ∷ l) (all_there xs ys ns few.1)
 
 pub same_released : (s : HistoryState) (settled : List Text) → AreAtMost (length s.settled) s.handed
-    → Begins s.settled settled → map (body_in settled) s.handed ≡ released_bodies s
+    → IsPrefix s.settled settled → map (body_in settled) s.handed ≡ released_bodies s
 same_released s settled few prefix =
     ap (λ (l : List Text). map (body_in l) s.handed) (sym prefix.1)
     ∙ all_there s.settled prefix.0 s.handed few
 
 -- a record that is settled and handed out is one more
 pub one_released : (s : HistoryState) (settled : List Text) (body : Text)
-    → AreAtMost (length s.settled) s.handed → Begins s.settled settled
+    → AreAtMost (length s.settled) s.handed → IsPrefix s.settled settled
     → map (body_in (settled ++ body ∷ [])) (s.handed ++ length (settled ++ body ∷ []) ∷ [])
     ≡ released_bodies s ++ body ∷ []
 one_released s settled body few prefix =
     let all = settled ++ body ∷ [] in
-    let more : Begins s.settled all = (
+    let more : IsPrefix s.settled all = (
       prefix.0 ++ body ∷ [],
       sym (append_assoc s.settled prefix.0
           (body ∷ [])) ∙ ap (λ (l : List Text). l ++ body ∷ []) prefix.1,

@@ -5,6 +5,7 @@ use Rattle.std.proofs.lemmas.List.{append-nil, length-append}
 use Rattle.std.proofs.lemmas.Option.{same_Some}
 use Rattle.byte_formats.specs.Types.{HashFunction, Text}
 use Rattle.byte_formats.proofs.Steps.{bind_ok, ok_is, some_or_ok}
+use Rattle.file_events.specs.Executions.{IsPrefix}
 use Rattle.journal_core.specs.Folds.{taken_from}
 use Rattle.journal_core.proofs.Folds.{state_more}
 use Rattle.issuance_log.specs.Folds.{LogState, log_fold, log_of, new_log, next_log, takes_entry}
@@ -13,7 +14,7 @@ use Rattle.issuance_log.specs.Folds.{with_tiles}
 use Rattle.issuance_log.specs.Records.{item_in, mark_in, tiled_in}
 use Rattle.issuance_log.proofs.Behind.{only_begins}
 use Rattle.issuance_log.proofs.Encoded.{changed_log}
-use Rattle.node_history.specs.Laws.{Begins, HasItemAt, KeepsItems}
+use Rattle.node_history.specs.Laws.{HasItemAt, KeepsItems}
 use Rattle.node_history.proofs.Chains.{no_some}
 use Rattle.node_history.proofs.Steps.{begins_on, when}
 
@@ -130,7 +131,7 @@ first_taken h k s t body bodies is =
     (step.0, (some_or_ok k (next_log h s body) step.0 step.1, step.2))
 
 -- the item behind a list
-at_end : (xs : List Text) (x : Text) (ys : List Text) → Begins (xs ++ x ∷ []) ys
+at_end : (xs : List Text) (x : Text) (ys : List Text) → IsPrefix (xs ++ x ∷ []) ys
     → slice_get ys (length xs) ≡ Some x
 at_end [] x ys prefix = ap (λ (l : List Text). slice_get l 0) (sym prefix.1)
 at_end (z ∷ xs) x [] prefix = absurd (let is = prefix.1 in cc)

@@ -10,3 +10,4 @@ pub mod Keys
 mod Replays
 pub mod Sound
 pub mod Steps
+pub mod Taking

@@ -7,8 +7,9 @@ use Rattle.std.specs.Prelude.{if◌then◌else◌, is_some}
 use Rattle.std.proofs.lemmas.Bool.{and_parts}
 use Rattle.std.proofs.lemmas.Option.{same_Some}
 use Rattle.byte_formats.specs.Types.{Text}
+use Rattle.file_events.specs.Executions.{IsPrefix}
 use Rattle.node_history.specs.Histories.{Valid, may_begin, moved}
-use Rattle.node_history.specs.Laws.{AreAtMost, Begins, HasGrown, IsSoundParty, RisesFrom}
+use Rattle.node_history.specs.Laws.{AreAtMost, HasGrown, IsSoundParty, RisesFrom}
 use Rattle.node_history.specs.Nodes.{HistoryState, begin, fresh_party, hand, settle, stop}
 use Rattle.node_history.specs.Nodes.{with_pending}
 use Rattle.node_history.specs.declared.start.NodeStart.{NodeStart}
@@ -53,14 +54,14 @@ one_more : (list : List Text) (p : Option Text) → is_some p ≡ true
 one_more list None is = no_true is
 one_more list (Some body) is = length-append list (body ∷ [])
 
-begins_with : (list : List Text) (p : Option Text) → Begins list (with_pending list p)
+begins_with : (list : List Text) (p : Option Text) → IsPrefix list (with_pending list p)
 begins_with list None = ([], append-nil list)
 begins_with list (Some body) = (body ∷ [], refl)
 
-begins_same : {T : Type 0} (xs : List T) → Begins xs xs
+begins_same : {T : Type 0} (xs : List T) → IsPrefix xs xs
 begins_same {T} xs = ([], append-nil xs)
 
-pub begins_on : {T : Type 0} (xs ys zs : List T) → Begins xs ys → Begins ys zs → Begins xs zs
+pub begins_on : {T : Type 0} (xs ys zs : List T) → IsPrefix xs ys → IsPrefix ys zs → IsPrefix xs zs
 begins_on {T} xs ys zs one two = (
   one.0 ++ two.0,
   sym (append_assoc xs one.0 two.0) ∙ ap (λ (l : List T). l ++ two.0) one.1 ∙ two.1,

@@ -2,6 +2,7 @@
 use Rattle.std.specs.Prelude.{◌≡◌, ℕ, ◌+◌, ◌<◌, ◌≤◌, true, List, [], ◌∷◌, ◌++◌, length, slice_get}
 use Rattle.std.specs.Prelude.{slice_index_or, map, Some, IfSome, Contains, Ok}
 use Rattle.byte_formats.specs.Types.{Text}
+use Rattle.file_events.specs.Executions.{IsPrefix}
 use Rattle.issuance_log.specs.Folds.{LogState}
 use Rattle.node_history.specs.Histories.{Valid, history_of}
 use Rattle.node_history.specs.Nodes.{HistoryState}
@@ -19,10 +20,6 @@ abbrev pub AreAtMost : ℕ → List ℕ → Type 0
 AreAtMost high [] = Unit {0}
 AreAtMost high (n ∷ ns) = (n ≤ high) × AreAtMost high ns
 
--- The first list is a front of the second.
-abbrev pub Begins : {T : Type 0} → List T → List T → Type 0
-Begins {T} xs ys = (rest : List T) × (xs ++ rest ≡ ys)
-
 -- The records of a node are valid, with the pending one and without it. The numbers that were
 -- handed out rise strictly, and are those of settled records; where the last settled record may be
 -- handed out, it was not yet.
@@ -38,8 +35,8 @@ pub record IsSoundParty (valid : Valid) (s : HistoryState) : Type 0 where
 -- A node behind more steps: it began so, and what was settled and what was handed out stay.
 pub record HasGrown (old new : HistoryState) : Type 0 where
   pub start : new.start ≡ old.start
-  pub settled : Begins old.settled new.settled
-  pub handed : Begins old.handed new.handed
+  pub settled : IsPrefix old.settled new.settled
+  pub handed : IsPrefix old.handed new.handed
 
 -- Each body of the node with this place is one that a step of it began.
 pub record WereBegun (steps : List NodeStep) (place : ℕ) (s : HistoryState) : Type 0 where
@@ -73,8 +70,8 @@ pub record LeadsTo (valid : Valid) (starts : List NodeStart) (steps : List NodeS
 
 -- The entries and the keys of a log are still there, at their places, in a later one.
 pub record KeepsItems (s t : LogState) : Type 0 where
-  pub entries : Begins s.entries t.entries
-  pub keys : Begins s.keys t.keys
+  pub entries : IsPrefix s.entries t.entries
+  pub keys : IsPrefix s.keys t.keys
 
 -- A log has this entry and this key at an index.
 pub record HasItemAt (index : ℕ) (entry key : Text) (s : LogState) : Type 0 where

@@ -6,9 +6,11 @@ ghost use Rattle.byte_formats.specs.Types.{HashFunction, Text};
 ghost use Rattle.cosigner_core.specs.Counts.{AreCounted};
 ghost use Rattle.cosigner_core.specs.declared.settings.CosignerSettings.{CosignerSettings};
 ghost use Rattle.journal_core.specs.Format.{Represents};
+ghost use Rattle.file_events.specs.Histories.{ReachesAll, TakesSteps};
 ghost use Rattle.issuance_log.specs.Folds.{LogState, log_of};
 ghost use Rattle.issuance_log.specs.Records.{item_in};
 ghost use Rattle.node_history.specs.Histories.{history_of, moved};
+ghost use Rattle.node_history.specs.Journals.{GoesOn, HasHistory};
 ghost use Rattle.node_history.specs.Laws.{HasGrown, HasItemAt, IsOfDurable, IsSoundParty};
 ghost use Rattle.node_history.specs.Laws.{KeepsItems, LeadsTo, WereBegun};
 ghost use Rattle.node_history.specs.Nodes.{HistoryState, fresh_party, party_of_step};
@@ -77,6 +79,20 @@ pub fn law_journals_and_histories_agree()
     ensures read { (h : HashFunction) (start : NodeStart) (first : Text) (bodies : List Text)
         (bytes : Text) → StartsWith start first → valid h start bodies ≡ true
         → Represents bytes (first ∷ bodies) → IsReadAs h start bytes (first ∷ bodies) }
+{}
+
+/// What runs and stops do to a journal are steps of its node: a record that was begun is there
+/// after a stop, or not; and where none is pending a record that is valid with the others is begun,
+/// settled, and handed out. So each history that led to the journal continues. Whatever valid
+/// records there are, each node that begins with the first of them has a history that settles them
+/// and hands none out.
+pub fn law_journals_have_histories()
+    ensures on { (h : HashFunction) (starts : List NodeStart) (place : ℕ) (start : NodeStart)
+        (first : Text) (steps : List NodeStep) → slice_get starts place ≡ Some start
+        → StartsWith start first
+        → TakesSteps (AreRecords h) (GoesOn h starts place first steps) }
+    ensures steps { (h : HashFunction) → TakesSteps (AreRecords h) (HasHistory h) }
+    ensures reaches { (h : HashFunction) → ReachesAll (AreRecords h) (HasHistory h) }
 {}
 
 /// The entries of a log and their keys keep their places, whatever records come behind its own.
