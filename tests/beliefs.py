@@ -30,8 +30,8 @@ TRAITS = ("mtc_room/src/room.rt", "disk_core/src/disk.rt", "mtc_io/src/source.rt
 # on which it rests, with their types of the code, has at most so many. It ends at the words of the crates below. These are those of
 # these standards and formats, and behind none of them stands one of its level.
 WHOLE = r"law_the_whole_\w+"
-LEVEL = ("node_history", "mtc_top")
-MOST = 61
+LEVEL = ("file_events", "node_history", "mtc_top")
+MOST = 97
 STANDARDS = {
     "the words for bytes, readings and forms": ("byte_formats",),
     "files and streams ([OPERATIONS](../OPERATIONS.md))": ("mtc_io", "disk_core", "mtc_room"),

@@ -18,7 +18,7 @@ IMPORT = re.compile(r"^[ \t]*(pub(?:\([a-z]+\))? +)?(?:ghost )?use ([^;]+);", re
 MODULE = re.compile(r"^[ \t]*(?:pub(?:\([a-z]+\))? +)?mod \w+;", re.M)
 WORD = re.compile(r"[^\s(){}\[\],;:.<>&]+")
 # byte_formats has laws alone.
-WITHOUT_EDITS = {"byte_formats", "command_plans", "mtc_plans"}
+WITHOUT_EDITS = {"byte_formats", "command_plans", "file_events", "mtc_plans"}
 MOST, MOST_IN_THE_GATE = 16, 1
 
 

@@ -6,7 +6,8 @@ use Rattle.disk_core.specs.Moments.{LeavesOnly, OnlyReads}
 use Rattle.disk_core.specs.Same.{SameDevice}
 use Rattle.disk_core.specs.declared.disk.Disk.{Ghosts}
 use Rattle.journal_core.specs.Format.{Represents, RepresentsEither}
-use Rattle.mtc_command.specs.Made.{Journaled, untouched, reads, appended, started, Images, Leaving}
+use Rattle.file_events.specs.Events.{CrashStates}
+use Rattle.mtc_command.specs.Made.{Journaled, untouched, reads, appended, started, Leaving}
 use Rattle.mtc_command.specs.Made.{Kept, WasRead, HasAdded, HasKept, HasMade, MayHaveMade, IsOpen}
 use Rattle.mtc_command.specs.Made.{ReadsAtMost, Adds, MayAdd, Leaves}
 use Rattle.mtc_command.specs.Answers.{Ending, replied, room_failed, no_memory, IfReply}
@@ -39,7 +40,7 @@ module _ {D : Type 0} (g : Ghosts D) where
   }
 
   -- the images behind an opening and an append, seen from the device before
-  has_added : (old mid new : D) (list : List (List ℕ)) (body : List ℕ) (Now : Images)
+  has_added : (old mid new : D) (list : List (List ℕ)) (body : List ℕ) (Now : CrashStates)
       → ReadsImage → OnlyReads g old mid → IsOpen g mid list
       → LeavesOnly g mid new (RepresentsEither list body)
       → ((c : List ℕ) → g.may_leave new c → Now c)
@@ -117,7 +118,7 @@ module _ {D : Type 0} (g : Ghosts D) where
       kept_of old new did (only_read old mid new only_reads made)
 
 -- Nothing new is left also by a command that a fault has ended.
-pub may_kept : (did : Journaled) (before now since : Images) → Kept before now since
+pub may_kept : (did : Journaled) (before now since : CrashStates) → Kept before now since
     → MayHaveMade did before now since
 may_kept untouched before now since kept = kept
 may_kept (reads list) before now since kept = kept
@@ -154,12 +155,12 @@ module _ {D : Type 0} (g : Ghosts D) where
       subst (λ z. Leaves g (HasKept did) x z) (sym same) (still_at x did only_now)
 
 -- Images may be exchanged: those before for more, those now and since for fewer.
-record Wider (before before' now now' since since' : Images) : Type 0 where
+record Wider (before before' now now' since since' : CrashStates) : Type 0 where
   pub from_before : (c : List ℕ) → before c → before' c
   pub to_now : (c : List ℕ) → now' c → now c
   pub to_since : (c : List ℕ) → since' c → since c
 
-module _ (b b' n n' s s' : Images) (w : Wider b b' n n' s s') where
+module _ (b b' n n' s s' : CrashStates) (w : Wider b b' n n' s s') where
   kept_through : Kept b n s → Kept b' n' s'
   kept_through k = record {
     now_is = λ c is. w.from_before c (k.now_is c (w.to_now c is));
@@ -173,7 +174,7 @@ module _ (b b' n n' s s' : Images) (w : Wider b b' n n' s s') where
     stands = r.stands;
   }
 
-  added_through : (list : List (List ℕ)) (body : List ℕ) (Now : Images)
+  added_through : (list : List (List ℕ)) (body : List ℕ) (Now : CrashStates)
       → HasAdded list body Now b n s → HasAdded list body Now b' n' s'
   added_through list body Now k = record {
     read = read_through list k.read;
@@ -212,7 +213,7 @@ module _ {D : Type 0} (g : Ghosts D) where
   PutBack z e = IsSomeAnd z (λ b. SameDevice g e b)
 
   opened : (How : Leaving)
-      → ((b b' n n' s s' : Images) → Wider b b' n n' s s' → How b n s → How b' n' s')
+      → ((b b' n n' s s' : CrashStates) → Wider b b' n n' s s' → How b n s → How b' n' s')
       → (x z : Option D) (d e : D) → Opened x d → PutBack z e
       → Leaves g How (Some d) (Some e) → Leaves g How x z
   opened How through None z d e out back k = absurd out

@@ -1,22 +1,14 @@
 -- What a command leaves of its journal: the images that a crash may leave of it now, and since the
 -- call began.
-use Rattle.std.specs.Prelude.{◌≡◌, ◌⊎◌, ◌≤◌, ℕ, List, [], ◌∷◌, ◌++◌, Option, None, Some}
+use Rattle.std.specs.Prelude.{◌≡◌, ◌⊎◌, ◌≤◌, List, [], ◌∷◌, ◌++◌, Option, None, Some}
 use Rattle.byte_formats.specs.Types.{Text}
 use Rattle.disk_core.specs.Moments.{LeavesOnly, OnlyReads}
 use Rattle.disk_core.specs.declared.disk.Disk.{Ghosts}
 use Rattle.journal_core.specs.Format.{Represents, RepresentsEither}
 use Rattle.journal_core.specs.Words.{AllRepresent}
-
--- What a command does with its journal.
-pub data Journaled : Type 0 where
-  -- It isn't opened.
-  untouched : Journaled
-  -- It is opened, these records are found, and no record is added.
-  reads : List Text → Journaled
-  -- These records are found, and one is added.
-  appended : List Text → Text → Journaled
-  -- It is a new journal with this first record.
-  started : Text → Journaled
+use Rattle.file_events.specs.Events.{CrashStates}
+use Rattle.file_events.specs.Worlds.{clock_of, states_at, states_since}
+pub use Rattle.file_events.specs.Events.{Journaled, untouched, reads, appended, started}
 
 -- It works on a journal that was there.
 abbrev pub IsOnOld : Journaled → Type 0
@@ -25,35 +17,18 @@ IsOnOld (reads list) = Unit {0}
 IsOnOld (appended list body) = Unit {0}
 IsOnOld (started body) = ⊥
 
--- The images that a crash may leave, and what is said of those before a call, of those now, and of
--- those at any moment since it began.
-abbrev pub Images : Type 1
-Images = Text → Type 0
-
+-- What is said of the images before a call, of those now, and of those at any moment since it
+-- began.
 abbrev pub Leaving : Type 1
-Leaving = Images → Images → Images → Type 0
+Leaving = CrashStates → CrashStates → CrashStates → Type 0
 
--- A name's device: its images, its moment, the images since a moment, and the bytes that it tells.
--- A file that isn't there is like an empty one at moment 0, and tells none.
-module _ {D : Type 0} (g : Ghosts D) where
-  abbrev pub images_at : Option D → Text → Type 0
-  images_at None c = c ≡ []
-  images_at (Some d) c = g.may_leave d c
-
-  abbrev pub moment_at : Option D → ℕ
-  moment_at None = 0
-  moment_at (Some d) = g.moment d
-
-  abbrev pub images_since : Option D → ℕ → Text → Type 0
-  images_since None t c = c ≡ []
-  images_since (Some d) t c = g.left_since d t c
-
-  abbrev pub device_contents : Option D → Option Text
-  device_contents None = None
-  device_contents (Some d) = g.contents d
+-- The bytes that a name's device tells. A file that isn't there tells none.
+abbrev pub device_contents : {D : Type 0} → Ghosts D → Option D → Option Text
+device_contents g None = None
+device_contents g (Some d) = g.contents d
 
 -- Nothing new is left: each image, now and since the call began, is one from before.
-pub record Kept (before now since : Images) : Type 0 where
+pub record Kept (before now since : CrashStates) : Type 0 where
   pub now_is : (c : Text) → now c → before c
   pub since_is : (c : Text) → since c → before c
 
@@ -62,13 +37,13 @@ abbrev pub HasKept : Journaled → Leaving
 HasKept did before now since = Kept before now since
 
 -- What was read is an image from before, and stands for these records.
-pub record WasRead (before : Images) (list : List Text) : Type 0 where
+pub record WasRead (before : CrashStates) (list : List Text) : Type 0 where
   pub bytes : Text
   pub image : before bytes
   pub stands : Represents bytes list
 
 -- The records that were read are on the disk, and nothing else.
-pub record WasOpened (list : List Text) (before now since : Images) : Type 0 where
+pub record WasOpened (list : List Text) (before now since : CrashStates) : Type 0 where
   pub read : WasRead before list
   pub now_is : (c : Text) → now c → Represents c list
   pub since_is : (c : Text) → since c → before c
@@ -76,7 +51,7 @@ pub record WasOpened (list : List Text) (before now since : Images) : Type 0 whe
 -- One record is added behind those that were read. Each image now is one of these: one with the new
 -- record, or where a fault came between, one with it or without it.
 pub record HasAdded (list : List Text) (body : Text)
-    (Now before now since : Images) : Type 0 where
+    (Now before now since : CrashStates) : Type 0 where
   pub read : WasRead before list
   pub now_is : (c : Text) → now c → Now c
   pub since_is : (c : Text) → since c → before c ⊎ RepresentsEither list body c
@@ -129,5 +104,5 @@ module _ {D : Type 0} (g : Ghosts D) where
 
 -- From one device of a name to a later one moments don't fall, and the images are so.
 pub record Leaves {D : Type 0} (g : Ghosts D) (How : Leaving) (old new : Option D) : Type 0 where
-  pub later : moment_at g old ≤ moment_at g new
-  pub images : How (images_at g old) (images_at g new) (images_since g new (moment_at g old))
+  pub later : clock_of g old ≤ clock_of g new
+  pub images : How (states_at g old) (states_at g new) (states_since g new (clock_of g old))

@@ -5,15 +5,12 @@ use Rattle.disk_core.specs.declared.disk.Disk.{Ghosts as Disks}
 use Rattle.mtc_io.specs.Counts.{Rose}
 use Rattle.mtc_room.specs.Room.{Stays}
 use Rattle.mtc_room.specs.declared.room.Room.{Ghosts as Rooms}
+pub use Rattle.file_events.specs.Worlds.{Journals}
 use Rattle.mtc_command.specs.Answers.{Ending, no_memory, IfReply, status_of, IsEarly}
 use Rattle.mtc_command.specs.Made.{HasKept, Journaled, IsOnOld, Leaves, Leaving, untouched}
 use Rattle.mtc_command.specs.Endings.{FailedOnly, LeftBy, RepliesToBadWords}
 use Rattle.mtc_command.specs.Steps.{Outcome}
 use Rattle.mtc_command.specs.Wanted.{Meets}
-
--- The journals that a command works on, each by its name, and what it does with it.
-abbrev pub Journals : Type 0
-Journals = List (Text × Journaled)
 
 -- It is so of each of them.
 abbrev pub OfEach : (Text → Journaled → Type 0) → Journals → Type 0

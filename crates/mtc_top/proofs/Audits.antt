@@ -53,6 +53,7 @@ use Rattle.mtc_top.specs.Concluded.{Prints}
 use Rattle.mtc_top.specs.Courses.{Turn}
 use Rattle.mtc_top.specs.Facts.{facts}
 use Rattle.mtc_top.proofs.Exports.{exports_hold}
+use Rattle.mtc_top.proofs.RunLaws.{done_heard}
 use Rattle.mtc_top.proofs.Runs.{answered, wrote_of}
 
 -- ---- what is asked for
@@ -174,7 +175,8 @@ module _ {R S D O E : Type 0} (h : HashFunction) (rooms : Rooms R S D) (disks : 
   signed x kept_text read by =
       let e = exports_hold h rooms disks outs errs image only contents bytes by.name
       (Cosigner by.settings by.public) by.first by.begins by.old by.links by.begun by.course
-      by.settings by.public refl by.turn by.turned by.spoken (inl by.done) in
+      by.settings by.public refl by.turn by.turned by.spoken
+      (done_heard by.turn.status (outs.taken by.turn.out) (outs.taken by.turn.out_after) by.done) in
       let same = printed_text (outs.taken by.turn.out) (outs.taken by.turn.out_after) by.before
       kept_text e.text by.contents by.printed (e.printed.whole by.done) in
       let kept : x.kept ≡ Some e.export = ok_is ReadExportError x.kept (Some e.export)

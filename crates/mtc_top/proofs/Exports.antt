@@ -37,7 +37,7 @@ use Rattle.mtc_top.specs.Courses.{Link, Turn, HasTurned, IsCourse, IsBegun, IsHe
 use Rattle.mtc_top.specs.Courses.{IsRecovered}
 use Rattle.mtc_top.specs.ExportLaws.{ExportsHoldTheSteps, HasExported}
 use Rattle.mtc_top.proofs.Printed.{did_so, heard_so}
-use Rattle.mtc_top.proofs.Recovered.{held_prefix, last, read_again}
+use Rattle.mtc_top.proofs.Recovered.{held_prefix, modelled_then, read_again}
 use Rattle.mtc_top.proofs.Turns.{file_bytes, heard_run, printed_so, modelled_file}
 use Rattle.mtc_top.proofs.Turns.{contents_image}
 
@@ -170,8 +170,8 @@ module _ {R S D O E : Type 0} (h : HashFunction) (rooms : Rooms R S D) (disks : 
   pub exports_hold : ExportsHoldTheSteps h rooms disks outs errs
   exports_hold name start first begins new links begun course settings public is turn run spoken
       heard =
-      let is_modelled = (last h rooms disks outs errs image only contents bytes name start first
-      begins new links begun course).at.is_modelled in
+      let is_modelled = modelled_then h rooms disks outs errs image only contents bytes name start
+      first begins new links begun course in
       exported name start first begins new links begun course settings public is turn run spoken
       heard is_modelled
       (heard_so h rooms disks outs errs new turn (export name) spoken is_modelled run heard

@@ -2,6 +2,7 @@
 use Rattle.std.proofs.Common.{◌≡◌, ℕ, List, ◌++◌, Some, Ok, sym, subst, ap, ◌∙◌}
 use Rattle.byte_formats.specs.Places.{IsBytes}
 use Rattle.byte_formats.specs.Types.{HashFunction}
+use Rattle.file_events.specs.Executions.{IsPrefix}
 use Rattle.disk_core.specs.declared.disk.Disk.{Ghosts as Disks}
 use Rattle.mtc_io.specs.declared.sink.Sink.{Ghosts as Sinks}
 use Rattle.mtc_room.specs.Room.{ModelsFile}
@@ -13,16 +14,15 @@ use Rattle.cosigner_core.specs.Folds.{cosigner_of}
 use Rattle.cosigner_core.specs.declared.settings.CosignerSettings.{CosignerSettings}
 use Rattle.mtc_command.specs.Made.{reads}
 use Rattle.mtc_command.proofs.Made.{OnlyNow, ReadsImage}
-use Rattle.node_history.specs.Laws.{Begins}
 use Rattle.node_history.proofs.Cosigners.{export_grows}
 use Rattle.mtc_top.specs.Courses.{DidWith, Link, Turn, HasHeld, HasPrinted, HasTurned}
 use Rattle.mtc_top.specs.Courses.{IsHeard}
 use Rattle.mtc_top.specs.ExportLaws.{ExportsOnlyGrow, HasExported, HasMoreThan}
 use Rattle.mtc_top.specs.PrintLaws.{OfHeard}
 use Rattle.mtc_top.proofs.Exports.{exports_hold}
-use Rattle.mtc_top.proofs.Recovered.{held_prefix}
+use Rattle.mtc_top.proofs.Recovered.{each_held, held_prefix}
 use Rattle.mtc_top.proofs.Secrets.{says_so}
-use Rattle.mtc_top.proofs.Turns.{each_held, heard_read}
+use Rattle.mtc_top.proofs.Turns.{heard_read}
 
 module _ {R S D O E : Type 0} (h : HashFunction) (rooms : Rooms R S D) (disks : Disks D)
     (outs : Sinks O) (errs : Sinks E) (image : ReadsImage disks) (only : OnlyNow disks)
@@ -37,7 +37,7 @@ module _ {R S D O E : Type 0} (h : HashFunction) (rooms : Rooms R S D) (disks : 
         → HasTurned h rooms disks outs errs old earlier → IsHeard outs earlier
         → command_of earlier.words ≡ Ok (export name)
         → ((list : List (List ℕ)) → HasHeld h rooms disks outs errs name old earlier list
-        → Begins list now.list)
+        → IsPrefix list now.list)
         → HasMoreThan h rooms disks outs errs name old earlier new turn
     has_more old earlier is_modelled run heard spoken prefixes =
         let said = says_so h rooms disks outs errs image only contents bytes old earlier is_modelled
@@ -71,11 +71,11 @@ module _ {R S D O E : Type 0} (h : HashFunction) (rooms : Rooms R S D) (disks : 
       let now =
       exports_hold h rooms disks outs errs image only contents bytes name start first begins
       new links begun course settings public is turn run spoken heard in
-      each_held h rooms disks outs errs image only contents name (λ list. Begins list now.list)
+      each_held h rooms disks outs errs image only contents bytes name start first begins new links
+      begun course (λ list. IsPrefix list now.list)
       (OfHeard h rooms disks outs errs (export name) (λ old earlier.
-      HasMoreThan h rooms disks outs errs name old earlier new turn)) begins new links
-      begun.is_modelled
-      course (λ list held. held_prefix h rooms disks outs errs image only contents bytes name start
+      HasMoreThan h rooms disks outs errs name old earlier new turn))
+      (λ list held. held_prefix h rooms disks outs errs image only contents bytes name start
       first
       begins new links begun course list now.list held now.recovered)
       (λ old earlier is_modelled ran prefixes said heard'.

@@ -42,8 +42,8 @@ use Rattle.mtc_top.specs.CourseLaws.{AreOfParty}
 use Rattle.mtc_top.specs.Courses.{Turn, HasTurned}
 use Rattle.mtc_top.specs.Facts.{facts, facts_of}
 use Rattle.mtc_top.specs.StatusLaws.{IsAboutInput, LacksTile, MisreadFilesAreInputs}
-use Rattle.mtc_top.proofs.Begun.{made_so}
-use Rattle.mtc_top.proofs.Recovered.{last, read_again}
+use Rattle.node_history.proofs.Agreement.{made_so}
+use Rattle.mtc_top.proofs.Recovered.{modelled_then, read_again}
 use Rattle.mtc_top.proofs.Runs.{answered, wrote_of}
 use Rattle.mtc_top.proofs.Turns.{file_bytes}
 
@@ -187,15 +187,14 @@ module _ {R S D O E : Type 0} (h : HashFunction) (rooms : Rooms R S D) (disks : 
 
   pub misread_inputs : MisreadFilesAreInputs h rooms disks outs errs
   misread_inputs name start first begins new links begun course command turn on run spoken two =
-      let end = last h rooms disks outs errs image only contents bytes name start first begins new
-      links
-      begun course in
-      about_input name new command turn end.at.is_modelled run spoken two
+      let is_modelled = modelled_then h rooms disks outs errs image only contents bytes name start
+      first begins new links begun course in
+      about_input name new command turn is_modelled run spoken two
       (λ file reason any. of_journals h start first name (rooms.file new) (λ c is.
       let node =
       read_again h rooms disks outs errs image only contents bytes name start first begins
       new links begun course c (inr is) in
       let are = file_bytes disks (rooms.file new name) (rooms.device new name) c bytes
-      (contents new name end.at.is_modelled) is in
+      (contents new name is_modelled) is in
       (node.records, (stands_of h start c node.records are node.read, node.of_party)))
       (plan_of h command).journals file reason on.works on.kind any)

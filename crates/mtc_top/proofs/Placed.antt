@@ -13,9 +13,9 @@ use Rattle.disk_core.specs.Replay.{IsImage, run, settled}
 use Rattle.disk_core.specs.declared.disk.Disk.{Ghosts as Disks}
 use Rattle.disk_core.specs.declared.memory.call.Made.{Made}
 use Rattle.disk_core.specs.declared.memory.mem_disk.MemDisk.{MemDisk}
+use Rattle.file_events.specs.Worlds.{states_at}
 use Rattle.mtc_io.specs.declared.sink.Sink.{Ghosts as Sinks}
 use Rattle.mtc_room.specs.declared.room.Room.{Ghosts as Rooms}
-use Rattle.mtc_command.specs.Made.{images_at}
 use Rattle.mtc_top.specs.Stops.{StopsLeaving}
 
 pub fresh_left : (left c : List ℕ) (d : MemDisk) → IsFresh left d → images_of d c → c ≡ left
@@ -26,21 +26,21 @@ fresh_left left c d fresh is =
 -- what a crash may leave of a file that was placed
 pub one_left : (x : Option MemDisk) (left : List ℕ) (failing : List ℕ)
     → IsSomeAnd x (λ d. IsFresh left d × (failing_of d ≡ failing)) → (c : List ℕ)
-    → images_at ghosts x c → c ≡ left
+    → states_at ghosts x c → c ≡ left
 one_left None left failing placed c is = absurd placed
 one_left (Some d) left failing placed c is = fresh_left left c d placed.0 is
 
 module _ {D : Type 0} (g : Disks D) (May : List ℕ → List ℕ → Type 0)
     (old new : List ℕ → Option D) (name left : List ℕ) (may : May name left)
-    (one : (c : List ℕ) → images_at g (new name) c → c ≡ left)
+    (one : (c : List ℕ) → states_at g (new name) c → c ≡ left)
     (others : (other : List ℕ) → other ≢ name → new other ≡ old other)
     (settle : (other : List ℕ) → other ≢ name → (c : List ℕ) × (May other c
-    × ((d : List ℕ) → images_at g (old other) d → d ≡ c))) where
+    × ((d : List ℕ) → states_at g (old other) d → d ≡ c))) where
   -- the one image of a file
   pub record IsLeft (n : List ℕ) : Type 0 where
     pub image : List ℕ
     pub was : May n image
-    pub only : (c : List ℕ) → images_at g (new n) c → c ≡ image
+    pub only : (c : List ℕ) → states_at g (new n) c → c ≡ image
 
   pub left_at : (n : List ℕ) → IsLeft n
   left_at n = go (bytes_eq n name) refl
@@ -56,13 +56,13 @@ module _ {D : Type 0} (g : Disks D) (May : List ℕ → List ℕ → Type 0)
             image = found.0;
             was = found.1.0;
             only = λ c there. found.1.1 c
-                (subst (λ (x : Option D). images_at g x c) (others n differ) there);
+                (subst (λ (x : Option D). states_at g x c) (others n differ) there);
           }
 
 module _ {R S D O E : Type 0} (h : HashFunction) (rooms : Rooms R S D) (disks : Disks D)
     (outs : Sinks O) (errs : Sinks E) (May : List ℕ → List ℕ → Type 0) (old new : R)
     (name left : List ℕ) (is_modelled : rooms.is_modelled old → rooms.is_modelled new)
-    (one : (c : List ℕ) → images_at disks (rooms.device new name) c → c ≡ left)
+    (one : (c : List ℕ) → states_at disks (rooms.device new name) c → c ≡ left)
     (others : (other : List ℕ) → other ≢ name
     → rooms.device new other ≡ rooms.device old other) where
   pub stopped : StopsLeaving h rooms disks outs errs May name left old new

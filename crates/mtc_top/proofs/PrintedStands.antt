@@ -2,6 +2,7 @@
 use Rattle.std.proofs.Common.{◌≡◌, ℕ, List, [], ◌∷◌, ◌++◌, Some}
 use Rattle.byte_formats.specs.Places.{IsBytes}
 use Rattle.byte_formats.specs.Types.{HashFunction}
+use Rattle.file_events.specs.Executions.{IsPrefix}
 use Rattle.disk_core.specs.declared.disk.Disk.{Ghosts as Disks}
 use Rattle.mtc_io.specs.declared.sink.Sink.{Ghosts as Sinks}
 use Rattle.mtc_room.specs.Room.{ModelsFile}
@@ -9,13 +10,12 @@ use Rattle.mtc_room.specs.declared.room.Room.{Ghosts as Rooms}
 use Rattle.mtc_words.specs.Commands.{cosign, issue}
 use Rattle.authority_core.specs.Issues.{issued_entry}
 use Rattle.mtc_command.proofs.Made.{OnlyNow, ReadsImage}
-use Rattle.node_history.specs.Laws.{Begins}
 use Rattle.mtc_top.specs.Courses.{WasHeld}
 use Rattle.mtc_top.specs.PrintLaws.{HasCosigned, IsInLog, IssuedEntriesStand, OfHeard}
 use Rattle.mtc_top.specs.PrintLaws.{SignaturesStand}
 use Rattle.mtc_top.proofs.Printed.{indices_printed, signatures_printed}
-use Rattle.mtc_top.proofs.Recovered.{added_stand, held_prefix, image_list}
-use Rattle.mtc_top.proofs.Turns.{each_held, heard_held}
+use Rattle.mtc_top.proofs.Recovered.{added_stand, each_held, held_prefix, image_list}
+use Rattle.mtc_top.proofs.Turns.{heard_held}
 
 module _ {R S D O E : Type 0} (h : HashFunction) (rooms : Rooms R S D) (disks : Disks D)
     (outs : Sinks O) (errs : Sinks E) (image : ReadsImage disks) (only : OnlyNow disks)
@@ -31,11 +31,11 @@ module _ {R S D O E : Type 0} (h : HashFunction) (rooms : Rooms R S D) (disks : 
         found,
         (
           stands.1,
-          each_held h rooms disks outs errs image only contents name (λ list. Begins list found)
+          each_held h rooms disks outs errs image only contents bytes name start first begins new
+              links begun course (λ list. IsPrefix list found)
               (OfHeard h rooms disks outs errs (cosign name file) (λ old turn.
               (signed : HasCosigned h rooms disks outs errs name file old turn)
-              × Begins (signed.list ++ signed.body ∷ []) found)) begins new links
-              begun.is_modelled course
+              × IsPrefix (signed.list ++ signed.body ∷ []) found))
               (λ list held. held_prefix h rooms disks outs errs image only contents bytes name start
               first begins new links begun course list found held (c, (at, stands.1)))
               (λ old turn is_modelled run prefixes spoken heard.
@@ -51,11 +51,10 @@ module _ {R S D O E : Type 0} (h : HashFunction) (rooms : Rooms R S D) (disks : 
 
   pub issued_stand : IssuedEntriesStand h rooms disks outs errs
   issued_stand name start first begins new links begun course settings file found is recovered =
-      each_held h rooms disks outs errs image only contents name
-      (WasHeld h rooms disks outs errs name begins links)
+      each_held h rooms disks outs errs image only contents bytes name start first begins new links
+      begun course (WasHeld h rooms disks outs errs name begins links)
       (OfHeard h rooms disks outs errs (issue name file) (λ old turn.
-      IsInLog h rooms disks outs errs name file old turn found)) begins new links
-      begun.is_modelled course (λ list held. held)
+      IsInLog h rooms disks outs errs name file old turn found)) (λ list held. held)
       (λ old turn is_modelled run held spoken heard.
       let i = indices_printed h rooms disks outs errs contents bytes name file old turn is_modelled
       run

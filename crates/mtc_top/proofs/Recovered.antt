@@ -1,11 +1,22 @@
--- What may be recovered of a node's journal behind a course.
+-- What may be recovered of a node's journal behind a course, and its history.
 use Rattle.std.proofs.Common.{◌≡◌, ◌⊎◌, inl, inr, ℕ, true, List, [], ◌∷◌, ◌++◌, Option, None, Some}
 use Rattle.std.proofs.Common.{Result, Ok, refl, sym, subst, ap, ◌∙◌, append_assoc}
-use Rattle.std.proofs.lemmas.List.{append-nil}
 use Rattle.std.specs.Prelude.{IsOk, is_ok}
 use Rattle.byte_formats.specs.Places.{IsBytes}
 use Rattle.byte_formats.specs.Types.{HashFunction}
 use Rattle.disk_core.specs.declared.disk.Disk.{Ghosts as Disks}
+use Rattle.file_events.specs.Events.{Event, EventHolds, HasReleased, all_released, appended, ran}
+use Rattle.file_events.specs.Executions.{AnyEvent, IsPrefix}
+use Rattle.file_events.specs.Histories.{IsHistory, RepresentsPending}
+use Rattle.file_events.specs.Laws.{IsDurablePrefix, IsJournalExecution, IsReadBehind}
+use Rattle.file_events.specs.Owners.{ServesJournal}
+use Rattle.file_events.specs.Worlds.{states_of}
+use Rattle.file_events.proofs.Histories.{executions_are_histories}
+use Rattle.file_events.proofs.Links.{each_run, stays_modelled}
+use Rattle.file_events.proofs.Owners.{journal_courses, journal_lead}
+use Rattle.file_events.proofs.Records.{one_list}
+use Rattle.file_events.proofs.Stays.{first_held, held_stand, recovered_valid}
+use Rattle.file_events.proofs.Stays.{released_held as was_held}
 use Rattle.journal_core.specs.Format.{Represents}
 use Rattle.mtc_io.specs.declared.sink.Sink.{Ghosts as Sinks}
 use Rattle.mtc_room.specs.Room.{ModelsFile}
@@ -18,103 +29,50 @@ use Rattle.issuance_log.specs.Folds.{LogState, log_of}
 use Rattle.issuance_log.specs.Settings.{Settings}
 use Rattle.issuance_log.proofs.Behind.{begins_so}
 use Rattle.mtc_command.proofs.Made.{OnlyNow, ReadsImage}
-use Rattle.node_history.specs.Laws.{Begins, IsSoundParty}
-use Rattle.node_history.specs.Nodes.{HistoryState, fresh_party, with_pending}
+use Rattle.node_history.specs.Journals.{GoesOn, HasHistory}
 use Rattle.node_history.specs.Rules.{AreRecords, StartsWith, may_follow}
 use Rattle.node_history.specs.declared.start.NodeStart.{NodeStart}
 use Rattle.node_history.specs.declared.start.NodeStart.TheVariants.{Log, Cosigner}
-use Rattle.node_history.proofs.Agreement.{agree, alone, read, starts_so}
+use Rattle.node_history.proofs.Agreement.{agree, cons_is, made_so, read, starts_so}
 use Rattle.node_history.proofs.Items.{item_added, items_kept}
 use Rattle.node_history.proofs.Keys.{one_record}
-use Rattle.node_history.proofs.Sound.{sound}
-use Rattle.node_history.proofs.Steps.{begins_on}
+use Rattle.node_history.proofs.Taking.{no_records, reaches_all, takes_steps}
 use Rattle.mtc_top.specs.CourseLaws.{AddedEntriesStand, AreOfParty, IsReadAsParty}
 use Rattle.mtc_top.specs.CourseLaws.{CoursesAreHistories, EntriesStand, ReleasedStand}
-use Rattle.mtc_top.specs.CourseLaws.{ReleasedWasHeld}
+use Rattle.mtc_top.specs.CourseLaws.{OfReleased, ReleasedWasHeld}
 use Rattle.mtc_top.specs.CourseLaws.{JournalsAreOfParties, JournalsAreRead, KeysSignOnce}
 use Rattle.mtc_top.specs.CourseLaws.{KeysSignOneMessage}
 use Rattle.mtc_top.specs.CourseLaws.{RecoveredListsGrow}
-use Rattle.mtc_top.specs.Courses.{Link, IsBegun, IsCourse, IsReached, IsRecovered, WasHeld}
-use Rattle.mtc_top.specs.Courses.{WasReleased, WentOut, images_in}
-use Rattle.mtc_top.specs.Nodes.{RepresentsParty}
-use Rattle.mtc_top.proofs.Begun.{begun_goes, begun_held, made_so, no_records}
+use Rattle.mtc_top.specs.Courses.{HasHeld, HasTurned, IsBegun, IsCourse, IsReached, IsRecovered}
+use Rattle.mtc_top.specs.Courses.{DidWith, IsHeard, Link, OfEachTurn, Turn, WasHeld, events}
+use Rattle.mtc_top.specs.Courses.{images_in, owner, program}
 use Rattle.mtc_top.proofs.Commands.{spoken_records}
-use Rattle.mtc_top.proofs.Courses.{IsLater, Goes, start_of}
-use Rattle.mtc_top.proofs.Turns.{all_held, held_rules, modelled_file, contents_image}
-use Rattle.mtc_top.proofs.Nodes.{one_list, some_image, tail_is, valid_pending}
+use Rattle.mtc_top.proofs.Leaves.{contents_image, first_own, held_rules, modelled_file, serves}
+use Rattle.mtc_top.proofs.Turns.{heard_event, heard_held}
 
--- ---- the list of an image
-
--- its records are the settled ones, or these and the pending one
-module _ (h : HashFunction) (s : HistoryState) (first : List ℕ)
-    (is_sound : IsSoundParty (may_follow h) s) where
-  pub of_party : (c : List ℕ) (list : List (List ℕ)) → RepresentsParty s first c → Represents c list
-      → AreOfParty h s.start first list
-  of_party c list of stands = elim of [
-    | inl settled ↦ record {
-      others = s.settled;
-      is = one_list c list (first ∷ s.settled) stands settled;
-      valid = is_sound.settled;
-    }
-    | inr pending ↦ record {
-      others = with_pending s.settled s.pending;
-      is = one_list c list (first ∷ with_pending s.settled s.pending) stands pending;
-      valid = valid_pending h s.start s.settled s.pending is_sound.settled is_sound.pending;
-    }
-  ]
-
-  pub read_node : (c : List ℕ) → StartsWith s.start first → RepresentsParty s first c
-      → IsReadAsParty h s.start first c
-  read_node c begins of = elim of [
-    | inl settled ↦ record {
-      records = first ∷ s.settled;
-      of_party = record { others = s.settled; is = refl; valid = is_sound.settled };
-      read = read h s.start first s.settled c begins is_sound.settled settled;
-    }
-    | inr pending ↦
-        (let valid = valid_pending h s.start s.settled s.pending is_sound.settled is_sound.pending
-        in record {
-          records = first ∷ with_pending s.settled s.pending;
-          of_party =
-              record { others = with_pending s.settled s.pending; is = refl; valid = valid };
-          read = read h s.start first (with_pending s.settled s.pending) c begins valid pending;
-        })
-  ]
-
-more_behind : (first : List ℕ) (list : List (List ℕ)) (p : Option (List ℕ))
-    → Begins (first ∷ list) (first ∷ with_pending list p)
-more_behind first list None = ([], append-nil (first ∷ list))
-more_behind first list (Some body) = (body ∷ [], refl)
-
--- a front of the settled records is one of what may be recovered
-prefix_on : (s : HistoryState) (first c : List ℕ) (list found : List (List ℕ))
-    → RepresentsParty s first c → Represents c found → Begins list (first ∷ s.settled)
-    → Begins list found
-prefix_on s first c list found of stands prefix = elim of [
-  | inl settled ↦ subst (λ (l : List (List ℕ)). Begins list l)
-      (one_list c (first ∷ s.settled) found settled stands) prefix
-  | inr pending ↦ subst (λ (l : List (List ℕ)). Begins list l)
-      (one_list c (first ∷ with_pending s.settled s.pending) found pending stands)
-      (begins_on list (first ∷ s.settled) (first ∷ with_pending s.settled s.pending) prefix
-      (more_behind first s.settled s.pending))
-]
-
--- an image stands for some records
-some_list : (s : HistoryState) (first c : List ℕ) → RepresentsParty s first c
-    → (bodies : List (List ℕ)) × Represents c (first ∷ bodies)
-some_list s first c of = elim of [
-  | inl settled ↦ (s.settled, settled)
-  | inr pending ↦ (with_pending s.settled s.pending, pending)
-]
+-- ---- lists
 
 -- a front up to a record of a front
 first_of_more : (list : List (List ℕ)) (body : List ℕ) (more found : List (List ℕ))
-    → Begins (list ++ body ∷ more) found → Begins (list ++ body ∷ []) found
+    → IsPrefix (list ++ body ∷ more) found → IsPrefix (list ++ body ∷ []) found
 first_of_more list body more found prefix = (
   more ++ prefix.0,
   append_assoc list (body ∷ []) (more ++ prefix.0)
       ∙ (sym (append_assoc list (body ∷ more) prefix.0) ∙ prefix.1),
 )
+
+-- what stands for pending records begins with the first of them
+first_is : (first other c : List ℕ) (others settled list : List (List ℕ))
+    (pending : Option (List ℕ)) → RepresentsPending (other ∷ settled) pending c → Represents c list
+    → first ∷ others ≡ list → other ≡ first
+first_is first other c others settled list None stands found is =
+    cons_is other first settled others (one_list c (other ∷ settled) list stands found ∙ sym is)
+first_is first other c others settled list (Some body) stands found is = elim stands [
+  | inl old ↦ cons_is other first settled others
+      (one_list c (other ∷ settled) list old found ∙ sym is)
+  | inr new ↦ cons_is other first (settled ++ body ∷ []) others
+      (one_list c (other ∷ (settled ++ body ∷ [])) list new found ∙ sym is)
+]
 
 -- a node that began as a log has one
 log_found : (h : HashFunction) (start : NodeStart) (settings : Settings) (first : List ℕ)
@@ -133,95 +91,173 @@ keys_of h start settings public bodies is valid =
     once_each h settings bodies
     (subst (λ (s : NodeStart). may_follow h s bodies ≡ true) is valid)
 
+tail_is : (x y : List ℕ) (xs ys : List (List ℕ)) → x ∷ xs ≡ y ∷ ys → xs ≡ ys
+tail_is x y xs ys is = cc
+
 module _ {R S D O E : Type 0} (h : HashFunction) (rooms : Rooms R S D) (disks : Disks D)
     (outs : Sinks O) (errs : Sinks E) (image : ReadsImage disks) (only : OnlyNow disks)
     (contents : (room : R) (name : List ℕ) → rooms.is_modelled room
     → ModelsFile disks.contents (rooms.file room name) (rooms.device room name))
     (bytes : (d : D) (b : List ℕ) → disks.contents d ≡ Some b → IsBytes b) where
-  -- the end of a course
-  abbrev Ends : List ℕ → (start : NodeStart) (first : List ℕ) → StartsWith start first → R → Type 0
-  Ends name start first begins room =
-      IsLater h rooms disks outs errs image only contents name start first begins [] room
-
   module _ (name : List ℕ) (start : NodeStart) (first : List ℕ) (begins new : R)
       (links : List (Link R O E))
       (begun : IsBegun h rooms disks outs errs name start first begins links)
       (course : IsCourse h rooms disks outs errs name begins links new) where
-    abbrev goes : Goes h rooms disks outs errs image only contents name start first begun.starts []
-        (fresh_party start) begins new links
-    goes = begun_goes h rooms disks outs errs image only contents bytes name start first begins new
-        links begun course
+    abbrev evs : List Event
+    evs = events h rooms disks outs errs name begins links
 
-    abbrev pub last : Ends name start first begun.starts new
-    last = goes.later
+    abbrev States : R → List ℕ → Type 0
+    States = states_of (program h rooms disks outs errs) name
 
-    sound_of : (later : Ends name start first begun.starts new)
-        → IsSoundParty (may_follow h) later.state
-    sound_of later =
-        sound (may_follow h) (alone h) (start ∷ []) later.more 0 later.state later.at.leads
+    serves_so : ServesJournal (program h rooms disks outs errs) (AreRecords h) name
+    serves_so = serves h rooms disks outs errs image only contents bytes name
+        (first_own h rooms disks outs errs image only contents bytes name (first ∷ begun.others)
+        begins links begun.held)
 
-    same_start : (later : Ends name start first begun.starts new) → later.state.start ≡ start
-    same_start later = start_of h rooms disks outs errs image only contents name start first
-        begun.starts later.more later.state new later.at
+    execution : IsJournalExecution States (AreRecords h) begins evs new
+    execution = journal_courses (program h rooms disks outs errs) (AreRecords h) name serves_so
+        begins new links begun.is_modelled course
 
-    pub reached : IsReached h rooms disks outs errs name start first begins links new
-    reached = record {
-      steps = last.more;
-      state = last.state;
-      leads = last.at.leads;
-      stands = last.at.stands;
-      handed = subst (WentOut h rooms disks outs errs name begins links) (sym goes.handed)
-          goes.went;
+    pub modelled_then : rooms.is_modelled new
+    modelled_then = stays_modelled (program h rooms disks outs errs)
+        (owner h rooms disks outs errs name)
+        (journal_lead (program h rooms disks outs errs) (AreRecords h) name serves_so) links begins
+        new begun.is_modelled course
+
+    -- the records of the first run are durable
+    pub durable : IsDurablePrefix (AreRecords h) (first ∷ begun.others) (States new)
+    durable = held_stand States (AreRecords h) (first ∷ begun.others) begins new evs
+        (first_held (first ∷ begun.others) evs begun.held) execution
+
+    party : (c : List ℕ) (b : IsReadBehind (AreRecords h) (first ∷ begun.others) c)
+        → AreOfParty h start first b.list
+    party c b = record {
+      others = begun.others ++ b.begins.0;
+      is = sym b.begins.1;
+      valid = agree h start first (begun.others ++ b.begins.0) begun.starts
+          (subst (AreRecords h) (sym b.begins.1) b.valid);
     }
 
     pub party_list : (list : List (List ℕ))
         → IsRecovered h rooms disks outs errs name new list → AreOfParty h start first list
     party_list list found =
-        subst (λ (s : NodeStart). AreOfParty h s first list) (same_start last)
-        (of_party h last.state first (sound_of last) found.0 list
-        (last.at.stands found.0 found.1.0) found.1.1)
+        let b = durable.each found.0 found.1.0 in
+        subst (AreOfParty h start first) (one_list found.0 b.list list b.stands found.1.1)
+        (party found.0 b)
 
     pub read_file : (c : List ℕ) → images_in h rooms disks outs errs new name c
         ⊎ (rooms.file new name ≡ Some c) → IsReadAsParty h start first c
     read_file c is =
-        subst (λ (s : NodeStart). IsReadAsParty h s first c) (same_start last)
-        (read_node h last.state first (sound_of last) c
-        (subst (λ (s : NodeStart). StartsWith s first) (sym (same_start last)) begun.starts)
-        (last.at.stands c (elim is [
+        let b = durable.each c (elim is [
           | inl left ↦ left
-          | inr is_modelled ↦ contents_image disks (rooms.device new name) c image
+          | inr there ↦ contents_image disks (rooms.device new name) c image
               (modelled_file disks (rooms.file new name) (rooms.device new name)
-              (contents new name last.at.is_modelled) ∙ is_modelled)
-        ])))
+              (contents new name modelled_then) ∙ there)
+        ]) in
+        let of = party c b in
+        record {
+          records = first ∷ of.others;
+          of_party = record { others = of.others; is = refl; valid = of.valid };
+          read = read h start first of.others c begun.starts of.valid
+              (subst (Represents c) of.is b.stands);
+        }
 
+    -- what was held is the front of what is recovered
     pub held_prefix : (list found : List (List ℕ))
         → WasHeld h rooms disks outs errs name begins links list
-        → IsRecovered h rooms disks outs errs name new found → Begins list found
+        → IsRecovered h rooms disks outs errs name new found → IsPrefix list found
     held_prefix list found held is =
-        let prefixes = begun_held h rooms disks outs errs image only contents bytes name start first
-        begins new links begun course list held in
-        prefix_on prefixes.later.state first is.0 list found
-        (prefixes.later.at.stands is.0 is.1.0) is.1.1 prefixes.prefix
+        (recovered_valid States (AreRecords h) list found begins new evs held execution is).1
 
     pub image_list : (c : List ℕ) → images_in h rooms disks outs errs new name c
         → (found : List (List ℕ)) × Represents c found
-    image_list c at =
-        let found = some_list last.state first c (last.at.stands c at) in (first ∷ found.0, found.1)
+    image_list c at = let b = durable.each c at in (b.list, b.stands)
 
     pub held_image : (list : List (List ℕ)) (c : List ℕ)
         → WasHeld h rooms disks outs errs name begins links list
         → images_in h rooms disks outs errs new name c
-        → (found : List (List ℕ)) × (Represents c found × Begins list found)
+        → (found : List (List ℕ)) × (Represents c found × IsPrefix list found)
     held_image list c held at =
-        let found = image_list c at in
-        (found.0, (found.1, held_prefix list found.0 held (c, (at, found.1))))
+        let b = (held_stand States (AreRecords h) list begins new evs held execution).each c at in
+        (b.list, (b.stands, b.begins))
 
-    pub released_held : (list : List (List ℕ)) (body : List ℕ)
-        → WasReleased h rooms disks outs errs name begins links list body
-        → WasHeld h rooms disks outs errs name begins links (list ++ body ∷ [])
-    released_held list body hands =
-        all_held h rooms disks outs errs image only contents name begins new links list body course
-        hands
+    -- what holds of each run of the course, where it holds by the records that it held
+    pub each_held : (Told : List (List ℕ) → Type 0) (P : R → Turn R O E → Type 0)
+        → ((list : List (List ℕ)) → WasHeld h rooms disks outs errs name begins links list
+        → Told list)
+        → ((room : R) (turn : Turn R O E) → rooms.is_modelled room
+        → HasTurned h rooms disks outs errs room turn
+        → ((list : List (List ℕ)) → HasHeld h rooms disks outs errs name room turn list → Told list)
+        → P room turn)
+        → OfEachTurn h rooms disks outs errs P begins links
+    each_held Told P told each =
+        let p = program h rooms disks outs errs in
+        each_run p (owner h rooms disks outs errs name)
+        (journal_lead p (AreRecords h) name serves_so) (List (List ℕ)) EventHolds Told P each links
+        begins new begun.is_modelled course told
+
+    -- each record that was handed out
+    pub released_so : OfReleased h rooms disks outs errs name (λ list body.
+        HasReleased evs list body
+        × WasHeld h rooms disks outs errs name begins links (list ++ body ∷ [])) begins links
+    released_so =
+        let p = program h rooms disks outs errs in
+        each_run p (owner h rooms disks outs errs name)
+        (journal_lead p (AreRecords h) name serves_so) Event (λ (x event : Event). event ≡ x)
+        (λ (x : Event). AnyEvent (λ (event : Event). event ≡ x) evs)
+        (λ old turn. (list : List (List ℕ)) (body : List ℕ)
+        → DidWith h rooms disks outs errs old turn name (appended list body) → IsHeard outs turn
+        → HasReleased evs list body
+        × WasHeld h rooms disks outs errs name begins links (list ++ body ∷ []))
+        (λ old turn is_modelled run told list body did heard.
+        let released = told (ran true (appended list body))
+        (heard_event h rooms disks outs errs old turn run heard name (appended list body) did) in
+        (released, was_held list body evs released)) links begins new begun.is_modelled course
+        (λ x any. any)
+
+    pub released_image : (c : List ℕ) → images_in h rooms disks outs errs new name c
+        → OfReleased h rooms disks outs errs name (λ list body. (found : List (List ℕ))
+        × (Represents c found × IsPrefix (list ++ body ∷ []) found)) begins links
+    released_image c at =
+        each_held (λ list. (found : List (List ℕ)) × (Represents c found × IsPrefix list found))
+        (λ old turn. (list : List (List ℕ)) (body : List ℕ)
+        → DidWith h rooms disks outs errs old turn name (appended list body) → IsHeard outs turn
+        → (found : List (List ℕ)) × (Represents c found × IsPrefix (list ++ body ∷ []) found))
+        (λ list held. held_image list c held at)
+        (λ old turn is_modelled run told list body did heard. told (list ++ body ∷ [])
+        (heard_held h rooms disks outs errs old turn run heard name list body did))
+
+    -- ---- its history
+
+    history : IsHistory (HasHistory h) (all_released evs) (States new)
+    history = executions_are_histories States (AreRecords h) (HasHistory h) (takes_steps h)
+        (reaches_all h) (first ∷ begun.others) begins new evs begun.held execution
+
+    same_first : history.reaches.first ≡ first
+    same_first =
+        let c = history.some in
+        let b = durable.each c.0 c.1 in
+        first_is first history.reaches.first c.0 (begun.others ++ b.begins.0)
+        history.reaches.settled b.list history.pending
+        (subst (λ (l : List (List ℕ)). RepresentsPending l history.pending c.0)
+        history.reaches.are (history.each c.0 c.1)) b.stands b.begins.1
+
+    goes : GoesOn h (start ∷ []) 0 first [] history.list history.pending (all_released evs)
+    goes = subst (λ (f : List ℕ). GoesOn h (start ∷ []) 0 f [] history.list history.pending
+        (all_released evs)) same_first (history.reaches.of_party start
+        (subst (StartsWith start) (sym same_first) begun.starts))
+
+    pub reached : IsReached h rooms disks outs errs name start first begins links new
+    reached = record {
+      steps = goes.more;
+      state = goes.state;
+      leads = goes.leads;
+      stands = λ c at. subst (λ (p : Option (List ℕ)).
+          RepresentsPending (first ∷ goes.state.settled) p c) goes.pending_is
+          (subst (λ (l : List (List ℕ)). RepresentsPending l history.pending c) goes.list_is
+          (history.each c at));
+      handed = sym goes.out_is;
+    }
 
   pub histories : CoursesAreHistories h rooms disks outs errs
   histories = reached
@@ -233,12 +269,10 @@ module _ {R S D O E : Type 0} (h : HashFunction) (rooms : Rooms R S D) (disks : 
   lists_grow = held_image
 
   pub released_was_held : ReleasedWasHeld h rooms disks outs errs
-  released_was_held = released_held
+  released_was_held = released_so
 
   pub released_stand : ReleasedStand h rooms disks outs errs
-  released_stand name start first begins new links begun course list body c hands at =
-      held_image name start first begins new links begun course (list ++ body ∷ []) c
-      (released_held name start first begins new links begun course list body hands) at
+  released_stand = released_image
 
   pub keys_once : KeysSignOnce h rooms disks outs errs
   keys_once name start first begins new links begun course settings public is record0 bodies found =
@@ -250,20 +284,20 @@ module _ {R S D O E : Type 0} (h : HashFunction) (rooms : Rooms R S D) (disks : 
   pub one_message : KeysSignOneMessage h rooms disks outs errs
   one_message name start first begins new links begun course settings public is list other more
       others body message number held held' uses uses' =
-      let end = last name start first begins new links begun course in
-      let c = some_image disks (rooms.file new name) (rooms.device new name) image
-      (contents new name end.at.is_modelled) in
-      let found = some_list end.state first c.0 (end.at.stands c.0 c.1) in
-      let recovered : IsRecovered h rooms disks outs errs name new (first ∷ found.0)
-      = (c.0, (c.1, found.1)) in
-      let prefix = first_of_more list body more (first ∷ found.0) (held_prefix name start first
-      begins new links begun course (list ++ body ∷ more) (first ∷ found.0) held recovered) in
+      let all = durable name start first begins new links begun course in
+      let c = all.some in
+      let behind = all.each c.0 c.1 in
+      let found = begun.others ++ behind.begins.0 in
+      let recovered : IsRecovered h rooms disks outs errs name new (first ∷ found)
+      = (c.0, (c.1, subst (Represents c.0) (sym behind.begins.1) behind.stands)) in
+      let prefix = first_of_more list body more (first ∷ found) (held_prefix name start first
+      begins new links begun course (list ++ body ∷ more) (first ∷ found) held recovered) in
       let prefix' =
-      first_of_more other message others (first ∷ found.0) (held_prefix name start first
-      begins new links begun course (other ++ message ∷ others) (first ∷ found.0) held' recovered)
+      first_of_more other message others (first ∷ found) (held_prefix name start first
+      begins new links begun course (other ++ message ∷ others) (first ∷ found) held' recovered)
       in
-      one_record first found.0 list other body message prefix.0 prefix'.0 number
-      (keys_once name start first begins new links begun course settings public is first found.0
+      one_record first found list other body message prefix.0 prefix'.0 number
+      (keys_once name start first begins new links begun course settings public is first found
       recovered) prefix.1 prefix'.1 uses uses'
 
   pub entries_stand : EntriesStand h rooms disks outs errs

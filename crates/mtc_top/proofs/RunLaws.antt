@@ -1,43 +1,48 @@
 -- What follows of each run, and how it ends as steps of a node.
-use Rattle.std.proofs.Common.{◌≡◌, ◌≢◌, ◌≤◌, ◌<◌, ◌⊎◌, inl, inr, ℕ, List, [], ◌∷◌, ◌++◌, Option}
+use Rattle.std.proofs.Common.{◌≡◌, ◌≢◌, ◌≤◌, ◌<◌, ◌⊎◌, inl, inr, ℕ, List, [], ◌∷◌, Option}
 use Rattle.std.proofs.Common.{None, Some, codes, length, take, refl, sym, ap, subst, ◌∙◌}
-use Rattle.std.proofs.Common.{arith, rules, length-take, take_all}
+use Rattle.std.proofs.Common.{arith, rules, length-take, take_all, Bool, true, false, ◌||◌, ◌==◌}
+use Rattle.std.proofs.Common.{nat_lt}
+use Rattle.std.proofs.lemmas.Bool.{eq-eqb, eqb-true, lt-ltb, ltb-true, ne_eqb, or_left}
+use Rattle.std.proofs.lemmas.Bool.{or_right}
 use Rattle.std.proofs.lemmas.Bool.Decides.{leb_tells}
 use Rattle.std.proofs.lemmas.List.{append_cancel_left, take-take}
 use Rattle.std.specs.Io.KnownBytes.{Appends}
+use Rattle.byte_formats.specs.Places.{IsBytes}
+use Rattle.byte_formats.specs.Types.{HashFunction}
 use Rattle.disk_core.specs.declared.disk.Disk.{Ghosts as Disks}
+use Rattle.file_events.specs.Events.{CrashStates, Event, Leads, broke}
+use Rattle.file_events.specs.Owners.{did_to}
+use Rattle.file_events.specs.Worlds.{breaks_off, clock_of, done_to, is_heard}
+use Rattle.file_events.proofs.Histories.{step}
 use Rattle.mtc_io.specs.Counts.{Rose}
 use Rattle.mtc_io.specs.Streams.{AppendsPrefix}
 use Rattle.mtc_io.specs.declared.sink.Sink.{Ghosts as Sinks}
 use Rattle.mtc_room.specs.Room.{ModelsFile}
 use Rattle.mtc_room.specs.declared.room.Room.{Ghosts as Rooms}
-use Rattle.journal_core.specs.Format.{Represents}
 use Rattle.mtc_command.specs.Answers.{Ending, Reply, replied, room_failed, no_memory, said}
-use Rattle.mtc_command.specs.Answers.{refused, IsEarly, status_of, out_of}
-use Rattle.mtc_command.specs.Made.{Journaled, Images, Leaving, untouched, reads, appended, started}
-use Rattle.mtc_command.specs.Made.{HasKept, HasMade, IsOnOld, Kept, MayHaveMade, Leaves}
-use Rattle.mtc_command.specs.Made.{images_at, images_since, moment_at}
-use Rattle.mtc_command.specs.Served.{Journals, OfEach}
-use Rattle.mtc_command.specs.Valid.{AddsValid}
+use Rattle.mtc_command.specs.Answers.{refused, status_of, out_of}
+use Rattle.mtc_command.specs.Made.{HasKept, HasMade, Journaled, Leaves, Leaving, MayHaveMade}
+use Rattle.mtc_command.specs.Served.{IsOther, Journals, LeavesEach}
 use Rattle.mtc_command.specs.declared.answer.Said.TheVariants.{Done, Against, Collided}
-use Rattle.mtc_command.proofs.Made.{ReadsImage}
-use Rattle.mtc_command.proofs.Served.{each_so, both_so}
 use Rattle.mtc_command.specs.Lines.{line_of}
-use Rattle.mtc_top.specs.Concluded.{Concludes, Prints, PrintsPrefix, Reports}
+use Rattle.mtc_command.proofs.Made.{OnlyNow, ReadsImage}
 use Rattle.mtc_words.specs.Words.{command_of, known_word}
-use Rattle.node_history.specs.Nodes.{HistoryState, fresh_party}
+use Rattle.node_history.specs.Journals.{GoesOn}
 use Rattle.node_history.specs.Rules.{AreRecords}
-use Rattle.node_history.specs.declared.start.NodeStart.{NodeStart}
-use Rattle.mtc_top.specs.Nodes.{AllRepresentParty, TookSome}
-use Rattle.mtc_top.specs.Facts.{facts}
-use Rattle.mtc_top.specs.Run.{journals, Answered, HasRun}
-use Rattle.mtc_top.specs.RunLaws.{PrefixesAreRuns, RunShows, RunSteps, is_heard}
-use Rattle.mtc_top.proofs.Runs.{HasFailed, HasStarved, all_early, answered, ended, first_words}
-use Rattle.mtc_top.proofs.Runs.{lost_of, only_words, prefix_of, reply_code, wrote_of}
+use Rattle.node_history.proofs.Taking.{takes}
+use Rattle.mtc_top.specs.Concluded.{Concludes, Prints, PrintsPrefix, Reports}
+use Rattle.mtc_top.specs.Courses.{AreAmong, DidWith, HasTurned, Turn, images_in, owner, program}
+use Rattle.mtc_top.specs.Facts.{Facts, facts}
+use Rattle.mtc_top.specs.Run.{Answered, HasRun}
+use Rattle.mtc_top.specs.RunLaws.{AllGoOn, PrefixesAreRuns, RunShows, RunSteps, RunsAreSteps}
+use Rattle.mtc_top.specs.RunLaws.{TookSome}
+use Rattle.mtc_top.proofs.Beside.{journal_own, none_beside}
 use Rattle.mtc_top.proofs.Commands.{spoken_records}
-use Rattle.mtc_top.proofs.Nodes.{Heard, kept_ends, failed_ends, made_ends, heard_dec, file_stands}
-use Rattle.mtc_top.proofs.Nodes.{none_stands, some_image}
-use Rattle.mtc_top.proofs.Opened.{IsNewAt, spoken_new}
+use Rattle.mtc_top.proofs.Leaves.{contents_image, find_name, leaves, modelled_file, of_each, still}
+use Rattle.mtc_top.proofs.Runs.{HasFailed, HasStarved, all_early, answered, ended, first_words}
+use Rattle.mtc_top.proofs.Runs.{lost_of, not5_of, not8_of, only_words, prefix_of, reply_code}
+use Rattle.mtc_top.proofs.Runs.{wrote_of}
 
 -- where nothing was appended, no byte went out
 pub took_none : (old new : Option (List ℕ)) → Appends old new [] → TookSome old new → ⊥
@@ -55,12 +60,51 @@ prefix_some : (old new : Option (List ℕ)) (text : List ℕ) → AppendsPrefix 
 prefix_some old new [] prefix took = absurd (prefix_none old new prefix took)
 prefix_some old new (x ∷ xs) prefix took = omega arith
 
+-- a run that was heard did its work, or a byte of it may have gone out
+abbrev Heard : ℕ → Option (List ℕ) → Option (List ℕ) → Type 0
+Heard status old new = (status ≡ 0) ⊎ (TookSome old new ⊎ ((status ≡ 6) × (old ≡ None)))
+
+either_true : (a b : Bool) → (a || b) ≡ true → (a ≡ true) ⊎ (b ≡ true)
+either_true true b is = inl refl
+either_true false b is = inr is
+
+pub heard_ways : (status : ℕ) (old new : Option (List ℕ)) → is_heard status old new ≡ true
+    → Heard status old new
+heard_ways status None new is = elim (either_true (status == 0) (status == 6) is) [
+  | inl zero_ ↦ inl (eqb-true status 0 zero_)
+  | inr six ↦ inr (inr (eqb-true status 6 six, refl))
+]
+heard_ways status (Some xs) None is = inl (eqb-true status 0 is)
+heard_ways status (Some xs) (Some ys) is =
+    elim (either_true (status == 0) (nat_lt (length xs) (length ys)) is) [
+      | inl zero_ ↦ inl (eqb-true status 0 zero_)
+      | inr less ↦ inr (inl (ltb-true (length xs) (length ys) less))
+    ]
+
+took_heard : (status : ℕ) (old new : Option (List ℕ)) → TookSome old new
+    → is_heard status old new ≡ true
+took_heard status None new took = absurd took
+took_heard status (Some xs) None took = absurd took
+took_heard status (Some xs) (Some ys) took = or_right (status == 0)
+    (nat_lt (length xs) (length ys)) (lt-ltb (length xs) (length ys) took)
+
+pub done_heard : (status : ℕ) (old new : Option (List ℕ)) → status ≡ 0
+    → is_heard status old new ≡ true
+done_heard status None new is = or_left (status == 0) (status == 6) (eq-eqb status 0 is)
+done_heard status (Some xs) None is = eq-eqb status 0 is
+done_heard status (Some xs) (Some ys) is = or_left (status == 0) (nat_lt (length xs) (length ys))
+    (eq-eqb status 0 is)
+
 -- a run with such a status that appended nothing isn't heard
 pub unheard : (status n : ℕ) (old new : Option (List ℕ)) → status ≡ n → 0 < n → n ≢ 6
-    → Appends old new [] → Heard status old new → ⊥
-unheard status n old new is some other none (inl zero_) = omega (arith, is, some, zero_)
-unheard status n old new is some other none (inr (inl took)) = took_none old new none took
-unheard status n old new is some other none (inr (inr lost)) = other (sym is ∙ lost.0)
+    → Appends old new [] → is_heard status old new ≡ true → ⊥
+unheard status n old new is some other none heard = elim (heard_ways status old new heard) [
+  | inl zero_ ↦ omega (arith, is, some, zero_)
+  | inr any ↦ elim any [
+    | inl took ↦ took_none old new none took
+    | inr lost ↦ other (sym is ∙ lost.0)
+  ]
+]
 
 -- a front of a front
 take_both : (j k : ℕ) (l : List ℕ) → (n : ℕ) × (take j (take k l) ≡ take n l)
@@ -89,28 +133,6 @@ silent_reply P (said Against text) status is not0 not3 not10 prints = absurd (no
 silent_reply P (said Collided text) status is not0 not3 not10 prints = absurd (not10 is)
 silent_reply P (refused why file reason) status is not0 not3 not10 prints = prints
 
--- by other rules that follow from these
-pub adds_so : (P Q : List (List ℕ) → Type 0) → ((list : List (List ℕ)) → P list → Q list)
-    → (did : Journaled) → AddsValid P did → AddsValid Q did
-adds_so P Q so untouched is = tt
-adds_so P Q so (reads list) is = tt
-adds_so P Q so (appended list body) is = so (list ++ body ∷ []) is
-adds_so P Q so (started body) is = so (body ∷ []) is
-
--- each image holds the record that was added, or that a new journal begins with
-module _ (did : Journaled) (before now since : Images) (made : HasMade did before now since) where
-  has_recorded : (list : List (List ℕ)) (body : List ℕ) → did ≡ appended list body → (c : List ℕ)
-      → now c → Represents c (list ++ body ∷ [])
-  has_recorded list body is =
-      let added = subst (λ d. HasMade d before now since) is made in
-      added.now_is
-
-  has_begun : (body : List ℕ) → did ≡ started body → (start : NodeStart)
-      → AllRepresentParty (fresh_party start) body now
-  has_begun body is start =
-      let new = subst (λ d. HasMade d before now since) is made in
-      λ c at. inl (new c at)
-
 module _ {R S D O E : Type 0} (h : List ℕ → List ℕ) (rooms : Rooms R S D) (disks : Disks D)
     (outs : Sinks O) (errs : Sinks E) (words : List (List ℕ))
     (old new : R) (out out' : O) (err err' : E) (status : ℕ)
@@ -126,16 +148,25 @@ module _ {R S D O E : Type 0} (h : List ℕ → List ℕ) (rooms : Rooms R S D) 
   how = ended h rooms disks outs errs words old new out out' err err' status run
 
   abbrev went : Type 0
-  went = is_heard h rooms disks outs errs words old new out out' err err' status
+  went = is_heard status (outs.taken out) (outs.taken out') ≡ true
 
   -- where the room or memory ended it, it isn't heard
   not_failed : Failed → went → ⊥
-  not_failed failed any = unheard status 5 _ _ failed.code (omega arith)
-      (λ six. omega (arith, six)) failed.text any
+  not_failed failed any = unheard status 5 (outs.taken out) (outs.taken out') failed.code
+      (omega arith) (λ six. omega (arith, six)) failed.text any
 
   not_starved : Starved → went → ⊥
-  not_starved starved any = unheard status 8 _ _ starved.code (omega arith)
-      (λ six. omega (arith, six)) starved.text any
+  not_starved starved any = unheard status 8 (outs.taken out) (outs.taken out') starved.code
+      (omega arith) (λ six. omega (arith, six)) starved.text any
+
+  -- one that answered didn't break off
+  whole_of : Answered h rooms disks outs errs words old new out out' err err' status
+      → breaks_off status ≡ false
+  whole_of a = ap (λ (b : Bool). b || (status == 8))
+      (ne_eqb status 5 (not5_of outs errs (known_word words) out out' err err' a.reply status
+      a.concludes))
+      ∙ ne_eqb status 8 (not8_of outs errs (known_word words) out out' err err' a.reply status
+      a.concludes)
 
   pub run_shows : RunShows h rooms disks outs errs words old new out out' err err' status
   run_shows = record {
@@ -180,6 +211,13 @@ module _ {R S D O E : Type 0} (h : List ℕ → List ℕ) (rooms : Rooms R S D) 
         | inr starved ↦ absurd (not_starved starved any)
       ]
     ];
+    whole = λ any. elim how [
+      | inl a ↦ whole_of a
+      | inr other ↦ elim other [
+        | inl failed ↦ absurd (not_failed failed any)
+        | inr starved ↦ absurd (not_starved starved any)
+      ]
+    ];
   }
 
   -- ---- a front of what went out
@@ -217,118 +255,86 @@ module _ {R S D O E : Type 0} (h : List ℕ → List ℕ) (rooms : Rooms R S D) 
         valid = run.valid;
       }
 
-  abbrev pub ModelsFiles : R → Type 0
-  ModelsFiles room =
-      (name : List ℕ) → ModelsFile disks.contents (rooms.file room name) (rooms.device room name)
-
-  module _ (image : ReadsImage disks) (was : ModelsFiles old) (file : ModelsFiles new) where
-    abbrev js : Journals
-    js = journals h rooms disks outs errs words old new out out' err err'
-
-    abbrev before : List ℕ → Images
-    before name = images_at disks (rooms.device old name)
-
-    abbrev after : List ℕ → Images
-    after name = images_at disks (rooms.device new name)
-
-    abbrev between : List ℕ → Images
-    between name =
-        images_since disks (rooms.device new name) (moment_at disks (rooms.device old name))
-
-    abbrev pub Steps : List ℕ → Journaled → Type 0
-    Steps = RunSteps h rooms disks outs errs words old new out out' err err' status
-
-    abbrev LeftBoth : (Journaled → Leaving) → List ℕ → Journaled → Type 0
-    LeftBoth How name did = Leaves disks (How did) (rooms.device old name) (rooms.device new name)
-
-    -- What is known of each journal beside what it left: nothing new is left, or its records are a
-    -- node's; and it was there, or its name had no file.
-    abbrev Knows : List ℕ → Journaled → Type 0
-    Knows name did = (LeftBoth HasKept name did ⊎ AddsValid (AreRecords h) did)
-        × IsNewAt (rooms.file old) name did
-
-    knows : rooms.is_modelled old → OfEach Knows js
-    knows is_modelled = both_so _ _ Knows (λ name did valid is_new. (
-      elim valid [
-        | inl kept ↦ inl kept.0
-        | inr adds ↦ inr (adds_so (facts h (command_of words)).Valid (AreRecords h)
-            (spoken_records h (command_of words)) did adds)
-      ],
-      is_new,
-    )) js (run.valid is_modelled) (spoken_new h (command_of words) (rooms.file old))
-
-    images_valid : (name : List ℕ) (did : Journaled) → Knows name did
-        → Kept (before name) (after name) (between name) ⊎ AddsValid (AreRecords h) did
-    images_valid name did known = elim known.0 [
-      | inl kept ↦ inl kept.images
-      | inr adds ↦ inr adds
-    ]
-
-    -- the journal of a node was there
-    on_old : (name : List ℕ) (did : Journaled) → Knows name did → (n : HistoryState)
-        (first : List ℕ) → AllRepresentParty n first (before name) → IsOnOld did
-    on_old name did known n first all = elim known.1 [
-      | inl on ↦ on
-      | inr none ↦ absurd (none_stands disks n first _ _ image (was name) all none)
-    ]
-
-    kept_steps : status ≡ 8 → (went → ⊥) → (name : List ℕ) (did : Journaled)
-        → LeftBoth HasKept name did → Steps name did
-    kept_steps is none name did kept = record {
-      ends = λ n first all. kept_ends h status went n first _ _ _ all did (inr is) none kept.images;
-      as_read = λ n first stands. file_stands disks n first _ _ image (file name) stands;
-      later = kept.later;
-      recorded = λ list body of some. absurd (none some);
-      begins = λ done. absurd (omega (arith, is, done));
-    }
-
-    failed_steps : status ≡ 5 → (went → ⊥) → (name : List ℕ) (did : Journaled)
-        → LeftBoth MayHaveMade name did → Knows name did → Steps name did
-    failed_steps is none name did made known = record {
-      ends = λ n first all. failed_ends h status went n first _ _ _ all did is
-          (on_old name did known n first all) none made.images (images_valid name did known);
-      as_read = λ n first stands. file_stands disks n first _ _ image (file name) stands;
-      later = made.later;
-      recorded = λ list body of some. absurd (none some);
-      begins = λ done. absurd (omega (arith, is, done));
-    }
-
-    abbrev MadeEarly : List ℕ → Journaled → Type 0
-    MadeEarly name did = LeftBoth HasMade name did × (did ≡ untouched → IsEarly status)
-
-    made_steps : (name : List ℕ) (did : Journaled) → MadeEarly name did → Knows name did
-        → Steps name did
-    made_steps name did made known = record {
-      ends = λ n first all. made_ends h status went n first _ _ _ all did
-          (on_old name did known n first all) (heard_dec status _ _) made.1 made.0.images
-          (images_valid name did known) (some_image disks _ _ image (file name));
-      as_read = λ n first stands. file_stands disks n first _ _ image (file name) stands;
-      later = made.0.later;
-      recorded = λ list body of some. has_recorded did _ _ _ made.0.images list body of;
-      begins = λ done. has_begun did _ _ _ made.0.images;
-    }
-
-    answered_steps : rooms.is_modelled old → OfEach (LeftBoth HasMade) js → OfEach Steps js
-    answered_steps is_modelled made = both_so _ _ Steps made_steps js
-        (both_so _ _ MadeEarly (λ name did left early. (left, early)) js made
-        (run_shows.early is_modelled))
-        (knows is_modelled)
-
-    pub run_steps : rooms.is_modelled old → OfEach Steps js
-    run_steps is_modelled = elim how [
-      | inl a ↦ answered_steps is_modelled (a.made is_modelled)
-      | inr other ↦ elim other [
-        | inl failed ↦ both_so _ _ Steps (failed_steps failed.code (not_failed failed)) js
-            (failed.made is_modelled) (knows is_modelled)
-        | inr starved ↦
-            each_so _ Steps (kept_steps starved.code (not_starved starved)) js
-            (starved.made is_modelled)
-      ]
-    ]
-
 pub prefixes_are_runs : {R S D O E : Type 0} (h : List ℕ → List ℕ) (rooms : Rooms R S D)
     (disks : Disks D) (outs : Sinks O) (errs : Sinks E) → PrefixesAreRuns h rooms disks outs errs
 prefixes_are_runs {R} {S} {D} {O} {E} h rooms disks outs errs words old new out out' failed err err'
     contents status text run some is prefix cause line =
     prefix_is_run h rooms disks outs errs words old new out out' err err' status run some failed
     contents text is prefix cause line
+
+-- ---- a run is steps
+
+module _ {R S D O E : Type 0} (h : HashFunction) (rooms : Rooms R S D) (disks : Disks D)
+    (outs : Sinks O) (errs : Sinks E) (image : ReadsImage disks) (only : OnlyNow disks)
+    (contents : (room : R) (name : List ℕ) → rooms.is_modelled room
+    → ModelsFile disks.contents (rooms.file room name) (rooms.device room name))
+    (bytes : (d : D) (b : List ℕ) → disks.contents d ≡ Some b → IsBytes b) where
+  all_go_on : (event : Event) (before now : CrashStates) → Leads (AreRecords h) event before now
+      → AllGoOn h event before now
+  all_go_on event before now leads starts place start first steps out there begins history =
+      step (AreRecords h) (GoesOn h starts place first steps)
+      (takes h starts place start there first begins steps) out before now event history leads
+
+  module _ (old : R) (turn : Turn R O E) (is_modelled : rooms.is_modelled old)
+      (run : HasTurned h rooms disks outs errs old turn) (name : List ℕ) where
+    abbrev asked : Facts
+    asked = facts h (command_of turn.words)
+
+    abbrev js : Journals
+    js = (program h rooms disks outs errs).journals old turn
+
+    not_beside : ((did : Journaled) × DidWith h rooms disks outs errs old turn name did)
+        ⊎ IsOther asked.besides name → IsOther asked.besides name
+    not_beside named = elim named [
+      | inl did ↦ none_beside h (command_of turn.words) name (journal_own h turn.words
+          (asked.outcome (rooms.file old)).journals name did.0 did.1)
+      | inr other ↦ other
+    ]
+
+    -- time goes on
+    later : IsOther asked.besides name
+        → clock_of disks (rooms.device old name) ≤ clock_of disks (rooms.device turn.room name)
+    later beside = elim (find_name asked.journals (asked.outcome (rooms.file old)).journals name) [
+      | inl none ↦ subst (λ (x : Option D). clock_of disks (rooms.device old name)
+          ≤ clock_of disks x) (sym (still h rooms disks outs errs image only contents bytes name old
+          turn is_modelled run (AreRecords h) (spoken_records h (command_of turn.words)) beside
+          none.0)) (omega arith)
+      | inr among ↦ elim (ended h rooms disks outs errs turn.words old turn.room turn.out
+          turn.out_after turn.err turn.err_after turn.status run) [
+            | inl a ↦ at HasMade (a.made is_modelled) among
+            | inr other ↦ elim other [
+              | inl failed ↦ at MayHaveMade (failed.made is_modelled) among
+              | inr starved ↦ at HasKept (starved.made is_modelled) among
+            ]
+          ]
+    ]
+      where
+        at : (How : Journaled → Leaving) → LeavesEach rooms disks old turn.room js How
+            → AreAmong js name (done_to js name)
+            → clock_of disks (rooms.device old name) ≤ clock_of disks (rooms.device turn.room name)
+        at How all among = (of_each (λ n d. Leaves disks (How d) (rooms.device old n)
+            (rooms.device turn.room n)) js name (done_to js name) all among).later
+
+    pub run_steps : ((did : Journaled) × DidWith h rooms disks outs errs old turn name did)
+        ⊎ IsOther asked.besides name → RunSteps h rooms disks outs errs old turn name
+    run_steps named =
+        let beside = not_beside named in
+        let left = leaves h rooms disks outs errs image only contents bytes name old turn
+        is_modelled run (AreRecords h) (spoken_records h (command_of turn.words)) beside in
+        record {
+          leaves = left;
+          goes_on = all_go_on ((owner h rooms disks outs errs name).run_event old turn)
+              (images_in h rooms disks outs errs old name)
+              (images_in h rooms disks outs errs turn.room name) left.leads;
+          stops = λ c at. all_go_on
+              (broke (did_to (program h rooms disks outs errs) name old turn))
+              (images_in h rooms disks outs errs old name) (λ d. d ≡ c) (left.moments c at);
+          as_read = λ c there. contents_image disks (rooms.device turn.room name) c image
+              (modelled_file disks (rooms.file turn.room name) (rooms.device turn.room name)
+              (contents turn.room name (run.back.is_modelled is_modelled)) ∙ there);
+          later = later beside;
+        }
+
+  pub runs_are_steps : RunsAreSteps h rooms disks outs errs
+  runs_are_steps old turn is_modelled run name named =
+      run_steps old turn is_modelled run name named

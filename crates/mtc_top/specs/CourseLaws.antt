@@ -1,6 +1,7 @@
 -- What holds of each course of a journal, from the run on that made or opened it.
 use Rattle.std.specs.Prelude.{◌≡◌, ◌⊎◌, ℕ, true, List, [], ◌∷◌, ◌++◌, length, Some, Ok}
 use Rattle.byte_formats.specs.Types.{HashFunction, Text}
+use Rattle.file_events.specs.Executions.{IsPrefix}
 use Rattle.disk_core.specs.declared.disk.Disk.{Ghosts as Disks}
 use Rattle.journal_core.specs.Format.{Represents}
 use Rattle.mtc_io.specs.declared.sink.Sink.{Ghosts as Sinks}
@@ -10,12 +11,14 @@ use Rattle.cosigner_core.specs.declared.settings.CosignerSettings.{CosignerSetti
 use Rattle.issuance_log.specs.Folds.{LogState, log_of}
 use Rattle.issuance_log.specs.Records.{item_in}
 use Rattle.issuance_log.specs.Settings.{Settings}
-use Rattle.node_history.specs.Laws.{Begins, HasItemAt, KeepsItems}
+use Rattle.node_history.specs.Laws.{HasItemAt, KeepsItems}
 use Rattle.node_history.specs.Rules.{IsReadAs, StartsWith, may_follow}
 use Rattle.node_history.specs.declared.start.NodeStart.{NodeStart}
 use Rattle.node_history.specs.declared.start.NodeStart.TheVariants.{Log, Cosigner}
+use Rattle.file_events.specs.Events.{HasReleased}
+use Rattle.mtc_command.specs.Made.{appended}
 use Rattle.mtc_top.specs.Courses.{Link, IsBegun, IsCourse, IsReached, IsRecovered, HasHeld, WasHeld}
-use Rattle.mtc_top.specs.Courses.{HasTurned, Turn, WasReleased, images_in}
+use Rattle.mtc_top.specs.Courses.{DidWith, HasTurned, IsHeard, OfEachTurn, Turn, events, images_in}
 
 -- These records begin with the first one of the node's journal, and the others may stand behind it.
 pub record AreOfParty (h : HashFunction) (start : NodeStart) (first : Text)
@@ -78,21 +81,28 @@ module _ {R S D O E : Type 0} (h : HashFunction) (rooms : Rooms R S D) (disks : 
   RecoveredListsGrow = OfCourses (λ name start first old links new. (list : List Text) (c : Text)
       → WasHeld h rooms disks outs errs name old links list
       → images_in h rooms disks outs errs new name c
-      → (found : List Text) × (Represents c found × Begins list found))
+      → (found : List Text) × (Represents c found × IsPrefix list found))
 
-  -- A run that handed a record out held it, as the last one behind those that were there.
+  -- It is so of each record that a run added of which a byte may have gone out, with those that
+  -- were there: the record is handed out.
+  abbrev pub OfReleased : Text → (List Text → Text → Type 0) → R → List (Link R O E) → Type 0
+  OfReleased name P = OfEachTurn h rooms disks outs errs (λ old turn. (list : List Text)
+      (body : Text) → DidWith h rooms disks outs errs old turn name (appended list body)
+      → IsHeard outs turn → P list body)
+
+  -- A run that handed a record out is an event that releases it, and held it, as the last one
+  -- behind those that were there.
   abbrev pub ReleasedWasHeld : Type 0
-  ReleasedWasHeld = OfCourses (λ name start first old links new. (list : List Text) (body : Text)
-      → WasReleased h rooms disks outs errs name old links list body
-      → WasHeld h rooms disks outs errs name old links (list ++ body ∷ []))
+  ReleasedWasHeld = OfCourses (λ name start first old links new. OfReleased name (λ list body.
+      HasReleased (events h rooms disks outs errs name old links) list body
+      × WasHeld h rooms disks outs errs name old links (list ++ body ∷ [])) old links)
 
   -- So where a record was handed out, each image stands for records that begin with those that were
   -- there and that one.
   abbrev pub ReleasedStand : Type 0
-  ReleasedStand = OfCourses (λ name start first old links new. (list : List Text) (body c : Text)
-      → WasReleased h rooms disks outs errs name old links list body
-      → images_in h rooms disks outs errs new name c
-      → (found : List Text) × (Represents c found × Begins (list ++ body ∷ []) found))
+  ReleasedStand = OfCourses (λ name start first old links new. (c : Text)
+      → images_in h rooms disks outs errs new name c → OfReleased name (λ list body.
+      (found : List Text) × (Represents c found × IsPrefix (list ++ body ∷ []) found)) old links)
 
   -- Each entry that a log had where a run found or made its records has its index in each log that
   -- may be recovered behind it, and so has its key.

@@ -1,10 +1,9 @@
-pub mod Nodes
 pub mod Facts
 pub mod Cited
 pub mod Concluded
 pub mod Run
-pub mod RunLaws
 pub mod Courses
+pub mod RunLaws
 pub mod Stops
 pub mod CourseLaws
 pub mod RoomLaws

@@ -2,6 +2,7 @@
 -- add, and what becomes of that record.
 use Rattle.std.specs.Prelude.{◌≡◌, List, [], ◌∷◌, ◌++◌, length, Some, Ok}
 use Rattle.byte_formats.specs.Types.{HashFunction, Text}
+use Rattle.file_events.specs.Executions.{IsPrefix}
 use Rattle.disk_core.specs.declared.disk.Disk.{Ghosts as Disks}
 use Rattle.journal_core.specs.Format.{Represents}
 use Rattle.mtc_io.specs.declared.sink.Sink.{Ghosts as Sinks}
@@ -26,7 +27,7 @@ use Rattle.mtc_cosigner.specs.CosignerOutcomes.{advanced_text, cosigned_text}
 use Rattle.mtc_cosigner.specs.KeygenOutcome.{lms_type, ots_type, public_line}
 use Rattle.mtc_authority.specs.IssueOutcome.{issued_text}
 use Rattle.mtc_authority.specs.Works.{IsLog}
-use Rattle.node_history.specs.Laws.{Begins, HasItemAt}
+use Rattle.node_history.specs.Laws.{HasItemAt}
 use Rattle.node_history.specs.declared.start.NodeStart.TheVariants.{Log}
 use Rattle.mtc_top.specs.AuditLaws.{HoldsText}
 use Rattle.mtc_top.specs.CourseLaws.{OfCourses, UsesKey}
@@ -144,4 +145,4 @@ module _ {R S D O E : Type 0} (h : HashFunction) (rooms : Rooms R S D) (disks : 
       → (found : List Text) × (Represents c found
       × OfEachTurn h rooms disks outs errs (OfHeard (cosign name file) (λ old turn.
       (signed : HasCosigned name file old turn)
-      × Begins (signed.list ++ signed.body ∷ []) found)) old links))
+      × IsPrefix (signed.list ++ signed.body ∷ []) found)) old links))

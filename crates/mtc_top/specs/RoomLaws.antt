@@ -10,8 +10,9 @@ use Rattle.node_history.specs.Nodes.{HistoryState}
 use Rattle.node_history.specs.Rules.{may_follow}
 use Rattle.node_history.specs.declared.start.NodeStart.{NodeStart}
 use Rattle.node_history.specs.declared.step.NodeStep.{NodeStep}
-use Rattle.mtc_top.specs.Courses.{Link, IsBegun, IsCourse, WentOut, images_in}
-use Rattle.mtc_top.specs.Nodes.{AllRepresentParty}
+use Rattle.file_events.specs.Events.{all_released}
+use Rattle.file_events.specs.Histories.{RepresentsPending}
+use Rattle.mtc_top.specs.Courses.{Link, IsBegun, IsCourse, events, images_in}
 
 module _ {R S D O E : Type 0} (h : HashFunction) (rooms : Rooms R S D) (disks : Disks D)
     (outs : Sinks O) (errs : Sinks E) (room : R) where
@@ -25,12 +26,12 @@ module _ {R S D O E : Type 0} (h : HashFunction) (rooms : Rooms R S D) (disks : 
     pub begun : IsBegun h rooms disks outs errs name start first old links
     pub course : IsCourse h rooms disks outs errs name old links room
 
-  -- Each image of the journal stands for the state, which handed out what went out.
+  -- Each image of the journal stands for the state, which handed out what was released.
   pub record StandsSo (journal : IsJournalOf) (state : HistoryState) : Type 0 where
-    pub stands : AllRepresentParty state journal.first
-        (images_in h rooms disks outs errs room journal.name)
-    pub handed : WentOut h rooms disks outs errs journal.name journal.old journal.links
-        (released_bodies state)
+    pub stands : (c : Text) → images_in h rooms disks outs errs room journal.name c
+        → RepresentsPending (journal.first ∷ state.settled) state.pending c
+    pub handed : released_bodies state
+        ≡ all_released (events h rooms disks outs errs journal.name journal.old journal.links)
 
   -- So it is of each journal and its state.
   abbrev pub EachStandsSo : List IsJournalOf → List HistoryState → Type 0

@@ -1,38 +1,48 @@
--- What follows of each run, and how it ends as steps of the nodes whose journals it works on.
-use Rattle.std.specs.Prelude.{◌≡◌, ◌≢◌, ◌≤◌, ◌⊎◌, ℕ, List, [], ◌∷◌, ◌++◌, None, codes, IfSome}
-use Rattle.std.specs.Prelude.{IsErr}
+-- What follows of each run, and what it is as steps of the nodes whose journals it works on.
+use Rattle.std.specs.Prelude.{◌≡◌, ◌≢◌, ◌<◌, ◌≤◌, ◌⊎◌, ℕ, true, false, List, [], ◌++◌, length}
+use Rattle.std.specs.Prelude.{Option, None, Some, IsErr, codes, slice_get}
 use Rattle.byte_formats.specs.Types.{HashFunction, Text}
 use Rattle.disk_core.specs.declared.disk.Disk.{Ghosts as Disks}
-use Rattle.journal_core.specs.Format.{Represents}
+use Rattle.file_events.specs.Events.{CrashStates, Event, broke, released_by}
+use Rattle.file_events.specs.Histories.{IsHistory}
+use Rattle.file_events.specs.Owners.{LeavesJournal, did_to}
+use Rattle.file_events.specs.Worlds.{breaks_off, clock_of, is_heard}
 use Rattle.mtc_io.specs.Counts.{Rose}
 use Rattle.mtc_io.specs.declared.sink.Sink.{Ghosts as Sinks}
 use Rattle.mtc_room.specs.declared.room.Room.{Ghosts as Rooms}
 use Rattle.mtc_words.specs.Words.{command_of, known_word}
 use Rattle.mtc_command.specs.Answers.{IsEarly}
 use Rattle.mtc_command.specs.Lines.{line_of}
-use Rattle.mtc_command.specs.Made.{Journaled, appended, started, untouched, Images, images_at}
-use Rattle.mtc_command.specs.Made.{images_since, moment_at}
-use Rattle.mtc_command.specs.Served.{OfEach}
-use Rattle.mtc_top.specs.Concluded.{Prints, PrintsPrefix, Reports}
-use Rattle.node_history.specs.Nodes.{HistoryState, fresh_party}
+use Rattle.mtc_command.specs.Made.{Journaled, untouched}
+use Rattle.mtc_command.specs.Served.{IsOther, OfEach}
+use Rattle.node_history.specs.Journals.{GoesOn}
+use Rattle.node_history.specs.Rules.{AreRecords, StartsWith}
 use Rattle.node_history.specs.declared.start.NodeStart.{NodeStart}
-use Rattle.mtc_top.specs.Nodes.{RepresentsParty, AllRepresentParty, EndsWell, TookSome}
-use Rattle.mtc_top.specs.Run.{journals, Answered, HasRun}
+use Rattle.node_history.specs.declared.step.NodeStep.{NodeStep}
+use Rattle.mtc_top.specs.Concluded.{Prints, PrintsPrefix, Reports}
+use Rattle.mtc_top.specs.Courses.{DidWith, HasTurned, Turn, images_from, images_in, owner, program}
+use Rattle.mtc_top.specs.Facts.{facts}
+use Rattle.mtc_top.specs.Run.{Answered, HasRun, journals}
+
+-- A byte went out, where the sink tells.
+abbrev pub TookSome : Option Text → Option Text → Type 0
+TookSome None new = ⊥
+TookSome (Some old) None = ⊥
+TookSome (Some old) (Some new) = length old < length new
+
+-- Each history that led to a journal with the crash states before continues to those now, and hands
+-- out what the event releases.
+abbrev pub AllGoOn : HashFunction → Event → CrashStates → CrashStates → Type 0
+AllGoOn h event before now = (starts : List NodeStart) (place : ℕ) (start : NodeStart)
+    (first : Text) (steps : List NodeStep) (out : List Text) → slice_get starts place ≡ Some start
+    → StartsWith start first → IsHistory (GoesOn h starts place first steps) out before
+    → IsHistory (GoesOn h starts place first steps) (out ++ released_by event) now
 
 module _ {R S D O E : Type 0} (h : HashFunction) (rooms : Rooms R S D) (disks : Disks D)
-    (outs : Sinks O) (errs : Sinks E) (words : List Text)
-    (old new : R) (out out' : O) (err err' : E) where
-  -- A byte went out.
-  abbrev pub took : Type 0
-  took = TookSome (outs.taken out) (outs.taken out')
-
-  -- It did its work, or a byte of it may have gone out: one did; or standard output failed, and
-  -- doesn't tell what it took.
-  abbrev pub is_heard : ℕ → Type 0
-  is_heard status = (status ≡ 0) ⊎ (took ⊎ ((status ≡ 6) × (outs.taken out ≡ None)))
-
+    (outs : Sinks O) (errs : Sinks E) where
   -- What follows of each run.
-  pub record RunShows (status : ℕ) : Type 0 where
+  pub record RunShows (words : List Text) (old new : R) (out out' : O) (err err' : E) (status : ℕ)
+      : Type 0 where
     -- The status is one of the eleven.
     pub known : status ≤ 10
     -- Status 1 says that the words are no command, and such words are answered by it.
@@ -53,54 +63,44 @@ module _ {R S D O E : Type 0} (h : HashFunction) (rooms : Rooms R S D) (disks : 
     pub silent : status ≢ 0 → status ≢ 3 → status ≢ 6 → status ≢ 10
         → Prints outs out out' []
     -- Of what goes out something is known from its first byte on, also of what may have gone out.
-    pub heard : is_heard status
+    pub heard : is_heard status (outs.taken out) (outs.taken out') ≡ true
         → Answered h rooms disks outs errs words old new out out' err err' status
+    -- Such a run didn't break off.
+    pub whole : is_heard status (outs.taken out) (outs.taken out') ≡ true
+        → breaks_off status ≡ false
 
-  -- The images of a name's file: before the run, after it, and at any moment since it began.
-  abbrev pub images_before : Text → Images
-  images_before name = images_at disks (rooms.device old name)
-
-  abbrev pub images_after : Text → Images
-  images_after name = images_at disks (rooms.device new name)
-
-  abbrev pub images_between : Text → Images
-  images_between name =
-      images_since disks (rooms.device new name) (moment_at disks (rooms.device old name))
-
-  -- The run as steps of a node, whose journal has this name.
-  pub record RunSteps (status : ℕ) (name : Text) (did : Journaled) : Type 0 where
-    -- It ends in one of five ways, for each state and first record for which all images stood
-    -- before.
-    pub ends : (n : HistoryState) (first : Text) → AllRepresentParty n first (images_before name)
-        → EndsWell h did status (is_heard status) n first (images_after name)
-        (images_between name)
-    -- What the room tells of the file stands for each state for which all images stand.
-    pub as_read : (n : HistoryState) (first : Text) → AllRepresentParty n first (images_after name)
-        → IfSome (rooms.file new name) (RepresentsParty n first)
-    -- Time goes on.
-    pub later : moment_at disks (rooms.device old name) ≤ moment_at disks (rooms.device new name)
-    -- Where it did its work or a byte may have gone out, each image holds the record.
-    pub recorded : (list : List Text) (body : Text) → did ≡ appended list body
-        → is_heard status → (c : Text) → images_after name c → Represents c (list ++ body ∷ [])
-    -- A new journal that was made is that of a node that has begun with this record, and no more.
-    pub begins : (status ≡ 0) ⊎ (status ≡ 6) → (body : Text) → did ≡ started body
-        → (start : NodeStart) → AllRepresentParty (fresh_party start) body (images_after name)
-
-module _ {R S D O E : Type 0} (h : HashFunction) (rooms : Rooms R S D) (disks : Disks D)
-    (outs : Sinks O) (errs : Sinks E) where
   -- So it is of each run.
   abbrev pub RunsShow : Type 0
   RunsShow = (words : List Text) (old new : R) (out out' : O) (err err' : E) (status : ℕ)
       → HasRun h rooms disks outs errs words old new out out' err err' status
-      → RunShows h rooms disks outs errs words old new out out' err err' status
+      → RunShows words old new out out' err err' status
 
-  -- And of each journal that a run works on, where the room tells its files.
+  -- The run as steps of the node whose journal has this name.
+  pub record RunSteps (old : R) (turn : Turn R O E) (name : Text) : Type 0 where
+    -- It is an event of the journal. Where the machine stops in the middle of it, what is left is
+    -- one of a run that broke off.
+    pub leaves : LeavesJournal (program h rooms disks outs errs) (AreRecords h) name old turn
+    -- So each history continues.
+    pub goes_on : AllGoOn h ((owner h rooms disks outs errs name).run_event old turn)
+        (images_in h rooms disks outs errs old name)
+        (images_in h rooms disks outs errs turn.room name)
+    pub stops : (c : Text) → images_from h rooms disks outs errs old turn.room name c
+        → AllGoOn h (broke (did_to (program h rooms disks outs errs) name old turn))
+        (images_in h rooms disks outs errs old name) (λ d. d ≡ c)
+    -- What the room tells of the file is an image.
+    pub as_read : (c : Text) → rooms.file turn.room name ≡ Some c
+        → images_in h rooms disks outs errs turn.room name c
+    -- Time goes on.
+    pub later : clock_of disks (rooms.device old name)
+        ≤ clock_of disks (rooms.device turn.room name)
+
+  -- So it is of each journal that a run works on, where the room tells its files; and of each other
+  -- name that isn't that of a file beside one.
   abbrev pub RunsAreSteps : Type 0
-  RunsAreSteps = (words : List Text) (old new : R) (out out' : O) (err err' : E) (status : ℕ)
-      → HasRun h rooms disks outs errs words old new out out' err err' status
-      → rooms.is_modelled old
-      → OfEach (RunSteps h rooms disks outs errs words old new out out' err err' status)
-      (journals h rooms disks outs errs words old new out out' err err')
+  RunsAreSteps = (old : R) (turn : Turn R O E) → rooms.is_modelled old
+      → HasTurned h rooms disks outs errs old turn → (name : Text)
+      → ((did : Journaled) × DidWith h rooms disks outs errs old turn name did)
+      ⊎ IsOther (facts h (command_of turn.words)).besides name → RunSteps old turn name
 
   -- A run of which a byte went out might have had a standard output that failed there: where only a
   -- front of what it wrote came through, it is a run with status 6, which leaves the same room.

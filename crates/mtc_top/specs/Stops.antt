@@ -4,7 +4,8 @@ use Rattle.byte_formats.specs.Types.{HashFunction, Text}
 use Rattle.disk_core.specs.declared.disk.Disk.{Ghosts as Disks}
 use Rattle.mtc_io.specs.declared.sink.Sink.{Ghosts as Sinks}
 use Rattle.mtc_room.specs.declared.room.Room.{Ghosts as Rooms}
-use Rattle.mtc_top.specs.Courses.{HasStopped, images_in}
+use Rattle.file_events.specs.Worlds.{LeavesStopped}
+use Rattle.mtc_top.specs.Courses.{images_in, program}
 
 module _ {R S D O E : Type 0} (h : HashFunction) (rooms : Rooms R S D) (disks : Disks D)
     (outs : Sinks O) (errs : Sinks E) (May : Text → Text → Type 0) (name : Text) where
@@ -17,5 +18,5 @@ module _ {R S D O E : Type 0} (h : HashFunction) (rooms : Rooms R S D) (disks : 
   -- stopped, and of this file it has left them.
   abbrev pub StopsLeaving : Text → R → R → Type 0
   StopsLeaving left old new = May name left → OthersAreDurable old
-      → HasStopped h rooms disks outs errs May old new
+      → LeavesStopped (program h rooms disks outs errs) May old new
       × ((c : Text) → images_in h rooms disks outs errs new name c → c ≡ left)

@@ -1,4 +1,4 @@
-use Rattle.mtc_top.proofs.RunLaws.{run_shows, run_steps}
+use Rattle.mtc_top.proofs.RunLaws.{run_shows, runs_are_steps}
 use Rattle.mtc_top.proofs.laws.law_runs_are_steps.Goals as goal
 
 pub returns-clause-shows : goal.returns-clause-shows
@@ -7,8 +7,6 @@ returns-clause-shows g c = λ words old new out out' err err' status run.
     old new out out' err err' status run
 
 pub returns-clause-steps : goal.returns-clause-steps
-returns-clause-steps g c = λ words old new out out' err err' status run is_modelled.
-    run_steps g.H.TreeHash.hash g.R.Room g.R.Dsk.Disk g.O.Sink g.E.Sink words
-    old new out out' err err' status run g.met.R.Dsk.Disk.reads_image
-    (λ name. g.met.R.Room.modelled_file old name is_modelled)
-    (λ name. g.met.R.Room.modelled_file new name (run.back.is_modelled is_modelled)) is_modelled
+returns-clause-steps g c = runs_are_steps g.H.TreeHash.hash g.R.Room g.R.Dsk.Disk g.O.Sink g.E.Sink
+    g.met.R.Dsk.Disk.reads_image g.met.R.Dsk.Disk.only_now g.met.R.Room.modelled_file
+    g.met.R.Dsk.Disk.contents_bytes

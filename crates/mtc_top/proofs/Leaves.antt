@@ -1,0 +1,477 @@
+-- What a run leaves of a journal is an event of it.
+use Rattle.std.proofs.Common.{◌≡◌, ◌≢◌, ◌⊎◌, inl, inr, ℕ, true, false, Bool, List, [], ◌∷◌, ◌++◌}
+use Rattle.std.proofs.Common.{◌||◌, ◌==◌, length, length-append, Option, None, Some, Result, Ok}
+use Rattle.std.proofs.Common.{Err, refl, sym, subst, ap, ◌∙◌, arith, rules, true≢false}
+use Rattle.std.proofs.Common.{if◌then◌else◌}
+use Rattle.std.proofs.lemmas.Bool.{eq-eqb, ne_eqb, or_left, or_right}
+use Rattle.std.proofs.lemmas.Slice.Eq.{bytes_eq-Decides}
+use Rattle.std.specs.Str.{bytes_eq}
+use Rattle.byte_formats.specs.Places.{IsBytes}
+use Rattle.byte_formats.specs.Types.{HashFunction}
+use Rattle.disk_core.specs.Disk.{NoNew}
+use Rattle.disk_core.specs.declared.disk.Disk.{Ghosts as Disks}
+use Rattle.file_events.specs.Events.{CrashStates, Done, EventHolds, FirstHolds, HalfDone, Happens}
+use Rattle.file_events.specs.Events.{MayAppend, WasFound}
+use Rattle.file_events.specs.Owners.{LeavesJournal, ServesJournal}
+use Rattle.file_events.specs.Worlds.{breaks_off, clock_of, done_to, event_with, heard_of}
+use Rattle.file_events.specs.Worlds.{states_at, states_since, turned}
+use Rattle.file_events.proofs.Records.{held_valid, no_records, none_is, one_list}
+use Rattle.journal_core.specs.Format.{Represents, RepresentsEither}
+use Rattle.mtc_io.specs.declared.sink.Sink.{Ghosts as Sinks}
+use Rattle.mtc_room.specs.Room.{ModelsFile}
+use Rattle.mtc_room.specs.declared.room.Room.{Ghosts as Rooms}
+use Rattle.mtc_words.specs.Commands.{CommandValue, member}
+use Rattle.mtc_words.specs.Words.{command_of, known_word}
+use Rattle.mtc_words.specs.declared.error.WordError.{WordError}
+use Rattle.mtc_command.specs.Made.{HasKept, HasMade, Journaled, Kept, Leaves, MayHaveMade, appended}
+use Rattle.mtc_command.specs.Made.{device_contents, reads, started, untouched}
+use Rattle.mtc_command.specs.Served.{IsOther, Journals, LeavesEach, OfEach, done_with}
+use Rattle.mtc_command.specs.Served.{first_journaled, rest_journaled}
+use Rattle.mtc_command.specs.Valid.{LeavesValid}
+use Rattle.mtc_command.proofs.Made.{OnlyNow, ReadsImage}
+use Rattle.mtc_command.proofs.Served.{other_both}
+use Rattle.node_history.specs.Rules.{AreRecords}
+use Rattle.mtc_top.specs.Courses.{AreAmong, HasHeld, HasTurned, Link, Turn, events, images_from}
+use Rattle.mtc_top.specs.Courses.{images_in, owner, program}
+use Rattle.mtc_top.specs.Facts.{facts, facts_of}
+use Rattle.mtc_top.proofs.Beside.{IsOwn, journal_own, none_beside}
+use Rattle.mtc_top.proofs.Commands.{spoken_records}
+use Rattle.mtc_top.proofs.Opened.{Finds, IsFound, IsNewAt, spoken_finds, spoken_new}
+use Rattle.mtc_top.proofs.Runs.{ended, not5_of, not8_of}
+
+-- ---- the journals of a run
+
+-- a name is none of these, or it is that of the journal with which this was done
+pub find_name : (names : List (List ℕ)) (dids : List Journaled) (name : List ℕ)
+    → (IsOther names name × (done_to (done_with names dids) name ≡ untouched))
+    ⊎ AreAmong (done_with names dids) name (done_to (done_with names dids) name)
+find_name [] dids name = inl (tt, refl)
+find_name (other ∷ others) dids name =
+    go (bytes_eq other name) refl (find_name others (rest_journaled dids) name)
+  where
+    go : (b : Bool) → bytes_eq other name ≡ b
+        → (IsOther others name
+        × (done_to (done_with others (rest_journaled dids)) name ≡ untouched))
+        ⊎ AreAmong (done_with others (rest_journaled dids)) name
+        (done_to (done_with others (rest_journaled dids)) name)
+        → (IsOther (other ∷ others) name × ((if b then first_journaled dids
+        else done_to (done_with others (rest_journaled dids)) name) ≡ untouched))
+        ⊎ AreAmong (done_with (other ∷ others) dids) name (if b then first_journaled dids
+        else done_to (done_with others (rest_journaled dids)) name)
+    go true is rest = inr (inl ((bytes_eq-Decides other name).0 is, refl))
+    go false is rest = elim rest [
+      | inl none ↦ inl (
+        (
+          λ same. absurd (true≢false (sym ((bytes_eq-Decides other name).1 (sym same)) ∙ is)),
+          none.0,
+        ),
+        none.1,
+      )
+      | inr there ↦ inr (inr there)
+    ]
+
+pub of_each : (P : List ℕ → Journaled → Type 0) (journals : Journals) (name : List ℕ)
+    (did : Journaled) → OfEach P journals → AreAmong journals name did → P name did
+of_each P [] name did all among = absurd among
+of_each P (j ∷ js) name did all among = elim among [
+  | inl here ↦ subst (λ (d : Journaled). P name d) here.1
+      (subst (λ (n : List ℕ). P n j.1) here.0 all.0)
+  | inr there ↦ of_each P js name did all.1 there
+]
+
+-- a command works on one journal at most, so what is done with a journal is one thing
+abbrev HasOneAtMost : List (List ℕ) → Type 0
+HasOneAtMost [] = Unit {0}
+HasOneAtMost (name ∷ []) = Unit {0}
+HasOneAtMost (name ∷ (other ∷ rest)) = ⊥
+
+one_named : (h : HashFunction) (command : CommandValue)
+    → HasOneAtMost (facts_of h command).journals
+one_named h (member file) = tt
+one_named h other = tt
+
+one_spoken : (h : HashFunction) (r : Result CommandValue WordError)
+    → HasOneAtMost (facts h r).journals
+one_spoken h (Ok command) = one_named h command
+one_spoken h (Err why) = tt
+
+one_done : (names : List (List ℕ)) (dids : List Journaled) (name : List ℕ) (did : Journaled)
+    → HasOneAtMost names → AreAmong (done_with names dids) name did
+    → done_to (done_with names dids) name ≡ did
+one_done [] dids name did one among = absurd among
+one_done (other ∷ []) dids name did one among = elim among [
+  | inl here ↦ ap (λ (b : Bool). if b then first_journaled dids else untouched)
+      ((bytes_eq-Decides other name).1 here.0) ∙ here.1
+  | inr there ↦ absurd there
+]
+one_done (other ∷ (next ∷ rest)) dids name did one among = absurd one
+
+pub did_so : {R S D O E : Type 0} (h : HashFunction) (rooms : Rooms R S D) (disks : Disks D)
+    (outs : Sinks O) (errs : Sinks E) (name : List ℕ) (old : R) (turn : Turn R O E)
+    (did : Journaled) → AreAmong ((program h rooms disks outs errs).journals old turn) name did
+    → done_to ((program h rooms disks outs errs).journals old turn) name ≡ did
+did_so {R} {S} {D} {O} {E} h rooms disks outs errs name old turn did among =
+    one_done (facts h (command_of turn.words)).journals
+    ((facts h (command_of turn.words)).outcome (rooms.file old)).journals name did
+    (one_spoken h (command_of turn.words)) among
+
+-- ---- files
+
+-- a file has a crash state
+pub some_image : {D : Type 0} (g : Disks D) (file : Option (List ℕ)) (x : Option D)
+    → ReadsImage g → ModelsFile g.contents file x → (c : List ℕ) × states_at g x c
+some_image g file None image models = ([], refl)
+some_image g None (Some d) image models = absurd (grind (rules, models))
+some_image g (Some b) (Some d) image models = (b, image d b models.0)
+
+-- where there is no file it is empty
+none_left : {D : Type 0} (g : Disks D) (file : Option (List ℕ)) (x : Option D) (c : List ℕ)
+    → ModelsFile g.contents file x → file ≡ None → states_at g x c → c ≡ []
+none_left g file None c models none is = is
+none_left g None (Some d) c models none is = absurd (grind (rules, models))
+none_left g (Some b) (Some d) c models none is = absurd cc
+
+-- what a device tells is one, and what the room tells of the file
+pub contents_image : {D : Type 0} (g : Disks D) (x : Option D) (c : List ℕ) → ReadsImage g
+    → device_contents g x ≡ Some c → states_at g x c
+contents_image g None c image is = absurd cc
+contents_image g (Some d) c image is = image d c is
+
+pub modelled_file : {D : Type 0} (g : Disks D) (file : Option (List ℕ)) (x : Option D)
+    → ModelsFile g.contents file x → device_contents g x ≡ file
+modelled_file g file None models = sym models
+modelled_file g file (Some d) models = models.0
+
+pub file_bytes : {D : Type 0} (g : Disks D) (file : Option (List ℕ)) (x : Option D) (c : List ℕ)
+    → ((d : D) (b : List ℕ) → g.contents d ≡ Some b → IsBytes b) → ModelsFile g.contents file x
+    → file ≡ Some c → IsBytes c
+file_bytes g file None c bytes models is = absurd cc
+file_bytes g file (Some d) c bytes models is = bytes d c (models.0 ∙ is)
+
+-- of this moment there are the crash states of now
+now_of : {D : Type 0} (g : Disks D) → OnlyNow g → (x : Option D) (c : List ℕ)
+    → states_since g x (clock_of g x) c → states_at g x c
+now_of g only None c is = is
+now_of g only (Some d) c is = only d c is
+
+-- one record more is another list
+one_longer : (list : List (List ℕ)) (body : List ℕ) → list ≡ list ++ body ∷ [] → ⊥
+one_longer list body is = omega (arith, ap length is, length-append list (body ∷ []))
+
+-- ---- an event of a journal that isn't opened
+
+idle_happens : (Valid : List (List ℕ) → Type 0) (before now : CrashStates) (broken heard : Bool)
+    → NoNew before now → Happens Valid (event_with broken heard untouched) before now
+idle_happens Valid before now true heard kept = inl kept
+idle_happens Valid before now false heard kept = kept
+
+idle_holds : (list : List (List ℕ)) (broken heard : Bool)
+    → EventHolds list (event_with broken heard untouched) → ⊥
+idle_holds list true heard held = held
+idle_holds list false heard held = none_is list held
+
+module _ {R S D O E : Type 0} (h : HashFunction) (rooms : Rooms R S D) (disks : Disks D)
+    (outs : Sinks O) (errs : Sinks E) (image : ReadsImage disks) (only : OnlyNow disks)
+    (contents : (room : R) (name : List ℕ) → rooms.is_modelled room
+    → ModelsFile disks.contents (rooms.file room name) (rooms.device room name))
+    (bytes : (d : D) (b : List ℕ) → disks.contents d ≡ Some b → IsBytes b) where
+  abbrev Js : R → Turn R O E → Journals
+  Js = (program h rooms disks outs errs).journals
+
+  -- what a run did with the journal of a name
+  abbrev Done' : List ℕ → R → Turn R O E → Journaled
+  Done' name old turn = done_to (Js old turn) name
+
+  abbrev pub Rules : Turn R O E → List (List ℕ) → Type 0
+  Rules turn = (facts h (command_of turn.words)).Valid
+
+  -- ---- a run that worked on the journal, by rules that follow from those of its command
+
+  module _ (name : List ℕ) (old : R) (turn : Turn R O E) (is_modelled : rooms.is_modelled old)
+      (run : HasTurned h rooms disks outs errs old turn) (Valid : List (List ℕ) → Type 0)
+      (keeps : (list : List (List ℕ)) → Rules turn list → Valid list) where
+    abbrev Before : CrashStates
+    Before = images_in h rooms disks outs errs old name
+
+    abbrev Now : CrashStates
+    Now = images_in h rooms disks outs errs turn.room name
+
+    abbrev Between : CrashStates
+    Between = images_from h rooms disks outs errs old turn.room name
+
+    some : (c : List ℕ) × Now c
+    some = some_image disks (rooms.file turn.room name) (rooms.device turn.room name) image
+        (contents turn.room name (run.back.is_modelled is_modelled))
+
+    -- the file that was read is a crash state
+    told : (c : List ℕ) → rooms.file old name ≡ Some c → device_contents disks
+        (rooms.device old name) ≡ Some c
+    told c there = modelled_file disks (rooms.file old name) (rooms.device old name)
+        (contents old name is_modelled) ∙ there
+
+    found : (list : List (List ℕ)) → IsFound (Rules turn) (rooms.file old name) list
+        → WasFound Valid Before list
+    found list is = record {
+      bytes = is.bytes;
+      state = contents_image disks (rooms.device old name) is.bytes image (told is.bytes is.there);
+      stands = is.stands;
+      valid = keeps list is.valid;
+    }
+
+    may_append : (list : List (List ℕ)) (body : List ℕ)
+        → IsFound (Rules turn) (rooms.file old name) list → Rules turn (list ++ body ∷ [])
+        → MayAppend Valid list body Before
+    may_append list body is valid =
+        record { found = found list is; valid = keeps (list ++ body ∷ []) valid }
+
+    empty_before : (body : List ℕ) → IsNewAt (rooms.file old) name (started body)
+        → NoNew (λ c. c ≡ []) Before
+    empty_before body is_new c at = elim is_new [
+      | inl on ↦ absurd on
+      | inr none ↦ none_left disks (rooms.file old name) (rooms.device old name) c
+          (contents old name is_modelled) none at
+    ]
+
+    -- where a record was added nothing would be kept
+    added_valid : (list : List (List ℕ)) (body : List ℕ)
+        → IsFound (Rules turn) (rooms.file old name) list
+        → LeavesValid rooms disks (Rules turn) old turn.room name (appended list body)
+        → ((c : List ℕ) → Now c → Represents c (list ++ body ∷ []))
+        → Rules turn (list ++ body ∷ [])
+    added_valid list body is valid now = elim valid [
+      | inl kept ↦ absurd (one_longer list body (one_list is.bytes list (list ++ body ∷ [])
+          is.stands (now is.bytes (contents_image disks (rooms.device turn.room name) is.bytes image
+          (kept.1 ∙ told is.bytes is.there)))))
+      | inr adds ↦ adds
+    ]
+
+    made_valid : (body : List ℕ) → NoNew (λ c. c ≡ []) Before
+        → LeavesValid rooms disks (Rules turn) old turn.room name (started body)
+        → ((c : List ℕ) → Now c → Represents c (body ∷ [])) → Rules turn (body ∷ [])
+    made_valid body empty valid now = elim valid [
+      | inl kept ↦ absurd (no_records some.0 (body ∷ [])
+          (empty some.0 (kept.0.images.now_is some.0 some.1)) (now some.0 some.1))
+      | inr adds ↦ adds
+    ]
+
+    module _ (c : List ℕ) where
+      -- what is left at some moment
+      abbrev Left : Journaled → Type 0
+      Left did = NoNew Before (λ d. d ≡ c) ⊎ HalfDone Valid did Before (λ d. d ≡ c)
+
+      past : (did : Journaled) → Before c → Left did
+      past did at = inl (λ d same. subst Before (sym same) at)
+
+      either : (list : List (List ℕ)) (body : List ℕ) → MayAppend Valid list body Before
+          → Before c ⊎ RepresentsEither list body c → Left (appended list body)
+      either list body may is = elim is [
+        | inl at ↦ past (appended list body) at
+        | inr new ↦ inr (may, λ d same. subst (RepresentsEither list body) (sym same) new)
+      ]
+
+    -- by what the run knows of the journal
+    module _ (did : Journaled) where
+      pub record Knows : Type 0 where
+        pub finds : Finds (Rules turn) (rooms.file old name) did
+        pub is_new : IsNewAt (rooms.file old) name did
+        pub valid : LeavesValid rooms disks (Rules turn) old turn.room name did
+
+    -- it came to its end
+    done : (did : Journaled) → Knows did → HasMade did Before Now Between
+        → Done Valid did Before Now
+    done untouched knows made = made.now_is
+    done (reads list) knows made = (found list knows.finds, made.now_is)
+    done (appended list body) knows made = (
+      may_append list body knows.finds (added_valid list body knows.finds knows.valid made.now_is),
+      made.now_is,
+    )
+    done (started body) knows made =
+        let empty = empty_before body knows.is_new in
+        (empty, (keeps (body ∷ []) (made_valid body empty knows.valid made), made))
+
+    done_then : (did : Journaled) → Knows did → HasMade did Before Now Between → (c : List ℕ)
+        → Between c → Left c did
+    done_then untouched knows made c at = past c untouched (made.since_is c at)
+    done_then (reads list) knows made c at = past c (reads list) (made.since_is c at)
+    done_then (appended list body) knows made c at =
+        either c list body (may_append list body knows.finds
+        (added_valid list body knows.finds knows.valid made.now_is)) (made.since_is c at)
+    done_then (started body) knows made c at = inr (empty_before body knows.is_new)
+
+    -- the room failed
+    half : (did : Journaled) → Knows did → MayHaveMade did Before Now Between
+        → NoNew Before Now ⊎ HalfDone Valid did Before Now
+    half untouched knows made = inl made.now_is
+    half (reads list) knows made = inl made.now_is
+    half (appended list body) knows made = elim knows.valid [
+      | inl kept ↦ inl kept.0.images.now_is
+      | inr adds ↦ elim made [
+        | inl kept ↦ inl kept.now_is
+        | inr may ↦ inr (may_append list body knows.finds adds, may.now_is)
+      ]
+    ]
+    half (started body) knows made = inr (empty_before body knows.is_new)
+
+    half_then : (did : Journaled) → Knows did → MayHaveMade did Before Now Between → (c : List ℕ)
+        → Between c → Left c did
+    half_then untouched knows made c at = past c untouched (made.since_is c at)
+    half_then (reads list) knows made c at = past c (reads list) (made.since_is c at)
+    half_then (appended list body) knows made c at = elim knows.valid [
+      | inl kept ↦ past c (appended list body) (kept.0.images.since_is c at)
+      | inr adds ↦ elim made [
+        | inl kept ↦ past c (appended list body) (kept.since_is c at)
+        | inr may ↦ either c list body (may_append list body knows.finds adds) (may.since_is c at)
+      ]
+    ]
+    half_then (started body) knows made c at = inr (empty_before body knows.is_new)
+
+    -- by its status
+    module _ (did : Journaled) (among : AreAmong (Js old turn) name did) where
+      knows : Knows did
+      knows = record {
+        finds = of_each (λ n d. Finds (Rules turn) (rooms.file old n) d) (Js old turn) name did
+            (spoken_finds h (rooms.file old) (λ n c is. file_bytes disks (rooms.file old n)
+            (rooms.device old n) c bytes (contents old n is_modelled) is)
+            (command_of turn.words)) among;
+        is_new = of_each (IsNewAt (rooms.file old)) (Js old turn) name did
+            (spoken_new h (command_of turn.words) (rooms.file old)) among;
+        valid = of_each (LeavesValid rooms disks (Rules turn) old turn.room) (Js old turn) name did
+            (run.valid is_modelled) among;
+      }
+
+      record Goes : Type 0 where
+        pub happens : Happens Valid (event_with (breaks_off turn.status)
+            (heard_of (program h rooms disks outs errs) turn) did) Before Now
+        pub moments : (c : List ℕ) → Between c → Left c did
+
+      abbrev Broken : Bool → Type 0
+      Broken b = Happens Valid (event_with b (heard_of (program h rooms disks outs errs) turn) did)
+          Before Now
+
+      left_so : (How : Journaled → CrashStates → CrashStates → CrashStates → Type 0)
+          → LeavesEach rooms disks old turn.room (Js old turn) How → How did Before Now Between
+      left_so How all = (of_each (λ n d. Leaves disks (How d) (rooms.device old n)
+          (rooms.device turn.room n)) (Js old turn) name did all among).images
+
+      goes : Goes
+      goes = elim (ended h rooms disks outs errs turn.words old turn.room turn.out turn.out_after
+          turn.err turn.err_after turn.status run) [
+            | inl a ↦
+                (let made = left_so HasMade (a.made is_modelled) in
+                let not5 = not5_of outs errs (known_word turn.words) turn.out turn.out_after
+                turn.err turn.err_after a.reply turn.status a.concludes in
+                let not8 = not8_of outs errs (known_word turn.words) turn.out turn.out_after
+                turn.err turn.err_after a.reply turn.status a.concludes in record {
+                  happens = subst Broken (sym (ap (λ (b : Bool). b || (turn.status == 8))
+                      (ne_eqb turn.status 5 not5) ∙ ne_eqb turn.status 8 not8))
+                      (done did knows made);
+                  moments = done_then did knows made;
+                })
+            | inr other ↦ elim other [
+              | inl failed ↦
+                  (let made = left_so MayHaveMade (failed.made is_modelled) in record {
+                    happens = subst Broken (sym (or_left (turn.status == 5) (turn.status == 8)
+                        (eq-eqb turn.status 5 failed.code))) (half did knows made);
+                    moments = half_then did knows made;
+                  })
+              | inr starved ↦
+                  (let kept : Kept Before Now Between
+                  = left_so HasKept (starved.made is_modelled) in record {
+                    happens = subst Broken (sym (or_right (turn.status == 5) (turn.status == 8)
+                        (eq-eqb turn.status 8 starved.code))) (inl kept.now_is);
+                    moments = λ c at. past c did (kept.since_is c at);
+                  })
+            ]
+          ]
+
+    -- where it didn't work on the journal
+    module _ (beside : IsOther (facts h (command_of turn.words)).besides name)
+        (other : IsOther (facts h (command_of turn.words)).journals name) where
+      pub still : rooms.device turn.room name ≡ rooms.device old name
+      still = (run.back.others name (other_both (facts h (command_of turn.words)).besides
+          (facts h (command_of turn.words)).journals name beside other)).disk
+
+      still_now : NoNew Before Now
+      still_now c at = subst (λ (x : Option D). states_at disks x c) still at
+
+      still_then : (c : List ℕ) → Between c → Before c
+      still_then c at = now_of disks only (rooms.device old name) c
+          (subst (λ (x : Option D). states_since disks x (clock_of disks (rooms.device old name)) c)
+          still at)
+
+    pub leaves : IsOther (facts h (command_of turn.words)).besides name
+        → LeavesJournal (program h rooms disks outs errs) Valid name old turn
+    leaves beside = elim (find_name (facts h (command_of turn.words)).journals
+        ((facts h (command_of turn.words)).outcome (rooms.file old)).journals name) [
+          | inl none ↦ record {
+            leads = record {
+              some = some;
+              happens = subst (λ (d : Journaled). Happens Valid (event_with (breaks_off turn.status)
+                  (heard_of (program h rooms disks outs errs) turn) d) Before Now) (sym none.1)
+                  (idle_happens Valid Before Now (breaks_off turn.status)
+                  (heard_of (program h rooms disks outs errs) turn) (still_now beside none.0));
+            };
+            moments = λ c at. record {
+              some = (c, refl);
+              happens = past c (Done' name old turn) (still_then beside none.0 c at);
+            };
+          }
+          | inr among ↦
+              (let is = goes (Done' name old turn) among in record {
+                leads = record { some = some; happens = is.happens };
+                moments = λ c at. record { some = (c, refl); happens = is.moments c at };
+              })
+        ]
+
+  -- ---- the journal of a run that held records
+
+  module _ (name : List ℕ) (old : R) (turn : Turn R O E) where
+    pub held_among : (list : List (List ℕ)) → HasHeld h rooms disks outs errs name old turn list
+        → AreAmong (Js old turn) name (Done' name old turn)
+    held_among list held = elim (find_name (facts h (command_of turn.words)).journals
+        ((facts h (command_of turn.words)).outcome (rooms.file old)).journals name) [
+          | inl none ↦ absurd (idle_holds list (breaks_off turn.status)
+              (heard_of (program h rooms disks outs errs) turn)
+              (subst (λ (d : Journaled). EventHolds list (event_with (breaks_off turn.status)
+              (heard_of (program h rooms disks outs errs) turn) d)) none.1 held))
+          | inr among ↦ among
+        ]
+
+    -- its name isn't that of a tile file
+    pub held_own : (list : List (List ℕ)) → HasHeld h rooms disks outs errs name old turn list
+        → IsOwn name
+    held_own list held = journal_own h turn.words
+        ((facts h (command_of turn.words)).outcome (rooms.file old)).journals name
+        (Done' name old turn) (held_among list held)
+
+    -- the records keep to the rules of the command
+    pub held_rules : (list : List (List ℕ)) → rooms.is_modelled old
+        → HasTurned h rooms disks outs errs old turn
+        → HasHeld h rooms disks outs errs name old turn list → Rules turn list
+    held_rules list is_modelled run held =
+        held_valid (Rules turn) list ((owner h rooms disks outs errs name).run_event old turn)
+        (images_in h rooms disks outs errs old name)
+        (images_in h rooms disks outs errs turn.room name) held
+        (leaves name old turn is_modelled run (Rules turn) (λ l is. is)
+        (none_beside h (command_of turn.words) name (held_own list held))).leads
+
+  -- in a course the first run has such a name
+  pub first_own : (name : List ℕ) (list : List (List ℕ)) (old : R) (links : List (Link R O E))
+      → FirstHolds list (events h rooms disks outs errs name old links) → IsOwn name
+  first_own name list old [] held = absurd held
+  first_own name list old (turned turn ∷ links) held = held_own name old turn list held
+  first_own name list old (other ∷ links) held = absurd held
+
+  -- runs leave of each journal what they have to leave
+  pub serves : (name : List ℕ) → IsOwn name
+      → ServesJournal (program h rooms disks outs errs) (AreRecords h) name
+  serves name own = record {
+    rooms = record {
+      modelled = λ old run is_modelled is. is.back.is_modelled is_modelled;
+      some = λ room n is_modelled. some_image disks (rooms.file room n) (rooms.device room n) image
+          (contents room n is_modelled);
+    };
+    leaves = λ old turn is_modelled is. leaves name old turn is_modelled is (AreRecords h)
+        (spoken_records h (command_of turn.words))
+        (none_beside h (command_of turn.words) name own);
+  }
