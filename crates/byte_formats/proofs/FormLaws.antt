@@ -23,21 +23,21 @@ begins_with-other byte (first ∷ rest) h = ne_eqb first byte h
 
 -- ---- steps
 
--- Behind no text is the place itself.
+-- After no bytes the position is the same.
 pub none_behind : (a : At) → a ≡ record { place = a.place + 0; rest = a.rest }
 none_behind a =
     let same : a.place ≡ a.place + 0 = omega arith in
     let at_place : ℕ → At = λ n. record { place = n; rest = a.rest } in
     ap at_place same
 
--- A text behind which nothing is left is all of it.
+-- Bytes after which nothing is left are all of the input.
 pub Stands-all : (a : At) (x : Text) (b : At) → Stands a x b → b.rest ≡ [] → a.rest ≡ x
 Stands-all a x b s none = s.parts ∙ (ap (λ (t : Text). x ++ t) none ∙ append-nil x)
 
 abbrev answered : {A : Type 0} (E : Type 0) → A → Result A E
 answered E x = Ok x
 
--- Where a value is all there was, it was read, and nothing is left.
+-- If a value is all there was, it was read, and nothing is left.
 whole_ok : {X E : Type 0} (r : Result (X × At) E) (x : X) → whole_of r ≡ Some x
     → (b : At) × (r ≡ Ok (x, b)) × (b.rest ≡ [])
 whole_ok (Err d) x e = absurd cc
@@ -73,7 +73,7 @@ module _ {X E : Type 0} {encode : X → Text} {Fits : X → Type 0} {Follows : T
       → IsForm encode Fits' Follows read
   fits_form to from = said_form to from (λ rest q. q)
 
-  -- Another spelling of the same bytes.
+  -- Another encoding of the same bytes.
   pub encoded_form : {encode' : X → Text} → ((x : X) → Fits x → encode x ≡ encode' x)
       → IsForm encode' Fits Follows read
   encoded_form same = record {
@@ -87,14 +87,14 @@ module _ {X E : Type 0} {encode : X → Text} {Fits : X → Type 0} {Follows : T
 
   -- ---- to the end of the bytes
 
-  -- What is read to the end is spelled by all of the bytes.
+  -- What is read to the end is encoded by all of the bytes.
   pub to_end_takes : (a : At) (x : X) (b : At) → IsBytes a.rest → read a ≡ Ok (x, b)
       → b.rest ≡ [] → (a.rest ≡ encode x) × Fits x
   to_end_takes a x b h e none =
       let t = form.takes a x b h e in
       (Stands-all a (encode x) b t.0 none, t.1)
 
-  -- A spelling is read to its end.
+  -- An encoding is read to its end.
   pub to_end_again : Follows [] → (x : X) (place : ℕ) → Fits x
       → read (record { place = place; rest = encode x })
       ≡ Ok (x, record { place = place + length (encode x); rest = [] })
@@ -111,7 +111,7 @@ module _ {X E : Type 0} {encode : X → Text} {Fits : X → Type 0} {Follows : T
       → whole_of (read (record { place = place; rest = encode x })) ≡ Some x
   whole_again nil x p f = ap whole_of (to_end_again nil x p f)
 
-  -- ---- what a form says of its spellings
+  -- ---- what a form says of its encodings
 
   same_text : (x y : X) (s t : Text) → Fits x → Fits y → Follows s → Follows t
       → encode x ++ s ≡ encode y ++ t → (x ≡ y) × (s ≡ t)
@@ -123,7 +123,7 @@ module _ {X E : Type 0} {encode : X → Text} {Fits : X → Type 0} {Follows : T
       ∙ form.again y 0 t fy ft)) in
       (ap (λ (v : X × At). v.0) e, ap (λ (v : X × At). v.1.rest) e)
 
-  -- One value has one spelling: where nothing follows, equal spellings are of equal values.
+  -- One value has one encoding: where nothing follows, equal encodings are of equal values.
   pub one_value : Follows [] → (x y : X) → Fits x → Fits y → encode x ≡ encode y → x ≡ y
   one_value nil x y fx fy same =
       (same_text x y [] [] fx fy nil nil (ap (λ (u : Text). u ++ []) same)).0
@@ -132,7 +132,7 @@ module _ {X E : Type 0} {encode : X → Text} {Fits : X → Type 0} {Follows : T
 
   module _ {Y : Type 0} {encode' : Y → Text} {Fits' : Y → Type 0} {Follows' : Text → Type 0}
       {read' : Reading Y E} (second : IsForm encode' Fits' Follows' read') where
-    -- Two values, one behind the other.
+    -- Two values, one after the other.
     pub both_form : ((y : Y) (rest : Text) → Fits' y → Follows' rest → Follows (encode' y ++ rest))
         → IsForm (both encode encode') (FitsBoth Fits Fits') Follows' (both_at read read')
     both_form follows = record {
@@ -208,7 +208,7 @@ module _ {X E : Type 0} {encode : X → Text} {Fits : X → Type 0} {Follows : T
 
   module _ (byte : ℕ)
       (begins : (x : X) (rest : Text) → Fits x → begins_with byte (encode x ++ rest) ≡ true) where
-    -- A value whose spelling begins with a byte.
+    -- A value whose encoding begins with a byte.
     pub headed_form : (fault : E) → IsForm encode Fits Follows (headed_at byte fault read)
     headed_form fault = record {
       takes = λ a x b h e.
@@ -248,7 +248,7 @@ pub then_form : {X Y E : Type 0} {encode : X → Text} {Fits : X → Type 0} {re
     → IsForm (both encode encode') (FitsBoth Fits Fits') Follows' (both_at read read')
 then_form first second = both_form first second (λ y rest f q. tt)
 
--- Where a form has its own end, no spelling begins another one.
+-- No encoding of a form that has its own end begins another one.
 pub one_form : {X E : Type 0} {encode : X → Text} {Fits : X → Type 0} {read : Reading X E}
     → IsForm encode Fits Anything read
     → (x y : X) (s t : Text) → Fits x → Fits y → encode x ++ s ≡ encode y ++ t → (x ≡ y) × (s ≡ t)

@@ -144,7 +144,7 @@ module _ {X E : Type 0} {encode : X → Text} {Fits : X → Type 0} {read : Read
         (λ a. keyed read (length a.rest) [] a)
     keyed_form = each_form no_key (λ keys. form) (λ keys. some) []
 
-    -- Values up to the end, each spelled by at least one byte and with an end of its own.
+    -- Values up to the end, each encoded by at least one byte and with an end of its own.
     pub many_form : IsForm (flat_map encode) (AllByRecursion Fits) Nothing (up_to_end read)
     many_form = record {
       takes = λ a xs b h e.

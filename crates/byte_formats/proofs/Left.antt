@@ -1,4 +1,4 @@
--- Values one behind the other, up to the first that doesn't read.
+-- Values one after the other, up to the first that doesn't read.
 use Rattle.std.proofs.Common.{◌≡◌, ℕ, zero, suc, ◌+◌, ◌≤◌, Bool, List, [], ◌∷◌, length, Result, Ok}
 use Rattle.std.proofs.Common.{Err, refl, sym, ap, subst, ◌∙◌, arith}
 use Rattle.std.specs.Prelude.{if◌then◌else◌}
@@ -44,7 +44,7 @@ module _ {X E : Type 0} {least : ℕ} {read : Reading X E} (takes : Takes least 
         subst P (ok_is E (f s.0.0, s.0.1) (y, b) s.2) (takes.less a s.0.0 s.0.1 s.1);
   }
 
-  -- Two values, one behind the other.
+  -- Two values, one after the other.
   pub then_takes : {Y : Type 0} {more : ℕ} {read' : Reading Y E} → Takes more read'
       → Takes (least + more) (both_at read read')
   then_takes {Y} {more} {read'} second = record {
@@ -66,7 +66,7 @@ module _ {X E : Type 0} (read : Reading X E) where
   unfolding first_at
   first_step n a r e = ap (λ (s : Result (X × At) E). value_then s (λ b. first_at read n b)) e
 
-  -- One value, and those behind it.
+  -- One value, and those after it.
   pub first_next : (n : ℕ) (a : At) (x : X) (b : At) → read a ≡ Ok (x, b)
       → first_at read (suc n) a ≡ x ∷ first_at read n b
   first_next n a x b e = first_step n a (Ok (x, b)) e
@@ -77,7 +77,7 @@ module _ {X E : Type 0} (read : Reading X E) where
   first_end zero a fault e = refl
   first_end (suc n) a fault e = first_step n a (Err fault) e
 
-  -- No value is to be looked at.
+  -- No value is left to read.
   pub first_none : (n : ℕ) (a : At) → n ≤ 0 → first_at read n a ≡ []
   unfolding first_at
   first_none zero a le = refl
@@ -116,7 +116,7 @@ module _ {X E : Type 0} {read : Reading X E} (takes : Takes 1 read) where
       go (Err fault) e next =
           first_end read (suc n) a fault e ∙ sym (first_end read (suc m) a fault e)
 
-  -- One value, and those behind it.
+  -- One value, and those after it.
   pub left_next : (a : At) (x : X) (b : At) → read a ≡ Ok (x, b)
       → left_at read a ≡ x ∷ left_at read b
   left_next a x b e =
@@ -125,7 +125,7 @@ module _ {X E : Type 0} {read : Reading X E} (takes : Takes 1 read) where
       ∙ (first_next read (length a.rest) a x b e ∙ ap (λ (xs : List X). x ∷ xs)
       (enough (length a.rest) (length b.rest) b (omega arith) (omega arith)))
 
-  -- A spelling of values gives them back.
+  -- An encoding of values is read as these values.
   pub left_found : {encode : X → Text} {Fits : X → Type 0} → IsForm encode Fits Anything read
       → (xs : List X) (place : ℕ) → AllByRecursion Fits xs
       → left_at read (record { place = place; rest = flat_map encode xs }) ≡ xs

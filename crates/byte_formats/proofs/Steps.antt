@@ -49,19 +49,19 @@ pub lifted_ok : {A E F : Type 0} (fault : E → F) (r : Result A E) (y : A) → 
 lifted_ok fault (Ok x) y e = cc
 lifted_ok fault (Err d) y e = absurd cc
 
--- The same, with one fault in place of every fault.
+-- The same, with one fault instead of every fault.
 pub blamed_ok : {A E F : Type 0} (fault : F) (r : Result A E) (y : A) → blamed fault r ≡ Ok y
     → r ≡ Ok y
 blamed_ok fault (Ok x) y e = cc
 blamed_ok fault (Err d) y e = absurd cc
 
--- Where the place behind is known, some value was read.
+-- Some value was read if the position after it is known.
 pub discarded_ok : {X E : Type 0} (r : Result (X × At) E) (b : At) → discarded r ≡ Ok b → (x : X)
     × (r ≡ Ok (x, b))
 discarded_ok {X} {E} (Ok x) b e = (x.0, ap (λ (c : At). Ok (x.0, c)) (ok_is E x.1 b e))
 discarded_ok (Err d) b e = absurd cc
 
--- Where the value is known, it was read up to some place.
+-- A value that is known was read up to some position.
 pub found_ok : {X E : Type 0} (r : Result (X × At) E) (x : X) → found r ≡ Ok x → (b : At)
     × (r ≡ Ok (x, b))
 found_ok {X} {E} (Ok y) x e = (y.1, ap (λ (z : X). Ok (z, y.1)) (ok_is E y.0 x e))
@@ -80,7 +80,7 @@ some_or_ok fault (Some y) x e = cc
 
 -- ---- bytes
 
--- A text that has bytes, by its length.
+-- Bytes that are not empty, by their length.
 pub has_bytes-some : (bytes : List ℕ) → has_bytes bytes ≡ true → 0 < length bytes
 has_bytes-some [] e = absurd cc
 has_bytes-some (b ∷ bytes) e = omega arith
@@ -115,7 +115,7 @@ IsBytes-prefix a b h i =
 pub IsBytes-back : (a b : List ℕ) → IsBytes (a ++ b) → IsBytes b
 IsBytes-back a b h i = rw (← get_or-append-add a b i 0) (h (length a + i))
 
--- One text behind another.
+-- Bytes after other bytes.
 pub Stands-then : (a : At) (x : List ℕ) (b : At) (y : List ℕ) (c : At) → Stands a x b → Stands b y c
     → Stands a (x ++ y) c
 Stands-then a x b y c p q = record {
@@ -124,7 +124,7 @@ Stands-then a x b y c p q = record {
   bytes = q.bytes;
 }
 
--- No text stands at each place.
+-- No bytes begin at each position.
 pub Stands-none : (a : At) → IsBytes a.rest → Stands a [] a
 Stands-none a h = record { parts = refl; place = omega arith; bytes = h }
 

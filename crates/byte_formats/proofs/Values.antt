@@ -61,6 +61,6 @@ pub not_zero : (n : ℕ) → (n == 0) ≡ false → 0 < n
 not_zero zero test = absurd cc
 not_zero (suc n) test = omega arith
 
--- Each text is the same as itself.
+-- Bytes are the same as themselves.
 pub same_bytes : (text : Text) → bytes_eq text text ≡ true
 same_bytes text = (bytes_eq-Decides text text).1 refl

@@ -1,4 +1,4 @@
--- Values one behind the other, up to the first that doesn't read.
+-- Values one after the other, up to the first that doesn't read.
 use Rattle.std.specs.Prelude.{ℕ, zero, suc, List, [], length}
 use Rattle.byte_formats.specs.Places.{At}
 use Rattle.byte_formats.specs.Readings.{Reading}

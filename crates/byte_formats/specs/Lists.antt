@@ -1,4 +1,4 @@
--- Readings of many values, one behind the other, up to the end of what is left.
+-- Readings of many values, one after the other, up to the end of what is left.
 use Rattle.std.specs.Prelude.{ℕ, zero, suc, ◌==◌, List, [], ◌∷◌, ◌++◌, length, Result, Ok, Err}
 use Rattle.std.specs.Prelude.{if◌then◌else◌}
 use Rattle.byte_formats.specs.Places.{At}
@@ -26,7 +26,7 @@ each_at key read (suc n) seen a =
     each_at key read n (seen ++ key x.0 ∷ []) x.1 >>= λ xs. Ok (x.0 ∷ xs.0, xs.1)
     )
 
--- A value, and those behind it.
+-- A value, and those after it.
 abbrev pub value_then : {X E : Type 0} → Result (X × At) E → (At → List X) → List X
 value_then (Ok x) behind = x.0 ∷ behind x.1
 value_then (Err fault) behind = []

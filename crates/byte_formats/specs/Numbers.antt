@@ -2,7 +2,7 @@
 use Rattle.std.specs.Prelude.{ℕ, zero, suc, ◌+◌, ◌*◌, ◌/◌, ◌%◌, ◌^◌, ◌<◌, List, [], ◌∷◌, length}
 use Rattle.std.specs.Prelude.{slice_index}
 
--- The number that digits stand for.
+-- The number that these digits represent.
 abbrev pub value : ℕ → List ℕ → ℕ
 value base [] = 0
 value base (digit ∷ rest) = digit * base ^ length rest + value base rest

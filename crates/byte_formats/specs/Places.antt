@@ -1,4 +1,4 @@
--- Places in an input: how far a reader has come, and what is left.
+-- Positions in an input: how far a reader has come, and what is left.
 use Rattle.std.specs.Prelude.{ℕ, ◌+◌, ◌<◌, Bool, false, ◌==◌, [], ◌∷◌, length, drop, slice_index}
 use Rattle.std.specs.Prelude.{not}
 use Rattle.byte_formats.specs.Types.{Text}
@@ -8,11 +8,11 @@ pub record At : Type 0 where
   pub place : ℕ
   pub rest : Text
 
--- The place at this offset of an input.
+-- The position at this offset of an input.
 abbrev pub at : Text → ℕ → At
 at input place = record { place = place; rest = drop place input }
 
--- The place n bytes further on.
+-- The position n bytes further on.
 abbrev pub after : ℕ → At → At
 after n a = record { place = a.place + n; rest = drop n a.rest }
 

@@ -1,5 +1,5 @@
--- Readings: functions from a place to a value and the place behind it, or to the first fault. A
--- reader of the code is described by one equation with such a function.
+-- Readings: functions from a position to a value and the position after it, or to the first fault.
+-- A reader of the code is described by one equation with such a function.
 use Rattle.std.specs.Prelude.{◌≡◌, ◌≢◌, ℕ, Bool, true, false, ◌==◌, [], length, Option, Some, None}
 use Rattle.std.specs.Prelude.{Result, Ok, Err, if◌then◌else◌}
 use Rattle.byte_formats.specs.Types.{Text}
@@ -20,28 +20,28 @@ abbrev pub Gives : {X Y E : Type 0} → (X → Y) → Result X E → Result Y E 
 Gives view (Ok x) wanted = wanted ≡ Ok (view x)
 Gives view (Err e) wanted = wanted ≡ Err e
 
--- The same, where want of memory may be answered in place of anything.
+-- The same, but the call may answer out of memory instead of anything else.
 abbrev pub Answers : {X E : Type 0} → E → Result X E → Result X E → Type 0
 Answers memory wanted (Ok x) = wanted ≡ Ok x
 Answers memory wanted (Err e) = e ≢ memory → wanted ≡ Err e
 
--- A call that moves along an input: its answer, seen by view, and the place that it leaves are what
--- reading gives. A refusal leaves the place as it was.
+-- A call that moves along an input: its answer, seen by view, and the position that it leaves are
+-- what reading gives. A refusal leaves the position as it was.
 abbrev pub Reads : {X Y E : Type 0} → (X → Y) → Reading Y E → At → Result X E → At → Type 0
 Reads view read old (Ok x) new = read old ≡ Ok (view x, new)
 Reads view read old (Err e) new = (read old ≡ Err e) × (new ≡ old)
 
--- The same, for a call after whose refusal the place isn't said.
+-- The same, for a call that leaves any position if it refuses.
 abbrev pub Moves : {X Y E : Type 0} → (X → Y) → Reading Y E → At → Result X E → At → Type 0
 Moves view read old (Ok x) new = read old ≡ Ok (view x, new)
 Moves view read old (Err e) new = read old ≡ Err e
 
--- The value that was read, without the place behind it.
+-- The value that was read, without the position after it.
 abbrev pub found : {X E : Type 0} → Result (X × At) E → Result X E
 found (Ok x) = Ok x.0
 found (Err e) = Err e
 
--- The place behind what was read, without the value.
+-- The position after what was read, without the value.
 abbrev pub discarded : {X E : Type 0} → Result (X × At) E → Result At E
 discarded (Ok x) = Ok x.1
 discarded (Err e) = Err e
@@ -61,7 +61,7 @@ abbrev pub lifted : {A E F : Type 0} → (E → F) → Result A E → Result A F
 lifted fault (Ok x) = Ok x
 lifted fault (Err e) = Err (fault e)
 
--- The same answer, with one fault in place of every fault.
+-- The same answer, with one fault instead of every fault.
 abbrev pub blamed : {A E F : Type 0} → F → Result A E → Result A F
 blamed fault (Ok x) = Ok x
 blamed fault (Err e) = Err fault
@@ -71,7 +71,7 @@ abbrev pub some_or : {A E : Type 0} → E → Option A → Result A E
 some_or fault None = Err fault
 some_or fault (Some x) = Ok x
 
--- Two values, one behind the other.
+-- Two values, one after the other.
 abbrev pub both_at : {X Y E : Type 0} → Reading X E → Reading Y E → Reading (X × Y) E
 both_at first second a = first a >>= λ x. second x.1 >>= λ y. Ok ((x.0, y.0), y.1)
 
@@ -108,7 +108,7 @@ some_at fault read a = if length a.rest == 0 then Err fault else read a
 abbrev pub refused_at : {X E : Type 0} → (Text → Bool) → E → Reading X E → Reading X E
 refused_at test fault read a = if test a.rest then Err fault else read a
 
--- A value, with one fault in place of every fault.
+-- A value, with one fault instead of every fault.
 abbrev pub blamed_at : {X E F : Type 0} → F → Reading X E → Reading X F
 blamed_at fault read a = blamed fault (read a)
 

@@ -1,4 +1,4 @@
--- A refusal, or none, as what a call gives back.
+-- A refusal, or none, as what a call returns.
 use Rattle.std.specs.Prelude.{Option, Some, None, Result, Ok, Err}
 
 -- A refusal as an answer: Ok where there is none.
