@@ -1,4 +1,4 @@
--- Counts of faults. A count is a number of 64 bits that stands still at its last value.
+-- Counts of failures. A count is a number of 64 bits that stands still at its last value.
 use Rattle.std.specs.Prelude.{◌≡◌, ℕ, ◌+◌, ◌<◌, ◌≤◌, ◌⊎◌, min, max, Result, OnOk, OnErr}
 
 -- the last value of a count

@@ -3,7 +3,7 @@ use Rattle.std.specs.Prelude.{ℕ, List}
 use Rattle.byte_formats.specs.Types.{Text}
 
 -- a source in memory: the bytes left, the number of calls so far, the numbers of the calls that
--- fail, the faults so far
+-- fail, the failures so far
 pub record SourceState : Type 0 where
   pub left : Text
   pub calls : ℕ
@@ -11,7 +11,7 @@ pub record SourceState : Type 0 where
   pub faults : ℕ
 
 -- a sink in memory: the bytes taken, how many it takes at a time, and as above; `starved` counts
--- the faults that came from want of memory
+-- the faults that came because memory ran out
 pub record SinkState : Type 0 where
   pub taken : Text
   pub per_call : ℕ

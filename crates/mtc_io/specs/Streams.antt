@@ -1,12 +1,13 @@
--- What calls do to the bytes that a source has left and a sink has taken, where these are told.
--- std's words of the same subject (`Consumes`, `Appends`, `Keeps`, `IsAtEnd`) stand beside these.
+-- What calls do to the bytes that a source has left and a sink has taken, where the model knows
+-- them. std's words of the same subject (`Consumes`, `Appends`, `Keeps`, `IsAtEnd`) stand beside
+-- these.
 use Rattle.std.specs.Prelude.{ℕ, List, Option, take}
 use Rattle.std.specs.Borrow.{Bor}
 use Rattle.std.specs.List.{flat_map}
 use Rattle.std.specs.Io.KnownBytes.{Consumes, Appends}
 use Rattle.byte_formats.specs.Types.{Text}
 
--- the bytes left lose some bytes from their front
+-- the bytes left lose some bytes from their start
 abbrev pub ConsumesSome : Option Text → Option Text → Type 0
 ConsumesSome old new = (bs : Text) × Consumes old new bs
 
@@ -14,6 +15,6 @@ ConsumesSome old new = (bs : Text) × Consumes old new bs
 abbrev pub AppendsPrefix : Option Text → Option Text → Text → Type 0
 AppendsPrefix old new bs = (k : ℕ) × Appends old new (take k bs)
 
--- pieces, one behind the other
+-- pieces, one after the other
 abbrev pub joined : List (Bor Text) → Text
 joined pieces = flat_map (λ piece. piece.now) pieces

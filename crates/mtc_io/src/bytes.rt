@@ -73,7 +73,7 @@ impl Bytes {
         self.items.is_empty()
     }
 
-    /// Puts a piece behind the bytes. Where memory is refused the bytes stay as they were.
+    /// Appends a piece to the bytes. If memory is refused, the bytes stay as they were.
     pub fn append(&mut self, piece: &[u8]) -> Result<(), Memory>
         ensures ok { OnOk result (self.new ≡ self.old ++ piece.now) }
         ensures err { OnErr result (self.new ≡ self.old) }
@@ -82,7 +82,7 @@ impl Bytes {
         Ok(())
     }
 
-    /// Puts two pieces behind the bytes, both or neither.
+    /// Appends two pieces to the bytes, both or neither.
     pub fn append_both(&mut self, first: &[u8], second: &[u8]) -> Result<(), Memory>
         ensures ok { OnOk result (self.new ≡ self.old ++ (first.now ++ second.now)) }
         ensures err { OnErr result (self.new ≡ self.old) }

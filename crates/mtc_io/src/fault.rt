@@ -2,7 +2,7 @@
 
 use std::alloc::{AllocError, AllocFailed};
 
-/// An object that was handed in failed: its count of faults rose in this call.
+/// An object that the caller passed in failed: its count of failures rose in this call.
 #[derive(Clone, Copy, Debug, PartialEq, Eq)]
 pub struct Failed;
 

@@ -1,9 +1,9 @@
-//! Bytes in and out, with faults counted.
+//! Bytes in and out, with failures counted.
 //!
-//! Everything that the program reads from or writes to is handed in as an object that may fail.
-//! Each such object counts its faults, and a call answers [`Failed`] only where that count rose. So
-//! a caller always knows whether an answer has its cause outside, and never mistakes a fault for an
-//! end of input.
+//! Everything that the program reads from or writes to is passed in as an object that may fail.
+//! Each such object counts its failures, and a call answers [`Failed`] only where that count rose.
+//! So a caller always knows whether an answer has its cause outside, and never mistakes a failure
+//! for an end of input.
 //!
 //! No clause says which bytes a reader or a writer of std gives or takes: [`StdSource`] and
 //! [`StdSink`] are tested over vectors, a reader that fails and a writer without capacity.

@@ -1,4 +1,4 @@
-//! Streams in memory, which fail where they are told to.
+//! Streams in memory, which fail on the calls that their maker lists.
 
 mod sink;
 mod source;

@@ -10,14 +10,14 @@ use crate::fault::Failed;
 
 /// Something that takes bytes, one after the other, and may fail.
 pub trait Sink {
-    /// The bytes taken, where it tells them.
+    /// The bytes taken, if the model knows them.
     ghost taken: { Self → Option Text };
 
-    /// The count of its faults, which rises with each call that fails and never falls.
+    /// The count of its failures, which rises with each call that fails and never falls.
     ghost faults: { Self → ℕ };
 
-    /// Takes bytes from the front of a piece, and answers how many: at least 1 where the piece
-    /// isn't empty. `Failed` comes only with a fault, and then nothing was taken.
+    /// Takes a prefix of a piece, and answers its length: at least 1 if the piece isn't empty.
+    /// `Failed` comes only with a fault, and then nothing was taken.
     fn write(&mut self, piece: &[u8]) -> Result<usize, Failed>
         ensures bound { IfOk result (λ count. count ≤ length piece.now) }
         ensures some { IfOk result (λ count. 0 < length piece.now → 0 < count) }
@@ -25,14 +25,14 @@ pub trait Sink {
         ensures cause { HasCause (faults self.old) (faults self.new) result };
 }
 
-/// Writes a whole piece. `Failed` comes only with a fault of the sink, and then a prefix of the
+/// Writes a whole piece. `Failed` comes only with a failure of the sink, and then a prefix of the
 /// piece was taken.
 #[tactic(auto, using(crate::proofs::Streams::taken_more))]
 pub fn write_all<O: Sink>(sink: &mut O, piece: &[u8]) -> Result<(), Failed>
     ensures ok { OnOk result (Appends (O.taken sink.old) (O.taken sink.new) piece.now) }
     ensures cause { HasCause (O.faults sink.old) (O.faults sink.new) result }
 
-    // Of both results, for a caller that doesn't look at it.
+    // It holds of both results, for a caller that doesn't read which one it is.
     ensures prefix { AppendsPrefix (O.taken sink.old) (O.taken sink.new) piece.now }
 {
     let mut done = 0;
@@ -42,13 +42,13 @@ pub fn write_all<O: Sink>(sink: &mut O, piece: &[u8]) -> Result<(), Failed>
     Ok(())
 }
 
-/// Writes pieces one behind the other. `Failed` comes only with a fault of the sink, and then a
+/// Writes pieces, one after the other. `Failed` comes only with a fault of the sink, and then a
 /// prefix of the whole was taken.
 pub fn write_pieces<O: Sink>(sink: &mut O, pieces: &[&[u8]]) -> Result<(), Failed>
     ensures ok { OnOk result (Appends (O.taken sink.old) (O.taken sink.new) (joined pieces.now)) }
     ensures cause { HasCause (O.faults sink.old) (O.faults sink.new) result }
 
-    // Of both results, for a caller that doesn't look at it.
+    // It holds of both results, for a caller that doesn't read which one it is.
     ensures prefix { AppendsPrefix (O.taken sink.old) (O.taken sink.new) (joined pieces.now) }
 {
     for piece in pieces {

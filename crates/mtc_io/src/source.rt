@@ -15,15 +15,14 @@ use std::alloc::Global;
 
 /// Something that gives bytes, one after the other, and may fail.
 pub trait Source {
-    /// The bytes left, where it tells them.
+    /// The bytes left, if the model knows them.
     ghost left: { Self → Option Text };
 
-    /// The count of its faults, which rises with each call that fails and never falls.
+    /// The count of its failures, which rises with each call that fails and never falls.
     ghost faults: { Self → ℕ };
 
-    /// Puts the next bytes into the front of `into`, and answers how many. On an `into` that isn't
-    /// empty, 0 means the end of input. `Failed` comes only with a fault, and then nothing was
-    /// given.
+    /// Puts the next bytes into a prefix of `into`, and answers how many. If `into` isn't empty, 0
+    /// means the end of input. `Failed` comes only with a fault, and then nothing was given.
     fn read(&mut self, into: &mut [u8]) -> Result<usize, Failed>
         ensures bound { IfOk result (λ count. count ≤ length into.new) }
         ensures bytes { ReadConsumes (left self.old) (left self.new) result into.new }
@@ -60,9 +59,9 @@ impl From<Memory> for ReadError {
 // So many bytes are asked for at a time.
 const CHUNK: usize = 4096;
 
-/// Reads to the end of input. Refuses with `TooLong` exactly where the source gives more than
-/// `limit` bytes; that is tested before memory is taken for them. `Failed` comes only with a fault
-/// of the source, and no other answer counts one.
+/// Reads to the end of input. Refuses with `TooLong` exactly if the source gives more than `limit`
+/// bytes; that is tested before memory is taken for them. `Failed` comes only with a failure of the
+/// source, and no other answer counts one.
 pub fn read_all<S: Source>(alloc: Global, source: &mut S, limit: u64) -> Result<Bytes, ReadError>
     ensures whole { IfOk result (Consumes (S.left source.old) (S.left source.new)) }
     ensures spent { OnOk result (IsAtEnd (S.left source.new)) }

@@ -9,8 +9,8 @@ use crate::sink::Sink;
 use crate::source::Source;
 use std::io::{Read, Write};
 
-/// A reader as a source. It tells the bytes left where the reader does, and counts its errors as
-/// faults, an interruption too.
+/// A reader as a source. The model knows the bytes left if it knows those of the reader. The source
+/// counts the reader's errors as faults, an interruption too.
 #[derive(Drop)]
 pub struct StdSource<R> {
     reader: R,
@@ -18,7 +18,7 @@ pub struct StdSource<R> {
 }
 
 impl<R: Read> StdSource<R> {
-    /// A source over this reader, without a fault so far.
+    /// A source over this reader, without a failure so far.
     pub fn new(reader: R) -> StdSource<R>
         ensures faults { ⟦<StdSource<R> as Source>⟧.faults result ≡ 0 }
         ensures left { ⟦<StdSource<R> as Source>⟧.left result ≡ R.remaining reader }
@@ -26,7 +26,7 @@ impl<R: Read> StdSource<R> {
         StdSource { reader, faults: 0 }
     }
 
-    /// The count of its faults: each call that fails adds one, up to the last value.
+    /// The count of its failures: each call that fails adds one, up to the last value.
     pub fn faults(&self) -> u64
         ensures { result ≡ ⟦<StdSource<R> as Source>⟧.faults self.now }
     {
@@ -57,8 +57,9 @@ impl<R: Read> Source for StdSource<R> {
     }
 }
 
-/// A writer as a sink. It tells the bytes taken where the writer does, and counts its errors as
-/// faults. A writer that takes none of a piece that isn't empty has failed.
+/// A writer as a sink. The model knows the bytes taken if it knows those of the writer. The sink
+/// counts the writer's errors as faults. A writer that takes none of a piece that isn't empty has
+/// failed.
 #[derive(Drop)]
 pub struct StdSink<W> {
     writer: W,
@@ -66,7 +67,7 @@ pub struct StdSink<W> {
 }
 
 impl<W: Write> StdSink<W> {
-    /// A sink over this writer, without a fault so far.
+    /// A sink over this writer, without a failure so far.
     pub fn new(writer: W) -> StdSink<W>
         ensures faults { ⟦<StdSink<W> as Sink>⟧.faults result ≡ 0 }
         ensures taken { ⟦<StdSink<W> as Sink>⟧.taken result ≡ W.contents writer }

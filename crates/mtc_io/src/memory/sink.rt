@@ -13,9 +13,9 @@ use crate::sink::Sink;
 use std::alloc::Global;
 use std::marker::Model;
 
-/// A sink that keeps what it takes, at most `per_call` bytes a call, and fails on the calls whose
-/// numbers are listed, counted from 0. Where it finds no memory it fails too, and counts that
-/// apart. It tells the bytes taken.
+/// A sink that retains what it takes, at most `per_call` bytes a call, and fails on the calls whose
+/// numbers are listed, counted from 0. If it finds no memory it fails too, and counts that apart.
+/// Contracts know the bytes taken.
 #[derive(Debug, Drop)]
 pub struct MemSink {
     bytes: Bytes,

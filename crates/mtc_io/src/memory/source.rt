@@ -13,7 +13,7 @@ use crate::source::Source;
 use std::marker::Model;
 
 /// A source over bytes in memory, which fails on the calls whose numbers are listed, counted from
-/// 0. It tells the bytes left.
+/// 0. Contracts know the bytes left.
 #[derive(Debug, Drop)]
 pub struct MemSource {
     bytes: Bytes,
@@ -50,7 +50,7 @@ impl MemSource {
         }
     }
 
-    /// The count of its faults: each call that fails adds one, up to the last value.
+    /// The count of its failures: each call that fails adds one, up to the last value.
     pub fn faults(&self) -> u64
         ensures { result ≡ self.now.faults }
     {
@@ -86,7 +86,7 @@ impl Source for MemSource {
     }
 }
 
-// Copies as much as there is and as fits into the front of `into`, and answers how much.
+// Copies as many bytes as there are and as fit into a prefix of `into`, and answers how many.
 fn copy_prefix(from: &[u8], into: &mut [u8]) -> usize
     ensures count { result ≡ min (length from.now) (length into.old) }
     ensures bytes { take result into.new ≡ take result from.now }
