@@ -1,4 +1,4 @@
--- Looking at a text without keeping its arcs: their number of bytes is enough.
+-- A text is read without storing its arcs: their number of bytes is enough.
 use Rattle.std.proofs.Common.{◌≡◌, ◌≢◌, ℕ, zero, suc, ◌+◌, ◌*◌, ◌/◌, ◌%◌, ◌^◌, ◌<◌, ◌≤◌, Bool, true}
 use Rattle.std.proofs.Common.{false, List, [], ◌∷◌, ◌++◌, length, Result, Ok, Err, IfOk, refl, sym}
 use Rattle.std.proofs.Common.{ap, ◌∙◌, arith, lt-ltb, le-ltb, ne_eqb, flat_map, decimal}

@@ -41,7 +41,7 @@ high_digits_more n some =
     ap (map high) (digits_of_step 128 n (omega arith) (omega arith))
     ∙ map_push high (digits_of 128 (n / 128)) (n % 128)
 
--- ---- what is read is spelled so
+-- ---- bytes that are read are the encoding
 
 -- Bytes with the highest bit set are digits.
 record AreHigh (bytes : Text) : Type 0 where
@@ -135,9 +135,9 @@ number_large n (b ∷ rest) total large some so_far =
     let least = number_after_ge 128 (n * 128 + b % 128) (map low rest) (omega arith) in
     rw (le-ltb total (2 ^ 64) (omega (arith, least, so_far))) refl
 
--- ---- what is spelled so is read again
+-- ---- each encoding is read again
 
--- Digits behind each other, all but the last with the highest bit set.
+-- Digits one after the other, all but the last with the highest bit set.
 high_read : (ds : List ℕ) (l : ℕ) (rest : Text) → AllBelowBase 128 ds → l < 128
     → high_count (map high ds ++ (l ∷ rest)) ≡ length ds
 high_read [] l rest below digit = rw (lt-leb 128 l digit) refl
@@ -233,11 +233,11 @@ pub arc_some : (n : ℕ) → IsArc n → 0 < length (arc n)
 unfolding arc
 arc_some n small = omega (arith, length-append (high_digits (n / 128)) (n % 128 ∷ []))
 
--- Arcs one behind the other.
+-- Arcs one after the other.
 pub arcs_form : IsForm (flat_map arc) (AllByRecursion IsArc) Nothing (up_to_end arc_at)
 arcs_form = many_form arc_form arc_some
 
--- One digit more behind the others.
+-- One digit more after the others.
 pub digits_put : (old mid new : List ℕ) (n : ℕ) → n ≢ 0 → mid ≡ old ++ high_digits (n / 128)
     → new ≡ mid ++ ((128 + n % 128) ∷ []) → new ≡ old ++ high_digits n
 digits_put old mid new n some prefix end =

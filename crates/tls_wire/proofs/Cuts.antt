@@ -39,7 +39,7 @@ cut_parts mark text cut e =
     ∙ ap (λ c. c ∷ drop (place + 1) text) byte) in
     whole ∙ ap (λ (c : Text × Text). c.0 ++ (mark ∷ c.1)) found.2
 
--- The byte doesn't stand before its first place.
+-- The byte doesn't stand before its first offset.
 pub cut_lacks : (mark : ℕ) (text : Text) (cut : Text × Text) → cut_at mark text ≡ Some cut
     → Lacks mark cut.0
 cut_lacks mark text cut e =

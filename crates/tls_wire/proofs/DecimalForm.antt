@@ -94,13 +94,13 @@ decimal_again n place rest small ends =
       ends,
     ) refl
 
--- ---- numbers behind dots
+-- ---- numbers after dots
 
 dot_first : (rest : Text) → begins_with 46 rest ≡ true → rest ≡ 46 ∷ drop 1 rest
 dot_first [] dot = absurd cc
 dot_first (c ∷ rest) dot = ap (λ (x : ℕ). x ∷ rest) (eqb-true c 46 dot)
 
--- These numbers, each behind a dot, are all of the text.
+-- These numbers, each after a dot, are all of the text.
 record AreDots (text : Text) (ns : List ℕ) : Type 0 where
   encoded : text ≡ flat_map dot_decimal ns
   small : AllByRecursion IsArc ns

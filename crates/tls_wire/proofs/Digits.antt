@@ -5,7 +5,7 @@ use Rattle.std.specs.Int.Digits.{digits_of, number_from_digits_after, AllBelowBa
 use Rattle.std.proofs.lemmas.Nat.{div-mul-add, mod-mul-add}
 use Rattle.std.proofs.lemmas.Int.Digits.{digits_of_step, number_after_ge}
 
--- Digits behind those of n, where no zero leads, are the last ones of the number that they make.
+-- Digits after those of n, where no zero leads, are the last ones of the number that they make.
 pub digits_grow : (b n : ℕ) (ds : List ℕ) → 2 ≤ b → (0 < length ds → 0 < n * b + get_or ds 0 0)
     → AllBelowBase b ds → digits_of b (number_from_digits_after b n ds) ≡ digits_of b n ++ ds
 digits_grow b n [] two some below = sym (append-nil (digits_of b n))

@@ -21,7 +21,7 @@ use Rattle.tls_wire.proofs.Vectors.{vector_form}
 abbrev Are32 : List (List ℕ) → Type 0
 Are32 items = AllByRecursion (λ hash. length hash ≡ 32) items
 
--- So many chunks, one behind the other, are the front.
+-- So many chunks, one after the other, are the prefix.
 chunks_joined : (k : ℕ) (bytes : List ℕ) → concat (first_chunks 32 k bytes) ≡ take (k * 32) bytes
 chunks_joined zero bytes = refl
 chunks_joined (suc k) bytes =
@@ -38,7 +38,7 @@ chunks_whole (suc k) bytes long =
     let rest = chunks_whole k (drop 32 bytes) (omega (arith, long, more, length-drop 32 bytes)) in
     ((length-take-le 32 bytes (omega (arith, long, more)), rest.0), ap suc rest.1)
 
--- Hashes one behind the other have 32 bytes each.
+-- Hashes that stand one after the other have 32 bytes each.
 pub joined_length : (items : List (List ℕ)) → Are32 items
     → length (concat items) ≡ length items * 32
 joined_length [] all = refl

@@ -18,7 +18,7 @@ use Rattle.tls_wire.proofs.AnchorForm.{text_of_id}
 
 -- ---- from a text to arcs
 
--- Bytes, and the arcs of the numbers that are read behind them.
+-- Bytes, and the arcs of the numbers that are read after them.
 abbrev pub with_bytes : Text → Result (List ℕ × At) AnchorError → Result Text AnchorError
 with_bytes bytes read = read >>= λ ns. Ok (bytes ++ flat_map arc ns.0)
 
@@ -50,7 +50,7 @@ with_more bytes n (Ok ns) = ap (λ (t : Text). Ok t)
     (sym (append_assoc bytes (arc n) (flat_map arc ns.0)))
 with_more bytes n (Err e) = refl
 
--- Another number, behind a dot.
+-- Another number, after a dot.
 pub numbers_more : (total : Result Text AnchorError) (bytes : Text) (a : At) (n : ℕ) (b : At)
     → dot_decimal_at a ≡ Ok (n, b) → length b.rest < length a.rest → NumbersLeft total bytes a
     → NumbersLeft total (bytes ++ arc n) b

@@ -47,7 +47,7 @@ vector_form w limit wide = record {
       ∙ rw (one, two, far) refl;
 }
 
--- Where reading a vector ends: behind its length and its bytes. At least its length is gone.
+-- Where reading a vector ends: after its length and its bytes. At least its length is gone.
 record Moved (w : Width) (a : At) (bytes : Text) (b : At) : Type 0 where
   pub place : b.place ≡ a.place + byte_len w + length bytes
   pub less : length b.rest + byte_len w ≤ length a.rest
@@ -93,7 +93,7 @@ vector_forward w a bytes b e = (vector_moves w a bytes b e).less
 pub vector_takes : (w : Width) → Takes (byte_len w) (vector_at w)
 vector_takes w = record { less = vector_forward w }
 
--- A vector's bytes, read as a place of their own, end where the vector does.
+-- A vector's bytes, read from a position of their own, end where the vector does.
 pub inner_end : (w : Width) (a b : At) (r : Result At Short)
     → Reads (λ (inner : At). inner) (inner_at w) a r b
     → IfOk r (λ inner. b.place ≡ inner.place + length inner.rest)

@@ -19,7 +19,7 @@ use Rattle.tls_wire.specs.declared.fault.AnchorBytesError.TheVariants as byte_fa
 
 -- ---- bytes
 
--- How many bytes with the highest bit set stand here: the digits of an arc in front of the last.
+-- How many bytes with the highest bit set begin what is left: the digits of an arc before the last.
 abbrev pub high_count : Text → ℕ
 high_count bytes = prefix_len (λ b. nat_le 0x80 b) bytes
 
@@ -28,7 +28,7 @@ abbrev pub base_128 : Text → ℕ
 base_128 bytes = number_from_digits 128 (map (λ b. b % 128) bytes)
 
 -- One arc: these bytes, up to its last one. It doesn't begin with a digit of 0, and where it is too
--- large, its end isn't looked for.
+-- large, its end isn't searched.
 abbrev pub arc_of : Text → Reading ℕ AnchorBytesError
 arc_of bytes a =
     if begins_with 0x80 a.rest then Err (byte_faults.Padding a.place)
@@ -76,7 +76,7 @@ dot_decimal_at a =
     if begins_with 0x2E a.rest then decimal_at (after 1 a)
     else Err (text_faults.NotDecimal a.place)
 
--- The arcs of a text in dotted decimal, one behind the other.
+-- The arcs of a text in dotted decimal, one after the other.
 unfoldable pub arcs_in : Text → Result Text AnchorError
 arcs_in text =
     decimal_at (at text 0) >>= λ n.

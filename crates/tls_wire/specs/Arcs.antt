@@ -29,7 +29,7 @@ abbrev pub dotted : List ℕ → Text
 dotted [] = []
 dotted (n ∷ ns) = decimal n ++ flat_map dot_decimal ns
 
--- The bytes of an anchor id: 1 to 255 bytes, which are arcs one behind the other.
+-- The bytes of an anchor id: 1 to 255 bytes, which are arcs, one after the other.
 pub record IsAnchorId (bytes : Text) : Type 0 where
   pub arcs : List ℕ
   pub are_arcs : AllByRecursion IsArc arcs

@@ -1,4 +1,4 @@
--- How numbers and vectors are spelled (RFC 8446, sections 3.3 and 3.4).
+-- How numbers and vectors are encoded (RFC 8446, sections 3.3 and 3.4).
 use Rattle.std.specs.Prelude.{◌≡◌, ℕ, ◌*◌, ◌^◌, ◌<◌, List, ◌++◌, length}
 use Rattle.std.specs.List.{AllByRecursion, concat}
 use Rattle.std.specs.Int.{Width, w16, to_be_bytes}
@@ -12,7 +12,7 @@ number w n = to_be_bytes w n
 abbrev pub vector : Width → Text → Text
 vector w bytes = number w (length bytes) ++ bytes
 
--- Hashes as one vector, one behind the other.
+-- Hashes as one vector, one after the other.
 abbrev pub hashes : List Hash → Text
 hashes items = vector w16 (concat items)
 

@@ -26,7 +26,7 @@ number_at w a =
     if nat_lt (length a.rest) (byte_len w) then Err (short a)
     else Ok (from_be_bytes w (take (byte_len w) a.rest), after (byte_len w) a)
 
--- So many bytes from a place ahead, which are part of the form that begins here.
+-- So many bytes from a position ahead, which are part of the form that begins here.
 abbrev pub ahead_at : ℕ → At → Reading Text Short
 ahead_at count ahead a = blamed (short a) (bytes_at count ahead)
 
@@ -35,7 +35,7 @@ ahead_at count ahead a = blamed (short a) (bytes_at count ahead)
 unfoldable pub vector_at : Width → Reading Text Short
 vector_at w a = number_at w a >>= λ count. ahead_at count.0 count.1 a
 
--- Such a vector as the place of its bytes, up to their end.
+-- Such a vector as the position of its bytes, up to their end.
 abbrev pub inner_at : Width → Reading At Short
 inner_at w a =
     vector_at w a >>= λ v. Ok (record { place = a.place + byte_len w; rest = v.0 }, v.1)

@@ -102,7 +102,7 @@ pub(crate) fn arc_length(value: u64) -> usize
     count
 }
 
-// Puts an arc behind the bytes. Where memory is refused, a part of it may stand there.
+// Appends an arc to the bytes. If memory is refused, the bytes may end with a part of it.
 #[tactic(auto, unfolding(crate::specs::Arcs::arc))]
 pub(crate) fn put_arc(out: &mut Bytes, value: u64) -> Result<(), Memory>
     ensures { OnOk result (out.new ≡ out.old ++ arc value) }
@@ -111,7 +111,7 @@ pub(crate) fn put_arc(out: &mut Bytes, value: u64) -> Result<(), Memory>
     out.append(&[(value % 128) as u8])
 }
 
-// Puts the digits in front of the last one behind the bytes.
+// Appends all digits but the last one to the bytes.
 fn put_high_digits(out: &mut Bytes, value: u64) -> Result<(), Memory>
     ensures { OnOk result (out.new ≡ out.old ++ high_digits value) }
 {

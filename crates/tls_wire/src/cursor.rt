@@ -35,8 +35,8 @@ impl From<Short> for HashesError {
     }
 }
 
-/// A place in an input, from which forms are read one behind the other. What it lends is part of
-/// the input. After a refusal it stands where it stood.
+/// A position in an input, from which forms are read, one after the other. The slices that it
+/// answers are parts of the input. A refusal leaves the position as it was.
 #[derive(Drop)]
 pub struct Cursor<'a> {
     place: usize,
@@ -65,7 +65,7 @@ impl<'a> Cursor<'a> {
         }
     }
 
-    /// How many bytes of the input stand before this place.
+    /// How many bytes of the input stand before this position.
     pub fn place(&self) -> usize
         ensures { result ≡ self.now.place }
     {
@@ -86,7 +86,7 @@ impl<'a> Cursor<'a> {
         self.rest
     }
 
-    // Goes so many bytes on.
+    // Moves so many bytes on.
     pub(crate) fn skip(&mut self, count: usize)
         requires { count ≤ length self.old.rest }
         ensures { self.new ≡ after count self.old }
@@ -162,7 +162,7 @@ impl<'a> Cursor<'a> {
         self.bytes_from(ahead, count as usize)
     }
 
-    /// The same, as a cursor over the bytes of the vector alone, which counts its places in the
+    /// The same, as a cursor over the bytes of the vector alone, which counts its positions in the
     /// whole input.
     #[tactic(auto, unfolding(crate::specs::Reading::vector_at))]
     pub fn inner16(&mut self) -> Result<Cursor<'a>, Short>
@@ -206,7 +206,7 @@ impl<'a> Cursor<'a> {
         }
     }
 
-    // A second cursor at this place.
+    // A second cursor at this position.
     fn ahead(&self) -> Cursor<'a>
         ensures { result ≡ self.now }
     {
@@ -216,7 +216,7 @@ impl<'a> Cursor<'a> {
         }
     }
 
-    // So many bytes from a place ahead. They are part of the form that begins here.
+    // So many bytes from a position ahead. They are part of the form that begins here.
     fn bytes_from(&mut self, mut ahead: Cursor<'a>, count: usize) -> Result<&'a [u8], Short>
         ensures { Reads (λ bytes. bytes.now) (ahead_at count ahead.entry) self.old result self.new }
     {

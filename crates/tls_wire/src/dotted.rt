@@ -32,7 +32,7 @@ fn digit_count(text: &[u8]) -> usize
     count
 }
 
-// A number may end in front of this.
+// A number may end before these bytes.
 fn ends_number(rest: &[u8]) -> bool
     ensures { result ≡ ends_number rest.now }
 {
@@ -81,7 +81,7 @@ fn read_dot_decimal(input: &mut Cursor) -> Result<u64, AnchorError>
     }
 }
 
-// The numbers of a text, as arcs one behind the other.
+// The numbers of a text, as arcs one after the other.
 #[tactic(auto, unfolding(crate::specs::Anchors::arcs_in))]
 pub(crate) fn arcs_of_text(alloc: Global, text: &[u8]) -> Result<Bytes, AnchorError>
     ensures { Answers AnchorError.Memory (arcs_in text.now) result }

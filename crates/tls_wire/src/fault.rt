@@ -2,8 +2,8 @@
 
 use mtc_io::Memory;
 
-/// Why a text isn't an anchor id. The characters are read from the left and the first fault is
-/// answered; `TooLong` is looked for last.
+/// Why a text isn't an anchor id. The characters are read from the left, and the first fault is
+/// answered; `TooLong` is tested last.
 #[derive(Clone, Copy, Debug, PartialEq, Eq)]
 pub enum AnchorError {
     /// The text has no characters.
@@ -11,7 +11,7 @@ pub enum AnchorError {
     /// No digit stands at this offset, where one is wanted; or the character there is neither a
     /// digit nor a dot.
     NotDecimal(usize),
-    /// The number that begins at this offset goes on behind a zero.
+    /// The number that begins at this offset has a zero before its other digits.
     LeadingZero(usize),
     /// The anchor id has more than 255 bytes.
     TooLong,
@@ -21,8 +21,8 @@ pub enum AnchorError {
     Memory,
 }
 
-/// Why bytes aren't an anchor id: `Empty` and `TooLong` are looked for first, then the arcs are
-/// read from the left and the first fault is answered.
+/// Why bytes aren't an anchor id: `Empty` and `TooLong` are tested first, then the arcs are read
+/// from the left and the first fault is answered.
 #[derive(Clone, Copy, Debug, PartialEq, Eq)]
 pub enum AnchorBytesError {
     /// There are no bytes.

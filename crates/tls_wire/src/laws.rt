@@ -14,8 +14,8 @@ ghost use Rattle.tls_wire.specs.Anchors.{arc_at, anchor_of, anchor_text, text_of
 ghost use Rattle.tls_wire.specs.Decimal.{number_of};
 ghost use Rattle.tls_wire.specs.Lines.{cut_at, Lacks};
 
-/// A number that is read is spelled so, and a number that is spelled so is read again, whatever
-/// follows it.
+/// Each number is encoded as the bytes from which it was read, and each encoding of a number is
+/// read as that number, whatever follows it.
 pub fn law_numbers_decode_as_encoded()
     ensures one_byte { IsForm (number w8) (λ n. n < 2 ^ 8) Anything (number_at w8) }
     ensures two_bytes { IsForm (number w16) (λ n. n < 2 ^ 16) Anything (number_at w16) }
@@ -30,12 +30,13 @@ pub fn law_vectors_decode_as_encoded()
     ensures long_vectors { IsForm (vector w16) (IsShorter (2 ^ 16)) Anything (vector_at w16) }
 {}
 
-/// Hashes of 32 bytes each, in a vector with a length of two bytes, are read as spelled.
+/// Hashes of 32 bytes each, in a vector with a length of two bytes, are decoded as they were
+/// encoded.
 pub fn law_hashes_decode_as_encoded()
     ensures { IsForm hashes AreHashes Anything hashes_at }
 {}
 
-/// The bytes of anchor ids are read exactly where they are arcs one behind the other, 1 to 255
+/// The bytes of anchor ids are read exactly if they are arcs, one after the other, of 1 to 255
 /// bytes.
 pub fn law_anchor_ids_decode_as_encoded()
     ensures arcs { IsForm (flat_map arc) (AllByRecursion IsArc) Nothing (up_to_end arc_at) }

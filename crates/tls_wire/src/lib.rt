@@ -1,5 +1,5 @@
 //! Bytes in the presentation language of TLS (RFC 8446, section 3): a cursor that reads numbers,
-//! strings of bytes and vectors from a slice, and calls that write them. Beside them anchor ids,
+//! strings of bytes and vectors from a slice, and calls that write them. In addition anchor ids,
 //! the names of trust anchors, as bytes and as text, numbers in decimal, and the lines of a text.
 #![tactic(auto)]
 

@@ -4,7 +4,7 @@ ghost use Rattle.std.specs.Prelude.{◌≡◌, ◌==◌, ◌<◌, length, IfSome
 ghost use Rattle.std.specs.List.{position};
 ghost use Rattle.tls_wire.specs.Lines.{cut_at, first_line};
 
-// The place of the first such byte.
+// The offset of the first such byte.
 fn place_of(text: &[u8], mark: u8) -> Option<usize>
     ensures place { result ≡ position (λ byte. byte == mark) text.now }
     ensures within { IfSome result (λ place. place < length text.now) }

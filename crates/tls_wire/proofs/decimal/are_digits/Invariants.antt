@@ -2,6 +2,6 @@ use Rattle.std.proofs.Common.{◌≡◌, drop}
 use Rattle.std.specs.Str.{all_ascii_digits}
 use Rattle.tls_wire.proofs.decimal.are_digits.Given as goal
 
--- The bytes that are left tell what all tell.
+-- All bytes are digits if those that are left are digits.
 abbrev pub invariant-loop-byte : goal.invariant-loop-byte
 invariant-loop-byte l = all_ascii_digits (drop l.byte-index l.bytes) ≡ all_ascii_digits l.bytes
