@@ -1,4 +1,4 @@
--- An element that is read is spelled so, and one that is spelled so is read again.
+-- An element is encoded as the bytes from which it was read, and each encoding is read again.
 use Rattle.std.proofs.Common.{◌≡◌, ◌≢◌, ℕ, ◌+◌, ◌-◌, ◌*◌, ◌/◌, ◌%◌, ◌^◌, ◌<◌, ◌≤◌, true, false, []}
 use Rattle.std.proofs.Common.{◌∷◌, ◌++◌, length, take, drop, Result, Ok, Err, refl, sym, ap, subst}
 use Rattle.std.proofs.Common.{◌∙◌, append_assoc, arith, inl, inr, eq-eqb, ne_eqb, eqb-true, le-ltb}
@@ -182,7 +182,7 @@ made : (place tag : ℕ) (s s' : ℕ) (w w' c c' r r' : Text) → s ≡ s' → w
     → element_read place tag s w c r ≡ element_read place tag s' w' c' r'
 made place tag s s' w w' c c' r r' p q u v = cc
 
--- An element behind its tag, whatever spells its length.
+-- An element after its tag, whatever encodes its length.
 cut_out : (place tag k : ℕ) (octets contents rest : Text) → length contents ≡ k
     → length_at place (octets ++ (contents ++ rest)) ≡ Ok (k, contents ++ rest)
     → behind_tag (record { place = place; rest = tag ∷ (octets ++ contents) ++ rest }) tag (octets
@@ -256,7 +256,7 @@ is_read a tag contents rest e b h fits parts same =
       refl,
     )
 
--- The bytes of an element behind its tag, cut out of what is left.
+-- The bytes of an element after its tag, cut out of what is left.
 behind_takes : (a : At) (tag : ℕ) (rest : Text) (e : Item) (b : At) → a.rest ≡ tag ∷ rest
     → IsBytes a.rest → IsTag tag → behind_tag a tag rest ≡ Ok (e, b)
     → IsRead a e b × (e.tag ≡ tag)
@@ -415,7 +415,7 @@ pub begins_with-element : (tag : ℕ) (contents rest : Text)
 unfolding element
 begins_with-element tag contents rest = eq-eqb tag tag refl
 
--- No spelling of an element begins another one.
+-- No encoding of an element begins another one.
 pub one_element : (s t : ℕ) (c d a b : Text) → FitsElement s c → FitsElement t d
     → element s c ++ a ≡ element t d ++ b → (s ≡ t) × (c ≡ d) × (a ≡ b)
 one_element s t c d a b fits fits' same =

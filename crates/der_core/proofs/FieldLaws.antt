@@ -173,7 +173,7 @@ module _ {X : Type 0} {encode : X → Text} {Fits : X → Type 0} {read : Readin
 
 module _ {X : Type 0} {encode : X → Text} {Fits : X → Type 0} {read : Reading X CertError}
     (form : IsForm encode Fits Anything read) where
-  -- Bytes that read up to their end are the spelling of what was read.
+  -- Bytes that read up to their end are the encoding of what was read.
   pub all_takes : (bytes : Text) (x : X) → IsBytes bytes → all_of read bytes ≡ Ok x
       → (bytes ≡ encode x) × Fits x
   all_takes bytes x h e =
@@ -184,6 +184,6 @@ module _ {X : Type 0} {encode : X → Text} {Fits : X → Type 0} {read : Readin
       subst P (ok_is CertError s.0.0 x t.2) (to_end_takes form (at bytes 0) s.0.0 s.0.1 h s.1
       (end_ok s.0.1 t.0 (der_ok (end_at s.0.1) t.0 t.1)))
 
-  -- A spelling reads up to its end.
+  -- An encoding reads up to its end.
   pub all_again : (x : X) → Fits x → all_of read (encode x) ≡ Ok x
   all_again x f = rw (to_end_again form tt x 0 f) refl

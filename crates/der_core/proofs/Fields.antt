@@ -45,7 +45,7 @@ tag_of tag byte low = record {
 pub der_ok : {A : Type 0} (r : Result A DerError) (y : A) → der r ≡ Ok y → r ≡ Ok y
 der_ok r y e = lifted_ok Der r y e
 
--- Nothing stands behind the last field.
+-- Nothing follows the last field.
 pub end_ok : (a : At) (done : Unit {0}) → end_at a ≡ Ok done → a.rest ≡ []
 end_ok a done e =
     let p = pass_ok (length a.rest == 0) (Ok tt) (Trailing a.place) done e in
@@ -58,7 +58,7 @@ pub contents_takes : (tag : ℕ) (a : At) (e : Item) (b : At) → IsBytes a.rest
     → IsRead a e b × (e.tag ≡ tag)
 contents_takes tag a e b h read = wanted_takes tag a e b h (der_ok (wanted_at tag a) (e, b) read)
 
--- The text of an element that was wanted.
+-- The bytes of an element that was wanted.
 pub stands_wanted : (tag : ℕ) (a : At) (e : Item) (b : At) → IsRead a e b × (e.tag ≡ tag)
     → Stands a (element tag e.contents) b
 stands_wanted tag a e b (read, same) = let P : ℕ → Type 0 =

@@ -70,7 +70,7 @@ width_found (suc fuel) k n fits fewest =
           (more.0, rw (le-ltb n (128 * 256 ^ k) le) more.1, more.2)
     ]
 
--- Behind a first byte of 0 contents that aren't padded have the sign bit.
+-- Contents that begin with 0 and aren't padded have the sign bit in their second byte.
 plain_second : (a b : ℕ) (rest : Text) → a ≡ 0 → is_padded (a ∷ b ∷ rest) ≡ false → 128 ≤ b
 plain_second a b rest zero_is plain =
     elim (cases_lt b 128) [
@@ -221,7 +221,7 @@ eight_bytes : (a b c d e f g h : ℕ) → value 256 (0 ∷ a ∷ b ∷ c ∷ d �
     ≡ from_be_bytes w64 (a ∷ b ∷ c ∷ d ∷ e ∷ f ∷ g ∷ h ∷ [])
 eight_bytes a b c d e f g h = omega arith
 
--- The bytes of a number of 64 bits stand for it.
+-- The bytes of a number of 64 bits represent it.
 pub value_of_bytes : (n : ℕ) → n < 2 ^ 64 → value 256 (0 ∷ to_be_bytes w64 n) ≡ n
 value_of_bytes n small = eight_bytes _ _ _ _ _ _ _ _ ∙ from_be_bytes-to_be_bytes_8 n small
 

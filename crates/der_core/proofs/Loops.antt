@@ -54,7 +54,7 @@ arcs_end total begins bytes i le so_far =
 
 -- ---- numbers
 
--- The number n, and these bytes behind it.
+-- The number n, and these bytes after it.
 abbrev pub carried : ℕ → Text → ℕ
 carried n bytes = n * 256 ^ length bytes + value 256 bytes
 

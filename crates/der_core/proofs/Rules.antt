@@ -1,4 +1,4 @@
--- The rules for contents read exactly the spellings of their values.
+-- The rules for contents read exactly the encodings of their values.
 use Rattle.std.proofs.Common.{◌≤◌, ◌++◌, flat_map, ◌≡◌, ◌≢◌, ℕ, Bool, true, false, ◌&&◌, List, []}
 use Rattle.std.proofs.Common.{◌∷◌, length, Result, Ok, Err, refl, sym, ap, subst, ◌∙◌, arith, inl}
 use Rattle.std.proofs.Common.{inr, eq-eqb, ne_eqb, eqb-true, le-leb, leb-true, lt-ltb, le-ltb}

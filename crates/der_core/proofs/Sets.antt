@@ -14,7 +14,7 @@ last_of-push [] x = refl
 last_of-push (y ∷ []) x = refl
 last_of-push (y ∷ z ∷ xs) x = last_of-push (z ∷ xs) x
 
--- Reading on from here behind the encodings seen ends as the whole does.
+-- Reading on from here, after the encodings seen, ends as the whole does.
 abbrev pub Rises : ℕ → Result At DerError → Text → At → Type 0
 Rises place total before a =
     (seen : List Text) × (last_of seen ≡ before)

@@ -70,7 +70,7 @@ length_shorter place (first ∷ bytes) v e =
       ]
     ]
 
--- What is left behind x is shorter than what was left at a.
+-- What is left after x is shorter than what was left at a.
 abbrev IsForward : At → Item × At → Type 0
 IsForward a x = length x.1.rest + 1 ≤ length a.rest
 

@@ -30,8 +30,8 @@ boolean_of place (b ∷ []) =
     if b == 0x00 then Ok false else (if b == 0xFF then Ok true else Err (BadBool place))
 boolean_of place _ = Err (BadBool place)
 
--- Arcs one behind the other (8.19.2): each ends with its first byte below 80 and doesn't begin
--- with 80, in hexadecimal. The flag says that an arc begins here.
+-- Arcs one after the other (8.19.2): each ends with its first byte below 80 and doesn't begin with
+-- 80, in hexadecimal. The flag says that an arc begins here.
 unfoldable pub are_arcs : Bool → Text → Bool
 are_arcs begins [] = begins
 are_arcs begins (b ∷ rest) = if begins && b == 0x80 then false else are_arcs (nat_lt b 0x80) rest
@@ -42,7 +42,7 @@ oid_of place contents =
     if length contents == 0 then Err (BadOid place)
     else (if are_arcs true contents then Ok contents else Err (BadOid place))
 
--- So many low bits of the last byte are zero; behind no bytes there are none.
+-- So many low bits of the last byte are zero; after no bytes there are none.
 abbrev pub are_unused : ℕ → Text → Bool
 are_unused unused bytes =
     if length bytes == 0 then unused == 0

@@ -4,8 +4,8 @@ use Rattle.std.specs.Prelude.{◌≢◌, ℕ, ◌/◌, ◌%◌, ◌^◌, ◌<◌
 use Rattle.std.specs.Prelude.{if◌then◌else◌}
 use Rattle.byte_formats.specs.Types.{Text}
 
--- A length below 2 ^ 24 in the fewest bytes (8.1.3 and 10.1): itself below 128, else behind a byte
--- that counts its bytes.
+-- A length below 2 ^ 24 in the fewest bytes (8.1.3 and 10.1): one byte if it is below 128, else a
+-- byte that counts its bytes, and these.
 abbrev pub length_octets : ℕ → Text
 length_octets n =
     if nat_lt n 0x80 then n ∷ []

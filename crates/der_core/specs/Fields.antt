@@ -41,7 +41,7 @@ decoded_at tag decode a =
 abbrev pub contents_at : ℕ → Reading Text CertError
 contents_at tag a = der (wanted_at tag a) >>= λ e. Ok (e.0.contents, e.1)
 
--- The bytes of an element with this tag; its contents aren't looked into.
+-- The bytes of an element with this tag; its contents aren't read.
 abbrev pub element_with_at : ℕ → Reading Text CertError
 element_with_at tag a = der (wanted_at tag a) >>= λ e. Ok (e.0.whole, e.1)
 

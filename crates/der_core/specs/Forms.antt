@@ -1,4 +1,5 @@
--- What is read is spelled so, and what is spelled so is read again: elements and contents.
+-- Elements and contents are encoded as the bytes from which they were read, and each encoding is
+-- read again.
 use Rattle.std.specs.Prelude.{slice_index, flat_map, ◌≡◌, ◌≢◌, ℕ, ◌<◌, ◌≤◌, Bool, true, false, List}
 use Rattle.std.specs.Prelude.{[], ◌∷◌, length, Result, Ok}
 use Rattle.std.specs.List.{AllByRecursion}
@@ -13,7 +14,7 @@ use Rattle.der_core.specs.Contents.{are_unused}
 use Rattle.der_core.specs.Sets.{last_of}
 use Rattle.der_core.specs.declared.fault.DerError.{DerError}
 
--- This element was read at a, and b is the place behind it.
+-- This element was read at a, and b is the position after it.
 pub record IsRead (a : At) (e : Item) (b : At) : Type 0 where
   pub stands : Stands a (element e.tag e.contents) b
   pub fits : FitsElement e.tag e.contents
@@ -37,7 +38,7 @@ pub record IsElement (bytes : Text) : Type 0 where
   pub fits : FitsElement tag contents
   pub encoded : bytes ≡ element tag contents
 
--- A rule for contents reads exactly the spellings of its values.
+-- A rule for contents reads exactly the encodings of its values.
 pub record IsContents {X : Type 0} (encode : X → Text) (Fits : X → Type 0)
     (decode : ℕ → Text → Result X DerError) : Type 0 where
   pub takes : (place : ℕ) (contents : Text) (x : X) → IsBytes contents
@@ -65,7 +66,7 @@ pub record IsSubidentifier (bytes : Text) : Type 0 where
   pub ends : EndsOnce bytes
   pub fewest : slice_index bytes 0 ≢ 0x80
 
--- The contents of an OBJECT IDENTIFIER: subidentifiers one behind the other, at least one.
+-- The contents of an OBJECT IDENTIFIER: subidentifiers, one after the other, at least one.
 pub record IsOid (contents : Text) : Type 0 where
   pub arcs : List Text
   pub are_arcs : AllByRecursion IsSubidentifier arcs

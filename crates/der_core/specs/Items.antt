@@ -15,6 +15,6 @@ pub record Item : Type 0 where
 abbrev pub item : Element → Item
 item e = record { tag = e.tag; place = e.place; whole = e.whole.now; contents = e.contents.now }
 
--- The place of the contents.
+-- The position of the contents.
 abbrev pub inside : Item → At
 inside e = record { place = e.place + (length e.whole - length e.contents); rest = e.contents }

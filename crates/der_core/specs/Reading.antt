@@ -9,7 +9,7 @@ use Rattle.der_core.specs.declared.fault.DerError.{DerError}
 use Rattle.der_core.specs.declared.fault.DerError.TheVariants.{WrongTag, HighTag, LongForm}
 use Rattle.der_core.specs.declared.fault.DerError.TheVariants.{Truncated, Trailing}
 
--- The tag. A tag that is missing is another tag; one that goes on in further bytes is high.
+-- The tag. A tag that is missing is another tag; one that continues in further bytes is high.
 abbrev pub tag_at : ℕ → Text → Result (ℕ × Text) DerError
 tag_at place [] = Err (WrongTag place)
 tag_at place (tag ∷ rest) = if tag % 32 == 31 then Err (HighTag place) else Ok (tag, rest)
@@ -42,7 +42,7 @@ length_at place (first ∷ rest) =
     else (if first == 0x83 then three_at place rest
     else Err (LongForm place))))
 
--- Behind the tag: the length, and so many bytes. An element that ends past what is left is cut.
+-- After the tag come the length, and so many bytes. An element that ends past what is left is cut.
 unfoldable pub behind_tag : At → ℕ → Text → Result (Item × At) DerError
 behind_tag a tag rest = do
   n ← length_at a.place rest
@@ -63,6 +63,6 @@ wanted_at wanted a =
     tag_at a.place a.rest >>= λ t.
     if t.0 == wanted then behind_tag a t.0 t.1 else Err (WrongTag a.place)
 
--- Nothing may stand behind the last field.
+-- Nothing may follow the last field.
 abbrev pub end_at : At → Result (Unit {0}) DerError
 end_at a = if length a.rest == 0 then Ok tt else Err (Trailing a.place)

@@ -12,7 +12,7 @@ use Rattle.der_core.specs.Reading.{element_at}
 use Rattle.der_core.specs.declared.fault.DerError.{DerError}
 use Rattle.der_core.specs.declared.fault.DerError.TheVariants.{SetOrder}
 
--- One element of the set at this place, which isn't below the encoding before it.
+-- One element of the set at this position, which isn't below the encoding before it.
 unfoldable pub risen_at : ℕ → Text → Reading Text DerError
 risen_at place before a =
     element_at a >>= λ e.
@@ -24,8 +24,8 @@ last_of [] = []
 last_of (x ∷ []) = x
 last_of (x ∷ y ∷ xs) = last_of (y ∷ xs)
 
--- The elements up to the end, in rising order. Encodings are compared byte by byte, and a front
--- comes before what goes on.
+-- The elements up to the end, in rising order. Encodings are compared byte by byte, and a prefix is
+-- below what continues it.
 abbrev pub rising_at : ℕ → Reading (List Text) DerError
 rising_at place a = each_at itself (λ seen. risen_at place (last_of seen)) (length a.rest) [] a
 

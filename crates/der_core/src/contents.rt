@@ -1,4 +1,4 @@
-//! The contents of elements that have rules of their own. The tag isn't looked at.
+//! The contents of elements that have rules of their own. No call reads the tag.
 
 ghost use Rattle.std.specs.Prelude.{◌≡◌, ◌<◌, true};
 ghost use Rattle.byte_formats.specs.Readings.{Gives};
@@ -34,7 +34,7 @@ fn padded(contents: &[u8]) -> bool
     }
 }
 
-// The number that these bytes stand for, where it fits.
+// The number that these bytes represent, if it fits.
 fn number(bytes: &[u8]) -> Option<u64>
     ensures { result ≡ if_small (value 256 bytes.now) }
 {
@@ -73,7 +73,7 @@ pub fn oid<'a>(e: &Element<'a>) -> Result<&'a [u8], DerError>
     }
 }
 
-// Arcs one behind the other, each finished and in the fewest bytes.
+// Arcs one after the other, each finished and in the fewest bytes.
 fn arcs(bytes: &[u8]) -> bool
     ensures { result ≡ are_arcs true bytes.now }
 {
@@ -87,8 +87,8 @@ fn arcs(bytes: &[u8]) -> bool
     begins
 }
 
-/// The number of unused bits and the bytes of a BIT STRING. `BadBits` where there are more than
-/// seven unused bits, one of them isn't zero, or there is one behind no bytes.
+/// The number of unused bits and the bytes of a BIT STRING. `BadBits` if there are more than seven
+/// unused bits, one of them isn't zero, or there is one and no byte follows.
 #[tactic(auto, unfolding(crate::specs::Contents::bits_of))]
 pub fn bits<'a>(e: &Element<'a>) -> Result<(u8, &'a [u8]), DerError>
     ensures { Gives (λ b. (b.0, b.1.now)) result (bits_of e.now.place e.now.contents.now) }

@@ -12,7 +12,7 @@ pub struct Element<'a> {
     pub place: usize,
     /// All of its bytes: tag, length and contents.
     pub whole: &'a [u8],
-    /// The bytes behind the length.
+    /// The bytes after the length.
     pub contents: &'a [u8],
     pub ghost shorter: { length contents.now ≤ length whole.now },
     pub ghost within: { place + length whole.now < 2 ^ 64 },

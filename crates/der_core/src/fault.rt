@@ -1,18 +1,18 @@
 //! What can be wrong with an element, and with a certificate.
 
-/// A fault of one element. The number is the offset of that element in the input. The faults of
-/// one element are looked for in this order: of its tag `WrongTag` where nothing is left,
-/// `HighTag`, `WrongTag` where another tag stands; of its length `Truncated` where it is missing,
-/// `LongForm` for a first byte of 80 or above 83 in hexadecimal, `Truncated` where further bytes
-/// are missing, `LongForm` where they aren't the fewest; `Truncated` where the contents end past
-/// what surrounds the element; and then those of its contents.
+/// A fault of one element. The number is the offset of that element in the input. The faults of one
+/// element are tested in this order: of its tag `WrongTag` where nothing is left, `HighTag`,
+/// `WrongTag` where another tag stands; of its length `Truncated` where it is missing, `LongForm`
+/// for a first byte of 80 or above 83 in hexadecimal, `Truncated` where further bytes are missing,
+/// `LongForm` where they aren't the fewest; `Truncated` where the contents end past what surrounds
+/// the element; and then those of its contents.
 #[derive(Clone, Copy, Debug, PartialEq, Eq)]
 pub enum DerError {
     /// The element, or its length, ends past what surrounds it.
     Truncated(usize),
     /// The length isn't definite, isn't in the fewest bytes, or has more than three.
     LongForm(usize),
-    /// The tag goes on in further bytes.
+    /// The tag continues in further bytes.
     HighTag(usize),
     /// Another tag was wanted, or an element where nothing is left.
     WrongTag(usize),
@@ -27,7 +27,7 @@ pub enum DerError {
     BadBits(usize),
     /// A set whose encodings don't rise.
     SetOrder(usize),
-    /// Something stands behind the last field.
+    /// Some bytes follow the last field.
     Trailing(usize),
 }
 
@@ -40,7 +40,7 @@ pub enum CertError {
     BadVersion,
     /// The serial number isn't from 1 to 2 ^ 64 - 1.
     BadSerial,
-    /// A time that isn't in its form, or names no moment.
+    /// A time that isn't in its form, or names no time that exists.
     BadTime,
     /// The algorithm beside the signature isn't the one in the certificate.
     AlgorithmsDiffer,

@@ -14,8 +14,8 @@ ghost use Rattle.der_core.specs.Sets.{rising_at};
 ghost use Rattle.der_core.specs.Forms.{IsRead, element_item, IsContents, boolean, FitsBoolean};
 ghost use Rattle.der_core.specs.Forms.{IsOid, bit_string, IsBitString, IsRisen};
 
-/// What is read is spelled so, and an element that is spelled so is read again, whatever follows
-/// it.
+/// Each element is encoded as the bytes from which it was read, and each encoding of an element is
+/// read as that element, whatever follows it.
 pub fn law_elements_decode_as_encoded()
     ensures read { (a : At) (e : Item) (b : At) → IsBytes a.rest → element_at a ≡ Ok (e, b)
         → IsRead a e b }
@@ -35,7 +35,7 @@ pub fn law_elements_decode_as_encoded()
         ) }
 {}
 
-/// An element has one spelling, and no spelling of an element begins another one.
+/// An element has one encoding, and no encoding of an element begins another one.
 pub fn law_elements_have_one_encoding()
     ensures { (s t : ℕ) (c d a b : Text) → FitsElement s c → FitsElement t d
         → element s c ++ a ≡ element t d ++ b → (s ≡ t) × (c ≡ d) × (a ≡ b) }
@@ -48,14 +48,14 @@ pub fn law_numbers_decode_as_encoded()
     ensures again { (place n : ℕ) → n < 2 ^ 64 → unsigned_of place (integer n) ≡ Ok (Some n) }
 {}
 
-/// Truth values, object identifiers and strings of bits are read exactly from their spellings.
+/// Truth values, object identifiers and strings of bits are read exactly from their encodings.
 pub fn law_contents_decode_as_encoded()
     ensures booleans { IsContents boolean FitsBoolean boolean_of }
     ensures identifiers { IsContents itself IsOid oid_of }
     ensures bit_strings { IsContents bit_string IsBitString bits_of }
 {}
 
-/// The contents that are in order are the encodings of elements, one behind the other, each not
+/// The contents that are in order are the encodings of elements, one after the other, each not
 /// below the one before it.
 pub fn law_sets_decode_as_encoded()
     ensures { (place : ℕ)

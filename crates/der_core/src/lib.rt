@@ -1,6 +1,6 @@
-//! Elements in the distinguished encoding rules (X.690): reading them from left to right, the
-//! rules for their contents, and writing them. Each value has one spelling, and the first fault
-//! from the left is answered.
+//! Elements in the distinguished encoding rules (X.690): reading them from left to right, the rules
+//! for their contents, and writing them. Each value has one encoding, and the first fault from the
+//! left is answered.
 //!
 //! Tags have one byte, and contents fewer than 2 ^ 24 bytes; lengths are definite and in the
 //! fewest bytes.

@@ -1,4 +1,4 @@
-//! Reading elements one behind the other.
+//! Reading elements, one after the other.
 
 ghost use Rattle.std.specs.Prelude.{◌≡◌, ◌+◌, ◌^◌, ◌<◌, ◌≤◌, ◌==◌, length, OnOk, IfOk};
 ghost use Rattle.byte_formats.specs.Places.{At, at, begins_with};
@@ -11,8 +11,8 @@ use crate::element::Element;
 use crate::fault::DerError;
 use std::marker::Model;
 
-/// A place in an input, from which elements are read one behind the other, up to the end of what
-/// surrounds them. After a refusal it stands where it stood.
+/// A position in an input, from which elements are read, one after the other, up to the end of what
+/// surrounds them. A refusal leaves the position as it was.
 #[derive(Debug, Drop)]
 pub struct Reader<'a> {
     place: usize,
@@ -52,7 +52,7 @@ impl<'a> Reader<'a> {
         }
     }
 
-    /// A second reader at this place.
+    /// A second reader at this position.
     pub fn fork(&self) -> Reader<'a>
         ensures { result ≡ self.now }
     {
@@ -124,7 +124,7 @@ impl<'a> Reader<'a> {
         }
     }
 
-    // The element whose length and contents are in these bytes behind its tag.
+    // The element whose length and contents are in these bytes after its tag.
     #[tactic(auto, unfolding(crate::specs::Reading::behind_tag))]
     fn behind_tag(&mut self, tag: u8, rest: &'a [u8]) -> Result<Element<'a>, DerError>
         requires { length rest.now < length self.old.rest }
@@ -149,7 +149,7 @@ impl<'a> Reader<'a> {
     }
 }
 
-/// The element at this offset of the input. Its contents aren't looked into.
+/// The element at this offset of the input. Its contents aren't read.
 pub fn read<'a>(input: &'a [u8], place: usize) -> Result<Element<'a>, DerError>
     requires { place ≤ length input.now }
     ensures exact { Gives item result (found (element_at (at input.now place))) }
@@ -157,8 +157,7 @@ pub fn read<'a>(input: &'a [u8], place: usize) -> Result<Element<'a>, DerError>
     Reader::at(input, place).element()
 }
 
-/// The element at this offset of the input, which has to have this tag. Its contents aren't looked
-/// into.
+/// The element at this offset of the input, which has to have this tag. Its contents aren't read.
 pub fn expect<'a>(input: &'a [u8], place: usize, tag: u8) -> Result<Element<'a>, DerError>
     requires { place ≤ length input.now }
     ensures exact { Gives item result (found (wanted_at tag (at input.now place))) }
@@ -166,7 +165,7 @@ pub fn expect<'a>(input: &'a [u8], place: usize, tag: u8) -> Result<Element<'a>,
     Reader::at(input, place).wanted(tag)
 }
 
-// A length and the bytes behind it, of the element at this place.
+// A length and the bytes after it, of the element at this offset.
 fn length(place: usize, bytes: &[u8]) -> Result<(usize, &[u8]), DerError>
     ensures exact { Gives (λ x. (x.0, x.1.now)) result (length_at place bytes.now) }
     ensures rest { IfOk result (λ x. length x.1.now < length bytes.now) }

@@ -12,8 +12,8 @@ use crate::fault::DerError;
 use crate::reader::Reader;
 
 /// The encodings in the contents of a SET OF rise; equal ones are allowed. The elements are read
-/// from the left: one that doesn't read answers its own fault at its own place, and one below the
-/// one before it `SetOrder` at the place of the set, whichever comes first.
+/// from the left: one that doesn't read answers its own fault at its own offset, and one below the
+/// one before it `SetOrder` at the offset of the set, whichever comes first.
 pub fn set_in_order(e: &Element) -> Result<(), DerError>
     ensures { Gives (λ x. x) result (order_of (item e.now)) }
 {
@@ -25,7 +25,7 @@ pub fn set_in_order(e: &Element) -> Result<(), DerError>
     Ok(())
 }
 
-// The next element of the set at this place, which isn't below the encoding before it.
+// The next element of the set at this position, which isn't below the encoding before it.
 #[tactic(auto, unfolding(crate::specs::Sets::risen_at))]
 fn risen<'a>(reader: &mut Reader<'a>, place: usize, before: &[u8]) -> Result<&'a [u8], DerError>
     ensures exact { Moves (λ bytes. bytes.now) (risen_at place before.now)
@@ -40,7 +40,7 @@ fn risen<'a>(reader: &mut Reader<'a>, place: usize, before: &[u8]) -> Result<&'a
     }
 }
 
-// Byte by byte, `a` comes behind `b`; a front comes before what goes on.
+// Byte by byte, `a` is above `b`; a prefix is below what continues it.
 fn is_above(a: &[u8], b: &[u8]) -> bool
     ensures { result ≡ is_gt (slice_cmp nat_cmp a.now b.now) }
 {

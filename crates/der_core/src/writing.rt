@@ -1,5 +1,5 @@
-//! Writing elements behind the bytes that are there. Where memory is refused, these bytes stay as
-//! they were.
+//! Appending elements to the bytes that are there. If memory is refused, these bytes stay as they
+//! were.
 
 ghost use Rattle.std.specs.Prelude.{◌≡◌, ◌≢◌, ◌%◌, ◌^◌, ◌<◌, ◌≤◌, ◌++◌, false, length, slice_index};
 ghost use Rattle.std.specs.Prelude.{IfOk, OnOk, OnErr};
@@ -13,7 +13,7 @@ use crate::tags::INTEGER;
 use mtc_io::{Bytes, Memory};
 use std::alloc::Global;
 
-/// Puts an element behind the bytes: its tag, the length of the contents in the fewest bytes, and
+/// Appends an element to the bytes: its tag, the length of the contents in the fewest bytes, and
 /// the contents.
 #[tactic(auto, unfolding(crate::specs::Elements::element))]
 pub fn put(tag: u8, contents: &[u8], out: &mut Bytes) -> Result<(), Memory>
@@ -58,7 +58,7 @@ pub fn element_of(alloc: Global, tag: u8, contents: &[u8]) -> Result<Bytes, Memo
     Ok(out)
 }
 
-/// Puts an INTEGER with this value behind the bytes.
+/// Appends an INTEGER with this value to the bytes.
 pub fn put_unsigned(value: u64, out: &mut Bytes) -> Result<(), Memory>
     ensures ok { OnOk result (out.new ≡ out.old ++ element 2 (integer value)) }
     ensures err { OnErr result (out.new ≡ out.old) }
@@ -69,7 +69,7 @@ pub fn put_unsigned(value: u64, out: &mut Bytes) -> Result<(), Memory>
     put(INTEGER, contents, out)
 }
 
-// The same number without the bytes at its front that can be left out.
+// The same number without the bytes at its start that can be left out.
 fn fewest(bytes: &[u8]) -> &[u8]
     requires some { 0 < length bytes.now }
     requires positive { slice_index bytes.now 0 < 128 }
