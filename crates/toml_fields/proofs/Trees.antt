@@ -1,4 +1,4 @@
--- The keys of a map beside the members that it stands for, and texts with and without a tree.
+-- The keys of a map beside the members that it represents, and texts with and without a tree.
 use Rattle.std.proofs.Common.{◌≡◌, ℕ, Bool, true, false, ◌&&◌, cond, List, [], ◌∷◌, Option, Some}
 use Rattle.std.proofs.Common.{None, String, Global, string_bytes, refl, ap}
 use Rattle.std.specs.List.{list_all}

@@ -66,8 +66,8 @@ fn read_base64(alloc: Global, text: &str) -> Result<Option<Bytes>, Memory>
     }
 }
 
-/// The bytes that a text in base64 writes, in the standard alphabet and padded. Want of memory is
-/// the only refusal.
+/// The bytes that a text in base64 writes, in the standard alphabet and padded. The call refuses
+/// only if memory runs out.
 #[tactic(auto, unfolding(crate::specs::Codes::bytes_data))]
 pub fn bytes_of(alloc: Global, value: &Value) -> Result<Option<Bytes>, Memory>
     ensures value { IfOk result (λ o. o ≡ bytes_data (view value.now)) }
