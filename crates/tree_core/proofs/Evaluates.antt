@@ -72,7 +72,7 @@ eval-one_push : (h : List ℕ → List ℕ) (w : List (List ℕ)) (m n : ℕ) (l
 eval-one_push h [] m n leaf p one = eval-long h m n leaf p [] one
 eval-one_push h (z ∷ q) m n leaf p one = eval-long h m n leaf z (q ++ p ∷ []) one
 
--- The steps below: r at place m of n joins its sibling p to the node up at place a of c, where m is
+-- The steps below: r at index m of n joins its sibling p to the node up at index a of c, where m is
 -- child i of a, c is half of n rounded up, and j is 1 where n is even.
 
 -- a path of one sibling in a tree of two leaves
@@ -176,7 +176,7 @@ eval-step h r p up (z ∷ q) m n a c i j m_is n_is i_bit j_bit sibling left righ
     (λ (one : c ≤ 1). eval-long_step h r p up z q m n a c i j m_is n_is i_bit j_bit sibling one)
     (cases_lt 1 c)
 
--- The last node of a level with an even place has no sibling: it stands for itself on the level
+-- The last node of a level with an even index has no sibling: it represents itself on the level
 -- above
 pub eval-promoted : (h : List ℕ → List ℕ) (r : List ℕ) (w : List (List ℕ)) (m n a c : ℕ)
     → m ≡ 2 * a → n ≡ m + 1 → c ≡ a + 1 → 1 ≤ a
@@ -250,8 +250,8 @@ eval_of-long h m n r path used more one =
     ∙ ap (eval_from_root h m n r) (reverse-append (p ∷ []) (drop (used + 1) path))
     ∙ eval-one_push h (reverse (drop (used + 1) path)) m n r p one
 
--- what a loop over the levels keeps: from the node at this place of its level and the hashes that
--- are not used, the definition gives what it gives from the leaf and the whole path
+-- what a loop over the levels preserves: from the node at this index of its level and the hashes
+-- that are not used, the definition gives what it gives from the leaf and the whole path
 pub record EvaluatesFrom (h : List ℕ → List ℕ) (leaf : List ℕ) (m n : ℕ) (path : List (List ℕ))
     (place last used : ℕ) (node : List ℕ) : Type 0 where
   pub inside : place ≤ last

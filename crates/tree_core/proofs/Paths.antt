@@ -236,7 +236,7 @@ is_some-test : (b : Bool) (x : List ℕ) → is_some (cond b (Some x) None) ≡ 
 is_some-test true x = refl
 is_some-test false x = refl
 
--- no sibling is left: a value where there is one leaf, at place 0
+-- no sibling is left: a value where there is one leaf, at index 0
 value-nil : (h : List ℕ → List ℕ) (m n : ℕ) (leaf : List ℕ)
     → is_some (eval_from_root h m n leaf []) ≡ (eqb m 0 && eqb n 1)
 unfolding eval_from_root

@@ -14,8 +14,8 @@ bit_length (suc n) = if nat_lt (suc n) (2 ^ bit_length n) then bit_length n else
 abbrev pub clear_low : ℕ → ℕ → ℕ
 clear_low n k = n / 2 ^ k * 2 ^ k
 
--- The interval itself, where it holds one entry. Else split is the highest bit in which the first
--- place and the last one differ, the second subtree begins where that bit of the last place is set
+-- The interval itself, if it holds one entry. Else split is the highest bit in which the first
+-- index and the last one differ, the second subtree begins where that bit of the last index is set
 -- and no lower one, and the first begins at start without its low bits up to the highest one below
 -- split that it lacks.
 unfoldable pub cover_of : ℕ → ℕ → Cover
@@ -33,9 +33,9 @@ cover_of start end =
       second = Some (record { start = middle; end = end });
     }
 
--- The first is a subtree that begins no later than the interval. Where there is no second, it ends
--- with the interval. Else it holds the interval's first entry, and the second is a subtree that
--- begins where the first ends, and ends with the interval.
+-- The first is a subtree that begins no later than the interval. It ends with the interval if there
+-- is no second. Else it holds the interval's first entry, and the second is a subtree that begins
+-- where the first ends, and ends with the interval.
 pub record CoversInterval (start end : ℕ) (cover : Cover) : Type 0 where
   pub begins : cover.first.start ≤ start
   pub holds : start < cover.first.end

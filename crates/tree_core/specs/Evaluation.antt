@@ -9,10 +9,10 @@ use Rattle.tree_core.specs.Split.{split_of}
 use Rattle.tree_core.specs.Subtree.{is_subtree}
 use Rattle.tree_core.specs.Tree.{pair_hash}
 
--- The root of a tree of n leaves that has this leaf hash at place m, by the siblings of its nodes
--- from the root's children down. Of one leaf it is that leaf, where m is 0 and no sibling is left.
--- Of more the first sibling is the right one where m lies left of the split, and else the left one.
--- No value in all other cases.
+-- The root of a tree of n leaves that has this leaf hash at index m, by the siblings of its nodes
+-- from the root's children down. For one leaf it is that leaf, if m is 0 and no sibling is left.
+-- For more leaves the first sibling is the right one if m lies left of the split, and else the left
+-- one. It has no value in all other cases.
 unfoldable pub eval_from_root : HashFunction → ℕ → ℕ → Hash → List Hash → Option Hash
 eval_from_root h m n leaf [] = if (m == 0) && (n == 1) then Some leaf else None
 eval_from_root h m n leaf (z ∷ q) =
@@ -26,8 +26,8 @@ eval_from_root h m n leaf (z ∷ q) =
 unfoldable pub eval_of : HashFunction → ℕ → ℕ → Hash → List Hash → Option Hash
 eval_of h m n leaf path = eval_from_root h m n leaf (reverse path)
 
--- The node above the node at place m of its level and its sibling, which is on the right of an even
--- place.
+-- The node above the node at index m of its level and its sibling, which is on the right of an even
+-- index.
 abbrev pub parent_hash : HashFunction → ℕ → Hash → Hash → Hash
 parent_hash h m node sibling =
     if m % 2 == 0 then pair_hash h node sibling else pair_hash h sibling node

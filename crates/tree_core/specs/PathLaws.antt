@@ -28,7 +28,7 @@ PathsEvaluate h = (leaves : List Hash) (m : ℕ) → m < length leaves
     → let leaf = slice_index_or leaves m [] in
     eval_of h m (length leaves) leaf (path_of h m leaves) ≡ Some (root_of h leaves)
 
--- A path has a value exactly where it is as long as the inclusion path.
+-- A path has a value exactly if it is as long as the inclusion path.
 abbrev pub PathsByLength : HashFunction → Type 0
 PathsByLength h = (leaves path : List Hash) (m : ℕ) (leaf : Hash) → m < length leaves
     → IsSome (eval_of h m (length leaves) leaf path) ↔ (length path ≡ length (path_of h m leaves))
@@ -43,8 +43,8 @@ SubtreePathsEvaluate h = (entries : List Text) (index start end : ℕ)
     let path = inclusion_path h (index - start) part in
     evaluation h (leaf_hash h entry) index start end path ≡ Ok (tree_hash h part)
 
--- In a subtree and for an index in it, the answer is WrongLength exactly where the path is not as
--- long as the inclusion path of that place, whatever the leaves are.
+-- In a subtree and for an index in it, the answer is WrongLength exactly if the path is not as long
+-- as the inclusion path of that index, whatever the leaves are.
 abbrev pub WrongLengthByPath : HashFunction → Type 0
 WrongLengthByPath h = (leaves path : List Hash) (index start end : ℕ) (leaf : Hash)
     → IsSubtree start end → start ≤ index → index < end → length leaves ≡ end - start

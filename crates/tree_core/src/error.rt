@@ -1,6 +1,6 @@
 //! Why a path has no value.
 
-/// Why a path has no value at a place. The tests are made in this order.
+/// Why a path has no value at an index. The tests are made in this order.
 #[derive(Clone, Copy, PartialEq, Eq, Debug)]
 pub enum EvalError {
     /// The interval is no subtree.

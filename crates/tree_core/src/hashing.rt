@@ -11,9 +11,9 @@ pub const LEAF: u8 = 0;
 /// The byte before the two hashes of a pair, where they are hashed (RFC 9162, section 2.1.1).
 pub const PAIR: u8 = 1;
 
-/// The hash function of a tree, as a running hash: a value stands for the bytes added so far.
+/// The hash function of a tree, as a running hash: a value represents the bytes added so far.
 pub trait TreeHash: Sized {
-    /// The value stands for these bytes.
+    /// The value represents these bytes.
     ghost represents: { Self → Text → Type 0 };
 
     /// The type's one function from bytes to a hash.
@@ -23,7 +23,7 @@ pub trait TreeHash: Sized {
     fn begin() -> Self
         ensures { represents result [] };
 
-    /// Adds bytes behind those so far.
+    /// Appends bytes to those added so far.
     fn add(&mut self, piece: &[u8])
         ensures { (b : Text) → represents self.old b → represents self.new (b ++ piece.now) };
 

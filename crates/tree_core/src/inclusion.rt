@@ -5,7 +5,7 @@ ghost use Rattle.tree_core.specs.Evaluation.{evaluation, parent_hash};
 
 use crate::{EvalError, TreeHash, pair, subtree_ok};
 
-// The node above the node at this place of its level and its sibling.
+// The node above the node at this index of its level and its sibling.
 fn parent<H: TreeHash>(place: u64, node: &[u8; 32], sibling: &[u8; 32]) -> [u8; 32]
     ensures { result ≡ parent_hash H.hash place node.now sibling.now }
 {
@@ -39,8 +39,8 @@ pub fn evaluate<H: TreeHash>(
     if index < start || end <= index {
         return Err(EvalError::Outside);
     }
-    // The place of the node on its level, and the last place there. A level where the node is the
-    // last one and has an even place gives it no sibling.
+    // The index of the node on its level, and the last index there. If the node is the last one of
+    // its level and has an even index, it has no sibling there.
     let mut place = index - start;
     let mut last = end - 1 - start;
     let mut node = *leaf;

@@ -13,15 +13,15 @@ pub fn law_tree_hash_by_clauses()
     ensures split { SplitsAtLargestPower }
 {}
 
-/// The law of subtrees: an interval is one exactly where it has entries and starts at a multiple
-/// of the least power of two that is not below its length, in numbers without a bound.
+/// The law of subtrees: an interval is one exactly if it has entries and starts at a multiple of
+/// the least power of two that is not below its length, in numbers without a bound.
 pub fn law_subtrees_by_power()
     ensures { SubtreesByPower }
 {}
 
 /// The law of inclusion paths, for every hash function: the path of the only entry, and of one of
 /// more by their split at the largest power of two below their number (RFC 9162, section 2.1.3.1);
-/// it evaluates to the tree hash, and a path has a value exactly where it is as long as that one.
+/// it evaluates to the tree hash, and a path has a value exactly if it is as long as that one.
 pub fn law_inclusion_paths_evaluate()
     ensures path { (h : HashFunction) → IsInclusionPath h }
     ensures evaluates { (h : HashFunction) → PathsEvaluate h }

@@ -1,5 +1,5 @@
--- what the rest of the path gives from the node at this place is what the whole path gives from
--- the leaf
+-- what the rest of the path gives from the node at this index is what the whole path gives from the
+-- leaf
 use Rattle.std.proofs.Common.{◌-◌}
 use Rattle.tree_core.proofs.Evaluates.{EvaluatesFrom}
 use Rattle.tree_core.proofs.inclusion.evaluate.Given as goal
