@@ -1,5 +1,5 @@
-//! The tree hash of a list that grows (RFC 9162, section 2.1), from at most 64 hashes in the place
-//! of all its nodes: its peaks, the roots of the full trees of which its tree is made.
+//! The tree hash of a list that grows (RFC 9162, section 2.1), from at most 64 hashes instead of
+//! all its nodes: its peaks, the roots of the full trees of which its tree is made.
 //!
 //! A hash is 32 bytes. A list of `n` entries has as many peaks as `n` has ones in binary, the
 //! largest first. Contracts see leaf hashes, and a state as a size and its peaks. No call takes
