@@ -15,7 +15,7 @@ use Rattle.tree_cache.specs.Rows.{RowsState, count_of, filled_of, first_row, gon
 use Rattle.tree_cache.specs.Rows.{first_length, paired, row_count}
 use Rattle.tree_core.specs.Tree.{pair_hash}
 
--- the rows of some leaves stand for so many
+-- the rows of some leaves represent so many
 pub count-rows : (h : List ℕ → List ℕ) (leaves : List (List ℕ)) (r : RowsState)
     → AreRowsOf h leaves r → count_of r ≡ length leaves
 count-rows h leaves r are = let long = is-long leaves r.first are.first in long.all
@@ -274,7 +274,7 @@ all-none h r are whole none = record {
   filled = let count = count-rows h [] r are in omega arith;
 }
 
--- more room, or one leaf more and all nodes over it
+-- more capacity, or one leaf more and all nodes over it
 pub all-grown : (h : List ℕ → List ℕ) (old new : RowsState) → AreAllOf h (first_row old) old
     → HaveGrown old new → AreAllOf h (first_row new) new
 all-grown h old new all grown = record {

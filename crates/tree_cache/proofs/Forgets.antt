@@ -25,7 +25,7 @@ eights (suc k) =
 pub bytes-of : (k : ℕ) → 2 ^ (8 * k) ≡ 256 ^ k
 bytes-of k = sym (eights k)
 
--- a shift of one by up to eight places drops nothing
+-- a shift of one by at most eight bits drops nothing
 pub one-shifted : (k : ℕ) → k ≤ 8 → 1 * 2 ^ k % 18446744073709551616 ≡ 2 ^ k
 one-shifted k few =
     let most : 2 ^ k ≤ 2 ^ 8 = pow-le-pow_right {n = 2} (omega arith) few in
@@ -160,7 +160,7 @@ unfolding CanForgetAll
 can-none size level [] none = tt
 can-none size level (row ∷ rows) none = let no : ⊥ = omega arith in absurd no
 
--- rows of at least so many leaves can let go what stands in the tiles that these fill
+-- rows of at least so many leaves can drop what stands in the tiles that these fill
 pub can-from : (size level count : ℕ) (rows : List RowState) → AreLong count rows
     → size / 2 ^ level ≤ count
     → ((at : ℕ) → gone_in rows at ≤ gone_of size (level + at)) → CanForgetAll size level rows
@@ -256,7 +256,7 @@ module _ (size : ℕ) (r : RowsState) (sound : AreSound r) (few : size < 2 ^ 32)
       gone-over above at (omega arith) ∙ sym (none-left at outside))
       (cases_lt at (length r.above))
 
--- nodes let go from rows
+-- nodes dropped from rows
 pub record IsForgotten (size : ℕ) (old new : RowsState) : Type 0 where
   pub sound : AreSound new
   pub rows_of : (h : List ℕ → List ℕ) (leaves : List (List ℕ)) → AreRowsOf h leaves old

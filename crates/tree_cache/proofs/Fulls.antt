@@ -212,7 +212,7 @@ kept-root h (suc level) leaves r row place at are behind within =
     ((place + 1) * 2 ^ level) (first_length r.above) order (omega arith))
     ∙ root-pairs h level leaves place (omega arith)
 
--- so many hashes of a row, from a place on
+-- so many hashes of a row, from an index on
 pub kept-roots : (h : List ℕ → List ℕ) (level : ℕ) (leaves : List (List ℕ)) (r : RowsState)
     (row : RowState) (from count place : ℕ) (hashes : List (List ℕ)) → IsRowAt r level row
     → hashes ≡ take count (drop (from - row.gone) row.kept) → AreRowsOf h leaves r

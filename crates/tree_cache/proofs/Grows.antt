@@ -1,4 +1,4 @@
--- Rows that were given more room, and rows of no hashes.
+-- Rows that were given more capacity, and rows of no hashes.
 use Rattle.std.proofs.Common.{◌≡◌, ℕ, zero, suc, ◌+◌, ◌*◌, ◌/◌, ◌%◌, ◌^◌, ◌<◌, ◌≤◌, inl}
 use Rattle.std.proofs.Common.{List, [], ◌∷◌, length, take, drop}
 use Rattle.std.proofs.Common.{sym, ◌∙◌, ap, refl, subst, arith}

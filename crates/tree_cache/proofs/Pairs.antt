@@ -34,7 +34,7 @@ paired-joined h (x ∷ y ∷ rest) z (suc (suc last)) odd is =
     ap (λ row. pair_hash h x y ∷ row)
     (paired-joined h rest z last (omega arith) (omega arith))
 
--- a pair is that of the hashes at its two places
+-- a pair is that of the hashes at its two indices
 pub paired-at : (h : List ℕ → List ℕ) (xs : List (List ℕ)) (k : ℕ) → 2 * k + 1 < length xs
     → get_or (paired h xs) k [] ≡ pair_hash h (get_or xs (2 * k) []) (get_or xs (2 * k + 1) [])
 unfolding paired
@@ -49,7 +49,7 @@ paired-at h (x ∷ y ∷ rest) (suc k) inside =
     ∙ ap (λ i. pair_hash h (get_or (x ∷ y ∷ rest) (2 * suc k) [])
     (get_or (x ∷ y ∷ rest) i [])) right
 
--- the pairs of a part of even places
+-- the pairs of a part of even indices
 twice : ℕ → ℕ
 twice zero = zero
 twice (suc k) = suc (suc (twice k))

@@ -29,7 +29,7 @@ long-of h leaves (row ∷ rows) are = (
   subst (λ n. AreLong n rows) (length-paired h leaves) (long-of h (paired h leaves) rows are.1),
 )
 
--- no rows at all have no room
+-- no rows at all have no capacity
 pub capacity-some : (rows : List RowState) → HaveCapacity rows → length rows ≡ 0 → ⊥
 unfolding AreLong HoldUpTo
 capacity-some [] has none =
@@ -39,7 +39,7 @@ capacity-some [] has none =
     omega arith
 capacity-some (row ∷ rows) has none = omega arith
 
--- a row has room where the rows have
+-- a row has capacity where the rows have
 pub capacity-spare : (rows : List RowState) (row : RowState) (above : List RowState)
     → rows ≡ row ∷ above → HaveCapacity rows → 0 < row.spare
 unfolding AreLong HoldUpTo
@@ -50,7 +50,7 @@ capacity-spare rows row above is has =
     let capacity : here.capacity ≤ row.gone + length row.kept + row.spare = here.holds.0 in
     omega arith
 
--- the rows above have room for the parent of a pair
+-- the rows above have capacity for the parent of a pair
 pub capacity-above : (rows : List RowState) (row : RowState) (above : List RowState) (count : ℕ)
     → rows ≡ row ∷ above → HaveCapacity rows → count ≡ length row.kept + 1 → count % 2 ≡ 0
     → HaveCapacity above
@@ -86,7 +86,7 @@ counted-above rows row above is counted =
     let few = here.few in
     record { count = here.count / 2; few = omega arith; long = here.long.1 }
 
--- one hash more behind a row
+-- one hash more at the end of a row
 pub row-pushed : (hashes : List (List ℕ)) (hash : List ℕ) (row pushed : RowState)
     → pushed.gone ≡ row.gone → pushed.kept ≡ row.kept ++ hash ∷ [] → IsRowOf hashes row
     → IsRowOf (hashes ++ hash ∷ []) pushed

@@ -6,14 +6,14 @@ use Rattle.std.specs.List.{All}
 use Rattle.byte_formats.specs.Types.{Hash, HashFunction}
 use Rattle.tree_core.specs.Tree.{pair_hash}
 
--- How many hashes are gone from the front of a row, those behind them, and how many more need no
+-- How many hashes are gone from the start of a row, those after them, and how many more need no
 -- memory.
 pub record RowState : Type 0 where
   pub gone : ℕ
   pub kept : List Hash
   pub spare : ℕ
 
--- How many hashes a row stands for.
+-- How many hashes a row represents.
 abbrev pub row_count : RowState → ℕ
 row_count row = row.gone + length row.kept
 
@@ -23,30 +23,29 @@ paired h [] = []
 paired h (x ∷ []) = []
 paired h (x ∷ y ∷ rest) = pair_hash h x y ∷ paired h rest
 
--- A row keeps these hashes, but for an even number at their front.
+-- A row has these hashes, but for an even number at their start.
 pub record IsRowOf (hashes : List Hash) (row : RowState) : Type 0 where
   pub kept : row.kept ≡ drop row.gone hashes
   pub within : row.gone ≤ length hashes
   pub even : row.gone % 2 ≡ 0
 
 -- The first of these rows is that of these hashes, and each row that of the pairs of the one below
--- it. Where the rows end no hash is left.
+-- it. No hash is left where the rows end.
 unfoldable pub AreFullRowsOf : HashFunction → List Hash → List RowState → Type 0
 AreFullRowsOf h hashes [] = hashes ≡ []
 AreFullRowsOf h hashes (row ∷ rows) = IsRowOf hashes row × AreFullRowsOf h (paired h hashes) rows
 
--- A row stands for so many hashes, of which an even number is gone.
+-- A row represents so many hashes, of which an even number is gone.
 pub record IsLong (count : ℕ) (row : RowState) : Type 0 where
   pub all : row_count row ≡ count
   pub even : row.gone % 2 ≡ 0
 
--- The first of these rows stands for so many hashes, and each row for half as many as the one below
--- it.
+-- The first of these rows represents so many hashes, and each row half as many as the one below it.
 unfoldable pub AreLong : ℕ → List RowState → Type 0
 AreLong count [] = count ≡ 0
 AreLong count (row ∷ rows) = IsLong count row × AreLong (count / 2) rows
 
--- The rows stand for some number of hashes below 2^64.
+-- The rows represent some number of hashes below 2^64.
 pub record HaveCount (rows : List RowState) : Type 0 where
   pub count : ℕ
   pub few : count < 2 ^ 64
@@ -66,7 +65,7 @@ pub record HaveCapacity (rows : List RowState) : Type 0 where
   pub holds : HoldUpTo capacity rows
   pub below : count < capacity
 
--- How many hashes are gone from the front of a level of some rows.
+-- How many hashes are gone from the start of a level of some rows.
 unfoldable pub gone_in : List RowState → ℕ → ℕ
 gone_in [] level = 0
 gone_in (row ∷ rows) zero = row.gone
@@ -99,7 +98,7 @@ pub record CanReach (from to : ℕ) (rows : List RowState) : Type 0 where
   pub holds : HoldUpTo capacity rows
   pub within : to ≤ capacity
 
--- How many hashes the first of some rows stands for.
+-- How many hashes the first of some rows represents.
 abbrev pub first_length : List RowState → ℕ
 first_length [] = 0
 first_length (row ∷ rows) = row_count row
@@ -140,7 +139,7 @@ pub record AreRowsOf (h : HashFunction) (leaves : List Hash) (r : RowsState) : T
   pub first : IsRowOf leaves r.first
   pub above : AreFullRowsOf h (take (first_length r.above) (paired h leaves)) r.above
 
--- The leaf hashes that are kept: all of them, where none is gone.
+-- The leaf hashes that are retained: all of them, where none is gone.
 abbrev pub first_row : RowsState → List Hash
 first_row r = r.first.kept
 
@@ -158,7 +157,7 @@ filled_of r = min (count_of r) (2 * first_length r.above + 1)
 abbrev pub filled_to : ℕ → RowsState → ℕ
 filled_to size r = max (filled_of r) (min (count_of r) (2 * (size / 2) + 1))
 
--- How many hashes are gone from the front of a level.
+-- How many hashes are gone from the start of a level.
 unfoldable pub gone_at : RowsState → ℕ → ℕ
 gone_at r zero = r.first.gone
 gone_at r (suc level) = gone_in r.above level

@@ -19,7 +19,7 @@ CanForgetAll size level [] = Unit {0}
 CanForgetAll size level (row ∷ rows) =
     CanForget (gone_of size level) row × CanForgetAll size (level + 1) rows
 
--- So many hashes are gone from the front of a row, and those behind them are as they were.
+-- So many hashes are gone from the start of a row, and those after them are as they were.
 pub record HasForgotten (gone : ℕ) (old new : RowState) : Type 0 where
   pub gone_is : new.gone ≡ gone
   pub kept : new.kept ≡ drop (gone - old.gone) old.kept

@@ -15,7 +15,7 @@ use std::marker::{Model, PhantomData};
 use tree_core::TreeHash;
 use tree_proofs::{Nodes, node_of};
 
-/// A list of leaf hashes as nodes, which keeps the hash of each full subtree: it makes it when its
+/// A list of leaf hashes as nodes, which stores the hash of each full subtree: it makes it when its
 /// last leaf comes, and then looks it up. It never fails.
 ///
 /// Contracts see the leaf hashes and a number of spare leaves: so many more need no memory.
@@ -51,8 +51,8 @@ impl<H: TreeHash> Cache<H> {
         self.rows.count()
     }
 
-    /// Makes room for at least `count` more leaves. It is refused only where fewer are spare. The
-    /// list stays as it was, also then.
+    /// Reserves capacity for at least `count` more leaves. It is refused only where fewer are
+    /// spare. The list stays as it was, whether the call is refused or not.
     pub fn reserve(&mut self, count: usize) -> Result<(), Memory>
         ensures list { self.new.leaves ≡ self.old.leaves }
         ensures spare { OnOk result (count ≤ self.new.spare) }
@@ -62,7 +62,7 @@ impl<H: TreeHash> Cache<H> {
         self.rows.reserve(count)
     }
 
-    /// Puts a leaf hash behind the others. It is refused only where no spare leaf is left, and
+    /// Appends a leaf hash to the others. It is refused only where no spare leaf is left, and
     /// leaves the list as it was then.
     pub fn push(&mut self, leaf: &[u8; 32]) -> Result<(), Memory>
         ensures ok { OnOk result (self.new.leaves ≡ self.old.leaves ++ leaf.now ∷ []) }

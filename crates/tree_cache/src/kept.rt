@@ -1,4 +1,4 @@
-//! Rows of nodes, of which those at the front may be gone.
+//! Rows of nodes, of which those at the start may be gone.
 
 ghost use Rattle.std.specs.Prelude.{◌≡◌, ℕ, ◌+◌, ◌*◌, ◌/◌, ◌^◌, ◌<◌, ◌≤◌, List, [], ◌∷◌, ◌++◌};
 ghost use Rattle.std.specs.Prelude.{length, slice_index_or, IfSome, IfNone, OnOk, OnErr};
@@ -18,7 +18,7 @@ use std::marker::Model;
 use tree_core::TreeHash;
 
 /// The hashes of the full subtrees of a list of leaf hashes, in rows from the leaves up, but for so
-/// many at the front of each row. Those above the leaves are late: they are made over the first
+/// many at the start of each row. Those above the leaves are late: they are made over the first
 /// leaves alone, as many as were asked for.
 ///
 /// Rows don't say which leaves these are, since the first may be gone: they are rows of each list
@@ -75,8 +75,8 @@ impl Rows {
         self.first.count()
     }
 
-    /// Makes room for at least `count` more leaves and the nodes over them. It is refused only
-    /// where fewer are spare. The rows stay as they were, also then.
+    /// Reserves capacity for at least `count` more leaves and the nodes over them. It is refused
+    /// only where fewer are spare. The rows stay as they were, whether the call is refused or not.
     pub fn reserve(&mut self, count: usize) -> Result<(), Memory>
         ensures grown { HaveGrown self.old self.new }
         ensures spare { OnOk result (count ≤ spare_of self.new) }
@@ -87,7 +87,7 @@ impl Rows {
         if count as u64 <= self.capacity - size {
             return Ok(());
         }
-        // Growth by as many leaves as are kept keeps the cost of many single leaves linear.
+        // Growth by as many leaves as are retained makes the cost of many single leaves linear.
         let more = self.first.as_slice().len().max(count);
         let capacity = size.checked_add(more as u64).ok_or(Memory)?;
         self.first.reserve(more)?;
@@ -96,8 +96,7 @@ impl Rows {
         Ok(())
     }
 
-    /// Puts a leaf hash behind the others, within the capacity. It hashes nothing, and so makes no
-    /// node.
+    /// Appends a leaf hash, within the capacity. It hashes nothing, and so makes no node.
     pub fn push(&mut self, leaf: &[u8; 32])
         requires { count_of self.old < self.old.capacity }
         ensures pushed { (h : HashFunction) (leaves : List Hash) → AreRowsOf h leaves self.old
@@ -134,7 +133,7 @@ impl Rows {
         self.above.get(level as usize - 1)
     }
 
-    /// The hashes of a level that are kept; none where the list is shorter than that.
+    /// The hashes of a level that are retained; none if the list is shorter than that.
     pub fn row(&self, level: u32) -> &[[u8; 32]]
         ensures { (h : HashFunction) (leaves : List Hash) → AreRowsOf h leaves self.now
             → filled_of self.now ≡ count_of self.now → gone_at self.now level ≡ 0
@@ -146,7 +145,8 @@ impl Rows {
         }
     }
 
-    /// The hashes of so many full subtrees of `2^level` leaves, from a place on. It hashes nothing.
+    /// The hashes of so many full subtrees of `2^level` leaves, from an index on. It hashes
+    /// nothing.
     pub fn hashes(&self, level: u32, from: u64, count: usize) -> &[[u8; 32]]
         requires some { 1 ≤ count }
         requires within { (from + count) * 2 ^ level ≤ filled_of self.now }
@@ -173,8 +173,8 @@ impl Rows {
         self.hashes(level, place, 1)[0]
     }
 
-    /// Lets the nodes go that stand in the tiles that the first `size` leaves fill. What they took
-    /// is given back where smaller blocks can be had; the room for more leaves stays.
+    /// Drops the nodes that stand in the tiles that the first `size` leaves fill. Their memory is
+    /// freed where smaller blocks can be had; the capacity for more leaves stays.
     pub fn forget(&mut self, size: u64)
         requires few { size < 2 ^ 32 }
         requires within { size ≤ filled_of self.old }

@@ -1,8 +1,9 @@
-//! The nodes of a Merkle tree, kept as the tree grows: the hash of each full subtree is made once,
-//! when its last leaf comes, and then looked up.
+//! The nodes of a Merkle tree, retained as the tree grows: the hash of each full subtree is made
+//! once, when its last leaf comes, and then looked up.
 //!
 //! A hash is 32 bytes. Contracts see the leaf hashes and a number of spare leaves. No call takes
-//! memory but [`Cache::push`] and [`Cache::reserve`], and a push behind a `reserve` takes none.
+//! memory but [`Cache::push`] and [`Cache::reserve`], and a push within what was reserved takes
+//! none.
 //!
 //! ```rust
 //! use tree_cache::Cache;

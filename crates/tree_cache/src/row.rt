@@ -13,7 +13,7 @@ use std::marker::Model;
 use tree_core::{TreeHash, pair};
 
 // The hashes of the full subtrees of one level, in their order, but for so many that are gone from
-// their front.
+// their start.
 #[derive(Drop)]
 pub(crate) struct Row {
     gone: u64,
@@ -41,7 +41,7 @@ impl Row {
         }
     }
 
-    // How many hashes the row stands for, those that are gone with them.
+    // How many hashes the row represents, with those that are gone.
     pub(crate) fn count(&self) -> u64
         requires { row_count self.now < 2 ^ 64 }
         ensures { result ≡ row_count self.now }
@@ -49,14 +49,14 @@ impl Row {
         self.gone + self.hashes.len() as u64
     }
 
-    // The hashes that are kept.
+    // The hashes that are retained.
     pub(crate) fn as_slice(&self) -> &[[u8; 32]]
         ensures { result.now ≡ self.now.kept }
     {
         self.hashes.as_slice()
     }
 
-    // So many of the hashes, from a place on that counts those that are gone.
+    // So many of the hashes, from an index on that counts those that are gone.
     pub(crate) fn part(&self, from: u64, count: usize) -> &[[u8; 32]]
         requires gone { self.now.gone ≤ from }
         requires within { from + count ≤ self.now.gone + length self.now.kept }
@@ -67,7 +67,7 @@ impl Row {
         &hashes[first..first + count]
     }
 
-    // Makes room for at least `count` more hashes.
+    // Reserves capacity for at least `count` more hashes.
     pub(crate) fn reserve(&mut self, count: usize) -> Result<(), Memory>
         ensures gone { self.new.gone ≡ self.old.gone }
         ensures hashes { self.new.kept ≡ self.old.kept }
@@ -78,7 +78,7 @@ impl Row {
         Ok(())
     }
 
-    // Puts a hash behind the others, in room that is there.
+    // Appends a hash, within the capacity.
     pub(crate) fn push(&mut self, hash: &[u8; 32])
         requires { 0 < self.old.spare }
         ensures gone { self.new.gone ≡ self.old.gone }
@@ -103,7 +103,7 @@ impl Row {
         pair::<H>(&two[0], &two[1])
     }
 
-    // Lets hashes go from the front until so many are gone.
+    // Drops hashes from the start until so many are gone.
     pub(crate) fn let_go(&mut self, gone: u64)
         requires { CanForget gone self.old }
         ensures { HasForgotten gone self.old self.new }
@@ -131,7 +131,7 @@ impl Row {
     }
 }
 
-// Drops so many hashes from the front, and gives their room back where a smaller block can be had.
+// Drops so many hashes from the start, and frees their memory where a smaller block can be had.
 fn drop_prefix(hashes: &mut Vec<[u8; 32]>, count: usize)
     requires { count ≤ length hashes.old.items }
     ensures items { hashes.new.items ≡ drop count hashes.old.items }

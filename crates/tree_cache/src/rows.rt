@@ -27,7 +27,7 @@ pub(crate) fn empty_rows(alloc: Global) -> Result<Vec<Row>, Memory>
     Ok(rows)
 }
 
-// How many hashes the first of some rows stands for.
+// How many hashes the first of some rows represents.
 pub(crate) fn first_length(rows: &[Row]) -> u64
     requires { first_length rows.now < 2 ^ 64 }
     ensures { result ≡ first_length rows.now }
@@ -51,7 +51,7 @@ fn add_levels(alloc: Global, rows: &mut Vec<Row>) -> Result<(), Memory>
     Ok(())
 }
 
-// Makes room for so many nodes in the first of these rows, and for those above them.
+// Reserves capacity for so many nodes in the first of these rows, and for those above them.
 fn grow(rows: &mut [Row], capacity: u64) -> Result<(), Memory>
     requires small { capacity < 2 ^ length rows.old }
     requires counted { HaveCount rows.old }
@@ -68,7 +68,7 @@ fn grow(rows: &mut [Row], capacity: u64) -> Result<(), Memory>
     }
 }
 
-// Makes the capacity so many hashes in the first row, and the nodes above them.
+// Reserves capacity for so many hashes in the first row, and for the nodes above them.
 pub(crate) fn make_capacity(alloc: Global, rows: &mut Vec<Row>, capacity: u64) -> Result<(), Memory>
     requires small { capacity < 2 ^ 63 }
     requires levels { HaveLevels rows.old.items }
@@ -81,8 +81,8 @@ pub(crate) fn make_capacity(alloc: Global, rows: &mut Vec<Row>, capacity: u64) -
     grow(rows.as_mut_slice(), capacity)
 }
 
-// Puts a hash behind the others of the first of these rows, and above it each node of which it is
-// the last part.
+// Appends a hash to the first of these rows, and to those above it each node of which it is the
+// last part.
 pub(crate) fn push_up<H: TreeHash>(rows: &mut [Row], hash: &[u8; 32])
     requires { HaveCapacity rows.old }
     ensures { HavePushed H.hash hash.now rows.old rows.new }
@@ -125,7 +125,7 @@ pub(crate) fn nodes_in_tiles(size: u64, level: u32) -> u64
     (size >> width) * (1 << (8 - level % 8))
 }
 
-// Lets the nodes go, from this level on, that stand in the tiles that the first `size` leaves fill.
+// Drops the nodes, from this level on, that stand in the tiles that the first `size` leaves fill.
 pub(crate) fn forget_from(rows: &mut [Row], size: u64, level: u32)
     requires few { size < 2 ^ 32 }
     requires small { level + length rows.old ≤ 64 }
