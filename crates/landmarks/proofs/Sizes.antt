@@ -9,7 +9,7 @@ use Rattle.std.proofs.lemmas.List.{length-take}
 use Rattle.landmarks.specs.Landmarks.{IsLandmarks, active_count}
 use Rattle.landmarks.specs.Landmarks.{landmarks_of, landmark_size}
 
--- the size listed at a place
+-- the size listed at an index
 pub listed : (marks : List ℕ) (most i : ℕ) → i < most + 1 → i ≤ length marks
     → get_or (take (most + 1) (reverse (0 ∷ marks))) i 0 ≡ get_or (0 ∷ marks) (length marks - i) 0
 listed marks most i here within =
@@ -24,7 +24,7 @@ count marks most =
     length-reverse (0 ∷ marks) ∙ omega arith in
     length-take (most + 1) (reverse (0 ∷ marks)) ∙ ap (min (most + 1)) all
 
--- numbers that rise from 0 on are at least their places
+-- numbers that rise from 0 on are at least their indices
 rises : (xs : List ℕ) → IsStrictlyIncreasing xs → (k : ℕ) → k < length xs → k ≤ get_or xs k 0
 rises xs rise zero here = omega arith
 rises xs rise (suc k) here =

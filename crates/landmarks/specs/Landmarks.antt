@@ -62,7 +62,7 @@ landmarks_of marks most = record {
 
 -- ---- what they cover
 
--- The subtrees of a landmark: those that cover the entries behind the landmark before it.
+-- The subtrees of a landmark: those that cover the entries after the landmark before it.
 abbrev pub subtrees_of : LandmarkList → ℕ → Cover
 subtrees_of l number = cover_of (landmark_size l (number - 1)) (landmark_size l number)
 

@@ -1,4 +1,4 @@
--- The text in which landmarks are handed out (the draft on Merkle Tree Certificates, where it
+-- The text in which landmarks are published (the draft on Merkle Tree Certificates, where it
 -- defines landmarks): how it is written, and reading it with its faults in their order.
 use Rattle.std.specs.Prelude.{ℕ, zero, suc, ◌+◌, ◌-◌, ◌^◌, ◌==◌, ◌&&◌, ◌||◌, not, nat_lt, List}
 use Rattle.std.specs.Prelude.{[], ◌∷◌, ◌++◌, length, slice_index, decimal, flat_map, Result, Ok}
@@ -24,7 +24,7 @@ list_text l = decimal l.last ++ (0x20 ∷ line (active_count l) ++ flat_map line
 
 -- ---- read
 
--- A line with this number, without its end, and what is behind it.
+-- A line with this number, without its end, and what follows it.
 abbrev pub line_at : ℕ → Text → Result (Text × Text) ListError
 line_at n text = some_or (BadLine n) (first_line text)
 
@@ -33,7 +33,7 @@ abbrev pub number_line : ℕ → Text → Result (ℕ × Text) ListError
 number_line n text =
     line_at n text >>= λ cut. some_or (BadLine n) (number_of cut.0) >>= λ m. Ok (m, cut.1)
 
--- What line 0 says, and what is behind it.
+-- What line 0 says, and what follows it.
 pub record ListHead : Type 0 where
   pub last : ℕ
   pub active : ℕ

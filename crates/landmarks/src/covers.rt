@@ -1,4 +1,4 @@
-//! What the active landmarks stand for.
+//! What the active landmarks represent.
 
 ghost use Rattle.std.specs.Prelude.{◌≡◌, ℕ, ◌-◌, MatchOption};
 ghost use Rattle.tree_core.specs.Cover.{CoversInterval};
@@ -19,7 +19,7 @@ pub fn active(l: &Landmarks) -> Span
     }
 }
 
-/// The subtrees of an active landmark: those that cover the entries behind the landmark before it,
+/// The subtrees of an active landmark: those that cover the entries after the landmark before it,
 /// up to its own size.
 pub fn subtrees(l: &Landmarks, number: u64) -> Cover
     requires { IsActive l.now number }

@@ -6,7 +6,7 @@ use mtc_io::Memory as NoMemory;
 /// line before what its number has to be; the first fault is answered.
 #[derive(Clone, Copy, Debug, PartialEq, Eq)]
 pub enum ListError {
-    /// This line isn't in its form, or is missing, or stands behind the last one.
+    /// This line isn't in its form, or is missing, or follows the last one.
     BadLine(usize),
     /// The size in this line isn't below that in the line before it.
     NotFalling(usize),

@@ -66,7 +66,7 @@ impl Landmarks {
         self.sizes[0]
     }
 
-    // The entries behind the landmark before an active one, up to its size.
+    // The entries after the landmark before an active one, up to its size.
     pub(crate) fn interval(&self, number: u64) -> Span
         requires { IsActive self.now number }
         ensures start { result.start ≡ landmark_size self.now (number - 1) }
@@ -114,7 +114,7 @@ fn newest(alloc: Global, marks: &[u64], most: usize) -> Result<Vec<u64>, Memory>
     Ok(marks.iter().rev().copied().take(most).collect(alloc)?)
 }
 
-// The same, with that of landmark 0 behind them.
+// The same, with that of landmark 0 at the end.
 fn newest_from_zero(alloc: Global, marks: &[u64], most: usize) -> Result<Vec<u64>, Memory>
     ensures { IfOk result (λ sizes. sizes.items ≡ take most (reverse (0 ∷ marks.now))) }
 {

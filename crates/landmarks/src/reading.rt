@@ -1,4 +1,4 @@
-//! Reading the text in which landmarks are handed out.
+//! Reading the text in which landmarks are published.
 
 ghost use Rattle.std.specs.Prelude.{◌≡◌, ◌≢◌, ◌^◌, ◌<◌, ◌≤◌, [], ◌∷◌, ◌++◌, Ok, Err, IfOk, IfErr};
 ghost use Rattle.std.specs.Prelude.{OnOk};
@@ -14,7 +14,7 @@ use mtc_io::Memory;
 use std::alloc::Global;
 use tls_wire::{cut_at, first_line, read_number};
 
-// A line with this number, without its end, and what is behind it.
+// A line with this number, without its end, and what follows it.
 fn line_at(text: &[u8], n: usize) -> Result<(&[u8], &[u8]), ListError>
     ensures { Gives (λ cut. (cut.0.now, cut.1.now)) result (line_at n text.now) }
 {
@@ -30,7 +30,7 @@ fn number_line(text: &[u8], n: usize) -> Result<(u64, &[u8]), ListError>
     Ok((number, rest))
 }
 
-// What line 0 says, and what is behind it.
+// What line 0 says, and what follows it.
 #[derive(Clone, Copy)]
 struct Head<'a> {
     last: u64,
@@ -85,8 +85,8 @@ fn push(sizes: &mut Vec<u64>, size: u64) -> Result<(), Memory>
     Ok(())
 }
 
-// Puts the sizes of the active landmarks and of the one before them behind no sizes, and gives what
-// is behind their lines.
+// Puts the sizes of the active landmarks and of the one before them into an empty list, and gives
+// what follows their lines.
 fn read_sizes<'a>(head: Head<'a>, sizes: &mut Vec<u64>) -> Result<&'a [u8], ListError>
     requires none { sizes.old.items ≡ [] }
     requires few { head.active < 2 ^ 32 }
@@ -114,9 +114,8 @@ fn read_sizes<'a>(head: Head<'a>, sizes: &mut Vec<u64>) -> Result<&'a [u8], List
 ///
 /// Lines are read in order, and the first fault is answered: `BadLine` for a line that isn't in its
 /// form, is missing or isn't ended, or has another size than 0 for landmark 0; `TooManyActive`
-/// behind the form of line 0; `NotFalling` behind the form of a size; `BadLine` where something
-/// stands behind the last line. `BeyondLog` comes last. `Memory` may come before what stands behind
-/// line 0.
+/// after the form of line 0; `NotFalling` after the form of a size; `BadLine` if something follows
+/// the last line. `BeyondLog` comes last. `Memory` may come before what follows line 0.
 #[tactic(auto, unfolding(crate::specs::Texts::list_of))]
 pub fn read_list(
     alloc: Global,

@@ -1,4 +1,4 @@
-//! Writing the text in which landmarks are handed out.
+//! Writing the text in which landmarks are published.
 
 ghost use Rattle.std.specs.Prelude.{◌≡◌, ◌++◌, string_bytes, IfOk, OnOk};
 ghost use Rattle.landmarks.specs.Texts.{line, list_text};
@@ -7,7 +7,7 @@ use crate::list::Landmarks;
 use mtc_io::{Bytes, Memory};
 use std::alloc::Global;
 
-// Puts a number and the end of its line behind the text.
+// Appends a number and the end of its line to the text.
 fn put_line(text: &mut String, number: u64) -> Result<(), Memory>
     ensures { OnOk result (string_bytes text.new ≡ string_bytes text.old ++ line number) }
 {
