@@ -21,7 +21,7 @@ use Rattle.collide.specs.declared.finding.Finding.{Finding}
 use Rattle.collide.specs.declared.finding.Finding.TheVariants.{Pair, Same}
 use Rattle.collide.specs.Extraction.{Extracts, IsCollision}
 
--- what is hashed stays where there are more texts
+-- what is hashed stays where there are more strings
 pub collision_widened : (h : HashFunction) (xs ys vs ws : List Text) (x y : Text)
     → (Contains xs x → Contains vs x) → (Contains ys y → Contains ws y)
     → IsCollision h xs ys x y → IsCollision h vs ws x y
@@ -48,7 +48,7 @@ compares_widened h this that a b c d xs ys vs ws (Err (Found x y)) so first seco
     is = collision_widened h xs ys vs ws x y (firsts x) (seconds y) is
 compares_widened h this that a b c d xs ys vs ws (Err Memory) so first second firsts seconds is = tt
 
--- two texts are found where they differ and have one hash
+-- two strings are found where they differ and have one hash
 pub found_these : (h : HashFunction) (x y a b : Text) → a ≡ x → b ≡ y → (x ≡ y → ⊥) → h x ≡ h y
     → IsCollision h (x ∷ []) (y ∷ []) a b
 found_these h x y a b first second differ same = record {
@@ -135,7 +135,7 @@ lists_both h xs xl xr ys yl yr left right result first second size left_are righ
     pairs : (l r : Hash) {a b : Hash} → l ≡ a → r ≡ b → pair_hash h l r ≡ pair_hash h a b
     pairs l r left_is right_is = ap h (inputs l r left_is right_is)
 
--- the lists differ where texts were found
+-- the lists differ where strings were found
 pub apart_left : (xs xl xr ys yl yr : List Text) (halt : Halt) → AreHalves xs xl xr
     → AreHalves ys yl yr → WhereFound (xl ≢ yl) (Err halt) → WhereFound (xs ≢ ys) (Err halt)
 apart_left xs xl xr ys yl yr (Found x y) first second apart = λ same.
@@ -184,7 +184,7 @@ extracts_moved h this that xs ys vs ws (Pair x y) to from first second is = (
       (subst (λ texts. Contains texts y) second) is.1,
 )
 
--- the texts that were found
+-- the strings that were found
 pub found_of : (h : HashFunction) (same : Type 0) (a b : Hash) (xs ys : List Text)
     (result : Result Roots Halt) (x y : Text) → result ≡ Err (Found x y)
     → Compares h same a b xs ys result → IsCollision h xs ys x y

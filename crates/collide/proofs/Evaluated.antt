@@ -99,7 +99,7 @@ value_below f value (Some x) p is some =
     (x, (refl, sym (some_same (f x) value p is some)))
 value_below f value None p is some = absurd (none_some p value is some)
 
--- The texts of its evaluation.
+-- The strings of its evaluation.
 
 inputs_left : (h : HashFunction) (m n k : ℕ) (leaf z : Hash) (q : List Hash)
     → k ≡ split_of n → m < k → eval_inputs_from_root h m n leaf (z ∷ q)
@@ -192,7 +192,7 @@ item_right xs l r m a halves right =
     ap (λ part. get_or part a []) halves.right
     ∙ get_or-drop (split_of (length xs)) xs a [] ∙ ap (λ i. get_or xs i []) place
 
--- the comparison of a list of n entries with the path of the entry at place m
+-- the comparison of a list of n entries with the path of the entry at index m
 abbrev pub ComparesPath : HashFunction → List Text → ℕ → ℕ → Text → List Hash
     → Result Roots Halt → Type 0
 ComparesPath h xs m n entry path result =

@@ -1,5 +1,5 @@
 -- A list and a consistency proof, whatever they are: the proof's node is the list's own, or there
--- are two texts with one hash.
+-- are two strings with one hash.
 use Rattle.std.proofs.Common.{◌≡◌, ℕ, ◌-◌, ◌<◌, ◌≤◌, ◌⊎◌, ⊎_elim, inl, inr, Bool, true, false}
 use Rattle.std.proofs.Common.{List, [], ◌∷◌, ◌++◌, length, take, drop, Some, None, sym, ◌∙◌, ap}
 use Rattle.std.proofs.Common.{refl, subst, arith}
@@ -28,7 +28,7 @@ use Rattle.collide.specs.Extraction.{HasCollision}
 use Rattle.collide.specs.Inputs.{inputs_of, open_inputs_of, pair_input}
 use Rattle.collide.specs.Laws.{ProofsExtract}
 
--- where two hashes agree what they are computed from is the same, or there are two texts
+-- where two hashes agree what they are computed from is the same, or there are two strings
 abbrev pub Agrees : HashFunction → Type 0 → Hash → Hash → List Text → List Text → Type 0
 Agrees h same one other firsts seconds =
     (one ≡ other → same) ⊎ HasCollision h firsts seconds
@@ -53,7 +53,7 @@ texts_same x y = by_test (bytes_eq x y) refl
         let decides = bytes_eq-Decides x y in
         inr (λ same. false≢true (sym is ∙ decides.1 same))
 
--- what was found stays where there are more texts
+-- what was found stays where there are more strings
 pub found_wider : (h : HashFunction) (vs ws xs ys : List Text)
     → ((t : Text) → Contains vs t → Contains xs t) → ((t : Text) → Contains ws t → Contains ys t)
     → HasCollision h vs ws → HasCollision h xs ys
@@ -95,7 +95,7 @@ level_agrees h this that a c one other x y vs ws xs ys level below so (inl agree
     (texts_same (h x) (h y)))
     (texts_same x y)
 
--- two texts of pairs
+-- two strings of pairs
 pub pair_left : (a b c d : Hash) → length b ≡ length d → pair_input a b ≡ pair_input c d → a ≡ c
 pair_left a b c d size same =
     let texts = unprefixed 1 (a ++ b) (c ++ d) same in

@@ -1,4 +1,4 @@
--- Two lists of one length, whatever they are: they are the same, or there are two texts with one
+-- Two lists of one length, whatever they are: they are the same, or there are two strings with one
 -- hash.
 use Rattle.std.proofs.Common.{◌≡◌, ℕ, zero, suc, ◌<◌, ◌≤◌, ⊎_elim, inl, inr, List, [], ◌∷◌, length}
 use Rattle.std.proofs.Common.{take, drop, sym, ◌∙◌, ap, refl, subst, arith}

@@ -1,5 +1,5 @@
 -- A list and an inclusion path, whatever they are: the entry is the list's own, or there are two
--- texts with one hash.
+-- strings with one hash.
 use Rattle.std.proofs.Common.{◌≡◌, ℕ, ◌+◌, ◌-◌, ◌<◌, ◌≤◌, ⊎_elim, inl, inr, List, [], ◌∷◌}
 use Rattle.std.proofs.Common.{◌++◌, length, take, drop, get_or, Some, sym, ◌∙◌, ap, refl, subst}
 use Rattle.std.proofs.Common.{arith}

@@ -1,4 +1,4 @@
--- The texts in a tree hash, by the parts of its list, and hashes by their length.
+-- The strings in a tree hash, by the parts of its list, and hashes by their length.
 use Rattle.std.proofs.Common.{◌≡◌, ℕ, zero, suc, ◌<◌, ◌≤◌, ⊎_elim, List, [], ◌∷◌, ◌++◌}
 use Rattle.std.proofs.Common.{length, take, drop, sym, ◌∙◌, ap, refl, subst, arith}
 use Rattle.std.specs.List.{Contains}
@@ -17,7 +17,7 @@ use Rattle.tree_proofs.specs.Halves.{AreHalves}
 use Rattle.collide.specs.Inputs.{inputs_of, inputs_within, leaf_input, pair_input}
 use Rattle.collide.specs.Laws.{AreInputs}
 
--- Texts among texts.
+-- Strings among strings.
 
 pub first_in : (x : Text) (xs : List Text) → Contains (x ∷ xs) x
 first_in x xs = Contains-append_left (x ∷ []) xs x (Contains-push [] x)
@@ -35,7 +35,7 @@ only_in x y within =
     none_below : (k : ℕ) → k < 0 → ⊥
     none_below k below = omega arith
 
--- The texts in the tree hash, at any depth that is not below the number of entries.
+-- The strings in the tree hash, at any depth that is not below the number of entries.
 
 inputs_within_more : (d e : ℕ) (h : HashFunction) (entries : List Text) → length entries ≤ d
     → length entries ≤ e
@@ -146,7 +146,7 @@ right_in h xs l r x halves within =
     subst (λ texts. Contains texts x) (sym (halves_inputs h xs l r halves))
     (later_in _ _ x (Contains-append_right (inputs_of h l) (inputs_of h r) x within))
 
--- Two texts of two parts are the same only where the parts are.
+-- Two strings of two parts are the same only where the parts are.
 
 pub parts_left : (a b c d : Text) → length a ≡ length c → a ++ b ≡ c ++ d → a ≡ c
 parts_left a b c d size same =

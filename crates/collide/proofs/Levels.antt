@@ -12,7 +12,8 @@ use Rattle.collide.specs.declared.comparing.Halt.TheVariants.{Found, Memory}
 use Rattle.collide.specs.declared.comparing.Roots.{Roots}
 use Rattle.collide.specs.Inputs.{pair_input}
 
--- one and other are the hashes of x and y, which are hashed on either side, as are the texts below
+-- one and other are the hashes of x and y, which are hashed on either side, as are the strings
+-- below
 pub record IsLevel (h : HashFunction) (one other : Hash) (x y : Text) (vs ws xs ys : List Text)
     : Type 0 where
   pub first : h x ≡ one

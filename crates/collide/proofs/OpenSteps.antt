@@ -165,7 +165,7 @@ StepsRight h xs l r s e n known node z proof rest given from to c still =
     (pair_input (tree_hash h l) (tree_hash h r)) (tree_hash h l) z (pair_input z)
     (open_inputs_of h from to c still node rest) (open_inputs_of h s e n known node proof)
 
--- whether the interval lies behind the split or holds all in front of it
+-- whether the interval lies after the split or holds all before it
 pub step_behind : (h : HashFunction) (xs l r : List Text) (s e n k c from to : ℕ)
     (known still : Bool)
     (node z : Hash) (proof rest : List Hash) → AreHalves xs l r → proof ≡ rest ++ z ∷ []

@@ -43,7 +43,7 @@ pub opened_some : (f : Opened → Opened) (o p : Option Opened) → p ≡ option
 opened_some f (Some x) p is some = refl
 opened_some f None p is some = absurd (false≢true (sym (ap is_some is) ∙ some))
 
--- The texts in an opening, by those of the part.
+-- The strings in an opening, by those of the part.
 
 pub open_inputs_left : (h : HashFunction) (s e n k : ℕ) (known : Bool) (node z : Hash)
     (q : List Hash) → 1 < n → k ≡ split_of n → e ≤ k
@@ -97,7 +97,7 @@ open_inputs_over h s e n k b c known node z q more split before e_is n_is some p
     ∙ ap (λ i. inputs_over z (open_from_root h 0 b i false node q)
     ++ open_inputs_from_root h 0 b i false node q) size
 
--- an opening's texts turned, since the last hash of a proof is the first from the root down
+-- an opening's strings turned, since the last hash of a proof is the first from the root down
 pub turned : (h : HashFunction) (s e n : ℕ) (known : Bool) (node z : Hash) (proof rest : List Hash)
     → proof ≡ rest ++ z ∷ []
     → open_inputs_of h s e n known node proof
@@ -106,7 +106,7 @@ unfolding open_inputs_of
 turned h s e n known node z proof rest is =
     ap (open_inputs_from_root h s e n known node) (ap reverse is ∙ reverse-append rest (z ∷ []))
 
--- one of the texts in front of those of the part
+-- one of the strings before those of the part
 pub prefix_in : (x : Text) (texts prefix more rest : List Text) → texts ≡ prefix ++ rest
     → prefix ≡ x ∷ more → Contains texts x
 prefix_in x texts prefix more rest texts_are prefix_is =

@@ -1,4 +1,4 @@
--- The texts that are hashed: in the tree hash of a list (RFC 9162, section 2.1.1), in the
+-- The strings that are hashed: in the tree hash of a list (RFC 9162, section 2.1.1), in the
 -- evaluation of an inclusion path (section 2.1.3) and in the opening of a consistency proof (the
 -- draft on Merkle Tree Certificates, where it verifies them).
 use Rattle.std.specs.Prelude.{ℕ, zero, suc, ◌-◌, ◌&&◌, ◌==◌, Bool, false, nat_lt, nat_le}
@@ -11,15 +11,16 @@ use Rattle.tree_core.specs.Tree.{leaf_hash, tree_hash}
 use Rattle.tree_proofs.specs.declared.outcome.Opened.{Opened}
 use Rattle.tree_proofs.specs.Open.{open_from_root}
 
--- The text that is hashed for an entry as a leaf, and the one for a pair of nodes.
+-- The string that is hashed for an entry as a leaf, and the one for a pair of nodes.
 abbrev pub leaf_input : Text → Text
 leaf_input entry = 0 ∷ entry
 
 abbrev pub pair_input : Hash → Hash → Text
 pair_input left right = 1 ∷ left ++ right
 
--- The texts in the tree hash of a list: of no entries the empty one, of one entry that of the leaf,
--- of more that of the pair at the root and those in both parts. The first number bounds the depth.
+-- The strings in the tree hash of a list: of no entries the empty one, of one entry that of the
+-- leaf, of more that of the pair at the root and those in both parts. The first number bounds the
+-- depth.
 unfoldable pub inputs_within : ℕ → HashFunction → List Text → List Text
 inputs_within zero h entries = [] ∷ []
 inputs_within (suc depth) h [] = [] ∷ []
@@ -35,7 +36,7 @@ inputs_within (suc depth) h (c ∷ d ∷ rest) =
 unfoldable pub inputs_of : HashFunction → List Text → List Text
 inputs_of h entries = inputs_within (length entries) h entries
 
--- The text for the pair of a node, where it has a value, and its sibling on the right.
+-- The string for the pair of a node, where it has a value, and its sibling on the right.
 abbrev pub input_before : Hash → Option Hash → List Text
 input_before z None = []
 input_before z (Some node) = pair_input node z ∷ []
@@ -45,7 +46,7 @@ abbrev pub input_behind : Hash → Option Hash → List Text
 input_behind z None = []
 input_behind z (Some node) = pair_input z node ∷ []
 
--- The texts of the pairs in the evaluation of a path from the root down, at place m of n leaves.
+-- The strings of the pairs in the evaluation of a path from the root down, at index m of n leaves.
 unfoldable pub eval_inputs_from_root : HashFunction → ℕ → ℕ → Hash → List Hash → List Text
 eval_inputs_from_root h m n leaf [] = []
 eval_inputs_from_root h m n leaf (z ∷ q) =
@@ -55,14 +56,14 @@ eval_inputs_from_root h m n leaf (z ∷ q) =
     else input_behind z (eval_from_root h (m - k) (n - k) leaf q)
     ++ eval_inputs_from_root h (m - k) (n - k) leaf q
 
--- The texts in the evaluation of an entry's inclusion path, with that of the leaf.
+-- The strings in the evaluation of an entry's inclusion path, with that of the leaf.
 unfoldable pub eval_inputs_of : HashFunction → ℕ → ℕ → Text → List Hash → List Text
 eval_inputs_of h m n entry path =
     leaf_input entry ∷ eval_inputs_from_root h m n (leaf_hash h entry) (reverse path)
 
--- The texts for the pairs at a list's root by what the proof gave of one of its parts: of the left
--- one; of the right one; and of the right one where the subtree holds the left one too, so that its
--- own hash is of a pair as well.
+-- The strings for the pairs at a list's root by what the proof gave of one of its parts: of the
+-- left one; of the right one; and of the right one where the subtree holds the left one too, so
+-- that its own hash is of a pair as well.
 abbrev pub inputs_left : Hash → Option Opened → List Text
 inputs_left z None = []
 inputs_left z (Some o) = pair_input o.root z ∷ []
@@ -75,7 +76,8 @@ abbrev pub inputs_over : Hash → Option Opened → List Text
 inputs_over z None = []
 inputs_over z (Some o) = pair_input z o.root ∷ pair_input z o.subtree ∷ []
 
--- The texts in the opening of a proof from the root down, of the subtree [start, end) of n leaves.
+-- The strings in the opening of a proof from the root down, of the subtree [start, end) of n
+-- leaves.
 unfoldable pub open_inputs_from_root : HashFunction → ℕ → ℕ → ℕ → Bool → Hash → List Hash
     → List Text
 open_inputs_from_root h start end n known node [] = []
@@ -91,7 +93,7 @@ open_inputs_from_root h start end n known node (z ∷ q) =
     else inputs_over z (open_from_root h 0 (end - k) (n - k) false node q)
     ++ open_inputs_from_root h 0 (end - k) (n - k) false node q))
 
--- The texts in the opening of a consistency proof.
+-- The strings in the opening of a consistency proof.
 unfoldable pub open_inputs_of : HashFunction → ℕ → ℕ → ℕ → Bool → Hash → List Hash → List Text
 open_inputs_of h start end n known node proof =
     open_inputs_from_root h start end n known node (reverse proof)

@@ -18,7 +18,7 @@ use std::alloc::Global;
 use tree_core::TreeHash;
 use tree_proofs::{EntryList, halves, list_hash, opened, part_between};
 
-// What an interval that ends behind a split is there, counted from the split, and whether its hash
+// What an interval that ends after a split is there, counted from the split, and whether its hash
 // is still known.
 fn behind(middle: u64, start: u64, end: u64, known: bool) -> (u64, u64, bool)
     requires { middle < end }

@@ -2,11 +2,11 @@
 //! entries and of an inclusion path, of a list and of a consistency proof, or of two lists.
 //!
 //! Whoever shows an inclusion path that gives the tree hash of a list, for an entry that the list
-//! does not have there, shows two different strings with one hash. [`in_list`] tells the one case
-//! from the other; [`in_consistency`] does it for the consistency proof of a subtree that checks
-//! for a list's length and tree hash, and [`two_lists`] for two lists with one tree hash. Each
-//! entry is hashed once, or twice in [`in_consistency`], and beside the two strings only one hash
-//! of each level is kept.
+//! does not have at that index, shows two different strings with one hash. [`in_list`]
+//! distinguishes the two cases; [`in_consistency`] does it for the consistency proof of a subtree
+//! that checks for a list's length and tree hash, and [`two_lists`] for two lists with one tree
+//! hash. Each entry is hashed once, or twice in [`in_consistency`], and beside the two strings only
+//! one hash of each level is retained.
 //!
 //! ```rust
 //! use collide::{Finding, in_list};
