@@ -1,4 +1,4 @@
--- What is read names one moment, and its spelling is what was read.
+-- What is read names one time, and its encoding is what was read.
 use Rattle.std.proofs.Common.{◌≡◌, ℕ, ◌<◌, ◌≤◌, ◌==◌, ◌&&◌, ◌⊎◌, inl, inr, Bool, true, false}
 use Rattle.std.proofs.Common.{nat_lt, nat_le, cond, length, refl, sym, ap, subst, ◌∙◌, arith, ℤ}
 use Rattle.std.proofs.Common.{pos, Option, Some, None, IfSome}
@@ -18,7 +18,7 @@ use Rattle.cert_time.proofs.Moments.{names-civil_of, IsMoment-names}
 use Rattle.cert_time.proofs.Encoding.{text_back, text_fits, text_read, utc_back, utc_fits, utc_read}
 use Rattle.cert_time.proofs.Encoding.{utc_year, general_back, general_fits, general_read}
 
--- the moment of a text in a form
+-- the time of a text in a form
 abbrev read_by : Bool → ℕ → CivilTime → Option ℤ
 read_by fits first_year c = cond fits (moment_from first_year c) None
 
@@ -31,7 +31,7 @@ fits_of : (b : Bool) (first_year : ℕ) (c : CivilTime) (z : ℤ) → read_by b 
 fits_of true first_year c z h = (refl, h)
 fits_of false first_year c z h = cc
 
--- what is read fits its form, and names the moment
+-- what is read fits its form, and names the time
 record IsRead (b : Bool) (first_year : ℕ) (c : CivilTime) (z : ℤ) : Type 0 where
   fits : b ≡ true
   first : first_year ≤ c.year
@@ -50,7 +50,7 @@ is_read b first_year c z low h =
       names = record { exists = exists-to c tests.1; year = omega arith; is = is.1 };
     }
 
--- and what names the moment is read, where it fits
+-- and what names the time is read, where it fits
 reads : (b : Bool) (first_year : ℕ) (c : CivilTime) (z : ℤ) → b ≡ true → first_year ≤ c.year
     → Names z c → read_by b first_year c ≡ Some z
 reads b first_year c z fits first names =
@@ -72,7 +72,7 @@ has_digits c h =
       second = omega (arith, h.second);
     }
 
--- from 1950 on such a moment is in range
+-- from 1950 on such a time is in range
 pub moment_from-range : (first_year : ℕ) (c : CivilTime) → 1950 ≤ first_year
     → IfSome (moment_from first_year c) IsMoment
 moment_from-range first_year c low =
@@ -134,7 +134,7 @@ by_tag true c u g z h = inl (refl, h)
 by_tag false true u g z h = inr (refl, h)
 by_tag false false u g z h = cc
 
--- the time of a moment, told by its year
+-- the encoding of a time, chosen by its year
 below : (c : CivilTime) → c.year < 2050 → (tag_with c ≡ 23) × (contents_with c ≡ utc_with c)
 below c h = let test : nat_lt c.year 2050 ≡ true = grind (arith, nat_tests) in (rw test, rw test)
 

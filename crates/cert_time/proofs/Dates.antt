@@ -131,7 +131,7 @@ date_after-is zero = record {
 }
 date_after-is (suc n) = after_next n (date_after n) (date_after-is n) _ _ refl refl
 
--- a day that isn't behind 31 December 9999 is of a year of four digits
+-- a day that isn't after 31 December 9999 is of a year of four digits
 pub year_to_9999 : (n : ℕ) (d : Date) → IsDayAfter n d → n ≤ 2940201 → d.year ≤ 9999
 year_to_9999 n d h le =
     by_lt_z (pos 9999) (pos d.year)

@@ -14,7 +14,7 @@ use Rattle.cert_time.specs.Times.{general_with, full_year}
 use Rattle.cert_time.proofs.Forms.{fits_form-length}
 use Rattle.cert_time.proofs.Moments.{same_civil}
 
--- each byte of a text fits its place in the form
+-- each byte of a text fits the same offset of the form
 EachFits : Text → Text → Type 0
 EachFits (f ∷ form) (b ∷ text) = (fits_byte f b ≡ true) × EachFits form text
 EachFits _ _ = Unit {0}
@@ -152,7 +152,7 @@ utc_fits c h = two_fit (c.year % 100) (omega arith) _
     (two_fit (c.hour) h.hour _ (two_fit (c.minute) h.minute _
     (two_fit (c.second) h.second _ refl)))))
 
--- of the years from 1950 to 2049 the last two digits tell which one is meant
+-- of the years from 1950 to 2049 the last two digits say which one is meant
 full_year-is : (n : ℕ) → 1950 ≤ n → n < 2050 → full_year (n % 100) ≡ n
 full_year-is n h k = grind (arith, nat_tests)
 

@@ -12,7 +12,7 @@ fits_form-length (f ∷ form) [] h = cc
 fits_form-length (f ∷ form) (b ∷ text) h =
     omega (arith, fits_form-length form text (and_parts (fits_byte f b) (fits_form form text) h).1)
 
--- and one of another length hasn't it
+-- and one of another length doesn't have it
 pub other_length : (form text : Text) → (length text ≡ length form → ⊥)
     → fits_form form text ≡ false
 other_length form text h = false_from_ne_true (fits_form form text)

@@ -1,4 +1,4 @@
--- Moments and the dates and times of day that they name.
+-- Times and the dates and times of day that they name.
 use Rattle.std.proofs.Common.{◌≡◌, ℕ, ◌+◌, ◌*◌, ◌/◌, ◌%◌, ◌<◌, ◌≤◌, true, refl, sym, ap, ◌∙◌, arith}
 use Rattle.std.proofs.Common.{rules, ℤ, pos, negsuc, ◌+ℤ◌, ◌*ℤ◌, ◌≤ℤ◌, unsigned_abs, Some}
 use Rattle.std.proofs.lemmas.Bool.Decides.{nat_tests}
@@ -65,7 +65,7 @@ jiff_date c h = record {
   day_in = (h.day, h.day_end);
 }
 
--- two dates and times that exist and name one moment are the same
+-- two dates and times that exist and name one time are the same
 pub moment_injective : (a b : CivilTime) → Exists a → Exists b → moment a ≡ moment b → a ≡ b
 moment_injective a b h k e =
     let days : days_from_civil (pos a.year) a.month a.day
@@ -76,7 +76,7 @@ moment_injective a b h k e =
     same_civil a b (omega (arith, signed_arith, date.0)) date.1 date.2 (omega arith) (omega arith)
     (omega arith)
 
--- a date and a time of day that exist, in 1950 or later, and name this moment
+-- a date and a time of day that exist, in 1950 or later, and name this time
 pub record Names (z : ℤ) (c : CivilTime) : Type 0 where
   pub exists : Exists c
   pub year : 1950 ≤ c.year
@@ -109,7 +109,7 @@ pub nonnegative : (z : ℤ) → pos 0 ≤ℤ z → z ≡ pos (unsigned_abs z)
 nonnegative (pos n) h = refl
 nonnegative (negsuc n) h = absurd (omega (arith, signed_arith))
 
--- each moment has a date and a time of day
+-- each time has a date and a time of day
 pub civil_of-names : (z : ℤ) → IsMoment z → Names z (civil_of z)
 unfolding civil_of
 civil_of-names z h =
@@ -144,7 +144,7 @@ day_from_1950 c h from =
       days_of_months-zero (pos 1950),
     )))
 
--- what exists from 1950 on names a moment
+-- what exists from 1950 on names a time
 pub IsMoment-names : (z : ℤ) (c : CivilTime) → Names z c → IsMoment z
 IsMoment-names z c h =
     let from = day_from_1950 c h.exists h.year in
@@ -189,7 +189,7 @@ moment_from-parts first_year dt c h from to =
     let same = HasParts-moment dt c h in
     grind (arith, nat_tests)
 
--- the library's date and time of a moment
+-- the library's date and time of a time
 pub civil_seconds-nanos : (z : ℤ) (dt : DateTime) → civil_nanos dt ≡ z *ℤ pos 1_000_000_000
     → civil_seconds dt ≡ z
 civil_seconds-nanos z dt e =

@@ -22,11 +22,11 @@ moment c =
     days_from_civil (pos c.year) c.month c.day *ℤ pos 86400
     +ℤ pos (3600 * c.hour + 60 * c.minute + c.second)
 
--- The moment of a date and a time of day that exist, in this year or a later one.
+-- The time that a date and a time of day name, which exist, in this year or a later one.
 abbrev pub moment_from : ℕ → CivilTime → Option ℤ
 moment_from first_year c = if nat_le first_year c.year && exists c then Some (moment c) else None
 
--- The moments from 1950-01-01T00:00:00Z to 9999-12-31T23:59:59Z.
+-- The times from 1950-01-01T00:00:00Z to 9999-12-31T23:59:59Z.
 abbrev pub IsMoment : ℤ → Type 0
 IsMoment z = (negsuc 631151999 ≤ℤ z) × (z ≤ℤ pos 253402300799)
 
@@ -35,7 +35,7 @@ pub record Period : Type 0 where
   pub not_before : ℤ
   pub not_after : ℤ
 
--- Both are moments that a certificate can tell, in either order.
+-- Both are times that a certificate can state, in either order.
 pub record IsPeriod (p : Period) : Type 0 where
   pub not_before : IsMoment p.not_before
   pub not_after : IsMoment p.not_after
@@ -71,7 +71,7 @@ at_second d s =
       second = s % 60;
     }
 
--- The date and the time of day of a moment from 1950 on.
+-- The date and the time of day of a time from 1950 on.
 unfoldable pub civil_of : ℤ → CivilTime
 civil_of z =
     let since_1950 = unsigned_abs (z +ℤ pos 631152000) in

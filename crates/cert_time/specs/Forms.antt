@@ -5,7 +5,7 @@ use Rattle.std.specs.Char.{is_ascii_digit}
 use Rattle.byte_formats.specs.Types.{Text}
 use Rattle.cert_time.specs.declared.civil.CivilTime.{CivilTime}
 
--- A byte at a place of a form, where 0 in the form stands for any digit, and anything else for
+-- A byte at an offset of a form, where 0 in the form represents any digit, and anything else
 -- itself.
 abbrev pub fits_byte : ℕ → ℕ → Bool
 fits_byte form byte = if form == 0x30 then is_ascii_digit byte else byte == form
@@ -30,7 +30,7 @@ two_digits n = (0x30 + n / 10) ∷ (0x30 + n % 10) ∷ []
 abbrev pub four_digits : ℕ → Text
 four_digits n = two_digits (n / 100) ++ two_digits (n % 100)
 
--- The parts of a date and a time of day have as many digits as the forms have places.
+-- The parts of a date and a time of day have as many digits as the forms have positions for them.
 pub record HasDigits (c : CivilTime) : Type 0 where
   pub year : c.year < 10000
   pub month : c.month < 100

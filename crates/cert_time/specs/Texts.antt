@@ -1,4 +1,4 @@
--- Moments as texts: YYYY-MM-DDTHH:MM:SSZ.
+-- Times as texts: YYYY-MM-DDTHH:MM:SSZ.
 use Rattle.std.specs.Prelude.{if◌then◌else◌, ℤ, ◌++◌, codes, Option, None}
 use Rattle.byte_formats.specs.Types.{Text}
 use Rattle.cert_time.specs.declared.civil.CivilTime.{CivilTime}
@@ -28,11 +28,11 @@ text_with c =
     ++ (codes "T" ++ (two_digits c.hour ++ (codes ":" ++ (two_digits c.minute
     ++ (codes ":" ++ (two_digits c.second ++ codes "Z"))))))))))
 
--- The moment that a text names: it has the form, and the date and the time of day exist, in 1950
--- or later.
+-- The time that a text names: it has the form, and the date and the time of day exist, in 1950 or
+-- later.
 unfoldable pub text_moment : Text → Option ℤ
 text_moment t = if fits_form text_form t then moment_from 1950 (text_parts t) else None
 
--- The text of a moment.
+-- The text of a time.
 unfoldable pub moment_text : ℤ → Text
 moment_text z = text_with (civil_of z)

@@ -7,7 +7,7 @@ use Rattle.cert_time.specs.declared.civil.CivilTime.{CivilTime}
 use Rattle.cert_time.specs.Calendar.{Period, moment_from, civil_of}
 use Rattle.cert_time.specs.Forms.{fits_form, two_digits_at, four_digits_at, two_digits}
 
--- MMDDHHMMSS at a place, in a year.
+-- MMDDHHMMSS at an offset, in a year.
 abbrev pub civil_in : ℕ → ℕ → Text → CivilTime
 civil_in year i t =
     record {
@@ -45,7 +45,7 @@ general_parts t = civil_in (four_digits_at t 0) 4 t
 abbrev pub general_with : CivilTime → Text
 general_with c = two_digits (c.year / 100) ++ utc_with c
 
--- The moment that the contents of an element name: UTCTime has tag 0x17, and GeneralizedTime tag
+-- The time that the contents of an element name: UTCTime has tag 0x17, and GeneralizedTime tag
 -- 0x18.
 unfoldable pub utc_moment : Text → Option ℤ
 utc_moment t = if fits_form utc_form t then moment_from 1950 (utc_parts t) else None
@@ -65,7 +65,7 @@ tag_with c = if nat_lt c.year 2050 then 0x17 else 0x18
 abbrev pub contents_with : CivilTime → Text
 contents_with c = if nat_lt c.year 2050 then utc_with c else general_with c
 
--- The tag and the contents of the time that stands for a moment.
+-- The tag and the contents of the encoding that represents a time.
 unfoldable pub time_tag : ℤ → ℕ
 time_tag z = tag_with (civil_of z)
 

@@ -1,4 +1,4 @@
-//! Dates to moments and back, by the calendar of `jiff_core`.
+//! Dates to times and back, by the calendar of `jiff_core`.
 
 ghost use Rattle.std.specs.Prelude.{◌≡◌, ◌≤◌, IfSome};
 ghost use Rattle.cert_time.specs.Calendar.{IsMoment, civil_of, moment_from};
@@ -7,7 +7,8 @@ ghost use Rattle.cert_time.specs.Forms.{HasDigits};
 use crate::civil::CivilTime;
 use jiff_core::civil::{Date, DateTime, Time};
 
-/// The moment of a date and a time of day that exist, in `first_year` or a later year up to 9999.
+/// The time that a date and a time of day name, which exist, in `first_year` or a later year up to
+/// 9999.
 pub fn moment_of(civil: CivilTime, first_year: u32) -> Option<i64>
     ensures value { result ≡ moment_from first_year civil }
     ensures range { 1950 ≤ first_year → IfSome result IsMoment }
@@ -30,7 +31,7 @@ pub fn moment_of(civil: CivilTime, first_year: u32) -> Option<i64>
     Some(DateTime { date, time }.to_second())
 }
 
-/// The date and the time of day of a moment.
+/// The date and the time of day of a time.
 pub fn civil_at(seconds: i64) -> CivilTime
     requires { IsMoment seconds }
     ensures value { result ≡ civil_of seconds }

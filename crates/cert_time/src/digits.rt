@@ -15,7 +15,7 @@ fn fits_at(form: u8, byte: u8) -> bool
     }
 }
 
-/// Whether a text has a form, in which `0` stands for any digit and each other byte for itself.
+/// Whether a text has a form, in which `0` represents any digit and each other byte itself.
 #[tactic(auto, using(crate::proofs::Forms::lengths))]
 pub fn fits(form: &[u8], text: &[u8]) -> bool
     ensures value { result ≡ fits_form form.now text.now }
@@ -32,8 +32,8 @@ pub fn fits(form: &[u8], text: &[u8]) -> bool
     true
 }
 
-/// The number that the two digits at a place write. Bytes that are no digits have a number too,
-/// which nobody uses: every text is tested against its form first.
+/// The number that the two digits at an offset write. Bytes that are no digits have a number too,
+/// which no call uses: every text is tested against its form first.
 pub fn read_two(text: &[u8], place: usize) -> u16
     requires { place + 1 < length text.now }
     ensures { result ≡ two_digits_at text.now place }
@@ -43,7 +43,7 @@ pub fn read_two(text: &[u8], place: usize) -> u16
     10 * tens + ones
 }
 
-/// The number that the four digits at a place write.
+/// The number that the four digits at an offset write.
 pub fn read_four(text: &[u8], place: usize) -> u32
     requires { place + 3 < length text.now }
     ensures { result ≡ four_digits_at text.now place }

@@ -6,14 +6,14 @@ ghost use Rattle.cert_time.specs.Calendar.{IsMoment};
 ghost use Rattle.cert_time.specs.Texts.{text_moment, moment_text};
 ghost use Rattle.cert_time.specs.Times.{time_contents, time_moment, time_tag};
 
-/// Law: each moment has one text, and each text that is read is the text of its moment.
+/// Law: each time has one text, and each text that is read is the text of its time.
 pub fn law_one_text()
     ensures { (text : Text) (z : ℤ)
         → (text_moment text ≡ Some z) ↔ (IsMoment z × (text ≡ moment_text z)) }
 {}
 
-/// Law: each moment has one time in a certificate, and each time that is read is that of its
-/// moment. It is a UTCTime of 13 bytes or a GeneralizedTime of 15.
+/// Law: each time has one encoding in a certificate, and each encoding that is read is that of its
+/// time. It is a UTCTime of 13 bytes or a GeneralizedTime of 15.
 pub fn law_one_time()
     ensures both_ways { (tag : ℕ) (contents : Text) (z : ℤ)
         → (time_moment tag contents ≡ Some z)

@@ -1,4 +1,4 @@
-//! Moments as texts.
+//! Times as texts.
 
 ghost use Rattle.std.specs.Prelude.{◌≡◌, IfSome};
 ghost use Rattle.cert_time.specs.Calendar.{IsMoment};
@@ -9,9 +9,9 @@ use crate::civil::CivilTime;
 use crate::digits::{fits, read_four, read_two};
 use crate::time::generalized;
 
-/// The moment that a text `YYYY-MM-DDTHH:MM:SSZ` names, in seconds since 1970-01-01T00:00:00Z.
+/// The time that a text `YYYY-MM-DDTHH:MM:SSZ` names, in seconds since 1970-01-01T00:00:00Z.
 ///
-/// `None` exactly where the text hasn't this form, its year is before 1950, or no such date or
+/// `None` exactly if the text doesn't have this form, its year is before 1950, or no such date or
 /// time of day exists.
 #[tactic(auto, unfolding(crate::specs::Texts::text_moment))]
 pub fn text_to_seconds(text: &str) -> Option<i64>
@@ -33,7 +33,7 @@ pub fn text_to_seconds(text: &str) -> Option<i64>
     moment_of(civil, 1950)
 }
 
-/// The text `YYYY-MM-DDTHH:MM:SSZ` of a moment from 1950 to 9999.
+/// The text `YYYY-MM-DDTHH:MM:SSZ` of a time from 1950 to 9999.
 #[tactic(auto, unfolding(crate::specs::Texts::moment_text))]
 pub fn seconds_to_text(seconds: i64) -> [u8; 20]
     requires { IsMoment seconds }

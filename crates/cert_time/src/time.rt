@@ -17,12 +17,12 @@ pub const UTC_TIME: u8 = 0x17;
 /// The tag of a GeneralizedTime (X.690, section 11.7).
 pub const GENERALIZED_TIME: u8 = 0x18;
 
-/// The moment that the contents of an element with this tag name, in seconds since
+/// The time that the contents of an element with this tag name, in seconds since
 /// 1970-01-01T00:00:00Z.
 ///
 /// A UTCTime (tag 17, hexadecimal) is `YYMMDDHHMMSSZ` with a year from 1950 to 2049, and a
 /// GeneralizedTime (tag 18) is `YYYYMMDDHHMMSSZ` with a year from 2050 to 9999 (RFC 5280, section
-/// 4.1.2.5). `None` exactly where the tag is another one, the contents haven't the form of their
+/// 4.1.2.5). `None` exactly if the tag is another one, the contents don't have the form of their
 /// tag, or no such date or time of day exists.
 #[tactic(auto, unfolding(crate::specs::Times::time_moment))]
 pub fn read_time(tag: u8, contents: &[u8]) -> Option<i64>
@@ -69,7 +69,7 @@ fn year_of(last_digits: u16) -> u32
     }
 }
 
-// What MMDDHHMMSS at a place names, in a year.
+// What MMDDHHMMSS at an offset names, in a year.
 fn parts_of(year: u32, place: usize, text: &[u8]) -> CivilTime
     requires { place + 9 < length text.now }
     ensures { result ≡ civil_in year place text.now }
@@ -84,7 +84,7 @@ fn parts_of(year: u32, place: usize, text: &[u8]) -> CivilTime
     }
 }
 
-/// The contents of a GeneralizedTime. Behind the century's digits they are those of a UTCTime.
+/// The contents of a GeneralizedTime. After the century's digits they are those of a UTCTime.
 pub fn generalized(civil: CivilTime) -> [u8; 15]
     requires { HasDigits civil }
     ensures { result ≡ general_with civil }
@@ -113,8 +113,7 @@ pub fn time_length(civil: CivilTime) -> u8
     if is_utc(civil.year) { 15 } else { 17 }
 }
 
-/// Puts a time behind the bytes, as an element. Where memory is refused the bytes stay as they
-/// were.
+/// Appends a time to the bytes, as an element. If memory is refused, the bytes stay as they were.
 pub fn put_time(civil: CivilTime, out: &mut Bytes) -> Result<(), Memory>
     requires { HasDigits civil }
     ensures ok { OnOk result

@@ -2,13 +2,13 @@
 
 ghost use Rattle.cert_time.specs.Calendar.{IsMoment};
 
-/// The first and the last moment at which a certificate is valid, in seconds since
-/// 1970-01-01T00:00:00Z. Both are moments from 1950 to 9999, in either order.
+/// The first and the last time at which a certificate is valid, in seconds since
+/// 1970-01-01T00:00:00Z. Both are times from 1950 to 9999, in either order.
 #[derive(Clone, Copy, Debug, PartialEq, Eq)]
 pub struct Validity {
-    /// The first moment.
+    /// The first time.
     pub not_before: i64,
-    /// The last moment.
+    /// The last time.
     pub not_after: i64,
     pub ghost begins: { IsMoment not_before },
     pub ghost ends: { IsMoment not_after },

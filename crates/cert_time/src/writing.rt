@@ -13,8 +13,8 @@ use crate::validity::Validity;
 use der_core::tags::SEQUENCE;
 use mtc_io::{Bytes, Memory};
 
-/// Puts a validity behind the bytes: a SEQUENCE of two times (RFC 5280, section 4.1.2.5), each of
-/// them a UTCTime up to 2049 and a GeneralizedTime from 2050 on. Where memory is refused the bytes
+/// Appends a validity to the bytes: a SEQUENCE of two times (RFC 5280, section 4.1.2.5), each of
+/// them a UTCTime up to 2049 and a GeneralizedTime from 2050 on. If memory is refused, the bytes
 /// stay as they were.
 pub fn put_validity(validity: &Validity, out: &mut Bytes) -> Result<(), Memory>
     ensures ok { OnOk result (out.new ≡ out.old ++ validity_element (period validity.now)) }
