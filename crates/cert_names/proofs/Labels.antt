@@ -28,7 +28,7 @@ nowhere : (xs : Text) (b : Bool) → nat_lt (position_or_len is_dot xs) (length 
 nowhere xs true e h = absurd (false≢true (sym (ap is_some h)))
 nowhere xs false e h = grind (arith, nat_tests, e)
 
--- A label ends at the first dot, and the others stand behind it.
+-- A label ends at the first dot, and the others follow it.
 pub labels_of-dot : (xs : Text) (i : ℕ) → position is_dot xs ≡ Some i
     → labels_of xs ≡ take i xs ∷ labels_of (drop (i + 1) xs)
 unfolding labels_of

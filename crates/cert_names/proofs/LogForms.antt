@@ -1,4 +1,4 @@
--- The name of a log is read exactly from its spelling.
+-- The name of a log is read exactly from its encoding.
 use Rattle.std.proofs.Common.{◌≡◌, ℕ, ◌%◌, ◌^◌, ◌<◌, Bool, true, false, length, Result, Ok, Err}
 use Rattle.std.proofs.Common.{Option, Some, None, IfSome, MatchOption, refl, sym, ap, subst, ◌∙◌}
 use Rattle.std.proofs.Common.{arith, lit<}

@@ -35,7 +35,7 @@ is_log_id x = bytes_eq x.0 log_id
 abbrev pub second : Text × Text → Text
 second x = x.1
 
--- The text behind the identifier.
+-- The text after the identifier.
 unfoldable pub log_text_at : Reading Text CertError
 log_text_at =
     mapped_at second (tested_at is_log_id BadName (both_at (contents_at 0x06) (contents_at 0x0C)))

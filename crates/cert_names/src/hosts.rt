@@ -43,7 +43,7 @@ fn is_label_in(first: bool, label: &[u8]) -> bool
     first && label == b"*".as_slice()
 }
 
-// The place of the first dot.
+// The offset of the first dot.
 fn dot_in(text: &[u8]) -> Option<usize>
     ensures value { result ≡ position is_dot text.now }
     ensures bound { IfSome result (λ place. place < length text.now) }

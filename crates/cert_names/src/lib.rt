@@ -1,5 +1,5 @@
 //! Names of one attribute, and those that logs have as issuers: the attribute holds the id of the
-//! log as text, both ways. Beside them host names.
+//! log as text, both ways. In addition host names.
 #![tactic(auto)]
 
 mod hosts;

@@ -20,8 +20,8 @@ fn attribute_contents(alloc: Global, identifier: &[u8], text: &[u8]) -> Result<B
 }
 
 /// The name of one set of one attribute: its identifier, as the contents of an OBJECT IDENTIFIER,
-/// and a text, as a UTF8String, at most 16,000,000 bytes together. Want of memory is the only
-/// refusal.
+/// and a text, as a UTF8String, at most 16,000,000 bytes together. The call refuses only if memory
+/// runs out.
 pub fn name_of(alloc: Global, identifier: &[u8], text: &[u8]) -> Result<Bytes, Memory>
     requires { length identifier.now + length text.now ≤ 16000000 }
     ensures { IfOk result (λ bytes. bytes ≡ name_of identifier.now text.now) }

@@ -14,7 +14,7 @@ use tls_wire::AnchorId;
 // The attribute of a log's id: 1.3.6.1.4.1.44363.47.1.
 pub(crate) const LOG_ID: [u8; 10] = [0x2B, 0x06, 0x01, 0x04, 0x01, 0x82, 0xDA, 0x4B, 0x2F, 0x01];
 
-// The UTF8String behind the identifier.
+// The UTF8String after the identifier.
 #[tactic(auto, unfolding(crate::specs::LogNames::log_text_at))]
 fn parts<'a>(reader: &mut Reader<'a>) -> Result<&'a [u8], CertError>
     ensures { Moves (λ text. text.now) log_text_at reader.old result reader.new }
@@ -86,8 +86,8 @@ fn id_in(bytes: &[u8]) -> Option<&[u8]>
     }
 }
 
-/// The id of the log whose issuer name this is, as its text in dotted decimal; `None` exactly
-/// where it isn't the name of a log. It takes no memory.
+/// The id of the log whose issuer name this is, as its text in dotted decimal; `None` exactly if it
+/// isn't the name of a log. It takes no memory.
 pub fn log_of(name: &[u8]) -> Option<&[u8]>
     ensures exact { MatchOption result (log_in name.now ≡ None)
         (λ text. log_in name.now ≡ Some text.now) }

@@ -11,7 +11,7 @@ use std::alloc::Global;
 use tls_wire::AnchorId;
 
 /// The issuer name of the log with this id: one set of one attribute, a UTF8String with the id in
-/// dotted decimal. Want of memory is the only refusal.
+/// dotted decimal. The call refuses only if memory runs out.
 #[tactic(auto, unfolding(crate::specs::LogNames::name_with))]
 pub fn log_name(alloc: Global, id: &AnchorId) -> Result<Bytes, Memory>
     ensures { IfOk result (λ bytes. bytes ≡ name_with (text_of id.now)) }
