@@ -1,4 +1,4 @@
--- A whole entry: what is read is spelled so, and what is spelled so is read again.
+-- A whole entry is encoded as the bytes from which it was read, and each encoding is read again.
 use Rattle.std.proofs.Common.{◌≡◌, ℕ, ◌+◌, ◌*◌, ◌<◌, [], ◌∷◌, length, Option, Some}
 use Rattle.std.proofs.Common.{None, Result, Ok, Err, IfOk, refl, sym, ap, subst, ◌∙◌}
 use Rattle.std.proofs.Common.{arith, inl, inr, lit<, eqb-true, eq-eqb}

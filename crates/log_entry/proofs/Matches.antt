@@ -1,4 +1,4 @@
--- A key matches an entry exactly where the grammars say so.
+-- A key matches an entry exactly if the grammars say so.
 use Rattle.std.proofs.Common.{◌≡◌, true, length, Option, Some, None, Result, Ok, Err, refl, sym, ap}
 use Rattle.std.proofs.Common.{◌∙◌}
 use Rattle.std.proofs.lemmas.Bool.{and_parts}

@@ -1,5 +1,5 @@
--- Entries: how their parts are spelled, one behind the other, and what the parts are, apart from
--- any reader.
+-- Entries: how their parts are encoded, one after the other, and what the parts are, apart from any
+-- reader.
 use Rattle.std.specs.Prelude.{◌≡◌, ◌⊎◌, [], ◌∷◌, ◌++◌, length, Option, Some, None}
 use Rattle.byte_formats.specs.Types.{Text, Hash}
 use Rattle.cert_time.specs.Calendar.{Period}
@@ -20,7 +20,7 @@ pub record TbsParts : Type 0 where
 abbrev pub key_hash_text : Hash → Text
 key_hash_text hash = 0x04 ∷ 0x20 ∷ hash
 
--- The body: the fields as they stand in a certificate, with the hash in the place of the key.
+-- The body: the fields as they stand in a certificate, with the hash instead of the key.
 abbrev pub body_text : TbsParts → Text
 body_text p = version ++ (p.issuer ++ (p.validity_der ++
     (p.subject ++ (key_hash_text p.key_hash ++ p.extensions))))

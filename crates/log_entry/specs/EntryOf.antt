@@ -4,7 +4,7 @@ use Rattle.byte_formats.specs.Types.{Text, Hash, HashFunction}
 use Rattle.cert_fields.specs.Certificate.{Parts}
 use Rattle.log_entry.specs.Entries.{TbsParts, tbs_text}
 
--- The fields of a certificate's entry, with this hash in the place of its key.
+-- The fields of a certificate's entry, with this hash instead of its key.
 abbrev pub tbs_with : Parts → Hash → TbsParts
 tbs_with p key_hash = record {
   issuer = p.issuer;

@@ -19,7 +19,7 @@ holds hash (Err e) = false
 unfoldable pub matches : HashFunction → Text → Text → Bool
 matches h entry spki = holds (h spki) (entry_in entry) && is_public_key spki
 
--- The same in terms of the grammars: the bytes spell an entry of type 1, whose hash is that of a
+-- The same in terms of the grammars: the bytes encode an entry of type 1, whose hash is that of a
 -- public key.
 pub record Matches (h : HashFunction) (entry spki : Text) : Type 0 where
   pub parts : TbsParts

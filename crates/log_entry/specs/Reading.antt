@@ -52,7 +52,7 @@ fields_at =
     both_at (field_at version_at) (both_at (field_at name_at) (both_at (field_at validity_at)
     (both_at (field_at name_at) (both_at key_hash_at (field_at extensions_at)))))
 
--- The fields behind the type, and nothing behind them.
+-- The fields after the type, and nothing after them.
 unfoldable pub body_of : At → Result TbsParts EntryError
 body_of a = mapped_at to_tbs fields_at a >>= λ x. lifted Body (der (end_at x.1)) >>= λ done. Ok x.0
 

@@ -24,7 +24,7 @@ abbrev pub entry_parts : Entry → Option TbsParts
 entry_parts Null = None
 entry_parts (Tbs t) = Some (tbs_parts t)
 
--- What is written: the parts that are handed in, with the validity as its element.
+-- What is written: the parts that the caller gives, with the validity as its element.
 abbrev pub given_entry : EntryParts → TbsParts
 given_entry p = record {
   issuer = p.issuer.now;

@@ -26,7 +26,7 @@ pub struct TbsEntry<'a> {
 }
 
 /// The parts of an entry that is to be written. Issuer, subject and extensions are whole elements;
-/// no bytes stand for absent extensions.
+/// no bytes represent absent extensions.
 #[derive(Clone, Copy, Debug)]
 pub struct EntryParts<'a> {
     pub issuer: &'a [u8],

@@ -2,7 +2,7 @@
 
 use der_core::{CertError, DerError};
 
-/// Why bytes aren't an entry. First there are too few bytes for a type, then the type is looked at,
+/// Why bytes aren't an entry. First there are too few bytes for a type, then the type is tested,
 /// then the body is read from the left.
 #[derive(Clone, Copy, Debug, PartialEq, Eq)]
 pub enum EntryError {
@@ -10,12 +10,12 @@ pub enum EntryError {
     Short,
     /// The type is neither 0 nor 1.
     UnknownType(u16),
-    /// A fault of a field, or of what stands behind the last one. Offsets count in the bytes of the
+    /// A fault of a field, or of what follows the last one. Offsets count in the bytes of the
     /// entry.
     Body(CertError),
-    /// The hash of the public key hasn't 32 bytes.
+    /// The hash of the public key doesn't have 32 bytes.
     BadHashLength,
-    /// The null entry goes on behind its type.
+    /// The null entry continues after its type.
     NullHasBody,
 }
 

@@ -10,14 +10,14 @@ ghost use Rattle.log_entry.specs.EntryOf.{tbs_with, entry_of, IsMadeOf};
 ghost use Rattle.log_entry.specs.Reading.{entry_in};
 ghost use Rattle.log_entry.specs.Matching.{matches};
 
-/// What is read as an entry is spelled as one, and the spelling of each entry is read as its parts.
+/// What is read as an entry is its encoding, and the encoding of each entry is read as its parts.
 pub fn law_entries_decode_as_encoded()
     ensures only { (bytes : Text) (e : Option TbsParts) → IsBytes bytes → entry_in bytes ≡ Ok e
         → (bytes ≡ entry_text e) × IsEntry e }
     ensures again { (e : Option TbsParts) → IsEntry e → entry_in (entry_text e) ≡ Ok e }
 {}
 
-/// An entry has one spelling, and its bytes are those of one entry alone.
+/// An entry has one encoding, and its bytes are those of one entry alone.
 pub fn law_entries_have_one_encoding()
     ensures { (e f : Option TbsParts) → IsEntry e → IsEntry f → entry_text e ≡ entry_text f
         → e ≡ f }

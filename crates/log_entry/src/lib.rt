@@ -1,5 +1,5 @@
 //! Entries of a log of certificates: what the log commits to of a certificate, with the hash of its
-//! public key in the place of the key. They are read as a struct of borrowed fields, with the first
+//! public key instead of the key. They are read as a struct of borrowed fields, with the first
 //! fault from the left; they are made from a certificate, or from their parts; and a key is
 //! compared with the entry that was made for it.
 //!

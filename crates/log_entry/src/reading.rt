@@ -15,7 +15,7 @@ use cert_fields::{read_extensions, read_name, read_validity, read_version};
 use der_core::Reader;
 use der_core::tags::OCTET_STRING;
 
-// The hash of the public key. `BadHashLength` where it hasn't 32 bytes.
+// The hash of the public key. `BadHashLength` where it doesn't have 32 bytes.
 #[tactic(auto, unfolding(crate::specs::Reading::key_hash_at))]
 fn key_hash<'a>(reader: &mut Reader<'a>) -> Result<&'a [u8], EntryError>
     ensures { Moves (λ bytes. bytes.now) key_hash_at reader.old result reader.new }
@@ -41,7 +41,7 @@ fn behind_validity<'a>(
     Ok((subject, key_hash, extensions))
 }
 
-// The fields behind the type, up to the end.
+// The fields after the type, up to the end.
 #[tactic(auto, unfolding(crate::specs::Reading::body_of))]
 fn body(entry: &[u8]) -> Result<TbsEntry<'_>, EntryError>
     requires { 2 ≤ length entry.now }
@@ -63,7 +63,7 @@ fn body(entry: &[u8]) -> Result<TbsEntry<'_>, EntryError>
     })
 }
 
-// The type, and the fields behind it.
+// The type, and the fields after it.
 #[tactic(auto, unfolding(crate::specs::Reading::entry_in))]
 fn whole(bytes: &[u8]) -> Result<Entry<'_>, EntryError>
     ensures { Gives entry_parts result (entry_in bytes.now) }
@@ -82,11 +82,11 @@ fn whole(bytes: &[u8]) -> Result<Entry<'_>, EntryError>
 /// Reads an entry, without taking memory.
 ///
 /// Refuses with `Short` where there are fewer than two bytes, `NullHasBody` where the null entry
-/// goes on behind its type, and `UnknownType` where the type is neither 0 nor 1. In an entry of
+/// continues after its type, and `UnknownType` where the type is neither 0 nor 1. In an entry of
 /// type 1 the first fault from the left is answered: `Body` with the fault of a field as
-/// [`parse`](cert_fields::parse) has it in a certificate, or with `Trailing` for what stands behind
-/// the last field, its offset counted in these bytes; `BadHashLength` where the hash of the public
-/// key is an OCTET STRING of another length than 32.
+/// [`parse`](cert_fields::parse) has it in a certificate, or with `Trailing` for what follows the
+/// last field, its offset counted in these bytes; `BadHashLength` where the hash of the public key
+/// is an OCTET STRING of another length than 32.
 pub fn read_entry(bytes: &[u8]) -> Result<Entry<'_>, EntryError>
     ensures found { IfOk result (λ e. (bytes.now ≡ entry_text (entry_parts e))
         × IsEntry (entry_parts e)) }

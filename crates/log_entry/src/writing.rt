@@ -41,7 +41,7 @@ fn put_fields(tbs: &TbsEntry, out: &mut Bytes) -> Result<(), Memory>
 }
 
 /// The entry from which a certificate was made: its version, issuer, validity and subject, the hash
-/// of its public key, and its extensions. Want of memory is the only refusal.
+/// of its public key, and its extensions. The call refuses only if memory runs out.
 #[tactic(auto, unfolding(crate::specs::EntryOf::entry_of))]
 pub fn entry_of<H: TreeHash>(alloc: Global, cert: &Cert) -> Result<Bytes, Memory>
     ensures { IfOk result (λ bytes. bytes ≡ entry_of H.hash (parts cert.now)) }
@@ -60,11 +60,11 @@ pub fn entry_of<H: TreeHash>(alloc: Global, cert: &Cert) -> Result<Bytes, Memory
     )
 }
 
-/// Writes an entry of type 1. Want of memory is the only refusal.
+/// Writes an entry of type 1. The call refuses only if memory runs out.
 ///
-/// The parts are put together as they are. Where issuer, subject and extensions are elements in the
+/// The parts are put together as they are. If issuer, subject and extensions are elements in the
 /// grammar of their fields, [`read_entry`](crate::read_entry) reads them again from what is
-/// written, and it matches the key whose hash was given.
+/// written, and the entry matches the key whose hash was given.
 pub fn write_entry(alloc: Global, parts: &EntryParts) -> Result<Bytes, Memory>
     ensures exact { IfOk result (λ bytes. bytes ≡ tbs_text (given_entry parts.now)) }
     ensures read { IsTbs (given_entry parts.now) → IfOk result

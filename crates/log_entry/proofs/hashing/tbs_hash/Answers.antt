@@ -3,7 +3,7 @@ use Rattle.log_entry.specs.Entries.{TbsParts, tbs_text}
 use Rattle.log_entry.specs.Views.{tbs_parts}
 use Rattle.log_entry.proofs.hashing.tbs_hash.Goals as goal
 
--- The pieces that are added, one behind the other, are the byte before a leaf and the entry.
+-- The pieces that are added, one after the other, are the byte before a leaf and the entry.
 pieces : (p : TbsParts)
     → ((((((([] ++ 0 ∷ []) ++ 0 ∷ 1 ∷ 160 ∷ 3 ∷ 2 ∷ 1 ∷ 2 ∷ []) ++ p.issuer) ++ p.validity_der)
     ++ p.subject) ++ 4 ∷ 32 ∷ []) ++ p.key_hash) ++ p.extensions
