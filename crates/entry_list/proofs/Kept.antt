@@ -1,4 +1,4 @@
--- Items of which the offsets in the file are kept.
+-- Items of which the offsets in the file are retained.
 use Rattle.std.proofs.Common.{◌≡◌, ℕ, ◌+◌, ◌<◌, true, List, [], ◌∷◌, ◌++◌, length, drop, get_or}
 use Rattle.std.proofs.Common.{append_assoc, refl, sym, ap, subst, ◌∙◌, arith, Ok}
 use Rattle.std.proofs.lemmas.List.{drop-drop, get_or-map, length-map, map-append}
@@ -25,7 +25,7 @@ IsIn file a = a.rest ≡ drop a.place file
 pub in_first : (file : Text) (a : At) → a ≡ at file 0 → IsIn file a
 in_first file a first = rw first refl
 
--- An item that was read stands at its offset, and the next one behind it.
+-- An item that was read stands at its offset, and the next one after it.
 pub record StandsAt (file : Text) (a : At) (entry key : Text) (b : At) : Type 0 where
   pub first : entry_from file a.place ≡ entry
   pub second : key_from file a.place ≡ key

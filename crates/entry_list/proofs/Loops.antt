@@ -16,7 +16,7 @@ use Rattle.entry_list.specs.Reading.{listed_at, item_behind, all_listed_at, item
 use Rattle.entry_list.specs.declared.error.ItemsError.{ItemsError}
 use Rattle.entry_list.specs.declared.error.ItemsError.TheVariants.{BadItem}
 
--- ---- items one behind the other
+-- ---- items, one after the other
 
 pub item_belongs : (h : HashFunction) (n : ℕ) (a : At) (entry key : Text) (b : At)
     → listed_at h n a ≡ Ok ((entry, key), b) → is_key_of h entry key ≡ true

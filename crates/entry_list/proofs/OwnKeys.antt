@@ -1,4 +1,4 @@
--- Keys that belong to their entries, and the text of one item more.
+-- Keys that belong to their entries, and the file of one item more.
 use Rattle.std.proofs.Common.{◌≡◌, ℕ, ◌+◌, ◌++◌, [], ◌∷◌, Option, Some, None, Result, Ok, Err, true}
 use Rattle.std.proofs.Common.{refl, ap, ◌∙◌, arith}
 use Rattle.std.specs.Prelude.{map, ◌&&◌}
@@ -14,7 +14,7 @@ use Rattle.log_entry.specs.Reading.{entry_in}
 use Rattle.log_entry.specs.declared.fault.EntryError.{EntryError}
 use Rattle.entry_list.specs.Items.{ItemLists, file_text, has_key, is_key_of, listed_text}
 
--- One item more in the text.
+-- One item more in the file.
 pub items_more : (items : ItemLists) (count : ℕ)
     → file_text items (count + 1) ≡ file_text items count ++ listed_text items count
 items_more items count =

@@ -1,4 +1,4 @@
--- Files of entries: what is read is the text of its items, and that text is read as them.
+-- Files of entries: what is read is the encoding of its items, and that encoding is read as them.
 use Rattle.std.proofs.Common.{◌≡◌, ℕ, zero, suc, ◌+◌, ◌<◌, ◌≤◌, true, List, [], ◌∷◌, ◌++◌, length}
 use Rattle.std.proofs.Common.{get_or, map, take, Result, Ok, refl, sym, ap, subst, ◌∙◌}
 use Rattle.std.proofs.Common.{arith}
@@ -94,7 +94,7 @@ lists_again (entry ∷ entries) (key ∷ keys) even =
     ap (λ (l : ItemLists). record { entries = entry ∷ l.entries; keys = key ∷ l.keys })
     (lists_again entries keys (omega arith))
 
--- ---- the text
+-- ---- the encoding
 
 listed_text_is : (pairs : List Pair) (i : ℕ) → i < length pairs
     → listed_text (lists_of pairs) i ≡ pair_text (get_or pairs i none)

@@ -41,7 +41,7 @@ pub record AreItems (h : HashFunction) (items : ItemLists) : Type 0 where
   pub each : (i : ℕ) → i < length items.entries
       → is_key_of h (slice_index_or items.entries i []) (slice_index_or items.keys i []) ≡ true
 
--- The length of each entry and of each key is told in two bytes.
+-- The length of each entry and of each key fits two bytes.
 pub record FitsFile (items : ItemLists) : Type 0 where
   pub entries : (i : ℕ) → i < length items.entries
       → length (slice_index_or items.entries i []) < 65536
@@ -53,7 +53,7 @@ abbrev pub first_items : ℕ → ItemLists → ItemLists
 first_items count items =
     record { entries = take count items.entries; keys = take count items.keys }
 
--- An item in a file: the entry, and its key, each behind its length of two bytes.
+-- An item in a file: the entry, and its key, each after its length of two bytes.
 abbrev pub listed_text : ItemLists → ℕ → Text
 listed_text items index =
     vector w16 (slice_index_or items.entries index []) ++ vector w16

@@ -23,11 +23,11 @@ unfoldable pub listed_at : HashFunction → ℕ → Reading (Text × Text) Items
 listed_at h number =
     tested_at (λ x. is_key_of h x.0 x.1) (BadItem number) (both_at vector_item vector_item)
 
--- The next item, behind these.
+-- The next item, after these.
 abbrev pub item_behind : HashFunction → List (Text × Text) → Reading (Text × Text) ItemsError
 item_behind h seen = listed_at h (length seen)
 
--- Items behind these, up to the end.
+-- Items after these, up to the end.
 unfoldable pub all_listed_at : HashFunction → List (Text × Text)
     → Reading (List (Text × Text)) ItemsError
 all_listed_at h seen a = each_at (λ x. x) (item_behind h) (length a.rest) seen a

@@ -6,8 +6,8 @@ ghost use Rattle.byte_formats.specs.Places.{IsBytes};
 ghost use Rattle.entry_list.specs.Items.{AreItems, FitsFile, ItemLists, first_items, file_text};
 ghost use Rattle.entry_list.specs.Reading.{items_in};
 
-/// What is read is the text of the items that were read, each beside its own key; and the text of
-/// such items, or of so many of the first of them, is read as them. So items have one text.
+/// What is read is the file of the items that were read, each beside its own key; and the file of
+/// such items, or of so many of the first of them, is read as them. So items have one file.
 pub fn law_items_are_read_as_written()
     ensures only { (h : HashFunction) (bytes : Text) (items : ItemLists) → IsBytes bytes
         → items_in h bytes ≡ Ok items

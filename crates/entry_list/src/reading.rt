@@ -51,14 +51,14 @@ fn push(places: &mut Vec<u32>, place: usize) -> Result<(), NoMemory>
     Ok(())
 }
 
-/// Reads a file of entries: for each item the entry and the key, each behind its length of two
+/// Reads a file of entries: for each item the entry and the key, each after its length of two
 /// bytes, up to the end. The time grows with the bytes of the file, and what is read borrows from
 /// them: four bytes of memory are taken for each item, and up to twelve while their list grows.
 ///
 /// Errors, of which the first that is met is answered: `Short` with the offset of the entry or key
 /// that doesn't fit, `BadItem` with the number of an item whose key isn't the one of its entry.
-/// Entries that don't read are taken as they are. `Memory` comes in place of anything, and always
-/// where an item begins after the first 2^32 bytes.
+/// Entries that don't read are taken as they are. `Memory` may come instead of any answer, and
+/// always comes where an item begins after the first 2^32 bytes.
 pub fn read_items<'a, H: TreeHash>(
     alloc: Global,
     bytes: &'a [u8],
