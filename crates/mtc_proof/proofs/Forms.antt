@@ -1,4 +1,5 @@
--- Signatures and proofs: what is read is spelled so, and what is spelled so is read again.
+-- Signatures and proofs are encoded as the bytes from which they were read, and each encoding is
+-- read again.
 use Rattle.std.proofs.Common.{◌≡◌, ℕ, ◌+◌, ◌-◌, ◌^◌, ◌<◌, true, List, [], ◌++◌, length, Result, Ok}
 use Rattle.std.proofs.Common.{Err, IfOk, refl, sym, ap, subst, ◌∙◌, append_assoc, arith}
 use Rattle.std.proofs.Common.{eqb-true}
@@ -123,7 +124,7 @@ path_form = lifted_form hashes_form of_hashes
 abbrev from_proof : ProofParts → Four
 from_proof p = (p.start, (p.end, (p.path, p.signatures)))
 
--- The parts, whose signatures aren't looked into.
+-- The parts, whose signatures aren't read.
 pub parts_form : IsForm proof_text (λ p. AreFour (from_proof p)) Anything proof_parts_at
 unfolding proof_parts_at
 parts_form =

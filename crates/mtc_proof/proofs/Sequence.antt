@@ -28,7 +28,7 @@ unfolding mtc_signature_at
 signature_takes = less_takes (mapped_takes (then_takes id_takes
     (lifted_takes (vector_takes w16) of_short)) to_signature) 1 (lit≤ tt)
 
--- One signature, and those behind it.
+-- One signature, and those after it.
 pub signatures_next : (a : At) (x : SigParts) (b : At) → mtc_signature_at a ≡ Ok (x, b)
     → signatures_left a ≡ x ∷ signatures_left b
 signatures_next = left_next signature_takes

@@ -20,8 +20,8 @@ input_label =
     0x6D ∷ 0x74 ∷ 0x63 ∷ 0x2D ∷ 0x73 ∷ 0x75 ∷ 0x62 ∷ 0x74 ∷ 0x72 ∷ 0x65 ∷ 0x65 ∷ 0x2F ∷ 0x76 ∷ 0x31
     ∷ 0x0A ∷ 0x00 ∷ []
 
--- The label, the ids of the cosigner and of the log behind lengths of one byte, start and end in
--- eight bytes each, and the hash.
+-- The label, the ids of the cosigner and of the log, each after its length of one byte, start and
+-- end in eight bytes each, and the hash.
 unfoldable pub input_text : InputParts → Text
 input_text p =
     input_label ++ (vector w8 p.cosigner ++ (vector w8 p.log
@@ -33,7 +33,8 @@ signed_text cosigner log start end hash =
     input_text
     (record { cosigner = cosigner; log = log; start = start; end = end; hash = hash })
 
--- What has such a text: ids whose lengths fit one byte, numbers that fit eight, a hash of 32 bytes.
+-- What has such an encoding: ids whose lengths fit one byte, numbers that fit eight, a hash of 32
+-- bytes.
 pub record IsInput (p : InputParts) : Type 0 where
   pub cosigner : length p.cosigner < 2 ^ 8
   pub log : length p.log < 2 ^ 8

@@ -1,4 +1,4 @@
--- Proofs and their signatures: how their parts are spelled (the draft on Merkle Tree Certificates,
+-- Proofs and their signatures: how their parts are encoded (the draft on Merkle Tree Certificates,
 -- where it defines MTCProof and MTCSignature, in the presentation language of RFC 8446, section 3).
 use Rattle.std.specs.Prelude.{◌≡◌, ℕ, ◌^◌, ◌<◌, List, ◌++◌, length}
 use Rattle.byte_formats.specs.Types.{Hash, Text}
@@ -11,17 +11,17 @@ pub record SigParts : Type 0 where
   pub cosigner : Text
   pub signature : Text
 
--- The id behind a length of one byte, the signature behind a length of two bytes.
+-- The id after a length of one byte, the signature after a length of two bytes.
 abbrev pub signature_text : SigParts → Text
 signature_text s = vector w8 s.cosigner ++ vector w16 s.signature
 
--- What has such a text: an id of 1 to 255 bytes, and a signature whose length fits two bytes.
+-- What has such an encoding: an id of 1 to 255 bytes, and a signature whose length fits two bytes.
 pub record IsMtcSignature (s : SigParts) : Type 0 where
   pub some : 0 < length s.cosigner
   pub cosigner : length s.cosigner < 2 ^ 8
   pub signature : length s.signature < 2 ^ 16
 
--- The bytes are signatures one behind the other, or none.
+-- The bytes are signatures, one after the other, or none.
 pub record AreSignatures (bytes : Text) : Type 0 where
   pub list : List SigParts
   pub each : AllByRecursion IsMtcSignature list
@@ -39,7 +39,8 @@ abbrev pub proof_text : ProofParts → Text
 proof_text p =
     number w64 p.start ++ (number w64 p.end ++ (hashes p.path ++ vector w16 p.signatures))
 
--- What has such a text: numbers that fit eight bytes, and a path and signatures that fit vectors.
+-- What has such an encoding: numbers that fit eight bytes, and a path and signatures that fit
+-- vectors.
 pub record IsProof (p : ProofParts) : Type 0 where
   pub start : p.start < 2 ^ 64
   pub end : p.end < 2 ^ 64

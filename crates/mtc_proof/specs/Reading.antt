@@ -35,13 +35,13 @@ word_at = lifted_at of_short (number_at w64)
 abbrev pub path_at : Reading (List Hash) ProofError
 path_at = lifted_at of_hashes hashes_at
 
--- A vector behind a length of this width.
+-- A vector after a length of this width.
 abbrev pub text_at : Width → Reading Text ProofError
 text_at w = lifted_at of_short (vector_at w)
 
 -- ---- signatures
 
--- The id of a cosigner, from 1 to 255 bytes. An id of no bytes is told with the offset of the
+-- The id of a cosigner, from 1 to 255 bytes. An id of no bytes is reported with the offset of the
 -- signature.
 abbrev pub id_at : Reading Text ProofError
 id_at a = tested_at has_bytes (EmptyId a.place) (text_at w8) a
@@ -50,7 +50,7 @@ id_at a = tested_at has_bytes (EmptyId a.place) (text_at w8) a
 abbrev pub to_signature : Text × Text → SigParts
 to_signature x = record { cosigner = x.0; signature = x.1 }
 
--- One signature: the id, and the signature behind it.
+-- One signature: the id, and the signature after it.
 unfoldable pub mtc_signature_at : Reading SigParts ProofError
 mtc_signature_at = mapped_at to_signature (both_at id_at (text_at w16))
 
@@ -68,7 +68,7 @@ signatures_left = left_at mtc_signature_at
 abbrev pub to_proof : ℕ × (ℕ × (List Hash × Text)) → ProofParts
 to_proof x = record { start = x.0; end = x.1.0; path = x.1.1.0; signatures = x.1.1.1 }
 
--- The parts, whose signatures aren't looked into.
+-- The parts, whose signatures aren't read.
 unfoldable pub proof_parts_at : Reading ProofParts ProofError
 proof_parts_at =
     mapped_at to_proof (both_at word_at (both_at word_at (both_at path_at (text_at w16))))
@@ -77,7 +77,7 @@ proof_parts_at =
 abbrev pub inside_list : ProofParts × At → At
 inside_list x = record { place = x.1.place - length x.0.signatures; rest = x.0.signatures }
 
--- The proof that these bytes are: first its parts, then the signatures, then nothing behind them.
+-- The proof that these bytes are: first its parts, then the signatures, then nothing.
 unfoldable pub proof_in : Text → Result ProofParts ProofError
 proof_in bytes =
     proof_parts_at (at bytes 0) >>= λ x.

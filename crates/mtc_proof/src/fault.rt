@@ -3,7 +3,7 @@
 use tls_wire::{HashesError, Short};
 
 /// Why bytes aren't a proof, or a list of signatures. They are read from the left, the signatures
-/// before what stands behind them, and the first fault is answered.
+/// before what follows them, and the first fault is answered.
 #[derive(Clone, Copy, Debug, PartialEq, Eq)]
 pub enum ProofError {
     /// The number, the vector of hashes, the id or the signature that begins at this offset doesn't
@@ -11,7 +11,7 @@ pub enum ProofError {
     Short(usize),
     /// The length of the path is no multiple of 32.
     HashLength,
-    /// Something stands behind the signatures.
+    /// Some bytes follow the signatures.
     Trailing,
     /// The signature that begins at this offset has a cosigner's id of no bytes.
     EmptyId(usize),

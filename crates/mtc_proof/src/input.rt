@@ -7,8 +7,8 @@ ghost use Rattle.mtc_proof.specs.Inputs.{signed_text};
 
 use std::marker::Model;
 
-// The bytes of the longest input: the label, two ids of 255 bytes behind their lengths, two numbers
-// and a hash.
+// The bytes of the longest input: the label, two ids of 255 bytes with their lengths before them,
+// two numbers and a hash.
 const CAPACITY: usize = 576;
 
 const LABEL: [u8; 16] = *b"mtc-subtree/v1\n\0";
@@ -56,7 +56,7 @@ impl InputBuf {
         self.length = 0;
     }
 
-    // Puts a piece behind the bytes.
+    // Appends a piece to the bytes.
     fn put(&mut self, piece: &[u8])
         requires { length self.old + length piece.now ≤ 576 }
         ensures text { self.new ≡ self.old ++ piece.now }
@@ -67,7 +67,7 @@ impl InputBuf {
         self.length = end;
     }
 
-    // Puts an id behind a length of one byte behind the bytes.
+    // Appends an id to the bytes, with its length in one byte before it.
     fn put_id(&mut self, id: &[u8])
         requires short { length id.now < 2 ^ 8 }
         requires capacity { length self.old + 1 + length id.now ≤ 576 }
@@ -81,11 +81,11 @@ impl InputBuf {
 
 /// What the cosigner signs of the subtree `[start, end)` of the log, where `hash` is the subtree's
 /// hash: the label `mtc-subtree/v1`, a line feed and a zero byte, the ids of the cosigner and of
-/// the log behind their lengths in one byte, start and end in eight bytes each, and the hash,
+/// the log, each after its length in one byte, start and end in eight bytes each, and the hash,
 /// together at most 576 bytes (the draft on Merkle Tree Certificates, where it defines
 /// `MTCSubtreeSignatureInput`). It replaces what `out` held, and takes no memory.
 ///
-/// An id has from 1 to 255 bytes. Whether the interval is a subtree isn't looked at.
+/// An id has from 1 to 255 bytes. The call doesn't test whether the interval is a subtree.
 pub fn signature_input(
     cosigner: &[u8],
     log: &[u8],

@@ -11,7 +11,7 @@ ghost use Rattle.mtc_proof.specs.Proofs.{SigParts, ProofParts, signature_text, I
 ghost use Rattle.mtc_proof.specs.Proofs.{proof_text, IsProof};
 ghost use Rattle.mtc_proof.specs.Reading.{mtc_signature_at, signatures_left, proof_in};
 
-/// A signature is read exactly from its spelling, whatever follows it, and so is a list of them,
+/// A signature is read exactly from its encoding, whatever follows it, and so is a list of them,
 /// where nothing follows.
 pub fn law_signatures_decode_as_encoded()
     ensures one { IsForm signature_text IsMtcSignature Anything mtc_signature_at }
@@ -19,14 +19,14 @@ pub fn law_signatures_decode_as_encoded()
         (up_to_end mtc_signature_at) }
 {}
 
-/// In the spelling of a list of signatures just these are found, in their order.
+/// In the encoding of a list of signatures just these are found, in their order.
 pub fn law_signatures_are_found()
     ensures { (xs : List SigParts) → AllByRecursion IsMtcSignature xs
         → signatures_left (at (flat_map signature_text xs) 0) ≡ xs }
 {}
 
-/// What is read as a proof is spelled as one, and the spelling of each proof is read as its parts.
-/// So a proof has one spelling.
+/// What is read as a proof is its encoding, and the encoding of each proof is read as its parts. So
+/// a proof has one encoding.
 pub fn law_proofs_decode_as_encoded()
     ensures only { (bytes : Text) (p : ProofParts) → IsBytes bytes → proof_in bytes ≡ Ok p
         → (bytes ≡ proof_text p) × IsProof p }

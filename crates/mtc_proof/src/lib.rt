@@ -1,7 +1,7 @@
 //! The proof in a certificate of a Merkle tree (the draft on Merkle Tree Certificates, where it
 //! defines `MTCProof`): an interval of the log, the inclusion path of the certificate's entry in
 //! it, and signatures of cosigners over the interval's hash. It is read without taking memory, and
-//! what is read lies in the bytes of the proof; it is written from its parts. Beside it what a
+//! what is read lies in the bytes of the proof; it is written from its parts. In addition what a
 //! cosigner signs, made without taking memory.
 #![tactic(auto)]
 

@@ -13,8 +13,8 @@ use crate::found::Signatures;
 use crate::proof::{Proof, SigRef};
 use tls_wire::Cursor;
 
-// One signature: the cosigner's id behind a length of one byte, and the signature behind a length
-// of two bytes. `EmptyId` where the id has no bytes.
+// One signature: the cosigner's id after a length of one byte, and the signature after a length of
+// two bytes. `EmptyId` where the id has no bytes.
 #[tactic(auto, unfolding(crate::specs::Reading::mtc_signature_at))]
 pub(crate) fn signature<'a>(cursor: &mut Cursor<'a>) -> Result<SigRef<'a>, ProofError>
     ensures exact { Moves sig_parts mtc_signature_at cursor.old result cursor.new }
@@ -50,7 +50,7 @@ pub(crate) fn check_rest(mut cursor: Cursor) -> Result<(), ProofError>
     all_signatures(&mut cursor)
 }
 
-/// Whether the bytes are signatures one behind the other, or none. Refuses with `Short` for an id
+/// Whether the bytes are signatures, one after the other, or none. Refuses with `Short` for an id
 /// or a signature that doesn't fit, with the offset of its length, and with `EmptyId` for a
 /// signature whose id has no bytes, with the offset of the signature.
 pub fn check_signatures(bytes: &[u8]) -> Result<(), ProofError>
@@ -61,7 +61,7 @@ pub fn check_signatures(bytes: &[u8]) -> Result<(), ProofError>
     check_rest(Cursor::new(bytes))
 }
 
-/// The signatures of a proof in their order. Of a proof that wasn't read they are those up to the
+/// The signatures of a proof in their order. For a proof that wasn't read they are those up to the
 /// first that doesn't read.
 pub fn signatures<'a>(p: &Proof<'a>) -> Signatures<'a>
     ensures { result ≡ signatures_left (at p.now.signatures.now 0) }

@@ -21,7 +21,7 @@ fn list<'a>(cursor: &mut Cursor<'a>) -> Result<Cursor<'a>, Short>
     cursor.inner16()
 }
 
-// The parts of a proof, and a cursor over its signatures, which aren't looked into.
+// The parts of a proof, and a cursor over its signatures, which aren't read.
 #[tactic(auto, unfolding(crate::specs::Reading::proof_parts_at))]
 fn parts<'a>(cursor: &mut Cursor<'a>) -> Result<(Proof<'a>, Cursor<'a>), ProofError>
     ensures parts { Moves (λ x. proof_parts x.0) proof_parts_at cursor.old result cursor.new }
@@ -56,14 +56,13 @@ fn whole(bytes: &[u8]) -> Result<Proof<'_>, ProofError>
 }
 
 /// Reads a proof, without taking memory: start and end of the interval in eight bytes each, the
-/// hashes of the path behind their length in two bytes, and the signatures behind their length in
-/// two bytes.
+/// hashes of the path after their length in two bytes, and the signatures after their length in two
+/// bytes.
 ///
 /// The first fault from the left is answered: `Short` with the offset of the number, the vector,
 /// the id or the signature that doesn't fit; `HashLength` where the length of the path is no
 /// multiple of 32; `EmptyId` with the offset of a signature whose cosigner's id has no bytes;
-/// `Trailing` where something stands behind the signatures. Offsets count in the bytes of the
-/// proof.
+/// `Trailing` where some bytes follow the signatures. Offsets count in the bytes of the proof.
 pub fn read_proof(bytes: &[u8]) -> Result<Proof<'_>, ProofError>
     ensures found { IfOk result
         (λ p. (bytes.now ≡ proof_text (proof_parts p)) × IsProof (proof_parts p)) }

@@ -10,7 +10,7 @@ use std::alloc::Global;
 use tls_wire::{put_hashes, put_u64, put_vec16};
 use tree_proofs::Path;
 
-// Puts the hashes of a path, which their type makes as long as hashes are, behind their length.
+// Appends the length of a path and its hashes, which their type makes as long as hashes are.
 fn put_path(out: &mut Bytes, path: &[[u8; 32]]) -> Result<(), Memory>
     requires { length path.now ≤ 128 }
     ensures text { OnOk result (out.new ≡ out.old ++ hashes path.now) }
@@ -19,9 +19,9 @@ fn put_path(out: &mut Bytes, path: &[[u8; 32]]) -> Result<(), Memory>
     put_hashes(out, path)
 }
 
-/// The bytes of a proof: what `read_proof` reads as these parts. The signatures stand one behind
-/// the other as `check_signatures` wants them, and have at most 65,535 bytes. Whether the interval
-/// is a subtree, and the path one in it, isn't looked at.
+/// The bytes of a proof: what `read_proof` reads as these parts. The signatures stand one after the
+/// other, as `check_signatures` wants them, and have at most 65,535 bytes. The call doesn't test
+/// whether the interval is a subtree, nor whether the path is one in it.
 pub fn write_proof(
     alloc: Global,
     start: u64,
