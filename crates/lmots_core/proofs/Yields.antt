@@ -37,7 +37,7 @@ pub length-secret_start : (id : Text) (q : ℕ) (seed : Text) (i : ℕ)
 unfolding secret_start
 length-secret_start id q seed i = length-sha256 _
 
--- pieces of 32 bytes, one behind the other
+-- pieces of 32 bytes, one after the other
 pub length-concatenated : (f : ℕ → Text) (n : ℕ) → ((i : ℕ) → length (f i) ≡ 32)
     → length (concatenated f n) ≡ 32 * n
 unfolding concatenated
@@ -105,7 +105,7 @@ finished_end t id q seed coded s i told =
     chain-add p 0 d (steps t - d) (secret_start id q seed i) in
     rw told (rw (zero-add, all) at on)
 
--- the parts of a signature, behind its first 36 bytes
+-- the parts of a signature, after its first 36 bytes
 pub signature-part : (code c : Text) (f : ℕ → Text) (n i : ℕ) → length code ≡ 4 → length c ≡ 32
     → ((k : ℕ) → length (f k) ≡ 32) → i < n
     → value_at (code ++ c ++ concatenated f n) (36 + 32 * i) ≡ f i
@@ -117,7 +117,7 @@ signature-part code c f n i four size sizes below =
     )
     (concatenated-part f n i sizes below)
 
--- the randomizer of a signature, behind its first 4 bytes
+-- the randomizer of a signature, after its first 4 bytes
 pub second_part : (code c rest : Text) → length code ≡ 4 → length c ≡ 32
     → value_at (code ++ c ++ rest) 4 ≡ c
 second_part code c rest four size =
@@ -140,7 +140,7 @@ typecode_small W2 = omega arith
 typecode_small W4 = omega arith
 typecode_small W8 = omega arith
 
--- what the signature tells of a chain has 32 bytes
+-- what the signature has of a chain has 32 bytes
 length-signed_link : (t : OtsType) (id : Text) (q : ℕ) (seed coded : Text) (i : ℕ)
     → length (signed_link t id q seed coded i) ≡ 32
 length-signed_link t id q seed coded i =

@@ -16,11 +16,11 @@ use Rattle.lmots_core.specs.Strings.{value_at, u32_at, concatenated}
 abbrev pub chain_prefix : Text → ℕ → ℕ → Text
 chain_prefix id q i = id ++ to_be_bytes w32 q ++ to_be_bytes w16 i
 
--- One step of a chain, from place j to place j + 1.
+-- One step of a chain, from step j to step j + 1.
 unfoldable pub chain_step : Text → ℕ → Hash → Hash
 chain_step prefix j x = sha256 (prefix ++ j ∷ [] ++ x)
 
--- n steps of a chain from place a on, beginning with x.
+-- n steps of a chain from step a on, beginning with x.
 unfoldable pub chain : Text → ℕ → ℕ → Hash → Hash
 chain prefix a zero x = x
 chain prefix a (suc n) x = chain_step prefix (a + n) (chain prefix a n x)
@@ -29,13 +29,13 @@ chain prefix a (suc n) x = chain_step prefix (a + n) (chain prefix a n x)
 unfoldable pub secret_start : Text → ℕ → Text → ℕ → Hash
 secret_start id q seed i = sha256 (chain_prefix id q i ++ 0xFF ∷ [] ++ seed)
 
--- The public end of chain i: all its steps behind its start.
+-- The public end of chain i: its start after all its steps.
 abbrev pub chain_end : OtsType → Text → ℕ → Text → ℕ → Hash
 chain_end t id q seed i = chain (chain_prefix id q i) 0 (steps t) (secret_start id q seed i)
 
 -- ---- public keys (4.3)
 
--- The key K of which these, one behind the other, are the chains' ends.
+-- The key K of which these, one after the other, are the chains' ends.
 unfoldable pub key_of_ends : Text → ℕ → Text → Hash
 key_of_ends id q ends = sha256 (id ++ to_be_bytes w32 q ++ 0x80 ∷ 0x80 ∷ [] ++ ends)
 
@@ -72,11 +72,12 @@ digit t coded i = coef coded i (width t)
 unfoldable pub message_hash : Text → ℕ → Hash → Text → Hash
 message_hash id q c message = sha256 (id ++ to_be_bytes w32 q ++ 0x81 ∷ 0x81 ∷ [] ++ c ++ message)
 
--- C is derived from the seed, at a place where no chain is: one key and message have one signature.
+-- C is derived from the seed, with a number that no chain has: one key and message have one
+-- signature.
 abbrev pub randomizer : Text → ℕ → Text → Hash
 randomizer id q seed = secret_start id q seed 65533
 
--- What the signature tells of chain i: its value after as many steps as the digit says.
+-- What the signature has of chain i: its value after as many steps as the digit says.
 abbrev pub signed_link : OtsType → Text → ℕ → Text → Text → ℕ → Hash
 signed_link t id q seed coded i =
     chain (chain_prefix id q i) 0 (digit t coded i) (secret_start id q seed i)
@@ -90,7 +91,7 @@ signature t id q seed message =
 
 -- ---- verification (4.6)
 
--- The end of chain i, reached from what the signature s tells of it.
+-- The end of chain i, reached from what the signature s has of it.
 abbrev pub finished_link : OtsType → Text → ℕ → Text → Text → ℕ → Hash
 finished_link t id q coded s i =
     let done = digit t coded i in

@@ -7,12 +7,13 @@ use crate::fields::put;
 use sha2::{Digest, Sha256};
 use std::marker::Model;
 
-// The place that stands in a secret start where a step has its number (RFC 8554, appendix A).
+// The byte that stands in the hashed string of a secret where a step has its number (RFC 8554,
+// appendix A).
 const SECRET: u8 = 0xFF;
 
 // One chain of one one-time key, as the 55 bytes that each of its steps hashes: the identifier, q
-// and the chain's number, which stay, and then a step's number and value, which each step writes
-// anew.
+// and the chain's number, which stay, and then a step's number and value, which each step
+// overwrites.
 #[derive(Drop)]
 pub struct Chain {
     bytes: [u8; 55],
@@ -48,7 +49,7 @@ impl Chain {
         self.step(SECRET, secret)
     }
 
-    // One step from place `j`.
+    // One step, from step `j` on.
     #[tactic(auto, unfolding(crate::specs::Ots::chain_step))]
     pub fn step(&mut self, j: u8, value: &[u8; 32]) -> [u8; 32]
         ensures same { self.new ≡ self.old }
@@ -59,7 +60,7 @@ impl Chain {
         Sha256::digest(&self.bytes)
     }
 
-    // As many steps from a place on.
+    // As many steps from step `from` on.
     #[tactic(auto, unfolding(crate::specs::Ots::chain))]
     pub fn run(&mut self, from: u8, count: u8, start: [u8; 32]) -> [u8; 32]
         requires { from + count ≤ 255 }
@@ -74,8 +75,9 @@ impl Chain {
     }
 }
 
-/// What the secret starts chain `i` of key `q` with. Places above the chains give other secrets of
-/// the key: the randomizer of its signature is that of place 65533 (RFC 8554, appendix A).
+/// What the secret starts chain `i` of key `q` with. Numbers above those of the chains give other
+/// secrets of the key: the randomizer of its signature is that of number 65533 (RFC 8554, appendix
+/// A).
 #[tactic(auto, unfolding(crate::specs::Ots::chain_step, crate::specs::Ots::secret_start))]
 pub fn secret_start(id: &[u8; 16], q: u32, secret: &[u8; 32], i: u16) -> [u8; 32]
     ensures { result ≡ secret_start id.now q secret.now i }

@@ -12,7 +12,7 @@ use crate::marks::{KEY_MARK, marked_hasher};
 use crate::parameters::{LINKS, OtsType};
 use sha2::Digest;
 
-// The end of chain i, from what the signature tells of it.
+// The end of chain i, from its value in the signature.
 fn finished_link(
     ots: OtsType,
     id: &[u8; 16],

@@ -13,7 +13,7 @@ pub const KEY_MARK: [u8; 2] = [0x80, 0x80];
 pub const MESSAGE_MARK: [u8; 2] = [0x81, 0x81];
 
 /// A hasher that holds what each hash begins with but a chain's: the identifier, the number of a
-/// one-time key or a node, and the two bytes that tell one use from another.
+/// one-time key or a node, and the two bytes that separate one use from another.
 pub fn marked_hasher(id: &[u8; 16], number: u32, mark: &[u8; 2]) -> Sha256
     ensures { Holds256 result (id.now ++ to_be_bytes w32 number ++ mark.now) }
 {

@@ -4,7 +4,7 @@ ghost use Rattle.std.specs.Prelude.{◌≡◌, ◌/◌};
 ghost use Rattle.lmots_core.specs.Parameters.{chains, shift, signature_length, steps, type_of_code};
 ghost use Rattle.lmots_core.specs.Parameters.{typecode, width};
 
-// Where the chains' values begin in a signature: behind its typecode and its randomizer.
+// Where the chains' values begin in a signature: after its typecode and its randomizer.
 pub const LINKS: usize = 36;
 
 /// The parameter set of a one-time key: the width of its digits in bits (RFC 8554, section 4.1).

@@ -52,7 +52,7 @@ impl SigBuf {
         self.length = 0;
     }
 
-    /// Puts a piece behind the bytes so far. The caller sees to it that there is room.
+    /// Appends a piece to the bytes so far. The caller makes sure that there is capacity.
     pub fn append(&mut self, piece: &[u8])
         requires { length self.old + length piece.now ≤ 17748 }
         ensures { self.new ≡ self.old ++ piece.now }

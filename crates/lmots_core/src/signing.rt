@@ -12,7 +12,7 @@ use crate::parameters::OtsType;
 use crate::signature_buffer::SigBuf;
 use sha2::Digest;
 
-// The place of the randomizer in the derivation of secrets.
+// The number of the randomizer in the derivation of secrets.
 const RANDOMIZER: u16 = 65533;
 
 // The end of chain i.
@@ -56,7 +56,7 @@ fn signed_link(
     chain.run(0, digit, start)
 }
 
-// Puts each chain, as far as its digit says, behind what `out` holds.
+// Appends each chain, as far as its digit says, to what `out` holds.
 #[tactic(auto, unfolding(crate::specs::Strings::concatenated))]
 fn put_links(
     ots: OtsType,
@@ -76,7 +76,7 @@ fn put_links(
     }
 }
 
-/// Puts the signature of a message by one-time key `q` behind what `out` holds (RFC 8554, section
+/// Appends the signature of a message by one-time key `q` to what `out` holds (RFC 8554, section
 /// 4.5). A key is to sign one message alone.
 #[tactic(auto, unfolding(crate::specs::Ots::signature))]
 pub fn sign(
