@@ -53,7 +53,7 @@ node_here key nodes p (suc d) within from to some low held =
     (omega arith) in
     rw (left, right) refl
 
--- and then all from its place on are
+-- and then all from its index on are
 pub HoldsFrom-more : (key : PrivateKey) (nodes : List Hash) (value : Text) (p : ℕ) → 0 < p
     → p < 2 ^ height key.lms → length nodes ≡ 2 * 2 ^ height key.lms → HoldsFrom key (p + 1) nodes
     → value ≡ inner_node key.id p (slice_index_or nodes (2 * p) [])

@@ -1,11 +1,11 @@
--- The places of a tree's nodes: numbers that double and halve from level to level.
+-- The indices of a tree's nodes: numbers that double and halve from level to level.
 use Rattle.std.proofs.Common.{◌≡◌, ℕ, suc, ◌+◌, ◌-◌, ◌*◌, ◌/◌, ◌^◌, ◌<◌, ◌≤◌, refl, arith, add-one}
 use Rattle.std.proofs.Common.{mul_comm, pow-suc}
 use Rattle.std.proofs.Math.Nat.{div-div-eq-div-mul, pow-le-pow_right}
 use Rattle.std.proofs.lemmas.Bool.Decides.{nat_tests}
 use Rattle.lms_core.specs.Trees.{sibling}
 
--- one level up halves the place
+-- one level up halves the index
 pub div_pow : (r i : ℕ) → r / 2 ^ (i + 1) ≡ r / 2 ^ i / 2
 div_pow r i = rw (add-one, pow-suc 2 i, div-div-eq-div-mul r (2 ^ i) 2) refl
 

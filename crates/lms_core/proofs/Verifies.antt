@@ -100,7 +100,7 @@ key_types-lms_public k size =
 
 -- ---- the parts of a signature
 
--- in front of the path
+-- what precedes the path
 abbrev before_path : PrivateKey → ℕ → Text → Text
 before_path k q message =
     to_be_bytes w32 q ++ signature k.ots k.id q k.seed message ++ to_be_bytes w32 (lms_code k.lms)
@@ -188,7 +188,7 @@ front_types-long l t s long once tree =
     let third = le-ltb (length s) (lms_signature_length l t) long in
     rw (first, once, type_of_code-typecode t, second, tree, lms_type_of_code-lms_code l, third) refl
 
--- whatever stands behind a signature
+-- whatever follows a signature
 pub front_types-append : (k : PrivateKey) (q : ℕ) (message rest : Text)
     → front_types (lms_signature k q message ++ rest) ≡ Some (k.lms, k.ots)
 front_types-append k q message rest =

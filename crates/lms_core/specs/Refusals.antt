@@ -44,8 +44,8 @@ prefix_with (Some t) s =
     if nat_lt (length s) (8 + signature_length t) then None
     else prefix_after t (lms_type_of_code (u32_at s (4 + signature_length t))) s
 
--- The types of the signature that the bytes begin with: the one-time typecode stands at place 4,
--- that of the tree behind the one-time signature. None where the bytes begin with no whole
+-- The types of the signature that the bytes begin with: the one-time typecode stands at offset 4,
+-- that of the tree after the one-time signature. None where the bytes begin with no whole
 -- signature.
 unfoldable pub front_types : Text → Option (LmsType × OtsType)
 front_types s = if nat_lt (length s) 8 then None else prefix_with (type_of_code (u32_at s 4)) s
@@ -69,7 +69,8 @@ yields_root l t id message s root =
 
 -- ---- refusals
 
--- Of a whole signature with these types, under a key of 56 bytes, which need not be in its grammar.
+-- For a whole signature with these types, under a key of 56 bytes, which need not be in its
+-- grammar.
 unfoldable pub level_refusal : Text → Text → LmsType → OtsType → Text → Option SigError
 level_refusal key message l t s =
     if not ((lms_code l == u32_at key 0) && (typecode t == u32_at key 4)) then Some TypeDiffers

@@ -10,7 +10,7 @@ use crate::nodes::{parent, sibling};
 use crate::private_key::PrivateKey;
 use lmots_core::{SigBuf, read_32};
 
-// Puts the path of leaf q behind what `out` holds: the nodes beside the way up, the lowest first.
+// Appends the path of leaf q to what `out` holds: the nodes beside the way up, the lowest first.
 #[tactic(auto, unfolding(lmots_core::specs::Strings::concatenated))]
 pub fn put_path(key: &PrivateKey, nodes: &[[u8; 32]], q: u32, out: &mut SigBuf)
     requires held { HoldsNodes key.now nodes.now }
@@ -26,7 +26,7 @@ pub fn put_path(key: &PrivateKey, nodes: &[[u8; 32]], q: u32, out: &mut SigBuf)
     }
 }
 
-// The node so many levels above a place, from the value there and the path (RFC 8554, algorithm
+// The node so many levels above an index, from the value there and the path (RFC 8554, algorithm
 // 6a).
 #[tactic(auto, unfolding(crate::specs::Trees::climbed))]
 pub fn climb(id: &[u8; 16], place: u32, path: &[u8], value: [u8; 32], levels: u32) -> [u8; 32]

@@ -7,7 +7,7 @@ ghost use Rattle.lms_core.specs.Held.{HoldsFrom};
 use crate::nodes::inner_node;
 use crate::private_key::PrivateKey;
 
-// Fills the places of the leaves.
+// Fills the indices of the leaves.
 pub fn fill_leaves(key: &PrivateKey, leaves: u32, nodes: &mut [[u8; 32]])
     requires signs { IsSigningHeight key.now.lms }
     requires leaves { leaves ≡ 2 ^ height key.now.lms }
@@ -19,7 +19,7 @@ pub fn fill_leaves(key: &PrivateKey, leaves: u32, nodes: &mut [[u8; 32]])
     }
 }
 
-// Fills the places above the leaves, from the lowest level to the root.
+// Fills the indices above the leaves, from the lowest level to the root.
 pub fn fill_inner(key: &PrivateKey, leaves: u32, nodes: &mut [[u8; 32]])
     requires signs { IsSigningHeight key.now.lms }
     requires leaves { leaves ≡ 2 ^ height key.now.lms }

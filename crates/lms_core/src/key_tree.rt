@@ -20,7 +20,7 @@ use std::marker::Model;
 #[derive(Drop)]
 pub struct Tree {
     key: PrivateKey,
-    // Node r of the standard stands at place r; place 0 is not used.
+    // Node r of the standard stands at index r; index 0 is not used.
     nodes: Vec<[u8; 32]>,
 }
 
@@ -40,7 +40,7 @@ impl Tree {
     /// Makes the tree of a secret, at height 5 or 10. It hashes every chain of every one-time key.
     ///
     /// # Errors
-    /// `Memory`, where there is no room for the nodes.
+    /// `Memory`, where the nodes find no memory.
     pub fn make(alloc: Global, lms: LmsType, ots: OtsType, secret: &Secret) -> Result<Tree, Memory>
         requires { IsSigningHeight lms }
         ensures { IfOk result (λ t. t ≡ private_key lms ots secret.now) }
@@ -51,7 +51,7 @@ impl Tree {
     /// Makes the tree of a private key, at height 5 or 10, as `make` does of a secret.
     ///
     /// # Errors
-    /// `Memory`, where there is no room for the nodes.
+    /// `Memory`, where the nodes find no memory.
     pub fn of_key(alloc: Global, key: PrivateKey) -> Result<Tree, Memory>
         requires { IsSigningHeight key.lms }
         ensures { IfOk result (λ t. t ≡ key) }
@@ -90,7 +90,7 @@ impl Tree {
         public
     }
 
-    /// Puts the signature of a message by one-time key `q` behind what `out` holds (RFC 8554,
+    /// Appends the signature of a message by one-time key `q` to what `out` holds (RFC 8554,
     /// section 5.4.1). It is the same each time, and no two messages may be signed with one `q`:
     /// the caller counts.
     #[tactic(auto, unfolding(crate::specs::Trees::lms_signature))]

@@ -8,13 +8,13 @@ use crate::private_key::PrivateKey;
 use lmots_core::{marked_hasher, public};
 use sha2::Digest;
 
-// D_LEAF: the hash that is a leaf goes on with these two bytes (RFC 8554, section 5.3).
+// D_LEAF: the hash that is a leaf continues with these two bytes (RFC 8554, section 5.3).
 const LEAF_MARK: [u8; 2] = [0x82, 0x82];
 
-// D_INTR: the hash that is an inner node goes on with these.
+// D_INTR: the hash that is an inner node continues with these.
 const INNER_MARK: [u8; 2] = [0x83, 0x83];
 
-// The leaf at this place, over the one-time public key there.
+// The leaf at this index, over the one-time public key there.
 #[tactic(auto, unfolding(crate::specs::Trees::leaf_node))]
 pub fn leaf_node(id: &[u8; 16], place: u32, key: &[u8; 32]) -> [u8; 32]
     ensures { result ≡ leaf_node id.now place key.now }
@@ -24,7 +24,7 @@ pub fn leaf_node(id: &[u8; 16], place: u32, key: &[u8; 32]) -> [u8; 32]
     hasher.finalize()
 }
 
-// The inner node at this place, over the two nodes below it.
+// The inner node at this index, over the two nodes below it.
 #[tactic(auto, unfolding(crate::specs::Trees::inner_node))]
 pub fn inner_node(id: &[u8; 16], place: u32, left: &[u8; 32], right: &[u8; 32]) -> [u8; 32]
     ensures { result ≡ inner_node id.now place left.now right.now }
@@ -35,7 +35,7 @@ pub fn inner_node(id: &[u8; 16], place: u32, left: &[u8; 32], right: &[u8; 32]) 
     hasher.finalize()
 }
 
-// The parent of the node at this place, from its value and its sibling's.
+// The parent of the node at this index, from its value and its sibling's.
 pub fn parent(id: &[u8; 16], place: u32, value: &[u8; 32], beside: &[u8; 32]) -> [u8; 32]
     ensures { result ≡ parent id.now place value.now beside.now }
 {
@@ -46,7 +46,7 @@ pub fn parent(id: &[u8; 16], place: u32, value: &[u8; 32], beside: &[u8; 32]) ->
     }
 }
 
-// The place of the other node below the same parent.
+// The index of the other node below the same parent.
 pub fn sibling(place: u32) -> u32
     requires { place < 2 ^ 31 }
     ensures { result ≡ sibling place }

@@ -9,7 +9,7 @@ use std::marker::Model;
 pub const SECRET_LEN: usize = 48;
 
 /// The secret of a private key. It moves: the type has no copy, comparison or print, and
-/// [`Secret::as_bytes`] alone hands out its bytes. Contracts see these.
+/// [`Secret::as_bytes`] alone gives its bytes. Contracts see these.
 #[derive(Drop)]
 pub struct Secret {
     bytes: [u8; SECRET_LEN],

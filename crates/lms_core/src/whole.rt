@@ -29,7 +29,7 @@ fn prefix_with(ots: OtsType, bytes: &[u8]) -> Option<(LmsType, OtsType)>
 }
 
 /// The types of the signature that the bytes begin with, by its own typecodes; `None` where they
-/// begin with no whole signature. What stands behind it is not looked at.
+/// begin with no whole signature. The bytes after it are not read.
 #[tactic(auto, unfolding(crate::specs::Refusals::front_types))]
 pub fn prefix(bytes: &[u8]) -> Option<(LmsType, OtsType)>
     ensures types { result ≡ front_types bytes.now }
