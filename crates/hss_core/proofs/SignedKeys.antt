@@ -24,7 +24,7 @@ use Rattle.hss_core.specs.Hss.{levels_public, levels_refusal, levels_signature, 
 use Rattle.hss_core.specs.Hss.{refusal_of_types, SignedKeyVerifies, Verifies}
 use Rattle.hss_core.proofs.Parts.{levels_refusal-passed, parts_fit-pair}
 
--- the number in front of a key or a signature
+-- the number before a key or a signature
 number_first : (n : ℕ) (rest : Text) → n < 2 ^ 32 → u32_at (to_be_bytes w32 n ++ rest) 0 ≡ n
 unfolding u32_at
 number_first n rest small = from_be_bytes-to_be_bytes_4 n small

@@ -34,7 +34,7 @@ parts_fit-lms_signature k q message =
     (sym (length-lms_signature k q message)) in
     rw (front_types-lms_signature k q message, whole) refl
 
--- what a tree signs verifies, with the number of levels in front of key and signature
+-- what a tree signs verifies, with the number of levels before key and signature
 pub hss_refusal-one_level_signature : (k : PrivateKey) (q : ℕ) (message : Text) → length k.id ≡ 16
     → q < 2 ^ height k.lms
     → Verifies (one_level_public k) message (one_level_signature k q message)

@@ -48,7 +48,7 @@ length_of (Some (l, t)) = Some (lms_signature_length l t)
 abbrev pub prefix_length : Text → Option ℕ
 prefix_length s = length_of (front_types s)
 
--- The public key behind a signature of n bytes, and what stands behind that key.
+-- The public key after a signature of n bytes, and what follows that key.
 abbrev pub key_behind : ℕ → Text → Text
 key_behind n s = take 56 (drop n s)
 
@@ -109,7 +109,7 @@ abbrev pub levels_signature : ℕ → Text → Text
 levels_signature pairs parts = to_be_bytes w32 pairs ++ parts
 
 -- A key that a tree signs, and what verifies under that key, verify together under the tree's key:
--- with one level more, and the tree's signature and the signed key in front.
+-- with one level more, and the tree's signature and the signed key before the rest.
 abbrev pub SignedKeyVerifies : PrivateKey → ℕ → ℕ → Text → Text → Text → Type 0
 SignedKeyVerifies k q below public message parts =
     Verifies (levels_public below public) message (levels_signature below parts)

@@ -37,7 +37,7 @@ impl Key {
     /// used.
     ///
     /// # Errors
-    /// `Memory`, where there is no room for the tree.
+    /// `Memory`, where the tree finds no memory.
     pub fn make(
         alloc: Global,
         lms: LmsType,
