@@ -1,4 +1,4 @@
--- The calls that a disk in memory tells, by its record.
+-- The calls of a disk in memory, by its record.
 use Rattle.std.proofs.Common.{◌≡◌, ℕ, zero, suc, ◌+◌, ◌<◌, ◌≤◌, List, [], ◌∷◌, ◌++◌, length, take}
 use Rattle.std.proofs.Common.{get_or, replicate, refl, ap, sym, ◌∙◌, append_assoc, arith}
 use Rattle.std.proofs.Common.{Bool, true, ◌&&◌}
@@ -13,7 +13,7 @@ use Rattle.disk_core.specs.declared.memory.call.Change.{Change}
 use Rattle.disk_core.specs.declared.memory.call.Made.{Made}
 use Rattle.disk_core.proofs.Replay.{run-append}
 
--- one call more that looks
+-- one call more that reads
 pub look_more : (changes : List Change) (only_reads : ℕ)
     → calls_in changes (only_reads + 1) ≡ calls_in changes only_reads ++ only_read ∷ []
 look_more [] only_reads = replicate_next only_reads only_read
@@ -63,7 +63,7 @@ abbrev pub kept_calls : List Change → List Made
 kept_calls [] = []
 kept_calls (change ∷ changes) = change.made ∷ kept_calls changes
 
--- calls that look leave the state alone
+-- calls that read leave the state alone
 only_read_alone : (s : State) (count : ℕ) (calls : List Made)
     → run s (replicate count only_read ++ calls) ≡ run s calls
 only_read_alone s zero calls = refl
@@ -81,7 +81,7 @@ changes_make s (change ∷ changes) only_reads =
     only_read_alone s change.only_reads (change.made ∷ calls_in changes only_reads)
     ∙ changes_make (step s change.made) changes only_reads
 
--- the state behind so many of the changes
+-- the state after so many of the changes
 abbrev pub state_in : Text → List Change → ℕ → State
 state_in first changes count = run (settled first) (kept_calls (take count changes))
 
@@ -91,7 +91,7 @@ kept-append [] change = refl
 kept-append (first ∷ changes) change =
     ap (λ (rest : List Made). first.made ∷ rest) (kept-append changes change)
 
--- behind one more
+-- after one more
 pub state_in_more : (first : Text) (changes : List Change) (index : ℕ) (change : Change)
     → index < length changes → change ≡ get_or changes index change
     → state_in first changes (index + 1) ≡ step (state_in first changes index) change.made
@@ -103,7 +103,7 @@ state_in_more first changes index change within is =
     (get_or changes index change).made
     ∙ ap (λ (c : Change). step (state_in first changes index) c.made) (sym is)
 
--- behind all of them
+-- after all of them
 pub state_in_all : (first : Text) (changes : List Change) (count only_reads : ℕ)
     → length changes ≤ count
     → state_in first changes count ≡ state_now first (calls_in changes only_reads)

@@ -1,4 +1,4 @@
--- Runs of calls of a disk, and what a crash leaves at their moments.
+-- Runs of calls of a disk, and what a crash leaves at their times.
 use Rattle.std.proofs.Common.{◌≡◌, ◌⊎◌, inl, inr, ℕ, ◌≤◌, List, refl, ◌∙◌, arith}
 use Rattle.disk_core.specs.Disk.{Elapses, NoNew}
 use Rattle.disk_core.specs.Moments.{LeavesOnly, OnlyReads}
@@ -34,7 +34,7 @@ module _ {D : Type 0} (g : Ghosts D) where
         ];
       }
 
-  -- one run behind another
+  -- one run after another
   pub joined : (old mid new : D) (P : List ℕ → Type 0) → LeavesOnly g old mid P
       → LeavesOnly g mid new P → LeavesOnly g old new P
   joined old mid new P first second = record {
@@ -60,14 +60,14 @@ module _ {D : Type 0} (g : Ghosts D) where
     ];
   }
 
-  -- what a crash leaves now, it leaves at a moment of the run
+  -- what a crash leaves now, it leaves at a time of the run
   pub left_now : (old new : D) (P : List ℕ → Type 0) → ((t : ℕ) (c : List ℕ) → t ≤ g.moment new
       → g.may_leave new c → g.left_since new t c)
       → LeavesOnly g old new P → (c : List ℕ) → g.may_leave new c → P c
   left_now old new P counts_now run =
       λ c left. run.each c (counts_now (g.moment old) c run.later left)
 
-  -- a look behind another
+  -- a read after another
   pub only_read_on : (old mid new : D) → OnlyReads g old mid → OnlyReads g mid new
       → OnlyReads g old new
   only_read_on old mid new first second = record {
@@ -79,7 +79,7 @@ module _ {D : Type 0} (g : Ghosts D) where
     faults = let a = first.faults in let b = second.faults in omega arith;
   }
 
-  -- one call that looks
+  -- one call that reads
   pub one_look : (old new : D) → g.contents new ≡ g.contents old
       → NoNew (g.may_leave old) (g.may_leave new)
       → Elapses (g.moment old) (g.moment new) (g.left_since old) (g.left_since new)
@@ -96,7 +96,7 @@ module _ {D : Type 0} (g : Ghosts D) where
     faults = faults;
   }
 
-  -- no look
+  -- no read
   pub nothing_read : (now : D)
       → ((c : List ℕ) → g.left_since now (g.moment now) c → g.may_leave now c)
       → OnlyReads g now now

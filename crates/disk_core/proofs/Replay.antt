@@ -18,13 +18,13 @@ pub run-append : (s : State) (calls : List Made) (made : Made)
 run-append s [] made = refl
 run-append s (first ∷ calls) made = run-append (step s first) calls made
 
--- the state behind one call more
+-- the state after one call more
 pub state_pushed : (first : List ℕ) (calls next : List Made) (made : Made)
     → next ≡ calls ++ made ∷ []
     → state_now first next ≡ step (state_now first calls) made
 state_pushed first calls next made is = rw is (run-append (settled first) calls made)
 
--- the moments behind one call more
+-- the times after one call more
 pub time_pushed : (first : List ℕ) (calls next : List Made) (made : Made)
     → next ≡ calls ++ made ∷ []
     → Elapses (length calls) (length next) (LeftSince first calls) (LeftSince first next)
@@ -68,7 +68,7 @@ time_same first calls next is = rw is (record {
   keeps = λ t c le since. since;
 })
 
--- Behind a call that leaves the state alone a crash leaves nothing new.
+-- After a call that leaves the state alone a crash leaves nothing new.
 pub quiet_pushed : (first : List ℕ) (calls next : List Made) (made : Made)
     → ((s : State) → step s made ≡ s) → next ≡ calls ++ made ∷ []
     → NoNew (IsImage (state_now first calls)) (IsImage (state_now first next))
@@ -76,7 +76,7 @@ quiet_pushed first calls next made quiet is =
     λ c now. subst (λ (s : State). IsImage s c) (state_pushed first calls next made is
     ∙ quiet (state_now first calls)) now
 
--- Behind a write, done or refused, each image is one from before, torn.
+-- After a write, done or refused, each crash state is one from before, torn.
 pub torn_pushed : (first : List ℕ) (calls next : List Made) (place : ℕ) (piece : List ℕ) (ok : Bool)
     → next ≡ calls ++ record { call = Write place piece; ok = ok } ∷ []
     → Follows (Torn place piece) (IsImage (state_now first calls))
@@ -98,7 +98,7 @@ torn_same first calls next place piece is =
       torn_none place piece c,
     )
 
--- Behind a sync a crash leaves what is seen.
+-- After a sync a crash leaves what is seen.
 pub sync_pushed : (first : List ℕ) (calls next : List Made) → next ≡ calls ++ record {
   call =
       Sync;

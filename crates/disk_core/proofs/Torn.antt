@@ -16,7 +16,7 @@ use Rattle.disk_core.specs.Writes.{over_prefix, over_within, over_behind}
 use Rattle.disk_core.specs.declared.disk.Disk.{Ghosts}
 use Rattle.disk_core.proofs.Moments.{weaker}
 
--- A write leaves a byte as it was exactly where it is the same behind the write.
+-- A write leaves a byte as it was exactly if it is the same after the write.
 leaves_same : (old : List ℕ) (i : ℕ) (write : ℕ × List ℕ) → i < length old
     → LeavesByte old i write
     → slice_index (overwritten write.0 write.1 old) i ≡ slice_index old i
@@ -57,7 +57,7 @@ keeps_torn place piece old new keeps = record {
   stays = λ i there same. keeps.others i there (same_leaves old i (place, piece) there same, tt);
 }
 
--- all in front of the range
+-- all before the range
 pub torn_before : (place : ℕ) (piece old new : List ℕ) → Torn place piece old new
     → take (min place (length old)) new ≡ take place old
 torn_before place piece old new torn =
@@ -71,7 +71,7 @@ torn_before place piece old new torn =
     ∙ torn.stays i (omega arith) (over_prefix place piece old i (omega arith) (omega arith))
     ∙ sym (get_or-take place old i 0 (omega arith)))
 
--- and all behind it, below the old end
+-- and all after it, below the old end
 pub torn_after : (place : ℕ) (piece old new : List ℕ) → Torn place piece old new
     → take (length old - (place + length piece)) (drop (place + length piece) new)
     ≡ drop (place + length piece) old
@@ -124,7 +124,7 @@ extends_torn place piece old new extends = record {
       ∙ ap (λ (bytes : List ℕ). slice_index bytes i) extends;
 }
 
--- the same where a crash at any moment leaves an image of such a write
+-- the same where a crash at any time leaves a crash state of such a write
 pub same_moments : {D : Type 0} (g : Ghosts D) (old new : D) (place : ℕ) (piece : List ℕ)
     → ((d : List ℕ) → g.may_leave old d → part place (length piece) d ≡ piece)
     → LeavesOnly g old new (λ c. (d : List ℕ) × g.may_leave old d × Torn place piece d c)
@@ -133,7 +133,7 @@ same_moments g old new place piece there run =
     weaker g old new _ _ (λ c (d, was, torn).
     (d, was, same_extends place piece d c (there d was) torn)) run
 
--- a byte that each image has, and that is written again
+-- a byte that each crash state has, and that is written again
 pub each_has_still : (place : ℕ) (piece : List ℕ) (old new : List ℕ → Type 0) (k : ℕ)
     → Follows (Torn place piece) old new → k < length piece
     → EachHas (place + k) (slice_index piece k) old
@@ -149,7 +149,7 @@ each_has_still place piece old new k follows within has image now =
     ∙ ap (λ (n : ℕ). slice_index piece n) split ∙ sym is in
     (omega arith, torn.stays (place + k) there same ∙ is)
 
--- every image keeps what each write since the last sync leaves as it was
+-- every crash state has, as it was, what each write since the last sync leaves as it was
 pub image_keeps : (base : List ℕ) (writes : List (ℕ × List ℕ)) (image : List ℕ)
     → IsImageOf base writes image → KeepsOthers writes base image
 image_keeps base [] image is = subst (λ (c : List ℕ). KeepsOthers [] base c) (sym is)
@@ -215,8 +215,8 @@ so : {P : Type 0} (either : P ⊎ (P → ⊥)) (a b : ℕ) → P → where_so ei
 so (inl holds) a b p = refl
 so (inr fails) a b p = absurd (fails p)
 
--- The image before the newest write: as at the sync where all the older ones leave it so, and
--- elsewhere as the image behind it.
+-- The crash state before the newest write: as at the sync where all the older ones leave it so, and
+-- elsewhere as the crash state after the newest write.
 module _ (base image : List ℕ) (writes : List (ℕ × List ℕ)) where
   abbrev byte_before : ℕ → ℕ
   byte_before i =
@@ -254,7 +254,7 @@ module _ (base image : List ℕ) (writes : List (ℕ × List ℕ)) where
         ∙ so (all_leave base i writes) (slice_index base i) (slice_index image i) all;
   }
 
-  -- the newest write leaves a byte of it as it is: so it is in the image behind it
+  -- the newest write leaves a byte of it as it is: so it is in the crash state after it
   behind_it : (write : ℕ × List ℕ) → KeepsOthers (write ∷ writes) base image → (i : ℕ)
       → i < length base → LeavesByte image_before i write
       → slice_index image i ≡ slice_index image_before i
@@ -279,7 +279,7 @@ module _ (base image : List ℕ) (writes : List (ℕ × List ℕ)) where
             behind_it write keeps i within (same_leaves image_before i write there same);
       }
 
--- what keeps the other bytes is an image
+-- what retains the other bytes is a crash state
 pub keeps_image : (base : List ℕ) (write : ℕ × List ℕ) (writes : List (ℕ × List ℕ))
     (image : List ℕ)
     → IsBytes base → IsBytes image → KeepsOthers (write ∷ writes) base image

@@ -8,7 +8,7 @@ use Rattle.disk_core.specs.declared.memory.call.Made.{Made}
 use Rattle.disk_core.specs.declared.memory.history.History.{History}
 use Rattle.disk_core.specs.declared.memory.plan.Plan.{Plan}
 
--- a listed call fails, with a fault
+-- a listed call fails, and is counted
 pub listed_made : (plan plan' : Plan) (past past' : History) (made : Made) (number : ℕ)
     → number ≡ length (made_calls past.calls) → Contains plan.failing.items number
     → made_calls past'.calls ≡ made_calls past.calls ++ made ∷ []

@@ -2,29 +2,29 @@
 use Rattle.std.specs.Prelude.{◌≡◌, ◌⊎◌, ℕ, ◌+◌, ◌<◌, ◌≤◌, ◌++◌, length, take, drop, slice_index}
 use Rattle.byte_formats.specs.Types.{Text}
 
--- the bytes after a piece is written over them at a place
+-- the bytes after a piece is written over them at an offset
 abbrev pub overwritten : ℕ → Text → Text → Text
 overwritten place piece old = take place old ++ piece ++ drop (place + length piece) old
 
--- so many of the bytes, from a place on
+-- so many of the bytes, from an offset on
 abbrev pub part : ℕ → ℕ → Text → Text
 part place count bytes = take count (drop place bytes)
 
--- An image before a piece is written at a place, and one after it. Below the old end each byte
--- stays that the write leaves as it was: one outside of the range, and one that is written as it
--- was. The others, and all that lies past the old end, may be any bytes, and the new image may end
--- anywhere from the old end on.
+-- A crash state before a piece is written at an offset, and one after it. Below the old end each
+-- byte stays that the write leaves as it was: one outside of the range, and one that is written as
+-- it was. The others, and all that lies past the old end, may be any bytes, and the new crash state
+-- may end anywhere from the old end on.
 pub record Torn (place : ℕ) (piece old new : Text) : Type 0 where
   pub no_shorter : length old ≤ length new
   pub stays : (i : ℕ) → i < length old
       → slice_index (overwritten place piece old) i ≡ slice_index old i
       → slice_index new i ≡ slice_index old i
 
--- each image now comes from an image before, by a step
+-- each crash state now comes from a crash state before, by a step
 abbrev pub Follows : (Text → Text → Type 0) → (Text → Type 0) → (Text → Type 0) → Type 0
 Follows step old new = (c : Text) → new c → (d : Text) × old d × step d c
 
--- each image now is one from before
+-- each crash state now is one from before
 abbrev pub NoNew : (Text → Type 0) → (Text → Type 0) → Type 0
 NoNew old new = (c : Text) → new c → old c
 
@@ -32,7 +32,7 @@ NoNew old new = (c : Text) → new c → old c
 abbrev pub Only : Text → (Text → Type 0) → Type 0
 Only bytes images = (c : Text) → images c → c ≡ bytes
 
--- Time goes on: a crash since a moment might have left what it might have left before, or what it
+-- Time continues: a crash since a time might have left what it might have left before, or what it
 -- may leave now.
 pub record Elapses (before now : ℕ) (past since : ℕ → Text → Type 0)
     (may_leave : Text → Type 0) : Type 0 where

@@ -5,7 +5,7 @@ use Rattle.disk_core.specs.declared.file.FileDisk.{FileDisk}
 use Rattle.disk_core.specs.declared.memory.call.Call.{Call}
 use Rattle.disk_core.specs.declared.memory.call.Call.TheVariants.{Len, Read, Write, Sync}
 
--- it is the call that makes certain what is there
+-- it is the call that makes durable what is there
 abbrev pub is_sync : Call → Bool
 is_sync Len = false
 is_sync (Read place size) = false
@@ -21,7 +21,7 @@ module _ {F : Type 0} where
   abbrev pub file_known : FileDisk F → ℕ
   file_known d = d.known
 
-  -- its count of faults
+  -- its count of failures
   abbrev pub file_faults : FileDisk F → ℕ
   file_faults d = d.faults
 
@@ -33,8 +33,8 @@ module _ {F : Type 0} where
   abbrev pub is_file_lost : FileDisk F → Bool
   is_file_lost d = d.lost
 
-  -- One call: it fails with one fault more, or counts none. On a lost file each call fails. A sync
-  -- that fails loses the file, and nothing else does.
+  -- One call: it fails with one failure more, or counts none. On a lost file each call fails. A
+  -- sync that fails loses the file, and nothing else does.
   pub record FileTurn (old : FileDisk F) (call : Call) (ok : Bool) (new : FileDisk F) : Type 0 where
     pub counted : new.faults ≡ (if ok then old.faults else with_count old.faults 1)
     pub refused : old.lost ≡ true → ok ≡ false

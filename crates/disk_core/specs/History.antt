@@ -1,4 +1,4 @@
--- What the history of a disk in memory tells.
+-- What follows from the history of a disk in memory.
 use Rattle.std.specs.Prelude.{ℕ, length}
 use Rattle.byte_formats.specs.Types.{Text}
 use Rattle.disk_core.specs.Noted.{made_calls}
@@ -17,6 +17,6 @@ left_of h = IsImage (state_now h.first (made_calls h.calls))
 abbrev pub moment_of : History → ℕ
 moment_of h = length (made_calls h.calls)
 
--- what a crash since that moment might have left
+-- what a crash since that time might have left
 abbrev pub since_of : History → ℕ → Text → Type 0
 since_of h = LeftSince h.first (made_calls h.calls)

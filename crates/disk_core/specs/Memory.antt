@@ -12,7 +12,7 @@ abbrev pub first_of : MemDisk → Text
 first_of m = m.past.first
 
 -- the record of its calls, the oldest first: those that change the file, and how many that only
--- look came before each
+-- read came before each
 abbrev pub changes_of : MemDisk → List Change
 changes_of m = m.past.calls.changes.items
 
@@ -40,7 +40,7 @@ made_of m = length (calls_of m)
 abbrev pub failing_of : MemDisk → List ℕ
 failing_of m = m.plan.failing.items
 
--- its count of faults
+-- its count of failures
 abbrev pub faults_of : MemDisk → ℕ
 faults_of m = m.plan.faults
 

@@ -10,8 +10,8 @@ use Rattle.disk_core.specs.declared.memory.call.Made.{Made}
 use Rattle.disk_core.specs.declared.memory.history.History.{History}
 use Rattle.disk_core.specs.declared.memory.plan.Plan.{Plan}
 
--- The call is made: it is told behind the others so. How many there were before is its number, and
--- it fails exactly where that is listed, with one fault more.
+-- The call is made: the record has it so after the others. How many there were before is its
+-- number, and it fails exactly if that is listed, with one failure more.
 pub record IsMade (plan : Plan) (past : History) (made : Made) (ok : Bool)
     (plan' : Plan) (past' : History) : Type 0 where
   pub calls : made_calls past'.calls ≡ made_calls past.calls ++ made ∷ []
@@ -29,14 +29,14 @@ pub record IsStarved (plan : Plan) (past : History) (ok : Bool)
   pub starved : plan'.starved ≡ with_count plan.starved 1
   pub faults : plan'.faults ≡ with_count plan.faults 1
 
--- a call that is told so
+-- a call, as the record and the counts show it: it is made, or it finds no memory
 pub record NotedTurn (plan : Plan) (past : History) (made : Made) (ok : Bool)
     (plan' : Plan) (past' : History) : Type 0 where
   pub first : past'.first ≡ past.first
   pub failing : plan'.failing ≡ plan.failing
   pub either : IsMade plan past made ok plan' past' ⊎ IsStarved plan past ok plan' past'
 
--- A call that only looks takes no memory: it is told as long as there is a number for it. The
+-- A call that only reads takes no memory: it is counted as long as there is a number for it. The
 -- record of changes doesn't grow.
 pub record LookTurn (plan : Plan) (past : History) (ok : Bool)
     (plan' : Plan) (past' : History) : Type 0 where

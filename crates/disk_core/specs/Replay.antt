@@ -8,7 +8,7 @@ use Rattle.disk_core.specs.declared.memory.call.Call.{Call}
 use Rattle.disk_core.specs.declared.memory.call.Call.TheVariants.{Len, Read, Write, Sync}
 use Rattle.disk_core.specs.declared.memory.call.Made.{Made}
 
--- what a read gives, what was there at the last sync, and the place and the bytes of each write
+-- what a read gives, what was there at the last sync, and the offset and the bytes of each write
 -- since, the newest first
 pub record State : Type 0 where
   pub seen : Text
@@ -20,7 +20,7 @@ abbrev pub settled : Text → State
 settled bytes = record { seen = bytes; base = bytes; writes = [] }
 
 -- A write that is refused is not seen, but a crash may leave of it what it may leave of any write.
--- A sync settles what is seen, unless it is refused.
+-- A sync makes what is seen durable, unless it is refused.
 abbrev pub after_call : State → Call → Bool → State
 after_call s Len ok = s
 after_call s (Read place size) ok = s

@@ -1,5 +1,5 @@
--- Laws of the replay, where bytes are written: what a read gives is an image, each image is bytes,
--- and an image of now is one of those since an earlier moment.
+-- Laws of the replay, where bytes are written: what a read gives is a crash state, each crash state
+-- is bytes, and a crash state of now is one of those since an earlier time.
 use Rattle.std.specs.Prelude.{◌≡◌, ℕ, zero, suc, ◌≤◌, Bool, true, false, List, [], ◌∷◌, length}
 use Rattle.std.specs.Prelude.{take, Some, refl}
 use Rattle.std.proofs.Common.{arith, sym, subst}
@@ -54,13 +54,13 @@ run_seen s (made ∷ calls) write are is =
     let next = call_bytes s made.call made.ok write.0 are in
     run_seen (step s made) calls write.1 next (call_seen s made.call made.ok next is)
 
--- what a read gives is one of the images
+-- what a read gives is one of the crash states
 pub now_seen : (first : Text) (calls : List Made) → HoldsBytes first calls
     → IsImage (state_now first calls) (state_now first calls).seen
 now_seen first calls holds =
     run_seen (settled first) calls holds.written_are (first_bytes first holds.first_are) refl
 
--- an image is bytes
+-- a crash state is bytes
 image_bytes : (base : Text) (writes : List (ℕ × Text)) (c : Text) → IsBytes base
     → IsImageOf base writes c → IsBytes c
 image_bytes base [] c are is = subst IsBytes (sym is) are
@@ -80,7 +80,7 @@ since_bytes first calls t c holds (count, late, there, is) =
     (first_write count calls holds.written_are) (first_bytes first holds.first_are) in
     image_bytes s.base s.writes c are.base is
 
--- an image of now is one since any moment
+-- a crash state of now is one since any time
 pub now_since : (first : Text) (calls : List Made) (t : ℕ) (c : Text) → t ≤ length calls
     → IsImage (state_now first calls) c → LeftSince first calls t c
 now_since first calls t c le is =
@@ -91,7 +91,7 @@ now_since first calls t c le is =
       subst (λ (kept : List Made). IsImage (run (settled first) kept) c) (sym whole) is,
     )
 
--- since the last moment there is no other
+-- since the last time there is no other
 pub since_now : (first : Text) (calls : List Made) (c : Text)
     → LeftSince first calls (length calls) c → IsImage (state_now first calls) c
 since_now first calls c (count, late, there, is) =

@@ -1,10 +1,10 @@
--- Two devices that can't be told apart but by their counts.
+-- Two disks that only their counts distinguish.
 use Rattle.std.specs.Prelude.{◌≡◌, ◌↔◌, ℕ}
 use Rattle.byte_formats.specs.Types.{Text}
 use Rattle.disk_core.specs.declared.disk.Disk.{Ghosts}
 
--- They read alike, stand at one moment, and leave the same after a crash. The count of faults and
--- the known length begin anew.
+-- They read alike, their clocks agree, and they leave the same after a crash. Nothing is said of
+-- the count of failures and of the known length, which a copy begins again.
 pub record SameDevice {D : Type 0} (g : Ghosts D) (a b : D) : Type 0 where
   pub reads : g.contents b ≡ g.contents a
   pub time : g.moment b ≡ g.moment a

@@ -3,7 +3,7 @@ use Rattle.std.specs.Prelude.{◌≡◌, ◌⊎◌, ℕ, ◌+◌, ◌-◌, ◌<�
 use Rattle.std.specs.Prelude.{slice_index}
 use Rattle.byte_formats.specs.Types.{Text}
 
--- a place outside of a write
+-- an offset outside of a write
 abbrev pub IsOutside : ℕ → ℕ × Text → Type 0
 IsOutside i write = (i < write.0) ⊎ (write.0 + length write.1 ≤ i)
 
@@ -24,10 +24,10 @@ pub record KeepsOthers (writes : List (ℕ × Text)) (old new : Text) : Type 0 w
   pub others : (i : ℕ) → i < length old → AllLeaveByte old i writes
       → slice_index new i ≡ slice_index old i
 
--- all the old bytes, and any behind them
+-- all the old bytes, and any after them
 abbrev pub Extends : Text → Text → Type 0
 Extends old new = take (length old) new ≡ old
 
--- each image has this byte at that place
+-- each crash state has this byte at that offset
 abbrev pub EachHas : ℕ → ℕ → (Text → Type 0) → Type 0
 EachHas i byte images = (c : Text) → images c → (i < length c) × (slice_index c i ≡ byte)

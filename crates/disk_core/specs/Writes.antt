@@ -1,5 +1,5 @@
--- Laws of a write: what is written whole, not at all, or in part is one of its torn images. Bytes
--- over bytes are bytes.
+-- Laws of a write: what is written whole, not at all, or in part is one of its torn crash states.
+-- Bytes over bytes are bytes.
 use Rattle.std.specs.Prelude.{◌≡◌, ℕ, ◌+◌, ◌-◌, ◌<◌, ◌≤◌, min, max, ◌++◌, length, take, drop}
 use Rattle.std.specs.Prelude.{slice_index, refl}
 use Rattle.std.proofs.Common.{◌∙◌, ap, arith, inl, inr, subst, sym}
@@ -26,7 +26,7 @@ over_no_shorter : (place : ℕ) (piece old : Text)
     → length old ≤ length (overwritten place piece old)
 over_no_shorter place piece old = simp (length-append, length-take, length-drop) (omega arith)
 
--- a byte in front of the range
+-- a byte before the range
 pub over_prefix : (place : ℕ) (piece old : Text) (i : ℕ) → i < length old → i < place
     → slice_index (overwritten place piece old) i ≡ slice_index old i
 over_prefix place piece old i there prefix =
@@ -45,7 +45,7 @@ over_within place piece old i there from within =
     get_or_append_left (take place old ++ piece) (drop (place + length piece) old) 0 i both
     ∙ get_or-append_right (take place old) piece place i 0 prefix from
 
--- one behind it
+-- one after it
 pub over_behind : (place : ℕ) (piece old : Text) (i : ℕ) → i < length old
     → place + length piece ≤ i
     → slice_index (overwritten place piece old) i ≡ slice_index old i
@@ -58,7 +58,7 @@ over_behind place piece old i there behind =
     ∙ get_or-drop (place + length piece) old (i - (place + length piece)) 0
     ∙ ap (λ (n : ℕ). slice_index old n) split
 
--- Other bytes over the front of the range, or over all of it: none over one that is written as it
+-- Other bytes over the prefix of the range, or over all of it: none over one that is written as it
 -- was.
 pub torn_other : (place : ℕ) (piece other old : Text) → length other ≤ length piece
     → ((k : ℕ) → k < length other → place + k < length old
@@ -82,7 +82,7 @@ torn_other place piece other old few same_there = record {
   ];
 }
 
--- its front
+-- its prefix
 pub torn_prefix : (place count : ℕ) (piece old : Text) → count ≤ length piece
     → Torn place piece old (overwritten place (take count piece) old)
 torn_prefix place count piece old few =
@@ -98,7 +98,7 @@ torn_all place piece old = record {
   stays = λ i there same. same;
 }
 
--- other bytes behind the end
+-- other bytes after the end
 pub torn_longer : (place : ℕ) (piece old new more : Text) → Torn place piece old new
     → Torn place piece old (new ++ more)
 torn_longer place piece old new more torn = record {

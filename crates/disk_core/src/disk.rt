@@ -14,12 +14,13 @@ use mtc_io::Failed;
 
 /// One file that keeps bytes over a crash of the machine, or doesn't.
 ///
-/// Between two calls of [`Disk::sync`] nothing is certain: a crash may leave any bytes where a
-/// write changed one, and past the old end. All other bytes stay, also those that are written again
-/// as they were: a disk that keeps this rule never spoils a sector into which it writes the same
-/// bytes once more. After a `sync` that answers Ok a crash leaves what a read gives.
+/// Between two calls of [`Disk::sync`] nothing that was written is durable: a crash may leave any
+/// bytes where a write changed one, and past the old end. All other bytes stay, also those that are
+/// written again as they were: a disk that keeps this rule never spoils a sector into which it
+/// writes the same bytes once more. After a `sync` that answers Ok a crash leaves what a read
+/// gives.
 pub trait Disk {
-    /// The bytes that a read gives, where the disk tells them.
+    /// The bytes that a read gives, if the model knows them.
     ghost contents: { Self → Option Text };
 
     /// The known length: nothing past it is read, and no write begins past it.
@@ -28,14 +29,14 @@ pub trait Disk {
     /// The clock, a number that never falls.
     ghost moment: { Self → ℕ };
 
-    /// The images that a crash now may leave.
+    /// The crash states: the bytes that a crash now may leave.
     ghost may_leave: { Self → Text → Type 0 };
 
-    /// The images that a crash at some moment from that one on might have left, during a call or
-    /// between two.
+    /// The crash states that a crash at some time from that one on might have left, during a call
+    /// or between two.
     ghost left_since: { Self → ℕ → Text → Type 0 };
 
-    /// The count of its faults, which rises with each call that fails.
+    /// The count of its failures, which rises with each call that fails.
     ghost faults: { Self → ℕ };
 
     /// What a type says beside the rest of one call: of the disk before it, what was asked, whether
@@ -55,7 +56,7 @@ pub trait Disk {
         ensures cause { HasCause (faults self.old) (faults self.new) result }
         ensures turn { turn self.old Len (is_ok result) self.new };
 
-    /// Fills `out` with the bytes from a place on. Its range ends at or below the known length.
+    /// Fills `out` with the bytes from an offset on. Its range ends at or below the known length.
     fn read_at(&mut self, place: u64, out: &mut [u8]) -> Result<(), Failed>
         requires { place + length out.old ≤ known self.old }
         ensures read { OnOk result (IfSome (contents self.old)
@@ -101,22 +102,22 @@ pub trait Disk {
         ensures cause { HasCause (faults self.old) (faults self.new) result }
         ensures turn { turn self.old Sync (is_ok result) self.new };
 
-    /// What a read gives is one of the images.
+    /// What a read gives is one of the crash states.
     ghost reads_image: { (d : Self) (b : Text) → contents d ≡ Some b → may_leave d b };
 
-    /// What is told are bytes.
+    /// What the model knows are bytes.
     ghost contents_bytes: { (d : Self) (b : Text) → contents d ≡ Some b → IsBytes b };
 
-    /// Where the bytes are told, the known length is at most their number.
+    /// If the model knows the bytes, the known length is at most their number.
     ghost known_there: { (d : Self) (b : Text) → contents d ≡ Some b → known d ≤ length b };
 
-    /// This moment is one of those since an earlier one.
+    /// This time is one of those since an earlier one.
     ghost counts_now: { (d : Self) (t : ℕ) (c : Text) → t ≤ moment d → may_leave d c
         → left_since d t c };
 
-    /// Since this moment there is no other.
+    /// Since this time there is no other.
     ghost only_now: { (d : Self) (c : Text) → left_since d (moment d) c → may_leave d c };
 
-    /// What a crash leaves are bytes, at any moment.
+    /// What a crash leaves are bytes, at any time.
     ghost left_bytes: { (d : Self) (t : ℕ) (c : Text) → left_since d t c → IsBytes c };
 }

@@ -13,12 +13,12 @@ use std::fs::{File, OpenFile};
 use std::io;
 use std::os::unix::fs::FileExt;
 
-/// An open file. It tells nothing of its bytes, nor of what a crash leaves but that it is bytes:
-/// that the operating system keeps the rules of [`Disk`] until a sync of the file fails is taken on
-/// trust. Behind a sync that failed the file is lost, since the system may have forgotten what it
-/// couldn't write: each later call fails, and, as is tested, reaches no file. The file is to be
-/// opened anew, and what is read of it to be written again. It keeps the known length, a clock and
-/// a count of its faults.
+/// An open file. The model knows neither its bytes, nor what a crash leaves but that it is bytes:
+/// that the operating system follows the rules of [`Disk`] until a sync of the file fails is taken
+/// on trust. After a sync that failed the file is lost, since the system may have forgotten what it
+/// couldn't write: each later call fails, and, as is tested, reaches no file. The caller has to
+/// open the file again, and to write again what it reads of it. The value has the known length, a
+/// clock and a count of its failures.
 #[derive(Debug, Drop)]
 pub struct FileDisk<F = File> {
     file: F,
@@ -29,8 +29,8 @@ pub struct FileDisk<F = File> {
 }
 
 impl<F: OpenFile + FileExt> FileDisk<F> {
-    /// The file as it stands, with a known length of 0, no fault so far, not lost, and the clock at
-    /// its start.
+    /// The file as it stands, with a known length of 0, no failure so far, not lost, and the clock
+    /// at its start.
     pub fn new(file: F) -> FileDisk<F>
         ensures file { open_file result ≡ file }
         ensures known { file_known result ≡ 0 }
@@ -47,14 +47,15 @@ impl<F: OpenFile + FileExt> FileDisk<F> {
         }
     }
 
-    /// The count of its faults: each call that fails adds one, up to the last value.
+    /// The count of its failures: each call that fails adds one, up to the last value.
     pub fn faults(&self) -> u64
         ensures { result ≡ file_faults self.now }
     {
         self.faults
     }
 
-    /// The file, for another use. Behind a failed sync that is no disk again: it is opened anew.
+    /// The file, for another use. After a failed sync that is no disk again: the caller has to open
+    /// the file again.
     pub fn into_inner(self) -> F
         ensures { result ≡ open_file self }
     {
@@ -62,7 +63,7 @@ impl<F: OpenFile + FileExt> FileDisk<F> {
     }
 }
 
-// The answer of the system, counted: an Ok moves the clock, and an error is a fault.
+// The answer of the system, counted: an Ok moves the clock, and an error is a failure.
 fn count<T: Drop>(clock: &mut u64, faults: &mut u64, answer: io::Result<T>) -> Result<T, Failed>
     ensures value { IfOk result (λ v. answer ≡ Ok v) }
     ensures later { clock.old ≤ clock.new }

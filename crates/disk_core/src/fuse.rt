@@ -22,8 +22,8 @@ pub struct Fuse<D: Disk> {
 impl<D: Disk> Fuse<D> {
     ghost use Rattle.disk_core.specs.Fuse.{inner_of, passes_of, is_blown, refused_of};
 
-    /// A fuse that has failed no call. It counts the faults of the disk inside, and each call that
-    /// it fails itself.
+    /// A fuse that has failed no call. It counts the failures of the disk inside, and each call
+    /// that it fails itself.
     pub fn new(disk: D, passes: u64) -> Fuse<D>
         ensures disk { inner_of result ≡ disk }
         ensures passes { passes_of result ≡ passes }

@@ -10,16 +10,18 @@ ghost use Rattle.disk_core.specs.Torn.{KeepsOthers, Extends, EachHas};
 
 use crate::disk::Disk;
 
-/// The law of a write that is torn: its images are exactly those that keep each byte below the old
-/// end that it leaves as it was, since it lies outside of the range or is written again. All other
-/// bytes may be any, and the image may end anywhere from the old end on.
+/// The law of a write that is torn: its crash states are exactly those in which each byte below the
+/// old end is as it was, if the write leaves it so, since the byte lies outside of the range or is
+/// written again. All other bytes may be any, and the crash state may end anywhere from the old end
+/// on.
 pub fn law_a_torn_write_keeps_others()
     ensures { (place : ℕ) (piece old new : Text)
         → Torn place piece old new ↔ KeepsOthers ((place, piece) ∷ []) old new }
 {}
 
-/// The law of one or more writes since a sync: the images of the disk in memory are exactly the
-/// bytes that keep each byte below the end at the sync that all of them leave as it was there.
+/// The law of one or more writes since a sync: the crash states of the disk in memory are exactly
+/// the bytes in which each byte below the end at the sync is as it was there, if all of these
+/// writes leave it so.
 pub fn law_torn_writes_keep_others()
     ensures kept { (base : Text) (writes : List (ℕ × Text)) (image : Text)
         → IsImageOf base writes image → KeepsOthers writes base image }
@@ -28,10 +30,11 @@ pub fn law_torn_writes_keep_others()
         → IsImageOf base (write ∷ writes) image }
 {}
 
-/// The law of a write of what is there: its images are exactly the old one with anything behind its
-/// end (`exact`). So where each image of a disk has the written bytes, a crash leaves no image but
-/// one from before, with anything behind its end: behind the write (`images`), and at any moment of
-/// it (`moments`). And a byte of it that each image has is in each image behind it (`byte`).
+/// The law of a write of what is there: its crash states are exactly the old one with anything
+/// after its end (`exact`). So if each crash state of a disk has the written bytes, a crash leaves
+/// only a crash state from before, with anything after its end: after the write (`images`), and at
+/// any time of it (`moments`). And if each crash state has a byte of it, so has each crash state
+/// after the write (`byte`).
 pub fn law_bytes_written_again_stay<D: Disk>()
     ensures exact { (place : ℕ) (piece old new : Text) → part place (length piece) old ≡ piece
         → (Torn place piece old new ↔ Extends old new) }

@@ -1,13 +1,13 @@
 //! A disk, and what a crash may leave of it.
 //!
 //! [`Disk`] is one file as a program sees it: what a read gives now, and which bytes the file may
-//! hold after a crash of the machine, now or at some moment since an earlier one. [`MemDisk`]
-//! stands in memory, tells all of this, and can crash. [`Fuse`] stops a disk at some call, as a
-//! machine does. [`FileDisk`] is an open file, which tells nothing: that the operating system keeps
-//! the rules until a sync of it fails is taken on trust.
+//! hold after a crash of the machine, now or at some time since an earlier one. [`MemDisk`] stands
+//! in memory, its model knows all of this, and it can crash. [`Fuse`] stops a disk at some call, as
+//! a machine does. [`FileDisk`] is an open file, of which the model knows nothing: that the
+//! operating system follows the rules until a sync of it fails is taken on trust.
 //!
-//! A user takes three kinds of step: it looks ([`look_len`], [`look_at`]), it makes certain what is
-//! there ([`settle`]), or it writes and syncs ([`write_synced`]). What these ensure is all that a
+//! A user takes three kinds of step: it reads ([`look_len`], [`look_at`]), it makes what is there
+//! durable ([`settle`]), or it writes and syncs ([`write_synced`]). What these ensure is all that a
 //! layer above needs.
 #![tactic(auto)]
 

@@ -5,7 +5,7 @@ ghost use Rattle.mtc_io.specs.Counts.{HasCause, with_count};
 
 use mtc_io::Failed;
 
-// Where the disk passes no call on, each one fails and is counted.
+// Each call fails and is counted if the disk passes none on.
 pub(crate) fn refuse_if(over: bool, refused: &mut u64) -> Result<(), Failed>
     ensures over { IsErr result ↔ IsTrue over }
     ensures ok { OnOk result (refused.new ≡ refused.old) }

@@ -1,4 +1,4 @@
-//! The steps that a user of a disk takes: it looks, it makes certain what is there, or it writes
+//! The steps that a user of a disk takes: it reads, it makes what is there durable, or it writes
 //! and syncs.
 
 ghost use Rattle.std.specs.Prelude.{◌≡◌, ◌+◌, ◌^◌, ◌<◌, ◌≤◌, max, length, is_some, option_map};
@@ -11,9 +11,9 @@ ghost use Rattle.disk_core.specs.Moments.{LeavesOnly, OnlyReads};
 use crate::disk::Disk;
 use mtc_io::Failed;
 
-/// Writes, and syncs. At Ok a crash leaves what a read gives; at any moment of the call it leaves
-/// an image from before, or one that this write has torn. Whatever it answers, it brings the known
-/// length no further than the end of these bytes.
+/// Writes, and syncs. At Ok a crash leaves what a read gives; at any time of the call it leaves a
+/// crash state from before, or one that this write has torn. Whatever it answers, it brings the
+/// known length no further than the end of these bytes.
 pub fn write_synced<D: Disk>(disk: &mut D, place: u64, bytes: &[u8]) -> Result<(), Failed>
     requires place { place ≤ D.known disk.old }
     requires end { place + length bytes.now < 2 ^ 63 }
@@ -47,7 +47,7 @@ pub fn look_len<D: Disk>(disk: &mut D) -> Result<u64, Failed>
     disk.len()
 }
 
-/// The bytes from a place on, as [`Disk::read_at`].
+/// The bytes from an offset on, as [`Disk::read_at`].
 pub fn look_at<D: Disk>(disk: &mut D, place: u64, out: &mut [u8]) -> Result<(), Failed>
     requires { place + length out.old ≤ D.known disk.old }
     ensures read { OnOk result (IfSome (D.contents disk.old)
@@ -60,7 +60,7 @@ pub fn look_at<D: Disk>(disk: &mut D, place: u64, out: &mut [u8]) -> Result<(), 
     disk.read_at(place, out)
 }
 
-/// Makes certain what was there, as [`Disk::sync`].
+/// Makes durable what was there, as [`Disk::sync`].
 pub fn settle<D: Disk>(disk: &mut D) -> Result<(), Failed>
     ensures durable { OnOk result
         (IfSome (D.contents disk.new) (λ b. Only b (D.may_leave disk.new))) }

@@ -18,7 +18,7 @@ pub struct Made {
     pub ok: bool,
 }
 
-/// A call of `write_at` or `sync`, and how many calls that only look came between the one before it
+/// A call of `write_at` or `sync`, and how many calls that only read came between the one before it
 /// and this one.
 #[derive(Debug, Drop)]
 pub struct Change {

@@ -1,4 +1,4 @@
-//! The calls of a disk in memory. Those that only look are counted, and not kept.
+//! The calls of a disk in memory. Those that only read are counted, and not recorded.
 
 ghost use Rattle.std.specs.Prelude.{◌≡◌, ◌<◌, ◌++◌, [], ◌∷◌, length, true, vec_len, vec_capacity};
 ghost use Rattle.std.specs.Prelude.{IsTrue};
@@ -12,7 +12,7 @@ use std::alloc::Global;
 #[derive(Debug, Drop)]
 pub(crate) struct Calls {
     pub(crate) changes: Vec<Change>,
-    // How many calls that only look came behind the last change.
+    // How many calls that only read came after the last change.
     pub(crate) only_reads: u64,
     // How many calls there were.
     pub(crate) made: u64,
@@ -20,7 +20,7 @@ pub(crate) struct Calls {
     ghost kept: { IsTrue (are_changes changes.items) },
 }
 
-// Puts a change behind the others, where there is room.
+// Appends a change to the others, within the capacity.
 fn put(list: &mut Vec<Change>, change: Change)
     requires { vec_len list.old < vec_capacity list.old }
     ensures { list.new.items ≡ list.old.items ++ change ∷ [] }
@@ -66,7 +66,7 @@ impl Calls {
         })
     }
 
-    // A call that only looks. It is refused where no number is left for it.
+    // A call that only reads. It is refused if no number is left for it.
     pub(crate) fn look(&mut self) -> Result<(), Memory>
         ensures calls { made_calls self.new
             ≡ noted (is_ok result) Call.Len true (made_calls self.old) }
@@ -81,7 +81,7 @@ impl Calls {
         Ok(())
     }
 
-    // Makes room for one change more, and sees that a number is left for it.
+    // Reserves capacity for one change more, and tests that a number is left for it.
     pub(crate) fn reserve(&mut self) -> Result<(), Memory>
         ensures calls { made_calls self.new ≡ made_calls self.old }
         ensures capacity { OnOk result (HasCapacity self.new) }
@@ -93,7 +93,7 @@ impl Calls {
         Ok(())
     }
 
-    // A change, where there is room.
+    // A change, within the capacity.
     #[tactic(auto, using(crate::proofs::Calls::change_more))]
     pub(crate) fn push(&mut self, call: Call, ok: bool)
         requires capacity { HasCapacity self.old }

@@ -11,9 +11,9 @@ use crate::memory::history::{law_known_bytes, overwrite};
 use mtc_io::Memory;
 use std::alloc::{AllocError, Global};
 
-// What becomes of a write, by the lowest bits of the choice: nothing of it is left, all, its front
-// alone, or its front with other bytes behind it, but where it is written as it was. The next bits
-// say how long the front is, in quarters.
+// What becomes of a write, by the lowest bits of the choice: nothing of it is left, all, its prefix
+// alone, or its prefix with other bytes after it, but where it is written as it was. The next bits
+// say how long the prefix is, in quarters.
 fn tear(image: &mut Vec<u8>, place: u64, piece: &[u8], choice: u64) -> Result<(), Memory>
     ensures { OnOk result (Torn place piece.now image.old.items image.new.items) }
 {
@@ -26,7 +26,8 @@ fn tear(image: &mut Vec<u8>, place: u64, piece: &[u8], choice: u64) -> Result<()
     }
 }
 
-// The front of the piece alone: where it reaches past the end, the file is cut short behind it.
+// The prefix of the piece alone: if the piece reaches past the end, the file is cut short after the
+// prefix.
 fn put_prefix(image: &mut Vec<u8>, place: u64, piece: &[u8], prefix: usize) -> Result<(), Memory>
     requires { prefix ≤ length piece.now }
     ensures { OnOk result (Torn place piece.now image.old.items image.new.items) }
@@ -35,7 +36,7 @@ fn put_prefix(image: &mut Vec<u8>, place: u64, piece: &[u8], prefix: usize) -> R
     Ok(())
 }
 
-// The front of the piece and other bytes behind it, also past the end of the file where the piece
+// The prefix of the piece and other bytes after it, also past the end of the file if the piece
 // reaches it. A byte that is written as it was stays.
 fn spoil(image: &mut Vec<u8>, place: u64, piece: &[u8], prefix: usize) -> Result<(), Memory>
     requires { prefix ≤ length piece.now }
@@ -49,7 +50,7 @@ fn spoil(image: &mut Vec<u8>, place: u64, piece: &[u8], prefix: usize) -> Result
     Ok(())
 }
 
-// The piece with other bytes behind its front, over what is there.
+// The piece with other bytes after its prefix, over what is there.
 fn put_spoilt(image: &mut Vec<u8>, place: u64, piece: &[u8], prefix: usize) -> Result<(), Memory>
     ensures { OnOk result (Torn place piece.now image.old.items image.new.items) }
 {
@@ -108,7 +109,7 @@ fn replay(seen: &mut Vec<u8>, image: &mut Vec<u8>, made: &Made, choice: u64) -> 
     }
 }
 
-// One of the images, by the choice.
+// One of the crash states, by the choice.
 pub(crate) fn left(
     alloc: Global,
     first: &[u8],

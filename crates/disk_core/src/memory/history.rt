@@ -1,4 +1,5 @@
-//! What a disk in memory held at first, and its calls since: all that it tells is read off these.
+//! What a disk in memory held at first, and its calls since: all that the model knows of it follows
+//! from these.
 
 ghost use Rattle.std.specs.Prelude.{◌≡◌, ◌+◌, ◌<◌, [], length, true, false, if◌then◌else◌, is_ok};
 ghost use Rattle.std.specs.Prelude.{IfOk, OnOk, OnErr, IsTrue};
@@ -31,7 +32,7 @@ pub(crate) struct History {
         ≡ (state_now first (made_calls calls)).seen },
 }
 
-// Over what is there, and past the end. Where memory is refused the bytes stay as they were.
+// Over what is there, and past the end. If memory is refused, the bytes stay as they were.
 pub(crate) fn overwrite(bytes: &mut Vec<u8>, place: u64, piece: &[u8]) -> Result<(), Memory>
     ensures ok { OnOk result (bytes.new.items ≡ overwritten place piece.now bytes.old.items) }
     ensures err { OnErr result (bytes.new.items ≡ bytes.old.items) }
@@ -131,7 +132,7 @@ impl History {
         })
     }
 
-    // One of the images that a crash now may leave.
+    // One of the crash states that a crash now may leave.
     pub(crate) fn left(&self, alloc: Global, pick: u64) -> Result<Bytes, Memory>
         ensures { IfOk result (left_of self.now) }
     {
@@ -139,7 +140,7 @@ impl History {
         Ok(Bytes::from_vec(image))
     }
 
-    // A call that only looks. The record of changes stays as it is.
+    // A call that only reads. The record of changes stays as it is.
     pub(crate) fn look(&mut self) -> Result<(), Memory>
         ensures first { self.new.first ≡ self.old.first }
         ensures calls { made_calls self.new.calls
@@ -156,7 +157,7 @@ impl History {
         Ok(())
     }
 
-    // A change that leaves the bytes and the images as they are.
+    // A change that leaves the bytes and the crash states as they are.
     pub(crate) fn note(&mut self, call: Call, ok: bool) -> Result<(), Memory>
         requires change { IsTrue (is_change call) }
         requires same { (s : State) → after_call s call ok ≡ s }

@@ -1,4 +1,5 @@
-//! A disk in memory, which tells all, fails where it is told to, and can crash.
+//! A disk in memory, whose bytes and crash states the model knows. It fails on the calls that its
+//! maker lists, and can crash.
 
 ghost use Rattle.std.specs.Prelude.{◌≡◌, ◌+◌, ◌≤◌, ◌<◌, [], length, Some, is_ok};
 ghost use Rattle.std.specs.Prelude.{if◌then◌else◌, OnOk, OnErr, IfOk, IsTrue};
@@ -19,14 +20,14 @@ use crate::memory::plan::Plan;
 use mtc_io::{Bytes, Failed, Memory};
 use std::alloc::Global;
 
-/// A disk in memory. It tells its bytes, counts its calls, and fails those whose numbers are
-/// listed; the first call has number 0. It keeps a record of those that change the file. Calls that
-/// only look are counted in it, so it doesn't grow with them. A call that finds no memory, or no
-/// number, fails too and is counted apart; it takes no number and isn't in the record.
+/// A disk in memory. The model knows its bytes; it counts its calls, and fails those whose numbers
+/// are listed; the first call has number 0. It records those that change the file. Calls that only
+/// read are counted in it, so it doesn't grow with them. A call that finds no memory, or no number,
+/// fails too and is counted apart; it takes no number and isn't in the record.
 ///
-/// What it tells is the replay of the record over what it held at first: a write that is done is
-/// seen, and of each write since the last sync, a failed one too, a crash may leave what it may
-/// leave of any.
+/// What the model knows is the replay of the record over what the disk held at first: a write that
+/// is done is seen, and of each write since the last sync, a failed one too, a crash may leave what
+/// it may leave of any.
 #[derive(Debug)]
 pub struct MemDisk {
     past: History,
@@ -35,7 +36,7 @@ pub struct MemDisk {
     ghost there: { known ≤ length (seen_of past) },
 }
 
-// A drop in one step: a derived one is proved field by field wherever a value is let go.
+// A drop in one step: a derived one is proved field by field wherever a value is dropped.
 impl Drop for MemDisk {
     fn drop(self) {
         let MemDisk {
@@ -46,7 +47,7 @@ impl Drop for MemDisk {
     }
 }
 
-// A call that only looks.
+// A call that only reads.
 fn look(plan: &mut Plan, past: &mut History) -> Result<(), Failed>
     ensures seen { seen_of past.new ≡ seen_of past.old }
     ensures crash { NoNew (left_of past.old) (left_of past.new) }
@@ -142,8 +143,8 @@ impl MemDisk {
         }
     }
 
-    /// A copy that reads alike and leaves the same after a crash. Its count of faults and its known
-    /// length begin anew; the numbers of its calls go on.
+    /// A copy that reads alike and leaves the same after a crash. Its count of failures and its
+    /// known length begin at 0; the numbers of its calls continue.
     pub fn lend(&self) -> Result<MemDisk, Memory>
         ensures same { IfOk result (λ it. SameDevice ⟦<MemDisk as Disk>⟧ self.now it) }
         ensures known { IfOk result (λ it. known_of it ≡ 0) }
@@ -161,12 +162,12 @@ impl MemDisk {
         })
     }
 
-    /// A disk over one image that a crash now may leave, chosen by `pick`. Of each write since the
-    /// last sync that was answered Ok nothing is left, all of it, its front alone, or its front
-    /// with other bytes behind, but where it wrote what was there: two bits of `pick` choose, for
-    /// each write the two above those of the one before it, and the two above these say the length
-    /// of the front, in quarters. They are those that choose for the next write. The same pick
-    /// gives the same image.
+    /// A disk over one crash state that a crash now may leave, chosen by `pick`. Of each write
+    /// since the last sync that was answered Ok nothing is left, all of it, its prefix alone, or
+    /// its prefix with other bytes after it, but where it wrote what was there: two bits of `pick`
+    /// choose, for each write the two above those of the one before it, and the two above these say
+    /// the length of the prefix, in quarters. They are those that choose for the next write. The
+    /// same pick gives the same crash state.
     pub fn crash(self, pick: u64) -> Result<MemDisk, Memory>
         ensures image { IfOk result (λ it. images_of self (bytes_of it)) }
         ensures fresh { IfOk result (λ it. IsFresh (bytes_of it) it) }
@@ -184,7 +185,7 @@ impl MemDisk {
         self.past.bytes()
     }
 
-    /// The calls so far that change the file, the oldest first, and how many that only look came
+    /// The calls so far that change the file, the oldest first, and how many that only read came
     /// before each.
     pub fn changes(&self) -> &[Change]
         ensures value { result.now ≡ changes_of self.now }
@@ -207,7 +208,7 @@ impl MemDisk {
         self.plan.failing.as_slice()
     }
 
-    /// The count of its faults: each call that fails adds one, up to the last value.
+    /// The count of its failures: each call that fails adds one, up to the last value.
     pub fn faults(&self) -> u64
         ensures { result ≡ faults_of self.now }
     {

@@ -5,8 +5,8 @@ ghost use Rattle.mtc_io.specs.Counts.{Rose, with_count};
 
 use mtc_io::Failed;
 
-/// The numbers of the calls that fail, the faults so far, and those of them that came from want of
-/// memory.
+/// The numbers of the calls that fail, the failures so far, and those of them that came because
+/// memory ran out.
 #[derive(Debug, Drop)]
 pub(crate) struct Plan {
     pub(crate) failing: Vec<u64>,
