@@ -13,7 +13,7 @@ use Rattle.std.proofs.lemmas.List.Elements.{All-push}
 use Rattle.std.proofs.lemmas.List.Sums.{fails_before_first, passes_at_first}
 use Rattle.frame_pool.specs.Order.{moved_last}
 
--- the place of a slot in an order that has it
+-- the index of a slot in an order that has it
 pub place-within : (slot : ℕ) (order : List ℕ) → Contains order slot
     → position_or_len (λ at. eqb at slot) order < length order
 place-within slot order has =
@@ -52,7 +52,7 @@ length-moved slot order has =
     let more = length_push (remove order (position_or_len (λ at. eqb at slot) order)) slot in
     omega arith
 
--- each slot of a removed place stays but that one
+-- each slot stays but the one at the removed index
 contains-removed : (xs : List ℕ) (place k x : ℕ) → place < length xs → k < length xs
     → get_or xs k x ≡ x → (k ≡ place → ⊥) → Contains (remove xs place) x
 contains-removed xs place k x inside within is other =

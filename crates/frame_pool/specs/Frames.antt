@@ -6,7 +6,7 @@ use Rattle.frame_pool.specs.Order.{moved_last}
 use Rattle.frame_pool.specs.declared.key.TileKey.{TileKey}
 
 -- For each slot the key that its frame holds, whether it is pinned, and its bytes; and the slots,
--- those of later claims behind those of earlier ones.
+-- those of later claims after those of earlier ones.
 pub record PoolState : Type 0 where
   pub keys : List (Option TileKey)
   pub pins : List Bool

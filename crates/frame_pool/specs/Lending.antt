@@ -1,4 +1,4 @@
--- What a pool is once a frame of it was lent.
+-- What a pool is once a frame of it was borrowed.
 use Rattle.std.specs.Prelude.{ℕ, slice_set}
 use Rattle.std.specs.Borrow.{Array, Fml, Lends, MutBor, u8}
 use Rattle.byte_formats.specs.Types.{Text}

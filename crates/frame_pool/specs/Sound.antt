@@ -4,8 +4,8 @@ use Rattle.std.specs.List.{All, Contains}
 use Rattle.frame_pool.specs.Frames.{PoolState, key_at, pinned_at}
 use Rattle.frame_pool.specs.declared.key.TileKey.{TileKey}
 
--- There are some frames, and each has a key or none, a pin or none, and one place in the order. No
--- key is held twice, and a frame without a key has no pin.
+-- There are some frames, and each has a key or none, a pin or none, and one index in the order. No
+-- two frames have one key, and a frame without a key has no pin.
 pub record IsSoundPool (pool : PoolState) : Type 0 where
   pub some : 1 ≤ length pool.keys
   pub few : length pool.keys ≤ 65536

@@ -1,6 +1,6 @@
 //! Names of tiles and of frames.
 
-/// A tile of a tree: its level, counted in tiles, and its place in that level.
+/// A tile of a tree: its level, counted in tiles, and its index on that level.
 #[derive(Clone, Copy, PartialEq, Eq, Debug)]
 pub struct TileKey {
     pub level: u8,

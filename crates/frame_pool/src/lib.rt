@@ -1,5 +1,5 @@
 //! A fixed number of frames of 8,192 bytes, each of which holds one tile of a tree or none: the
-//! room in which parts of a large file are at hand.
+//! memory in which parts of a large file are at hand.
 //!
 //! All memory is taken when the pool is made. A slot names a frame. A frame that is claimed for a
 //! tile keeps its key and its bytes until it is claimed for another one or released. A pinned frame

@@ -82,7 +82,7 @@ impl Pool {
         let _keys = self.keys.as_slice();
     }
 
-    /// The slot whose frame holds the key; none exactly where no frame does.
+    /// The slot whose frame holds the key; none exactly if no frame does.
     pub fn find(&self, key: TileKey) -> Option<Slot>
         ensures some { IfSome result (λ slot. HoldsKey self.now slot.0 key) }
         ensures none { IfNone result (IsUnheld self.now key) }
@@ -161,7 +161,7 @@ impl Pool {
         &self.frames[slot.0 as usize]
     }
 
-    /// Lends the bytes of a frame, 8,192. What is left in them is the frame's.
+    /// The bytes of a frame, 8,192, borrowed. What the caller leaves in them is the frame's.
     pub fn frame_mut(&mut self, slot: Slot) -> &mut [u8]
         requires { slot.0 < length self.old.keys }
         ensures* writes_back { sem 𝓛 (LendsFrame self.entry slot.0 result) }

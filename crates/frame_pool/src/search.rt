@@ -30,7 +30,7 @@ pub(crate) fn first_empty(keys: &[Option<TileKey>]) -> Option<usize>
     keys.iter().position(|held| held.is_none())
 }
 
-// The place in the order of the first slot without a pin.
+// The index in the order of the first slot without a pin.
 pub(crate) fn first_unpinned(pins: &[bool], order: &[u32]) -> Option<usize>
     requires { All (λ slot. slot < length pins.now) order.now }
     ensures { MatchOption result
@@ -69,7 +69,7 @@ pub(crate) fn next_slot(keys: &[Option<TileKey>], pins: &[bool], order: &[u32]) 
     }
 }
 
-// The place of a slot in the order.
+// The index of a slot in the order.
 fn place_of(order: &[u32], slot: u32) -> Option<usize>
     ensures { result ≡ position (λ at. at == slot) order.now }
 {
