@@ -77,7 +77,7 @@ stands h leaves b level place tile = record {
   tile = tile;
 }
 
--- what is said of the bytes and of the leaves, where both are told
+-- what holds of the bytes and of the leaves, if the model knows both
 pub both-contents : {B : Type 0} (contents : Option (List ℕ)) (f : List ℕ → B)
     (Q : List ℕ → B → Type 0) → ((b : List ℕ) → contents ≡ Some b → Q b (f b))
     → IfSome contents (λ bytes. IfSome (option_map f contents) (λ leaves. Q bytes leaves))

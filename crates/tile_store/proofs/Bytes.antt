@@ -30,14 +30,14 @@ length-part place count bytes within =
     let taken = length-take count (drop place bytes) in
     omega arith
 
--- bytes with the same front have the same parts there
+-- bytes with the same prefix have the same parts there
 pub part-prefix : (place count prefix : ℕ) (a b : List ℕ) → place + count ≤ prefix
     → take prefix a ≡ take prefix b → part place count a ≡ part place count b
 part-prefix place count prefix a b within same =
     sym (part-take place count prefix a within) ∙ ap (part place count) same
     ∙ part-take place count prefix b within
 
--- the hashes of the first bytes, and those behind so many hashes
+-- the hashes of the first bytes, and those after so many hashes
 pub hash-left : (i half : ℕ) (bytes : List ℕ) → i + 1 ≤ half
     → hash_in i (take (32 * half) bytes) ≡ hash_in i bytes
 hash-left i half bytes within = part-take (32 * i) 32 (32 * half) bytes (omega arith)

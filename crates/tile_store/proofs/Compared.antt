@@ -107,7 +107,7 @@ module _ {T : Type 0} (g : Ghosts T) where
         count = omega arith;
       }
 
-  -- one comparison behind another
+  -- one comparison after another
   pub compared-on : (old mid new : T) (a b c : PoolState) → HaveCompared g old mid a b
       → HaveCompared g mid new b c → HaveCompared g old new a c
   compared-on old mid new a b c first second = record {
@@ -179,7 +179,7 @@ module _ {T : Type 0} (g : Ghosts T) where
         (sofar.compared.frames bytes contents frames) leaves are);
   }
 
-  -- behind a look
+  -- after a read
   pub only_read-compared : (old mid new : T) (before after : PoolState) → OnlyReads g old mid
       → HaveCompared g mid new before after → HaveCompared g old new before after
   only_read-compared old mid new before after only_reads compared = record {

@@ -1,4 +1,4 @@
--- Hashes one behind the other.
+-- Hashes one after the other.
 use Rattle.std.proofs.Common.{◌≡◌, ℕ, zero, suc, ◌+◌, ◌*◌, ◌<◌, List, [], ◌∷◌, ◌++◌}
 use Rattle.std.proofs.Common.{length, get_or}
 use Rattle.std.proofs.Common.{take, drop, sym, ◌∙◌, ap, refl, arith}
@@ -10,7 +10,7 @@ use Rattle.disk_core.specs.Disk.{part}
 use Rattle.tile_store.proofs.Bytes.{part-drop}
 use Rattle.tile_store.specs.Contents.{hash_in}
 
--- all these hashes behind one another
+-- all these hashes, one after the other
 abbrev pub flat : List (List ℕ) → List ℕ
 flat hashes = flat_map (λ hash. hash) hashes
 

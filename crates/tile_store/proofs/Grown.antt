@@ -1,4 +1,4 @@
--- A store that is new, with more room, or with one leaf more.
+-- A store that is new, with more capacity, or with one leaf more.
 use Rattle.std.proofs.Common.{◌≡◌, ℕ, ◌+◌, ◌-◌, ◌*◌, ◌/◌, ◌%◌, ◌^◌, ◌≤◌, List, [], ◌∷◌, ◌++◌}
 use Rattle.std.proofs.Common.{length}
 use Rattle.std.proofs.Common.{take, drop, Some, None, append_assoc, sym, ◌∙◌, ap, refl, subst}
@@ -55,7 +55,7 @@ gone-first : (h : List ℕ → List ℕ) (leaves : List (List ℕ)) (rows : Rows
 unfolding gone_at
 gone-first h leaves rows are = are.first.within
 
--- a leaf behind the others
+-- a leaf after the others
 pub leaves-pushed : (h : List ℕ → List ℕ) (adopted : ℕ) (old new : RowsState) (b leaf : List ℕ)
     → ((leaves : List (List ℕ)) → AreRowsOf h leaves old
     → AreRowsOf h (leaves ++ leaf ∷ []) new)
@@ -94,7 +94,7 @@ sound-pushed h adopted stored old new pool b leaf pushed gone within is =
       frames = is.frames;
     }
 
--- more room, or nodes over more of the leaves
+-- more capacity, or nodes over more of the leaves
 pub sound-still : (h : List ℕ → List ℕ) (adopted stored : ℕ) (old new : RowsState)
     (pool : PoolState) (b : List ℕ) → first_row new ≡ first_row old
     → ((leaves : List (List ℕ)) → AreRowsOf h leaves old → AreRowsOf h leaves new)
@@ -109,7 +109,7 @@ sound-still h adopted stored old new pool b first still is =
       frames = is.frames;
     }
 
--- what is said where the device tells its bytes
+-- what holds if the model knows the bytes of the device
 pub contents-same : {B C : Type 0} (contents : Option (List ℕ)) (f : List ℕ → C) (k : B → C)
     (before : List ℕ → B) → ((b : List ℕ) → contents ≡ Some b → f b ≡ k (before b))
     → option_map f contents ≡ option_map k (option_map before contents)

@@ -14,7 +14,7 @@ use Rattle.tree_core.specs.Split.{split_of}
 use Rattle.tree_core.specs.Tree.{pair_hash, root_of}
 use Rattle.tree_proofs.proofs.Parts.{part-root}
 
--- so many hashes are those of the full subtrees of a level, from a place on
+-- so many hashes are those of the full subtrees of a level, from an index on
 abbrev pub AreRoots : HashFunction → List Hash → ℕ → ℕ → ℕ → Text → Type 0
 AreRoots h leaves base from count hashes = (i : ℕ) → i < count → hash_in i hashes
     ≡ root_of h (part_of leaves ((from + i) * 2 ^ base) ((from + i + 1) * 2 ^ base))

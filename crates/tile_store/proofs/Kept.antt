@@ -1,4 +1,4 @@
--- A store whose file was written behind its tiles.
+-- A store whose file was written after its tiles.
 use Rattle.std.proofs.Common.{◌≡◌, ℕ, zero, suc, ◌+◌, ◌*◌, ◌/◌, ◌%◌, ◌^◌, ◌<◌, ◌≤◌, min, max, List}
 use Rattle.std.proofs.Common.{[], ◌∷◌}
 use Rattle.std.proofs.Common.{◌++◌, length, take, drop, Some, None, Ok, Err, ⊎_elim, refl, sym, ◌∙◌}
@@ -17,14 +17,14 @@ use Rattle.tile_store.specs.Sound.{IsSoundOver, leaves_with}
 use Rattle.tile_store.specs.Writing.{HoldsFirst, KeepsPrefix}
 use Rattle.tree_cache.specs.Rows.{AreRowsOf, RowsState, first_row}
 
--- a bytes' front that is all there stays
+-- a prefix that is all of the bytes stays
 pub whole-prefix : (place : ℕ) (old new : List ℕ) → place ≤ length old → KeepsPrefix place old new
     → take place new ≡ take place old
 whole-prefix place old new within keeps =
     let all : min place (length old) ≡ place = omega arith in
     ap (λ n. take n new) (sym all) ∙ keeps.prefix
 
--- leaves whose tiles lie in the same front
+-- leaves whose tiles lie in the same prefix
 leaves-prefix : (n prefix : ℕ) (a b : List ℕ)
     → ((k : ℕ) → k < n → tile_at 0 (k / 256) + 8192 ≤ prefix) → take prefix a ≡ take prefix b
     → stored_leaves n a ≡ stored_leaves n b
@@ -63,7 +63,7 @@ tile-behind stored b after level place few there keeps full =
     (full-there stored stored (tiles_end stored) level place few (omega arith) (omega arith) full)
     (sym (whole-prefix (tiles_end stored) b after there keeps))
 
--- The tiles of a size stay where the front up to their end does.
+-- The tiles of a size stay if the prefix up to their end does.
 pub tiles-kept : (h : List ℕ → List ℕ) (leaves : List (List ℕ)) (size : ℕ) (b after : List ℕ)
     → size < 2 ^ 32 → KeepsPrefix (tiles_end size) b after → HoldsTiles h leaves size b
     → HoldsTiles h leaves size after
@@ -114,7 +114,7 @@ tiles-of h leaves size b few within first = λ level place full.
     first level place (omega arith) (full-number size level place (omega arith) full)
     (full-more size (length leaves) level place within full)
 
--- bytes are told where some were before
+-- the model knows the bytes if it knew some before
 pub contents-before : (old new : Option (List ℕ)) (after : List ℕ) → is_some new ≡ is_some old
     → new ≡ Some after → (b : List ℕ) × (old ≡ Some b)
 contents-before None new after same is = let no : ⊥ = cc (ap is_some is) in absurd no
@@ -156,7 +156,7 @@ sound-stored h adopted stored size most rows pool b is new old = record {
   frames = old.frames;
 }
 
--- what is said of the leaves where bytes are told
+-- what holds of the leaves if the model knows the bytes
 pub when-these : {B : Type 0} (contents : Option (List ℕ)) (f : List ℕ → B) (P : B → Type 0)
     (b : List ℕ) → contents ≡ Some b → IfSome (option_map f contents) P → P (f b)
 when-these contents f P b is holds = subst (λ t. IfSome (option_map f t) P) is holds

@@ -55,7 +55,7 @@ frames-loaded b pool mid slot key bytes is framed read inside old =
     subst (λ p. FramesHold b (with_frame p slot bytes)) (sym is)
     (frame-claimed b pool slot key bytes there read inside old)
 
--- what was read of a device that tells its bytes
+-- what was read of a device whose bytes the model knows
 pub read-tile : (contents : Option (List ℕ)) (b out : List ℕ) (place size at : ℕ)
     → contents ≡ Some b
     → IfSome contents (λ bytes. out ≡ part place size bytes) → place ≡ at → size ≡ 8192

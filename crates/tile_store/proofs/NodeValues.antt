@@ -95,7 +95,7 @@ frame-tile h adopted stored rows pool b key slot level place frame leaves sound 
     (subst (λ l. IsTile h l level place (part (tile_at level place) 8192 b)) same
     (sound.tiles level place full))
 
--- said where the device tells its bytes
+-- what holds if the model knows the bytes of the device
 pub when-contents : {B : Type 0} (contents : Option (List ℕ)) (f : List ℕ → B) (P : B → Type 0)
     → ((b : List ℕ) → contents ≡ Some b → P (f b)) → IfSome (option_map f contents) P
 when-contents None f P holds = tt

@@ -93,7 +93,7 @@ pub number-two : (level place : ℕ) → level ≡ 2
 unfolding tile_number
 number-two level place is = sym (ap (λ l. tile_number l place) is)
 
--- a tile that few leaves fill has a small place, and ends where the tiles end
+-- a tile that few leaves fill has a small index, and ends where the tiles end
 pub full-small : (size level place : ℕ) → size < 2 ^ 32 → IsFull size level place
     → place < 2 ^ 24
 full-small size level place few full =

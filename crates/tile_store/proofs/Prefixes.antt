@@ -1,4 +1,4 @@
--- What writing behind a place leaves.
+-- What writing after an offset leaves.
 use Rattle.std.proofs.Common.{ℕ, ◌≤◌, min, List, length, take, sym, ◌∙◌, ap}
 use Rattle.std.proofs.Common.{arith}
 use Rattle.std.proofs.lemmas.List.{take_min, take-take}
@@ -17,7 +17,7 @@ prefix-torn place piece old new torn = record {
   prefix = torn_before place piece old new torn;
 }
 
--- a place further on, and one step behind another
+-- an offset further on, and one step after another
 pub prefix-less : (less place : ℕ) (old new : List ℕ) → less ≤ place → KeepsPrefix place old new
     → KeepsPrefix less old new
 prefix-less less place old new within keeps = record {

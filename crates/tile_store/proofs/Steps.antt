@@ -1,4 +1,4 @@
--- Tiles written one behind the other.
+-- Tiles written one after the other.
 use Rattle.std.proofs.Common.{◌≡◌, ℕ, ◌+◌, ◌*◌, ◌<◌, ◌≤◌, inl, inr, ⊎_elim, max, List}
 use Rattle.std.proofs.Common.{length}
 use Rattle.std.proofs.Common.{take, drop, ◌++◌, append_assoc, Some, None, refl, sym, ◌∙◌, ap, subst}
@@ -21,7 +21,7 @@ use Rattle.tile_store.specs.Writing.{TilesAreWritten, WritesBehind}
 use Rattle.tree_cache.specs.Rows.{RowsState}
 use Rattle.byte_formats.specs.Types.{HashFunction, Text}
 
--- bytes that were written at a place, and those before it
+-- bytes that were written at an offset, and those before it
 over-is : (place : ℕ) (piece old : List ℕ) → overwritten place piece old
     ≡ take place old ++ (piece ++ drop (place + length piece) old)
 over-is place piece old = append_assoc (take place old) piece (drop (place + length piece) old)
@@ -108,7 +108,7 @@ module _ {T : Type 0} (g : Ghosts T) where
     faults = refl;
   }
 
-  -- images behind one place and then behind a later one
+  -- crash states after one offset and then after a later one
   behind-on : (old mid : T) (low high : ℕ) (image : List ℕ) → low ≤ high
       → ((c : List ℕ) → g.may_leave mid c → IsImageBehind g old low c)
       → IsImageBehind g mid high image → IsImageBehind g old low image
@@ -132,7 +132,7 @@ module _ {T : Type 0} (g : Ghosts T) where
       (λ c. behind-on old mid low high c within
       (left_now g old mid (IsImageBehind g old low) counts_now first)) second)
 
-  -- what a write leaves behind the others, also where it fails
+  -- what a write leaves after the others, even if it fails
   pub behind-put : (old mid new : T) (from at : ℕ)
       → ((t : ℕ) (c : List ℕ) → t ≤ g.moment mid → g.may_leave mid c → g.left_since mid t c)
       → 8192 * from ≤ at → WritesBehind g (8192 * from) old mid
@@ -181,7 +181,7 @@ module _ {T : Type 0} (g : Ghosts T) where
         faults = faults ∙ sofar.faults;
       }
 
-  -- a look writes nothing, so it may stand before writing and behind it
+  -- a read writes nothing, so it may stand before writing and after it
   pub only_reads-behind : (old new : T) (place : ℕ) → OnlyReads g old new
       → WritesBehind g place old new
   only_reads-behind old new place only_reads = record {
@@ -205,7 +205,7 @@ module _ {T : Type 0} (g : Ghosts T) where
         known = omega arith;
       }
 
-  -- over certain bytes, those that are told after writing have the same front
+  -- over known bytes, the bytes that the model knows after writing have the same prefix
   pub prefix-contents : (old new : T) (place : ℕ) (before after : List ℕ)
       → ((t : ℕ) (c : List ℕ) → t ≤ g.moment new → g.may_leave new c → g.left_since new t c)
       → ((b : List ℕ) → g.contents new ≡ Some b → g.may_leave new b)

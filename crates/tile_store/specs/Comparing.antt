@@ -30,8 +30,8 @@ pub record HaveCompared {T : Type 0} (g : Ghosts T) (old new : T) (before after 
   pub free : HasNoPins after
   pub count : length after.keys ≡ length before.keys
 
--- What holds of each list that the rows are those of, over the bytes that the device tells, where
--- the frames have what is there.
+-- What holds of each list that the rows are those of, over the bytes of the device, as the model
+-- knows them, where the frames have what is there.
 abbrev pub OverEach : {T : Type 0} → Ghosts T → HashFunction → RowsState → T → PoolState
     → (Text → List Hash → Type 0) → Type 0
 OverEach g h rows disk pool P = (b : Text) → g.contents disk ≡ Some b → FramesHold b pool

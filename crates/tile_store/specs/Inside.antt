@@ -19,8 +19,7 @@ IsNodeIn h tile first count node = (leaves : List Hash) (base from : ℕ)
 abbrev pub HasTileHashes : Text → List Hash → Type 0
 HasTileHashes tile nodes = (i : ℕ) → i < 256 → slice_index_or nodes i [] ≡ hash_in i tile
 
--- Of the nodes behind the first 256, the first so many are each over the next two from the first
--- on.
+-- Of the nodes after the first 256, the first so many are each over the next two from the first on.
 abbrev pub ArePaired : HashFunction → ℕ → List Hash → Type 0
 ArePaired h count nodes = (k : ℕ) → k < count → slice_index_or nodes (256 + k) []
     ≡ pair_hash h (slice_index_or nodes (2 * k) []) (slice_index_or nodes (2 * k + 1) [])

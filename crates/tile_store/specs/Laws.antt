@@ -11,7 +11,7 @@ use Rattle.tree_cache.proofs.Filled.{count-rows, filled-on, filled-same}
 use Rattle.tree_cache.specs.Rows.{RowsState, count_of}
 use Rattle.tree_core.specs.declared.hashing.TreeHash.{Ghosts as Hashes}
 
--- where the device tells its bytes, there are as many leaf hashes as leaves
+-- if the model knows the bytes of the device, there are as many leaf hashes as leaves
 counted-when : (h : List ℕ → List ℕ) (adopted stored : ℕ) (rows : RowsState) (pool : PoolState)
     (contents : Option (List ℕ))
     → ((b : List ℕ) → contents ≡ Some b → IsSoundOver h adopted stored rows pool b)

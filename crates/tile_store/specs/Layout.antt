@@ -1,4 +1,4 @@
--- Where tiles stand in their file. A tile of level l and place t has 256 hashes: hash i is that of
+-- Where tiles stand in their file. A tile of level l and index t has 256 hashes: hash i is that of
 -- the full subtree of 256^l leaves with number 256 * t + i.
 use Rattle.std.specs.Prelude.{ℕ, zero, suc, ◌+◌, ◌-◌, ◌*◌, ◌/◌, ◌%◌, ◌^◌, ◌≤◌}
 
@@ -24,7 +24,7 @@ tiles_in size = size / 256 + size / 65536 + size / 16777216
 abbrev pub tiles_end : ℕ → ℕ
 tiles_end size = 8192 * tiles_in size
 
--- The level and the place of the tile of a node. It has 2^(8 - level % 8) nodes of this level.
+-- The level and the index of the tile of a node. It has 2^(8 - level % 8) nodes of this level.
 abbrev pub tile_level : ℕ → ℕ
 tile_level level = level / 8
 

@@ -8,7 +8,7 @@ use Rattle.tile_store.specs.Frames.{FramesHold}
 use Rattle.tree_cache.specs.Rows.{AreFullRowsOf, AreRowsOf, IsRowOf, RowState, RowsState, first_row}
 use Rattle.tree_cache.specs.Rows.{first_length, paired}
 
--- The leaf hashes: those in adopted tiles, and those that are kept in memory.
+-- The leaf hashes: those in adopted tiles, and those that are retained in memory.
 abbrev pub leaves_with : ℕ → RowsState → Text → List Hash
 leaves_with adopted rows bytes = stored_leaves adopted bytes ++ first_row rows
 

@@ -42,7 +42,7 @@ module _ {H T : Type 0} {hashes : Hashes H} {g : Ghosts T} where
   abbrev pub tiles_stored : Tiles H T hashes g → ℕ
   tiles_stored tiles = tiles.stored
 
-  -- the leaf hashes, where the device tells its bytes
+  -- the leaf hashes, if the model knows the bytes of the device
   abbrev pub tiles_leaves : Tiles H T hashes g → Option (List Hash)
   tiles_leaves tiles = option_map (leaves_with tiles.adopted tiles.rows) (g.contents tiles.disk)
 
@@ -52,8 +52,8 @@ module _ {H T : Type 0} {hashes : Hashes H} {g : Ghosts T} where
       IsFull tiles.adopted (tile_level level) (tile_place level place)
       → IsHeld tiles.pool (tile_level level) (tile_place level place)
 
-  -- The device was only looked at, and all but it, the frames and the nodes that are made or kept
-  -- of their tiles is as it was.
+  -- The device was only read, and all but it, the frames and the nodes that are made or retained of
+  -- their tiles is as it was.
   pub record TilesStay (old new : Tiles H T hashes g) : Type 0 where
     pub only_reads : OnlyReads g old.disk new.disk
     pub rows : HaveFilled hashes.hash old.rows new.rows

@@ -10,19 +10,19 @@ use Rattle.tile_store.specs.Layout.{IsFull, tile_at, tile_number, tiles_in}
 use Rattle.tree_cache.specs.Rows.{AreRowsOf, RowsState, count_of, filled_of, gone_at}
 use Rattle.tree_cache.specs.Tiled.{gone_of}
 
--- The bytes before a place stay, and the file gets no shorter.
+-- The bytes before an offset stay, and the file gets no shorter.
 pub record KeepsPrefix (place : ℕ) (old new : Text) : Type 0 where
   pub no_shorter : length old ≤ length new
   pub prefix : take (min place (length old)) new ≡ take place old
 
--- An image from before, but for what lies behind a place.
+-- A crash state from before, but for what follows an offset.
 pub record IsImageBehind {T : Type 0} (g : Ghosts T) (old : T) (place : ℕ) (image : Text)
     : Type 0 where
   pub before : Text
   pub left : g.may_leave old before
   pub keeps : KeepsPrefix place before image
 
--- What writing from a place on leaves of a disk, at any moment and also where a call fails.
+-- What writing from an offset on leaves of a disk, at any time, even if a call fails.
 pub record WritesBehind {T : Type 0} (g : Ghosts T) (place : ℕ) (old new : T) : Type 0 where
   pub any_moment : LeavesOnly g old new (IsImageBehind g old place)
   pub contents : is_some (g.contents new) ≡ is_some (g.contents old)
@@ -44,7 +44,7 @@ pub record IsTileWritten (h : HashFunction) (rows : RowsState) (level place : �
   pub contents : new ≡ option_map (overwritten (tile_at level place) tile) old
   pub is : (leaves : List Hash) → AreRowsOf h leaves rows → IsTile h leaves level place tile
 
--- Of the tiles that these leaves fill, those of the first so many numbers are in the file.
+-- The tiles of the first so many numbers, among those that these leaves fill, are in the file.
 abbrev pub HoldsFirst : HashFunction → List Hash → ℕ → Text → Type 0
 HoldsFirst h leaves count bytes = (level place : ℕ) → level ≤ 2
     → tile_number level place < count → IsFull (length leaves) level place

@@ -91,7 +91,7 @@ fn compare<H: TreeHash, T: Disk>(
     Ok(())
 }
 
-// Whether the file has the tiles of these numbers. The first that it has not is told.
+// Whether the file has the tiles of these numbers. The first that it has not is reported.
 pub(crate) fn check<H: TreeHash, T: Disk>(
     disk: &mut T,
     pool: &mut Pool,

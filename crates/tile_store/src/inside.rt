@@ -34,7 +34,7 @@ fn hashes_of(alloc: Global, tile: &[u8]) -> Result<Vec<[u8; 32]>, Memory>
     Ok(nodes)
 }
 
-// Puts the nodes above them behind them.
+// Appends to these nodes the nodes above them.
 fn put_parents<H: TreeHash>(nodes: &mut Vec<[u8; 32]>) -> Result<(), Memory>
     requires { length nodes.old.items ≡ 256 }
     ensures count { OnOk result (length nodes.new.items ≡ 511) }
@@ -57,7 +57,7 @@ fn start_of(level: u32) -> usize
     512 - (1 << (9 - level))
 }
 
-// The place of a node in its level of a tile.
+// The index of a node on its level of a tile.
 fn index_in(level: u32, place: u64) -> usize
     requires { level < 8 }
     ensures { result ≡ place % 2 ^ (8 - level) }
@@ -122,7 +122,7 @@ impl<H: TreeHash> FrameNodes<H> {
         }
     }
 
-    // The node, where the nodes of the tile are kept.
+    // The node, if the nodes of the tile are retained.
     fn kept(&self, slot: usize, tile: &[u8], level: u32, place: u64) -> Option<[u8; 32]>
         requires { length tile.now ≡ 8192 }
         ensures { IfSome result (IsNodeIn H.hash tile.now
@@ -135,7 +135,7 @@ impl<H: TreeHash> FrameNodes<H> {
         Some(nodes.node(level, place))
     }
 
-    // Keeps the nodes of a tile for a frame, in the place of others.
+    // Stores the nodes of a tile for a frame, instead of others.
     fn keep(&mut self, slot: usize, nodes: TileNodes<H>) -> Result<(), Memory>
         ensures { length self.new.tiles.items ≤ max (slot + 1) (length self.old.tiles.items) }
     {
@@ -147,7 +147,7 @@ impl<H: TreeHash> FrameNodes<H> {
     }
 
     /// The node of a tile that stands in the frame of a slot. One of the tile's own hashes is
-    /// copied. Another is looked up among the tile's nodes, which are kept then; where memory is
+    /// copied. Another is looked up among the tile's nodes, which are retained then; if memory is
     /// refused for them, it is hashed alone.
     pub(crate) fn node(&mut self, slot: usize, tile: &[u8], level: u32, place: u64) -> [u8; 32]
         requires whole { length tile.now ≡ 8192 }

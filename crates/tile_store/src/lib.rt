@@ -3,10 +3,10 @@
 //!
 //! A tile has 256 hashes of one level, 8,192 bytes. Tiles that are full are stored in the order in
 //! which they become full. Once a stored tile was read back and compared it is adopted: its nodes
-//! are let go, and from then on come out of the file, through a frame of the pool. What is read
-//! then is compared with nothing: a file that changes behind an adoption gives other nodes. The
+//! are dropped, and from then on come out of the file, through a frame of the pool. What is read
+//! then is compared with nothing: a file that changes after an adoption gives other nodes. The
 //! nodes inside a tile, between two stored levels, are hashed together when one of them is asked
-//! for, and kept until those of another tile take their place.
+//! for, and retained until those of another tile replace them.
 //!
 //! ```rust
 //! use frame_pool::Pool;

@@ -23,7 +23,7 @@ use tree_core::{TreeHash, pair};
 // The bytes of a hash.
 pub(crate) const HASH: usize = 32;
 
-// The frame of a tile. Where none holds it yet, one is claimed for it, and the tile is read there.
+// The frame of a tile. If none holds it yet, one is claimed for it, and the tile is read there.
 pub(crate) fn load<T: Disk>(disk: &mut T, pool: &mut Pool, key: TileKey) -> Result<Slot, Failed>
     requires low { key.level ≤ 2 }
     requires few { key.place < 2 ^ 24 }

@@ -31,13 +31,13 @@ use tree_core::TreeHash;
 use tree_proofs::Nodes;
 
 /// A list of fewer than 2^32 leaf hashes as nodes. Those in adopted tiles come out of the file,
-/// through a frame, and the others are kept in memory: the leaf hashes at once, and the nodes over
-/// them when one is asked for, and before tiles over them are stored or adopted. The memory for
-/// these is taken with the leaves, so a node takes none.
+/// through a frame, and the others are retained in memory: the leaf hashes at once, and the nodes
+/// over them when one is asked for, and before tiles over them are stored or adopted. The memory
+/// for these is taken with the leaves, so a node takes none.
 ///
-/// Where the device tells its bytes, contracts see the leaf hashes. They always see how many there
-/// are, how many more need no memory, and the sizes of the lists whose full tiles are stored and
-/// adopted.
+/// If the model knows the bytes of the device, contracts see the leaf hashes. They always see how
+/// many there are, how many more need no memory, and the sizes of the lists whose full tiles are
+/// stored and adopted.
 pub struct Tiles<H: TreeHash, T: Disk> {
     pub(crate) disk: T,
     pub(crate) pool: Pool,
@@ -63,7 +63,7 @@ pub struct Tiles<H: TreeHash, T: Disk> {
         stored rows pool b } by { Prim.hlevel (props, IsSoundOver-prop) },
 }
 
-// A drop in one step: a derived one is proved field by field wherever a value is let go.
+// A drop in one step: a derived one is proved field by field wherever a value is dropped.
 impl<H: TreeHash, T: Disk + Drop> Drop for Tiles<H, T> {
     fn drop(self) {
         let Tiles {
@@ -111,8 +111,8 @@ impl<H: TreeHash, T: Disk> Tiles<H, T> {
         }
     }
 
-    /// Makes room for at least `count` more leaves. It is refused only where fewer are spare. The
-    /// store stays as it was, also then.
+    /// Reserves capacity for at least `count` more leaves. It is refused only where fewer are
+    /// spare. The store stays as it was, whether the call is refused or not.
     pub fn reserve(&mut self, count: usize) -> Result<(), Memory>
         ensures list { tiles_leaves self.new ≡ tiles_leaves self.old }
         ensures count { tiles_count self.new ≡ tiles_count self.old }
@@ -128,8 +128,8 @@ impl<H: TreeHash, T: Disk> Tiles<H, T> {
         self.rows.reserve(count)
     }
 
-    /// Puts a leaf hash behind the others, and makes no node. It is refused only where no spare
-    /// leaf is left, and leaves all as it was then.
+    /// Appends a leaf hash, and makes no node. It is refused only if no spare leaf is left, and
+    /// leaves all as it was then.
     pub fn push(&mut self, leaf: &[u8; 32]) -> Result<(), Memory>
         requires { tiles_count self.old + 1 < 2 ^ 32 }
         ensures ok { OnOk result (tiles_leaves self.new
@@ -159,14 +159,14 @@ impl<H: TreeHash, T: Disk> Tiles<H, T> {
         self.stored
     }
 
-    /// The hash of the `2^level` leaves from `place * 2^level` on, as [`Nodes::node`]. Where its
-    /// tile is adopted, at Ok a frame holds that tile, and where none did before it was read from
-    /// the device in this call. A node in memory, or one whose tile a frame holds, makes no call of
-    /// the device, changes no frame and doesn't fail. `Failed` comes only where the count of the
-    /// device's faults rose.
+    /// The hash of the `2^level` leaves from `place * 2^level` on, as [`Nodes::node`]. If its tile
+    /// is adopted, at Ok a frame holds that tile, and if none did before it was read from the
+    /// device in this call. A node in memory, or one whose tile a frame holds, makes no call of the
+    /// device, changes no frame and doesn't fail. `Failed` comes only if the device's count of
+    /// failures rose.
     ///
-    /// The nodes inside a tile are hashed together and kept, in 16,352 bytes for each frame, and
-    /// once more while they are replaced. Where memory is refused for them, the one is hashed
+    /// The nodes inside a tile are hashed together and retained, in 16,352 bytes for each frame,
+    /// and once more while they are replaced. If memory is refused for them, the one is hashed
     /// alone.
     pub fn tile_node(&mut self, level: u32, place: u64) -> Result<[u8; 32], Failed>
         requires { (place + 1) * 2 ^ level ≤ tiles_count self.old }
@@ -231,8 +231,8 @@ impl<H: TreeHash, T: Disk> Tiles<H, T> {
         load(&mut self.disk, &mut self.pool, key)
     }
 
-    /// The 8,192 bytes of the frame that holds a tile; none exactly where no frame does. Frames
-    /// hold adopted tiles alone.
+    /// The 8,192 bytes of the frame that holds a tile; none exactly if no frame does. Frames hold
+    /// adopted tiles alone.
     pub fn held_tile(&self, key: TileKey) -> Option<&[u8]>
         ensures held { IsSome result ↔ IsHeld (tiles_pool self.now) key.level key.place }
         ensures tile { IfSome result (λ tile.
@@ -246,11 +246,11 @@ impl<H: TreeHash, T: Disk> Tiles<H, T> {
         }
     }
 
-    /// Writes each tile that the first `size` leaves fill and that is not stored yet, and makes
-    /// all certain. At any moment a crash leaves what it might have left before, but for what lies
-    /// behind the stored tiles. Whatever it answers, it makes the nodes over the first `size`
-    /// leaves and no others, and brings the known length no further than the end of their tiles.
-    /// It adopts none, and takes no memory.
+    /// Writes each tile that the first `size` leaves fill and that is not stored yet, and makes all
+    /// durable. At any time a crash leaves what it might have left before, but for what follows the
+    /// stored tiles. Whatever it answers, it makes the nodes over the first `size` leaves and no
+    /// others, and brings the known length no further than the end of their tiles. It adopts none,
+    /// and takes no memory.
     pub fn store(&mut self, size: u64) -> Result<(), Failed>
         requires { size ≤ tiles_count self.old }
         ensures list { tiles_leaves self.new ≡ tiles_leaves self.old }
@@ -305,13 +305,13 @@ impl<H: TreeHash, T: Disk> Tiles<H, T> {
 
     /// Reads back each tile that the first `size` leaves fill and that is not adopted yet, in the
     /// order in which they became full, and compares it with the nodes over these leaves, which it
-    /// makes where they aren't made yet, and no others. At Ok the tiles are adopted, and their
-    /// nodes are let go.
+    /// makes if they aren't made yet, and no others. At Ok the tiles are adopted, and their nodes
+    /// are dropped.
     ///
-    /// Errors, whichever comes first: `Failed`; `BadTile`, exactly where the file ends before the
-    /// end of a tile or has other hashes there, with the first such tile. Then all but the frames
-    /// and these nodes is as it was. It wants no memory, and gives back what the nodes took that it
-    /// lets go, where smaller blocks can be had; the spare leaves keep their room.
+    /// Errors, whichever comes first: `Failed`; `BadTile`, exactly if the file ends before the end
+    /// of a tile or has other hashes there, with the first such tile. Then all but the frames and
+    /// these nodes is as it was. It takes no memory, and frees that of the nodes that it drops,
+    /// where smaller blocks can be had; the spare leaves keep their capacity.
     pub fn adopt(&mut self, size: u64) -> Result<(), TileError>
         requires multiple { size % 256 ≡ 0 }
         requires within { size ≤ tiles_count self.old }

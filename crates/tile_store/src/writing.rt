@@ -19,7 +19,7 @@ use mtc_io::Failed;
 use tree_cache::Rows;
 use tree_core::TreeHash;
 
-// The bytes of hashes, one behind the other.
+// The bytes of hashes, one after the other.
 pub(crate) fn bytes_of(hashes: &[[u8; 32]]) -> &[u8]
     ensures size { length result.now ≡ 32 * length hashes.now }
     ensures each { (i : ℕ) → i < length hashes.now
@@ -82,7 +82,7 @@ fn put_all<H: TreeHash, T: Disk>(
     Ok(())
 }
 
-// Writes the tiles of these numbers, over bytes that are certain, and makes them certain.
+// Writes the tiles of these numbers, over bytes that are durable, and makes them durable.
 pub(crate) fn write_tiles<H: TreeHash, T: Disk>(
     disk: &mut T,
     rows: &Rows,
