@@ -15,7 +15,7 @@ use Rattle.journal_core.specs.Format.{new_file_of}
 use Rattle.journal_core.proofs.Records.{part_kept, byte_kept, records_kept, header_kept}
 use Rattle.journal_core.proofs.Records.{stands_kept, behind_later, behind-append, records-append}
 
--- The write behind the closed gate leaves the list as it was, however it is torn.
+-- The write after the closed commit byte leaves the list as it was, however it is torn.
 pub torn_behind : (end : ℕ) (piece : List ℕ) (records : List (List ℕ)) (old new : List ℕ)
     → end ≡ behind 16 records + 1 → Torn end piece old new
     → Represents old records → Represents new records
@@ -26,7 +26,8 @@ torn_behind end piece records old new end_is torn is =
     let same : take end new ≡ take end old = rw whole at (torn_before end piece old new torn) in
     stands_kept end records old new same (omega arith) (omega arith) is
 
--- The list stands, and behind its closed gate lie the length of a body, the body and a closed gate.
+-- The list stands, and after its closed commit byte lie the length of a body, the body and a closed
+-- commit byte.
 pub record IsStaged (bytes : List ℕ) (records : List (List ℕ)) (body : List ℕ) : Type 0 where
   pub stands : Represents bytes records
   pub tail : part (behind 16 records + 1) (5 + length body) bytes ≡ tail_of body
@@ -57,7 +58,7 @@ staged end records body old new end_is is new_is =
           ≡ tail_of body) end_is found);
     }
 
--- what lies behind a torn range, below the old end
+-- what lies after a torn range, below the old end
 part_after : (from place count : ℕ) (old new : List ℕ) → take (length old - from) (drop from new)
     ≡ drop from old
     → from ≤ place → place + count ≤ length old → part place count new ≡ part place count old
@@ -86,7 +87,7 @@ byte_after from place old new same past within =
     shifted new ∙ byte_kept (length old - from) (place - from) (drop from old) (drop from new) kept
     (omega arith) ∙ sym (shifted old)
 
--- what is written over the closed gate and behind it
+-- what is written over the closed commit byte and after it
 pub opened_before : (commit_byte end : ℕ) (tail bytes : List ℕ) → end ≡ commit_byte + 1
     → end ≤ length bytes
     → overwritten commit_byte (1 ∷ []) (overwritten end tail bytes)
@@ -164,7 +165,7 @@ module _ (bytes : List ℕ) (records : List (List ℕ)) (body : List ℕ)
         let whole : min (behind 16 records) (length bytes) ≡ behind 16 records = omega arith in
         rw whole at (torn_before (behind 16 records) (1 ∷ []) bytes new torn)
 
-    -- the gate is still closed
+    -- the commit byte is still closed
     pub commit_byte_shut : slice_index new (behind 16 records) ≡ 0 → Represents new records
     commit_byte_shut shut = record {
       begins = header_kept (behind 16 records) bytes new prefix_same (behind_later 16 records)
@@ -178,7 +179,7 @@ module _ (bytes : List ℕ) (records : List (List ℕ)) (body : List ℕ)
       };
     }
 
-    -- the gate is open
+    -- the commit byte is open
     pub commit_byte_open : 1 ≤ length body → length body ≤ 131072
         → slice_index new (behind 16 records) ≢ 0
         → Represents new (records ++ body ∷ [])
@@ -214,7 +215,7 @@ module _ (bytes : List ℕ) (records : List (List ℕ)) (body : List ℕ)
               });
         }
 
-    -- however the write of the gate is torn
+    -- however the write of the commit byte is torn
     pub torn_commit_byte : 1 ≤ length body → length body ≤ 131072
         → RepresentsEither records body new
     torn_commit_byte some few = elim (cases_eq (slice_index new (behind 16 records)) 0) [

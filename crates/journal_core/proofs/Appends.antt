@@ -1,5 +1,5 @@
--- What an append leaves, in the words of a layer above: every image stands for the old records and
--- the new one, or the journal's disk had no call.
+-- What an append leaves, in the words of a layer above: every crash state represents the old
+-- records and the new one, or the call left the journal's disk alone.
 use Rattle.std.proofs.Common.{◌≡◌, inl, ℕ, List, [], ◌∷◌, ◌++◌, Option, Some, None, IfSome}
 use Rattle.std.proofs.Common.{option_map, sym, ap, ◌∙◌, subst}
 use Rattle.disk_core.specs.Moments.{LeavesOnly}
@@ -13,7 +13,7 @@ use Rattle.journal_core.proofs.Modelled.{of_records}
 some_records : (x y : List (List ℕ)) → Some x ≡ Some y → x ≡ y
 some_records x y is = cc
 
--- every image stands for the old records and the new one
+-- every crash state represents the old records and the new one
 pub all_kept : {D : Type 0} (g : Ghosts D) (disk : D) (contents : Option (List ℕ))
     (old : Option (List (List ℕ))) (body other : List ℕ)
     → option_map records_of contents ≡ option_map (λ list. list ++ body ∷ []) old → body ≡ other

@@ -1,4 +1,4 @@
--- Records that are copied from a journal, one behind the other.
+-- Records that are copied from a journal, one after the other.
 use Rattle.std.proofs.Common.{◌≡◌, ℕ, ◌+◌, ◌-◌, ◌<◌, ◌≤◌, min, List, [], ◌∷◌, ◌++◌, length}
 use Rattle.std.proofs.Common.{take, drop, Option, Some, None, IfSome, OnOk, Result, Ok, Err}
 use Rattle.std.proofs.Common.{subst, sym, ap, ◌∙◌, refl, arith, append_assoc, append-nil}
@@ -18,7 +18,7 @@ use Rattle.journal_core.proofs.Records.{behind_later}
 use Rattle.mtc_io.specs.Streams.{AppendsPrefix}
 use Rattle.mtc_io.proofs.Streams.{prefix_more, prefix_whole}
 
--- ---- facts where a disk tells its bytes
+-- ---- facts if the model knows the bytes of a disk
 
 pub any_some : {X : Type 0} (P : X → Type 0) (contents : Option X) → ((x : X) → P x)
     → IfSome contents P
@@ -35,12 +35,12 @@ when_ok (Err e) P Q f is = tt
 pub prefix_none : (a : Option (List ℕ)) (xs : List ℕ) → AppendsPrefix a a xs
 prefix_none a xs = (0, Appends-nil a)
 
--- a prefix of the front
+-- a prefix of a prefix
 pub prefix_of_prefix : (a b : Option (List ℕ)) (xs ys : List ℕ) → AppendsPrefix a b xs
     → AppendsPrefix a b (xs ++ ys)
 prefix_of_prefix a b xs ys is = prefix_more a a b [] xs ys (Appends-nil a) is
 
--- the front, and a prefix of what is behind it
+-- the prefix, and a prefix of what follows it
 pub prefix_behind : (a b c : Option (List ℕ)) (xs ys : List ℕ) → Appends a b xs
     → AppendsPrefix b c ys → AppendsPrefix a c (xs ++ ys)
 prefix_behind a b c xs ys first second =
@@ -49,7 +49,7 @@ prefix_behind a b c xs ys first second =
 
 -- ---- parts of a file
 
--- One part behind the other.
+-- One part after the other.
 pub part-more : (place done more : ℕ) (bytes : Text)
     → part place (done + more) bytes ≡ part place done bytes ++ part (place + done) more bytes
 part-more place done more bytes =
@@ -70,7 +70,7 @@ part_prefix place done more count bytes a b c within first second =
     ∙ ap (λ (ys : Text). part place done bytes ++ ys) (part-more (place + done) more left bytes) in
     subst (AppendsPrefix a c) (sym all) (prefix_more a b c _ _ _ first second)
 
--- Two parts, one behind the other.
+-- Two parts, one after the other.
 pub part_whole : (place done more : ℕ) (bytes : Text) (a b c : Option (List ℕ))
     → Appends a b (part place done bytes) → Appends b c (part (place + done) more bytes)
     → Appends a c (part place (done + more) bytes)
@@ -78,7 +78,7 @@ part_whole place done more bytes a b c first second =
     subst (Appends a c) (sym (part-more place done more bytes))
     (Appends-trans a b c _ _ first second)
 
--- The same of the bytes that a disk tells, also after it was looked at.
+-- The same of the bytes of a disk, as the model knows them, also after a call that only reads it.
 module _ (contents later : Option Text) (same : later ≡ contents) (place done more count : ℕ)
     (a b c : Option (List ℕ))
     (first : IfSome contents (λ bytes. Appends a b (part place done bytes)))
@@ -120,7 +120,8 @@ record_part bytes body commit_byte is =
     (let same : commit_byte + 1 + 4 ≡ commit_byte + 5 = omega arith in
     ap (λ (n : ℕ). part n (length body) bytes) same ∙ is.body_is)
 
--- a fact of the record at a gate that ends before an end, in the bytes that a disk tells
+-- a fact of the record at a commit byte that ends before an end, in the bytes of a disk, as the
+-- model knows them
 abbrev pub AtRecord : Option Text → ℕ → ℕ → (Text → Type 0) → Type 0
 AtRecord contents commit_byte end P =
     IfSome contents (λ bytes. (body : Text) → IsRecordAt bytes commit_byte body
@@ -149,7 +150,7 @@ pub record_none : (contents : Option Text) (commit_byte end : ℕ) (a : Option (
 record_none None commit_byte end a = tt
 record_none (Some bytes) commit_byte end a = λ body there within. prefix_none a (sized body)
 
--- Up to this gate the records were written; these are left.
+-- Up to this commit byte the records were written; these are left.
 pub record IsCopied (bytes whole : Text) (commit_byte end : ℕ) (old now : Option Text) : Type
     0 where
   pub written : Text
@@ -227,12 +228,13 @@ module _ (bytes whole : Text) (commit_byte end : ℕ) (a b c : Option Text)
             made = append_assoc is.written (sized body) (sized_text rest) ∙ made;
           }
 
--- a fact of the records from a gate to an end, in the bytes that a disk tells
+-- a fact of the records from a commit byte to an end, in the bytes of a disk, as the model knows
+-- them
 abbrev pub OfRecords : Option Text → ℕ → ℕ → (Text → List Text → Type 0) → Type 0
 OfRecords contents first end P = IfSome contents (λ bytes. (bodies : List Text)
     → AreRecordsAt bytes first bodies → end ≡ behind first bodies + 1 → P bytes bodies)
 
--- the same from the end behind the gate on
+-- the same from the end after the commit byte on
 pub between : (contents : Option Text) (from end : ℕ) (P : List Text → Type 0)
     → OfRecords contents (from - 1) end (λ bytes bodies. P bodies)
     → IfSome contents
@@ -304,7 +306,7 @@ module _ (contents later : Option Text) (same : later ≡ contents) (first commi
           (is bodies there last)
           far more
 
--- The records behind the first one stand behind the end behind it.
+-- The records after the first one follow the end of the first one.
 pub behind_first : (bytes first : Text) (bodies : List Text) (from end : ℕ)
     → AreRecordsAt bytes 16 (first ∷ bodies) → end ≡ end_behind (first ∷ bodies)
     → from ≡ min (end_behind (first ∷ [])) end → StandBetween bytes from end bodies

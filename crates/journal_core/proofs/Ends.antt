@@ -8,7 +8,7 @@ use Rattle.journal_core.specs.Format.{records_of}
 use Rattle.journal_core.specs.Durable.{IsDurable}
 use Rattle.journal_core.proofs.Records.{behind-append, records_before-are}
 
--- the records up to an end, and a gate behind them
+-- the records up to an end, and a commit byte after them
 pub record HoldsUpTo (bytes : Text) (list : List Text) (end : ℕ) : Type 0 where
   pub there : AreRecordsAt bytes 16 list
   pub last : end ≡ end_behind list

@@ -42,7 +42,7 @@ some_is : (x y : List (List ℕ)) → Some x ≡ Some y → x ≡ y
 some_is x y is = cc
 
 module _ {D : Type 0} {g : Ghosts D} {S E : Type 0} (fold : Fold S E) (old new : Opening D g) where
-  -- what the disk told and the records that were read, where it tells them
+  -- the bytes of the disk and the records that were read, if the model knows the bytes
   read_at : (o : Opening D g) (b : List ℕ) → g.contents (opening_disk o) ≡ Some b
       → read_list o ≡ Some (records_before b (next_place o))
   read_at o b contents =
@@ -134,7 +134,7 @@ module _ {D : Type 0} {g : Ghosts D} {S E : Type 0} (fold : Fold S E) (old new :
           ∙ ap (λ (l : List (List ℕ)). l ++ body ∷ walk.0) empty)
           (state_begins_not fold body walk.0 next))
 
-  -- ---- the closed gate
+  -- ---- the closed commit byte
 
   module _ (ended : HasEnded old new)
       (only_reads : OnlyReads g (opening_disk old) (opening_disk new)) where
@@ -258,7 +258,7 @@ module _ {D : Type 0} {g : Ghosts D} {S E : Type 0} (fold : Fold S E) (old new :
       why (step.reason unrefused) (step.kind unrefused) (step.walk unrefused)
 
 module _ {D : Type 0} (g : Ghosts D) {S E : Type 0} (fold : Fold S E) where
-  -- a file that isn't begun to be read
+  -- a file whose reading has not begun
   pub cause_begin : (old new : D) (why : OpenError) → HasReason g old new 0 why → IsOfHeader why
       → IsCauseOf g fold old new why
   cause_begin old new NotJournal reason kind =
@@ -270,7 +270,7 @@ module _ {D : Type 0} (g : Ghosts D) {S E : Type 0} (fold : Fold S E) where
   cause_begin old new Failed reason kind = reason
   cause_begin old new Memory reason kind = tt
 
-  -- a refusal behind calls that only look
+  -- a refusal after calls that only read
   pub refused_later : (old mid : D) (why : E) → OnlyReads g old mid
       → AreRefused fold (g.contents mid) why
       → AreRefused fold (g.contents old) why

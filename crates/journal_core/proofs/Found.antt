@@ -76,7 +76,7 @@ module _ {S E : Type 0} (fold : Fold S E) where
       fails true P is never = absurd (never (is refl))
       fails false P is never = refl
 
-  -- a file that stands for records of which a state is made
+  -- a file that represents records of which a state is made
   pub read_standing : (bytes : List ℕ) (list : List (List ℕ)) (s : S) → Represents bytes list
       → state_behind fold list ≡ Ok s
       → read_by fold bytes ≡ Ok (record { records = list; state = s })

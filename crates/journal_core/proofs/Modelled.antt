@@ -1,4 +1,4 @@
--- Facts of the bytes of a disk, where it tells them.
+-- Facts of the bytes of a disk, if the model knows them.
 use Rattle.std.proofs.Common.{◌≡◌, List, ℕ, Option, Some, None, IfSome, option_map, refl, sym}
 use Rattle.std.proofs.Common.{subst, ◌∙◌}
 use Rattle.journal_core.specs.Format.{records_of}
@@ -13,8 +13,8 @@ pub at_contents : {X : Type 0} (P : X → Type 0) (contents : Option X) (x : X) 
     → IfSome contents P → P x
 at_contents {X} P contents x is fact = subst (λ (o : Option X). IfSome o P) is fact
 
--- where a disk tells its bytes behind a write, it told them before, and they are the old ones
--- overwritten
+-- if the model knows the bytes of a disk after a write, it knew them before, and they are the old
+-- ones overwritten
 pub contents_before : (old new : Option (List ℕ)) (write : List ℕ → List ℕ) (now : List ℕ)
     → new ≡ option_map write old → new ≡ Some now
     → (was : List ℕ) × (old ≡ Some was) × (now ≡ write was)
@@ -23,7 +23,7 @@ contents_before None new write now is contents = let wrong : None ≡ Some now =
 contents_before (Some was) new write now is contents =
     (was, refl, (let same : Some (write was) ≡ Some now = sym is ∙ contents in cc))
 
--- a fact of the records, where the disk tells its bytes
+-- a fact of the records, if the model knows the bytes of the disk
 pub of_records : (P : List (List ℕ) → Type 0) (contents : Option (List ℕ))
     → ((b : List ℕ) → contents ≡ Some b → P (records_of b))
     → IfSome (option_map records_of contents) P

@@ -72,7 +72,7 @@ module _ {D : Type 0} (g : Ghosts D) (old new : D) (only_reads : OnlyReads g old
       ≡ option_map (λ b. records_before b place) (g.contents old)
   same_list = ap (option_map (λ b. records_before b place)) only_reads.contents
 
-  -- a file that stands for records is refused for a fault alone
+  -- a file that represents records is refused only for a failure
   pub only_fails : (why : OpenError) → HasReason g old new place why → IsOfRecord why
       → IfSome (g.contents old)
       (λ bytes. (list : List (List ℕ)) → Represents bytes list → why ≡ Failed)

@@ -1,4 +1,4 @@
--- The places of records: where an opening stands, and the length that is read at one.
+-- The offsets of records: where an opening stands, and the length that is read at one.
 use Rattle.std.proofs.Common.{◌≡◌, ℕ, ◌+◌, ◌<◌, ◌≤◌, ◌^◌, List, [], ◌∷◌, ◌++◌, length, Option}
 use Rattle.std.proofs.Common.{Some, None, IfSome, option_map, refl, ap, sym, ◌∙◌, subst, arith}
 use Rattle.std.specs.Int.{w32, to_be_bytes, from_be_bytes}
@@ -9,7 +9,7 @@ use Rattle.journal_core.specs.Durable.{IsReading}
 use Rattle.journal_core.specs.Words.{HoldsLength, HasSize}
 use Rattle.journal_core.proofs.Modelled.{at_contents, of_records}
 
--- the place of the next gate, by the records that were read
+-- the offset of the next commit byte, by the records that were read
 pub place_of_list : (contents : Option (List ℕ)) (images : List ℕ → Type 0) (place : ℕ)
     → ((b : List ℕ) → contents ≡ Some b → IsReading b images place)
     → IfSome (option_map (λ b. records_before b place) contents)
@@ -25,7 +25,7 @@ body_few bytes place [] body back are = are.0.few
 body_few bytes place (first ∷ prefix) body back are =
     body_few bytes (place + 5 + length first) prefix body back are.1
 
--- a number is told by the four bytes that spell it
+-- four bytes encode one number at most
 same_number : (one other : ℕ) → one < 2 ^ 32 → other < 2 ^ 32
     → to_be_bytes w32 one ≡ to_be_bytes w32 other → one ≡ other
 same_number one other small fits same =

@@ -61,7 +61,7 @@ module _ (bytes : List ℕ) (images : List ℕ → Type 0) (place : ℕ) (is : I
     only = only;
   }
 
--- the same place, later
+-- the same offset, later
 pub read_same : (bytes : List ℕ) (before after : List ℕ → Type 0) (place : ℕ) → NoNew before after
     → IsReading bytes before place → IsReading bytes after place
 read_same bytes before after place no_new is = record {
@@ -72,7 +72,7 @@ read_same bytes before after place no_new is = record {
   only = λ c left. is.only c (no_new c left);
 }
 
--- at the closed gate
+-- at the closed commit byte
 pub read_all : (bytes : List ℕ) (images : List ℕ → Type 0) (place : ℕ)
     → IsReading bytes images place → IsClosedAt bytes place
     → Represents bytes (records_before bytes place)
@@ -93,7 +93,7 @@ settled bytes images place is ends =
       only = is.only;
     }
 
--- Behind some of the records of a file stands its next record, or the closed gate.
+-- After some of the records of a file stands its next record, or the closed commit byte.
 pub sound_behind : (bytes : List ℕ) (place : ℕ) (read list : List (List ℕ))
     → AreRecordsAt bytes place read → AreRecordsAt bytes place list
     → IsClosedAt bytes (behind place list) → IsClosedAt bytes (behind place read) ⊎ ((body : List ℕ)
@@ -130,7 +130,7 @@ never_cut bytes place (inr (body, is)) (inr within) =
     let there = record_within bytes place body is in
     elim within.1 [ inl short ↦ omega arith | inr cut ↦ (let c = cut.2 in omega arith) ]
 
--- A file that stands for records is refused nowhere.
+-- A file that represents records is refused nowhere.
 module _ (bytes : List ℕ) (images : List ℕ → Type 0) (place : ℕ) (is : IsReading bytes images place)
     (list : List (List ℕ)) (stands : Represents bytes list) where
   sound_here : IsClosedAt bytes place ⊎ ((body : List ℕ) × IsRecordAt bytes place body)

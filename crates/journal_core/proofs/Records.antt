@@ -46,7 +46,7 @@ record_kept n place body old new same within is = record {
   body_is = part_kept n (place + 5) (length body) old new same within ∙ is.body_is;
 }
 
--- records take place
+-- records have at least 0 bytes
 pub behind_later : (place : ℕ) (records : List (List ℕ)) → place ≤ behind place records
 behind_later place [] = omega arith
 behind_later place (body ∷ bodies) = let later =
@@ -63,7 +63,7 @@ pub behind-append : (place : ℕ) (records : List (List ℕ)) (body : List ℕ)
 behind-append place [] body = refl
 behind-append place (first ∷ records) body = behind-append (place + 5 + length first) records body
 
--- the records that end within the same front
+-- the records that end within the same prefix
 pub records_kept : (n place : ℕ) (records : List (List ℕ)) (old new : List ℕ)
     → take n new ≡ take n old → behind place records ≤ n
     → AreRecordsAt old place records → AreRecordsAt new place records
@@ -74,7 +74,7 @@ records_kept n place (body ∷ bodies) old new same within are = (
   records_kept n (place + 5 + length body) bodies old new same within are.1,
 )
 
--- a closed gate
+-- a closed commit byte
 pub closed_kept : (n place : ℕ) (old new : List ℕ) → take n new ≡ take n old → place < n
     → n ≤ length new → IsClosedAt old place → IsClosedAt new place
 closed_kept n place old new same within there is = record {
@@ -138,7 +138,7 @@ records_from-are (suc most) bytes place (body ∷ bodies) are ends few =
       size_is bytes place body are.0,
     ) (ap (λ (rest : List (List ℕ)). body ∷ rest) next)
 
--- a file stands for one list at most
+-- a file represents one list at most
 pub records_of-stands : (bytes : List ℕ) (records : List (List ℕ)) → Represents bytes records
     → records_of bytes ≡ records
 records_of-stands bytes records is =
@@ -161,7 +161,7 @@ records_to-are (suc most) bytes place (body ∷ bodies) end are is few =
     rw (more, body_found bytes place body are.0, size_is bytes place body are.0)
     (ap (λ (rest : List (List ℕ)). body ∷ rest) next)
 
--- the records before the place behind them
+-- the records before the offset after them
 pub records_before-are : (bytes : List ℕ) (records : List (List ℕ)) (place : ℕ)
     → AreRecordsAt bytes 16 records → place ≡ behind 16 records
     → place ≤ length bytes → records_before bytes place ≡ records
@@ -169,7 +169,7 @@ records_before-are bytes records place are is within =
     records_to-are (length bytes) bytes 16 records place are is (let far =
     behind_far 16 records in omega arith)
 
--- what was read at a place is the record there
+-- what was read at an offset is the record there
 pub record_read : (bytes : List ℕ) (place count : ℕ) (buffer : List ℕ) → slice_index bytes place ≢ 0
     → part (place + 1) 4 bytes ≡ to_be_bytes w32 count
     → take count buffer ≡ part (place + 5) count bytes → 1 ≤ count → count ≤ 131072
@@ -186,7 +186,7 @@ record_read bytes place count buffer opened size body some few there =
       body_is = ap (λ (n : ℕ). part (place + 5) n bytes) whole ∙ sym body;
     }
 
--- the body behind some of the records
+-- the body after some of the records
 pub body_there : (bytes : List ℕ) (place : ℕ) (prefix : List (List ℕ)) (body : List ℕ)
     (back : List (List ℕ))
     → AreRecordsAt bytes place (prefix ++ body ∷ back)

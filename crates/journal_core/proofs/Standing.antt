@@ -1,4 +1,4 @@
--- A file whose walk ends at a closed gate stands for the records of the walk.
+-- A file whose walk ends at a closed commit byte represents the records of the walk.
 use Rattle.std.proofs.Common.{◌≡◌, ◌≢◌, ◌⊎◌, inl, inr, ℕ, zero, suc, ◌+◌, ◌≤◌, ◌==◌, ◌||◌, nat_lt}
 use Rattle.std.proofs.Common.{if◌then◌else◌, Bool, true, false, List, [], ◌∷◌, length, take}
 use Rattle.std.proofs.Common.{slice_index, Result, Ok, Err, refl, ap, sym, subst, ◌∙◌, arith}
@@ -20,7 +20,7 @@ use Rattle.journal_core.specs.Walk.{walk_from}
 use Rattle.journal_core.specs.Walk.{walk_of}
 use Rattle.journal_core.specs.declared.error.OpenError.TheVariants.{NotJournal}
 
--- a length that was read is spelled by its four bytes
+-- a length that was read is encoded by its four bytes
 size_encoded : (bytes : List ℕ) (place : ℕ) → IsBytes bytes → place + 5 ≤ length bytes
     → to_be_bytes w32 (size_at bytes place) ≡ part (place + 1) 4 bytes
 size_encoded bytes place are there =
@@ -121,7 +121,8 @@ walk_stands (suc most) bytes place list are is = elim (went (nat_lt place (lengt
 ]
 
 module _ {S E : Type 0} (fold : Fold S E) where
-  -- where a state was found behind the header, its records were tested and end at the closed gate
+  -- where a state was found after the header, its records were tested and end at the closed commit
+  -- byte
   closing_ok : {X : Type 0} (end : FileEnd) (r : Result X E) (x : X) → closing fold end r ≡ Ok x
       → (end ≡ at_commit_byte) × (r ≡ Ok x)
   closing_ok {X} at_commit_byte r x is = (refl, is)

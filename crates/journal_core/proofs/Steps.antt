@@ -1,4 +1,4 @@
--- The two writes of an append as steps of a disk: what its images stand for, at each moment and
+-- The two writes of an append as steps of a disk: what its crash states represent, at each time and
 -- afterwards.
 use Rattle.std.proofs.Common.{◌≡◌, inl, inr, ℕ, ◌+◌, ◌-◌, ◌≤◌, List, [], ◌∷◌, ◌++◌, length, Option}
 use Rattle.std.proofs.Common.{Some, None, IfSome, option_map, is_some, true, false, refl, ap, sym}
@@ -19,7 +19,7 @@ use Rattle.journal_core.proofs.Append.{opened_before}
 
 module _ {D : Type 0} (g : Ghosts D) (old mid new : D) (bytes : List ℕ) (body : List ℕ)
     (end : ℕ) where
-  -- the first write, at any moment
+  -- the first write, at any time
   pub first_step : (records : List (List ℕ)) → Only bytes (g.may_leave old)
       → Represents bytes records → end ≡ behind 16 records + 1 → (piece : List ℕ)
       → LeavesOnly g old mid (λ c. (d : List ℕ) × g.may_leave old d × Torn end piece d c)
@@ -32,7 +32,7 @@ module _ {D : Type 0} (g : Ghosts D) (old mid new : D) (bytes : List ℕ) (body 
       ). inl (torn_behind end piece records d c end_is torn
       (subst (λ (b : List ℕ). Represents b records) (sym (only d was)) is))) run
 
-  -- the second write, at any moment
+  -- the second write, at any time
   pub second_step : (records : List (List ℕ)) (staged_bytes : List ℕ)
       → Only staged_bytes (g.may_leave mid) → IsStaged staged_bytes records body
       → 1 ≤ length body → length body ≤ 131072 → end ≡ behind 16 records + 1
@@ -52,7 +52,7 @@ module _ {D : Type 0} (g : Ghosts D) (old mid new : D) (body piece : List ℕ) (
     (first : g.contents mid ≡ option_map (overwritten end piece) (g.contents old))
     (second : g.contents new ≡ option_map (overwritten (end - 1) (1 ∷ [])) (g.contents mid))
     (durable : IfSome (g.contents new) (λ b. Only b (g.may_leave new))) where
-  -- the bytes stand for the records from before, and the new one
+  -- the bytes represent the records from before, and the new one
   pub done_stands : (b : List ℕ) → g.contents new ≡ Some b
       → (was : List ℕ) × (g.contents old ≡ Some was) × (end ≡ behind 16 (records_of was) + 1)
       × Represents b (records_of was ++ body ∷ [])
@@ -140,7 +140,7 @@ module _ {D : Type 0} (g : Ghosts D) (old mid new : D) (body piece : List ℕ) (
           piece_is
           ∙ ap Some (opened_before (end - 1) end (tail_of body) b (omega arith) (omega arith))
 
--- An append at any moment.
+-- An append at any time.
 module _ {D : Type 0} (g : Ghosts D) (old mid new : D) (body piece : List ℕ) (end : ℕ)
     (settled : (b : List ℕ) → g.contents old ≡ Some b → IsDurable b (g.may_leave old) end)
     (piece_is : piece ≡ tail_of body) (some : 1 ≤ length body) (few : length body ≤ 131072) where
@@ -208,8 +208,8 @@ module _ {D : Type 0} (g : Ghosts D) (old : D) (place : ℕ) (read : List ℕ)
       found b contents ∙ ap (λ (n : ℕ). part place n b) four ∙ ap (λ (n : ℕ). part n 4 b) place_is
       ∙ length_there b 16 prefix body back (are b _ contents list_is))
 
--- Behind writes at each moment of which a crash leaves the old records, or these and one more, the
--- bytes still stand for their records.
+-- After writes at each time of which a crash leaves the old records, or these and one more, the
+-- bytes still represent their records.
 module _ {D : Type 0} (g : Ghosts D) (old new : D) (body : List ℕ)
     (contents_kept : is_some (g.contents new) ≡ is_some (g.contents old))
     (reads_image : (b : List ℕ) → g.contents new ≡ Some b → g.may_leave new b)

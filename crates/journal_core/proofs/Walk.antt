@@ -34,7 +34,7 @@ walk_record most bytes place body is =
     le-ltb (length bytes) (place + 5 + length body) (omega arith) in
     rw (inside, opened, head, body_found bytes place body is, size, above, below, whole) refl
 
--- behind the records that were read
+-- after the records that were read
 walk_read : (most : ℕ) (bytes : List ℕ) (place : ℕ) (read : List (List ℕ)) (end : FileEnd)
     → AreRecordsAt bytes place read → length read < most
     → ((left : ℕ) → walk_from (suc left) bytes (behind place read) ≡ ends_here end)

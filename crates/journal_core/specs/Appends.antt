@@ -10,11 +10,11 @@ use Rattle.journal_core.specs.declared.error.AppendError.{AppendError}
 use Rattle.journal_core.specs.declared.error.AppendError.TheVariants.{Broken, Full}
 use Rattle.journal_core.specs.declared.journal.Journal.{Journal}
 
--- By its answer it leaves the journal so. `Broken` comes exactly where an earlier append failed,
--- and `Full` exactly where the journal is sound and the file would pass its longest. The known
--- length comes no further than the closed gate behind the record. What is read then, what a crash
--- leaves then, and what it leaves at any moment of the call stands for the old records, or for
--- these and the new one, unless an append had failed before.
+-- By its answer it leaves the journal so. `Broken` comes exactly if an earlier append failed, and
+-- `Full` exactly if the journal is sound and the file would pass its longest. The known length
+-- comes no further than the closed commit byte after the record. What is read then, what a crash
+-- leaves then, and what it leaves at any time of the call represents the old records, or these and
+-- the new one, unless an append had failed before.
 pub record JournalAppends {D : Type 0} {g : Ghosts D} (body : Text) (old new : Journal D g)
     (result : Result (Unit {0}) AppendError) : Type 0 where
   pub leaves : AppendLeaves body old new result

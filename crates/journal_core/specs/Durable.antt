@@ -6,14 +6,14 @@ use Rattle.disk_core.specs.Disk.{Only}
 use Rattle.journal_core.specs.Format.{header, IsRecordAt, AreRecordsAt, behind, end_behind}
 use Rattle.journal_core.specs.Format.{IsClosedAt, Represents, records_of, records_before}
 
--- the bytes stand for their records, all of it is on the disk, and `end` is the place behind the
--- closed gate
+-- the bytes represent their records, all of it is on the disk, and `end` is the offset after the
+-- closed commit byte
 pub record IsDurable (bytes : Text) (images : Text → Type 0) (end : ℕ) : Type 0 where
   pub stands : Represents bytes (records_of bytes)
   pub end_is : end ≡ end_behind (records_of bytes)
   pub only : Only bytes images
 
--- the records before a place were read, in a file of which everything is on the disk
+-- the records before an offset were read, in a file of which everything is on the disk
 pub record IsReading (bytes : Text) (images : Text → Type 0) (place : ℕ) : Type 0 where
   pub begins : take 16 bytes ≡ header
   pub holds : AreRecordsAt bytes 16 (records_before bytes place)

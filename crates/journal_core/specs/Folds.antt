@@ -14,8 +14,8 @@ use Rattle.journal_core.specs.declared.error.OpenError.{OpenError}
 use Rattle.journal_core.specs.declared.error.OpenError.TheVariants.{NotJournal, BadLength, CutShort}
 use Rattle.journal_core.specs.declared.error.OpenError.TheVariants.{Failed, Memory}
 
--- A kind of journal: the state that a first record begins, and the state behind one record more,
--- each none where the record breaks the rules. Its faults: a record by its number that breaks the
+-- A kind of journal: the state that a first record begins, and the state after one record more,
+-- each none where the record breaks the rules. Its errors: a record by its number that breaks the
 -- rules, and a file that is no journal.
 pub record Fold (S E : Type 0) : Type 0 where
   pub begins : Text → Option S
@@ -23,33 +23,33 @@ pub record Fold (S E : Type 0) : Type 0 where
   pub bad_record : ℕ → E
   pub not_read : OpenError → E
 
--- what was read of a file: the records of its journal, and the state behind them
+-- what was read of a file: the records of its journal, and the state after them
 pub record Found (S : Type 0) : Type 0 where
   pub records : List Text
   pub state : S
 
--- the state behind records, the first of which has number k; or the number of the first one that
+-- the state after records, the first of which has number k; or the number of the first one that
 -- breaks the rules
 unfoldable pub taken_from : {S E : Type 0} → Fold S E → ℕ → S → List Text → Result S ℕ
 taken_from fold k s [] = Ok s
 taken_from fold k s (body ∷ bodies) =
     some_or k (fold.takes s body) >>= λ t. taken_from fold (k + 1) t bodies
 
--- The state behind all records of a journal, or the number of the first one that breaks the rules.
+-- The state after all records of a journal, or the number of the first one that breaks the rules.
 -- Without a record the first one is missing.
 unfoldable pub state_behind : {S E : Type 0} → Fold S E → List Text → Result S ℕ
 state_behind fold [] = Err 0
 state_behind fold (first ∷ bodies) =
     some_or 0 (fold.begins first) >>= λ s. taken_from fold 1 s bodies
 
--- where the records end at the closed gate, this; else the file is no journal
+-- where the records end at the closed commit byte, this; else the file is no journal
 abbrev pub closing : {S E X : Type 0} → Fold S E → FileEnd → Result X E → Result X E
 closing fold at_commit_byte found = found
 closing fold (at_bad_length place) found = Err (fold.not_read (BadLength place))
 closing fold (at_cut place) found = Err (fold.not_read (CutShort place))
 
--- The whole records are tested, and then what stands behind them. No record at all is missed only
--- at a closed gate.
+-- The whole records are tested, and then what follows them. That there is no record at all is an
+-- error only if the records end at a closed commit byte.
 abbrev pub tested : {S E : Type 0} → Fold S E → List Text → FileEnd → Result S E
 tested fold [] end = closing fold end (Err (fold.bad_record 0))
 tested fold (first ∷ bodies) end =
@@ -67,12 +67,12 @@ read_by fold bytes =
     if bytes_eq (take 16 bytes) header then walked fold (walk_of bytes)
     else Err (fold.not_read NotJournal)
 
--- the bytes that were told are refused so
+-- the bytes that the model knows are refused so
 abbrev pub AreRefused : {S E : Type 0} → Fold S E → Option Text → E → Type 0
 AreRefused fold contents why = IfSome contents (λ bytes. read_by fold bytes ≡ Err why)
 
 -- the cause of a file that is no journal, over the disk before the call and after it: the bytes, a
--- fault, or want of memory
+-- failure, or that memory ran out
 abbrev pub IsCauseOf : {D S E : Type 0} → Ghosts D → Fold S E → D → D → OpenError → Type 0
 IsCauseOf g fold old new NotJournal = AreRefused fold (g.contents old) (fold.not_read NotJournal)
 IsCauseOf g fold old new (BadLength place) =

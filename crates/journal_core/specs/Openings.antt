@@ -19,16 +19,16 @@ module _ {D : Type 0} {g : Ghosts D} where
   abbrev pub opening_disk : Opening D g → D
   opening_disk opening = opening.disk
 
-  -- the records that were read, where the disk tells its bytes
+  -- the records that were read, if the model knows the bytes of the disk
   abbrev pub read_list : Opening D g → Option (List Text)
   read_list opening =
       option_map (λ bytes. records_before bytes opening.place) (g.contents opening.disk)
 
-  -- the place of the next gate
+  -- the offset of the next commit byte
   abbrev pub next_place : Opening D g → ℕ
   next_place opening = opening.place
 
-  -- the closed gate was read
+  -- the closed commit byte was read
   abbrev pub is_ended : Opening D g → Bool
   is_ended opening = opening.ended
 
@@ -62,7 +62,7 @@ module _ {D : Type 0} {g : Ghosts D} where
     pub shorter : bytes_left new < bytes_left old
     pub goes_on : (is_ended new ≡ false) × (refusal new ≡ None)
 
-  -- the closed gate was read: the file stands for the records that were read
+  -- the closed commit byte was read: the file represents the records that were read
   pub record HasEnded (old new : Opening D g) : Type 0 where
     pub list : read_list new ≡ read_list old
     pub ended : is_ended new ≡ true
@@ -80,7 +80,7 @@ module _ {D : Type 0} {g : Ghosts D} where
     pub goes_on : is_ended new ≡ is_ended old
 
   -- What every step does. A refusal that was given is given again, and so is the end; a fresh
-  -- refusal has its cause, and on a file that stands for records it is a fault of the disk.
+  -- refusal has its cause, and on a file that represents records it is a failure of the disk.
   pub record HasStepped (old new : Opening D g) (ended : Bool)
       (why : Option OpenError) : Type 0 where
     pub again : IfSome (refusal old) (λ kept. (why ≡ Some kept)
@@ -106,7 +106,7 @@ module _ {D : Type 0} {g : Ghosts D} where
   Steps old new (Ok false) = HasEnded old new × HasStepped old new true None
   Steps old new (Err why) = HasRefused old new why × HasStepped old new false (Some why)
 
-  -- the same of `next`, which lends the body
+  -- the same of `next`, which borrows the body
   abbrev pub Nexts : Opening D g → Opening D g → Result (Option (Bor Text)) OpenError → Type 0
   Nexts old new (Ok (Some body)) = (last_body new ≡ body.now) × HasRead old new
       × HasStepped old new false None

@@ -9,7 +9,7 @@ use Rattle.journal_core.specs.declared.error.OpenError.{OpenError}
 use Rattle.journal_core.specs.declared.error.OpenError.TheVariants.{NotJournal, BadLength, CutShort}
 use Rattle.journal_core.specs.declared.error.OpenError.TheVariants.{Failed, Memory}
 
--- the cause of a refusal at a place, over the disk before the call and after it
+-- the cause of a refusal at an offset, over the disk before the call and after it
 abbrev pub HasReason : {D : Type 0} → Ghosts D → D → D → ℕ → OpenError → Type 0
 HasReason g old new place NotJournal = IfSome (g.contents old) (λ bytes. take 16 bytes ≢ header)
 HasReason g old new place (BadLength at) = (at ≡ place)
@@ -19,7 +19,7 @@ HasReason g old new place (CutShort at) = (at ≡ place)
 HasReason g old new place Failed = Rose (g.faults old) (g.faults new)
 HasReason g old new place Memory = Unit {0}
 
--- behind the header a file is refused for what stands at the place, or for a fault
+-- after the header a file is refused for what stands at the offset, or for a failure
 abbrev pub IsOfRecord : OpenError → Type 0
 IsOfRecord NotJournal = ⊥
 IsOfRecord (BadLength at) = Unit {0}
@@ -27,7 +27,7 @@ IsOfRecord (CutShort at) = Unit {0}
 IsOfRecord Failed = Unit {0}
 IsOfRecord Memory = ⊥
 
--- the header is refused, or a fault told, or want of memory
+-- the header is refused, or the disk failed, or memory ran out
 abbrev pub IsOfHeader : OpenError → Type 0
 IsOfHeader NotJournal = Unit {0}
 IsOfHeader (BadLength at) = ⊥

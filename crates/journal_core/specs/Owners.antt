@@ -12,8 +12,8 @@ use Rattle.journal_core.specs.declared.error.AppendError.{AppendError}
 use Rattle.journal_core.specs.declared.error.AppendError.TheVariants.{Broken, Failed, Full}
 use Rattle.journal_core.specs.declared.journal.Journal.{Journal}
 
--- its disk, the records that it shows where the disk tells its bytes, the end of its journal,
--- whether an append has failed, and its state
+-- its disk, the records that it shows if the model knows the bytes of the disk, the end of its
+-- journal, whether an append has failed, and its state
 pub record Owner (D S : Type 0) : Type 0 where
   pub disk : D
   pub records : Option (List Text)
@@ -40,7 +40,7 @@ module _ {D S : Type 0} where
     pub end : new.end ≡ old.end
     pub broken : new.broken ≡ old.broken
 
-  -- a call of the disk failed: the owner is to be opened again, and has the state and the end that
+  -- a call of the disk failed: the owner has to be opened again, and has the state and the end that
   -- it had
   pub record OwnerHasBroken (g : Ghosts D) (old new : Owner D S) : Type 0 where
     pub cause : Rose (g.faults old.disk) (g.faults new.disk)
@@ -66,8 +66,8 @@ module _ {D S : Type 0} where
   OwnerIsRefused g (Some Broken) old new = OwnerIsUntouched old new
   OwnerIsRefused g (Some Full) old new = OwnerIsUntouched old new
 
-  -- What a call that appends this record leaves, by its answer. It is told which of the refusals
-  -- are the journal's.
+  -- What a call that appends this record leaves, by its answer. A parameter says which of the
+  -- refusals are the journal's.
   abbrev pub OwnerLeaves : {X E : Type 0} → Ghosts D → (E → Option AppendError) → Text → S
       → Owner D S → Owner D S → Result X E → Type 0
   OwnerLeaves g of_journal body next old new (Ok answer) = OwnerHasGrown g body next old new
@@ -75,9 +75,9 @@ module _ {D S : Type 0} where
       OwnerIsRefused g (of_journal why) old new
 
   -- What a call does that appends this record, which makes this state of the old one. By its answer
-  -- it leaves the owner so, and at Ok a crash leaves the records with this one. At any moment of
-  -- the call, and behind it, a crash leaves the old records, or these and this one, unless an
-  -- append had failed before.
+  -- it leaves the owner so, and at Ok a crash leaves the records with this one. At any time of the
+  -- call, and after it, a crash leaves the old records, or these and this one, unless an append had
+  -- failed before.
   pub record OwnerAppends {X E : Type 0} (g : Ghosts D) (of_journal : E → Option AppendError)
       (body : Text) (next : S) (old new : Owner D S) (result : Result X E) : Type 0 where
     pub leaves : OwnerLeaves g of_journal body next old new result

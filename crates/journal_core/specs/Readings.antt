@@ -13,7 +13,7 @@ module _ {D : Type 0} {g : Ghosts D} {S E : Type 0} where
     pub unrefused : refusal opening ≡ None
     pub made : IfSome (read_list opening) (λ list. state_behind fold list ≡ Ok state)
 
-  -- all records were read up to the closed gate, and they make this state
+  -- all records were read up to the closed commit byte, and they make this state
   pub record HasFound (fold : Fold S E) (state : S) (opening : Opening D g) : Type 0 where
     pub ended : is_ended opening ≡ true
     pub made : IfSome (read_list opening) (λ list. state_behind fold list ≡ Ok state)

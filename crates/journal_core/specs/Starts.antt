@@ -11,7 +11,7 @@ use Rattle.journal_core.specs.declared.error.StartError.{StartError}
 use Rattle.journal_core.specs.declared.error.StartError.TheVariants.{Failed, NotEmpty, Memory}
 use Rattle.journal_core.specs.declared.journal.Journal.{Journal}
 
--- An empty disk became a journal of one record, and every image of it stands for that record.
+-- An empty disk became a journal of one record, and every crash state of it represents that record.
 pub record HasStarted {D : Type 0} {g : Ghosts D} (first : Text) (old : D)
     (new : Journal D g) : Type 0 where
   pub empty : IfSome (g.contents old) (λ bytes. bytes ≡ [])
@@ -30,7 +30,7 @@ pub record HasFailed {D : Type 0} (g : Ghosts D) (old new : D) : Type 0 where
   pub later : g.faults old ≤ g.faults new
   pub cause : Rose (g.faults old) (g.faults new)
 
--- the disk that is handed back, by the refusal
+-- the disk that a refusal returns, by its reason
 abbrev pub IsNotStarted : {D : Type 0} → Ghosts D → D → D → StartError → Type 0
 IsNotStarted g old new Failed = HasFailed g old new
 IsNotStarted g old new NotEmpty =

@@ -5,13 +5,14 @@ use Rattle.std.specs.Prelude.{length, slice_index}
 use Rattle.byte_formats.specs.Types.{Text}
 use Rattle.journal_core.specs.Format.{size_at, body_at}
 
--- at a closed gate; at a place where an open record has a bad length; where the file ends too early
+-- at a closed commit byte; at an offset where an open record has a bad length; where the file ends
+-- too early
 pub data FileEnd : Type 0 where
   at_commit_byte : FileEnd
   at_bad_length : ℕ → FileEnd
   at_cut : ℕ → FileEnd
 
--- the whole records of a file from the first one on, and how it ends behind them
+-- the whole records of a file from the first one on, and how it ends after them
 pub record FileWalk : Type 0 where
   pub records : List Text
   pub end : FileEnd
@@ -24,7 +25,7 @@ ends_here end = record { records = []; end = end }
 abbrev pub with_record : Text → FileWalk → FileWalk
 with_record body walk = record { records = body ∷ walk.records; end = walk.end }
 
--- from a place on, at most so many steps
+-- from an offset on, at most so many steps
 abbrev pub walk_from : ℕ → Text → ℕ → FileWalk
 walk_from zero bytes place = ends_here (at_cut place)
 walk_from (suc most) bytes place =
@@ -38,6 +39,6 @@ walk_from (suc most) bytes place =
     (walk_from most bytes (place + 5 + size_at bytes place))))))
     else ends_here (at_cut place)
 
--- behind the header
+-- after the header
 unfoldable pub walk_of : Text → FileWalk
 walk_of bytes = walk_from (length bytes) bytes 16

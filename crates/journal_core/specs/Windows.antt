@@ -5,7 +5,7 @@ use Rattle.byte_formats.specs.Types.{Text}
 use Rattle.disk_core.specs.Disk.{part}
 use Rattle.journal_core.specs.declared.window.Window.{Window}
 
--- the front of its buffer holds the bytes of the file from one place to the other
+-- a prefix of its buffer holds the bytes of the file from one offset to the other
 pub record Holds (window : Window) (bytes : Text) : Type 0 where
   pub prefix : take (window.to - window.from) window.buffer.items
       ≡ part window.from (window.to - window.from) bytes

@@ -11,12 +11,12 @@ use Rattle.journal_core.specs.declared.error.AppendError.{AppendError}
 use Rattle.journal_core.specs.declared.error.AppendError.TheVariants.{Failed, Broken, Full}
 use Rattle.journal_core.specs.declared.journal.Journal.{Journal}
 
--- each image that a crash now may leave stands for these records
+-- each crash state that a crash now may leave represents these records
 abbrev pub AllRepresent : {D : Type 0} → Ghosts D → D → List Text → Type 0
 AllRepresent g disk list = (c : Text) → g.may_leave disk c → Represents c list
 
--- Where the range that was read lies within a body of these records, from so many of its bytes on,
--- this is that part of the body. The body behind some of the records begins four bytes behind their
+-- If the range that was read lies within a body of these records, from so many of its bytes on,
+-- this is that part of the body. The body after some of the records begins four bytes after their
 -- end.
 abbrev pub HoldsBody : ℕ → Text → List Text → Type 0
 HoldsBody place read list =
@@ -25,13 +25,13 @@ HoldsBody place read list =
     → place ≡ end_behind prefix + 4 + from → from + length read ≤ length body
     → read ≡ part from (length read) body
 
--- Where the four bytes before a body were read, these are its length.
+-- The four bytes before a body, if they were read, are its length.
 abbrev pub HoldsLength : ℕ → Text → List Text → Type 0
 HoldsLength place read list = (prefix : List Text) (body : Text) (back : List Text)
     → list ≡ prefix ++ body ∷ back
     → place ≡ end_behind prefix → length read ≡ 4 → read ≡ to_be_bytes w32 (length body)
 
--- Where the length of the body behind some of these records stands at a place, the number is this
+-- If the length of the body after some of these records stands at an offset, the number is this
 -- length.
 abbrev pub HasSize : ℕ → ℕ → List Text → Type 0
 HasSize place size list = (prefix : List Text) (body : Text) (back : List Text)
@@ -43,7 +43,7 @@ module _ {D : Type 0} {g : Ghosts D} where
   abbrev pub disk_of : Journal D g → D
   disk_of journal = journal.disk
 
-  -- the place behind the closed gate
+  -- the offset after the closed commit byte
   abbrev pub end_of : Journal D g → ℕ
   end_of journal = journal.end
 
@@ -51,7 +51,7 @@ module _ {D : Type 0} {g : Ghosts D} where
   abbrev pub is_broken : Journal D g → Bool
   is_broken journal = journal.broken
 
-  -- the records, where the disk tells its bytes
+  -- the records, if the model knows the bytes of the disk
   abbrev pub records : Journal D g → Option (List Text)
   records journal = option_map records_of (g.contents journal.disk)
 
@@ -61,13 +61,13 @@ module _ {D : Type 0} {g : Ghosts D} where
     pub end : new.end ≡ old.end
     pub broken : new.broken ≡ old.broken
 
-  -- a call of the disk failed, and the journal is to be opened again
+  -- a call of the disk failed, and the journal has to be opened again
   pub record HasBroken (old new : Journal D g) : Type 0 where
     pub cause : Rose (g.faults old.disk) (g.faults new.disk)
     pub broken : new.broken ≡ true
     pub end : new.end ≡ old.end
 
-  -- one record more, and every image of the disk stands for the records with it
+  -- one record more, and every crash state of the disk represents the records with it
   pub record HasAppended (body : Text) (old new : Journal D g) : Type 0 where
     pub records : records new ≡ option_map (λ list. list ++ body ∷ []) (records old)
     pub end : new.end ≡ old.end + 5 + length body
@@ -75,7 +75,7 @@ module _ {D : Type 0} {g : Ghosts D} where
     pub sound : new.broken ≡ false
     pub all : IfSome (g.contents new.disk) (λ bytes. AllRepresent g new.disk (records_of bytes))
     pub fine : g.faults new.disk ≡ g.faults old.disk
-    -- the file is as it was, with the record written over it from the closed gate on
+    -- the file is as it was, with the record written over it from the closed commit byte on
     pub written : g.contents new.disk
         ≡ option_map (overwritten (old.end - 1) (record_bytes body)) (g.contents old.disk)
 

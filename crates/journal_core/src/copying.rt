@@ -48,7 +48,7 @@ fn copy_piece<D: Disk, O: Sink>(
     }
 }
 
-// Writes so many bytes of the journal, from a place on.
+// Writes so many bytes of the journal, from an offset on.
 fn copy<D: Disk, O: Sink>(
     journal: &mut Journal<D>,
     place: u64,
@@ -74,7 +74,7 @@ fn copy<D: Disk, O: Sink>(
     Ok(())
 }
 
-// The length of the body behind a gate. A disk may tell any; it is no more than there can be.
+// The length of the body after a commit byte. A disk may give any; it is no more than there can be.
 fn body_size<D: Disk>(journal: &mut Journal<D>, commit_byte: u64) -> Result<u64, Failed>
     requires { commit_byte + 6 ≤ end_of journal.old }
     ensures within { IfOk result (λ size. commit_byte + 6 + size ≤ end_of journal.old) }
@@ -92,7 +92,8 @@ fn body_size<D: Disk>(journal: &mut Journal<D>, commit_byte: u64) -> Result<u64,
     Ok((u32::from_be_bytes(size) as u64).min(most))
 }
 
-// Writes the record behind a gate, with its length, and answers the place of the next gate.
+// Writes the record after a commit byte, with its length, and answers the offset of the next commit
+// byte.
 fn copy_record<D: Disk, O: Sink>(
     journal: &mut Journal<D>,
     commit_byte: u64,
@@ -125,7 +126,7 @@ fn copy_record<D: Disk, O: Sink>(
     Ok(commit_byte + 5 + size)
 }
 
-// Writes the records from a gate on, each with its length, up to the end of the journal.
+// Writes the records from a commit byte on, each with its length, up to the end of the journal.
 fn copy_records<D: Disk, O: Sink>(
     journal: &mut Journal<D>,
     first: u64,
@@ -152,7 +153,7 @@ fn copy_records<D: Disk, O: Sink>(
     Ok(())
 }
 
-/// Writes the records behind an end, each behind its length of four bytes, the highest first. It
+/// Writes the records after an end, each after its length of four bytes, the highest first. It
 /// writes while it reads, takes no memory, and leaves the journal as it was. It stops at the end of
 /// the journal, which an append that fails leaves where it was.
 ///

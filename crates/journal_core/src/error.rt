@@ -7,7 +7,7 @@ ghost use Rattle.std.specs.Prelude.{◌≡◌};
 
 use mtc_io::{Failed, Memory};
 
-/// A refused call hands the disk back.
+/// A refused call returns the disk.
 #[derive(Debug, Drop)]
 pub struct Refused<D, E> {
     pub disk: D,
@@ -37,9 +37,9 @@ pub enum StartError {
 pub enum OpenError {
     /// The file doesn't begin with the header.
     NotJournal,
-    /// The length in the record at this place is 0 or above 131,072.
+    /// The length in the record at this offset is 0 or above 131,072.
     BadLength(u64),
-    /// The file ends before the gate at this place, or within the record that begins there.
+    /// The file ends before the commit byte at this offset, or within the record that begins there.
     CutShort(u64),
     /// The disk failed.
     Failed,
@@ -54,9 +54,9 @@ pub enum AppendError {
     Broken,
     /// The file would pass 2^31 bytes.
     Full,
-    /// The disk failed: the journal holds the old records, or these and the new one, and is to be
-    /// opened again, over a disk that is lent anew. An open file whose sync failed answers nothing
-    /// any more.
+    /// The disk failed: the journal holds the old records, or these and the new one, and the caller
+    /// has to open it again, over a disk that is opened again. An open file whose sync failed
+    /// answers no later call.
     Failed,
 }
 

@@ -27,7 +27,7 @@ pub struct FirstRecord {
     ghost packed: { take (22 + size) buffer.items ≡ new_file_of (part 21 size buffer.items) },
 }
 
-// The header, the record behind a closed gate, and then the gate.
+// The header, the record after a closed commit byte, and then the commit byte.
 fn write_first<D: Disk>(disk: &mut D, bytes: &[u8]) -> Result<(), Failed>
     requires some { 22 ≤ length bytes.now }
     requires few { length bytes.now ≤ 131094 }
@@ -64,8 +64,8 @@ impl FirstRecord {
     /// takes no memory.
     ///
     /// Errors, in the order of the tests: `Failed`, `NotEmpty` where the disk holds bytes. A first
-    /// write that fails may leave anything on a disk that was empty; one with bytes was only looked
-    /// at. The disk is handed back.
+    /// write that fails may leave anything on a disk that was empty; one with bytes was only read.
+    /// A refusal returns the disk.
     pub fn start<D: Disk>(self, mut disk: D) -> Result<Journal<D>, Refused<D, StartError>>
         ensures ok { IfOk result (HasStarted (first_body self) disk) }
         ensures err { IfErr result (λ e. IsNotStarted D.Disk disk e.disk e.why) }
@@ -97,7 +97,7 @@ impl FirstRecord {
 ///
 /// Errors, in the order of the tests: `Memory` for the buffer, `Failed`, `NotEmpty` where the disk
 /// holds bytes. A first write that fails may leave anything on a disk that was empty; one with
-/// bytes was only looked at. The disk is handed back.
+/// bytes was only read. A refusal returns the disk.
 pub fn start<D: Disk>(
     alloc: Global,
     disk: D,

@@ -22,7 +22,7 @@ pub(crate) fn buffer(alloc: Global) -> Result<Vec<u8>, Memory>
     Ok(vec![in alloc; 0; LONGEST_WRITE]?)
 }
 
-// A piece into the buffer, behind what is there before a place.
+// A piece into the buffer at an offset, after the bytes that are there.
 fn put(buffer: &mut Vec<u8>, at: usize, piece: &[u8])
     requires { at + length piece.now ≤ length buffer.old.items }
     ensures length { length buffer.new.items ≡ length buffer.old.items }
@@ -32,8 +32,8 @@ fn put(buffer: &mut Vec<u8>, at: usize, piece: &[u8])
     buffer[at..at + piece.len()].copy_from_slice(piece);
 }
 
-/// What an append writes behind the closed gate: the length of the body, the body and the next
-/// gate, closed.
+/// What an append writes after the closed commit byte: the length of the body, the body and the
+/// next commit byte, closed.
 pub(crate) fn pack(buffer: &mut Vec<u8>, body: &[u8])
     requires capacity { 5 + length body.now ≤ length buffer.old.items }
     requires few { length body.now ≤ 131072 }
@@ -45,7 +45,8 @@ pub(crate) fn pack(buffer: &mut Vec<u8>, body: &[u8])
     put(buffer, 4 + body.len(), &[0]);
 }
 
-/// What the first write of a new file holds: the header, a closed gate and what an append writes.
+/// What the first write of a new file holds: the header, a closed commit byte and what an append
+/// writes.
 pub(crate) fn pack_first(buffer: &mut Vec<u8>, body: &[u8])
     requires capacity { 22 + length body.now ≤ length buffer.old.items }
     requires few { length body.now ≤ 131072 }

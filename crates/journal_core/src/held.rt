@@ -11,7 +11,7 @@ use crate::window::Window;
 use disk_core::{Disk, look_at};
 use mtc_io::Failed;
 
-// Bytes from a place on, into the front of the buffer.
+// Bytes from an offset on, into a prefix of the buffer.
 fn read_prefix<D: Disk>(
     disk: &mut D,
     place: u64,
@@ -30,8 +30,8 @@ fn read_prefix<D: Disk>(
     Ok(())
 }
 
-/// The place in the window of so many bytes of the file. Where not all of them are there it reads
-/// on from the first of them, as far as the buffer reaches.
+/// The offset in the window of so many bytes of the file. If not all of them are there, it reads on
+/// from the first of them, as far as the buffer reaches.
 pub(crate) fn hold<D: Disk>(
     disk: &mut D,
     size: u64,

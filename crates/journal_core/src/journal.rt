@@ -35,7 +35,7 @@ pub struct Journal<D: Disk> {
         → IsDurable b (D.Disk.may_leave disk) end } by { Prim.hlevel (props, IsDurable-prop) },
 }
 
-// A drop in one step: a derived one is proved field by field wherever a value is let go.
+// A drop in one step: a derived one is proved field by field wherever a value is dropped.
 impl<D: Disk + Drop> Drop for Journal<D> {
     fn drop(self) {
         let Journal {
@@ -52,9 +52,10 @@ impl<D: Disk> Journal<D> {
     ghost use Rattle.journal_core.specs.Words.{disk_of, end_of, is_broken, records, AppendLeaves};
     ghost use Rattle.journal_core.specs.Words.{HoldsBody, HoldsLength, HasSize};
 
-    /// Adds a record of 1 to 131,072 bytes. At Ok a crash leaves the records with it; at any moment
+    /// Adds a record of 1 to 131,072 bytes. At Ok a crash leaves the records with it; at any time
     /// of the call it leaves the old records, or these and the new one. Whatever it answers, it
-    /// brings the known length of the disk no further than the closed gate behind this record.
+    /// brings the known length of the disk no further than the closed commit byte after this
+    /// record.
     ///
     /// Errors, in the order of the tests: `Broken` where an earlier call answered `Failed`; `Full`
     /// where the file would pass 2^31 bytes; `Failed`. The first two make no call of the disk. It
@@ -67,10 +68,10 @@ impl<D: Disk> Journal<D> {
         self.put(body)
     }
 
-    /// Fills `out` with the bytes from a place on. Its range ends at or below the end. Over the
+    /// Fills `out` with the bytes from an offset on. Its range ends at or below the end. Over the
     /// range of a body, or of a part of one, it gives that, and over the four bytes before a body
-    /// its length, the highest byte first. The first body lies at place 21, each later one 5 bytes
-    /// behind the end of the one before. So it does also where an append has failed.
+    /// its length, the highest byte first. The first body lies at offset 21, each later one 5 bytes
+    /// after the end of the one before. It does so even if an append has failed.
     pub fn read(&mut self, place: u64, out: &mut [u8]) -> Result<(), Failed>
         requires { place + length out.old ≤ end_of self.old }
         ensures read { OnOk result (IfSome (D.contents (disk_of self.old))
@@ -88,8 +89,8 @@ impl<D: Disk> Journal<D> {
         Ok(())
     }
 
-    /// The number in the four bytes at a place. Where they stand before a body it is its length, at
-    /// most 131,072. So it is also where an append has failed.
+    /// The number in the four bytes at an offset. Before a body these are its length, at most
+    /// 131,072. This holds even if an append has failed.
     pub fn read_size(&mut self, place: u64) -> Result<u32, Failed>
         requires { place + 4 ≤ end_of self.old }
         ensures size { IfOk result (λ size. IfSome (records self.old) (HasSize place size)) }
@@ -105,15 +106,15 @@ impl<D: Disk> Journal<D> {
         Ok(number(&length))
     }
 
-    /// The place behind the closed gate. The next body would begin four bytes further on.
+    /// The offset after the closed commit byte. The next body would begin four bytes further on.
     pub fn end(&self) -> u64
         ensures { result ≡ end_of self.now }
     {
         self.end
     }
 
-    /// The end behind a first record of so many bytes, or that of the journal where it comes first.
-    /// The disk isn't asked.
+    /// The end after a first record of so many bytes, or that of the journal if it comes first. The
+    /// call doesn't read the disk.
     pub fn end_behind_first(&self, size: u64) -> u64
         requires { size ≤ 131072 }
         ensures least { end_behind [] ≤ result }

@@ -11,21 +11,22 @@ ghost use Rattle.journal_core.specs.Words.{AllRepresent};
 use crate::format::{HEADER, LONGEST_WRITE, MAX_BODY};
 use disk_core::Disk;
 
-/// A file stands for one list of records at most.
+/// A file represents one list of records at most.
 pub fn law_a_file_represents_one_list_at_most()
     ensures { (bytes : Text) (one other : List Text) → Represents bytes one
         → Represents bytes other → one ≡ other }
 {}
 
 /// One write over a file of what it has there puts no record at stake: however it is torn, the file
-/// stands for the records that it stood for.
+/// represents the records that it represented.
 pub fn law_records_stay_that_are_written_again()
     ensures { (place : ℕ) (piece old new : Text) (list : List Text) → Represents old list
         → part place (length piece) old ≡ piece → Torn place piece old new → Represents new list }
 {}
 
-/// Each file that stands for records begins with the header. Neither the bytes of a new file's
-/// first write nor those of a record from its gate on are more than those of the longest write.
+/// Each file that represents records begins with the header. Neither the bytes of a new file's
+/// first write nor those of a record from its commit byte on are more than those of the longest
+/// write.
 pub fn law_writes_have_a_longest()
     ensures header { (bytes : Text) (list : List Text) → Represents bytes list
         → take 16 bytes ≡ HEADER }
@@ -35,7 +36,7 @@ pub fn law_writes_have_a_longest()
         → length (record_bytes body) ≤ LONGEST_WRITE }
 {}
 
-/// Of each kind of journal: a file is read as one exactly where it stands for records that make the
+/// For each kind of journal: a file is read as one exactly if it represents records that make the
 /// state.
 pub fn law_files_are_read_by_their_records<S, E>()
     ensures read { (fold : Fold S E) (bytes : Text) (list : List Text) (state : S)
@@ -46,9 +47,9 @@ pub fn law_files_are_read_by_their_records<S, E>()
         → Represents bytes found.records × (state_behind fold found.records ≡ Ok found.state) }
 {}
 
-/// Of each kind of journal: where every image of a disk stands for records that make a state, a
-/// crash leaves a file that is read as these; and what a crash at any moment leaves is read as a
-/// journal only where it stands for records that make its state.
+/// For each kind of journal: if every crash state of a disk represents records that make a state, a
+/// crash leaves a file that is read as these; and what a crash at any time leaves is read as a
+/// journal only if it represents records that make its state.
 pub fn law_images_are_read_by_their_records<D: Disk, S, E>()
     ensures read { (fold : Fold S E) (disk : D) (list : List Text) (state : S)
         → AllRepresent D.Disk disk list → state_behind fold list ≡ Ok state

@@ -1,15 +1,15 @@
 //! Journals: files of records, of which a crash leaves all that were appended.
 //!
-//! A journal is a header and records. A record counts once its gate, one byte, is open. [`start`]
-//! begins a journal on an empty disk, [`Opening`] reads one record by record, and
-//! [`Journal::append`] adds one: it writes the record behind a closed gate, syncs, opens the gate,
-//! and syncs. So a crash at any moment leaves the records from before, or these and the new one,
-//! and once the call has answered Ok it leaves the latter. [`copy_behind`] writes the records from
-//! one of its ends on to a sink.
+//! A journal is a header and records. A record counts once its commit byte, one byte, is open.
+//! [`start`] begins a journal on an empty disk, [`Opening`] reads one record by record, and
+//! [`Journal::append`] adds one: it writes the record after a closed commit byte, syncs, opens the
+//! commit byte, and syncs. So a crash at any time leaves the records from before, or these and the
+//! new one, and once the call has answered Ok it leaves the latter. [`copy_behind`] writes the
+//! records from one of its ends on to a sink.
 //!
-//! A layer above speaks of lists of records, and may read one again at its place: a file stands for
-//! a list, every image of a disk stands for a list, or for one of two lists while a record is
-//! appended.
+//! A layer above speaks of lists of records, and may read one again at its offset: a file
+//! represents a list, every crash state of a disk represents a list, or one of two lists while a
+//! record is appended.
 #![tactic(auto)]
 
 mod copying;

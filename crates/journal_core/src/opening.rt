@@ -94,7 +94,7 @@ impl<D: Disk> Opening<D> {
     /// Takes a file to read it as a journal. It syncs first, so that what is read is on the disk.
     ///
     /// Errors, in the order of the tests: `Failed`; `NotJournal` where the first sixteen bytes
-    /// aren't the header; `Memory` for the buffer. The disk is handed back.
+    /// aren't the header; `Memory` for the buffer. A refusal returns the disk.
     pub fn begin(alloc: Global, mut disk: D) -> Result<Opening<D>, Refused<D, OpenError>>
         ensures ok { IfOk result (HasBegun disk) }
         ensures reason { IfErr result (λ e. HasReason D.Disk disk e.disk 0 e.why) }
@@ -127,11 +127,12 @@ impl<D: Disk> Opening<D> {
         })
     }
 
-    /// The body of the next record, or none at the closed gate, and then none again.
+    /// The body of the next record, or none at the closed commit byte, and then none again.
     ///
     /// Errors, of which each is given again from then on: `CutShort` where the file ends before the
-    /// gate or within the record; `BadLength` where an open record's length is 0 or above 131,072;
-    /// `Failed`. A file that is a journal is refused for a fault alone. It takes no memory.
+    /// commit byte or within the record; `BadLength` where an open record's length is 0 or above
+    /// 131,072; `Failed`. A file that is a journal is refused only for a failure of the disk. It
+    /// takes no memory.
     pub fn next(&mut self) -> Result<Option<&[u8]>, OpenError>
         ensures* after_borrow { sem 𝓛 (Rests (the_row D.row D.Disk) self.entry
             (λ new. Nexts self.old new result)) }
@@ -150,8 +151,8 @@ impl<D: Disk> Opening<D> {
         self.count
     }
 
-    /// The place of the next gate, behind the records that were read. The length of the next body
-    /// stands one byte further on. What a journal calls its end lies there too.
+    /// The offset of the next commit byte, after the records that were read. The length of the next
+    /// body stands one byte further on. What a journal calls its end lies there too.
     pub fn place(&self) -> u64
         ensures value { result ≡ next_place self.now }
         ensures list { IfSome (read_list self.now) (λ list. result + 1 ≡ end_behind list) }
@@ -159,7 +160,7 @@ impl<D: Disk> Opening<D> {
         self.place
     }
 
-    /// The journal, once its closed gate was read.
+    /// The journal, once its closed commit byte was read.
     pub fn ready(self) -> Journal<D>
         requires { is_ended self ≡ true }
         ensures list { records result ≡ read_list self }

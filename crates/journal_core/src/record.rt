@@ -45,7 +45,7 @@ fn read_commit_byte<D: Disk>(
     Ok(window.buffer[commit_byte])
 }
 
-/// The number that four bytes spell, the highest first.
+/// The number that four bytes encode, the highest first.
 pub(crate) fn number(bytes: &[u8]) -> u32
     requires { length bytes.now ≡ 4 }
     ensures { to_be_bytes w32 result ≡ bytes.now }
@@ -53,7 +53,7 @@ pub(crate) fn number(bytes: &[u8]) -> u32
     u32::from_be_bytes([bytes[0], bytes[1], bytes[2], bytes[3]])
 }
 
-// The length of the body, which stands behind the gate at the place.
+// The length of the body, which follows the commit byte at the offset.
 fn read_size<D: Disk>(
     disk: &mut D,
     size: u64,
@@ -75,7 +75,7 @@ fn read_size<D: Disk>(
     Ok(number(&window.buffer[commit_byte + 1..commit_byte + 5]))
 }
 
-// The body behind an open gate.
+// The body after an open commit byte.
 fn read_body<D: Disk>(
     disk: &mut D,
     size: u64,
@@ -118,7 +118,8 @@ fn read_body<D: Disk>(
     })
 }
 
-/// The body of the record at a place, or none at a closed gate. It lies in the window then.
+/// The body of the record at an offset, or none at a closed commit byte. It lies in the window
+/// then.
 pub(crate) fn read_record<D: Disk>(
     disk: &mut D,
     size: u64,

@@ -3,7 +3,7 @@
 ghost use Rattle.std.specs.Prelude.{◌≡◌, ◌≤◌, ◌+◌, length};
 ghost use Rattle.byte_formats.specs.Types.{Text};
 
-/// The bytes of a file from one place to another, in the front of a buffer.
+/// The bytes of a file from one offset to another, in a prefix of a buffer.
 #[derive(Drop)]
 pub(crate) struct Window {
     pub(crate) buffer: Vec<u8>,

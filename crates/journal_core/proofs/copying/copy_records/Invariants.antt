@@ -4,7 +4,7 @@ use Rattle.journal_core.specs.Copies.{IsOnlyRead, sized_text}
 use Rattle.journal_core.proofs.Copies.{IsCopied, OfRecords}
 use Rattle.journal_core.proofs.copying.copy_records.Given as goal
 
--- the records before the gate were written
+-- the records before the commit byte were written
 pub record Invariant (g : goal.Over) (l : goal.Live-loop-commit_byte g) : Type 0 where
   pub end : l.end ≡ end_of l.initial.journal
   pub within : l.commit_byte + 1 ≤ l.end

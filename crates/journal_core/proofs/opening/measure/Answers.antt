@@ -6,7 +6,7 @@ use Rattle.disk_core.proofs.Moments.{only_read_on}
 use Rattle.journal_core.proofs.Modelled.{if_modelled, at_contents}
 use Rattle.journal_core.proofs.opening.measure.Goals as goal
 
--- what a crash leaves behind a sync and a look
+-- what a crash leaves after a sync and a read
 durable_on : {D : Type 0} (g : Ghosts D) (old new : D) → OnlyReads g old new
     → IfSome (g.contents old) (λ b. Only b (g.may_leave old))
     → IfSome (g.contents new) (λ b. Only b (g.may_leave new))

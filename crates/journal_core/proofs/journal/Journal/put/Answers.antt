@@ -139,7 +139,7 @@ returns-clause-any_moment g c = λ sound.
     c.in_ok-write_synced.ensures.written c.in_ok-write_synced.ensures.durable
     c.write_synced-2.ensures.any_moment
 
--- whether records are told
+-- whether the model knows the records
 some_records : (old new : Option (List ℕ)) → is_some new ≡ is_some old
     → is_some (option_map records_of new) ≡ is_some (option_map records_of old)
 some_records None None is = is
