@@ -64,7 +64,7 @@ module _ {M X R : Type 0} (m : Machines M X R) where
     records_stay old new it body why did made =
         (stay_kept (Makes m it) old new body why did made.durable).1
 
-    -- at any moment of the call, and behind it, of the durable records
+    -- at any time of the call, and after it, of the durable records
     moments : (old new : Journal D g) (body : Text) (result : Result (Unit {0}) AppendError)
         → JournalAppends body old new result → is_broken old ≡ false
         → IfSome (durable_records old) (λ list.

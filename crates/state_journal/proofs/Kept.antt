@@ -17,9 +17,9 @@ use Rattle.journal_core.proofs.Owners.{was_sound}
 use Rattle.journal_core.specs.Appends.{JournalAppends}
 use Rattle.state_journal.specs.Durable.{IsDurableWith}
 
--- ---- where a disk tells its bytes
+-- ---- if the model knows the bytes of a disk
 
--- each of the bytes that are told
+-- if the model knows the bytes, what holds of them
 abbrev pub Each : Option Text → (Text → Type 0) → Type 0
 Each contents P = (bytes : Text) → contents ≡ Some bytes → P bytes
 
@@ -109,7 +109,7 @@ module _ {D : Type 0} {g : Ghosts D} where
         each_with (end_of journal) (g.may_leave (disk_of journal)) P
         (g.contents (disk_of journal)) (journal.settled sound) holds
 
-    -- so it does with the place where they end
+    -- so it does with the offset where they end
     pub holds_of : (journal : Journal D g) → Keeps journal
         → IfSome (durable_records journal) (λ list. P list × (end_of journal ≡ end_behind list))
     holds_of journal keeps = go (g.contents (disk_of journal)) keeps

@@ -1,4 +1,4 @@
--- What calls that read a journal leave, one behind another.
+-- What calls that read a journal leave, one after another.
 use Rattle.std.proofs.Common.{◌≡◌, ℕ, false, Bool, Some, None, Result, Ok, Err, IsErrAnd, OnErr, ap}
 use Rattle.std.proofs.Common.{refl, sym, ◌∙◌}
 use Rattle.disk_core.specs.Moments.{OnlyReads}
@@ -35,7 +35,7 @@ module _ {D S : Type 0} (g : Ghosts D) (fold : Fold S StateOpenError) (old mid n
   cause_behind (BadRecord k) cause = refused_later g fold old mid (BadRecord k) only_reads cause
   cause_behind (Open why) cause = cause_later g fold old mid new why only_reads cause
 
-  -- a call that reads on behind calls that looked and counted no fault
+  -- a call that reads on after calls that only read and counted no failure
   pub behind_ok : {X Y : Type 0} (x : X) (y : Y) → HasReadOn g fold mid new (Ok x)
       → HasReadOn g fold old new (Ok y)
   behind_ok x y read = record {

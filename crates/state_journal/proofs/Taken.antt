@@ -20,7 +20,7 @@ use Rattle.state_journal.specs.declared.error.Misfit.{Misfit}
 use Rattle.state_journal.specs.declared.error.Misfit.TheVariants.{Unfit, Memory}
 use Rattle.state_journal.specs.declared.machine.StateMachine.{Ghosts as Machines}
 
--- the records that were read end at the next gate
+-- the records that were read end at the next commit byte
 placed : {D : Type 0} {g : Ghosts D} (P : List Text → Type 0) (opening : Opening D g)
     → IfSome (read_list opening) P
     → IfSome (read_list opening) (λ list. P list × (next_place opening ≡ behind 16 list))
@@ -88,7 +88,7 @@ module _ {M X R : Type 0} (m : Machines M X R) {D : Type 0} {g : Ghosts D}
           refused_first (fold_of m) old new body last read only_reads none begins
       cause_begun Memory none begins = tt
 
-  -- the closed gate
+  -- the closed commit byte
   pub taken_all : (it : M) → HasEnded old new
       → OnlyReads g (opening_disk old) (opening_disk new) → HasTaken m it old
       → HasTakenAll m it new

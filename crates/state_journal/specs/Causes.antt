@@ -26,18 +26,18 @@ abbrev pub why_of : {M R E : Type 0} → Result M (NotBegun R E) → Result M E
 why_of (Ok it) = Ok it
 why_of (Err e) = Err e.why
 
--- the cause of a refusal, over the disk before the call and after it: the bytes, a fault, or want
--- of memory
+-- the cause of a refusal, over the disk before the call and after it: the bytes, a failure, or that
+-- memory ran out
 abbrev pub HasStateCause : {D S : Type 0} → Ghosts D → Fold S StateOpenError → D → D
     → StateOpenError → Type 0
 HasStateCause g fold old new (BadRecord k) = AreRefused fold (g.contents old) (BadRecord k)
 HasStateCause g fold old new (Open why) = IsCauseOf g fold old new why
 
--- no fault was counted, unless it is the refusal
+-- no failure was counted, unless it is the refusal
 abbrev pub CountsNoOther : {D : Type 0} → Ghosts D → D → D → StateOpenError → Type 0
 CountsNoOther g old new why = why ≢ Open open_error.Failed → g.faults new ≡ g.faults old
 
--- The disk was only read. A refusal has its cause, and no other fault was counted.
+-- The disk was only read. A refusal has its cause, and no other failure was counted.
 pub record HasReadOn {D S X : Type 0} (g : Ghosts D) (fold : Fold S StateOpenError) (old new : D)
     (result : Result X StateOpenError) : Type 0 where
   pub only_reads : OnlyReads g old new

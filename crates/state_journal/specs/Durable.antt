@@ -1,5 +1,5 @@
--- What is durable in a journal, also where an append has failed: the records before the end at
--- which that append began, and what holds of them.
+-- What is durable in a journal, even if an append has failed: the records before the end at which
+-- that append began, and what holds of them.
 use Rattle.std.specs.Prelude.{ℕ, List}
 use Rattle.byte_formats.specs.Types.{Text}
 use Rattle.journal_core.specs.Ends.{AreDurable, durable_of}

@@ -30,8 +30,9 @@ module _ {M X R : Type 0} (m : Machines M X R) where
     pub keeps : m.Keeps it list
 
   module _ {D : Type 0} {g : Ghosts D} where
-    -- The machine is what the records before the end of the journal make, where the disk tells its
-    -- bytes. Over any disk, what it keeps of places holds at the gate before that end.
+    -- The machine is what the records before the end of the journal make, if the model knows the
+    -- bytes of the disk. Over any disk, what it says of offsets holds at the commit byte before
+    -- that end.
     pub record IsMadeBy (journal : Journal D g) (it : M) : Type 0 where
       pub durable : (b : Text) → g.contents (disk_of journal) ≡ Some b
           → IsDurableWith (Makes it) (end_of journal) b
@@ -69,7 +70,7 @@ module _ {M X R : Type 0} (m : Machines M X R) where
       pub keeps : IfSome (read_list opening) (m.Keeps it)
       pub within : m.Within it (next_place opening)
 
-    -- all records were read up to the closed gate, and they make the machine
+    -- all records were read up to the closed commit byte, and they make the machine
     pub record HasTakenAll (it : M) (opening : Opening D g) : Type 0 where
       pub found : HasFound fold_of (m.state it) opening
       pub keeps : IfSome (read_list opening) (m.Keeps it)

@@ -35,8 +35,9 @@ module _ {M S : Type 0} where
   BeginsMachine begins state Keeps body (Ok it) = IsBegunMachine begins state Keeps body it
   BeginsMachine begins state Keeps body (Err e) = IsMisfitOf (begins body) e.why
 
-  -- The record makes the new machine of the old one. What the old machine says beside its state of
-  -- records after which this one's gate stands, the new one says of these and this one.
+  -- The record makes the new machine of the old one. If the old machine says something, beside its
+  -- state, of records after which this one's commit byte stands, the new one says it of these and
+  -- this one.
   pub record HasNextMachine (takes : S → Text → Option S) (state : M → S)
       (Keeps : M → List Text → Type 0) (place : ℕ) (body : Text) (old new : M) : Type 0 where
     pub next : takes (state old) body ≡ Some (state new)

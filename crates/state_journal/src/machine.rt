@@ -28,12 +28,12 @@ pub trait StateMachine: Sized {
     ghost state: { Self → State };
     // what it keeps beside its state, where the records are known
     ghost Keeps: { Self → List Text → Type 0 } = { λ _ _. Unit {0} };
-    // what it keeps over any disk, of places in the journal too, where the next record's gate
-    // stands here
+    // what it keeps over any disk, of places in the journal too, where the next record's commit
+    // byte stands here
     ghost Within: { Self → ℕ → Type 0 } = { λ _ _. Unit {0} };
     // this record is taken with what is there: memory isn't refused, and nothing beside is called
     ghost HasCapacity: { Self → Text → Type 0 } = { λ _ _. Unit {0} };
-    // a seed that a machine may be begun with
+    // a seed that a machine may begin with
     ghost IsBlank: { Self.Seed → Type 0 } = { λ _. Unit {0} };
     // what of a seed is handed back
     ghost rest_of: { Self.Seed → Self.Rest };
@@ -56,8 +56,8 @@ pub trait StateMachine: Sized {
         ensures rest { (was : Self.Rest) → Becomes was (rest_of seed) → MatchResult result
             (λ it. Becomes was (rest it)) (λ e. IsLeftBy Becomes Stops was e.rest e.why) };
 
-    /// Takes one record more, whose gate stands at a place. `Unfit` comes exactly where it breaks
-    /// the rules, but where it can't be taken for another reason.
+    /// Takes one record more, whose commit byte stands at a place. `Unfit` comes exactly if it
+    /// breaks the rules, but where it can't be taken for another reason.
     fn take(&mut self, place: u64, body: &[u8]) -> Result<(), Misfit>
         requires { Within self.old place }
         ensures takes { TakesRecord takes state Keeps place body.now self.old self.new result }
