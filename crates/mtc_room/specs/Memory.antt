@@ -1,4 +1,4 @@
--- What contracts see of a room in memory.
+-- What contracts see of a file system in memory.
 use Rattle.std.specs.Prelude.{◌≡◌, ℕ, List, [], Option, Some, option_map, Result, Ok, Err}
 use Rattle.std.specs.Prelude.{OnErr, OnOk}
 use Rattle.std.specs.BTreeMap.{get_by_text}
@@ -15,8 +15,9 @@ pub record FileState : Type 0 where
   pub bytes : Text
   pub failing : List ℕ
 
--- a room in memory: the file of each name, the calls that fail of each file that is yet to be made,
--- the objects that are out, the faults so far, and those that came from want of memory
+-- a file system in memory: the file of each name, the calls that fail of each file that is yet to
+-- be made, the objects that are open, the failures so far, and those that came because memory ran
+-- out
 pub record RoomState : Type 0 where
   pub file : Text → Option FileState
   pub fresh_failing : List ℕ
@@ -32,7 +33,7 @@ file_of disk = record { bytes = bytes_of disk; failing = failing_of disk }
 abbrev pub disk_in : MemRoom → Text → Option MemDisk
 disk_in room name = get_by_text room.files name
 
--- what a room holds and counts
+-- what a file system holds and counts
 abbrev pub state : MemRoom → RoomState
 state room = record {
   file = λ name. option_map file_of (disk_in room name);
@@ -46,15 +47,15 @@ state room = record {
 abbrev pub bytes_in : MemRoom → Text → Option Text
 bytes_in room name = option_map bytes_of (disk_in room name)
 
--- a count of faults after a call that lends: the room in memory fails for want of memory alone, and
--- counts that once
+-- a count of failures after a call that opens: the file system in memory fails only if memory runs
+-- out, and counts that once
 abbrev pub count_after : {T : Type 0} → ℕ → Result T RoomError → ℕ
 count_after count (Ok opened) = count
 count_after count (Err Absent) = count
 count_after count (Err Exists) = count
 count_after count (Err Failed) = with_count count 1
 
--- What a call that lends leaves of the counts of a `MemRoom`, and of the calls that fail of files
+-- What a call that opens leaves of the counts of a `MemRoom`, and of the calls that fail of files
 -- that are yet to be made.
 pub record CountsOpening {T : Type 0} (old new : RoomState) (result : Result T RoomError) : Type 0
   where
@@ -72,8 +73,8 @@ pub record CountsFinding {T E : Type 0} (old new : RoomState) (result : Result T
 abbrev pub new_file : RoomState → FileState
 new_file room = record { bytes = []; failing = room.fresh_failing }
 
--- The file of this name is a new one, and the device that was lent fails the same calls and has had
--- none.
+-- The file of this name is a new one, and the device that was opened fails the same calls and has
+-- had none.
 pub record IsMadeNew (old new : RoomState) (name : Text) (opened : MemDisk) : Type 0 where
   pub made : new.file name ≡ Some (new_file old)
   pub failing : failing_of opened ≡ old.fresh_failing

@@ -1,4 +1,4 @@
--- What a room in memory tells of one name.
+-- What the model knows of one name of a file system in memory.
 use Rattle.std.specs.Prelude.{Option, None, Some, option_map}
 use Rattle.std.proofs.Common.{refl}
 use Rattle.disk_core.specs.Memory.{bytes_of}

@@ -1,11 +1,11 @@
--- A device in memory that is lent, and one that is made.
+-- A device in memory that is opened, and one that is made.
 use Rattle.std.specs.Prelude.{◌≡◌, ℕ, List, []}
 use Rattle.disk_core.specs.Memory.{failing_of, made_of, IsFresh}
 use Rattle.disk_core.specs.Same.{SameDevice}
 use Rattle.disk_core.specs.contracts.memory.mem_disk.MemDiskDisk.TheImpl.{ghosts}
 use Rattle.disk_core.specs.declared.memory.mem_disk.MemDisk.{MemDisk}
 
--- lent as a copy of this device
+-- opened as a copy of this device
 pub record IsOpenedAs (opened device : MemDisk) : Type 0 where
   pub same : SameDevice ghosts device opened
   pub failing : failing_of opened ≡ failing_of device

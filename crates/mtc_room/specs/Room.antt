@@ -1,5 +1,5 @@
--- What the calls of a room do. A room's files are a function from names to bytes, and one from
--- names to devices.
+-- What the calls of a file system do. The files of a file system are a function from names to
+-- bytes, and one from names to devices.
 use Rattle.std.specs.Prelude.{◌≡◌, ◌≢◌, ℕ, ◌+◌, ◌≤◌, [], Option, None, Some, Result, is_ok}
 use Rattle.std.specs.Prelude.{IsSome, IsErrOf, OnErr, OnOk, if◌then◌else◌}
 use Rattle.std.specs.Option.{IsSomeAnd}
@@ -10,8 +10,8 @@ use Rattle.mtc_io.specs.Counts.{Rose, HasCause}
 use Rattle.mtc_room.specs.declared.error.RoomError.{RoomError}
 use Rattle.mtc_room.specs.declared.error.RoomError.TheVariants.{Absent, Exists, Failed}
 
--- A call that lends: on Ok one object more is out. `Failed` comes only with a fault, and Ok and the
--- other refusals without one.
+-- A call that opens: on Ok one object more is open. `Failed` comes only with a failure, and Ok and
+-- the other refusals without one.
 pub record Opens {T : Type 0} (opened opened' faults faults' : ℕ)
     (result : Result T RoomError) : Type 0 where
   pub out : opened' ≡ (if is_ok result then opened + 1 else opened)
@@ -21,8 +21,8 @@ pub record Opens {T : Type 0} (opened opened' faults faults' : ℕ)
   pub absent : IsErrOf result Absent → faults' ≡ faults
   pub exists : IsErrOf result Exists → faults' ≡ faults
 
--- A call that lends, and is refused for a fault alone: on Ok one object more is out, and no fault
--- is counted.
+-- A call that opens, and is refused only for a failure: on Ok one object more is open, and no
+-- failure is counted.
 pub record OpensOrFails {T E : Type 0} (opened opened' faults faults' : ℕ)
     (result : Result T E) : Type 0 where
   pub out : opened' ≡ (if is_ok result then opened + 1 else opened)
@@ -45,12 +45,12 @@ abbrev pub OthersStay : {D : Type 0} → (Text → Option Text) → (Text → Op
 OthersStay file file' device device' but
     = (name : Text) → name ≢ but → Stays file file' device device' name
 
--- there is a file, and what was lent tells its bytes
+-- there is a file, and what was opened has its bytes
 pub record OpensBytes (file opened : Option Text) : Type 0 where
   pub there : IsSome file
   pub same : opened ≡ file
 
--- a name has a file exactly where it has a device, and that tells the file's bytes
+-- a name has a file exactly if it has a device, and that has the file's bytes
 abbrev pub ModelsFile : {D : Type 0} → (D → Option Text) → Option Text → Option D → Type 0
 ModelsFile contents file None = file ≡ None
 ModelsFile contents file (Some d) = (contents d ≡ file) × IsSome file
@@ -73,8 +73,8 @@ pub record MakesOnly {D T : Type 0} (Models : Type 0) (file : Option Text) (devi
   pub never : IsErrOf result Absent → ⊥
 
 module _ {D : Type 0} (g : Ghosts D) (Models : Type 0) where
-  -- The device that was lent of a file that was made: both are empty, a crash leaves nothing of it,
-  -- and it has had no call and no fault.
+  -- The device that was opened of a file that was made: both are empty, a crash leaves nothing of
+  -- it, and it has had no call and no failure.
   pub record IsMadeEmpty (file : Option Text) (stored : Option D) (opened : D) : Type 0 where
     pub empty : Models → (file ≡ Some []) × (g.contents opened ≡ Some [])
     pub device : Models → IsSomeAnd stored (λ d. SameDevice g d opened)
@@ -82,8 +82,8 @@ module _ {D : Type 0} (g : Ghosts D) (Models : Type 0) where
     pub time : g.moment opened ≡ 0
     pub begins : g.faults opened ≡ 0
 
-  -- The device that was lent of a file that was found, or made where there was none before the
-  -- call. It has no fault, reads as the file does, and leaves after a crash what the file's device
+  -- The device that was opened of a file that was found, or made if there was none before the call.
+  -- It has no failure, reads as the file does, and leaves after a crash what the file's device
   -- leaves; of a new file that is nothing.
   pub record IsFoundOrNew (before file : Option Text) (stored : Option D) (opened : D) : Type 0
     where

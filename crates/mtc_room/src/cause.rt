@@ -1,9 +1,9 @@
-//! What a room says of its faults.
+//! What a file system says of its failures.
 
-/// Why a room failed, where it failed at all.
+/// Why a file system failed, if it failed at all.
 #[derive(Clone, Copy, Debug, PartialEq, Eq)]
 pub enum Cause {
-    /// Somebody else holds the file.
+    /// Another process holds the file.
     Locked,
     /// Anything else.
     Failed,

@@ -1,8 +1,8 @@
-//! Why a room does not lend.
+//! Why a file system doesn't open a file.
 
 use thiserror::Error;
 
-/// Why a room doesn't lend.
+/// Why a file system doesn't open a file.
 #[derive(Clone, Copy, Debug, Error, PartialEq, Eq)]
 pub enum RoomError {
     /// There is no file of that name.
@@ -11,7 +11,7 @@ pub enum RoomError {
     /// There is a file of that name already.
     #[error("the file exists")]
     Exists,
-    /// The room failed: its count of faults rose.
+    /// The file system failed: its count of failures rose.
     #[error("the file can't be opened")]
     Failed,
 }

@@ -1,4 +1,4 @@
-//! A room in memory.
+//! A file system in memory.
 
 ghost use Rattle.std.specs.Prelude.{◌≡◌, ◌≢◌, ⊤, ◌+◌, ◌<◌, ◌^◌, [], Option, Result, Ok, Some, None};
 ghost use Rattle.std.specs.Prelude.{IfOk, OnOk, OnErr, IsErrOf, IsSome, IfErr, IsErr};
@@ -16,10 +16,10 @@ use mtc_io::{Bytes, Failed, MemSource, Memory};
 use std::alloc::Global;
 use std::collections::BTreeMap;
 
-/// A room whose files stand in memory. It tells them. Each file has a list of the calls that fail.
-/// For its device they are counted over all lendings, and for a source anew from each lending.
-/// Sources and devices are lent as copies. Where the room finds no memory it fails; such faults are
-/// counted apart too, its own and those of devices that it takes back.
+/// A file system whose files stand in memory. The model knows them. Each file has a list of the
+/// calls that fail. For its device they are counted over all its openings, and for a source from 0
+/// in each opening. Sources and devices are opened as copies. If the file system finds no memory it
+/// fails; such failures are counted apart too, its own and those of devices that it closes.
 #[derive(Debug)]
 pub struct MemRoom {
     alloc: Global,
@@ -30,7 +30,7 @@ pub struct MemRoom {
     starved: u64,
 }
 
-// A drop in one step: a derived one is proved field by field wherever a value is let go.
+// A drop in one step: a derived one is proved field by field wherever a value is dropped.
 impl Drop for MemRoom {
     fn drop(self) {
         let MemRoom {
@@ -63,7 +63,7 @@ impl MemRoom {
     ghost use Rattle.mtc_room.specs.Opened.{IsOpenedAs, IsFreshWith};
     ghost use Rattle.mtc_room.specs.Room.{Opens};
 
-    /// A room without a file. It takes no memory.
+    /// A file system without a file. It takes no memory.
     pub fn new(alloc: Global) -> MemRoom
         ensures empty { (name : Text) → (state result).file name ≡ None }
         ensures fresh_failing { (state result).fresh_failing ≡ [] }
@@ -89,8 +89,8 @@ impl MemRoom {
         self.fresh_failing = failing;
     }
 
-    /// Puts a file with these bytes and failing calls in the place of any file of that name. It has
-    /// had no call, and a crash leaves its bytes. Where memory is refused the room stays as it was.
+    /// Puts a file with these bytes and failing calls instead of any file of that name. It has had
+    /// no call, and a crash leaves its bytes. If memory is refused the file system stays as it was.
     pub fn place(&mut self, name: &str, bytes: Bytes, failing: Vec<u64>) -> Result<(), Memory>
         ensures placed { OnOk result (IsSomeAnd (disk_in self.new name.now)
             (λ d. IsFresh bytes d × (failing_of d ≡ failing.items))) }
@@ -119,14 +119,14 @@ impl MemRoom {
         }
     }
 
-    /// How often the room found no memory, or a device that it took back.
+    /// How often the file system found no memory, or a device that it closed.
     pub fn starved(&self) -> u64
         ensures { result ≡ (state self.now).starved }
     {
         self.starved
     }
 
-    // Counts the loan of what was made, or the want of memory.
+    // Counts what was opened, or that memory ran out.
     fn open_one<T>(&mut self, made: Result<T, Memory>) -> Result<T, RoomError>
         requires { self.old.opened < 2 ^ 32 }
         ensures opens { Opens self.old.opened self.new.opened
@@ -151,7 +151,7 @@ impl MemRoom {
         }
     }
 
-    // Makes an empty file, and a copy of its device to lend.
+    // Makes an empty file, and a copy of its device to open.
     fn make(&mut self, name: &str) -> Result<MemDisk, Memory>
         ensures others { (other : Text) → other ≢ name.now
             → disk_in self.new other ≡ disk_in self.old other }
@@ -175,7 +175,7 @@ impl MemRoom {
         Ok(opened)
     }
 
-    // A copy of the file's device to lend, or of that of an empty file, which is made.
+    // A copy of the file's device to open, or of that of an empty file, which is made.
     fn find_or_make(&mut self, name: &str) -> Result<MemDisk, Memory>
         ensures others { (other : Text) → other ≢ name.now
             → disk_in self.new other ≡ disk_in self.old other }
@@ -321,7 +321,7 @@ impl Room for MemRoom {
         }
     }
 
-    // No other process reaches a room in memory.
+    // No other process reaches a file system in memory.
     fn cause(&self) -> Cause {
         Cause::Failed
     }

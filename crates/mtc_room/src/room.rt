@@ -24,28 +24,28 @@ pub trait Room {
     /// A file as a device.
     type Dsk: Disk;
 
-    /// The room tells its files. A room of real files doesn't.
+    /// The model knows the files of the file system. It doesn't know real files.
     ghost is_modelled: { Self → Type 0 };
 
-    /// The bytes of each name's file, or none where there is no such file. It says nothing where
-    /// the room doesn't tell its files.
+    /// The bytes of each name's file, or none if there is no such file. It says nothing if the
+    /// model doesn't know the files.
     ghost file: { Self → Text → Option Text };
 
-    /// The device of each name's file, as it was when it was last put back.
+    /// The device of each name's file, as it was when it was last closed.
     ghost device: { Self → Text → Option Self.Dsk };
 
-    /// How often it has failed, with the faults of what was put back. The count never falls.
+    /// How often it has failed, with the failures of what was closed. The count never falls.
     ghost faults: { Self → ℕ };
 
-    /// How many lent objects are out.
+    /// How many objects are open.
     ghost opened: { Self → ℕ };
 
-    /// What it says of its last fault.
+    /// What it says of its last failure.
     ghost why: { Self → Cause };
 
-    /// Lends the bytes of a file that exists. `Absent` comes exactly where there is none, and
-    /// `Failed` only with a fault of the room; `Exists` never comes. The lent source has no fault
-    /// so far, and gives the file's bytes.
+    /// Opens a file that exists, as a source of its bytes. `Absent` comes exactly if there is none,
+    /// and `Failed` only with a failure of the file system; `Exists` never comes. The source has no
+    /// failure so far, and gives the file's bytes.
     fn source(&mut self, name: &str) -> Result<Self::Src, RoomError>
         requires { opened self.old < 2 ^ 32 }
         ensures opens { Opens (opened self.old) (opened self.new)
@@ -59,9 +59,9 @@ pub trait Room {
             → file self.old name.now ≡ None }
         ensures never { IsErrOf result RoomError.Exists → ⊥ };
 
-    /// Lends the device of a file that exists, with the refusals of [`Room::source`]. The lent
-    /// device has no fault so far, reads as the file does, and leaves after a crash what the file's
-    /// device leaves.
+    /// Opens a file that exists, as a device, with the refusals of [`Room::source`]. The device has
+    /// no failure so far, reads as the file does, and leaves after a crash what the file's device
+    /// leaves.
     fn disk(&mut self, name: &str) -> Result<Self::Dsk, RoomError>
         requires { opened self.old < 2 ^ 32 }
         ensures opens { Opens (opened self.old) (opened self.new)
@@ -77,10 +77,10 @@ pub trait Room {
             → file self.old name.now ≡ None }
         ensures never { IsErrOf result RoomError.Exists → ⊥ };
 
-    /// Makes an empty file and lends its device, which has no fault so far, and of which a crash
-    /// leaves nothing. `Exists` comes exactly where the name has a file, and `Failed` only with a
-    /// fault of the room; `Absent` never comes. A refusal makes no file in a room that tells its
-    /// files.
+    /// Makes an empty file and opens its device, which has no failure so far, and of which a crash
+    /// leaves nothing. `Exists` comes exactly if the name has a file, and `Failed` only with a
+    /// failure of the file system; `Absent` never comes. A refusal makes no file, if the model
+    /// knows the files.
     fn fresh(&mut self, name: &str) -> Result<Self::Dsk, RoomError>
         requires { opened self.old < 2 ^ 32 }
         ensures opens { Opens (opened self.old) (opened self.new)
@@ -92,10 +92,10 @@ pub trait Room {
         ensures new { IfOk result (IsMadeEmpty Self.Dsk.Disk (is_modelled self.old)
             (file self.new name.now) (device self.new name.now)) };
 
-    /// Lends the device of a file that exists, as [`Room::disk`], or makes an empty one and lends
+    /// Opens the device of a file that exists, as [`Room::disk`], or makes an empty one and opens
     /// its device, as [`Room::fresh`]. It is for files that are made of what stands in others.
-    /// `Failed` comes only with a fault of the room, and makes no file in a room that tells its
-    /// files.
+    /// `Failed` comes only with a failure of the file system, and makes no file, if the model knows
+    /// the files.
     fn scratch(&mut self, name: &str) -> Result<Self::Dsk, Failed>
         requires { opened self.old < 2 ^ 32 }
         ensures opens { OpensOrFails (opened self.old) (opened self.new)
@@ -111,7 +111,7 @@ pub trait Room {
     fn cause(&self) -> Cause
         ensures { result ≡ why self.now };
 
-    /// Takes a source back, and adds its faults to its own.
+    /// Closes a source, and adds its failures to its own.
     fn done(&mut self, source: Self::Src)
         requires { 0 < opened self.old }
         ensures out { opened self.new + 1 ≡ opened self.old }
@@ -119,8 +119,8 @@ pub trait Room {
         ensures stay { AllStay (file self.old) (file self.new) (device self.old) (device self.new) }
         ensures is_modelled { is_modelled self.old → is_modelled self.new };
 
-    /// Takes a device back, puts it in the place of that file's, and adds its faults to its own.
-    /// Where the name has no file, none is made.
+    /// Closes a device, puts it in the place of that file's, and adds its failures to its own. If
+    /// the name has no file, none is made.
     fn keep(&mut self, name: &str, disk: Self::Dsk)
         requires { 0 < opened self.old }
         ensures out { opened self.new + 1 ≡ opened self.old }
@@ -135,7 +135,7 @@ pub trait Room {
         ensures device { is_modelled self.old → IsSome (file self.old name.now)
             → IsSomeAnd (device self.new name.now) (λ e. SameDevice Self.Dsk.Disk disk e) };
 
-    /// Where the room tells its files, each has a device, and that tells the same bytes.
+    /// If the model knows the files, each has a device, and that has the same bytes.
     ghost modelled_file: { (m : Self) (name : Text) → is_modelled m
         → ModelsFile Self.Dsk.contents (file m name) (device m name) };
 }

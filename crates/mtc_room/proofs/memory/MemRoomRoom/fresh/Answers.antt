@@ -13,7 +13,7 @@ use Rattle.disk_core.specs.declared.memory.mem_disk.MemDisk.{MemDisk}
 use Rattle.mtc_room.specs.declared.error.RoomError.{RoomError}
 use Rattle.mtc_room.proofs.memory.MemRoomRoom.fresh.Goals as goal
 
--- what holds of the device that was made holds of the one that is lent
+-- what holds of the device that was made holds of the one that is opened
 opened_is : {T : Type 0} (P : T → Type 0) (made : T) (result : Result T RoomError)
     → IfOk result (λ it. ◌≡◌ {A = Result T Memory} (Ok made) (Ok it)) → P made
     → IfOk result P
@@ -46,7 +46,7 @@ only_in (Some e) d is c left =
     IsImage (state_now e.past.first calls) c) is.0.calls ((is.1.leaves c).0 left) in
     was ∙ is.0.first
 
--- the device of the new file behind the loan
+-- the device of the new file after it is opened
 kept : (c : goal.After-open_one)
     → IsSomeAnd (get_by_text c.open_one.new.self.files c.args.name.now)
     (λ e. IsFresh [] e × SameDevice ghosts e c.in-Ok.disk)
