@@ -1,4 +1,4 @@
--- Two files that each kept its word by itself, and don't go together.
+-- Two files that each retained its word by itself, and don't go together.
 use Rattle.std.proofs.Common.{◌≡◌, inl, inr, List, [], ◌∷◌, ◌++◌, refl, sym, subst, ◌∙◌}
 use Rattle.std.proofs.Common.{append_assoc}
 use Rattle.byte_formats.specs.Types.{Text}
@@ -8,7 +8,7 @@ use Rattle.file_events.specs.Events.{MayAppend}
 use Rattle.file_events.specs.Executions.{IsPrefix}
 use Rattle.file_events.proofs.Records.{one_list, prefix_more, prefix_same}
 
--- no list is one with more behind it
+-- no list is one with more after it
 no_end : (x : Text) (ys : List Text) → x ∷ ys ≡ [] → ⊥
 no_end x ys is = absurd cc
 

@@ -28,7 +28,7 @@ module _ (Valid : List Text → Type 0) (Reaches : History) (takes : TakesSteps 
   no_more out now history =
       subst (λ (o : List Text). IsHistory Reaches o now) (sym (append-nil out)) history
 
-  -- the records that are found are those behind a stop
+  -- the records that are found are those after a stop
   at_stop : (old : List Text) (pending : Option Text) (out list : List Text) (c : Text)
       → Reaches old pending out → RepresentsPending old pending c → Represents c list
       → Reaches list None out

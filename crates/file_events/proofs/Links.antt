@@ -1,4 +1,4 @@
--- A course of an owner's files is an execution of their events.
+-- An execution of an owner's files is an execution of their events.
 use Rattle.std.proofs.Common.{inl, inr, List, [], ◌∷◌, Option, sym, subst}
 use Rattle.byte_formats.specs.Types.{Text}
 use Rattle.file_events.specs.Executions.{AnyEvent, IsExecution}
@@ -8,7 +8,7 @@ use Rattle.file_events.specs.Worlds.{cut, died, event_of, events_of, files_after
 use Rattle.file_events.specs.Worlds.{states_of, stops, turned, writes}
 
 module _ (p : Program) (o : FileOwner p) (lead : HappeningsLead p o) where
-  -- a link leads to its room, which is modelled
+  -- a link leads to its capacity, which is modelled
   one_link : (old : p.R) (link : HappeningOf p) → p.world.rooms.is_modelled old
       → IsHappening p o old link
       → p.world.rooms.is_modelled (files_after p link)
@@ -42,7 +42,7 @@ module _ (p : Program) (o : FileOwner p) (lead : HappeningsLead p o) where
 pub courses_execute : (p : Program) (o : FileOwner p) → CoursesAreExecutions p o
 courses_execute p o lead old new links modelled is = executes p o lead links old new modelled is
 
--- a run of a course is an event of it
+-- a run of an execution is an event of it
 module _ (p : Program) (o : FileOwner p) (P : p.R → RunOf p → Type 0) (Q : o.EventOf → Type 0)
     (holds : (old : p.R) (run : RunOf p) → P old run → Q (o.run_event old run)) where
   one_run : (old : p.R) (link : HappeningOf p) → IsRunWith p P old link → Q (event_of p o old link)

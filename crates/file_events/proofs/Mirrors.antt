@@ -29,7 +29,7 @@ was_recovered Valid before list found = (found.bytes, (found.state, found.stands
 
 module _ (Valid : List Text → Type 0) (prefix : List Text) (before now : CrashStates)
     (durable : IsDurablePrefix Valid prefix before) where
-  -- what is recovered behind a run was so before it, or has the record that it added
+  -- what is recovered after a run was so before it, or has the record that it added
   came : (did : JournalUse) (others : List Text) → HalfDone Valid did before now
       → MayRecover now others → MayRecover before others ⊎ IsAdded Valid did before others
   came untouched others kept recovered =

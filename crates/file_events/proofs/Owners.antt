@@ -1,4 +1,4 @@
--- Courses of a program, for each owner of files.
+-- Executions of a program, for each owner of files.
 use Rattle.std.proofs.Common.{◌≡◌, inl, inr, Bool, true, false, List, Some, refl, sym, subst, ap}
 use Rattle.std.proofs.Common.{◌∙◌}
 use Rattle.byte_formats.specs.Types.{Text}

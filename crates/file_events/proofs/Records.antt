@@ -116,7 +116,7 @@ module _ (Valid : List Text → Type 0) where
     stay_durable event now leads =
         record { some = leads.some; each = happened event now leads.happens }
 
-  -- the records that a run held are durable behind it
+  -- the records that a run held are durable after it
   held_by : (list : List Text) (did : JournalUse) (before now : CrashStates)
       → records_after did ≡ Some list → Done Valid did before now → (c : Text) → now c
       → IsReadBehind Valid list c

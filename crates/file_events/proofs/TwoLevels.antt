@@ -64,7 +64,7 @@ count_tail first number numbers count i next is = omega (arith, count (suc i) ne
 sum_is : (size number : ℕ) → number / size * size + number % size ≡ number
 sum_is size number = div-add-mod' number size
 
--- the keys behind a signature, and behind a lower tree
+-- the keys after a signature, and after a lower tree
 at_sign : (size signs trees others number : ℕ) (keys : List KeyUse) → number ≡ signs
     → trees ≤ others → AreKeys size (signs + 1) others keys
     → AreKeys size signs trees (lower (number / size) (number % size) ∷ keys)

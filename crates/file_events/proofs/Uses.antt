@@ -15,7 +15,7 @@ head_use : (one : Option KeyUse) (key : KeyUse) (keys : List KeyUse) → one ≡
 head_use None key keys is = absurd cc
 head_use (Some first) key keys is = is
 
--- a key behind others
+-- a key after others
 behind_use : (one : Option KeyUse) (keys rest : List KeyUse) (key : KeyUse)
     → slice_get keys (length rest) ≡ Some key
     → slice_get (with_use one keys) (length (with_use one rest)) ≡ Some key
@@ -42,7 +42,7 @@ tail_is : (x y : Text) (xs ys : List Text) → x ∷ xs ≡ y ∷ ys → xs ≡ 
 tail_is x y xs ys is = cc
 
 module _ (use_of : List Text → Text → Option KeyUse) where
-  -- a use behind a prefix and one more record
+  -- a use after a prefix and one more record
   moved : (prefix list : List Text) (x body : Text) (key : KeyUse)
       → use_of (prefix ++ x ∷ list) body ≡ Some key
       → use_of ((prefix ++ x ∷ []) ++ list) body ≡ Some key
@@ -119,7 +119,7 @@ module _ (use_of : List Text → Text → Option KeyUse) where
       (once (length (uses_behind use_of [] list)) (length (uses_behind use_of [] other)) key place
       place')
 
--- a prefix of a list, with what stands behind it
+-- a prefix of a list, with what follows it
 pub whole_of : (list : List Text) (body : Text) (more rest found : List Text)
     → (list ++ body ∷ more) ++ rest ≡ found → list ++ body ∷ (more ++ rest) ≡ found
 whole_of list body more rest found is = sym (append_assoc list (body ∷ more) rest) ∙ is

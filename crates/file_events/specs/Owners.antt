@@ -65,22 +65,22 @@ module _ (p : Program) (Valid : List Text → Type 0) (name : Text) where
     pub leaves : (old : p.R) (run : RunOf p) → p.world.rooms.is_modelled old → p.HasRun old run
         → LeavesJournal old run
 
-  -- A course of the journal is an execution of its events.
+  -- An execution of the journal is an execution of its events.
   abbrev pub JournalCourses : Type 0
   JournalCourses = ServesJournal → (old new : p.R) (links : List (HappeningOf p))
       → p.world.rooms.is_modelled old → IsFileCourse p journal_file old links new
       → IsJournalExecution (states_of p.world name) Valid old
       (events_of p journal_file old links) new
 
-  -- So records that a run of the course held are durable after it.
+  -- So records that a run of the execution held are durable after it.
   abbrev pub CoursesHold : Type 0
   CoursesHold = ServesJournal → (old new : p.R) (links : List (HappeningOf p))
       → p.world.rooms.is_modelled old → IsFileCourse p journal_file old links new
       → (list : List Text) → WereHeld (events_of p journal_file old links) list
       → IsDurablePrefix Valid list (states_of p.world name new)
 
-  -- A run of a course that ended without a failure of a file and was not refused memory, and that
-  -- found or made these records, held them.
+  -- A run of an execution that ended without a failure of a file and was not refused memory, and
+  -- that found or made these records, held them.
   abbrev pub RunsHold : Type 0
   RunsHold = (old : p.R) (links : List (HappeningOf p)) (list : List Text)
       → AnyRun p (λ before run. (breaks_off run.status ≡ false)
@@ -131,7 +131,7 @@ module _ (p : Program) (goes : List Text → Text → Type 0) (Plain : List Text
   NewTilesSurvive =
       NewTilesGo goes Plain Valid (states_of p.world name) (states_of p.world tiles)
 
-  -- Tiles and journal go with each other from then on, through every course.
+  -- Tiles and journal go with each other from then on, through every execution.
   abbrev pub TilesSurvive : Type 0
   TilesSurvive = ServesLog → PlainRecordsKeep goes Plain Valid → (prefix : List Text)
       (old new : p.R) (links : List (HappeningOf p)) → p.world.rooms.is_modelled old
@@ -174,7 +174,7 @@ module _ (p : Program) (agrees : List Text → List Text → Type 0)
   abbrev pub MirrorRunsMayBreak : Type 0
   MirrorRunsMayBreak = ServesMirror → RunsMayBreak p mirror_files
 
-  -- They agree from then on, through every course.
+  -- They agree from then on, through every execution.
   abbrev pub CoursesAgree : Type 0
   CoursesAgree = ServesMirror
       → KeepsAgreement agrees Computed Neutral ValidMirror ValidCosigner

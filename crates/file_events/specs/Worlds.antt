@@ -145,7 +145,7 @@ module _ (p : Program) where
   IsRunWith P old (stops room) = ⊥
   IsRunWith P old (writes room) = ⊥
 
-  -- Some run of a course is one of which this holds.
+  -- Some run of an execution is one of which this holds.
   abbrev pub AnyRun : (p.R → RunOf → Type 0) → p.R → List HappeningOf → Type 0
   AnyRun P old [] = ⊥
   AnyRun P old (link ∷ links) = IsRunWith P old link ⊎ AnyRun P (files_after link) links
@@ -195,7 +195,7 @@ module _ (p : Program) (o : FileOwner p) where
   IsFileCourse old (link ∷ links) new =
       IsHappening old link × IsFileCourse (files_after p link) links new
 
-  -- The event of each is computed, and so are those of a course.
+  -- The event of each is computed, and so are those of an execution.
   abbrev pub event_of : p.R → HappeningOf p → o.EventOf
   event_of old (turned run) = o.run_event old run
   event_of old (died run room) = o.broken_event old run
@@ -224,7 +224,7 @@ module _ (p : Program) (o : FileOwner p) where
     pub some : (room : p.R) (name : Text) → p.world.rooms.is_modelled room
         → (c : Text) × states_of p.world name room c
 
-  -- A course of an owner's files is an execution of their events.
+  -- An execution of an owner's files is an execution of their events.
   abbrev pub CoursesAreExecutions : Type 0
   CoursesAreExecutions = HappeningsLead → (old new : p.R) (links : List (HappeningOf p))
       → p.world.rooms.is_modelled old → IsFileCourse old links new

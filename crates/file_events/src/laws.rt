@@ -46,10 +46,10 @@ pub fn law_executions_are_histories<D: Disk, J: JournalRules>()
     ensures begins { ExecutionsAreHistories D.Disk.may_leave J.valid J.reaches }
 {}
 
-/// Where runs of a program leave of a journal what their events leave of it, each course of runs,
-/// stops, kills and changes of other files is an execution of the journal. So the records that a
-/// run held stand afterwards: those that it found or made, where it didn't break off. A record that
-/// it added is released where a byte of its answer may have gone out.
+/// Where runs of a program leave of a journal what their events leave of it, each execution of
+/// runs, stops, kills and changes of other files is an execution of the journal. So the records
+/// that a run held stand afterwards: those that it found or made, where it didn't break off. A
+/// record that it added is released where a byte of its answer may have gone out.
 pub fn law_courses_are_executions<P: Programs, J: JournalRules>()
     ensures executions { (name : Text) → JournalCourses P.program J.valid name }
     ensures hold { (name : Text) → CoursesHold P.program J.valid name }
@@ -58,7 +58,7 @@ pub fn law_courses_are_executions<P: Programs, J: JournalRules>()
 {}
 
 /// Whatever a crash leaves of a journal goes with whatever it leaves of the file of its tiles, in
-/// each course of a program whose runs leave of both what they have to leave, at once. A new
+/// each execution of a program whose runs leave of both what they have to leave, at once. A new
 /// journal goes with any tiles.
 pub fn law_tiles_survive<P: Programs, J: JournalRules>()
     ensures new { (name tiles : Text)
@@ -68,8 +68,8 @@ pub fn law_tiles_survive<P: Programs, J: JournalRules>()
 {}
 
 /// Whatever is recovered of a mirror agrees with whatever is recovered of its cosigner, in each
-/// course of a program whose runs do with both what they may, and leave of both what they have to
-/// leave, at once.
+/// execution of a program whose runs do with both what they may, and leave of both what they have
+/// to leave, at once.
 pub fn law_mirrors_agree<P: Programs, M: JournalRules, C: JournalRules>()
     ensures { (mirror cosigner : Text) → CoursesAgree P.program M.agrees M.computed M.neutral
         M.valid C.valid mirror cosigner }

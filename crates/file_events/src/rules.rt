@@ -34,7 +34,7 @@ pub trait JournalRules {
 }
 
 /// A program that works on files. It has no value and no call: it names the program over which laws
-/// of courses are proved.
+/// of executions are proved.
 pub trait Programs {
     ghost use Rattle.file_events.specs.Tiles.{TilesWork};
     ghost use Rattle.file_events.specs.Worlds.{Program, RunOf};
