@@ -27,7 +27,7 @@ use Rattle.issuance_log.proofs.Changes.{item_makes, mark_makes, tiles_make}
 use Rattle.issuance_log.proofs.Growth.{last_in, size_fits}
 use Rattle.issuance_log.proofs.Shown.{shown_view}
 
--- a log that isn't full has room
+-- a log that isn't full has capacity
 pub capacity_of : (size limit : ℕ) → not (nat_lt size limit) ≡ false → size < limit
 capacity_of size limit is = ltb-true size limit (not-false (nat_lt size limit) is)
 
@@ -51,7 +51,7 @@ below a b few other = grind (arith, nat_tests)
 
 module _ {H D T : Type 0} {hashes : Hashes H} {g : Ghosts D} {k : Ghosts T}
     (log : Log H D T hashes g k) (sound : HasSoundNumbers (view_of log)) where
-  -- behind its records a record makes what it makes of any log that shows this
+  -- after its records a record makes what it makes of any log that shows this
   makes_behind : (body : Text) (next : LogState → LogState)
       → MakesOfLog hashes.hash (view_of log) body next → LogWouldTake body next log
   makes_behind body next makes = IfSome_then (log_records log) (log_keeps log) (λ list is.

@@ -56,9 +56,9 @@ refused_keeps broken end body why by_broken by_full =
     at Broken is = rw is refl
     at Full is = rw (is.0, is.1) refl
 
--- ---- behind the tests of a call
+-- ---- after the tests of a call
 
--- What the journal alone may refuse keeps to a refusal of the journal, by how it is told.
+-- What the journal alone may refuse follows a refusal of the journal, by how it is reported.
 by_answer : {X : Type 0} (KeepsTo : Option LogError → Result X LogError → Type 0)
     → ((answer : X) (wanted : Option LogError) → wanted ≡ None → KeepsTo wanted (Ok answer))
     → ((wanted : Option LogError) → wanted ≡ None → KeepsTo wanted (Err (Append Failed)))
@@ -132,7 +132,7 @@ tiled_answer v broken end text encoded above result is =
     (by_answer TilesKeepTo (λ answer o is. is) (λ o is. is) (λ o is. is) (λ o is. is) (by text)
     result is)
 
--- behind that test nothing else is answered for it
+-- after that test nothing else is answered for it
 pub tiles_not_old : (v : LogView) (broken : Bool) (end : ℕ) → v.tiled < full_size v
     → tile_refusal v broken end ≡ Some NothingNew → ⊥
 tiles_not_old v broken end above is =
@@ -155,7 +155,7 @@ tiles_old v broken end le =
     else option_map Append (append_refusal broken end (tiles_record (full_size v))))
     (old_test (full_size v) v.tiled le)
 
--- it counts no fault of another disk
+-- it counts no failure of another disk
 pub counts_none : {X : Type 0} (o : Option AppendError) (before after : ℕ)
     (result : Result X LogError) → KeepsToJournal o result → after ≡ before
     → LogCounts before after result

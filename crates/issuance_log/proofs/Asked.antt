@@ -17,7 +17,7 @@ use Rattle.issuance_log.specs.declared.log.Log.{Log}
 use Rattle.issuance_log.proofs.Leaving.{appends_not}
 
 module _ {H D T : Type 0} {hashes : Hashes H} {g : Ghosts D} {k : Ghosts T} where
-  -- Where nodes alone were asked for, the journal's disk was only looked at.
+  -- If nodes alone were asked for, the journal's disk was only read.
   pub asks_stays : (old new : Log H D T hashes g k)
       → ((c : Text) → g.left_since (log_disk old) (g.moment (log_disk old)) c
       → g.may_leave (log_disk old) c) → LogAsksTiles old new → LogStays old new
@@ -30,7 +30,7 @@ module _ {H D T : Type 0} {hashes : Hashes H} {g : Ghosts D} {k : Ghosts T} wher
     broken = is.broken;
   }
 
-  -- so what it tells stays
+  -- so what the model knows of it stays
   pub asks_modelled : (old new : Log H D T hashes g k) → LogAsksTiles old new
       → modelled_state new ≡ modelled_state old
   asks_modelled old new is =
@@ -40,7 +40,7 @@ module _ {H D T : Type 0} {hashes : Hashes H} {g : Ghosts D} {k : Ghosts T} wher
       ∙ ap (λ d. option_map (shown_with (view_of old)) (option_map (durable_of (log_end old))
       (g.contents d))) is.disk
 
-  -- What the disks tell stays.
+  -- What the model knows of the disks stays.
   module _ (old new : Log H D T hashes g k) (is : LogStays old new) where
     pub records_stay : log_records new ≡ log_records old
     records_stay =

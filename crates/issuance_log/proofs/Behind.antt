@@ -1,4 +1,4 @@
--- Records that are taken one by one behind the first record of a log.
+-- Records that are taken one by one after the first record of a log.
 use Rattle.std.proofs.Common.{◌≡◌, ℕ, ◌+◌, ◌<◌, ◌≤◌, Bool, true, false}
 use Rattle.std.proofs.Common.{List, [], ◌∷◌, ◌++◌, length, drop, get_or, Option, Some, None, Result}
 use Rattle.std.proofs.Common.{Ok, Err, is_ok, option_map, refl, ap, sym, ◌∙◌}
@@ -35,7 +35,7 @@ module _ {S E : Type 0} (fold : Fold S E) where
   unfolding taken_from
   taken_end k s = refl
 
-  -- The record at this place is taken, or breaks the rules.
+  -- The record at this index is taken, or breaks the rules.
   pub follows_on : (wanted : Result S ℕ) (j k : ℕ) (s t : S) (bodies : List (List ℕ)) (i : ℕ)
       (x body : List ℕ) → j ≡ k + 1 → i < length bodies → x ≡ get_or bodies i x
       → taken_from fold k s (drop i bodies ++ body ∷ []) ≡ wanted → fold.takes s x ≡ Some t
@@ -94,11 +94,11 @@ entries_of items = map (λ item. item.0) items
 abbrev pub keys_of : List (Text × Text) → List Text
 keys_of items = map (λ item. item.1) items
 
--- the items in the records behind the first
+-- the items in the records after the first
 abbrev pub later_items : List Text → List (Text × Text)
 later_items bodies = flat_map (λ body. option_to_list (item_in body)) bodies
 
--- the items of a log are those of another one, and these behind them
+-- the items of a log are those of another one, and these after them
 pub record HasItems (s t : LogState) (items : List (Text × Text)) : Type 0 where
   pub settings : t.settings ≡ s.settings
   pub entries : t.entries ≡ s.entries ++ entries_of items
@@ -166,7 +166,7 @@ behind_items h k s t (body ∷ bodies) is =
         ∙ append_assoc xs (map f first) (map f rest)
         ∙ ap (λ (l : List Text). xs ++ l) (sym (map-append f first rest))
 
--- what stands behind settings that were read
+-- what follows settings that were read
 has_begun : (h : HashFunction) (first : Text) (bodies : List Text) (s t : LogState)
     (o : Option Settings) → settings_in first ≡ o → option_map new_log o ≡ Some s
     → taken_from (log_fold h) 1 s bodies ≡ Ok t

@@ -1,4 +1,4 @@
--- The records of a log are read as they are spelled.
+-- The records of a log are read as they are encoded.
 use Rattle.std.proofs.Common.{◌≡◌, ℕ, ◌+◌, ◌%◌, ◌^◌, ◌==◌, ◌<◌, ◌≤◌, if◌then◌else◌, Bool, arith}
 use Rattle.std.proofs.Common.{true, false, List, [], ◌∷◌, ◌++◌, length, Option, Some, None}
 use Rattle.std.proofs.Common.{option_map, option_and_then, Result, Ok, Err, refl, ap, ◌∙◌}
@@ -51,7 +51,7 @@ pub length-landmark : (size : ℕ) → length (landmark_record size) ≡ 9
 unfolding landmark_record
 length-landmark size = simp length-append (omega arith)
 
--- ---- a form behind its tag
+-- ---- a form after its tag
 
 module _ {X : Type 0} (wanted : ℕ) (small : wanted < 256) {encode : X → List ℕ} {Fits : X
     → Type 0} {read : At → Result (X × At) Short} (form : IsForm encode Fits Anything read) where
@@ -110,7 +110,7 @@ pub no_item : (body : List ℕ) (why : RecordError) → why ≡ Unfit
 no_item body Unfit is none = none
 no_item body Memory is none = let wrong : Memory ≡ Unfit = is in cc
 
--- the log behind an Entry, and behind any other record
+-- the log after an Entry, and after any other record
 -- what a record makes of a log, by what it says
 abbrev pub changed_log : (h : List ℕ → List ℕ) → LogState → Option (List ℕ × List ℕ) → Option ℕ
     → Option ℕ → Option LogState
@@ -213,7 +213,7 @@ settings_again s id allowed =
     (tests_allowed s.max_active s.limit allowed)
     ∙ ap (with_id s.max_active s.limit) (anchor_again s.id id)
 
--- ---- a journal of records as they are spelled
+-- ---- a journal of records as they are encoded
 
 -- of a Log
 pub log_created : (h : List ℕ → List ℕ) (s : Settings) → IsAnchorId s.id

@@ -45,7 +45,7 @@ last_within from to (mark ∷ other ∷ marks) is =
     subst (λ (n : ℕ). n ≤ to) (sym (last_behind mark other marks))
     (last_within mark to (other ∷ marks) is.1)
 
--- the last landmark is no larger than the log, whose size is told in eight bytes
+-- the last landmark is no larger than the log, whose size fits eight bytes
 pub last_in : (v : LogView) → HasSoundNumbers v → last_mark v.marks ≤ v.size
 last_in v is = last_within 0 v.size v.marks is.marks
 

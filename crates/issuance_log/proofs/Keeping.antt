@@ -96,7 +96,7 @@ next_of h v w list body all is =
     (sym (views_follow h (shown_with v list) body)
     ∙ ap (λ (u : LogView). next_view h u body) (shown_view v list all) ∙ is)
 
--- It is what is shown behind the record.
+-- It is what is shown after the record.
 pub shown_next : (h : HashFunction) (v w : LogView) (list : List Text) (body : Text) (u : LogState)
     → log_of h list ≡ Ok (shown_with v list) → v.size ≡ length (recorded_items list)
     → next_view h v body ≡ Some w → next_log h (shown_with v list) body ≡ Some u
@@ -115,7 +115,7 @@ hashed_twice : (h : HashFunction) (items : List (Text × Text))
 hashed_twice h [] = refl
 hashed_twice h (x ∷ items) = ap (λ l. leaf_hash h x.0 ∷ l) (hashed_twice h items)
 
--- the hashes that are kept are these, with more of them too
+-- the hashes that are retained are these, with more of them too
 hashed_with : (leaves leaves' : Option (List Text)) (old new more : List Text)
     → IfSome leaves (λ l. l ≡ old) → leaves' ≡ option_map (λ l. l ++ more) leaves
     → new ≡ old ++ more → IfSome leaves' (λ l. l ≡ new)
@@ -124,7 +124,7 @@ hashed_with None leaves' old new more was are is =
 hashed_with (Some l) leaves' old new more was are is =
     subst (λ o. IfSome o (λ l. l ≡ new)) (sym are) (ap (λ x. x ++ more) was ∙ sym is)
 
--- One record more, which the log takes, is kept.
+-- One record more, which the log takes, is retained.
 pub kept_next : (h : HashFunction) (v w : LogView) (places places' : List ℕ)
     (leaves leaves' : Option (List (List ℕ))) (first : Text) (bodies : List Text) (body : Text)
     → AreKept h v places leaves (first ∷ bodies) → next_view h v body ≡ Some w
@@ -163,7 +163,7 @@ kept_next h v w places places' leaves leaves' first bodies body is next short pl
           (hashed_twice h (option_to_list (item_in body))));
     }
 
--- So it is behind any records.
+-- This holds after any records.
 pub kept_more : (h : HashFunction) (v w : LogView) (places places' : List ℕ)
     (leaves leaves' : Option (List (List ℕ))) (list : List Text) (body : Text)
     → AreKept h v places leaves list → next_view h v body ≡ Some w
@@ -198,7 +198,7 @@ begun_so : (o : Option Settings) (v : LogView) → option_map view_in (option_ma
 begun_so None v is = let wrong : None ≡ Some v = is in absurd cc
 begun_so (Some s) v is = (s, refl, same_Some (view_in (new_log s)) v is)
 
--- The log that it begins is kept.
+-- The log that it begins is retained.
 pub kept_first : (h : HashFunction) (v : LogView) (body : Text) (places : List ℕ)
     (leaves leaves' : Option (List (List ℕ))) → option_map view_in (begun_log body) ≡ Some v
     → HasSoundNumbers v → places ≡ 0 ∷ [] → IfSome leaves (λ l. l ≡ [])

@@ -28,7 +28,7 @@ use Rattle.issuance_log.proofs.Telling.{grown_leaves, grown_modelled, leaves_by,
 
 -- ---- where the journal has no call
 
--- records that are told where the disk of the tiles tells its bytes
+-- the records, if the model knows the bytes of the disk of the tiles
 both_same : (records : Option (List Text)) (tiles later : Option Text)
     → is_some later ≡ is_some tiles
     → option_and_then (λ (t : Text). records) later ≡ option_and_then (λ (t : Text). records) tiles

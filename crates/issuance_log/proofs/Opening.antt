@@ -130,8 +130,8 @@ module _ {D T : Type 0} (g : Ghosts D) (k : Ghosts T) (h : HashFunction) (disk l
     fine_tiles = fine;
   }
 
--- The disks were only looked at, and the refusal is that of the records, unless a call of the disk
--- of the tiles failed.
+-- The disks were only read, and the refusal is that of the records, unless a call of the disk of
+-- the tiles failed.
 module _ {D T : Type 0} (g : Ghosts D) (k : Ghosts T) (h : HashFunction) (disk later : D)
     (was rest : TileRest T) where
   -- no call failed
@@ -177,9 +177,9 @@ module _ {D T : Type 0} (g : Ghosts D) (k : Ghosts T) (h : HashFunction) (disk l
       still_read (state.Open open_error.Failed) read (left.1 (λ is. absurd cc))
   refused_so (state.Open open_error.Memory) read left = no_memory rest.refusal refl read left.0
 
--- ---- behind the last record
+-- ---- after the last record
 
--- The first bad tile is told, or that their disk failed.
+-- The first bad tile is reported, or that their disk failed.
 pub tile_refused : {D H T : Type 0} {hashes : Hashes H} {k : Ghosts T} (g : Ghosts D)
     (disk later : D) (was : TileRest T) (nodes : Tiles H T hashes k) (refusal : Option TileError)
     (new : T) (size : ℕ) (why : TileError) → OnlyReads g disk later

@@ -33,7 +33,7 @@ Tells (Err why) (Ok y) = ⊥
 Tells (Err why) (Err e) = e ≡ log_why why
 
 module _ (h : HashFunction) where
-  -- the state behind the records, and then how the file ends
+  -- the state after the records, and then how the file ends
   tells_state : (end : FileEnd) (t : Result LogState ℕ)
       → Tells (lifted state.BadRecord (shows t) >>= λ v. closing (view_fold h) end (Ok v))
       (lifted BadRecord t >>= λ s. closing (log_fold h) end (Ok s))

@@ -105,7 +105,7 @@ module _ (h : HashFunction) (v : LogView) (places : List ℕ) (leaves : Option (
       (λ s. GivesItem (item_at s index) r entry key)) (err_is result why is)
       (gives_nothing index why entry key there none)
 
-  -- the item of the record at the place
+  -- the item of the record at the offset
   item_read : (index place : ℕ) (list : List Text) (entry key : Text) → 1 ≤ index
       → index < v.size → place ≡ slice_index_or places index 0 → AreKept h v places leaves list
       → ((item : Text × Text) → IsPlaced list place item → item ≡ (entry, key))
@@ -149,7 +149,7 @@ gives_item h v places leaves (Some list) kept index place entry key some there i
 gives_item h v places leaves (Some list) kept index place entry key some there is (Err why) none
     gives = gives_nothing h v places leaves (Some list) kept index why entry key there none
 
--- the body of the record at a place, by its length and the bytes that were read
+-- the body of the record at an offset, by its length and the bytes that were read
 pub body_read : (place size : ℕ) (o later : Option (List Text)) (out items : List ℕ) (len : ℕ)
     → later ≡ o → IfSome o (HasSize (place + 1) size)
     → IfSome later (HoldsBody (place + 1 + 4) out) → length out ≡ size → length items ≡ size

@@ -56,7 +56,7 @@ module _ {T : Type 0} (k : Ghosts T) (was : TileRest T) where
     failed = λ failed. absurd (is.usable failed);
   }
 
-  -- behind a record that was taken, the machine goes on or stops for its tiles
+  -- after a record that was taken, the machine continues or stops for its tiles
   pub left_from : (mid now : TileRest T) (result : Result (Unit {0}) Misfit)
       → TilesAreRead k was mid → OnlyReads k mid.disk now.disk
       → OnOk result (k.faults now.disk ≡ k.faults mid.disk)

@@ -1,4 +1,4 @@
--- What the records of a log spell.
+-- What the records of a log encode.
 use Rattle.std.proofs.Common.{◌≡◌, inl, inr, ℕ, ◌%◌, ◌^◌, ◌<◌, ◌&&◌, ◌==◌, nat_lt, nat_le}
 use Rattle.std.proofs.Common.{true, List, ◌++◌, length, Option, Some, sym, ◌∙◌, arith}
 use Rattle.std.proofs.Common.{None, option_map, option_and_then, Result, Ok, Err, refl, subst, ap}

@@ -52,7 +52,7 @@ shown_so h list s is =
     (ap (λ l. take size (keys_of l)) list_is ∙ ap (take size) (sym keys)
     ∙ take_all size s.keys (omega (arith, some, even)))
 
--- a record more has its items behind the others
+-- a record more has its items after the others
 pub recorded_more : (list : List Text) (body : Text) → (rest : List (Text × Text))
     × (recorded_items (list ++ body ∷ []) ≡ recorded_items list ++ rest)
 recorded_more [] body = (recorded_items (body ∷ []), refl)
@@ -78,7 +78,7 @@ shown_longer v list body few = same_shown v _ _ _ _
     (first_same (λ item. item.0) v.size list body few)
     (first_same (λ item. item.1) v.size list body few)
 
--- the record of an item has it behind the others
+-- the record of an item has it after the others
 recorded_item : (list : List Text) (entry key : Text) → IsShort entry → IsShort key
     → 1 ≤ length (recorded_items list)
     → recorded_items (list ++ entry_record entry key ∷ [])
@@ -111,7 +111,7 @@ one_more f n items more x size is =
     ∙ take_all (n + 1) (map f (items ++ x ∷ [])) (omega arith) ∙ map-append f items (x ∷ [])
     ∙ ap (λ l. l ++ f x ∷ []) (sym (take_all n (map f items) (omega arith)))
 
--- the record of an item behind as many items as are shown
+-- the record of an item after as many items as are shown
 pub shown_added : (v : LogView) (list : List Text) (entry key : Text) → IsShort entry → IsShort key
     → 1 ≤ v.size → v.size ≡ length (recorded_items list)
     → shown_with (record v { size = v.size + 1 }) (list ++ entry_record entry key ∷ [])

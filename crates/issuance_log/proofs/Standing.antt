@@ -12,9 +12,9 @@ use Rattle.issuance_log.specs.Records.{item_in}
 use Rattle.issuance_log.specs.Shown.{recorded_items}
 use Rattle.issuance_log.proofs.Behind.{later_items}
 
--- ---- places
+-- ---- offsets
 
--- the place of a record more is behind the others
+-- the offset of a record more is after the others
 pub places_more : (place : ℕ) (bodies : List Text) (body : Text)
     → places_behind place (bodies ++ body ∷ [])
     ≡ places_behind place bodies
@@ -74,7 +74,7 @@ placed before (body ∷ bodies) i there =
     (behind-append 16 before body)
     (placed (before ++ body ∷ []) bodies j below))) i there
 
--- so it is of each item behind the null entry
+-- so it is of each item after the null entry
 pub placed_of : (first : Text) (bodies : List Text) (i : ℕ) → 1 ≤ i
     → i < length (recorded_items (first ∷ bodies))
     → IsPlaced (first ∷ bodies) (slice_index_or (places_of (first ∷ bodies)) i 0)
@@ -83,7 +83,7 @@ placed_of first bodies zero some there = absurd (omega (arith, some))
 placed_of first bodies (suc j) some there =
     placed (first ∷ []) bodies j (omega (arith, there))
 
--- places below an end, and more of them below a later one
+-- offsets below an end, and more of them below a later one
 pub below_more : (places more : List ℕ) (end later : ℕ) → AreBelow places end → end ≤ later
     → AreBelow more later → AreBelow (places ++ more) later
 below_more [] more end later are grows new i there = new i there

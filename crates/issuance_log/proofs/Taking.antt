@@ -36,7 +36,7 @@ size_next : (h : HashFunction) (v w : LogView) (body : Text) → next_view h v b
 unfolding next_view
 size_next h v w body is = size_by h v w (item_in body) (mark_in body) (tiled_in body) is
 
--- ---- what is kept of the items
+-- ---- what is retained of the items
 
 pub counted_next : (h : HashFunction) (v w : LogView) (body : Text) (places places' : List ℕ)
     (place : ℕ) → next_view h v body ≡ Some w → length places ≡ v.size
@@ -60,7 +60,7 @@ below_next body places places' place below are =
 
 -- ---- by the answer
 
--- The record was taken, and the machine goes on or stops for its tiles.
+-- The record was taken, and the machine continues or stops for its tiles.
 pub taken_so : {M S : Type 0} (takes : S → Text → Option S) (state : M → S)
     (Keeps : M → List Text → Type 0) (place : ℕ) (body : Text) (old new : M)
     (result : Result (Unit {0}) Misfit) → IfErr result (λ why. why ≡ Memory)

@@ -1,4 +1,4 @@
--- What is told of a log: what its durable records make, and what one record more makes of it.
+-- What is reported of a log: what its durable records make, and what one record more makes of it.
 use Rattle.std.proofs.Common.{◌≡◌, ℕ, true, false, List, [], ◌∷◌, ◌++◌, ◌∙◌, Option, Some}
 use Rattle.std.proofs.Common.{None, IfSome, option_map, refl, ap}
 use Rattle.std.specs.Prelude.{map, option_and_then, is_some}
@@ -12,9 +12,9 @@ use Rattle.issuance_log.specs.Shown.{shown_with}
 use Rattle.issuance_log.proofs.Keeping.{shown_next}
 use Rattle.issuance_log.proofs.Shown.{shown_view}
 
--- ---- what is told of a log
+-- ---- what the model knows of a log
 
--- the hashes of the entries, where the disk of the tiles tells its bytes
+-- the hashes of the entries, if the model knows the bytes of the disk of the tiles
 abbrev pub leaves_by : HashFunction → LogView → Option Text → Option (List Text)
     → Option (List (List ℕ))
 leaves_by h v tiles list = option_map (λ (s : LogState). map (leaf_hash h) s.entries)
@@ -61,7 +61,7 @@ leaves_same h v w (Some t) None o new both contents = let wrong : false ≡ true
 leaves_same h v w (Some t) (Some u) o new both contents =
     ap (option_map (λ (s : LogState). map (leaf_hash h) s.entries)) contents
 
--- leaves are told where bytes are
+-- the model knows the leaves if it knows the bytes
 pub some_modelled : (f f' : Text → List (List ℕ)) (contents later : Option Text)
     → option_map f' later ≡ option_map f contents → is_some later ≡ is_some contents
 some_modelled f f' None None same = refl

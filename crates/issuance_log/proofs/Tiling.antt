@@ -33,7 +33,7 @@ use Rattle.issuance_log.proofs.Growth.{size_fits}
 ends_before : (size stored : ℕ) → size ≤ stored → tiles_end size ≤ tiles_end stored
 ends_before size stored within = omega arith
 
--- At any moment of a store the tiles of an earlier size stay.
+-- At any time of a store the tiles of an earlier size stay.
 module _ {T : Type 0} (k : Ghosts T) (old new : T) (h : HashFunction) (leaves : List (List ℕ))
     (size : ℕ) (held : (c : Text) → k.may_leave old c → HoldsTiles h leaves size c) where
   pub still_held : ((c : Text) → k.left_since old (k.moment old) c → k.may_leave old c)
@@ -49,7 +49,7 @@ module _ {T : Type 0} (k : Ghosts T) (old new : T) (h : HashFunction) (leaves : 
       (prefix-less (tiles_end size) (tiles_end stored) is.before c (ends_before size stored within)
       is.keeps) (held is.before is.left)) any_moment
 
--- the hashes of the entries are the nodes that are kept
+-- the hashes of the entries are the nodes that are retained
 pub leaves_are : (h : HashFunction) (v : LogView) (places : List ℕ) (contents : Option Text)
     (nodes : Text → List (List ℕ)) (records : Option (List Text)) (P : List (List ℕ) → Type 0)
     → IfSome records (AreKept h v places (option_map nodes contents))
@@ -123,7 +123,7 @@ module _ {H D T : Type 0} {hashes : Hashes H} {g : Ghosts D} {k : Ghosts T}
       (no_record g (log_disk log) (log_end log) body (log.journal.settled sound) only_now
       (λ c. (d : Text) → k.may_leave disk d → HoldsTiles hashes.hash leaves size d)))
 
-  -- they were written behind those of the last size
+  -- they were written after those of the last size
   pub keeps_stored : HasSoundNumbers (view_of log) → (disk later : T) → later ≡ disk
       → LeavesOnly k (log_tiles_disk log) disk (IsImageBehind k (log_tiles_disk log)
       (tiles_end (tiles_stored (log_tiles log))))
@@ -140,7 +140,7 @@ module _ {H D T : Type 0} {hashes : Hashes H} {g : Ghosts D} {k : Ghosts T}
       (stored_held k (log_tiles_disk log) disk hashes.hash leaves (view_of log).tiled held
       (tiles_stored (log_tiles log)) (omega arith) log.stored any_moment))
 
-  -- and all of them are certain
+  -- and all of them are durable
   pub behind_stored : (Left : Text → Type 0) (Stands : List Text → Text → Type 0)
       (stored size : ℕ) (disk later : T) → later ≡ disk → stored ≡ size
       → IfSome (items_leaves log.machine.items) (λ leaves. (d : Text) → k.may_leave disk d

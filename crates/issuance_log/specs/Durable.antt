@@ -1,5 +1,5 @@
 -- What is certain of a log's journal, also where an append has failed: the records before the end
--- at which that append began make the log, and its items are kept.
+-- at which that append began make the log, and its items are retained.
 use Rattle.std.specs.Prelude.{ℕ, List, Option}
 use Rattle.std.proofs.Props.{props}
 use Rattle.byte_formats.specs.Types.{Hash, HashFunction, Text}

@@ -8,7 +8,7 @@ use Rattle.issuance_log.specs.declared.error.LogError.TheVariants.{Full, TooLarg
 use Rattle.issuance_log.specs.declared.error.LogError.TheVariants.{NothingNew, Failed, Append}
 use Rattle.issuance_log.specs.declared.error.LogError.TheVariants.{Memory}
 
--- The bytes are the body of the record at a place, where these records have one there.
+-- The bytes are the body of the record at an offset, if these records have one there.
 abbrev pub IsBodyAt : ℕ → Text → List Text → Type 0
 IsBodyAt place read list = (prefix : List Text) (body : Text) (back : List Text)
     → list ≡ prefix ++ body ∷ back → place ≡ behind 16 prefix → body ≡ read
@@ -23,8 +23,8 @@ IsNoAnswer Failed = Unit {0}
 IsNoAnswer (Append why) = ⊥
 IsNoAnswer Memory = Unit {0}
 
--- A count of faults rose where a call answers `Failed`, and is as it was where it answers anything
--- else.
+-- A count of failures rose where a call answers `Failed`, and is as it was where it answers
+-- anything else.
 abbrev pub LogCounts : {X : Type 0} → ℕ → ℕ → Result X LogError → Type 0
 LogCounts before after (Ok answer) = after ≡ before
 LogCounts before after (Err Full) = after ≡ before

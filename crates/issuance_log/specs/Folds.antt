@@ -34,7 +34,7 @@ abbrev pub view_in : LogState → LogView
 view_in s =
     record { settings = s.settings; size = length s.entries; marks = s.marks; tiled = s.tiled }
 
--- what is kept of the numbers: what the log shows, and how many landmarks more need no memory
+-- what is retained of the numbers: what the log shows, and how many landmarks more need no memory
 pub record LogNumbers : Type 0 where
   pub view : LogView
   pub mark_spare : ℕ
@@ -107,13 +107,13 @@ changed h v item mark tiles None None (Some size) =
     if takes_tiles v size then Some (tiles size) else None
 changed h v item mark tiles None None None = None
 
--- the log behind one record more, or none where the record breaks the rules
+-- the log after one record more, or none where the record breaks the rules
 unfoldable pub next_log : HashFunction → LogState → Text → Option LogState
 next_log h s body =
     changed h (view_in s) (λ x. with_item x.0 x.1 s) (with_mark s) (λ size. with_tiles size s)
     (item_in body) (mark_in body) (tiled_in body)
 
--- what it shows over every disk behind one record more
+-- what it shows over every disk after one record more
 unfoldable pub next_view : HashFunction → LogView → Text → Option LogView
 next_view h v body =
     changed h v (λ x. one_item_more v) (one_mark_more v) (λ size. tiled_to size v)
@@ -129,11 +129,11 @@ log_fold h =
 abbrev pub log_of : HashFunction → List Text → Result LogState ℕ
 log_of h list = state_behind (log_fold h) list
 
--- The log that these records make behind a first one with these settings, or the number of the
--- first record that breaks the rules.
+-- The log that these records make after a first one with these settings, or the number of the first
+-- record that breaks the rules.
 abbrev pub log_behind : HashFunction → Settings → List Text → Result LogState ℕ
 log_behind h settings bodies = taken_from (log_fold h) 1 (new_log settings) bodies
 
--- They may stand behind a first record with these settings.
+-- They may follow a first record with these settings.
 abbrev pub may_follow_log : HashFunction → Settings → List Text → Bool
 may_follow_log h settings bodies = is_ok (log_behind h settings bodies)

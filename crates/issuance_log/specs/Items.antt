@@ -1,5 +1,5 @@
--- What is kept of the items of a log: where each stands in the journal, and the nodes of the tree
--- over the entries.
+-- What is retained of the items of a log: where each stands in the journal, and the nodes of the
+-- tree over the entries.
 use Rattle.std.specs.Prelude.{◌≡◌, ℕ, ◌+◌, ◌<◌, ◌≤◌, List, ◌++◌, length, map, slice_index_or}
 use Rattle.std.specs.Prelude.{Option, Some, option_map, option_to_list, IfSome, Ok, vec_len}
 use Rattle.std.specs.Prelude.{vec_capacity}
@@ -17,11 +17,11 @@ use Rattle.issuance_log.specs.Shown.{recorded_items, shown_with}
 use Rattle.issuance_log.specs.Sound.{IsSound, IsSound-prop}
 use Rattle.issuance_log.specs.declared.items.Items.{Items}
 
--- Behind each of the places there is room for a gate and a length below an end.
+-- After each of the offsets a commit byte and a length fit below an end.
 abbrev pub AreBelow : List ℕ → ℕ → Type 0
 AreBelow places end = (i : ℕ) → i < length places → slice_index_or places i 0 + 5 ≤ end
 
--- The lengths of an item are told in two bytes.
+-- The lengths of an item fit two bytes.
 abbrev pub HasShortItem : Option (Text × Text) → Type 0
 HasShortItem item =
     (entry key : Text) → item ≡ Some (entry, key) → IsShort entry × IsShort key
@@ -50,14 +50,14 @@ module _ {H T : Type 0} {hashes : Hashes H} {k : Ghosts T} where
   abbrev pub items_tiles : Items H T hashes k → Tiles H T hashes k
   items_tiles items = items.nodes
 
-  -- the hashes of the entries, where the disk of the tiles tells its bytes
+  -- the hashes of the entries, if the model knows the bytes of the disk of the tiles
   abbrev pub items_leaves : Items H T hashes k → Option (List Hash)
   items_leaves items = tiles_leaves items.nodes
 
   abbrev pub items_places : Items H T hashes k → List ℕ
   items_places items = items.places.items
 
-  -- The item in a record at a place is put behind the others; where it has none, they stay.
+  -- The item in a record at an offset follows the others; if it has none, they stay.
   pub record HaveTaken (h : HashFunction) (item : Option (Text × Text)) (place : ℕ)
       (old new : Items H T hashes k) : Type 0 where
     pub places : items_places new

@@ -30,7 +30,7 @@ abbrev pub IsUsable : Option TileError → Type 0
 IsUsable refusal = refusal ≢ Some Failed
 
 module _ {T : Type 0} (k : Ghosts T) (was now : TileRest T) where
-  -- While records are read their disk is only looked at, without a fault.
+  -- While records are read their disk is only read, without a fault.
   pub record TilesAreRead : Type 0 where
     pub usable : IsUsable now.refusal
     pub only_reads : OnlyReads k was.disk now.disk
@@ -61,7 +61,7 @@ module _ {H T : Type 0} {hashes : Hashes H} {k : Ghosts T} where
   abbrev pub rest_in : LogMachine H T hashes k → TileRest T
   rest_in it = record { disk = tiles_disk (items_tiles it.items); refusal = it.refusal }
 
-  -- These records make it, and its items are kept.
+  -- These records make it, and its items are retained.
   abbrev pub KeepsRecords : LogMachine H T hashes k → List Text → Type 0
   KeepsRecords it list =
       AreKept hashes.hash (machine_view it) (items_places it.items) (items_leaves it.items) list
@@ -71,8 +71,8 @@ module _ {H T : Type 0} {hashes : Hashes H} {k : Ghosts T} where
   HasStored it = is_some it.refusal ≡ false
       → (machine_view it).tiled ≤ tiles_stored (items_tiles it.items)
 
-  -- Over any disk, where the next record's gate stands here: its numbers are sound, each item has
-  -- its place below that gate, and the tiles are stored.
+  -- Over any disk, where the next record's commit byte stands here: its numbers are sound, each
+  -- item has its place below that commit byte, and the tiles are stored.
   pub record IsKeptWithin (it : LogMachine H T hashes k) (gate : ℕ) : Type 0 where
     pub sound : HasSoundNumbers (machine_view it)
     pub below : AreBelow (items_places it.items) (gate + 1)

@@ -17,9 +17,9 @@ use Rattle.issuance_log.specs.declared.log.Log.{Log}
 
 module _ {H D T : Type 0} {hashes : Hashes H} {g : Ghosts D} {k : Ghosts T} where
   -- The log is the one in a journal and a file of tiles. No append has failed, and both disks were
-  -- only read, without a fault. Where the disk of the journal tells its bytes, they represent
-  -- records that make exactly this log, the journal ends with them, and each crash leaves them.
-  -- Where the file of tiles tells its bytes too, it has the tiles of the last size.
+  -- only read, without a failure. If the model knows the bytes of the journal's disk, they
+  -- represent records that make exactly this log, the journal ends with them, and each crash leaves
+  -- them. If it knows the file of tiles too, that has the tiles of the last size.
   pub record LogIsOpened (journal : D) (file : T) (log : Log H D T hashes g k) : Type 0 where
     pub sound : log_broken log ≡ false
     pub only_reads : OnlyReads g journal (log_disk log)
@@ -38,8 +38,8 @@ module _ {H D T : Type 0} {hashes : Hashes H} {g : Ghosts D} {k : Ghosts T} wher
     pub all : IfSome (log_records log) (AllRepresent g (log_disk log))
     pub end : IfSome (log_records log) (λ list. log_end log ≡ end_behind list)
 
--- Both disks were only read. The refusal has its cause in the bytes of either, in a fault, or in
--- memory that was refused, and a fault is counted only where it is the refusal.
+-- Both disks were only read. The refusal has its cause in the bytes of either, in a failure, or in
+-- memory that was refused, and a failure is counted only where it is the refusal.
 pub record LogIsNotOpened {D T : Type 0} (g : Ghosts D) (k : Ghosts T) (h : HashFunction)
     (journal journal' : D) (file file' : T) (why : LogOpenError) : Type 0 where
   pub only_reads : OnlyReads g journal journal'

@@ -36,13 +36,13 @@ pub record IsBadTile (h : HashFunction) (bytes tiles : Text) (level place : ℕ)
       level place
 
 -- the cause of a refusal of the journal, over the disk before the call and after it: the bytes, a
--- fault, or want of memory; tiles are none
+-- failure, or that memory ran out; tiles are none
 abbrev pub HasLogCause : {D : Type 0} → Ghosts D → HashFunction → D → D → LogOpenError → Type 0
 HasLogCause g h old new (BadRecord k) = AreRefused (log_fold h) (g.contents old) (BadRecord k)
 HasLogCause g h old new (Tile why) = ⊥
 HasLogCause g h old new (Open why) = IsCauseOf g (log_fold h) old new why
 
--- the cause of a refusal of the tiles: a fault of their disk, or a bad tile
+-- the cause of a refusal of the tiles: a failure of their disk, or a bad tile
 abbrev pub HasTileCause : {D T : Type 0} → Ghosts D → Ghosts T → HashFunction → D → T → T
     → TileError → Type 0
 HasTileCause g k h disk old new tile_error.Failed = Rose (k.faults old) (k.faults new)
@@ -57,7 +57,7 @@ HasOpenCause g k h old new tiles tiles' (BadRecord n) = HasLogCause g h old new 
 HasOpenCause g k h old new tiles tiles' (Tile why) = HasTileCause g k h old tiles tiles' why
 HasOpenCause g k h old new tiles tiles' (Open why) = HasLogCause g h old new (Open why)
 
--- no fault was counted, unless it is the refusal
+-- no failure was counted, unless it is the refusal
 abbrev pub LogCountsNoOther : {D : Type 0} → Ghosts D → D → D → LogOpenError → Type 0
 LogCountsNoOther g old new why = why ≢ Open open_error.Failed → g.faults new ≡ g.faults old
 

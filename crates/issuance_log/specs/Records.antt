@@ -27,19 +27,19 @@ landmark_tag = 3
 abbrev pub tiles_tag : ℕ
 tiles_tag = 4
 
--- ---- spelled
+-- ---- encodings
 
--- Log: the id behind its length of one byte, the most active landmarks and the limit in
--- four bytes each
+-- Log: the id after its length of one byte, the most active landmarks and the limit in four bytes
+-- each
 unfoldable pub settings_record : Settings → Text
 settings_record s =
     number w8 log_tag ++ (vector w8 s.id ++ (number w32 s.max_active ++ number w32 s.limit))
 
--- its length is told in two bytes
+-- its length fits two bytes
 abbrev pub IsShort : Text → Type 0
 IsShort text = length text < 65536
 
--- Entry: the entry and its key, each behind its length of two bytes
+-- Entry: the entry and its key, each after its length of two bytes
 unfoldable pub entry_record : Text → Text → Text
 entry_record entry key = number w8 entry_tag ++ (vector w16 entry ++ vector w16 key)
 
@@ -53,15 +53,15 @@ tiles_record size = number w8 tiles_tag ++ number w64 size
 
 -- ---- read
 
--- what stands behind the tag of a Log
+-- what follows the tag of a Log
 unfoldable pub settings_at : At → Result ((Text × (ℕ × ℕ)) × At) Short
 settings_at a = both_at (vector_at w8) (both_at (number_at w32) (number_at w32)) a
 
--- what stands behind the tag of an Entry
+-- what follows the tag of an Entry
 unfoldable pub entry_at : At → Result ((Text × Text) × At) Short
 entry_at a = both_at (vector_at w16) (vector_at w16) a
 
--- what stands behind this tag
+-- what follows this tag
 abbrev pub tagged : {X : Type 0} → ℕ → (At → Result (X × At) Short) → Result (ℕ × At) Short
     → Option X
 tagged wanted read (Ok tag) = if tag.0 == wanted then whole_of (read tag.1) else None

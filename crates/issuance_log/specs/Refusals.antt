@@ -15,15 +15,15 @@ use Rattle.issuance_log.specs.declared.error.LogError.TheVariants.{Full, TooLarg
 use Rattle.issuance_log.specs.declared.error.LogError.TheVariants.{NothingNew, Failed, Append}
 use Rattle.issuance_log.specs.declared.error.LogError.TheVariants.{Memory}
 
--- The refusal of a record that the journal settles, the first that holds: of a journal that an
+-- The refusal of a record that the journal determines, the first that holds: of a journal that an
 -- append has broken, and of one whose file would pass 2^31 bytes.
 abbrev pub append_refusal : Bool → ℕ → Text → Option AppendError
 append_refusal broken end body =
     if broken then Some append_error.Broken
     else (if nat_lt most_bytes (end + 5 + length body) then Some append_error.Full else None)
 
--- The refusal of an item that the log and its journal settle, the first that holds: of a full log,
--- of an entry and key that are too large together, and what the journal refuses.
+-- The refusal of an item that the log and its journal determine, the first that holds: of a full
+-- log, of an entry and key that are too large together, and what the journal refuses.
 unfoldable pub add_refusal : LogView → Bool → ℕ → Text → Text → Option LogError
 add_refusal v broken end entry key =
     if v.size == v.settings.limit then Some Full
@@ -47,8 +47,8 @@ tile_refusal v broken end =
     if nat_le (full_size v) v.tiled then Some NothingNew
     else option_map Append (append_refusal broken end (tiles_record (full_size v)))
 
--- The answer to an item keeps to its refusal. Memory may be refused behind the first two tests, and
--- a fault told where there is no refusal.
+-- The answer to an item follows its refusal. Memory may be refused after the first two tests, and a
+-- failure reported if there is no refusal.
 abbrev pub ItemKeepsTo : Option LogError → Result ℕ LogError → Type 0
 ItemKeepsTo wanted (Ok index) = wanted ≡ None
 ItemKeepsTo wanted (Err Full) = wanted ≡ Some Full
@@ -61,7 +61,7 @@ ItemKeepsTo wanted (Err (Append append_error.Broken)) = wanted ≡ Some (Append 
 ItemKeepsTo wanted (Err (Append append_error.Full)) = wanted ≡ Some (Append append_error.Full)
 ItemKeepsTo wanted (Err Memory) = (wanted ≢ Some Full) × (wanted ≢ Some TooLarge)
 
--- So does the answer to a landmark, where memory may be refused behind the first test.
+-- So does the answer to a landmark, but memory may be refused after the first test.
 abbrev pub MarkKeepsTo : Option LogError → Result (ℕ × ℕ) LogError → Type 0
 MarkKeepsTo wanted (Ok landmark) = wanted ≡ None
 MarkKeepsTo wanted (Err Full) = ⊥
@@ -74,8 +74,8 @@ MarkKeepsTo wanted (Err (Append append_error.Broken)) = wanted ≡ Some (Append 
 MarkKeepsTo wanted (Err (Append append_error.Full)) = wanted ≡ Some (Append append_error.Full)
 MarkKeepsTo wanted (Err Memory) = wanted ≢ Some NothingNew
 
--- And so does the answer to tiles. Behind the first test memory may be refused, and then a fault of
--- the disk of the tiles told, also where the journal would refuse.
+-- And so does the answer to tiles. After the first test memory may be refused, and then a failure
+-- of the disk of the tiles reported, also where the journal would refuse.
 abbrev pub TilesKeepTo : Option LogError → Result ℕ LogError → Type 0
 TilesKeepTo wanted (Ok size) = wanted ≡ None
 TilesKeepTo wanted (Err Full) = ⊥
@@ -95,7 +95,7 @@ item_at s index =
     then Ok (slice_index_or s.entries index [], slice_index_or s.keys index [])
     else Err NoSuchEntry
 
--- two byte strings hold that item; after a refusal, for which memory or a fault may be the reason
+-- two byte strings hold that item; after a refusal, for which memory or a failure may be the reason
 -- beside it, this says nothing of them
 abbrev pub GivesItem : Result (Text × Text) LogError → Result (Unit {0}) LogError
     → Text → Text → Type 0

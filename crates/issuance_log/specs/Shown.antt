@@ -1,12 +1,12 @@
--- What is said of a log where its disk tells the records: its items are the first ones in these, as
--- many as it shows over every disk.
+-- What holds of a log if the model knows the records on its disk: its items are the first ones in
+-- these, as many as it shows over every disk.
 use Rattle.std.specs.Prelude.{List, [], ◌∷◌, map, take, flat_map, option_to_list}
 use Rattle.byte_formats.specs.Types.{Text}
 use Rattle.issuance_log.specs.Folds.{LogState, LogView, null_entry}
 use Rattle.issuance_log.specs.Records.{item_in}
 
 -- The items in the records of a log, in their order: the null entry, without a key, and that of
--- each Entry behind the first record.
+-- each Entry after the first record.
 abbrev pub recorded_items : List Text → List (Text × Text)
 recorded_items [] = []
 recorded_items (first ∷ bodies) =

@@ -19,15 +19,15 @@ pub record HasSoundNumbers (v : LogView) : Type 0 where
   pub multiple : v.tiled % 256 ≡ 0
   pub tiled : v.tiled ≤ v.size
 
--- An item of a log behind the first: the entry reads as one of type 1, to which the key belongs,
--- and the length of each is told in two bytes.
+-- An item of a log after the first: the entry reads as one of type 1, to which the key belongs, and
+-- the length of each fits two bytes.
 pub record IsItem (h : HashFunction) (entry key : Text) : Type 0 where
   pub belongs : matches h entry key ≡ true
   pub short_entry : IsShort entry
   pub short_key : IsShort key
 
--- Where its disk tells the records: beside the numbers, each entry has a key, the null entry none,
--- and each later one that which belongs to it.
+-- If the model knows the records on its disk: beside the numbers, each entry has a key, the null
+-- entry none, and each later one that which belongs to it.
 pub record IsSound (h : HashFunction) (s : LogState) : Type 0 where
   pub numbers : HasSoundNumbers (view_in s)
   pub even : length s.keys ≡ length s.entries

@@ -1,4 +1,4 @@
--- A log that calls look at, one after the other.
+-- A log that calls read, one after the other.
 use Rattle.std.proofs.Common.{refl, ◌∙◌}
 use Rattle.byte_formats.specs.Types.{Text}
 use Rattle.disk_core.proofs.Moments.{only_read_on, nothing_read}

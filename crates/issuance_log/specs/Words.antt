@@ -63,24 +63,25 @@ module _ {H D T : Type 0} {hashes : Hashes H} {g : Ghosts D} {k : Ghosts T} wher
   abbrev pub view_of : Log H D T hashes g k → LogView
   view_of log = log.machine.numbers.view
 
-  -- The log as its journal tells it, where it does: what it shows over every disk, with the first
-  -- items in the records.
+  -- The log that its journal has, if the model knows that: what it shows over every disk, with the
+  -- first items in the records.
   abbrev pub modelled_state : Log H D T hashes g k → Option LogState
   modelled_state log = option_map (shown_with (view_of log)) (log_records log)
 
-  -- the records, where the disk of the tiles tells its bytes too; and the log as both tell it
+  -- the records, if the model knows the bytes of the disk of the tiles too; and the log that both
+  -- have
   abbrev pub both_records : Log H D T hashes g k → Option (List Text)
   both_records log = option_and_then (λ tiles. log_records log) (k.contents (log_tiles_disk log))
 
   abbrev pub modelled_by_both : Log H D T hashes g k → Option LogState
   modelled_by_both log = option_map (shown_with (view_of log)) (both_records log)
 
-  -- the hashes of its entries, where both disks tell their bytes
+  -- the hashes of its entries, if the model knows the bytes of both disks
   abbrev pub log_leaves : Log H D T hashes g k → Option (List Hash)
   log_leaves log = option_map (λ s. map (leaf_hash hashes.hash) s.entries) (modelled_by_both log)
 
-  -- The disks were only looked at. The log shows what it showed, with the same records and the same
-  -- end, and is broken where it was.
+  -- The disks were only read. The log shows what it showed, with the same records and the same end,
+  -- and is broken if it was.
   pub record LogStays (old new : Log H D T hashes g k) : Type 0 where
     pub only_reads : OnlyReads g (log_disk old) (log_disk new)
     pub tiles : OnlyReads k (log_tiles_disk old) (log_tiles_disk new)
@@ -106,14 +107,14 @@ module _ {H D T : Type 0} {hashes : Hashes H} {g : Ghosts D} {k : Ghosts T} wher
   LogHasGrown body seen old new =
       OwnerHasGrown g body (seen (view_of old)) (log_owner old) (log_owner new)
 
-  -- the journal tells the log so, and both disks the hashes of its entries
+  -- the model knows this log of the journal, and these hashes of its entries of both disks
   pub record LogIsModelled (state : Option LogState) (all : Option (List Hash))
       (log : Log H D T hashes g k) : Type 0 where
     pub contents : modelled_state log ≡ state
     pub leaves : log_leaves log ≡ all
 
-  -- What is told behind a call that appends a record, by its answer: at Ok this of what was told
-  -- before, and else what was told before.
+  -- What the model knows after a call that appends a record, by its answer: at Ok this of what it
+  -- knew before, and else what it knew before.
   abbrev pub LogModelMoves : {X : Type 0} → (LogState → LogState) → Log H D T hashes g k
       → Log H D T hashes g k → Result X LogError → Type 0
   LogModelMoves next old new (Ok answer) = LogIsModelled (option_map next (modelled_state old))
@@ -121,7 +122,8 @@ module _ {H D T : Type 0} {hashes : Hashes H} {g : Ghosts D} {k : Ghosts T} wher
   LogModelMoves next old new (Err why) = LogIsModelled (modelled_state old) (log_leaves old) new
 
   -- What a call does that appends this record, which makes this of what the old log showed, and
-  -- this of what it told: as the owner of its journal it appends the record, and it tells that.
+  -- this of what the model knew of it: as the owner of its journal it appends the record, and the
+  -- model knows that.
   pub record LogAppends {X : Type 0} (body : Text) (seen : LogView → LogView)
       (next : LogState → LogState) (old new : Log H D T hashes g k)
       (result : Result X LogError) : Type 0 where
@@ -129,21 +131,22 @@ module _ {H D T : Type 0} {hashes : Hashes H} {g : Ghosts D} {k : Ghosts T} wher
         (log_owner new) result
     pub is_modelled : LogModelMoves next old new result
 
-  -- Where the contents of the journal are known, this record after its own makes this of the log.
+  -- This record, after those of the journal, makes this of the log, if the contents of the journal
+  -- are known.
   abbrev pub LogWouldTake : Text → (LogState → LogState) → Log H D T hashes g k → Type 0
   LogWouldTake body next log = IfSome (log_records log) (λ list.
       log_of hashes.hash (list ++ body ∷ []) ≡ Ok (next (shown_with (view_of log) list)))
 
-  -- At any moment a crash leaves the tiles of this size on their disk, where it would have left
-  -- them before.
+  -- At any time a crash leaves the tiles of this size on their disk, if it would have left them
+  -- before.
   abbrev pub KeepsTiles : ℕ → Log H D T hashes g k → Log H D T hashes g k → Type 0
   KeepsTiles size old new = IfSome (log_leaves old) (λ leaves.
       ((c : Text) → k.may_leave (log_tiles_disk old) c → HoldsTiles hashes.hash leaves size c)
       → LeavesOnly k (log_tiles_disk old) (log_tiles_disk new)
       (HoldsTiles hashes.hash leaves size))
 
-  -- Unless an append had failed before: where a crash at some moment of the call may leave a
-  -- journal with this record, behind the call it leaves the tiles of this size on their disk.
+  -- Unless an append had failed before: if a crash at some time of the call may leave a journal
+  -- with this record, after the call it leaves the tiles of this size on their disk.
   abbrev pub TilesStandBehind : Text → ℕ → Log H D T hashes g k → Log H D T hashes g k → Type 0
   TilesStandBehind body size old new = log_broken old ≡ false → IfSome (log_leaves old) (λ leaves.
       IfSome (log_records old) (λ list. (c : Text)

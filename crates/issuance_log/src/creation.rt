@@ -29,8 +29,8 @@ pub fn pack(alloc: Global, settings: &LogSettings) -> Result<FirstRecord, Memory
 /// Begins the journal of a new log on an empty disk. At Ok a crash leaves the journal, and its one
 /// record makes the log that has the null entry alone.
 ///
-/// Errors, in the order of the tests: `Memory`, `Failed`, `NotEmpty` where the disk holds bytes.
-/// The disk is handed back; one that holds bytes was only looked at.
+/// Errors, in the order of the tests: `Memory`, `Failed`, `NotEmpty` where the disk holds bytes. A
+/// refusal returns the disk; one that holds bytes was only read.
 pub fn create<D: Disk>(
     alloc: Global,
     disk: D,

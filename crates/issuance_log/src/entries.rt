@@ -16,7 +16,7 @@ use journal_core::{Journal, MAX_BODY};
 use mtc_io::{Bytes, Memory};
 use std::alloc::Global;
 
-// The gate of a record, and its length.
+// The commit byte of a record, and its length.
 const COMMIT_BYTE: u64 = 1;
 
 const LENGTH: u64 = 4;
@@ -27,8 +27,8 @@ fn zeros(alloc: Global, size: usize) -> Result<Vec<u8>, Memory>
     Ok(vec![in alloc; 0; size]?)
 }
 
-// The body of the record at a place. A length that no record has there can come only of a disk that
-// tells nothing, and is answered as want of memory.
+// The body of the record at an offset. Only a disk whose bytes the model doesn't know can give a
+// length that no record has there; the answer is then out of memory.
 fn read_body<D: Disk>(
     alloc: Global,
     journal: &mut Journal<D>,
@@ -55,8 +55,8 @@ fn read_body<D: Disk>(
     Ok(body)
 }
 
-// The item of a body into two empty byte strings, which stay empty where memory is refused. So it
-// is answered too of a body that is no Entry.
+// The item of a body into two empty byte strings, which stay empty where memory is refused. A body
+// that is no Entry is answered so too.
 fn copy_item(body: &[u8], entry: &mut Bytes, spki: &mut Bytes) -> Result<(), LogError>
     requires entry { entry.old ≡ [] }
     requires spki { spki.old ≡ [] }
@@ -76,9 +76,9 @@ fn copy_item(body: &[u8], entry: &mut Bytes, spki: &mut Bytes) -> Result<(), Log
     Ok(())
 }
 
-/// The entry and the key of the record at a place, into two empty byte strings. They stay empty
-/// after a refusal: `Failed`, or want of memory, which is answered too where a disk that tells
-/// nothing gives no Entry there. The disk is only looked at.
+/// The entry and the key of the record at an offset, into two empty byte strings. They stay empty
+/// after a refusal: `Failed`, or out of memory. The latter is answered too if a disk whose bytes
+/// the model doesn't know gives no Entry there. The disk is only read.
 pub(crate) fn read_entry<D: Disk>(
     alloc: Global,
     journal: &mut Journal<D>,

@@ -14,7 +14,7 @@ use state_journal::StateOpenError;
 use tile_store::TileError;
 use tls_wire::{AnchorBytesError, Short};
 
-/// A refused opening hands both disks back.
+/// A refused opening returns both disks.
 #[derive(Debug, Drop)]
 pub struct LogRefused<D, T> {
     pub disk: D,

@@ -1,4 +1,4 @@
-//! Which records may stand behind the first one of a log's journal.
+//! Which records may follow the first one of a log's journal.
 
 ghost use Rattle.std.specs.Prelude.{◌≡◌, [], ◌∷◌, ◌++◌, IfOk};
 ghost use Rattle.issuance_log.specs.Folds.{may_follow_log, next_view};
@@ -11,7 +11,7 @@ use mtc_io::{Bytes, Memory};
 use std::alloc::Global;
 use tree_core::TreeHash;
 
-// Takes one record more: whether it keeps to the rules.
+// Takes one record more: whether it follows the rules.
 fn try_take<H: TreeHash>(numbers: &mut Numbers, body: &[u8]) -> Result<bool, Memory>
     ensures { HasTried (next_view H.hash numbers.old.view body.now) numbers.new.view result }
 {
@@ -22,8 +22,8 @@ fn try_take<H: TreeHash>(numbers: &mut Numbers, body: &[u8]) -> Result<bool, Mem
     }
 }
 
-/// Whether these records, and one more behind them, may stand behind the first record of a log with
-/// these settings.
+/// Whether these records, and one more after them, may follow the first record of a log with these
+/// settings.
 pub fn may_follow<H: TreeHash>(
     alloc: Global,
     settings: &LogSettings,

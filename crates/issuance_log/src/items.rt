@@ -1,4 +1,4 @@
-//! The items of a log as they are kept: the place of each, and the nodes of the tree.
+//! The items of a log as they are retained: the offset of each, and the nodes of the tree.
 
 ghost use Rattle.std.specs.Prelude.{◌≡◌, ℕ, ◌<◌, ◌≤◌, ◌+◌, ◌*◌, ◌%◌, ◌^◌, max, [], ◌∷◌, ◌++◌};
 ghost use Rattle.std.specs.Prelude.{length, slice_index_or, vec_len, option_map, IfSome, IfOk};
@@ -26,7 +26,7 @@ use tree_core::{TreeHash, leaf};
 /// The null entry: the type 0, and no body.
 pub(crate) const NULL_ENTRY: [u8; 2] = [0, 0];
 
-/// The place of each item in the journal, and the nodes of the tree over the entries.
+/// The offset of each item in the journal, and the nodes of the tree over the entries.
 #[derive(Drop)]
 pub(crate) struct Items<H: TreeHash, T: Disk> {
     places: Vec<u64>,
@@ -52,7 +52,7 @@ impl<H: TreeHash, T: Disk> Items<H, T> {
         }
     }
 
-    /// Makes room for one item more. The items stay as they were.
+    /// Reserves capacity for one item more. The items stay as they were.
     pub(crate) fn reserve(&mut self) -> Result<(), Memory>
         ensures capacity { OnOk result (HasItemCapacity self.new) }
         ensures full { OnErr result (HasItemCapacity self.old → ⊥) }
@@ -65,8 +65,7 @@ impl<H: TreeHash, T: Disk> Items<H, T> {
         self.nodes.reserve(1)
     }
 
-    /// Puts the place of an item and the hash of its entry behind the others, in room that is
-    /// there.
+    /// Appends the offset of an item and the hash of its entry to the others, within the capacity.
     pub(crate) fn push(&mut self, place: u64, leaf: &[u8; 32])
         requires capacity { HasItemCapacity self.old }
         requires few { length (items_places self.old) + 1 < 2 ^ 32 }
@@ -86,8 +85,8 @@ impl<H: TreeHash, T: Disk> Items<H, T> {
         }
     }
 
-    /// Puts the place of an item and the hash of its entry behind the others. Where memory is
-    /// refused they stay.
+    /// Appends the offset of an item and the hash of its entry to the others. If memory is refused
+    /// they stay.
     pub(crate) fn add(&mut self, place: u64, entry: &[u8]) -> Result<(), Memory>
         requires { length (items_places self.old) + 1 < 2 ^ 32 }
         ensures places { OnOk result
@@ -105,7 +104,7 @@ impl<H: TreeHash, T: Disk> Items<H, T> {
         Ok(())
     }
 
-    /// The place of an item.
+    /// The offset of an item.
     pub(crate) fn place(&self, index: u64) -> u64
         requires { index < length (items_places self.now) }
         ensures { result ≡ slice_index_or (items_places self.now) index 0 }

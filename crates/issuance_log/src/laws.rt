@@ -14,8 +14,8 @@ ghost use Rattle.issuance_log.specs.Rules.{IsFirst, IsNext};
 ghost use Rattle.issuance_log.specs.Settings.{Settings};
 ghost use Rattle.issuance_log.specs.Shown.{recorded_items, shown_with};
 
-/// The body of an Entry is read as the entry and the key that it spells, and only what is spelled
-/// so is read.
+/// The body of an Entry is read as the entry and the key that it encodes, and only such an encoding
+/// is read.
 pub fn law_items_decode_as_encoded()
     ensures again { (entry key : Text) → IsShort entry → IsShort key
         → item_in (entry_record entry key) ≡ Some (entry, key) }
@@ -23,14 +23,14 @@ pub fn law_items_decode_as_encoded()
         → (body ≡ entry_record entry key) × IsShort entry × IsShort key }
 {}
 
-/// The body of a Landmark is read as the size that it spells, and only what is spelled so is read.
+/// The body of a Landmark is read as the size that it encodes, and only such an encoding is read.
 pub fn law_landmarks_decode_as_encoded()
     ensures again { (size : ℕ) → size < 2 ^ 64 → mark_in (landmark_record size) ≡ Some size }
     ensures only { (body : Text) (size : ℕ) → IsBytes body → mark_in body ≡ Some size
         → (body ≡ landmark_record size) × (size < 2 ^ 64) }
 {}
 
-/// The body of a Tiles is read as the size that it spells, and only what is spelled so is read.
+/// The body of a Tiles is read as the size that it encodes, and only such an encoding is read.
 pub fn law_tiles_decode_as_encoded()
     ensures again { (size : ℕ) → size < 2 ^ 64 → tiled_in (tiles_record size) ≡ Some size }
     ensures only { (body : Text) (size : ℕ) → IsBytes body → tiled_in body ≡ Some size
@@ -43,7 +43,7 @@ pub fn law_views_follow_the_records()
         → next_view h (view_in s) body ≡ option_map view_in (next_log h s body) }
 {}
 
-/// A record begins a log, or makes a log of another one, exactly where it keeps to the rules.
+/// A record begins a log, or makes a log of another one, exactly if it follows the rules.
 pub fn law_records_keep_to_the_rules()
     ensures first { (body : Text) (s : LogState) → IsFirst body s → begun_log body ≡ Some s }
     ensures only_first { (body : Text) (s : LogState) → IsBytes body → begun_log body ≡ Some s
@@ -56,7 +56,7 @@ pub fn law_records_keep_to_the_rules()
         → next_log h s body ≡ Some t → IsNext h s body t }
 {}
 
-/// A file is read as a log exactly where it stands for records that make this log.
+/// A file is read as a log exactly if it represents records that make this log.
 pub fn law_logs_are_read_from_their_journals()
     ensures read { (h : HashFunction) (bytes : Text) (list : List Text) (s : LogState)
         → Represents bytes list
@@ -67,8 +67,8 @@ pub fn law_logs_are_read_from_their_journals()
 {}
 
 /// A log that records make is what it shows over every disk, with the first items in the records.
-/// It stays so where a record more stands behind them. Where all of the items are shown, the record
-/// of an item adds this one, and that of a landmark or of tiles adds none.
+/// It stays so if one more record follows them. If all of the items are shown, the record of an
+/// item adds this one, and that of a landmark or of tiles adds none.
 pub fn law_records_determine_the_items()
     ensures whole { (h : HashFunction) (list : List Text) (s : LogState) → log_of h list ≡ Ok s
         → shown_with (view_in s) list ≡ s }
@@ -85,8 +85,8 @@ pub fn law_records_determine_the_items()
         → recorded_items (list ++ tiles_record size ∷ []) ≡ recorded_items list }
 {}
 
-/// Records make a log exactly where the first one has settings, and the others may stand behind
-/// it: then the log is the one that these make of the settings.
+/// Records make a log exactly if the first one has settings, and the others may follow it: then the
+/// log is the one that these make of the settings.
 pub fn law_logs_begin_with_their_settings()
     ensures behind { (h : HashFunction) (first : Text) (s : Settings) (bodies : List Text)
         → settings_in first ≡ Some s → log_of h (first ∷ bodies) ≡ log_behind h s bodies }

@@ -1,4 +1,4 @@
-//! The issuance log of a certificate authority, kept in a journal.
+//! The issuance log of a certificate authority, stored in a journal.
 //!
 //! A log is a list of entries with their keys, each at its index, and settings that never change.
 //! [`create`] begins the journal of a new log, which has the null entry at index 0; [`pack`] takes
@@ -6,14 +6,14 @@
 //! one by one, and [`Log::add`] adds an entry: once it has answered Ok, a crash of the machine
 //! leaves the entry. [`Log::mark`] sets a landmark at the size of the log in the same way.
 //!
-//! What the records of a journal make of a log is one function of them. A log keeps to it: unless
-//! an append has failed, its settings, items and landmarks are what the records on its disk make.
+//! What the records of a journal make of a log is one function of them. A log follows it: unless an
+//! append has failed, its settings, items and landmarks are what the records on its disk make.
 //!
 //! A log keeps the place of each entry in the journal, from which [`Log::entry`] reads it back. It
 //! is the [`Nodes`](tree_proofs::Nodes) of the tree over its entries, in
 //! [`Tiles`](tile_store::Tiles) on a second disk: [`Log::tile`] stores those that are full and then
 //! appends their size, and the next opening adopts them where it reads that record. So an opening
-//! keeps the nodes over the entries behind the last such record alone.
+//! keeps the nodes over the entries after the last such record alone.
 #![tactic(auto)]
 
 mod creation;

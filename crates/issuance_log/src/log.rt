@@ -49,7 +49,7 @@ use tree_core::TreeHash;
 /// were stored stand on a second disk. `H` is the hash function of the tree, and that by which a
 /// key belongs to an entry.
 ///
-/// In memory are the settings, the place of each entry in the journal, the landmarks and the nodes
+/// In memory are the settings, the offset of each entry in the journal, the landmarks and the nodes
 /// that are in no adopted tile. The hash of an entry is among these at once. The nodes above are
 /// made when a node is asked for, and before tiles over them are stored or adopted: an opening that
 /// adopts none hashes no pair.
@@ -92,7 +92,7 @@ fn not_opened<D, T>(refused: StateRefused<D, TileRest<T>>) -> LogRefused<D, T>
     }
 }
 
-// A drop in one step: a derived one is proved field by field wherever a value is let go.
+// A drop in one step: a derived one is proved field by field wherever a value is dropped.
 impl<H: TreeHash, D: Disk + Drop, T: Disk + Drop> Drop for Log<H, D, T> {
     fn drop(self) {
         let Log {
@@ -155,8 +155,8 @@ impl<H: TreeHash, D: Disk, T: Disk> Log<H, D, T> {
     }
 
     /// Adds an entry with the key that belongs to it, and answers its index. At Ok a crash leaves
-    /// the records with that of the entry; at any moment of the call it leaves the old records, or
-    /// these and that one. The disk of the tiles isn't called.
+    /// the records with that of the entry; at any time of the call it leaves the old records, or
+    /// these and that one. The call leaves the disk of the tiles alone.
     ///
     /// Errors, in the order of the tests: `Full` where the log has as many entries as its limit
     /// allows; `TooLarge` where the entry and its key have more than 65,535 bytes together;
@@ -184,8 +184,8 @@ impl<H: TreeHash, D: Disk, T: Disk> Log<H, D, T> {
     }
 
     /// Sets a landmark at the size of the log, and answers its number, counted from 1, and that
-    /// size. At Ok a crash leaves the records with that of the landmark; at any moment of the call
-    /// it leaves the old records, or these and that one. The disk of the tiles isn't called.
+    /// size. At Ok a crash leaves the records with that of the landmark; at any time of the call it
+    /// leaves the old records, or these and that one. The call leaves the disk of the tiles alone.
     ///
     /// Errors, in the order of the tests: `NothingNew` where the last landmark has this size;
     /// `Memory`; and what [`Journal::append`] refuses. A refusal leaves the log as it was. After
@@ -207,15 +207,15 @@ impl<H: TreeHash, D: Disk, T: Disk> Log<H, D, T> {
         self.append_record(body.as_slice(), (number, size))
     }
 
-    /// Stores the tiles that the entries fill, makes them certain, and then appends the greatest
+    /// Stores the tiles that the entries fill, makes them durable, and then appends the greatest
     /// multiple of 256 that isn't above the size, which it answers. The next opening adopts them.
-    /// At any moment a crash leaves the tiles that it would have left before. Where it leaves the
-    /// new record it leaves all tiles of the new size, unless an append had failed before. Whatever
-    /// it answers, it brings the known length of their disk no further than the end of these tiles.
+    /// At any time a crash leaves the tiles that it would have left before. If it leaves the new
+    /// record it leaves all tiles of the new size, unless an append had failed before. Whatever it
+    /// answers, it brings the known length of their disk no further than the end of these tiles.
     ///
     /// Errors, in the order of the tests: `NothingNew` where this number isn't above the last size
     /// of tiles; `Memory`; `Failed` of the disk of the tiles; and what [`Journal::append`] refuses.
-    /// A refusal leaves the log as it was, but for tiles on their disk behind those of the last
+    /// A refusal leaves the log as it was, but for tiles on their disk after those of the last
     /// size. After `Append(Failed)` it shows what it showed before, and each further call that
     /// passes the tests before answers `Append(Broken)`.
     pub fn tile(&mut self) -> Result<u64, LogError>
@@ -278,10 +278,10 @@ impl<H: TreeHash, D: Disk, T: Disk> Log<H, D, T> {
     }
 
     /// What holds of every log: the clauses say it, and the call does nothing. Over any disk the
-    /// landmarks rise up to the size at most, and the tiles are within it. Where the journal's disk
-    /// tells its bytes, what it tells shows the same numbers, each entry but the first reads as one
-    /// of type 1 to which its key belongs, and the lengths of both are told in two bytes; also
-    /// behind an append that failed.
+    /// landmarks rise up to the size at most, and the tiles are within it. If the model knows the
+    /// bytes of the journal's disk, the log in them shows the same numbers, each entry but the
+    /// first reads as one of type 1 to which its key belongs, and the lengths of both fit two
+    /// bytes; also after an append that failed.
     pub fn law_sound(&self)
         ensures numbers { HasSoundNumbers (view_of self.now) }
         ensures view { IfSome (modelled_state self.now) (λ s. view_in s ≡ view_of self.now) }
@@ -290,7 +290,7 @@ impl<H: TreeHash, D: Disk, T: Disk> Log<H, D, T> {
         let _ = self.machine.numbers.size();
     }
 
-    /// A record that the call of its kind does not refuse keeps to the rules: after the records of
+    /// A record that the call of its kind does not refuse follows the rules: after the records of
     /// the journal, where its contents are known, it makes the log that the call says. The clauses
     /// are the law, and the call does nothing.
     pub fn law_unrefused_records_are_taken(&self)
@@ -323,7 +323,8 @@ impl<H: TreeHash, D: Disk, T: Disk> Log<H, D, T> {
         self.machine.numbers.marks()
     }
 
-    // The hash of the `2^level` entries from `place * 2^level` on. The journal's disk isn't called.
+    // The hash of the `2^level` entries from `place * 2^level` on. The call leaves the journal's
+    // disk alone.
     pub(crate) fn node_at(&mut self, level: u32, place: u64) -> Result<[u8; 32], Failed>
         requires { (place + 1) * 2 ^ level ≤ (view_of self.old).size }
         ensures node { IfOk result (IsRootOf H.hash (log_leaves self.old) (place * 2 ^ level)
@@ -336,14 +337,14 @@ impl<H: TreeHash, D: Disk, T: Disk> Log<H, D, T> {
         self.machine.items.node(level, place)
     }
 
-    /// The entry at an index and its key, in the place of what the two byte strings held. It is
-    /// read back from the journal.
+    /// The entry at an index and its key, instead of what the two byte strings held. It is read
+    /// back from the journal.
     ///
     /// Errors, in the order of the tests: `NoSuchEntry` where the index isn't below the size;
     /// `Memory` and `Failed`, whichever comes first. After a refusal both byte strings are empty.
-    /// The journal's disk is only looked at, that of the tiles isn't called, and the log shows what
-    /// it showed before. Over a disk that tells nothing an Entry that can't be read there is
-    /// `Memory`.
+    /// The call only reads the journal's disk, it leaves that of the tiles alone, and the log shows
+    /// what it showed before. Over a disk whose bytes the model doesn't know an Entry that can't be
+    /// read there is `Memory`.
     #[tactic(auto, unfolding(crate::specs::Refusals::item_at))]
     pub fn entry(&mut self, index: u64, entry: &mut Bytes, spki: &mut Bytes) -> Result<(), LogError>
         ensures item { IfSome (modelled_state self.old)

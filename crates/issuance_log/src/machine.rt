@@ -39,8 +39,8 @@ pub(crate) struct TileRest<T> {
     pub(crate) refusal: Option<TileError>,
 }
 
-/// What the records of a journal make of a log: its numbers, and its items as they are kept. The
-/// tiles of a size are adopted when its record is read, so that the nodes in them are let go at
+/// What the records of a journal make of a log: its numbers, and its items as they are retained.
+/// The tiles of a size are adopted when its record is read, so that the nodes in them are let go at
 /// once. Where one of them is bad, no more are adopted, and the records are read on, since a bad
 /// record is reported first. Where their disk fails, the records are not read on.
 ///
@@ -51,7 +51,7 @@ pub(crate) struct LogMachine<H: TreeHash, T: Disk> {
     pub(crate) refusal: Option<TileError>,
 }
 
-// A drop in one step: a derived one is proved field by field wherever a value is let go.
+// A drop in one step: a derived one is proved field by field wherever a value is dropped.
 impl<H: TreeHash, T: Disk + Drop> Drop for LogMachine<H, T> {
     fn drop(self) {
         let LogMachine {
@@ -95,7 +95,7 @@ fn not_begun<H: TreeHash, T: Disk>(items: Items<H, T>, why: Misfit) -> NotBegun<
     }
 }
 
-// Takes one record more, which stands at a place. A refusal leaves all as it was.
+// Takes one record more, which stands at an offset. A refusal leaves all as it was.
 fn take_record<H: TreeHash, T: Disk>(
     numbers: &mut Numbers,
     items: &mut Items<H, T>,
@@ -158,7 +158,7 @@ impl<H: TreeHash, T: Disk> LogMachine<H, T> {
         }
     }
 
-    // Takes one record more, whose gate stands at a place, and adopts the tiles of its size.
+    // Takes one record more, whose commit byte stands at a place, and adopts the tiles of its size.
     fn take_next(&mut self, place: u64, body: &[u8]) -> Result<(), Misfit>
         requires { IsKeptWithin self.old place }
         ensures takes { TakesRecord (next_view H.hash) (λ it. machine_view it)
@@ -191,7 +191,7 @@ impl<H: TreeHash, T: Disk> LogMachine<H, T> {
     }
 
     // Adopts the tiles of the last size that are not stored yet, unless tiles were refused before.
-    // A refusal is kept. Where their disk failed, the answer is that the record can't be taken.
+    // A refusal is retained. Where their disk failed, the answer is that the record can't be taken.
     fn adopt_new(&mut self) -> Result<(), Misfit>
         requires { length (items_places self.old.items) ≡ (machine_view self.old).size }
         ensures view { machine_view self.new ≡ machine_view self.old }

@@ -10,7 +10,8 @@ use tree_proofs::Nodes;
 
 /// A log is the nodes of the tree over its entries: those of adopted tiles come from the disk of
 /// the tiles, and it fails only where that does; the others are in memory, and are made there when
-/// one is asked for. The disk of the journal isn't called, and the log shows what it showed before.
+/// one is asked for. No call reaches the disk of the journal, and the log shows what it showed
+/// before.
 impl<H: TreeHash, D: Disk, T: Disk> Nodes for Log<H, D, T> {
     ghost use Rattle.issuance_log.specs.Staying.{asks_alone, asks_both};
     ghost use Rattle.issuance_log.specs.Counted.{leaves_counted};

@@ -26,8 +26,8 @@ use tree_core::TreeHash;
 const TILE: u64 = 256;
 
 /// The settings of a log, how many entries it has, the sizes at its landmarks, and the last size of
-/// its tiles, 0 where there is none. The rules of a log's records look at nothing else. Contracts
-/// see them, and how many landmarks more need no memory.
+/// its tiles, 0 if there is none. The rules of a log's records read nothing else. Contracts see
+/// them, and how many landmarks more need no memory.
 #[derive(Drop)]
 pub(crate) struct Numbers {
     settings: LogSettings,
@@ -61,7 +61,7 @@ impl Model for Numbers {
     }) };
 }
 
-// Puts a number behind the others, where there is room.
+// Appends a number to the others, within the capacity.
 fn put(list: &mut Vec<u64>, number: u64)
     requires { vec_len list.old < vec_capacity list.old }
     ensures { list.new.items ≡ list.old.items ++ number ∷ [] }
@@ -98,7 +98,7 @@ impl Numbers {
         }
     }
 
-    /// Takes one record more. `Unfit` comes exactly where it breaks the rules, and a refusal leaves
+    /// Takes one record more. `Unfit` comes exactly if it breaks the rules, and a refusal leaves
     /// all as it was.
     #[tactic(auto, unfolding(crate::specs::Folds::next_view))]
     pub(crate) fn take<H: TreeHash>(&mut self, body: &[u8]) -> Result<(), RecordError>
@@ -244,7 +244,7 @@ impl Numbers {
         self.size += 1;
     }
 
-    /// Makes room for a landmark. All else stays as it was.
+    /// Reserves capacity for a landmark. All else stays as it was.
     pub(crate) fn prepare_mark(&mut self) -> Result<(), Memory>
         ensures spare { OnOk result (1 ≤ self.new.mark_spare) }
         ensures full { OnErr result (self.old.mark_spare ≡ 0) }
@@ -254,7 +254,7 @@ impl Numbers {
         Ok(())
     }
 
-    /// Puts a landmark at the size behind the others, where there is room.
+    /// Appends a landmark at the size to the others, within the capacity.
     pub(crate) fn push_mark(&mut self)
         requires spare { 1 ≤ self.old.mark_spare }
         requires above { last_mark self.old.view.marks < self.old.view.size }

@@ -25,7 +25,7 @@ const LANDMARK: u8 = 3;
 
 const TILES: u8 = 4;
 
-// The settings behind the tag, in their order.
+// The settings after the tag, in their order.
 #[tactic(auto, unfolding(crate::specs::Records::settings_at))]
 fn settings_fields<'a>(cursor: &mut Cursor<'a>) -> Result<(&'a [u8], u32, u32), Short>
     ensures { Moves (λ x. (x.0.now, (x.1, x.2))) settings_at cursor.old result cursor.new }
@@ -36,7 +36,7 @@ fn settings_fields<'a>(cursor: &mut Cursor<'a>) -> Result<(&'a [u8], u32, u32), 
     Ok((id, max_active, limit))
 }
 
-// The entry and the key behind the tag.
+// The entry and the key after the tag.
 #[tactic(auto, unfolding(crate::specs::Records::entry_at))]
 fn entry_fields<'a>(cursor: &mut Cursor<'a>) -> Result<(&'a [u8], &'a [u8]), Short>
     ensures { Moves (λ x. (x.0.now, x.1.now)) entry_at cursor.old result cursor.new }
@@ -108,7 +108,7 @@ fn item_in(body: &[u8]) -> Result<(&[u8], &[u8]), RecordError>
     Ok(item)
 }
 
-/// The entry and the key in the body of an Entry. The length of each is told in two bytes.
+/// The entry and the key in the body of an Entry. The length of each fits two bytes.
 pub(crate) fn read_item(body: &[u8]) -> Result<(&[u8], &[u8]), RecordError>
     ensures found { LogFinds (λ x. (x.0.now, x.1.now)) (item_in body.now) result }
     ensures short_entry { IfOk result (λ x. IsShort x.0.now) }

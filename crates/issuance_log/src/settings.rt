@@ -1,4 +1,4 @@
-//! What is settled when a log begins.
+//! What is fixed when a log begins.
 
 ghost use Rattle.std.specs.Prelude.{◌≡◌, IfOk};
 

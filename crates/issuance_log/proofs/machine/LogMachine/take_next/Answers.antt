@@ -21,7 +21,7 @@ adopt_new-requires g c =
     (items_places was.items) (items_places c.take_record.new.items) c.args.place
     c.in-Ok.ensures.view c.requires.counted c.in-Ok.ensures.taken.places
 
--- the record makes the next log, and its items are kept
+-- the record makes the next log, and its items are retained
 pub returns-in-Ok-clause-takes : goal.returns-in-Ok-clause-takes
 returns-in-Ok-clause-takes g c =
     let h = g.H.TreeHash.hash in
