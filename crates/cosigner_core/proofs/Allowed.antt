@@ -68,7 +68,7 @@ module _ (h : HashFunction) (s t : CosignerState) (step : Step) (fits : FitsStep
       ∙ ap (option_and_then (after_step h s)) (step_again step fits)
       ∙ next (none_of first passes)
 
-  -- so it does behind the records of the old one
+  -- so it does after the records of the old one
   valid : (old : Option (List Text)) (refused : Option CosignError)
       → IfSome old (λ list. cosigner_of h list ≡ Ok s) → earlier first refused ≡ None
       → IfSome old (λ list. cosigner_of h (list ++ step_record step ∷ []) ≡ Ok t)

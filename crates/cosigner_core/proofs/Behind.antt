@@ -1,4 +1,4 @@
--- The records behind the first one of a cosigner, taken one by one.
+-- The records after the first one of a cosigner, taken one by one.
 use Rattle.std.proofs.Common.{◌≡◌, ℕ, ◌+◌, ◌^◌, ◌<◌, ◌≤◌, Bool, true, false, List, [], ◌∷◌, ◌++◌}
 use Rattle.std.proofs.Common.{length, drop, get_or, Option, Some, None, Result, Ok, Err, is_ok}
 use Rattle.std.proofs.Common.{option_map, option_and_then, refl, ap, sym, ◌∙◌, slice_get}
@@ -29,7 +29,7 @@ use Rattle.cosigner_core.proofs.Tagged.{some_value, when_some}
 abbrev pub brought : HashFunction → ℕ → Progress → List Text → Option Progress
 brought h keys p bodies = option_and_then (progress_by h keys p) (steps_in bodies)
 
--- the steps of the rest behind a step, where all of them are read
+-- the steps of the rest after a step, if all of them are read
 abbrev before : Option (List Step) → Option Step → Option (List Step)
 before all o = option_and_then (λ step. option_map (λ steps. step ∷ steps) all) o
 
@@ -58,7 +58,7 @@ brought_end : (h : HashFunction) (keys : ℕ) (p : Progress) → brought h keys 
 unfolding steps_in progress_by
 brought_end h keys p = refl
 
--- The record at a place is a step that is allowed, or it is none.
+-- The record at an index is a step that is allowed, or it is none.
 pub follows_on : (h : HashFunction) (keys : ℕ) (wanted : Option Progress) (p q : Progress)
     (bodies : List Text) (i : ℕ) (x body : Text) → i < length bodies → x ≡ get_or bodies i x
     → brought h keys p (drop i bodies ++ body ∷ []) ≡ wanted

@@ -20,7 +20,7 @@ use Rattle.cosigner_core.specs.declared.step.Step.TheVariants.{Advance, Sign}
 use Rattle.cosigner_core.specs.declared.settings.CosignerSettings.{CosignerSettings}
 use Rattle.cosigner_core.proofs.Tagged.{some_value, when_some}
 
--- behind a cosigner: these numbers, and then this cosigner
+-- after a cosigner: these numbers, and then this cosigner
 record CountsFrom (s : CosignerState) (indices : List ℕ) (t : CosignerState) : Type 0 where
   pub each : (i index : ℕ) → slice_get indices i ≡ Some index → index ≡ s.key.next + i
   pub count : t.key.next ≡ s.key.next + length indices
@@ -114,7 +114,7 @@ counts_up h (first ∷ bodies) s is =
       few = counts.few (omega arith);
     }
 
--- So do those of the records behind a new cosigner.
+-- So do those of the records after a new cosigner.
 pub indices_count_up : (h : HashFunction) (s : CosignerSettings) (secret : Text)
     (bodies : List Text) (t : CosignerState)
     → taken_from (cosigner_fold h) 1 (new_cosigner h s secret) bodies ≡ Ok t

@@ -1,4 +1,4 @@
--- The records of a cosigner are read as they are spelled.
+-- The records of a cosigner are read as they are encoded.
 use Rattle.std.proofs.Common.{◌≡◌, ℕ, ◌+◌, ◌^◌, ◌<◌, ◌≤◌, ◌==◌, Bool, true, false, List, [], ◌∷◌}
 use Rattle.std.proofs.Common.{◌++◌, length, Option, Some, None, option_map, option_and_then, Result}
 use Rattle.std.proofs.Common.{Ok, Err, refl, ap, subst, ◌∙◌, if◌then◌else◌, arith}
@@ -250,7 +250,7 @@ cosigner_again s secret fits =
     (whole_again cosigner_form tt x 1 fit)
     ∙ ap (option_map (λ (t : CosignerSettings). (t, secret))) (settings_again s secret fits)
 
--- ---- a journal of records as they are spelled
+-- ---- a journal of records as they are encoded
 
 pub cosigner_created : (h : HashFunction) (s : CosignerSettings) (secret : Text)
     → FitsCosigner s secret

@@ -147,7 +147,7 @@ steps_again h s t n (suc most) k place (body ∷ bodies) short is le =
     (subst (λ (u : CosignerState). IsAgain h u t bodies most (k + 1)
     (place + length (vector w32 body))) (sym (some_value next step.0 made.1)) rest)
 
--- ---- the front
+-- ---- the prefix
 
 id_again : (place : ℕ) (id rest : Text) → IsAnchorId id
     → export_id_at (record { place = place; rest = vector w8 id ++ rest })

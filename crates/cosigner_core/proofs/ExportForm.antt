@@ -1,4 +1,4 @@
--- What is read as an export is spelled as one.
+-- What is read as an export is its encoding.
 use Rattle.std.proofs.Common.{◌≡◌, ℕ, zero, suc, ◌+◌, ◌^◌, ◌≤◌, true, List, [], ◌∷◌, ◌++◌}
 use Rattle.std.proofs.Common.{length, Option, Some, None, Result, Ok, refl, sym, ap, ◌∙◌}
 use Rattle.std.proofs.Common.{subst, append-nil, arith, inl, inr}
@@ -143,7 +143,7 @@ steps_take h keys (suc most) k p a x are few e =
           (more_steps h keys p a s.0.0 s.0.1 t.0 one.0 one.1 one.2 rest)
     ]
 
--- ---- the front
+-- ---- the prefix
 
 id_takes : (a : At) (x : Text × At) → IsBytes a.rest → export_id_at a ≡ Ok x
     → Stands a (vector w8 x.0) x.1 × IsAnchorId x.0

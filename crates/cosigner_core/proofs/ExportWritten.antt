@@ -1,4 +1,4 @@
--- The text of an export is read as it.
+-- The bytes of an export are read as it.
 use Rattle.std.proofs.Common.{◌≡◌, ◌≢◌, ℕ, zero, suc, ◌+◌, ◌*◌, ◌^◌, ◌<◌, ◌≤◌, true, List, [], ◌∷◌}
 use Rattle.std.proofs.Common.{◌++◌, length, drop, Bool, false, Some, None, Ok, refl, ap, ◌∙◌, arith}
 use Rattle.std.proofs.Common.{ne_eqb}

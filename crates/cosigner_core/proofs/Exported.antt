@@ -1,4 +1,4 @@
--- The export of a cosigner: what stands before its records, and the records behind the first one.
+-- The export of a cosigner: what stands before its records, and the records after the first one.
 use Rattle.std.proofs.Common.{◌≡◌, ℕ, ◌+◌, min, List, [], ◌∷◌, ◌++◌, length, drop, Option, Some}
 use Rattle.std.proofs.Common.{None, IfSome, option_map, Ok, Err, refl, ap, subst}
 use Rattle.std.specs.Io.KnownBytes.{Appends}
@@ -21,12 +21,12 @@ use Rattle.cosigner_core.proofs.Names.{first-long}
 abbrev pub prefix_of : CosignerState → Text
 prefix_of s = prefix_text s.id s.log (one_level_public s.key.key)
 
--- the records of an export are spelled as the copies of a journal's
+-- the records of an export are encoded as the copies of a journal's
 pub same_text : (bodies : List Text) → sized_text bodies ≡ records_text bodies
 same_text [] = refl
 same_text (body ∷ bodies) = ap (λ (rest : Text). sized body ++ rest) (same_text bodies)
 
--- this is the end behind the first record of such a cosigner, or that of its journal
+-- this is the end after the first record of such a cosigner, or that of its journal
 abbrev pub IsFirstEnd : CosignerState → ℕ → ℕ → Type 0
 IsFirstEnd s from end = (first : Text) → length first ≡ 59 + length s.id + length s.log
     → from ≡ min (end_behind (first ∷ [])) end

@@ -1,4 +1,4 @@
--- What a first record spells.
+-- What a first record encodes.
 use Rattle.std.proofs.Common.{◌≡◌, ℕ, ◌≤◌, ◌==◌, Bool, true, false, ◌++◌, length, Option}
 use Rattle.std.proofs.Common.{Some, None, option_map, option_and_then, Result, Ok, Err, refl, sym}
 use Rattle.std.proofs.Common.{ap, ◌∙◌, subst, arith}

@@ -1,4 +1,4 @@
--- Requests: what is read is spelled so, and what is spelled so is read again.
+-- Requests are encoded as the bytes from which they were read, and each encoding is read again.
 use Rattle.std.proofs.Common.{◌≡◌, ℕ, ◌^◌, ◌<◌, true, List, length, Ok, Err, refl}
 use Rattle.std.proofs.Common.{subst, eqb-true}
 use Rattle.std.specs.Prelude.{if◌then◌else◌, ◌==◌}

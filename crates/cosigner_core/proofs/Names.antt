@@ -1,4 +1,4 @@
--- The ids of a cosigner stay as its first record has them, and tell how long that record is.
+-- The ids of a cosigner stay as its first record has them, and determine how long that record is.
 use Rattle.std.proofs.Common.{◌≡◌, ℕ, ◌+◌, List, [], ◌∷◌, length, Option, Some, None, Ok}
 use Rattle.std.proofs.Common.{option_map, option_and_then, refl, sym, ap, ◌∙◌, arith}
 use Rattle.byte_formats.specs.Types.{HashFunction, Text}

@@ -1,4 +1,4 @@
--- What stands behind a tag, up to the end of a record.
+-- What follows a tag, up to the end of a record.
 use Rattle.std.proofs.Common.{◌≡◌, ℕ, ◌^◌, ◌<◌, Bool, true, false, ◌++◌}
 use Rattle.std.proofs.Common.{Option, Some, None, Ok, refl}
 use Rattle.std.proofs.Common.{if◌then◌else◌}

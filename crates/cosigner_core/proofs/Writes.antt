@@ -1,10 +1,10 @@
--- Pieces put one behind the other.
+-- Pieces that are appended one after the other.
 use Rattle.std.proofs.Common.{◌≡◌, List, [], ◌++◌, ap, ◌∙◌}
 use Rattle.std.proofs.lemmas.List.{append_assoc}
 use Rattle.byte_formats.specs.Types.{Hash, Text}
 use Rattle.tls_wire.specs.Encoding.{hashes}
 
--- the last of them is the spelling of hashes
+-- the last of them is the encoding of hashes
 pub four_pieces : (o first second third last a b c : Text) (items proof : List Hash)
     → o ≡ [] → first ≡ o ++ a → second ≡ first ++ b → third ≡ second ++ c
     → last ≡ third ++ hashes items → items ≡ proof

@@ -17,7 +17,7 @@ unfoldable pub indices_in : List Text → List ℕ
 indices_in [] = []
 indices_in (body ∷ bodies) = index_before (step_in body) (indices_in bodies)
 
--- the numbers in the Sign records of a journal, which stand behind its first record
+-- the numbers in the Sign records of a journal, which follow its first record
 unfoldable pub indices_of : List Text → List ℕ
 indices_of [] = []
 indices_of (first ∷ bodies) = indices_in bodies

@@ -1,5 +1,5 @@
--- What is certain of a cosigner's journal, also where an append has failed: the records before the
--- end at which that append began make the cosigner.
+-- What is durable of a cosigner's journal, even if an append has failed: the records before the end
+-- at which that append began make the cosigner.
 use Rattle.std.specs.Prelude.{◌≡◌, ℕ, Ok}
 use Rattle.std.proofs.Props.{props}
 use Rattle.byte_formats.specs.Types.{HashFunction, Text}

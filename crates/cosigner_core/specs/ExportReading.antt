@@ -62,7 +62,7 @@ allowed_step h keys p None = None
 allowed_step h keys p (Some step) = if is_allowed h keys p step then Some step else None
 
 -- The record with this number: its length in four bytes, and its body, which says a step that is
--- allowed behind those before it.
+-- allowed after those before it.
 unfoldable pub exported_at : HashFunction → ℕ → ℕ → Progress → Reading Step ReadExportError
 exported_at h keys number p a =
     lifted_at short_export (vector_at w32) a
@@ -95,7 +95,7 @@ export_in h bytes =
     else (export_prefix_at (at bytes 0)
     >>= λ x. steps_left h x.0.1.1.1 x.1 >>= λ steps. Ok (Some (export_with x.0 steps)))
 
--- How an export is spelled: the ids, the public key, and the record of each step.
+-- How an export is encoded: the ids, the public key, and the record of each step.
 abbrev pub exported_text : Export → Text
 exported_text e =
     prefix_text e.cosigner e.log e.public ++ records_text (map step_record e.steps)
@@ -123,7 +123,7 @@ pub record IsExport (h : HashFunction) (e : Export) : Type 0 where
   pub progress : Progress
   pub valid : export_progress h e ≡ Some progress
 
--- A call that moves along an input, where want of memory may be answered in place of anything.
+-- A call that moves along an input, but may answer out of memory instead of anything else.
 abbrev pub MovesUnless : {X Y E : Type 0} → E → (X → Y) → Reading Y E → At → Result X E → At
     → Type 0
 MovesUnless memory view read old (Ok x) new = read old ≡ Ok (view x, new)

@@ -1,5 +1,5 @@
 -- What others may know of a cosigner: its name, that of its log, its public key, and the records of
--- its journal behind the first one, which holds the secret.
+-- its journal after the first one, which holds the secret.
 use Rattle.std.specs.Prelude.{◌++◌, List, drop}
 use Rattle.std.specs.List.{flat_map}
 use Rattle.std.specs.Int.{w8, w16, w32}
@@ -8,12 +8,12 @@ use Rattle.hss_core.specs.Hss.{one_level_public}
 use Rattle.tls_wire.specs.Encoding.{vector}
 use Rattle.cosigner_core.specs.Folds.{CosignerState}
 
--- the ids of the cosigner and of its log, each behind its length of one byte, and the public key
--- behind its length of two bytes
+-- the ids of the cosigner and of its log, each after its length of one byte, and the public key
+-- after its length of two bytes
 abbrev pub prefix_text : Text → Text → Text → Text
 prefix_text id log public = vector w8 id ++ (vector w8 log ++ vector w16 public)
 
--- records, each behind its length of four bytes
+-- records, each after its length of four bytes
 abbrev pub records_text : List Text → Text
 records_text bodies = flat_map (vector w32) bodies
 

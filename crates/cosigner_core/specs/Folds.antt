@@ -33,7 +33,7 @@ new_cosigner h s secret = record {
   key = record { key = private_key s.lms s.ots secret; next = 0 };
 }
 
--- this checkpoint in place of the one that is held
+-- this checkpoint instead of the one that is held
 abbrev pub holding : ℕ → Hash → CosignerState → CosignerState
 holding size root s =
     record { id = s.id; log = s.log; held = record { size = size; root = root }; key = s.key }
@@ -64,7 +64,7 @@ with_progress s p = record {
   key = record { key = s.key.key; next = p.next };
 }
 
--- the cosigner behind a step, where it is allowed
+-- the cosigner after a step, where it is allowed
 abbrev pub after_step : HashFunction → CosignerState → Step → Option CosignerState
 after_step h s step =
     if is_allowed h (key_count s) (progress_of s) step
@@ -74,7 +74,7 @@ after_step h s step =
 unfoldable pub begun_cosigner : HashFunction → Text → Option CosignerState
 begun_cosigner h body = option_map (λ x. new_cosigner h x.0 x.1) (cosigner_in body)
 
--- the cosigner behind one record more, or none where the record breaks the rules
+-- the cosigner after one record more, or none where the record breaks the rules
 unfoldable pub next_state : HashFunction → CosignerState → Text → Option CosignerState
 next_state h s body = option_and_then (after_step h s) (step_in body)
 

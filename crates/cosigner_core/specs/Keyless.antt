@@ -22,9 +22,9 @@ of_cosigner_journal BadProof = None
 of_cosigner_journal Exhausted = None
 of_cosigner_journal (Append why) = Some why
 
--- What it shows as the owner of its journal. The records are those that make the cosigner, where
--- the disk tells its bytes: unless an append has failed, all records of its journal. The state has
--- the ids, what is held, and what the key is by these records.
+-- What it shows as the owner of its journal. The records are those that make the cosigner, if the
+-- model knows the bytes of the disk: unless an append has failed, all records of its journal. The
+-- state has the ids, what is held, and what the key is by these records.
 abbrev pub keyless_owner : {H D : Type 0} {hashes : Hashes H} {g : Ghosts D}
     → KeylessCosigner H D hashes g → Owner D CosignerState
 keyless_owner it = owner_over it.journal (durable_records it.journal) it.machine.contents

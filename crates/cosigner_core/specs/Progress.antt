@@ -13,8 +13,8 @@ use Rattle.cosigner_core.specs.declared.step.Step.TheVariants.{Advance, Sign}
 abbrev pub first_progress : HashFunction → Progress
 first_progress h = record { held = empty_checkpoint h; next = 0 }
 
--- Of a cosigner with so many one-time keys. An Advance needs a larger size, and a proof that what
--- is held is the front of that log. A Sign needs the number of the next one-time key, which is
+-- For a cosigner with so many one-time keys: an Advance needs a larger size, and a proof that what
+-- is held is a prefix of that log. A Sign needs the number of the next one-time key, which is
 -- there, and a proof of the subtree in what is held.
 abbrev pub is_allowed : HashFunction → ℕ → Progress → Step → Bool
 is_allowed h keys p (Advance size root proof) =
@@ -22,17 +22,17 @@ is_allowed h keys p (Advance size root proof) =
 is_allowed h keys p (Sign index start end hash proof) =
     (index == p.next) && (nat_lt index keys && has_subtree h p.held start end hash proof)
 
--- an Advance is held in place of what was held, and a Sign counts one one-time key more
+-- an Advance is held instead of what was held, and a Sign counts one one-time key more
 abbrev pub with_step : Progress → Step → Progress
 with_step p (Advance size root proof) =
     record { held = record { size = size; root = root }; next = p.next }
 with_step p (Sign index start end hash proof) = record { held = p.held; next = p.next + 1 }
 
--- behind one step more, where it is allowed
+-- after one step more, if it is allowed
 abbrev pub progress_after : HashFunction → ℕ → Progress → Step → Option Progress
 progress_after h keys p step = if is_allowed h keys p step then Some (with_step p step) else None
 
--- behind steps, each of which is allowed behind those before it
+-- after steps, each of which is allowed after those before it
 unfoldable pub progress_by : HashFunction → ℕ → Progress → List Step → Option Progress
 progress_by h keys p [] = Some p
 progress_by h keys p (step ∷ steps) =
@@ -44,12 +44,12 @@ steps_in [] = Some []
 steps_in (body ∷ bodies) =
     option_and_then (λ step. option_map (λ steps. step ∷ steps) (steps_in bodies)) (step_in body)
 
--- How far the records behind the first one bring a cosigner with so many one-time keys, where they
--- are steps, each of which is allowed.
+-- How far the records after the first one bring a cosigner with so many one-time keys, if they are
+-- steps, each of which is allowed.
 unfoldable pub progress_in : HashFunction → ℕ → List Text → Option Progress
 progress_in h keys bodies =
     option_and_then (progress_by h keys (first_progress h)) (steps_in bodies)
 
--- These records may stand behind the first one of a cosigner with so many one-time keys.
+-- These records may follow the first one of a cosigner with so many one-time keys.
 abbrev pub may_follow_cosigner : HashFunction → ℕ → List Text → Bool
 may_follow_cosigner h keys bodies = is_some (progress_in h keys bodies)

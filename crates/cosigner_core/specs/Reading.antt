@@ -62,7 +62,7 @@ subtree_at =
     mapped_at to_subtree
     (both_at log_id_at (both_at u64_at (both_at u64_at (both_at hash_at proof_at))))
 
--- All of the bytes, and nothing behind.
+-- All of the bytes, and nothing after them.
 abbrev pub whole_in : {X : Type 0} → Reading X FormError → Text → Result X FormError
 whole_in read bytes =
     read (at bytes 0) >>= λ x. if length x.1.rest == 0 then Ok x.0 else Err Trailing

@@ -23,11 +23,11 @@ use Rattle.cosigner_core.specs.declared.settings.CosignerSettings.{CosignerSetti
 use Rattle.cosigner_core.specs.declared.step.Step.{Step}
 use Rattle.cosigner_core.specs.declared.step.Step.TheVariants.{Advance, Sign}
 
--- ---- spelled
+-- ---- encodings
 
--- Cosigner, with tag 0x11: the ids of the cosigner and of its log, each behind its length of one
--- byte, the typecodes of the tree and of the one-time keys in four bytes each, and the secret of
--- 48 bytes
+-- Cosigner, with tag 0x11: the ids of the cosigner and of its log, each after its length of one
+-- byte, the typecodes of the tree and of the one-time keys in four bytes each, and the secret of 48
+-- bytes
 unfoldable pub cosigner_record : CosignerSettings → Text → Text
 cosigner_record s secret =
     number w8 0x11 ++ (vector w8 s.id ++ (vector w8 s.log ++ (number w32 (lms_code s.lms)
@@ -51,13 +51,13 @@ step_record (Sign index start end hash proof) = sign_record index start end hash
 
 -- ---- read
 
--- what stands behind the tag of a Cosigner
+-- what follows the tag of a Cosigner
 unfoldable pub cosigner_at : Reading (Text × (Text × (ℕ × (ℕ × Text)))) Short
 cosigner_at a =
     both_at (vector_at w8) (both_at (vector_at w8)
     (both_at (number_at w32) (both_at (number_at w32) (bytes_at 48)))) a
 
--- what stands behind the tag of an Advance
+-- what follows the tag of an Advance
 unfoldable pub advance_step_at : Reading (ℕ × (Hash × List Hash)) FormError
 advance_step_at a = both_at u64_at (both_at hash_at proof_at) a
 
@@ -65,7 +65,7 @@ advance_step_at a = both_at u64_at (both_at hash_at proof_at) a
 abbrev pub index_at : Reading ℕ FormError
 index_at = lifted_at short_fault (number_at w32)
 
--- what stands behind the tag of a Sign
+-- what follows the tag of a Sign
 unfoldable pub sign_step_at : Reading (ℕ × (ℕ × (ℕ × (Hash × List Hash)))) FormError
 sign_step_at a = both_at index_at (both_at u64_at (both_at u64_at (both_at hash_at proof_at))) a
 
@@ -120,7 +120,7 @@ step_by_tag (Err short) = None
 unfoldable pub step_in : Text → Option Step
 step_in body = step_by_tag (number_at w8 (at body 0))
 
--- ---- what can be spelled
+-- ---- what can be encoded
 
 pub record FitsAdvance (size : ℕ) (root : Hash) (proof : List Hash) : Type 0 where
   pub word : size < 2 ^ 64

@@ -16,14 +16,14 @@ use Rattle.cosigner_core.specs.declared.error.CosignError.TheVariants.{BadSubtre
 use Rattle.cosigner_core.specs.declared.error.CosignError.TheVariants.{Exhausted, Append}
 
 -- of a request to hold a larger log: another log, a size that isn't above the held one, and a proof
--- that doesn't show that what is held is its front
+-- that doesn't show that what is held is a prefix of it
 unfoldable pub advance_refusal : HashFunction → CosignerState → AdvanceParts → Option CosignError
 advance_refusal h s r =
     if not (bytes_eq r.log s.log) then Some WrongLog
     else (if nat_le r.size s.held.size then Some (NotNewer s.held.size)
     else (if not (is_prefix_of h s.held r.size r.root r.proof) then Some BadProof else None))
 
--- of a request to sign a subtree: another log, an interval that is none, one that ends behind what
+-- of a request to sign a subtree: another log, an interval that is none, one that ends after what
 -- is held, a proof that doesn't show its hash, and a key whose one-time keys have all signed
 unfoldable pub subtree_refusal : HashFunction → CosignerState → SubtreeParts → Option CosignError
 subtree_refusal h s r =
@@ -69,7 +69,7 @@ IsOfRequest BadProof = Unit {0}
 IsOfRequest Exhausted = Unit {0}
 IsOfRequest (Append why) = ⊥
 
--- The answer keeps to that refusal. A fault may be told where there is none.
+-- The answer follows that refusal. A failure may be reported if there is none.
 abbrev pub CosignKeepsTo : Option CosignError → Result (Unit {0}) CosignError → Type 0
 CosignKeepsTo wanted (Ok done) = wanted ≡ None
 CosignKeepsTo wanted (Err WrongLog) = wanted ≡ Some WrongLog

@@ -1,4 +1,4 @@
--- The requests to a cosigner: how their parts are spelled, in the presentation language of RFC 8446
+-- The requests to a cosigner: how their parts are encoded, in the presentation language of RFC 8446
 -- (sections 3.3 and 3.4).
 use Rattle.std.specs.Prelude.{◌≡◌, ℕ, ◌^◌, ◌<◌, List, ◌++◌, length}
 use Rattle.byte_formats.specs.Types.{Hash, Text}
@@ -13,7 +13,7 @@ pub record AdvanceParts : Type 0 where
   pub root : Hash
   pub proof : List Hash
 
--- The id behind a length of one byte, the size in eight bytes, the root in 32, and the hashes in a
+-- The id after a length of one byte, the size in eight bytes, the root in 32, and the hashes in a
 -- vector.
 abbrev pub advance_text : AdvanceParts → Text
 advance_text r = vector w8 r.log ++ (number w64 r.size ++ (r.root ++ hashes r.proof))
@@ -35,7 +35,7 @@ pub record SubtreeParts : Type 0 where
   pub hash : Hash
   pub proof : List Hash
 
--- The id behind a length of one byte, start and end in eight bytes each, the hash in 32, and the
+-- The id after a length of one byte, start and end in eight bytes each, the hash in 32, and the
 -- hashes in a vector.
 abbrev pub subtree_text : SubtreeParts → Text
 subtree_text r =

@@ -16,8 +16,8 @@ module _ {H D : Type 0} {hashes : Hashes H} {g : Ghosts D} where
   abbrev pub cosigner_disk : Cosigner H D hashes g → D
   cosigner_disk it = disk_of it.keyless.journal
 
-  -- The records that make the cosigner, where the disk tells its bytes. Unless an append has
-  -- failed they are all records of its journal.
+  -- The records that make the cosigner, if the model knows the bytes of the disk. Unless an append
+  -- has failed they are all records of its journal.
   abbrev pub cosigner_records : Cosigner H D hashes g → Option (List Text)
   cosigner_records it = durable_records it.keyless.journal
 

@@ -66,8 +66,8 @@ impl Contents {
         })
     }
 
-    /// Takes one record more. `Unfit` comes exactly where it breaks the rules, and leaves the
-    /// cosigner as it was. It takes no memory.
+    /// Takes one record more. `Unfit` comes exactly if it breaks the rules, and leaves the cosigner
+    /// as it was. It takes no memory.
     #[tactic(auto, unfolding(crate::specs::Folds::next_state))]
     pub(crate) fn take<H: TreeHash>(&mut self, body: &[u8]) -> Result<(), RecordError>
         ensures takes { CosignerTakes (next_state H.hash self.old body.now) self.old result
@@ -84,7 +84,7 @@ impl Contents {
         }
     }
 
-    /// The key of the cosigner, which is made anew: the one-time keys below the next one are used.
+    /// The key of the cosigner, which is rebuilt: the one-time keys below the next one are used.
     pub(crate) fn key(&self, alloc: Global) -> Result<Key, Memory>
         ensures { IfOk result (λ key. key ≡ self.now.key) }
     {

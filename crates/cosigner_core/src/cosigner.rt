@@ -34,8 +34,8 @@ use tls_wire::AnchorId;
 use tree_core::TreeHash;
 
 /// A cosigner over the journal of its records: what it holds of its log, and its key, which counts.
-/// They are what its records on the disk make. Where an append has failed, the disk may hold one
-/// record more. `H` is the hash function of the log's tree.
+/// They are what its records on the disk make. The disk may hold one record more if an append has
+/// failed. `H` is the hash function of the log's tree.
 pub struct Cosigner<H: TreeHash, D: Disk> {
     keyless: KeylessCosigner<H, D>,
     // Both count the one-time keys that have signed.
@@ -43,7 +43,7 @@ pub struct Cosigner<H: TreeHash, D: Disk> {
     ghost same: { key ≡ (keyless_owner keyless).state.key } by { Prim.hlevel props },
 }
 
-// A drop in one step: a derived one is proved field by field wherever a value is let go.
+// A drop in one step: a derived one is proved field by field wherever a value is dropped.
 impl<H: TreeHash, D: Disk + Drop> Drop for Cosigner<H, D> {
     fn drop(self) {
         let Cosigner { keyless: _, key: _ } = self;
@@ -115,8 +115,8 @@ impl<H: TreeHash, D: Disk> Cosigner<H, D> {
         }
     }
 
-    /// Holds the root of a larger log, where the proof shows that what is held is its front. At Ok
-    /// a crash leaves the records with the Advance; at any moment of the call it leaves the old
+    /// Holds the root of a larger log, if the proof shows that what is held is a prefix of it. At
+    /// Ok a crash leaves the records with the Advance; at any time of the call it leaves the old
     /// records, or these and that one.
     ///
     /// Errors, in the order of the tests: `WrongLog` where the request names another log;
@@ -144,8 +144,8 @@ impl<H: TreeHash, D: Disk> Cosigner<H, D> {
     }
 
     /// Signs a subtree of the log that is held, by the next one-time key: the signature is the
-    /// whole of `out`. It is made once every image of the disk holds the Sign record with the
-    /// number of that key: at Ok a crash leaves the records with it; at any moment of the call it
+    /// whole of `out`. It is made once every crash state of the disk holds the Sign record with the
+    /// number of that key: at Ok a crash leaves the records with it; at any time of the call it
     /// leaves the old records, or these and that one. So no one-time key signs twice.
     ///
     /// Errors, in the order of the tests: `WrongLog` where the request names another log;
@@ -196,11 +196,11 @@ impl<H: TreeHash, D: Disk> Cosigner<H, D> {
         }
     }
 
-    /// Writes what others may know of the cosigner: its id and that of its log, each behind its
-    /// length of one byte, its public key behind its length of two bytes, and each record but the
-    /// first behind its length of four bytes. It never writes the secret. It writes while it reads,
-    /// takes no memory, and leaves the cosigner as it was. Where an append has failed, it writes
-    /// the records without the one that failed, also where that one is on the disk.
+    /// Writes what others may know of the cosigner: its id and that of its log, each after its
+    /// length of one byte, its public key after its length of two bytes, and each record but the
+    /// first after its length of four bytes. It never writes the secret. It writes while it reads,
+    /// takes no memory, and leaves the cosigner as it was. If an append has failed, it writes the
+    /// records without the one that failed, even if that one is on the disk.
     ///
     /// Errors: `Read` where the disk fails, and `Write` where the sink does. A prefix of the export
     /// is written then.

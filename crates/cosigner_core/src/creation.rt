@@ -38,8 +38,8 @@ pub fn pack(
 /// Begins the journal of a new cosigner on an empty disk. At Ok a crash leaves the journal, and its
 /// one record makes the cosigner that holds no entries and has signed nothing.
 ///
-/// Errors, in the order of the tests: `Memory`, `Failed`, `NotEmpty` where the disk holds bytes.
-/// The disk is handed back; one that holds bytes was only looked at.
+/// Errors, in the order of the tests: `Memory`, `Failed`, `NotEmpty` where the disk holds bytes. A
+/// refusal returns the disk; one that holds bytes was only read.
 pub fn create<D: Disk>(
     alloc: Global,
     disk: D,

@@ -23,7 +23,7 @@ pub enum CosignError {
     NotNewer(u64),
     /// The interval is no subtree.
     BadSubtree,
-    /// The subtree ends behind this, the size that is held.
+    /// The subtree ends after this, the size that is held.
     Beyond(u64),
     /// The consistency proof does not check.
     BadProof,

@@ -16,8 +16,8 @@ use mtc_io::{Failed, Sink, write_pieces};
 // typecodes and the secret.
 const FIRST_FIELDS: u64 = 59;
 
-/// The length of the first record, as the settings tell it. The disk isn't asked, so whatever it
-/// gives, the secret in that record isn't copied.
+/// The length of the first record, as the settings determine it. The call doesn't read the disk, so
+/// whatever that gives, the secret in that record isn't copied.
 pub(crate) fn first_size(contents: &Contents) -> u64
     ensures value { result ≡ 59 + length contents.now.id + length contents.now.log }
     ensures few { result ≤ 131072 }

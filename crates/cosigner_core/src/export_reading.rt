@@ -88,7 +88,7 @@ fn read_prefix(
     Ok((cosigner, log, public, keys))
 }
 
-// The record with this number, and the progress behind it.
+// The record with this number, and the progress after it.
 #[tactic(auto, unfolding(crate::specs::ExportReading::exported_at))]
 fn read_record<'a, H: TreeHash>(
     cursor: &mut Cursor<'a>,
@@ -165,14 +165,14 @@ fn read_steps<H: TreeHash>(
 }
 
 /// Reads what [`Cosigner::export`](crate::Cosigner::export) writes: the ids of a cosigner and of
-/// its log, its public key, and the records of its journal behind the first one. They are read and
+/// its log, its public key, and the records of its journal after the first one. They are read and
 /// tested one by one, in a time that grows with the bytes. No bytes are no export.
 ///
 /// Errors, of which the first that is met is answered: `Short` with the offset of the id, the key
 /// or the record that doesn't fit; `BadId` for an id that is no anchor id; `BadKey` for a key that
 /// isn't one of one level whose tree has height 5 or 10; `BadRecord` with the number, counted from
-/// 1, of a record that says no step, or one that is not allowed behind those before it. `Memory`
-/// comes in place of anything.
+/// 1, of a record that says no step, or one that is not allowed after those before it. `Memory` may
+/// come instead of any answer.
 #[tactic(auto, unfolding(crate::specs::ExportReading::export_in))]
 pub fn read_export<H: TreeHash>(
     alloc: Global,

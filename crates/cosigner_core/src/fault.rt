@@ -9,7 +9,7 @@ pub enum FormError {
     Short(usize),
     /// The length of the hashes is no multiple of 32.
     HashLength,
-    /// Something stands behind the hashes.
+    /// Some bytes follow the hashes.
     Trailing,
     /// The log's id has no bytes.
     EmptyId,

@@ -1,4 +1,4 @@
-//! Which records may stand behind the first one of a cosigner's journal.
+//! Which records may follow the first one of a cosigner's journal.
 
 ghost use Rattle.std.specs.Prelude.{◌≡◌, ◌^◌, [], ◌∷◌, ◌++◌, option_and_then};
 ghost use Rattle.lms_core.specs.Heights.{height};
@@ -11,7 +11,7 @@ use crate::settings::CosignerSettings;
 use mtc_io::Bytes;
 use tree_core::TreeHash;
 
-// The progress behind one record more of a cosigner with so many one-time keys, if it may stand
+// The progress after one record more of a cosigner with so many one-time keys, if it may stand
 // there.
 fn behind<H: TreeHash>(progress: &Progress, keys: u32, body: &[u8]) -> Option<Progress>
     ensures { result ≡ option_and_then (progress_after H.hash keys progress.now)
@@ -23,8 +23,8 @@ fn behind<H: TreeHash>(progress: &Progress, keys: u32, body: &[u8]) -> Option<Pr
     }
 }
 
-/// Whether these records, and one more behind them, may stand behind the first record of a cosigner
-/// with these settings. Its secret has no part in it. It takes no memory.
+/// Whether these records, and one more after them, may follow the first record of a cosigner with
+/// these settings. Its secret has no part in it. It takes no memory.
 pub fn may_follow<H: TreeHash>(settings: &CosignerSettings, bodies: &[Bytes], body: &[u8]) -> bool
     ensures { result
         ≡ may_follow_cosigner H.hash (2 ^ height settings.now.lms) (bodies.now ++ body.now ∷ []) }

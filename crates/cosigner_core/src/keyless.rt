@@ -48,7 +48,7 @@ pub struct KeylessCosigner<H: TreeHash, D: Disk> {
         ) },
 }
 
-// A drop in one step: a derived one is proved field by field wherever a value is let go.
+// A drop in one step: a derived one is proved field by field wherever a value is dropped.
 impl<H: TreeHash, D: Disk + Drop> Drop for KeylessCosigner<H, D> {
     fn drop(self) {
         let KeylessCosigner {

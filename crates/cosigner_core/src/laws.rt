@@ -23,8 +23,8 @@ ghost use Rattle.cosigner_core.specs.Reading.{advance_at, advance_in, subtree_at
 ghost use Rattle.cosigner_core.specs.Requests.{AdvanceParts, IsAdvance, IsSubtreeRequest};
 ghost use Rattle.cosigner_core.specs.Requests.{SubtreeParts, advance_text, subtree_text};
 
-/// What is read as a request to hold a larger log is spelled as one, and the spelling of each such
-/// request is read as its parts. So a request has one spelling.
+/// What is read as a request to hold a larger log is its encoding, and the encoding of each such
+/// request is read as its parts. So a request has one encoding.
 pub fn law_advance_requests_decode_as_encoded()
     ensures form { IsForm advance_text IsAdvance Anything advance_at }
     ensures only { (bytes : Text) (r : AdvanceParts) → IsBytes bytes → advance_in bytes ≡ Ok r
@@ -40,15 +40,16 @@ pub fn law_subtree_requests_decode_as_encoded()
     ensures again { (r : SubtreeParts) → IsSubtreeRequest r → subtree_in (subtree_text r) ≡ Ok r }
 {}
 
-/// The body of an Advance or a Sign is read as what it says, and only what is spelled so is read.
+/// The body of an Advance or a Sign is read as what it says, and only the encoding of a step is
+/// read.
 pub fn law_steps_decode_as_encoded()
     ensures again { (step : Step) → FitsStep step → step_in (step_record step) ≡ Some step }
     ensures only { (body : Text) (step : Step) → IsBytes body → step_in body ≡ Some step
         → (body ≡ step_record step) × FitsStep step }
 {}
 
-/// The body of a Cosigner is read as the settings and the secret that it spells, and only what is
-/// spelled so is read.
+/// The body of a Cosigner is read as the settings and the secret that it encodes, and only such an
+/// encoding is read.
 pub fn law_first_records_decode_as_encoded()
     ensures again { (s : CosignerSettings) (secret : Text) → FitsCosigner s secret
         → cosigner_in (cosigner_record s secret) ≡ Some (s, secret) }
@@ -57,7 +58,7 @@ pub fn law_first_records_decode_as_encoded()
         → (body ≡ cosigner_record s secret) × FitsCosigner s secret }
 {}
 
-/// A file is read as a cosigner's exactly where it stands for records that make this cosigner.
+/// A file is read as a cosigner's exactly if it represents records that make this cosigner.
 pub fn law_cosigners_are_read_from_their_journals()
     ensures read { (h : HashFunction) (bytes : Text) (list : List Text) (s : CosignerState)
         → Represents bytes list → cosigner_of h list ≡ Ok s
@@ -74,8 +75,8 @@ pub fn law_one_time_keys_sign_once()
         → cosigner_of h list ≡ Ok s → CountsUp list s }
 {}
 
-/// What is read as an export is spelled as one, and its steps are those of a cosigner; and the
-/// spelling of each export is read as it. What a cosigner exports of a file that stands for its
+/// What is read as an export is its encoding, and its steps are those of a cosigner; and the
+/// encoding of each export is read as it. What a cosigner exports of a file that represents its
 /// records is read as their steps, which bring it as far as it is.
 pub fn law_exports_decode_as_encoded()
     ensures only { (h : HashFunction) (bytes : Text) (e : Export) → IsBytes bytes
@@ -90,16 +91,16 @@ pub fn law_exports_decode_as_encoded()
 {}
 
 /// An export shows nothing of the first record, which holds the secret: cosigners with the same
-/// ids, the same public key and the same records behind the first one have the same export.
+/// ids, the same public key and the same records after the first one have the same export.
 pub fn law_exports_never_show_the_secret()
     ensures { (s t : CosignerState) (first other : Text) (bodies : List Text) → s.id ≡ t.id
         → s.log ≡ t.log → one_level_public s.key.key ≡ one_level_public t.key.key
         → export_text s (first ∷ bodies) ≡ export_text t (other ∷ bodies) }
 {}
 
-/// Records make a cosigner exactly where the first one has settings and a secret, and the others
-/// may stand behind it. The secret has no part in it, but for the key. No two of these have the
-/// number of one one-time key: the i-th number among them is i.
+/// Records make a cosigner exactly if the first one has settings and a secret, and the others may
+/// follow it. The secret has no part in it, but for the key. No two of these have the number of one
+/// one-time key: the i-th number among them is i.
 pub fn law_cosigners_begin_with_their_settings()
     ensures behind { (h : HashFunction) (first : Text) (s : CosignerSettings) (secret : Text)
         (bodies : List Text) → cosigner_in first ≡ Some (s, secret)

@@ -6,12 +6,12 @@
 //! and [`KeylessCosigner::advance`] holds the root of a larger log. [`Cosigner::with_key`] rebuilds
 //! the key, which costs more than all else in an opening, and which only a signature and an export
 //! need; [`Cosigner::open`] does both. [`Cosigner::cosign`] signs a subtree by the next one-time
-//! key, once every image of the disk holds the record with its number: so no one-time key signs
-//! twice, whenever the machine stops.
+//! key, once every crash state of the disk holds the record with its number: so no one-time key
+//! signs twice, whenever the machine stops.
 //!
-//! What the records of a journal make of a cosigner is one function of them. A cosigner keeps to
-//! it: unless an append has failed, what it holds and its next one-time key are what the records on
-//! its disk make.
+//! What the records of a journal make of a cosigner is one function of them. A cosigner follows it:
+//! unless an append has failed, what it holds and its next one-time key are what the records on its
+//! disk make.
 //!
 //! [`Cosigner::export`] writes what others may know of a cosigner: its records, but for the first
 //! one, which holds the secret; and [`read_export`] reads it, and tests its records one by one.

@@ -13,7 +13,7 @@ pub(crate) struct Machine<H: TreeHash> {
     hash: PhantomData<H>,
 }
 
-// A drop in one step: a derived one is proved field by field wherever a value is let go.
+// A drop in one step: a derived one is proved field by field wherever a value is dropped.
 impl<H: TreeHash> Drop for Machine<H> {
     fn drop(self) {
         let Machine {

@@ -26,8 +26,8 @@ impl Progress {
         }
     }
 
-    /// The progress behind one step more of a cosigner with so many one-time keys, or none where
-    /// the step is not allowed.
+    /// The progress after one step more of a cosigner with so many one-time keys, or none where the
+    /// step is not allowed.
     pub(crate) fn after<H: TreeHash>(&self, keys: u32, step: &StepRef<'_>) -> Option<Progress>
         ensures { result ≡ progress_after H.hash keys self.now (step_said step.now) }
     {

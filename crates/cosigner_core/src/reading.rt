@@ -56,13 +56,13 @@ fn subtree<'a>(cursor: &mut Cursor<'a>) -> Result<SubtreeRequest<'a>, FormError>
     })
 }
 
-/// Reads a request to hold a larger log, without taking memory: the id of the log behind its length
-/// in one byte, the size in eight bytes, the root in 32, and the hashes of the proof behind their
+/// Reads a request to hold a larger log, without taking memory: the id of the log after its length
+/// in one byte, the size in eight bytes, the root in 32, and the hashes of the proof after their
 /// length in two bytes.
 ///
 /// The first fault from the left is answered: `Short` with the offset of the id, the size, the root
 /// or the vector of hashes that doesn't fit; `EmptyId` for an id of no bytes; `HashLength` where
-/// the length of the hashes is no multiple of 32; `Trailing` where something stands behind them.
+/// the length of the hashes is no multiple of 32; `Trailing` where some bytes follow them.
 #[tactic(auto, unfolding(crate::specs::Reading::advance_in))]
 pub fn read_advance(bytes: &[u8]) -> Result<AdvanceRequest<'_>, FormError>
     ensures { Gives advance_parts result (advance_in bytes.now) }
@@ -75,14 +75,13 @@ pub fn read_advance(bytes: &[u8]) -> Result<AdvanceRequest<'_>, FormError>
     Ok(request)
 }
 
-/// Reads a request to sign a subtree, without taking memory: the id of the log behind its length in
+/// Reads a request to sign a subtree, without taking memory: the id of the log after its length in
 /// one byte, start and end of the subtree in eight bytes each, its hash in 32, and the hashes of
-/// the proof behind their length in two bytes.
+/// the proof after their length in two bytes.
 ///
 /// The first fault from the left is answered: `Short` with the offset of the id, the number, the
 /// hash or the vector of hashes that doesn't fit; `EmptyId` for an id of no bytes; `HashLength`
-/// where the length of the hashes is no multiple of 32; `Trailing` where something stands behind
-/// them.
+/// where the length of the hashes is no multiple of 32; `Trailing` where some bytes follow them.
 #[tactic(auto, unfolding(crate::specs::Reading::subtree_in))]
 pub fn read_subtree(bytes: &[u8]) -> Result<SubtreeRequest<'_>, FormError>
     ensures { Gives subtree_parts result (subtree_in bytes.now) }

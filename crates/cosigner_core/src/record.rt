@@ -36,7 +36,7 @@ fn secret(cursor: &mut Cursor<'_>) -> Result<Secret, Short>
     }
 }
 
-// The two ids, the two typecodes and the secret behind the tag, in their order.
+// The two ids, the two typecodes and the secret after the tag, in their order.
 #[tactic(auto, unfolding(crate::specs::Records::cosigner_at))]
 fn cosigner_fields<'a>(
     cursor: &mut Cursor<'a>,
@@ -52,7 +52,7 @@ fn cosigner_fields<'a>(
     Ok((id, log, lms, ots, secret))
 }
 
-// The size, the root and the proof behind the tag of an Advance.
+// The size, the root and the proof after the tag of an Advance.
 #[tactic(auto, unfolding(crate::specs::Records::advance_step_at))]
 fn advance_fields<'a>(cursor: &mut Cursor<'a>) -> Result<(u64, [u8; 32], &'a [[u8; 32]]), FormError>
     ensures { Moves (λ x. (x.0, (x.1, x.2.now))) advance_step_at cursor.old result cursor.new }
@@ -63,7 +63,7 @@ fn advance_fields<'a>(cursor: &mut Cursor<'a>) -> Result<(u64, [u8; 32], &'a [[u
     Ok((size, root, proof))
 }
 
-// The number of the one-time key, the interval, the hash and the proof behind the tag of a Sign.
+// The number of the one-time key, the interval, the hash and the proof after the tag of a Sign.
 #[tactic(auto, unfolding(crate::specs::Records::sign_step_at))]
 fn sign_fields<'a>(
     cursor: &mut Cursor<'a>,
@@ -112,7 +112,7 @@ fn sign_step(mut cursor: Cursor<'_>) -> Result<StepRef<'_>, RecordError>
     })
 }
 
-/// What an Advance or a Sign says, in the body of a record behind the first one.
+/// What an Advance or a Sign says, in the body of a record after the first one.
 #[tactic(auto, unfolding(crate::specs::Records::step_in))]
 pub(crate) fn read_step(body: &[u8]) -> Result<StepRef<'_>, RecordError>
     ensures found { CosignerFinds step_said (step_in body.now) result }
@@ -159,7 +159,7 @@ fn settings_with(
     Ok(CosignerSettings { id, log, lms, ots })
 }
 
-// The settings and the secret behind the tag of a Cosigner, where nothing else stands there.
+// The settings and the secret after the tag of a Cosigner, if nothing else stands there.
 fn founded(alloc: Global, mut cursor: Cursor<'_>) -> Result<(CosignerSettings, Secret), RecordError>
     ensures found { CosignerFinds (λ x. x) (option_and_then founded
         (whole_of (cosigner_at cursor.entry)))

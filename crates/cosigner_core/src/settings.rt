@@ -1,4 +1,4 @@
-//! What is settled when a cosigner begins.
+//! What is fixed when a cosigner begins.
 
 use hss_core::{LmsType, OtsType};
 use tls_wire::AnchorId;

@@ -1,8 +1,8 @@
-//! What the records of a cosigner's journal say behind the first one.
+//! What the records of a cosigner's journal say after the first one.
 
 use tree_proofs::Hashes;
 
-/// A step of a cosigner: what a record behind the first one says.
+/// A step of a cosigner: what a record after the first one says.
 #[derive(Debug, Drop)]
 pub enum Step {
     /// A larger log is held: the number of its entries, their tree hash, and the consistency proof

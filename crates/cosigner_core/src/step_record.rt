@@ -90,7 +90,7 @@ impl StepRecord {
         &self.bytes[..self.length]
     }
 
-    // Puts a piece behind the bytes so far.
+    // Appends a piece to the bytes so far.
     fn append(&mut self, piece: &[u8])
         requires { length self.old + length piece.now ≤ 2135 }
         ensures { self.new ≡ self.old ++ piece.now }
@@ -100,7 +100,7 @@ impl StepRecord {
         self.length = end;
     }
 
-    // Puts hashes behind the bytes so far, behind their length in bytes.
+    // Appends hashes to the bytes so far, with their length in bytes before them.
     fn append_hashes(&mut self, items: &[[u8; 32]])
         requires few { length items.now ≤ 65 }
         requires capacity { length self.old + 2 + 32 * length items.now ≤ 2135 }
