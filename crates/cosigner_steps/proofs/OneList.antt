@@ -1,5 +1,5 @@
 -- One list beside a cosigner: where a list begins with what is held at last, each Sign is of the
--- list, or there are two texts with one hash.
+-- list, or there are two strings with one hash.
 use Rattle.std.proofs.Common.{◌≡◌, ◌⊎◌, ⊎_elim, inl, inr, ℕ, zero, suc, ◌+◌, ◌-◌, ◌<◌, ◌≤◌, true}
 use Rattle.std.proofs.Common.{List, [], ◌∷◌, length, get_or, take, sym, ap, subst, ◌∙◌, arith}
 use Rattle.std.specs.List.{AllByRecursion, Contains}
@@ -25,7 +25,7 @@ use Rattle.cosigner_steps.specs.Steps.{held_sizes, prefix_inputs, proof_inputs, 
 use Rattle.cosigner_steps.proofs.Steps.{held_advance, held_sign, inputs_at, prefix_at, size_at}
 use Rattle.cosigner_steps.proofs.Holding.{advance_at, nothing_held, sign_checked, size_there}
 
--- this holds, or the list and the proofs of these steps show two texts with one hash
+-- this holds, or the list and the proofs of these steps show two strings with one hash
 abbrev Shown : HashFunction → List Text → List Step → Type 0 → Type 0
 Shown h entries steps so =
     so ⊎ HasCollision h (prefix_inputs h entries steps) (proof_inputs h steps)
@@ -36,7 +36,7 @@ hashes_at [] k s all below is = absurd (omega arith)
 hashes_at (x ∷ xs) zero s all below is = subst HasHashes (sym is) all.0
 hashes_at (x ∷ xs) (suc k) s all below is = hashes_at xs k s all.1 (omega arith) is
 
--- A proof that checks for a front of the list gives the list's own hash, or there are two texts.
+-- A proof that checks for a prefix of the list gives the list's own hash, or there are two strings.
 prefix_extracts : (h : HashFunction) → IsSized h → (entries : List Text) (prefix : Checkpoint)
     (start end : ℕ) (node : Hash) (proof : List Hash) → HasPrefix h entries prefix
     → AllByRecursion (λ hash. length hash ≡ 32) proof
@@ -63,7 +63,7 @@ prefix_extracts h sized entries prefix start end node proof own hashes checks =
     (open_inputs_of h start end n true node proof)) (sym long) found))
     (ProofsExtract_always h sized xs start end node proof hashes here)
 
--- What is found of a front that was held, and of the proof of a step.
+-- What is found of a prefix that was held, and of the proof of a step.
 found_in : (h : HashFunction) (entries : List Text) (steps : List Step) (k size : ℕ) (s : Step)
     → k < length steps → s ≡ get_or steps k s → Contains (held_sizes steps) size
     → HasCollision h (inputs_of h (take size entries)) (step_inputs h (held_behind h steps k) s)

@@ -13,8 +13,8 @@ abbrev pub HasHashes : Step → Type 0
 HasHashes (Advance size root proof) = AllByRecursion (λ hash. length hash ≡ 32) proof
 HasHashes (Sign index start end hash proof) = AllByRecursion (λ hash. length hash ≡ 32) proof
 
--- Where a list begins with what a cosigner holds after all of its steps, each Sign among them is
--- of the list, or the list and the proofs of the steps show two texts with one hash.
+-- If a list begins with what a cosigner holds after all of its steps, each Sign among them is of
+-- the list, or the list and the proofs of the steps show two strings with one hash.
 abbrev pub OneListBehind : HashFunction → Type 0
 OneListBehind h = (entries : List Text) (steps : List Step) (step : Step) → AreSteps h steps
     → AllByRecursion HasHashes steps → HasPrefix h entries (held_by h steps) → Contains steps step

@@ -37,7 +37,7 @@ pub record HasPrefix (h : HashFunction) (entries : List Text) (c : Checkpoint) :
   pub within : c.size ≤ length entries
   pub root : tree_hash h (take c.size entries) ≡ c.root
 
--- The texts that are hashed in the opening of a step's proof, where this checkpoint is held.
+-- The strings that are hashed in the opening of a step's proof, where this checkpoint is held.
 abbrev pub step_inputs : HashFunction → Checkpoint → Step → List Text
 step_inputs h held (Advance size root proof) =
     open_inputs_of h 0 held.size size true held.root proof
@@ -59,7 +59,7 @@ held_sizes [] = []
 held_sizes (Advance size root proof ∷ steps) = size ∷ held_sizes steps
 held_sizes (Sign index start end hash proof ∷ steps) = held_sizes steps
 
--- The texts that are hashed in the tree hash of so many of the first entries, for each of them.
+-- The strings that are hashed in the tree hash of so many of the first entries, for each of them.
 abbrev pub prefix_inputs : HashFunction → List Text → List Step → List Text
 prefix_inputs h entries steps = flat_map (λ m. inputs_of h (take m entries)) (held_sizes steps)
 
@@ -69,7 +69,7 @@ IsOfList h entries (Advance size root proof) = Unit {0}
 IsOfList h entries (Sign index start end hash proof) =
     tree_hash h (part_of entries start end) ≡ hash
 
--- These are two texts with one hash.
+-- These are two strings with one hash.
 abbrev pub Shows : HashFunction → List Text → List Text → Finding → Type 0
 Shows h firsts seconds Same = ⊥
 Shows h firsts seconds (Pair x y) = IsCollision h firsts seconds x y
