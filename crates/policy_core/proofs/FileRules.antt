@@ -45,7 +45,7 @@ field_is : {A : Type 0} (key : Key) (read : Data → Option A) (o : Option Data)
 field_is key read None x e = absurd cc
 field_is key read (Some d) x e = record { from = d; says = some_or_ok _ (read d) x e }
 
--- ---- places
+-- ---- indices
 
 pub position_below : {A : Type 0} (test : A → Bool) (xs : List A) (n : ℕ)
     → position test xs ≡ Some n

@@ -76,7 +76,7 @@ join_places : (seen : List ℕ) (n : ℕ) (o : Option (List ℕ))
 join_places seen n (Some ns) = ap (λ ms. Some ms) (append_assoc seen (n ∷ []) ns)
 join_places seen n None = refl
 
--- One more place.
+-- One more index.
 pub places_more : (known : List Known) (total : Option (List ℕ)) (values : List Value) (i : ℕ)
     (v : Value) (n : ℕ) (seen now : List ℕ) → i < length values → v ≡ get_or values i v
     → place_data known (view v) ≡ Some n → now ≡ seen ++ n ∷ []
@@ -89,7 +89,7 @@ places_more known total values i v n seen now less is step more so_far =
     ≡ option_map (λ ns. seen ++ ns) (option_map (λ ns. n ∷ ns) rest) = rw (cut, step) refl in
     rw more (join_places seen n rest ∙ (sym before ∙ so_far))
 
--- A value that names no place.
+-- A value that names no index.
 pub places_none : (known : List Known) (total : Option (List ℕ)) (values : List Value) (i : ℕ)
     (v : Value) (seen : List ℕ) → i < length values → v ≡ get_or values i v
     → place_data known (view v) ≡ None

@@ -1,4 +1,4 @@
--- A certificate is accepted exactly where the grammars, the tree and the store say so.
+-- A certificate is accepted exactly if the grammars, the tree and the store say so.
 use Rattle.std.proofs.Common.{◌≡◌, ℕ, Bool, true, false, List, ◌∷◌, ◌++◌, length, Option, Some}
 use Rattle.std.proofs.Common.{None, Result, Ok, refl, sym, ap, subst, ◌∙◌, ◌⊎◌, inl, inr}
 use Rattle.std.specs.Prelude.{ℤ, if◌then◌else◌}

@@ -1,4 +1,4 @@
--- Intervals that repeat, told by those before each.
+-- Intervals that repeat, found by those before each.
 use Rattle.std.proofs.Common.{◌≡◌, ℕ, ◌+◌, ◌<◌, ◌≤◌, ◌==◌, Bool, true, false, ◌||◌, ◌&&◌, not, cond}
 use Rattle.std.proofs.Common.{List, [], ◌∷◌, ◌++◌, length, get_or, take, drop, Ordering, Less}
 use Rattle.std.proofs.Common.{Equal, Greater, nat_cmp, is_eq, refl, ap, sym, ◌∙◌, append_assoc}
@@ -74,7 +74,7 @@ behind seen (x ∷ xs) =
     ∙ or_joined (has_repeat has_same_interval seen) (list_any (has_interval (x.start, x.end)) seen)
     (repeats_behind (seen ++ x ∷ []) xs)))
 
--- at the front nothing is seen
+-- at the start nothing is seen
 pub repeats_behind-nothing : (xs : List Trusted)
     → repeats_behind [] xs ≡ has_repeat has_same_interval xs
 unfolding has_repeat
@@ -159,7 +159,7 @@ pub repeats_there : (set : BTreeSet (ℕ × ℕ)) (xs : List Trusted) (i : ℕ) 
 repeats_there set xs i d lt holds whole h =
     holds_next set xs i d true lt holds whole (not-false _ h)
 
--- a new one leaves the question to those behind it
+-- a new one leaves the question to those after it
 pub repeats_later : (set : BTreeSet (ℕ × ℕ)) (xs : List Trusted) (i : ℕ) (d : Trusted)
     → i < length xs → Holds set (take i xs)
     → repeats_behind (take i xs) (drop i xs) ≡ has_repeat has_same_interval xs

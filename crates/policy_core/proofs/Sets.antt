@@ -24,7 +24,7 @@ use Rattle.policy_core.specs.Counting.{has_signed, is_signature_of}
 abbrev one_if : Bool → ℕ
 one_if b = if b then 1 else 0
 
--- the set, counted from its first place
+-- the set, counted from its first index
 abbrev digits : {A : Type 0} → (ℕ → A → Bool) → ℕ → List A → ℕ
 digits passes n [] = 0
 digits passes n (x ∷ xs) = one_if (passes n x) + 2 * digits passes (n + 1) xs

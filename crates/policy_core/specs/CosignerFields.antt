@@ -24,7 +24,7 @@ use Rattle.policy_core.specs.Stores.{has_repeat, is_same_place}
 abbrev pub cosigner_keys : List Text
 cosigner_keys = codes "id" ∷ codes "key" ∷ []
 
--- The id of the cosigner at this place, from 0: none is taken behind the most.
+-- The id of the cosigner at this index, from 0: none is taken after the most.
 abbrev pub id_data_at : ℕ → Data → Option Text
 id_data_at place d = if nat_lt place most_cosigners then id_data d else None
 
@@ -35,7 +35,7 @@ hss_key bytes = option_map (λ types. bytes) (hss_key_types bytes)
 unfoldable pub hss_key_data : Data → Option Text
 hss_key_data d = option_and_then hss_key (bytes_data d)
 
--- The cosigner at this place: its table has no other keys, and the id is tested before the key.
+-- The cosigner at this index: its table has no other keys, and the id is tested before the key.
 unfoldable pub cosigner_data : ℕ → Data → Result Known StoreError
 cosigner_data place d = do
   ms ← table_with cosigner_keys d
@@ -43,7 +43,7 @@ cosigner_data place d = do
   key ← store_field CosignerKey hss_key_data (get_member (codes "key") ms)
   Ok (record { id = id; key = key })
 
--- Each cosigner from this place on: the first fault is told.
+-- Each cosigner from this index on: the first fault is reported.
 abbrev pub cosigners_from : ℕ → Items → Result (List Known) StoreError
 cosigners_from place no_items = Ok []
 cosigners_from place (item d ds) =
@@ -58,20 +58,20 @@ cosigners_at d = items_at d >>= cosigners_from 0
 abbrev pub rule_keys : List Text
 rule_keys = codes "cosigners" ∷ codes "count" ∷ []
 
--- The place of the cosigner that a value names.
+-- The index of the cosigner that a value names.
 abbrev pub place_of : List Known → Text → Option ℕ
 place_of known id = position (λ k. bytes_eq k.id id) known
 
 unfoldable pub place_data : List Known → Data → Option ℕ
 place_data known d = option_and_then (place_of known) (id_data d)
 
--- The places that all the items name.
+-- The indices that all the items name.
 abbrev pub places_in : List Known → Items → Option (List ℕ)
 places_in known no_items = Some []
 places_in known (item d ds) =
     option_and_then (λ n. option_map (λ ns. n ∷ ns) (places_in known ds)) (place_data known d)
 
--- Places of so many cosigners, none of which stands there twice.
+-- Indices of so many cosigners, none of which occurs twice.
 abbrev pub if_different : ℕ → List ℕ → Option (List ℕ)
 if_different known ns =
     if nat_le (length ns) known && not (has_repeat is_same_place ns) then Some ns else None
@@ -88,7 +88,7 @@ if_counts most n = if nat_le 1 n && nat_le n most then Some n else None
 unfoldable pub count_data : ℕ → Data → Option ℕ
 count_data most d = option_and_then (if_counts most) (number_data d)
 
--- One rule over these cosigners: its table has no other keys, and the places are tested before the
+-- One rule over these cosigners: its table has no other keys, and the indices are tested before the
 -- count, which is no larger than their number.
 unfoldable pub rule_data : List Known → Data → Result Rule StoreError
 rule_data known d = do

@@ -27,7 +27,7 @@ store_field key read d = required_field (Missing key) (BadValue key) read d
 unfoldable pub id_data : Data → Option Text
 id_data d = option_and_then (λ text. result_ok (anchor_text text)) (as_str d)
 
--- Each item, in their order: the first fault is told.
+-- Each item, in their order: the first fault is reported.
 abbrev pub each_of : {A : Type 0}
     → (Data → Result A StoreError) → Items → Result (List A) StoreError
 each_of read no_items = Ok []

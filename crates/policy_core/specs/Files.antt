@@ -1,5 +1,5 @@
--- The store file: what a text says, or why it is none. The faults stand in the order in which they
--- are looked for.
+-- The store file: what a text says, or why it is none. The faults stand in the order of their
+-- tests.
 use Rattle.std.specs.Prelude.{◌&&◌, nat_lt, Bool, List, [], ◌∷◌, codes, Option, Some, None, Result}
 use Rattle.std.specs.Prelude.{Ok, Err, if◌then◌else◌}
 use Rattle.std.specs.List.{list_all}
@@ -74,7 +74,7 @@ checked_store s =
     else (if has_repeat has_same_interval s.subtrees then Err RepeatedSubtree
     else (if are_subtrees s.subtrees && are_inhabited s.revoked then Ok s else Err BadRange))
 
--- The rules, behind the cosigners that they are over; the revoked ranges, behind the subtrees.
+-- The rules, after the cosigners that they are over; the revoked ranges, after the subtrees.
 abbrev pub rules_in : Members → Result (List Rule) StoreError
 rules_in ms =
     cosigners_at (get_member (codes "cosigner") ms) >>= λ known.

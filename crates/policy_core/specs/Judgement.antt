@@ -33,7 +33,7 @@ abbrev pub is_in : ℕ → Span → Bool
 is_in serial range = nat_le range.start serial && nat_lt serial range.end
 
 -- What is asked of the fields of a certificate: its algorithm is that of Merkle tree proofs without
--- parameters, its issuer is the log, the moment lies in its validity, each critical extension is
+-- parameters, its issuer is the log, the time lies in its validity, each critical extension is
 -- known, and its serial number isn't revoked.
 unfoldable pub admitted : Store → ℤ → Parts → Result (Unit {0}) Refusal
 admitted store now c =

@@ -14,7 +14,7 @@ use Rattle.policy_core.specs.declared.lists.Trusted.{Trusted}
 use Rattle.policy_core.specs.declared.rules.Rule.{Rule}
 use Rattle.policy_core.specs.declared.store.Store.{Store}
 
--- The two cosigners have one id, the two subtrees one interval; the two places are one.
+-- The two cosigners have one id, the two subtrees one interval; the two indices are one.
 abbrev pub has_same_id : Known → Known → Bool
 has_same_id a b = bytes_eq a.id b.id
 

@@ -5,7 +5,7 @@
 pub enum By {
     /// The subtree is one whose hash the store trusts.
     Landmark,
-    /// These cosigners count: bit i is set exactly where the one at place i of the store does.
+    /// These cosigners count: bit i is set exactly if the one at index i of the store does.
     Cosigners(u64),
 }
 

@@ -20,7 +20,7 @@ use tls_wire::AnchorId;
 use toml::{Table, Value};
 use toml_fields::{bytes_of, value_at};
 
-// The id of the cosigner at this place. It is none from the 65th on.
+// The id of the cosigner at this index. It is none from the 65th on.
 fn id_at(alloc: Global, table: &Table, place: usize) -> Result<AnchorId, StoreError>
     ensures exact { Answers StoreError.Memory
         (store_field Key.CosignerId (id_data_at place)
@@ -70,7 +70,7 @@ fn key_at(alloc: Global, table: &Table) -> Result<[u8; PUBLIC_KEY_LEN], StoreErr
     key_of(alloc, value)?.ok_or(StoreError::BadValue(Key::CosignerKey))
 }
 
-// The cosigner at this place.
+// The cosigner at this index.
 #[tactic(auto, unfolding(crate::specs::CosignerFields::cosigner_data))]
 fn cosigner_of(alloc: Global, value: &Value, place: usize) -> Result<Known, StoreError>
     ensures exact { Answers StoreError.Memory (cosigner_data place (view value.now)) result }

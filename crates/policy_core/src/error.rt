@@ -22,14 +22,14 @@ pub enum Key {
     End,
     /// A subtree's `hash`.
     Hash,
-    /// A value in the place of a table, or of a list of tables, that isn't one.
+    /// A value that isn't a table, or not a list of tables, where one has to be.
     Table,
 }
 
 /// Why a text is no store file. The tests are made in this order: the text, the keys of the root,
 /// the log, the cosigners, the rules, the subtrees and the revoked ranges one by one, each of them
-/// for its keys and then field by field, and the whole. An item that is no table is met at its
-/// turn, behind the faults of the items before it.
+/// for its keys and then field by field, and the whole. An item that is no table is reported at its
+/// turn, after the faults of the items before it.
 #[derive(Clone, Copy, Debug, PartialEq, Eq)]
 pub enum StoreError {
     /// The text isn't UTF-8, or isn't TOML.

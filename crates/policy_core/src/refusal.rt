@@ -23,7 +23,7 @@ pub enum Refusal {
     Revoked,
     /// The bytes of the signature aren't a proof.
     ProofGrammar(ProofError),
-    /// The proof's path has no value at the certificate's place in the interval.
+    /// The proof's path has no value at the certificate's index in the interval.
     ProofShape(EvalError),
     /// The interval is trusted with another hash than the one that the proof gives.
     LandmarkDiffers,

@@ -22,14 +22,14 @@ use std::alloc::Global;
 use toml::{Table, Value};
 use toml_fields::{number_of, value_at};
 
-// The place of the cosigner with this id.
+// The index of the cosigner with this id.
 fn index_of(known: &[Known], id: &[u8]) -> Option<usize>
     ensures { result ≡ place_of known.now id.now }
 {
     known.iter().position(|one| one.id.as_bytes() == id)
 }
 
-// The same, as it is kept: a store has few cosigners.
+// The same, in the 32 bits in which a rule stores it: a store has few cosigners.
 #[tactic(auto, using(crate::proofs::FileRules::position_below))]
 fn place_of(known: &[Known], id: &[u8]) -> Option<u32>
     requires { length known.now ≤ most_cosigners }
@@ -41,7 +41,7 @@ fn place_of(known: &[Known], id: &[u8]) -> Option<u32>
     }
 }
 
-// The place of the cosigner that a value names.
+// The index of the cosigner that a value names.
 #[tactic(auto, unfolding(crate::specs::CosignerFields::place_data))]
 fn place_at(alloc: Global, known: &[Known], value: &Value) -> Result<Option<u32>, Memory>
     requires { length known.now ≤ most_cosigners }
@@ -53,7 +53,7 @@ fn place_at(alloc: Global, known: &[Known], value: &Value) -> Result<Option<u32>
     }
 }
 
-// The places that all the values name.
+// The indices that all the values name.
 fn places_in(alloc: Global, known: &[Known], values: &[Value]) -> Result<Option<Places>, Memory>
     requires { length known.now ≤ most_cosigners }
     ensures { IfOk result (λ o. o ≡ places_in known.now (items_view values.now)) }
@@ -68,14 +68,14 @@ fn places_in(alloc: Global, known: &[Known], values: &[Value]) -> Result<Option<
     Ok(Some(Places::from_vec(places)))
 }
 
-// The place is one of these.
+// The index is one of these.
 fn is_among(place: u32, others: &[u32]) -> bool
     ensures { result ≡ list_any (is_same_place place) others.now }
 {
     others.iter().any(|other| place == *other)
 }
 
-// Two of the places are the same.
+// Two of the indices are the same.
 #[tactic(auto, unfolding(crate::specs::Stores::has_repeat))]
 fn repeats(places: &[u32]) -> bool
     ensures { result ≡ has_repeat is_same_place places.now }
@@ -90,7 +90,7 @@ fn repeats(places: &[u32]) -> bool
     false
 }
 
-// No place stands here twice, and there are no more than so many.
+// No index occurs twice, and there are no more than so many.
 fn are_different(places: &[u32], known: usize) -> bool
     ensures { result
         ≡ (nat_le (length places.now) known && not (has_repeat is_same_place places.now)) }
@@ -98,7 +98,7 @@ fn are_different(places: &[u32], known: usize) -> bool
     places.len() <= known && !repeats(places)
 }
 
-// The places, where they are of different cosigners, of whom there are so many.
+// The indices, if they are of different cosigners, of whom there are so many.
 fn if_different(places: Places, known: usize) -> Option<Places>
     ensures exact { result ≡ if_different known places }
     ensures few { IfSome result (λ ps. length ps ≤ known) }
@@ -110,7 +110,7 @@ fn if_different(places: Places, known: usize) -> Option<Places>
     }
 }
 
-// The places that a value names, where it is a list of different cosigners.
+// The indices that a value names, if it is a list of different cosigners.
 #[tactic(auto, unfolding(crate::specs::CosignerFields::places_data))]
 fn places_of(alloc: Global, known: &[Known], value: &Value) -> Result<Option<Places>, Memory>
     requires { length known.now ≤ most_cosigners }

@@ -2,7 +2,7 @@
 
 use std::marker::Model;
 
-/// Places of cosigners in the list of a store, from 0. Contracts see the list of them.
+/// Indices of cosigners in the list of a store, from 0. Contracts see the list of them.
 #[derive(Debug, Drop)]
 pub struct Places {
     items: Vec<u32>,
@@ -19,21 +19,21 @@ impl Model for Places {
 impl Places {
     ghost use Rattle.std.specs.Prelude.{◌≡◌};
 
-    /// The places of a vector, without a copy.
+    /// The indices of a vector, without a copy.
     pub fn from_vec(items: Vec<u32>) -> Places
         ensures { result ≡ items.items }
     {
         Places { items }
     }
 
-    /// The places as a vector, without a copy.
+    /// The indices as a vector, without a copy.
     pub fn into_vec(self) -> Vec<u32>
         ensures { result.items ≡ self }
     {
         self.items
     }
 
-    /// The places, in their order.
+    /// The indices, in their order.
     pub fn as_slice(&self) -> &[u32]
         ensures { result.now ≡ self.now }
     {

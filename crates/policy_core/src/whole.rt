@@ -19,7 +19,7 @@ use std::alloc::Global;
 use std::collections::BTreeSet;
 use tree_core::{Span, subtree_ok};
 
-// Two of these have one interval. Each interval is looked for among those before it.
+// Two of these have one interval. Each interval is compared with those before it.
 fn repeats(alloc: Global, subtrees: &[Trusted]) -> Result<bool, Memory>
     ensures { IfOk result (λ r. r ≡ has_repeat has_same_interval subtrees.now) }
 {

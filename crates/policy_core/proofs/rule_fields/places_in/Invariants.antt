@@ -4,7 +4,7 @@ use Rattle.toml.specs.View.{items_view}
 use Rattle.policy_core.specs.CosignerFields.{places_in}
 use Rattle.policy_core.proofs.rule_fields.places_in.Given as goal
 
--- The places so far, and those that the rest names, make the whole.
+-- The indices so far, and those that the rest names, make the whole.
 abbrev pub invariant-loop-value : goal.invariant-loop-value
 invariant-loop-value l =
     option_map (λ ns. l.places.items ++ ns)
