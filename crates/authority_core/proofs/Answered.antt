@@ -1,4 +1,4 @@
--- What issuing answers, by what the log answers, and what writing answers behind its tests.
+-- What issuing answers, by what the log answers, and what writing answers after its tests.
 use Rattle.std.proofs.Common.{◌≡◌, ℕ, Option, None, Result, Ok, Err, IfErr, ap, subst, sym}
 use Rattle.std.proofs.Common.{◌∙◌}
 use Rattle.std.specs.Result.{IsErrAnd}
@@ -33,7 +33,7 @@ or_memory wanted Failed keeps = keeps
 or_memory wanted (Append why) keeps = keeps
 or_memory wanted Memory keeps = tt
 
--- behind the tests a disk fails, or memory is refused
+-- after the tests a disk fails, or memory is refused
 pub kept_behind : (wanted : Option WriteError) (result : Result Text WriteError) → wanted ≡ None
     → IfErr result IsOfDisks → KeepsToRefusal wanted result
 kept_behind wanted (Ok bytes) none is = none

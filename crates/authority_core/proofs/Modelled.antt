@@ -1,4 +1,4 @@
--- What is written of a log, where its disks tell it.
+-- What is written of a log, if the model knows the bytes of its disks.
 use Rattle.std.proofs.Common.{◌≡◌, ℕ, ◌-◌, ◌<◌, ◌≤◌, true, List, [], Option, Some, None, IfOk}
 use Rattle.std.proofs.Common.{IfSome, option_map, Result, Ok, Err, ap, length, slice_index_or}
 use Rattle.std.proofs.Common.{subst, sym}
@@ -55,7 +55,7 @@ own_modelled (Some s) new v id entry key index grown shows last named own =
     (last ∙ sym (ap (λ (u : LogView). u.size) shows))
     (named ∙ sym (ap (λ (u : LogView). u.settings.id) shows)) own)
 
--- ---- a proof, where the leaf hashes are told
+-- ---- a proof, if the model knows the leaf hashes
 
 module _ (h : HashFunction) (index start end : ℕ) (signatures : Text) where
   pub text_modelled : (path : List Hash) (bytes : Text) (contents : Option LogState)

@@ -40,8 +40,8 @@ pub record IsSetUpFor (id : Text) (index : ℕ) (p : ProofParts) (hash : Hash) (
   pub enough : Trusts store p.start p.end hash ⊎ IsSatisfied store p hash
 
 -- Each store that is set up for the log's entry at this index, with the tree hash of the log's
--- entries in the subtree, accepts the bytes at each moment from the entry's first to its last one,
--- as the certificate of that index, interval and hash.
+-- entries in the subtree, accepts the bytes at each time from the entry's first to its last one, as
+-- the certificate of that index, interval and hash.
 abbrev pub StoresAccept : HashFunction → LogState → ℕ → ℕ → ℕ → Text → Text → Type 0
 StoresAccept h s index start end signatures bytes =
     let p = proof_for h s index start end signatures in
@@ -56,6 +56,6 @@ abbrev pub AcceptsIn : HashFunction → LogState → ℕ → Text → Option Spa
 AcceptsIn h s index bytes None = ⊥
 AcceptsIn h s index bytes (Some span) = StoresAccept h s index span.start span.end [] bytes
 
--- So it is in the subtree that covers the entry, where an active landmark has one.
+-- This holds in the subtree that covers the entry, if an active landmark has one.
 abbrev pub StoresAcceptLightly : HashFunction → LogState → ℕ → Text → Type 0
 StoresAcceptLightly h s index bytes = AcceptsIn h s index bytes (covering_in (view_in s) index)

@@ -46,7 +46,7 @@ cert_refusal v index start end signatures =
     else (if nat_lt most_signatures (length signatures) then Some TooManySignatures
     else None)))))
 
--- The answer keeps to it, where memory may be refused, or a fault told, behind all tests.
+-- The answer follows it, but memory may be refused, or a failure reported, after all tests.
 abbrev pub KeepsToRefusal : Option WriteError → Result Text WriteError → Type 0
 KeepsToRefusal wanted (Ok bytes) = wanted ≡ None
 KeepsToRefusal wanted (Err NoSuchEntry) = wanted ≡ Some NoSuchEntry
@@ -73,7 +73,7 @@ light_refusal v index =
     else (if is_none (covering_in v index) then Some NotCovered
     else None))
 
--- The answer keeps to it, where memory may be refused behind the first two tests.
+-- The answer follows it, but memory may be refused after the first two tests.
 abbrev pub KeepsToLightRefusal : Option WriteError → Result Text WriteError → Type 0
 KeepsToLightRefusal wanted (Ok bytes) = wanted ≡ None
 KeepsToLightRefusal wanted (Err NoSuchEntry) = wanted ≡ Some NoSuchEntry
@@ -142,7 +142,7 @@ pub record IsLightlyWritten (h : HashFunction) (s : LogState) (index : ℕ) (byt
   pub covering : covering_in (view_in s) index ≡ Some span
   pub written : IsWritten h s index span.start span.end [] bytes
 
--- The count of faults of a journal's disk rose where it is named, and is as it was at any other
+-- The count of failures of a journal's disk rose where it is named, and is as it was at any other
 -- answer.
 abbrev pub JournalCounts : {X : Type 0} → ℕ → ℕ → Result X WriteError → Type 0
 JournalCounts before after (Ok x) = after ≡ before

@@ -1,5 +1,5 @@
--- The request file: what a text says, or why it is none. The faults stand in the order in which
--- they are looked for.
+-- The request file: what a text says, or why it is none. The faults stand in the order of their
+-- tests.
 use Rattle.std.specs.Prelude.{ℕ, ◌+◌, ◌&&◌, ◌==◌, nat_le, int_lt, Bool, ℤ, List, [], ◌∷◌, length}
 use Rattle.std.specs.Prelude.{codes, Option, Some, None, option_map, Result, Ok, Err, if◌then◌else◌}
 use Rattle.std.specs.Option.{option_and_then}
@@ -40,7 +40,7 @@ field_or_none which read d = optional_field (BadValue which) read d
 abbrev pub if_passes : {A : Type 0} → (A → Bool) → A → Option A
 if_passes test x = if test x then Some x else None
 
--- A moment, as a text.
+-- A time, as a text.
 unfoldable pub time_data : Data → Option ℤ
 time_data d = option_and_then text_moment (as_str d)
 

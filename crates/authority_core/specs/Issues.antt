@@ -29,8 +29,8 @@ abbrev pub of_log : Result ℕ IssueError → Result ℕ LogError
 of_log (Ok index) = Ok index
 of_log (Err (Log why)) = Err why
 
--- The answer keeps to the refusal that the log's state and journal settle, where memory may be
--- refused before any test.
+-- The answer is the refusal that the log's state and journal determine, but memory may be refused
+-- before any test.
 abbrev pub KeepsToOrMemory : Option LogError → Result ℕ LogError → Type 0
 KeepsToOrMemory wanted (Ok index) = ItemKeepsTo wanted (Ok index)
 KeepsToOrMemory wanted (Err log_error.Full) = ItemKeepsTo wanted (Err log_error.Full)

@@ -31,7 +31,7 @@ subject_of (Some text) = name_of common_name_id text
 abbrev pub dns_names : List Text → Text
 dns_names names = flat_map (element dns_name) names
 
--- subjectAltName. It is critical exactly where the subject is empty.
+-- subjectAltName. It is critical exactly if the subject is empty.
 abbrev pub alt_name_of : RequestParts → ExtensionFields
 alt_name_of r = record {
   identifier = subject_alt_name;

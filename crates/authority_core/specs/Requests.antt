@@ -18,7 +18,7 @@ pub record RequestParts : Type 0 where
 abbrev pub IsCommonName : Text → Type 0
 IsCommonName name = (1 ≤ length name) × (length name ≤ 64)
 
--- The dates are moments in their order, the names are 1 to 100 host names, the common name has 1 to
+-- The dates are times in their order, the names are 1 to 100 host names, the common name has 1 to
 -- 64 bytes, and the key is one subjectPublicKeyInfo.
 pub record CanBeIssued (r : RequestParts) : Type 0 where
   pub validity : IsPeriod r.validity

@@ -38,9 +38,9 @@ fn written<H: TreeHash>(alloc: Global, id: &AnchorId, request: &Request) -> Resu
 
 /// The entry that a request makes in the log with this id. Its issuer is the name of the log; its
 /// subject is empty or the common name (RFC 5280, section 4.1.2.6); its one extension is
-/// subjectAltName with the names in their order as dNSNames, critical exactly where the subject is
-/// empty (section 4.2.1.6). The key of the request belongs to it. Want of memory is the only
-/// refusal.
+/// subjectAltName with the names in their order as dNSNames, critical exactly if the subject is
+/// empty (section 4.2.1.6). The key of the request belongs to it. The call refuses only if memory
+/// runs out.
 pub fn entry_of_request<H: TreeHash>(
     alloc: Global,
     id: &AnchorId,

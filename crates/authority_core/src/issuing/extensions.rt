@@ -37,7 +37,7 @@ fn general_names(alloc: Global, names: &Names) -> Result<Bytes, Memory>
     element_of(alloc, SEQUENCE, names.as_slice())
 }
 
-// Puts the mark of a critical extension behind the bytes; no bytes where it is not critical.
+// Appends the mark of a critical extension to the bytes; no bytes if it is not critical.
 fn put_mark(critical: bool, out: &mut Bytes) -> Result<(), Memory>
     ensures { OnOk result (out.new ≡ out.old ++ mark critical) }
 {
@@ -48,7 +48,7 @@ fn put_mark(critical: bool, out: &mut Bytes) -> Result<(), Memory>
     }
 }
 
-// The identifier, the mark and the names. The extension is critical exactly where the subject is
+// The identifier, the mark and the names. The extension is critical exactly if the subject is
 // empty.
 fn alt_name(alloc: Global, request: &Request) -> Result<Bytes, Memory>
     ensures value { IfOk result (λ bytes. bytes ≡ extension_contents (alt_name_of request.now)) }

@@ -37,9 +37,9 @@ pub fn law_entries_say_what_was_asked()
         → IsOwnEntry id (entry_for h id r) }
 {}
 
-/// The record of what is issued keeps to the rules of a log's journal. Behind records that make a
-/// log which has room, it makes that log with the entry and its key, where these are within the
-/// limit for both together.
+/// The record of what is issued follows the rules of a log's journal. After records that make a log
+/// which has capacity, it makes that log with the entry and its key, if these are within the limit
+/// for both together.
 pub fn law_issued_entries_keep_to_the_rules()
     ensures { (h : HashFunction) (list : List Text) (s : LogState) (r : RequestParts)
         → ((bytes : Text) → length (h bytes) ≡ 32) → IsAnchorId s.settings.id → CanBeIssued r

@@ -6,7 +6,7 @@ use mtc_io::Bytes;
 use std::marker::Model;
 
 /// What an authority is asked to issue: a certificate that is valid from the first to the last of
-/// two moments, for these host names, with this common name or none, and for this public key, a
+/// two times, for these host names, with this common name or none, and for this public key, a
 /// subjectPublicKeyInfo element (RFC 5280, section 4.1.2.7). Each request can be issued.
 #[derive(Debug, Drop)]
 pub struct Request {

@@ -24,7 +24,7 @@ use toml_fields::{bytes_of, value_at};
 // A request has at most so many names.
 const MOST_NAMES: usize = 100;
 
-// A moment, as a text.
+// A time, as a text.
 #[tactic(auto, unfolding(crate::specs::Files::time_data))]
 fn time_of(value: &Value) -> Option<i64>
     ensures value { result ≡ time_data (view value.now) }
@@ -36,7 +36,7 @@ fn time_of(value: &Value) -> Option<i64>
     }
 }
 
-/// The moment of a field.
+/// The time of a field.
 pub fn time_at(table: &Table, name: &str, which: Field) -> Result<i64, RequestError>
     ensures value { result ≡ field which time_data (get_member name.now (table_view table.now)) }
     ensures range { IfOk result IsMoment }

@@ -21,15 +21,15 @@ const MOST_SIGNATURES: usize = 65_535;
 
 /// Writes the certificate of an entry: its fields, its key, its index as the serial number, and as
 /// the signature its path in the subtree `[start, end)` of the log, with these signatures of
-/// cosigners, or none (the draft on Merkle Tree Certificates, where it defines MTCProof). The disks
-/// of the log are only looked at, and it shows what it showed before.
+/// cosigners, or none (the draft on Merkle Tree Certificates, where it defines MTCProof). The call
+/// only reads the disks of the log, which shows what it showed before.
 ///
-/// Each store that is set up for the log and this entry accepts it, at each moment of the entry's
-/// validity. It is so where the store holds no other hash for the subtree, and trusts it with the
+/// Each store that is set up for the log and this entry accepts it, at each time of the entry's
+/// validity. A store is set up so if it holds no other hash for the subtree, and trusts it with the
 /// log's, or has rules which the signatures meet.
 ///
-/// Errors, in the order of the tests: those of [`WriteError`] but `NotCovered`. Want of memory
-/// comes last.
+/// Errors, in the order of the tests: those of [`WriteError`] but `NotCovered`. `Memory` comes
+/// last.
 #[tactic(auto, unfolding(crate::specs::Certificates::cert_refusal))]
 pub fn cert<H: TreeHash, D: Disk, T: Disk>(
     alloc: Global,

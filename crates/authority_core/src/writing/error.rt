@@ -17,7 +17,7 @@ pub enum WriteError {
     BadSubtree,
     /// The index lies outside of the interval.
     Outside,
-    /// The interval ends above the size of the log, which is told.
+    /// The interval ends above the size of the log, which the variant holds.
     Beyond(u64),
     /// No active landmark covers the entry.
     NotCovered,

@@ -44,8 +44,8 @@ fn parts_with(
     })
 }
 
-// The certificate of an entry with its key, index and proof. A key that doesn't belong to the entry
-// can come only of a disk that tells nothing, and is answered as want of memory.
+// The certificate of an entry with its key, index and proof. Only a disk whose bytes the model
+// doesn't know can give a key that doesn't belong to the entry; the answer is then out of memory.
 fn certificate_of<H: TreeHash>(
     alloc: Global,
     index: u64,

@@ -35,10 +35,10 @@ fn covering_subtree<H: TreeHash, D: Disk, T: Disk>(
 /// Writes the certificate of an entry that needs no signature: its fields, its key, its index as
 /// the serial number, and as the signature its path in the subtree that holds it, of the least
 /// landmark of the log above it (the draft on Merkle Tree Certificates, where it defines
-/// landmarks). The disks of the log are only looked at, and it shows what it showed before.
+/// landmarks). The call only reads the disks of the log, which shows what it showed before.
 ///
 /// Each store for the log that trusts this subtree with the log's hash, and doesn't revoke the
-/// index, accepts it at each moment of the entry's validity.
+/// index, accepts it at each time of the entry's validity.
 ///
 /// Errors, in the order of the tests: `NoSuchEntry`, `NullEntry`, and `NotCovered` where no
 /// landmark is above the entry, or the least one isn't active any more. `Memory` may come before
