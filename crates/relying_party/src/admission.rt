@@ -1,4 +1,4 @@
-//! What is asked of a certificate's fields, before its proof is looked at.
+//! What is asked of a certificate's fields, before its proof is read.
 
 ghost use Rattle.std.specs.Prelude.{◌≡◌};
 ghost use Rattle.std.specs.List.{list_any};
@@ -18,7 +18,7 @@ fn is_revoked(serial: u64, ranges: &[Span]) -> bool
         .any(|range| range.start <= serial && serial < range.end)
 }
 
-/// The algorithm, the issuer, the moment in seconds since 1970-01-01T00:00:00Z, the extensions and
+/// The algorithm, the issuer, the time in seconds since 1970-01-01T00:00:00Z, the extensions and
 /// the serial number, in this order.
 #[tactic(auto, unfolding(policy_core::specs::Judgement::admitted))]
 pub fn admit(cert: &Cert, store: &Store, now: i64) -> Result<(), Refusal>

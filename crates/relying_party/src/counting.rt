@@ -13,7 +13,7 @@ use mtc_proof::{InputBuf, Proof, SigRef, signature_input, signatures};
 use policy_core::{Known, Rule, Store};
 use tls_wire::AnchorId;
 
-// The signature has the cosigner's id, and verifies this text under its key.
+// The signature has the cosigner's id, and verifies these bytes under its key.
 #[tactic(auto, using(crate::proofs::Verified::verified))]
 fn is_signature_of(cosigner: &Known, text: &[u8], one: &SigRef) -> bool
     ensures { result ≡ is_signature_of cosigner.now text.now (sig_parts one.now) }
@@ -21,7 +21,7 @@ fn is_signature_of(cosigner: &Known, text: &[u8], one: &SigRef) -> bool
     one.cosigner == cosigner.id.as_bytes() && verify(&cosigner.key, text, one.signature).is_ok()
 }
 
-// The proof has a signature of the cosigner over this text.
+// The proof has a signature of the cosigner over these bytes.
 fn has_one(cosigner: &Known, text: &[u8], proof: &Proof) -> bool
     ensures { result ≡ list_any (is_signature_of cosigner.now text.now)
         (signatures_left (at proof.now.signatures.now 0)) }
@@ -50,7 +50,7 @@ fn has_signed(cosigner: &Known, log: &AnchorId, proof: &Proof, hash: &[u8; 32]) 
     has_one(cosigner, text.as_slice(), proof)
 }
 
-// The cosigner at this place stands in some rule.
+// The cosigner at this index stands in some rule.
 fn is_named(rules: &[Rule], place: u32) -> bool
     ensures { result ≡ is_named rules.now place }
 {
@@ -59,7 +59,7 @@ fn is_named(rules: &[Rule], place: u32) -> bool
         .any(|rule| rule.cosigners.as_slice().contains(&place))
 }
 
-// The cosigner at this place counts. No signature is looked at of one that no rule names.
+// The cosigner at this index counts. No signature is read of one that no rule names.
 fn counts(store: &Store, proof: &Proof, hash: &[u8; 32], place: u32, cosigner: &Known) -> bool
     ensures { result ≡ counts store.now (proof_parts proof.now) hash.now place cosigner.now }
 {

@@ -11,12 +11,12 @@ use mtc_proof::read_proof;
 use policy_core::{Accepted, Refusal, Store};
 use tree_core::{TreeHash, evaluate};
 
-/// Judges a certificate at a moment, in seconds since 1970-01-01T00:00:00Z, without taking memory.
+/// Judges a certificate at a time, in seconds since 1970-01-01T00:00:00Z, without taking memory.
 ///
 /// It is refused with the first of these that holds: `Grammar` where the bytes aren't a
 /// certificate; `Algorithm` where its algorithm isn't that of Merkle tree proofs, without
 /// parameters; `UnknownLog` where its issuer isn't the store's name, byte for byte; `NotYet` and
-/// `Expired` where the moment is before its first or after its last one; `UnknownCritical` where a
+/// `Expired` where the time is before its first or after its last one; `UnknownCritical` where a
 /// critical extension is none of subjectAltName, basicConstraints, keyUsage and extKeyUsage;
 /// `Revoked` where its serial number lies in a revoked range; `ProofGrammar` where the bytes of its
 /// signature aren't a proof; `ProofShape` where the path has no value for its entry, which stands
@@ -24,8 +24,8 @@ use tree_core::{TreeHash, evaluate};
 /// interval is trusted with another hash than the path's value; `TooFewCosigners` where the
 /// interval isn't trusted, with the first rule that isn't met, counted from 1, or 0 where there is
 /// no rule. A rule is met where at least as many of its cosigners as it asks for have a signature
-/// in the proof that verifies (RFC 8554, section 6.3). Where the interval is trusted no signature
-/// is verified; else none that no rule names, and by a valid store each once at most.
+/// in the proof that verifies (RFC 8554, section 6.3). No signature is verified if the interval is
+/// trusted; else none that no rule names, and by a valid store each once at most.
 #[tactic(auto, unfolding(policy_core::specs::Judgement::judgement))]
 pub fn judge<H: TreeHash>(cert: &[u8], store: &Store, now: i64) -> Result<Accepted, Refusal>
     ensures { result ≡ judgement H.hash cert.now store.now now }

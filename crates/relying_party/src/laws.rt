@@ -18,12 +18,11 @@ ghost use Rattle.policy_core.specs.Acceptance.{HoldsNoOther, IsAccepted, IsCosig
 ghost use Rattle.policy_core.specs.Acceptance.{IsTrusted, Trusts, accepted_by};
 ghost use Rattle.policy_core.specs.Judgement.{judgement};
 
-/// A certificate is accepted exactly where its bytes spell a certificate of the store's log that is
-/// valid at the moment, isn't revoked and has no critical extension that isn't known, and the path
-/// of its proof gives the proof's interval the hash that a valid store trusts there, or, where it
-/// trusts none, one for which enough cosigners count; for every hash function. So a store that
-/// trusts no other hash for the interval has a way to accept this one where it trusts it or its
-/// rules are met.
+/// A certificate is accepted exactly if its bytes encode a certificate of the store's log that is
+/// valid at the time, isn't revoked and has no critical extension that isn't known, and the path of
+/// its proof gives the proof's interval the hash that a valid store trusts there, or, if it trusts
+/// none, one for which enough cosigners count; for every hash function. So a store that trusts no
+/// other hash for the interval has a way to accept this one if it trusts it or its rules are met.
 pub fn law_accepted_certificates()
     ensures only { (h : HashFunction) (bytes : Text) (store : Store) (now : ℤ) (a : Accepted)
         → IsBytes bytes → judgement h bytes store now ≡ Ok a → IsAccepted h bytes store now a }
@@ -36,10 +35,10 @@ pub fn law_accepted_certificates()
         ⊎ IsCosigned store p hash (accepted_by store p hash) }
 {}
 
-/// The set of the cosigners that count has the one at a place exactly where some rule names that
-/// place and the proof has a signature of it. It has no other place: none behind the cosigners, and
-/// none that no rule names. Where the signatures of the proof spell a list, it has one of a
-/// cosigner exactly where one of the list has the cosigner's id and verifies under its key.
+/// The set of the cosigners that count has the one at an index exactly if some rule names that
+/// index and the proof has a signature of it. It has no other index: none after the cosigners, and
+/// none that no rule names. If the signatures of the proof encode a list, it has one of a cosigner
+/// exactly if one of the list has the cosigner's id and verifies under its key.
 pub fn law_counted_cosigners()
     ensures set { (store : Store) (p : ProofParts) (hash : Hash) (place : ℕ) (k : Known)
         → place < length store.cosigners

@@ -10,7 +10,7 @@ use crate::counting::counted;
 use mtc_proof::Proof;
 use policy_core::{Accepted, By, Refusal, Rule, Store};
 
-// The set has the cosigner at this place.
+// The set has the cosigner at this index.
 fn is_in_set(set: u64, place: u32) -> bool
     ensures { result ≡ is_in_set set place }
 {
@@ -30,14 +30,14 @@ fn is_met(set: u64, rule: &Rule) -> bool
     rule.count as usize <= signed
 }
 
-// The place of the first rule that isn't met.
+// The index of the first rule that isn't met.
 fn first_of(set: u64, rules: &[Rule]) -> Option<usize>
     ensures { result ≡ position (λ r. not (is_met set r)) rules.now }
 {
     rules.iter().position(|rule| !is_met(set, rule))
 }
 
-// The first rule that isn't met, counted from 1. Where there is no rule it is 0.
+// The first rule that isn't met, counted from 1. It is 0 if there is no rule.
 fn first_unmet(set: u64, rules: &[Rule]) -> Option<u64>
     ensures { result ≡ first_unmet set rules.now }
 {
