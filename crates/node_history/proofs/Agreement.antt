@@ -33,7 +33,7 @@ use Rattle.node_history.specs.declared.start.NodeStart.{NodeStart}
 use Rattle.node_history.specs.declared.start.NodeStart.TheVariants.{Log, Cosigner}
 use Rattle.node_history.proofs.Chains.{no_some}
 
--- no record at all stands behind each start
+-- no record at all follows each start
 pub alone : (h : HashFunction) (start : NodeStart) → may_follow h start [] ≡ true
 unfolding taken_from progress_in steps_in progress_by
 alone h (Log settings) = refl
@@ -100,7 +100,7 @@ first_of_cosigner h first bodies is =
     let same = cons_is first found.0 bodies found.1.0 found.1.1.1.1.0 in
     ((found.1.1.0, found.1.1.1.0), ap cosigner_in same ∙ found.1.1.1.1.1)
 
--- each journal of a log or a cosigner is that of a node
+-- each journal of a log or a cosigner is that of a party
 pub starts_so : (h : HashFunction) (first : Text) (bodies : List Text)
     → AreRecords h (first ∷ bodies) → (start : NodeStart) × StartsWith start first
 starts_so h first bodies (inl is) =

@@ -1,4 +1,4 @@
--- Each body of a node is one that a step of it began.
+-- Each body of a party is one that a step of it began.
 use Rattle.std.proofs.Common.{◌≡◌, ℕ, ◌<◌, Bool, true, false, List, [], ◌∷◌, ◌++◌, length}
 use Rattle.std.proofs.Common.{Option, Some, None, IfSome, inl, inr, sym, subst, arith, zero, suc}
 use Rattle.std.proofs.lemmas.List.Elements.{Contains-append_cases, Contains-append_left}
@@ -15,7 +15,7 @@ use Rattle.node_history.specs.declared.step.NodeStep.{NodeStep}
 use Rattle.node_history.specs.declared.step.NodeStep.TheVariants.{Begin, Settle, Hand, Stop}
 use Rattle.node_history.proofs.Steps.{when}
 
--- the bodies of a node with a pending one among them
+-- the bodies of a party with a pending one among them
 among : (steps : List NodeStep) (place : ℕ) (list : List Text) (p : Option Text)
     → ((body : Text) → Contains list body → Contains steps (Begin place body))
     → IfSome p (λ body. Contains steps (Begin place body))
@@ -50,7 +50,7 @@ begun_stays done step place s was = record {
       (λ body. Contains-append_left done (step ∷ []) (Begin place body)) was.pending;
 }
 
--- a record that is settled now
+-- a record that is durable now
 settled_now : (steps : List NodeStep) (place : ℕ) (s : HistoryState) → WereBegun steps place s
     → WereBegun steps place (settle s)
 settled_now steps place s was = record {

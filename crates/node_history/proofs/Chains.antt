@@ -1,4 +1,4 @@
--- What each step keeps holds behind all steps of a history.
+-- What each step preserves holds after all steps of a history.
 use Rattle.std.proofs.Common.{◌≡◌, ℕ, zero, suc, ◌+◌, ◌⊎◌, inl, inr, List, [], ◌∷◌, ◌++◌}
 use Rattle.std.proofs.Common.{length, map, Some, None, Ok, refl, ap, sym, ◌∙◌}
 use Rattle.std.proofs.Common.{option_map, subst, arith, append_assoc, slice_get}
@@ -29,7 +29,7 @@ at_set (x ∷ xs) (suc i) (suc j) a y is =
     elim (at_set xs i j a y is) [ inl p ↦ inl (ap suc p.0, p.1) | inr p ↦ inr p ]
 
 module _ (valid : Valid) where
-  -- a step of one node
+  -- a step of one party
   record HasStepped (states : List HistoryState) (step : NodeStep)
       (next : List HistoryState) : Type 0 where
     pub old : HistoryState
@@ -64,7 +64,7 @@ module _ (valid : Valid) where
   unfolding states_from
   no_steps k states ends is = ok_is ℕ states ends is
 
-  -- there are as many nodes behind the steps
+  -- there are as many parties after the steps
   as_many : (k : ℕ) (states : List HistoryState) (steps : List NodeStep)
       (ends : List HistoryState) → states_from valid k states steps ≡ Ok ends
       → length ends ≡ length states
@@ -123,7 +123,7 @@ module _ (valid : Valid) where
         (sym (slice_get-map fresh_party starts place) ∙ there) in
         subst (P [] place) found.2 (begins place found.0 found.1)) leads.allowed place s leads.there
 
-  -- a history behind a history
+  -- a history after a history
   pub between : (k : ℕ) (states : List HistoryState) (earlier later : List NodeStep)
       (olds news : List HistoryState) → states_from valid k states earlier ≡ Ok olds
       → states_from valid k states (earlier ++ later) ≡ Ok news
@@ -141,7 +141,7 @@ module _ (valid : Valid) where
       (ap (λ (l : List HistoryState). states_from valid (k + 1) l (earlier ++ later)) (sym same)
       ∙ other.2)
 
-  -- a node that was there is there behind more steps
+  -- a party that was there is there after more steps
   pub still_there : (k : ℕ) (states : List HistoryState) (steps : List NodeStep)
       (ends : List HistoryState) (place : ℕ) (s : HistoryState)
       → states_from valid k states steps ≡ Ok ends → slice_get states place ≡ Some s

@@ -42,7 +42,7 @@ use Rattle.cosigner_core.proofs.Tagged.{some_value, when_some}
 use Rattle.node_history.specs.Rules.{StartsWith}
 use Rattle.node_history.specs.declared.start.NodeStart.TheVariants.{Cosigner}
 
--- a cosigner keeps its ids and its key behind each of its records
+-- a cosigner keeps its ids and its key after each of its records
 same_cosigner : (h : HashFunction) (k : ℕ) (s t : CosignerState) (bodies : List Text)
     → taken_from (cosigner_fold h) k s bodies ≡ Ok t
     → (t.id ≡ s.id) × (t.log ≡ s.log) × (t.key.key ≡ s.key.key)

@@ -1,4 +1,4 @@
--- A history goes on by each step that is allowed.
+-- A history continues by each step that is allowed.
 use Rattle.std.proofs.Common.{◌≡◌, ℕ, zero, suc, ◌+◌, List, [], ◌∷◌, ◌++◌, map, Option}
 use Rattle.std.proofs.Common.{Some, Ok, refl, ap, ◌∙◌, option_map, option_and_then}
 use Rattle.std.proofs.Common.{slice_get}

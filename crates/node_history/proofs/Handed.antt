@@ -1,4 +1,4 @@
--- The bodies that were handed out, behind each step of an end.
+-- The bodies of the released records, after each step of an end.
 use Rattle.std.proofs.Common.{◌≡◌, ℕ, ◌+◌, ◌≤◌, List, [], ◌∷◌, ◌++◌, length, map}
 use Rattle.std.proofs.Common.{refl, ap, sym, ◌∙◌, append_assoc, arith, suc}
 use Rattle.std.proofs.lemmas.List.{get_or_append_left, length-append, map-append}
@@ -8,7 +8,7 @@ use Rattle.file_events.specs.Executions.{IsPrefix}
 use Rattle.node_history.specs.Laws.{AreAtMost, body_in, released_bodies}
 use Rattle.node_history.specs.Nodes.{HistoryState}
 
--- the body of a number stays where more bodies are settled
+-- the body of a number stays where more bodies are durable
 one_there : (xs ys : List Text) (n : ℕ) → n ≤ length xs → body_in (xs ++ ys) n ≡ body_in xs n
 one_there xs ys n few = get_or_append_left ([] ∷ xs) ys [] n (omega arith)
 
@@ -25,7 +25,7 @@ same_released s settled few prefix =
     ap (λ (l : List Text). map (body_in l) s.handed) (sym prefix.1)
     ∙ all_there s.settled prefix.0 s.handed few
 
--- a record that is settled and handed out is one more
+-- a record that is durable and released is one more
 pub one_released : (s : HistoryState) (settled : List Text) (body : Text)
     → AreAtMost (length s.settled) s.handed → IsPrefix s.settled settled
     → map (body_in (settled ++ body ∷ [])) (s.handed ++ length (settled ++ body ∷ []) ∷ [])

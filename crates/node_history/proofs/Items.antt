@@ -1,4 +1,4 @@
--- A log keeps its items whatever records come behind its own.
+-- A log keeps its items whatever records follow its own.
 use Rattle.std.proofs.Common.{◌≡◌, ℕ, ◌+◌, List, [], ◌∷◌, ◌++◌, length, slice_get}
 use Rattle.std.proofs.Common.{Option, Some, None, Ok, refl, ap, sym, ◌∙◌, subst, append_assoc}
 use Rattle.std.proofs.lemmas.List.{append-nil, length-append}
@@ -49,7 +49,7 @@ next_kept : (h : HashFunction) (s t : LogState) (body : Text) → next_log h s b
 unfolding next_log
 next_kept h s t body is = changed_kept h s t (item_in body) (mark_in body) (tiled_in body) is
 
--- and so do records behind each other
+-- and so do records that follow each other
 taken_kept : (h : HashFunction) (k : ℕ) (s t : LogState) (bodies : List Text)
     → taken_from (log_fold h) k s bodies ≡ Ok t → KeepsItems s t
 unfolding taken_from
@@ -130,7 +130,7 @@ first_taken h k s t body bodies is =
     let step = bind_ok _ _ t is in
     (step.0, (some_or_ok k (next_log h s body) step.0 step.1, step.2))
 
--- the item behind a list
+-- the item after a list
 at_end : (xs : List Text) (x : Text) (ys : List Text) → IsPrefix (xs ++ x ∷ []) ys
     → slice_get ys (length xs) ≡ Some x
 at_end [] x ys prefix = ap (λ (l : List Text). slice_get l 0) (sym prefix.1)

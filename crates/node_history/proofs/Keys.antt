@@ -21,7 +21,7 @@ head_is x y xs ys is = cc
 tail_is : (x : ℕ) (xs ys : List ℕ) → x ∷ xs ≡ x ∷ ys → xs ≡ ys
 tail_is x xs ys is = cc
 
--- behind a record they rise from that number or a later one
+-- after a record they rise from that number or a later one
 behind_one : (step : Option Step) (k : ℕ) (rest : List ℕ) → CountFrom k (index_before step rest)
     → (j : ℕ) × ((k ≤ j) × CountFrom j rest)
 behind_one None k rest all = (k, (omega arith, all))
@@ -29,7 +29,7 @@ behind_one (Some (Advance size root proof)) k rest all = (k, (omega arith, all))
 behind_one (Some (Sign index start end hash proof)) k rest all =
     (k + 1, (omega arith, λ i number is. omega (arith, all (suc i) number is)))
 
--- a Sign has the first number, and behind it they rise from the next one
+-- a Sign has the first number, and after it they rise from the next one
 at_sign : (step : Option Step) (k number : ℕ) (rest : List ℕ) → IsSignOf step number
     → CountFrom k (index_before step rest) → (number ≡ k) × CountFrom (k + 1) rest
 at_sign None k number rest is all = absurd cc
@@ -98,7 +98,7 @@ adds_behind [] body number is = absurd cc
 adds_behind (first ∷ prefix) body number is =
     (first, (prefix, (refl, adds_sign prefix body number is)))
 
--- Where two records are added behind fronts of a journal whose numbers count up, and both add one
+-- If two records are added after prefixes of a journal whose numbers count up, and both add one
 -- number, they are one record.
 pub one_record : (first : Text) (bodies : List Text) (list list' : List Text) (body body' : Text)
     (rest rest' : List Text) (number : ℕ)

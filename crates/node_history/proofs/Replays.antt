@@ -9,7 +9,7 @@ use Rattle.node_history.specs.Nodes.{HistoryState}
 use Rattle.node_history.specs.Results.{HasMoved}
 use Rattle.node_history.specs.declared.step.NodeStep.{NodeStep}
 
--- the steps from a place on
+-- the steps from an index on
 steps_at : (steps : List NodeStep) (i : ℕ) (step : NodeStep) → i < length steps
     → step ≡ get_or steps i step → drop i steps ≡ step ∷ drop (i + 1) steps
 steps_at steps i step there is =
@@ -29,7 +29,7 @@ was_none {S} wanted new false moved is = moved
 was_none {S} wanted new true moved is = let wrong : true ≡ false = is in absurd cc
 
 module _ (valid : Valid) (wanted : Result (List HistoryState) ℕ) where
-  -- the steps from a place on lead from here where they do from before this step
+  -- the steps from an index on lead from here where they do from before this step
   pub one_step : (k : ℕ) (states next : List HistoryState) (steps : List NodeStep) (i : ℕ)
       (step : NodeStep) → i < length steps → step ≡ get_or steps i step
       → states_from valid k states (drop i steps) ≡ wanted

@@ -1,4 +1,4 @@
--- The steps of one node keep what holds of it.
+-- The steps of one party keep what holds of it.
 use Rattle.std.proofs.Common.{◌≡◌, ℕ, zero, suc, ◌+◌, ◌<◌, ◌≤◌, not, Bool, true, false, List}
 use Rattle.std.proofs.Common.{[], ◌∷◌, ◌++◌, length, length-append, Option, Some, None, IfSome}
 use Rattle.std.proofs.Common.{refl, ap, sym, ◌∙◌, subst, arith, append_assoc}
@@ -25,7 +25,7 @@ when {X} false x y is = let wrong : None ≡ Some y = is in absurd cc
 no_true : {X : Type 0} → false ≡ true → X
 no_true {X} is = absurd cc
 
--- ---- numbers that were handed out
+-- ---- numbers of released records
 
 at_most_more : (low high : ℕ) (ns : List ℕ) → low ≤ high → AreAtMost low ns → AreAtMost high ns
 at_most_more low high [] more all = tt
@@ -162,7 +162,7 @@ module _ (valid : Valid) where
     may = λ wrong. no_true wrong;
   }
 
-  -- ---- what is settled stays
+  -- ---- what is durable stays
 
   stop_grown : (kept : Bool) (s : HistoryState) → HasGrown s (stop kept s)
   stop_grown true s = record {

@@ -26,7 +26,7 @@ use Rattle.node_history.proofs.GoesOn.{begins_fresh, goes_on}
 use Rattle.node_history.proofs.Handed.{one_released, same_released}
 use Rattle.node_history.proofs.Sound.{began_so, sound}
 
--- ---- a front of records makes a log or a cosigner
+-- ---- a prefix of records makes a log or a cosigner
 
 module _ {S E : Type 0} (fold : Fold S E) where
   prefix_taken : (k : ℕ) (s : S) (xs ys : List Text) (t : S)
@@ -67,7 +67,7 @@ unfolding state_behind
 no_records h (inl is) = absurd cc
 no_records h (inr is) = absurd cc
 
--- ---- what is settled behind a stop
+-- ---- what is settled after a stop
 
 recovered_is : (kept : Bool) (first : Text) (settled : List Text) (pending : Option Text)
     → recovered kept (first ∷ settled) pending
@@ -129,7 +129,7 @@ module _ (h : HashFunction) (starts : List NodeStart) (place : ℕ) (start : Nod
         (few list pending out g) (stop_prefix kept g.state));
   }
 
-  -- a record that is valid behind them
+  -- a record that is valid after them
   pub begun : (list : List Text) (body : Text) (out : List Text)
       → AreRecords h (list ++ body ∷ []) → Goes list None out → Goes list (Some body) out
   begun list body out records g =

@@ -20,9 +20,9 @@ abbrev pub AreAtMost : ℕ → List ℕ → Type 0
 AreAtMost high [] = Unit {0}
 AreAtMost high (n ∷ ns) = (n ≤ high) × AreAtMost high ns
 
--- The records of a node are valid, with the pending one and without it. The numbers that were
--- handed out rise strictly, and are those of settled records; where the last settled record may be
--- handed out, it was not yet.
+-- The records of a party are valid, with the pending one and without it. The numbers of the
+-- released records rise strictly, and are those of durable ones; if the last durable record may be
+-- released, it was not yet.
 pub record IsSoundParty (valid : Valid) (s : HistoryState) : Type 0 where
   pub settled : valid s.start s.settled ≡ true
   pub pending : IfSome s.pending (λ body. valid s.start (s.settled ++ body ∷ []) ≡ true)
@@ -32,19 +32,19 @@ pub record IsSoundParty (valid : Valid) (s : HistoryState) : Type 0 where
   pub may : s.may_hand ≡ true → (before : ℕ) → before + 1 ≡ length s.settled
       → AreAtMost before s.handed
 
--- A node behind more steps: it began so, and what was settled and what was handed out stay.
+-- A party after more steps: it began so, and what was durable and what was released stay.
 pub record HasGrown (old new : HistoryState) : Type 0 where
   pub start : new.start ≡ old.start
   pub settled : IsPrefix old.settled new.settled
   pub handed : IsPrefix old.handed new.handed
 
--- Each body of the node with this place is one that a step of it began.
+-- Each body of the party with this index is one that a step of it began.
 pub record WereBegun (steps : List NodeStep) (place : ℕ) (s : HistoryState) : Type 0 where
   pub settled : (body : Text) → Contains s.settled body → Contains steps (Begin place body)
   pub pending : IfSome s.pending (λ body. Contains steps (Begin place body))
 
--- A number that was handed out is that of a settled record, which a step of the node began: record
--- 0 is the first one of its journal, and the settled ones follow it.
+-- The number of a released record is that of a durable one, which a step of the party began: record
+-- 0 is the first one of its journal, and the durable ones follow it.
 pub record IsOfDurable (steps : List NodeStep) (place : ℕ) (s : HistoryState)
     (number : ℕ) : Type 0 where
   pub before : ℕ
@@ -53,22 +53,22 @@ pub record IsOfDurable (steps : List NodeStep) (place : ℕ) (s : HistoryState)
   pub settled : slice_get s.settled before ≡ Some body
   pub began : Contains steps (Begin place body)
 
--- The body of the settled record with this number: the first of them has number 1.
+-- The body of the durable record with this number: the first of them has number 1.
 abbrev pub body_in : List Text → ℕ → Text
 body_in settled number = slice_index_or ([] ∷ settled) number []
 
--- The bodies of the records that were handed out, in their order.
+-- The bodies of the released records, in their order.
 abbrev pub released_bodies : HistoryState → List Text
 released_bodies s = map (body_in s.settled) s.handed
 
--- These steps of nodes that begin so are allowed, and leave the node with this place so.
+-- These steps of parties that begin so are allowed, and leave the party with this index so.
 pub record LeadsTo (valid : Valid) (starts : List NodeStart) (steps : List NodeStep) (place : ℕ)
     (s : HistoryState) : Type 0 where
   pub states : List HistoryState
   pub allowed : history_of valid starts steps ≡ Ok states
   pub there : slice_get states place ≡ Some s
 
--- The entries and the keys of a log are still there, at their places, in a later one.
+-- The entries and the keys of a log are still there, at their indices, in a later one.
 pub record KeepsItems (s t : LogState) : Type 0 where
   pub entries : IsPrefix s.entries t.entries
   pub keys : IsPrefix s.keys t.keys

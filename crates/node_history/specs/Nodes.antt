@@ -1,4 +1,4 @@
--- A node and its steps: a log or a cosigner with its journal, and what becomes of its records.
+-- A party and its steps: a log or a cosigner with its journal, and what becomes of its records.
 use Rattle.std.specs.Prelude.{ℕ, Bool, true, false, List, [], ◌∷◌, ◌++◌, length, Option, Some}
 use Rattle.std.specs.Prelude.{None, if◌then◌else◌}
 use Rattle.byte_formats.specs.Types.{Text}
@@ -6,9 +6,9 @@ use Rattle.node_history.specs.declared.start.NodeStart.{NodeStart}
 use Rattle.node_history.specs.declared.step.NodeStep.{NodeStep}
 use Rattle.node_history.specs.declared.step.NodeStep.TheVariants.{Begin, Settle, Hand, Stop}
 
--- How it began, the records that are settled behind its first one, at most one that is pending, the
--- numbers of those that were handed out, and whether the last settled one may be. The first record
--- has number 0, so the last settled one has as number how many are settled.
+-- How it began, the records that are durable after its first one, at most one that is pending, the
+-- numbers of the released ones, and whether the last durable one may be released. The first record
+-- has number 0, so the last durable one has as number how many are durable.
 pub record HistoryState : Type 0 where
   pub start : NodeStart
   pub settled : List Text
@@ -26,7 +26,7 @@ abbrev pub with_pending : List Text → Option Text → List Text
 with_pending list None = list
 with_pending list (Some body) = list ++ body ∷ []
 
--- a record is begun
+-- a record begins
 abbrev pub begin : Text → HistoryState → HistoryState
 begin body s = record {
   start = s.start;
@@ -36,7 +36,7 @@ begin body s = record {
   may_hand = s.may_hand;
 }
 
--- the pending record is settled
+-- the pending record becomes durable
 abbrev pub settle : HistoryState → HistoryState
 settle s = record {
   start = s.start;
@@ -46,7 +46,7 @@ settle s = record {
   may_hand = true;
 }
 
--- the last settled record is handed out
+-- the last durable record is released
 abbrev pub hand : HistoryState → HistoryState
 hand s = record {
   start = s.start;
@@ -56,7 +56,7 @@ hand s = record {
   may_hand = false;
 }
 
--- it stops: a pending record is settled or gone
+-- it stops: a pending record becomes durable or is gone
 abbrev pub stop : Bool → HistoryState → HistoryState
 stop kept s = record {
   start = s.start;
@@ -66,7 +66,7 @@ stop kept s = record {
   may_hand = false;
 }
 
--- the node that takes a step
+-- the party that takes a step
 abbrev pub party_of_step : NodeStep → ℕ
 party_of_step (Begin node body) = node
 party_of_step (Settle node) = node

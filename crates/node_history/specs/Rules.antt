@@ -14,14 +14,14 @@ use Rattle.lms_core.specs.Trees.{private_key}
 use Rattle.node_history.specs.declared.start.NodeStart.{NodeStart}
 use Rattle.node_history.specs.declared.start.NodeStart.TheVariants.{Log, Cosigner}
 
--- These bodies may stand behind the record with which a node begins.
+-- These bodies may follow the record with which a party begins.
 abbrev pub may_follow : HashFunction → NodeStart → List Text → Bool
 may_follow h (Log settings) bodies = may_follow_log h settings bodies
 may_follow h (Cosigner settings public) bodies =
     may_follow_cosigner h (2 ^ height settings.lms) bodies
 
--- The first record of a node's journal says how it began: the settings of a log, or the settings of
--- a cosigner and a secret, to which its public key belongs.
+-- The first record of a party's journal says how it began: the settings of a log, or the settings
+-- of a cosigner and a secret, to which its public key belongs.
 abbrev pub StartsWith : NodeStart → Text → Type 0
 StartsWith (Log settings) first = settings_in first ≡ Some settings
 StartsWith (Cosigner settings public) first = (secret : Text)

@@ -19,9 +19,9 @@ ghost use Rattle.node_history.specs.declared.start.NodeStart.{NodeStart};
 ghost use Rattle.node_history.specs.declared.start.NodeStart.TheVariants.{Cosigner};
 ghost use Rattle.node_history.specs.declared.step.NodeStep.{NodeStep};
 
-/// In each state to which a history leads, the records of a node are valid with the pending one and
-/// without it; each body is one that a step of the node began; and the numbers that were handed out
-/// rise strictly, each that of a settled record of a body that was begun.
+/// In each state to which a history leads, the records of a party are valid with the pending one
+/// and without it; each body is one that a step of the party began; and the numbers of the released
+/// records rise strictly, each that of a durable record whose body a step began.
 pub fn law_histories_keep_to_the_rules()
     ensures sound { (h : HashFunction) (starts : List NodeStart) (steps : List NodeStep) (place : ℕ)
         (s : HistoryState) → LeadsTo (valid h) starts steps place s → IsSoundParty (valid h) s }
@@ -32,8 +32,8 @@ pub fn law_histories_keep_to_the_rules()
         → (number : ℕ) → Contains s.handed number → IsOfDurable steps place s number }
 {}
 
-/// What is settled at an earlier moment is a front of what is settled at each later one, and so are
-/// the numbers that were handed out. A node is as it began.
+/// What is durable at an earlier time is a prefix of what is durable at each later one, and so are
+/// the numbers of the released records. A party is as it began.
 pub fn law_states_only_grow()
     ensures grown { (h : HashFunction) (starts : List NodeStart) (earlier later : List NodeStep)
         (place : ℕ) (old : HistoryState) (news : List HistoryState)
@@ -45,7 +45,7 @@ pub fn law_states_only_grow()
         → slice_get starts place ≡ Some s.start }
 {}
 
-/// A history begins with nodes that have begun, and goes on by each step that is allowed.
+/// A history begins with parties that have begun, and continues by each step that is allowed.
 pub fn law_histories_go_on()
     ensures begins { (h : HashFunction) (starts : List NodeStart) (place : ℕ) (start : NodeStart)
         → slice_get starts place ≡ Some start
@@ -65,9 +65,9 @@ pub fn law_one_time_keys_are_used_once()
         → AreCounted s.settled × IfSome s.pending (λ body. AreCounted (s.settled ++ body ∷ [])) }
 {}
 
-/// Bodies may stand behind the first record of a node's journal exactly where a history may begin
-/// them, and each file that stands for such records is opened with them. Each journal of a log or a
-/// cosigner is that of a node.
+/// Bodies may follow the first record of a party's journal exactly if a history may begin them, and
+/// each file that represents such records is opened with them. Each journal of a log or a cosigner
+/// is that of a party.
 pub fn law_journals_and_histories_agree()
     ensures start { (h : HashFunction) (first : Text) (bodies : List Text)
         → AreRecords h (first ∷ bodies) → (start : NodeStart) × StartsWith start first }
@@ -95,8 +95,8 @@ pub fn law_journals_have_histories()
     ensures reaches { (h : HashFunction) → ReachesAll (AreRecords h) (HasHistory h) }
 {}
 
-/// The entries of a log and their keys keep their places, whatever records come behind its own.
-/// The item of a record is the next one behind those of the records before it.
+/// The entries of a log and their keys keep their indices, whatever records follow its own. The
+/// item of a record is the next one after those of the records before it.
 pub fn law_logs_keep_their_items()
     ensures added { (h : HashFunction) (list : List Text) (body : Text) (more : List Text)
         (entry key : Text) (s t : LogState) → log_of h list ≡ Ok s

@@ -1,4 +1,4 @@
-//! The steps of one node.
+//! The steps of one party.
 
 ghost use Rattle.std.specs.Prelude.{◌≡◌, is_some, IfOk, OnOk};
 ghost use Rattle.node_history.specs.Histories.{if_allowed, may_begin, moved};
@@ -13,7 +13,7 @@ use mtc_io::{Bytes, Memory};
 use std::alloc::Global;
 use tree_core::TreeHash;
 
-// A record is begun, if it may be.
+// Begins a record, if it may be pending.
 fn begin<H: TreeHash>(alloc: Global, state: &mut NodeState, body: &Bytes) -> Result<bool, Memory>
     ensures { IfOk result (HasMoved (if_allowed (may_begin (valid H.hash) state.old body.now)
         (begin body.now state.old)) state.new) }
@@ -33,7 +33,7 @@ fn begin<H: TreeHash>(alloc: Global, state: &mut NodeState, body: &Bytes) -> Res
     Ok(true)
 }
 
-// The pending record is settled, if there is one.
+// The pending record becomes durable, if there is one.
 fn settle(state: &mut NodeState) -> Result<bool, Memory>
     ensures { IfOk result (HasMoved
         (if_allowed (is_some state.old.pending) (settle state.old)) state.new) }
@@ -48,7 +48,7 @@ fn settle(state: &mut NodeState) -> Result<bool, Memory>
     }
 }
 
-// The last settled record is handed out, if it may be.
+// The last durable record is released, if it may be.
 fn hand(state: &mut NodeState) -> Result<bool, Memory>
     ensures { IfOk result (HasMoved (if_allowed state.old.may_hand (hand state.old)) state.new) }
 {
@@ -60,7 +60,7 @@ fn hand(state: &mut NodeState) -> Result<bool, Memory>
     Ok(true)
 }
 
-// The node stops.
+// The party stops.
 fn stop(state: &mut NodeState, kept: bool) -> Result<(), Memory>
     ensures { OnOk result (state.new ≡ stop kept state.old) }
 {
@@ -73,7 +73,7 @@ fn stop(state: &mut NodeState, kept: bool) -> Result<(), Memory>
     Ok(())
 }
 
-/// Takes a step of a node. Answers whether it is allowed; where it is not, the state is not said.
+/// Takes a step of a party. Answers whether it is allowed; where it is not, the state is not said.
 pub(crate) fn take_step<H: TreeHash>(
     alloc: Global,
     state: &mut NodeState,

@@ -1,4 +1,4 @@
-//! The states of nodes behind a list of steps.
+//! The states of parties after a list of steps.
 
 ghost use Rattle.std.specs.Prelude.{◌≡◌, map, IfOk};
 ghost use Rattle.node_history.specs.Histories.{history_of, states_after};
@@ -15,7 +15,7 @@ use mtc_io::Memory;
 use std::alloc::Global;
 use tree_core::TreeHash;
 
-// The node that takes a step.
+// The party that takes a step.
 fn node_of(step: &NodeStep) -> u32
     ensures { result ≡ party_of_step step.now }
 {
@@ -27,7 +27,7 @@ fn node_of(step: &NodeStep) -> u32
     }
 }
 
-// All nodes as they begin.
+// All parties as they begin.
 fn fresh_parties(alloc: Global, starts: &[NodeStart]) -> Result<Vec<NodeState>, Memory>
     ensures { IfOk result (λ states. states.items ≡ map fresh_party starts.now) }
 {
@@ -38,7 +38,7 @@ fn fresh_parties(alloc: Global, starts: &[NodeStart]) -> Result<Vec<NodeState>, 
     Ok(states)
 }
 
-// Takes a step of one of the nodes. Answers whether it is allowed.
+// Takes a step of one of the parties. Answers whether it is allowed.
 fn take_next<H: TreeHash>(
     alloc: Global,
     states: &mut Vec<NodeState>,
@@ -53,11 +53,11 @@ fn take_next<H: TreeHash>(
     }
 }
 
-/// The states of all nodes behind these steps. `NotAStep` comes exactly where a step is not
-/// allowed, with the number of the first one. A step needs that its node is there. A record is
-/// begun where none is pending, and the journal may hold it behind the settled ones; it is settled
-/// where it is pending; and the last settled record is handed out where it was not handed out yet
-/// and no stop came since it was settled.
+/// The states of all parties after these steps. `NotAStep` comes exactly if a step is not allowed,
+/// with the number of the first one. A step needs that its party is there. A record may begin if
+/// none is pending, and the journal may hold it after the durable ones; it becomes durable if it is
+/// pending; and the last durable record is released if it was not released yet and no stop came
+/// since it became durable.
 pub fn history<H: TreeHash>(
     alloc: Global,
     starts: &[NodeStart],

@@ -1,4 +1,4 @@
-//! The rules of a node's records.
+//! The rules of a party's records.
 
 ghost use Rattle.std.specs.Prelude.{◌≡◌, [], ◌∷◌, ◌++◌, IfOk};
 ghost use Rattle.node_history.specs.Rules.{may_follow};
@@ -8,8 +8,7 @@ use mtc_io::{Bytes, Memory};
 use std::alloc::Global;
 use tree_core::TreeHash;
 
-/// Whether these bodies, and one more behind them, may stand behind the record with which a node
-/// begins.
+/// Whether these bodies, and one more after them, may follow the record with which a party begins.
 pub(crate) fn may_follow<H: TreeHash>(
     alloc: Global,
     start: &NodeStart,

@@ -1,4 +1,4 @@
-//! What a node begins with.
+//! What a party begins with.
 
 ghost use Rattle.std.specs.Prelude.{◌≡◌, IfOk};
 
@@ -8,7 +8,7 @@ use mtc_io::Memory;
 use std::alloc::Global;
 use tls_wire::AnchorId;
 
-/// How a node begins: as a log, or as a cosigner, whose secret nobody but itself knows.
+/// How a party begins: as a log, or as a cosigner, whose secret no other party knows.
 #[derive(Debug, Drop)]
 pub enum NodeStart {
     /// A log with these settings.

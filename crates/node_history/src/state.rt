@@ -1,4 +1,4 @@
-//! The state of a node.
+//! The state of a party.
 
 ghost use Rattle.std.specs.Prelude.{◌≡◌};
 ghost use Rattle.node_history.specs.Nodes.{fresh_party};
@@ -8,18 +8,18 @@ use mtc_io::Bytes;
 use std::alloc::Global;
 use std::marker::Model;
 
-/// What became of a node. Contracts see the lists of its bodies and numbers.
+/// What became of a party. Contracts see the lists of its bodies and numbers.
 #[derive(Debug, Drop)]
 pub struct NodeState {
     /// How it began, with record 0 of its journal.
     pub start: NodeStart,
-    /// The bodies of the records 1, 2 and so on that are settled.
+    /// The bodies of the records 1, 2 and so on that are durable.
     pub settled: Vec<Bytes>,
-    /// The body of a record that was begun and is not settled.
+    /// The body of a record that is pending.
     pub pending: Option<Bytes>,
-    /// The numbers of the records that were handed out, in their order.
+    /// The numbers of the released records, in their order.
     pub handed: Vec<u64>,
-    /// The last settled record may be handed out: it was not yet, and no stop came in between.
+    /// The last durable record may be released: it was not yet, and no stop came in between.
     pub may_hand: bool,
 }
 
@@ -38,7 +38,7 @@ impl Model for NodeState {
 }
 
 impl NodeState {
-    /// A node that has begun, and no more.
+    /// A party that has begun, and no more.
     pub(crate) fn fresh(alloc: Global, start: NodeStart) -> NodeState
         ensures { result ≡ fresh_party start }
     {

@@ -2,15 +2,15 @@
 
 use mtc_io::Bytes;
 
-/// A step of one node, which is named by its place among the starts.
+/// A step of one party, which is named by its index among the starts.
 #[derive(Debug, Drop)]
 pub enum NodeStep {
-    /// A record with this body is begun. It is pending.
+    /// A record with this body begins. It is pending.
     Begin { node: u32, body: Bytes },
-    /// The pending record is settled: no stop takes it away any more.
+    /// The pending record becomes durable: no stop takes it away any more.
     Settle { node: u32 },
-    /// The last settled record is handed out.
+    /// The last durable record is released.
     Hand { node: u32 },
-    /// The node stops, and is opened again. A pending record is kept, and settled, or is gone.
+    /// The party stops, and is opened again. A pending record is retained, and durable, or is gone.
     Stop { node: u32, kept: bool },
 }
