@@ -58,7 +58,7 @@ entry_starts : (h : HashFunction) (c : Parts)
 unfolding entry_of tbs_text
 entry_starts h c = refl
 
--- what a place past the end would have is no text with a first byte
+-- what an index past the end would have is no string with a first byte
 within_list : (xs : List Text) (i b : ℕ) (bs : Text) → get_or xs i [] ≡ b ∷ bs
     → i < length xs
 within_list [] i b bs is = absurd cc

@@ -239,7 +239,7 @@ keys_settle h x entry key one other sized fits at is own same differ first secon
       },
     )
 
--- ---- two texts of the tree of the interval and of the path
+-- ---- two strings of the tree of the interval and of the path
 
 pub list_settles : (h : HashFunction) (x : AuditCase) (entries : List Text) (entry one other : Text)
     (f : Finding) → entries ≡ x.items.entries → entry ≡ entry_of h x.cert → f ≡ Found one other
@@ -266,7 +266,7 @@ list_settles h x entries entry one other f is made found e =
           (Contains-append_left _ _ one) (Contains-append_left _ _ other) here.1,
     )
 
--- ---- two texts of a front and of the proofs
+-- ---- two strings of a prefix and of the proofs
 
 pub sign_settles : (h : HashFunction) (x : AuditCase) (e : Export) (entries : List Text)
     (given : List Step) (one other : Text) (f : Finding) (same : Type 0) → x.kept ≡ Some e

@@ -1,4 +1,4 @@
--- From a Sign to the list of entries behind it.
+-- From a Sign to the list of entries that underlies it.
 use Rattle.std.proofs.Common.{◌≡◌, ℕ, ◌+◌, ◌-◌, ◌<◌, ◌≤◌, Bool, true, List, length, get_or}
 use Rattle.std.proofs.Common.{take, drop, Ok, Err, sym, ap, subst, ◌∙◌, arith}
 use Rattle.std.proofs.Common.{inl, inr}
@@ -187,7 +187,7 @@ advance_found h es steps k size root proof given before are below is apart prefi
     proof) y) held two in
     inputs_at h (first_progress h) steps k (Advance size root proof) y below is three) e.1
 
--- behind a Sign the list begins with what it began with before
+-- after a Sign the list begins with what it began with before
 pub not_sign : (h : HashFunction) (es : List Text) (steps : List Step)
     (k index start end : ℕ) (hash : Hash) (proof : List Hash) → k < length steps
     → Sign index start end hash proof ≡ get_or steps k (Sign index start end hash proof)

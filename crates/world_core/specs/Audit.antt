@@ -1,4 +1,4 @@
--- Whether a list has the entry of a certificate that was accepted, or two texts have one hash.
+-- Whether a list has the entry of a certificate that was accepted, or two strings have one hash.
 use Rattle.std.specs.Prelude.{◌≡◌, ℕ, ◌-◌, ◌+◌, ◌≤◌, ◌==◌, ◌&&◌, ◌||◌, not, nat_lt, Bool, true}
 use Rattle.std.specs.Prelude.{false, ℤ}
 use Rattle.std.specs.Prelude.{List, [], ◌∷◌, ◌++◌, length, slice_get, slice_index_or, Option, Some}
@@ -32,7 +32,7 @@ use Rattle.world_core.specs.declared.wanted.WantedHash.{WantedHash}
 use Rattle.world_core.specs.declared.answer.Audit.{Audit}
 use Rattle.world_core.specs.declared.answer.Audit.TheVariants.{Foreign, Pair, Stands, Unrecorded}
 
--- What an audit looks at: a certificate that a store accepts by its proof, the items of a list, and
+-- What an audit reads: a certificate that a store accepts by its proof, the items of a list, and
 -- the export of a cosigner, if there is one.
 pub record AuditCase : Type 0 where
   pub accepted : Accepted
@@ -42,7 +42,7 @@ pub record AuditCase : Type 0 where
   pub items : ItemLists
   pub kept : Option Export
 
--- The certificate has this proof, and the store accepts it so at some moment.
+-- The certificate has this proof, and the store accepts it so at some time.
 pub record WasJudged (h : HashFunction) (store : Store) (c : Parts) (p : ProofParts) (a : Accepted)
     : Type 0 where
   pub certificate : IsCertificate c
@@ -87,12 +87,12 @@ foreign_of h x =
 
 -- ---- the export
 
--- The cosigner at this place counts, and has this id and this public key.
+-- The cosigner at this index counts, and has this id and this public key.
 abbrev pub is_counted_as : ℕ → Text → Text → ℕ → Known → Bool
 is_counted_as set id key place k =
     is_in_set set place && (bytes_eq k.id id && bytes_eq k.key key)
 
--- Some item passes, from this place on.
+-- Some item passes, from this index on.
 abbrev pub some_place : {A : Type 0} → (ℕ → A → Bool) → ℕ → List A → Bool
 some_place passes place [] = false
 some_place passes place (x ∷ xs) = passes place x || some_place passes (place + 1) xs
@@ -119,7 +119,7 @@ is_recorded_by store a Landmark kept = true
 is_recorded_by store a (Cosigners set) None = false
 is_recorded_by store a (Cosigners set) (Some e) = is_recorded store a set e
 
--- So it is of what was accepted.
+-- This holds of what was accepted.
 abbrev pub is_supported : AuditCase → Bool
 is_supported x = is_recorded_by x.store x.accepted x.accepted.by x.kept
 
@@ -144,9 +144,9 @@ pub record HasOwn (h : HashFunction) (x : AuditCase) : Type 0 where
   pub entry : slice_get x.items.entries x.accepted.index ≡ Some (entry_of h x.cert)
   pub key : slice_get x.items.keys x.accepted.index ≡ Some x.cert.spki
 
--- ---- two texts
+-- ---- two strings
 
--- The texts that are hashed for fronts of the list; none without an export.
+-- The strings that are hashed for prefixes of the list; none without an export.
 abbrev pub prefix_inputs_of : HashFunction → List Text → Option Export → List Text
 prefix_inputs_of h entries None = []
 prefix_inputs_of h entries (Some e) = prefix_inputs h entries e.steps
@@ -156,7 +156,7 @@ abbrev pub proof_inputs_of : HashFunction → Option Export → List Text
 proof_inputs_of h None = []
 proof_inputs_of h (Some e) = proof_inputs h e.steps
 
--- The texts of the list: those in the tree hash of its entries in the accepted interval, those in
+-- The strings of the list: those in the tree hash of its entries in the accepted interval, those in
 -- the tree hash of so many of the first entries as a checkpoint of the cosigner has, and the key at
 -- the index.
 abbrev pub firsts_of : HashFunction → AuditCase → List Text
@@ -164,7 +164,7 @@ firsts_of h x =
     inputs_of h (part_of x.items.entries x.accepted.start x.accepted.end)
     ++ (prefix_inputs_of h x.items.entries x.kept ++ listed_key x.items x.accepted.index ∷ [])
 
--- The texts beside it: those in the evaluation of the certificate's path, those in the opening of
+-- The strings beside it: those in the evaluation of the certificate's path, those in the opening of
 -- the cosigner's proofs, and the certificate's key.
 abbrev pub seconds_of : HashFunction → AuditCase → List Text
 seconds_of h x =
@@ -179,7 +179,7 @@ pub record IsUnrecorded (h : HashFunction) (x : AuditCase) : Type 0 where
   pub list : foreign_of h x ≡ None
   pub lacks : is_supported x ≡ false
 
--- The list has the entry with its key, or else two different texts have one hash.
+-- The list has the entry with its key, or else two different strings have one hash.
 abbrev pub Settles : HashFunction → AuditCase → Audit → Type 0
 Settles h x (Foreign wanted found) = ⊥
 Settles h x Unrecorded = ⊥

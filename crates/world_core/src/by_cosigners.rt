@@ -42,7 +42,7 @@ fn is_own<H: TreeHash>(
     Ok(item.entry == entry.as_slice() && item.spki == cert.spki)
 }
 
-// The answer where the Sign at a place is of what was accepted.
+// The answer where the Sign at an index is of what was accepted.
 fn by_sign<H: TreeHash>(
     alloc: Global,
     accepted: &Accepted,

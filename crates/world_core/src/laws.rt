@@ -12,8 +12,8 @@ ghost use Rattle.policy_core.specs.declared.store.Store.{Store};
 ghost use Rattle.world_core.specs.Audit.{WasJudged};
 
 /// A certificate that is read, with the proof that is read from it, meets the condition of
-/// [`audit`](crate::audit) where the store accepts its bytes at some moment. The condition on an
-/// export is met by
+/// [`audit`](crate::audit) if the store accepts its bytes at some time. The condition on an export
+/// is met by
 /// [`law_exports_have_allowed_steps`](cosigner_steps::laws::law_exports_have_allowed_steps).
 pub fn law_what_is_read_can_be_audited()
     ensures { (h : HashFunction) (bytes : Text) (store : Store) (moment : ℤ) (a : Accepted)

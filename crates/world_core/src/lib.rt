@@ -1,6 +1,7 @@
-//! Audits: one list of entries behind what cosigners have signed and relying parties have accepted.
+//! Audits: one list of entries that underlies what cosigners have signed and relying parties have
+//! accepted.
 //!
-//! [`audit`] holds the acceptance of a certificate against a list of entries that has the
+//! [`audit`] compares the acceptance of a certificate with a list of entries that has the
 //! landmark's hash, or the root of a cosigner's export. It shows that the certificate's entry and
 //! key stand at their index, or two different strings with one hash; or else that the export does
 //! not support the acceptance. [`walk`] does the same for one signature of a cosigner: through the

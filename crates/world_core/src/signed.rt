@@ -1,4 +1,4 @@
-//! The walk from a signature to the list of entries behind it.
+//! The walk from a signature to the list of entries that underlies it.
 
 ghost use Rattle.std.specs.Prelude.{◌≡◌, ◌<◌, ◌+◌, ◌↔◌, IsTrue, IfOk, Some, length, slice_get};
 ghost use Rattle.std.specs.Prelude.{slice_index_or};
@@ -34,8 +34,8 @@ fn is_of_list<H: TreeHash>(entries: &Entries<'_>, step: &Step) -> bool
     }
 }
 
-// The place of a step behind which the list begins with what is held, and before which it doesn't.
-// It is looked for by halves, so that few fronts of the list are hashed.
+// The index of a step after which the list begins with what is held, and before which it doesn't.
+// It is found by halves, so that few prefixes of the list are hashed.
 fn parting<H: TreeHash>(entries: &Entries<'_>, steps: &[Step], from: usize) -> usize
     requires within { from < length steps.now }
     requires apart { HasPrefix H.hash entries.now (held_behind H.hash steps.now from) → ⊥ }
@@ -59,7 +59,7 @@ fn parting<H: TreeHash>(entries: &Entries<'_>, steps: &[Step], from: usize) -> u
     low
 }
 
-// The list begins with what is held behind a step and not with what was held before it. So the step
+// The list begins with what is held after a step and not with what was held before it. So the step
 // is an Advance, and its proof shows two strings with one hash.
 fn at_advance<H: TreeHash>(
     alloc: Global,
@@ -126,7 +126,7 @@ fn at_sign<H: TreeHash>(
     }
 }
 
-/// Whether the list's own entries in the interval of the Sign at a place have the signed hash, or
+/// Whether the list's own entries in the interval of the Sign at an index have the signed hash, or
 /// else two strings with one hash.
 pub(crate) fn find_signed<H: TreeHash>(
     alloc: Global,
@@ -158,7 +158,7 @@ pub(crate) fn find_signed<H: TreeHash>(
 /// different strings with one hash. The first is hashed in the tree hash of so many of the list's
 /// first entries as a checkpoint of the cosigner has, the second in the opening of its proofs.
 ///
-/// The Sign is the step at the place `sign`, and the list begins with what the cosigner holds at
+/// The Sign is the step at the index `sign`, and the list begins with what the cosigner holds at
 /// last.
 pub fn walk<H: TreeHash>(
     alloc: Global,

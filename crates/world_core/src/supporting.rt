@@ -8,7 +8,7 @@ ghost use Rattle.world_core.specs.Audit.{is_counted, is_counted_as, is_recorded,
 use cosigner_core::{Export, Step};
 use policy_core::{Accepted, Known, Store};
 
-// The set has the cosigner at this place.
+// The set has the cosigner at this index.
 fn is_in_set(set: u64, place: usize) -> bool
     requires { place < 64 }
     ensures { result ≡ is_in_set set place }
@@ -16,7 +16,7 @@ fn is_in_set(set: u64, place: usize) -> bool
     (set >> place) & 1 == 1
 }
 
-// The cosigner at this place counts, and is that of the export.
+// The cosigner at this index counts, and is that of the export.
 fn is_counted_as(set: u64, export: &Export, place: usize, known: &Known) -> bool
     requires { place < 64 }
     ensures { result ≡ is_counted_as set export.now.cosigner export.now.public place known.now }
@@ -53,15 +53,15 @@ fn is_sign_of(accepted: &Accepted, step: &Step) -> bool
     }
 }
 
-// The place of such a step.
+// The index of such a step.
 fn sign_place(accepted: &Accepted, steps: &[Step]) -> Option<usize>
     ensures { result ≡ position (is_sign_of accepted.now) steps.now }
 {
     steps.iter().position(|step| is_sign_of(accepted, step))
 }
 
-/// The place of a Sign of what was accepted, where the export is of the store's log and of a
-/// cosigner that counts.
+/// The index of a Sign of what was accepted, if the export is of the store's log and of a cosigner
+/// that counts.
 #[tactic(auto, unfolding(crate::specs::Audit::is_recorded))]
 pub(crate) fn recorded_at(
     store: &Store,
