@@ -60,7 +60,7 @@ more_twice a b c first second = (
       ∙ append_assoc a first.0 second.0,
 )
 
--- what stands behind the first record stays there
+-- what follows the first record stays there
 pub stays_behind : (before after : List Text) (body : Text) → HasMore before after
     → Contains (drop 1 before) body → Contains (drop 1 after) body
 stays_behind [] after body more there = absurd (omega (arith, there.1))
@@ -136,7 +136,7 @@ signed_once r turn s t out is signed =
       signed = signed;
     })
 
--- a cosigner that signs again behind a stop, and may have signed in it
+-- a cosigner that signs again after a stop, and may have signed in it
 pub signed_again : (r : SubtreeRequest) (turn : Option Stop) (stop : Stop) (s t u : CosignerState)
     (before after : List Text) (out given : Text) (done : Bool) → turn ≡ Some stop
     → IsReopened (Cosign r) s t before after out done → u ≡ cosigner_behind t (Cosign r)

@@ -1,4 +1,4 @@
--- A cosigner of a drill that was looked on.
+-- A cosigner of a drill that was only read.
 use Rattle.std.proofs.Common.{◌≡◌, ◌∙◌, List, Some, Ok, sym, ap, subst, refl, drop}
 use Rattle.byte_formats.specs.Places.{IsBytes}
 use Rattle.byte_formats.specs.Types.{Text, HashFunction}
@@ -16,7 +16,7 @@ use Rattle.cosigner_core.proofs.Tagged.{some_value}
 use Rattle.drill_nodes.specs.CosignerNodes.{IsCosignerDisk}
 use Rattle.drill_nodes.specs.Disks.{records_on}
 
--- a disk that tells the same, and may leave nothing new
+-- a disk with the same bytes, which may leave nothing new
 pub only_read_on : (h : HashFunction) (s t : CosignerState) (old new : MemDisk)
     → bytes_of new ≡ bytes_of old → ((c : Text) → images_of new c → images_of old c) → t ≡ s
     → IsCosignerDisk h s old → IsCosignerDisk h t new

@@ -1,4 +1,4 @@
--- Cosigners that go round: each in its turn from the front of the list to its end.
+-- Cosigners that go round: each in its turn from the start of the list to its end.
 use Rattle.std.proofs.Common.{◌≡◌, ◌∙◌, ◌+◌, ◌<◌, ◌≤◌, ℕ, suc, List, [], ◌∷◌, ◌++◌, length, take}
 use Rattle.std.proofs.Common.{drop}
 use Rattle.std.proofs.Common.{Option, Some, None, get_or, refl, sym, ap, subst, arith, add-one}
@@ -22,7 +22,7 @@ use Rattle.drill_nodes.specs.declared.turns.Stop.{Stop}
 use Rattle.drill_nodes.proofs.MadeStops.{next_stopped}
 use Rattle.drill_nodes.proofs.Pairs.{prefix_is, prefix_more, gone_on, paired_push}
 
--- So many have gone round: those that are behind the others are what their turns made of them.
+-- So many have gone round: those that follow the others are what their turns made of them.
 pub record HaveGone {A : Type 0} (R : A → A → Type 0) (i : ℕ) (old now : List A) : Type 0 where
   pub done : List A
   pub items : now ≡ drop i old ++ done
@@ -71,7 +71,7 @@ module _ {A : Type 0} (R : A → A → Type 0) where
 
 -- ---- what is added up of them
 
--- the front comes back as another one behind the others
+-- the first one comes back as another one after the others
 pub sum_round : {A : Type 0} (f : A → ℕ) (now next : List A) (x y : A) → 0 < length now
     → x ≡ get_or now 0 x → next ≡ remove now 0 ++ y ∷ []
     → sum_by f next + f x ≡ sum_by f now + f y
@@ -113,7 +113,7 @@ module _ {H : Type 0} {hashes : Hashes H} (size : ℕ) (hash : Hash) where
   pub none_put : (before : Text) → HaveSigned {H = H} {hashes = hashes} size hash [] before before
   none_put before = record { parts = []; signed = tt; put = sym (append-nil before) }
 
-  -- one more behind the others
+  -- one more after the others
   pub put_next : (nodes : List (CosignerNode H hashes)) (node : CosignerNode H hashes)
       (before mid after : Text) → HaveSigned size hash nodes before mid
       → IsPut size hash node mid after → HaveSigned size hash (nodes ++ node ∷ []) before after
@@ -130,7 +130,7 @@ module _ {H : Type 0} {hashes : Hashes H} (size : ℕ) (hash : Hash) where
         (sym (flat_map-append signature_text all.parts (one.part ∷ [])));
   }
 
--- ---- a list whose front is taken away, one by one
+-- ---- a list whose first items are taken away, one by one
 
 pub left_prefix : {A : Type 0} (old now : List A) (i : ℕ) (x : A) → i < length old
     → now ≡ drop i old → x ≡ get_or now 0 x → get_or old i x ≡ x

@@ -9,13 +9,13 @@ use Rattle.cosigner_core.specs.Folds.{CosignerState, cosigner_of}
 use Rattle.drill_nodes.specs.CosignerNodes.{IsCosignerDisk}
 use Rattle.drill_nodes.specs.Disks.{records_on}
 
--- the records of a disk whose images stand for these
+-- the records of a disk whose crash states represent these
 pub records_grown : (disk : MemDisk) (list : List Text) → images_of disk (bytes_of disk)
     → ((c : Text) → images_of disk c → Represents c list) → records_on disk ≡ list
 records_grown disk list reads images =
     records_of-stands (bytes_of disk) list (images (bytes_of disk) reads)
 
--- a disk whose images stand for records that make this cosigner
+-- a disk whose crash states represent records that make this cosigner
 pub is_disk : (h : HashFunction) (s : CosignerState) (disk : MemDisk) (list : List Text)
     → images_of disk (bytes_of disk) → ((c : Text) → images_of disk c → Represents c list)
     → cosigner_of h list ≡ Ok s → IsCosignerDisk h s disk

@@ -1,4 +1,4 @@
--- The device of a cosigner that was looked at is handed out.
+-- The device of a cosigner that was read goes to the caller.
 use Rattle.std.proofs.Common.{◌≡◌, ◌∙◌, sym, subst, ap}
 use Rattle.byte_formats.specs.Types.{HashFunction}
 use Rattle.disk_core.specs.declared.memory.mem_disk.MemDisk.{MemDisk}

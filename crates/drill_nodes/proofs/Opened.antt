@@ -1,4 +1,4 @@
--- What is found on a disk that stands for the records of a cosigner.
+-- What is found on a disk that represents the records of a cosigner.
 use Rattle.std.proofs.Common.{◌≡◌, List, Option, Some, None, Ok, option_map, sym, ap, ◌∙◌}
 use Rattle.std.specs.Option.{IfSome}
 use Rattle.byte_formats.specs.Types.{Text}

@@ -1,4 +1,4 @@
--- Lists of which each two at one place belong together.
+-- Lists of which each two at one index belong together.
 use Rattle.std.proofs.Common.{◌≡◌, ◌∙◌, ◌+◌, ◌<◌, ℕ, zero, suc, List, [], ◌∷◌, ◌++◌, length, take}
 use Rattle.std.proofs.Common.{drop}
 use Rattle.std.proofs.Common.{get_or, refl, sym, ap, subst, arith, append_assoc, add-one}
@@ -55,7 +55,7 @@ paired_join R S T to (x ∷ xs) (y ∷ ys) (z ∷ zs) first second = (
   paired_join R S T to xs ys zs first.1 second.1,
 )
 
--- ---- a list whose front goes behind it, one by one
+-- ---- a list whose first items go to its end, one by one
 
 module _ {A : Type 0} where
   pub all_at : (P : A → Type 0) (xs : List A) (i : ℕ) (x : A) → AllByRecursion P xs
@@ -64,14 +64,14 @@ module _ {A : Type 0} where
   all_at P (y ∷ ys) zero x all below at = subst (λ (z : A). P z) at all.0
   all_at P (y ∷ ys) (suc i) x all below at = all_at P ys i x all.1 (omega (arith, below)) at
 
-  -- what is at the front of a list that went round so far
+  -- what is first in a list that went round so far
   pub prefix_is : (old done items : List A) (i : ℕ) (x : A) → i < length old
       → items ≡ drop i old ++ done → x ≡ get_or items 0 x → get_or old i x ≡ x
   prefix_is old done items i x below are at =
       ap (λ (xs : List A). get_or (xs ++ done) 0 x) (sym (drop-cons old i x below))
       ∙ ap (λ (xs : List A). get_or xs 0 x) (sym are) ∙ sym at
 
-  -- the list behind one more
+  -- the list after one more
   pub gone_on : (old done items : List A) (i : ℕ) (x y : A) → i < length old
       → items ≡ drop i old ++ done
       → remove items 0 ++ y ∷ [] ≡ drop (i + 1) old ++ (done ++ y ∷ [])
@@ -80,7 +80,7 @@ module _ {A : Type 0} where
       (are ∙ ap (λ (xs : List A). xs ++ done) (drop-cons old i x below))
       ∙ append_assoc (drop (suc i) old) done (y ∷ []))
 
-  -- the front that went round, with one more
+  -- the prefix that went round, with one more
   pub prefix_more : (old : List A) (i : ℕ) (x : A) → i < length old → get_or old i x ≡ x
       → take (i + 1) old ≡ take i old ++ x ∷ []
   prefix_more old i x below at =

@@ -1,4 +1,4 @@
--- What a disk reads is one of its images.
+-- What a disk reads is one of its crash states.
 use Rattle.std.proofs.Common.{◌≡◌, Option, Some, None, refl}
 use Rattle.std.specs.Option.{IfSome}
 use Rattle.byte_formats.specs.Types.{Text}

@@ -28,7 +28,7 @@ found_first p xs k x below at passes = go (nat_lt k (position_or_len p xs)) refl
         absurd cc
     go false is = let few = ltb-false k (position_or_len p xs) is in omega (arith, few, below)
 
--- the first step that passes has a place
+-- the first step that passes has an index
 pub found : (p : Step → Bool) (xs : List Step) (x : Step) → Contains xs x → p x ≡ true
     → is_some (position p xs) ≡ true
 found p xs x there passes =

@@ -26,7 +26,7 @@ abbrev pub cosigner_behind : CosignerState → CosignerCall → CosignerState
 cosigner_behind s (Advance r) = holding r.size r.root s
 cosigner_behind s (Cosign r) = having_signed s
 
--- The text is a signature of the cosigner, where the call asks for one.
+-- The bytes are a signature of the cosigner, if the call asks for one.
 abbrev pub IsSignature : CosignerState → CosignerCall → Text → Type 0
 IsSignature s (Advance r) out = Unit {0}
 IsSignature s (Cosign r) out =
@@ -39,9 +39,9 @@ IsNumbered s (Advance r) = Unit {0}
 IsNumbered s (Cosign r) = s.key.next < 2 ^ 32
 
 module _ {H D : Type 0} {hashes : Hashes H} {g : Ghosts D} where
-  -- A call of a cosigner: the records with that of the call are a cosigner's, and each image of the
-  -- disk stands for the old records or for these. Where it is done, the cosigner has grown by its
-  -- record, and its signature is given.
+  -- A call of a cosigner: the records with that of the call are a cosigner's, and each crash state
+  -- of the disk represents the old records or these. If the call is done, the cosigner has grown by
+  -- its record, and its signature is given.
   pub record HasCalledCosigner (h : HashFunction) (call : CosignerCall)
       (old new : Cosigner H D hashes g) (out : Text) (done : Bool) : Type 0 where
     pub valid : IfSome (cosigner_records old) (λ list.
@@ -56,7 +56,7 @@ module _ {H D : Type 0} {hashes : Hashes H} {g : Ghosts D} where
         (cosigner_disk new) (list ++ body_called (cosigner_state old) call ∷ []))
     pub signed : done ≡ true → IsSignature (cosigner_state old) call out
     pub numbered : done ≡ true → IsNumbered (cosigner_state old) call
-    -- what is read is one of the images
+    -- what is read is one of the crash states
     pub reads : IfSome (g.contents (cosigner_disk new)) (g.may_leave (cosigner_disk new))
 
   -- An open cosigner with this state, over these records, which make it.
@@ -67,7 +67,7 @@ module _ {H D : Type 0} {hashes : Hashes H} {g : Ghosts D} where
     pub records : cosigner_records it ≡ Some list
     pub valid : cosigner_of h list ≡ Ok s
 
-  -- A disk that stands for records was opened as the cosigner that they make.
+  -- A disk that represents records was opened as the cosigner that they make.
   pub record HasOpenedCosigner (h : HashFunction) (disk : D) (it : Cosigner H D hashes g)
       : Type 0 where
     pub sound : cosigner_broken it ≡ false

@@ -22,7 +22,7 @@ use Rattle.drill_nodes.specs.Disks.{records_on}
 use Rattle.drill_nodes.specs.declared.cosigner_calls.CosignerCall.{CosignerCall}
 use Rattle.drill_nodes.specs.declared.turns.Stop.{Stop}
 
--- What a disk holds and all that a crash now may leave of it stand for its records, and these make
+-- What a disk holds and all that a crash now may leave of it represent its records, and these make
 -- this cosigner.
 pub record IsCosignerDisk (h : HashFunction) (s : CosignerState) (disk : MemDisk) : Type 0 where
   pub holds : Represents (bytes_of disk) (records_on disk)
@@ -38,9 +38,9 @@ IsCosignerDisk-prop h s disk =
       λ (c : Text). Represents-prop c (records_on disk),
     )
 
--- A disk that a stop within a call has left: each of its images stands for the records from before,
--- or for these and that of the call, and where the call was done for the latter; and both are those
--- of a cosigner. The signature of a call that was done is given.
+-- A disk that a stop within a call has left: each of its crash states represents the records from
+-- before, or these and that of the call, and if the call was done the latter; and both are those of
+-- a cosigner. The signature of a call that was done is given.
 pub record IsLeftByStop (h : HashFunction) (call : CosignerCall) (s : CosignerState)
     (list : List Text) (images : Text → Type 0) (out : Text) (done : Bool) : Type 0 where
   pub old : cosigner_of h list ≡ Ok s
@@ -54,7 +54,7 @@ pub record IsLeftByStop (h : HashFunction) (call : CosignerCall) (s : CosignerSt
 abbrev pub IsAsBefore : CosignerState → CosignerState → List Text → List Text → Type 0
 IsAsBefore old new before after = (new ≡ old) × (after ≡ before)
 
--- The cosigner that the call makes of it, with its record behind the others.
+-- The cosigner that the call makes of it, with its record at the end of the others.
 abbrev pub IsBehindCall : CosignerCall → CosignerState → CosignerState → List Text → List Text
     → Type 0
 IsBehindCall call old new before after =
@@ -69,17 +69,17 @@ pub record IsReopened (call : CosignerCall) (old new : CosignerState) (before af
   pub signed : done ≡ true → IsSignature old call out
   pub numbered : done ≡ true → IsNumbered old call
 
--- The records from before, and maybe more behind them.
+-- The records from before, and maybe more after them.
 abbrev pub HasMore : List Text → List Text → Type 0
 HasMore before after = (more : List Text) × (after ≡ before ++ more)
 
--- Behind the first of these records stands the Sign of a request.
+-- After the first of these records stands the Sign of a request.
 pub record HasRecorded (r : SubtreeRequest) (list : List Text) : Type 0 where
   pub index : ℕ
   pub small : index < 2 ^ 32
   pub there : Contains (drop 1 list) (sign_record index r.start r.end r.hash r.proof.now)
 
--- Behind the first of these records stands one that says a Sign of this subtree with this hash.
+-- After the first of these records stands one that says a Sign of this subtree with this hash.
 pub record HasSign (start end : ℕ) (hash : Hash) (list : List Text) : Type 0 where
   pub index : ℕ
   pub proof : List Hash

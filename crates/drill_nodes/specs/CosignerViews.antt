@@ -30,13 +30,13 @@ pub record IsStill {H : Type 0} {hashes : Hashes H} (old new : CosignerNode H ha
   pub records : records_shown new ≡ records_shown old
   pub stops : cosigner_stops new ≡ cosigner_stops old
 
--- The text is read as what the cosigner shows and the steps that its records say.
+-- The bytes are read as what the cosigner shows and the steps that its records say.
 abbrev pub IsExportOf : {H : Type 0} {hashes : Hashes H} → HashFunction → CosignerNode H hashes
     → Text → Type 0
 IsExportOf h node text = (steps : List Step) → steps_in (drop 1 (records_shown node)) ≡ Some steps
     → export_in h text ≡ Ok (Some (export_of (cosigner_shown node) steps))
 
--- The disk of a cosigner is handed out. It holds the records of the node.
+-- The disk of a cosigner that the caller gets. It holds the records of the party.
 pub record IsDiskOf {H : Type 0} {hashes : Hashes H} (h : HashFunction)
     (node : CosignerNode H hashes) (disk : MemDisk) : Type 0 where
   pub stands : IsCosignerDisk h (cosigner_shown node) disk

@@ -1,4 +1,4 @@
--- What calls make of the cosigners of a drill, one behind the other.
+-- What calls make of the cosigners of a drill, one after the other.
 use Rattle.std.specs.Prelude.{◌≡◌, ◌<◌, ◌≤◌, ◌+◌, ◌^◌, ◌++◌, [], ◌∷◌, ℕ, List, length}
 use Rattle.std.specs.List.{flat_map, sum_by}
 use Rattle.byte_formats.specs.Types.{Hash, HashFunction, Text}
@@ -11,7 +11,7 @@ use Rattle.drill_nodes.specs.CosignerNodes.{HasMore, HasSign, cosigner_settings,
 use Rattle.drill_nodes.specs.CosignerViews.{cosigner_shown, cosigner_stops, records_shown}
 use Rattle.drill_nodes.specs.declared.cosigner_node.CosignerNode.{CosignerNode}
 
--- Two lists are of one length, and this holds of each two at one place.
+-- Two lists are of one length, and this holds of each two at one index.
 abbrev pub Paired : {A B : Type 0} → (A → B → Type 0) → List A → List B → Type 0
 Paired R [] [] = Unit {0}
 Paired R [] (y ∷ ys) = ⊥
@@ -35,7 +35,7 @@ pub record IsSignatureBy (size : ℕ) (hash : Hash) (s : CosignerState) (part : 
       part.signature
   pub short : length part.signature < 2 ^ 14
 
--- The records of a cosigner that has signed these entries: those from before, more behind them, and
+-- The records of a cosigner that has signed these entries: those from before, more after them, and
 -- among these the Sign.
 pub record HasRecordedAll (size : ℕ) (hash : Hash) (before after : List Text) : Type 0 where
   pub more : HasMore before after
@@ -62,7 +62,7 @@ module _ {H : Type 0} {hashes : Hashes H} where
         ≡ new_cosigner h (cosigner_settings last) (secret_of last number)
     pub stops : cosigner_stops node ≡ 0
 
-  -- it holds this root, and its records are those from before, and maybe more behind them
+  -- it holds this root, and its records are those from before, and maybe more after them
   pub record IsAdvanced (size : ℕ) (root : Hash) (old new : CosignerNode H hashes) : Type 0 where
     pub state : cosigner_shown new ≡ holding size root (cosigner_shown old)
     pub more : HasMore (records_shown old) (records_shown new)
@@ -72,14 +72,14 @@ module _ {H : Type 0} {hashes : Hashes H} where
     pub state : IsSameWithKeys (cosigner_shown old) (cosigner_shown new)
     pub recorded : HasRecordedAll size hash (records_shown old) (records_shown new)
 
-  -- its signature stands behind others
+  -- its signature follows others
   pub record IsPut (size : ℕ) (hash : Hash) (node : CosignerNode H hashes) (before after : Text)
       : Type 0 where
     pub part : SigParts
     pub signed : IsSignatureBy size hash (cosigner_shown node) part
     pub put : after ≡ before ++ signature_text part
 
-  -- those of several, one behind the other
+  -- those of several, one after the other
   pub record HaveSigned (size : ℕ) (hash : Hash) (nodes : List (CosignerNode H hashes))
       (before after : Text) : Type 0 where
     pub parts : List SigParts

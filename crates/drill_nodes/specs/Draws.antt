@@ -4,7 +4,7 @@ use Rattle.std.specs.Prelude.{[], ◌∷◌, ◌++◌, Option, Some, None}
 use Rattle.drill_nodes.specs.declared.round.Round.{Round}
 use Rattle.drill_nodes.specs.declared.turns.Stop.{Stop}
 
--- the number behind another one: a linear congruential generator of 64 bits
+-- the number after another one: a linear congruential generator of 64 bits
 unfoldable pub number_behind : ℕ → ℕ
 number_behind x = (x * 6364136223846793005 + 1442695040888963407) % 2 ^ 64
 
@@ -25,7 +25,7 @@ turn x =
     let die = draw 8 x in
     if die.0 == 0 then (Some (stop_drawn die.1).0, (stop_drawn die.1).1) else (None, die.1)
 
--- one turn behind others
+-- one turn after others
 abbrev pub with_turn : List (Option Stop) × ℕ → List (Option Stop) × ℕ
 with_turn before = (before.0 ++ (turn before.1).0 ∷ [], (turn before.1).1)
 

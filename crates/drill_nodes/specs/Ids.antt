@@ -1,4 +1,4 @@
--- The names of the nodes.
+-- The names of the parties.
 use Rattle.std.specs.Prelude.{ℕ, [], ◌∷◌}
 use Rattle.byte_formats.specs.Types.{Text}
 

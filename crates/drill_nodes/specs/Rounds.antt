@@ -35,12 +35,12 @@ stops_of r =
     stops_in r.entries + stops_in r.advances + stops_in (landmark_turns r.landmark)
     + stops_in r.signs
 
--- the landmarks behind a round that ends at this size
+-- the landmarks after a round that ends at this size
 abbrev pub marks_behind : List ℕ → Option (Option Stop) → ℕ → List ℕ
 marks_behind marks None size = marks
 marks_behind marks (Some turn) size = marks ++ size ∷ []
 
--- the drill behind this round
+-- the drill after this round
 abbrev pub behind_round : Drill → Round → ℕ → Drill
 behind_round d r next =
     let size = d.size + length r.entries in
@@ -52,11 +52,11 @@ behind_round d r next =
       written = d.written ++ (r.index, size) ∷ [];
     }
 
--- the drill behind its next round
+-- the drill after its next round
 unfoldable pub after_round : Drill → Drill
 after_round d = behind_round d (round d.size d.next).0 (round d.size d.next).1
 
--- the drill behind so many rounds
+-- the drill after so many rounds
 unfoldable pub after_rounds : ℕ → Drill → Drill
 after_rounds zero d = d
 after_rounds (suc count) d = after_round (after_rounds count d)

@@ -53,7 +53,7 @@ fn settings_of(alloc: Global, last: u8) -> Result<CosignerSettings, Memory>
     })
 }
 
-// A cosigner on a device that stands for its records, with the stops so far.
+// A cosigner on a device that represents its records, with the stops so far.
 fn opened<H: TreeHash>(
     alloc: Global,
     disk: MemDisk,
@@ -70,7 +70,7 @@ fn opened<H: TreeHash>(
     })
 }
 
-// The cosigner behind a fuse, and the stops so far.
+// The cosigner with its device under a fuse, and the stops so far.
 fn fused<H: TreeHash>(
     alloc: Global,
     node: CosignerNode<H>,
@@ -86,7 +86,7 @@ fn fused<H: TreeHash>(
     Ok((cosigner, stops))
 }
 
-// What a call leaves of the device behind the fuse, and whether it was done. It may find no memory.
+// What a call leaves of the device under the fuse, and whether it was done. It may find no memory.
 fn halted<H: TreeHash>(
     cosigner: Cosigner<H, Fuse<MemDisk>>,
     call: &CosignerCall<'_>,
@@ -105,8 +105,8 @@ fn halted<H: TreeHash>(
     Ok((left, done))
 }
 
-// The call is made behind a fuse, and the cosigner is opened again on an image of what is left:
-// whether the call was done. This is the one place where a stop is counted.
+// Makes the call under a fuse, and opens the cosigner again on a crash state of what is left:
+// whether the call was done. No other function counts a stop.
 fn stopped<H: TreeHash>(
     alloc: Global,
     node: CosignerNode<H>,
@@ -142,7 +142,7 @@ impl<H: TreeHash> CosignerNode<H> {
         }
     }
 
-    /// Holds the root of a larger log, with a stop or without one. Behind a stop the call is made
+    /// Holds the root of a larger log, with a stop or without one. After a stop the call is made
     /// again, unless its record was recovered.
     pub(crate) fn advance(
         self,
@@ -172,7 +172,7 @@ impl<H: TreeHash> CosignerNode<H> {
         }
     }
 
-    /// Signs a subtree, with a stop or without one. Behind a stop the call is made again, unless it
+    /// Signs a subtree, with a stop or without one. After a stop the call is made again, unless it
     /// was done. The signature is the whole of `out`.
     pub(crate) fn cosign(
         self,

@@ -22,7 +22,7 @@ pub(crate) enum CosignerCall<'a> {
     Cosign(SubtreeRequest<'a>),
 }
 
-// Holds the root of a larger log. An error that isn't the device's is answered as want of memory.
+// Holds the root of a larger log. An error that isn't the device's is answered as out of memory.
 fn advance_on<H: TreeHash, D: Disk>(
     cosigner: &mut Cosigner<H, D>,
     request: &AdvanceRequest<'_>,
@@ -67,7 +67,7 @@ pub(crate) fn call_cosigner<H: TreeHash, D: Disk>(
     }
 }
 
-/// Opens the cosigner on a device that stands for one. Each error is answered as want of memory.
+/// Opens the cosigner on a device that represents one. Each error is answered as out of memory.
 pub(crate) fn open_cosigner<H: TreeHash, D: Disk + Drop>(
     alloc: Global,
     disk: D,

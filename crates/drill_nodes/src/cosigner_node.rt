@@ -28,7 +28,7 @@ pub struct CosignerNode<H: TreeHash> {
             (cosigner_state cosigner) (cosigner_disk cosigner) },
 }
 
-// A drop in one step: a derived one is proved field by field wherever a node is let go.
+// A drop in one step: a derived one is proved field by field wherever a party is dropped.
 impl<H: TreeHash> Drop for CosignerNode<H> {
     fn drop(self) {
         let CosignerNode {

@@ -1,4 +1,4 @@
-//! The cosigners of a drill, one behind the other.
+//! The cosigners of a drill, one after the other.
 
 ghost use Rattle.std.specs.Prelude.{◌≡◌, ◌<◌, ◌≤◌, ◌+◌, ◌^◌, [], ◌∷◌, length, IfOk, OnOk};
 ghost use Rattle.std.specs.List.{AllByRecursion, sum_by};
@@ -17,21 +17,21 @@ use mtc_io::{Bytes, Memory};
 use std::alloc::Global;
 use tree_core::TreeHash;
 
-/// The cosigners of a drill. Each call takes them from the front of the list, one by one, and puts
-/// them behind the others again: a node that is stopped is gone until it is opened again. Where
-/// memory is refused, the one whose turn it was is lost.
+/// The cosigners of a drill. Each call takes them from the start of the list, one by one, and
+/// appends them again: a party that is stopped is gone until it is opened again. If memory is
+/// refused, the one whose turn it was is lost.
 pub struct Cosigners<H: TreeHash> {
     nodes: Vec<CosignerNode<H>>,
 }
 
-// A drop in one step: a derived one is proved field by field wherever a value is let go.
+// A drop in one step: a derived one is proved field by field wherever a value is dropped.
 impl<H: TreeHash> Drop for Cosigners<H> {
     fn drop(self) {
         let Cosigners { nodes: _ } = self;
     }
 }
 
-/// What the cosigners hand out: their devices, and how many of their records are Signs.
+/// What the cosigners leave: their devices, and how many of their records are Signs.
 #[derive(Debug, Drop)]
 pub struct Devices {
     pub disks: Vec<MemDisk>,
@@ -91,8 +91,7 @@ impl<H: TreeHash> Cosigners<H> {
         Ok(())
     }
 
-    /// Each signs all of a log of which it holds the root, and puts its signature behind the
-    /// others.
+    /// Each signs all of a log of which it holds the root, and appends its signature.
     pub fn cosign(
         &mut self,
         alloc: Global,
@@ -156,7 +155,7 @@ impl<H: TreeHash> Cosigners<H> {
         count
     }
 
-    /// Behind how many of the stops in their advances the record was there.
+    /// After how many of the stops in their advances the record was there.
     pub fn recovered(&self) -> u64 {
         let mut count = 0u64;
         for node in &self.nodes {

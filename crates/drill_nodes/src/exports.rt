@@ -1,4 +1,4 @@
-//! What a cosigner of a drill tells of itself.
+//! What a cosigner of a drill shows of itself.
 
 ghost use Rattle.std.specs.Prelude.{◌≡◌, ◌≤◌, ◌^◌, Ok, Some, length, IfOk};
 ghost use Rattle.std.specs.List.{count_by};
@@ -33,7 +33,7 @@ impl<H: TreeHash> CosignerNode<H> {
     }
 }
 
-/// What is read of the export of a cosigner. A file that is none is answered as want of memory.
+/// What is read of the export of a cosigner. A file that is none is answered as out of memory.
 pub fn kept_in<H: TreeHash>(alloc: Global, bytes: &[u8]) -> Result<Export, Memory>
     ensures { IfOk result (λ kept. export_in H.hash bytes.now ≡ Ok (Some kept)) }
 {
@@ -55,7 +55,7 @@ fn signs_among(steps: &[Step]) -> u64
     steps.iter().filter(|step| is_sign(step)).count() as u64
 }
 
-// How many records of the journal of a cosigner are Signs, as its export tells.
+// How many records of the journal of a cosigner are Signs, as its export shows.
 fn signatures<H: TreeHash>(alloc: Global, node: &mut CosignerNode<H>) -> Result<u64, Memory>
     ensures same { IsStill node.old node.new }
     ensures count { IfOk result (λ count. count ≡ length (indices_of (records_shown node.old))) }

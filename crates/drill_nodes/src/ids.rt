@@ -1,4 +1,4 @@
-//! The names of the nodes.
+//! The names of the parties.
 
 ghost use Rattle.std.specs.Prelude.{◌≡◌, IfOk};
 ghost use Rattle.drill_nodes.specs.Ids.{id_of};
@@ -19,7 +19,7 @@ pub fn id_of(alloc: Global, last: u8) -> Result<AnchorId, Memory>
 {
     match AnchorId::from_bytes(alloc, &[0x81, 0xFD, 0x59, last]) {
         Ok(id) => Ok(id),
-        // Where N is below 128 these bytes are an anchor id, so memory was refused.
+        // These bytes are an anchor id if N is below 128, so memory was refused.
         Err(_) => Err(Memory),
     }
 }

@@ -1,4 +1,4 @@
-//! The nodes of a drill: its draws, and cosigners on devices in memory that stop at moments that
+//! The parties of a drill: its draws, and cosigners on devices in memory that stop at times that
 //! are drawn, and are opened again on what a stop leaves.
 //!
 //! A drill has rounds, which [`Dice`] draws from a number: for each call that adds a record a turn,

@@ -29,7 +29,7 @@ fn law_are_hashes(hash: &[u8; 32], proof: &[[u8; 32]])
     let _few = proof.len();
 }
 
-// Puts a signature of the cosigner behind the others.
+// Appends a signature of the cosigner to the others.
 fn put_signature<H: TreeHash>(
     node: &CosignerNode<H>,
     signature: &SigBuf,
@@ -72,7 +72,7 @@ pub(crate) fn advanced<H: TreeHash>(
     Ok(node)
 }
 
-/// The cosigner signs all of a log, and its signature is put behind the others.
+/// The cosigner signs all of a log, and the call appends its signature to the others.
 pub(crate) fn signed<H: TreeHash>(
     alloc: Global,
     node: CosignerNode<H>,

@@ -1,17 +1,17 @@
-//! The stops that were made in the calls of a node.
+//! The stops that were made in the calls of a party.
 
 use crate::turns::Stop;
 use mtc_io::Memory;
 use std::alloc::Global;
 
-/// The stops in the calls of a node, and what came of them in numbers.
+/// The stops in the calls of a party, and what came of them in numbers.
 #[derive(Debug, Drop)]
 pub struct Stops {
     pub made: Vec<Stop>,
     /// So many of the calls that were stopped did not answer Ok.
     pub unfinished: u64,
-    /// Behind so many of them the record of the call was there when the node was opened again. Of
-    /// calls that sign it isn't asked.
+    /// After so many of them the record of the call was there when the party was opened again.
+    /// Calls that sign are not counted here.
     pub recovered: u64,
 }
 

@@ -8,16 +8,16 @@ use std::marker::Model;
 #[derive(Clone, Copy, Debug, PartialEq, Eq)]
 pub struct Stop {
     /// So many calls that change the device are done before it. The first of them is the sync with
-    /// which the node is opened.
+    /// which the party is opened.
     pub passes: u64,
-    /// The choice of the image that it leaves.
+    /// The choice of the crash state that it leaves.
     pub pick: u64,
 }
 
 /// The stop in a call, or none.
 pub type Turn = Option<Stop>;
 
-/// Turns, one behind the other. Contracts see the list of them.
+/// Turns, one after the other. Contracts see the list of them.
 #[derive(Debug, Drop)]
 pub struct Turns {
     items: Vec<Turn>,
