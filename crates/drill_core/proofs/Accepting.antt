@@ -67,7 +67,7 @@ due_entry h s index sized read known id is = record {
   lasting = omega arith;
 }
 
--- the moment lies in the validity of the entry
+-- the time lies in the validity of the entry
 at_now : (h : HashFunction) (s : LogState) (index size : ℕ) (signatures bytes : Text)
     → ((b : Text) → length (h b) ≡ 32) → AreRead h → AreKnown h
     → StoresAccept h s index 0 size signatures bytes → IsDrillEntry h s index

@@ -106,7 +106,7 @@ found_active l index number is =
 
 -- ---- the certificate
 
--- what a store is told of the log's certificate in this subtree
+-- a store accepts the log's certificate in this subtree, if it is set up for it
 abbrev Accepts : HashFunction → LogState → ℕ → Span → Text → Text → Type 0
 Accepts h s index span cert id =
     let p = proof_for h s index span.start span.end [] in

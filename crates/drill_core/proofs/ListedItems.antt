@@ -1,4 +1,4 @@
--- The items of a log, one behind the other.
+-- The items of a log, one after the other.
 use Rattle.std.proofs.Common.{◌≡◌, ℕ, zero, suc, ◌<◌, ◌≤◌, List, [], length, slice_index_or, take}
 use Rattle.std.proofs.Common.{Ok, true, ap, sym, ◌∙◌, arith}
 use Rattle.std.proofs.Math.Seq.{take-length}

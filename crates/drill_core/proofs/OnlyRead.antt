@@ -1,5 +1,5 @@
--- What a log on devices in memory shows, behind calls that only look at them and behind one that
--- adds a record.
+-- What a log on devices in memory shows, after calls that only read them and after one that adds a
+-- record.
 use Rattle.std.proofs.Common.{◌≡◌, ◌∙◌, Bool, List, [], ◌∷◌, ◌++◌, Ok, true, refl, sym, ap, subst}
 use Rattle.std.proofs.lemmas.Option.{same_Some}
 use Rattle.byte_formats.specs.Types.{Text, HashFunction}
@@ -22,17 +22,17 @@ use Rattle.drill_core.specs.Nodes.{IsLogDisk, log_seen}
 use Rattle.drill_nodes.specs.Disks.{records_on}
 use Rattle.drill_core.specs.declared.calls.LogCall.{LogCall}
 
--- since this moment a crash leaves nothing else
+-- since this time a crash leaves nothing else
 pub mem_now : (m : MemDisk) (c : Text) → disks.left_since m (disks.moment m) c
     → disks.may_leave m c
 mem_now m c is = since_now m.past.first (made_calls m.past.calls) c is
 
--- what a read gives is an image
+-- what a read gives is a crash state
 mem_read : (m : MemDisk) → disks.may_leave m (bytes_of m)
 mem_read m =
     contents_seen m.past.first (made_calls m.past.calls) (bytes_of m) m.past.are_bytes refl
 
--- a disk each image of which stands for records that make this log
+-- a disk each crash state of which represents records that make this log
 pub is_log_disk : (h : HashFunction) (s : LogState) (disk : MemDisk) (list : List Text)
     → AllRepresent disks disk list → log_of h list ≡ Ok s → IsLogDisk h s disk
 is_log_disk h s disk list all valid =

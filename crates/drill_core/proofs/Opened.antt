@@ -1,4 +1,4 @@
--- What is found on a disk that stands for the records of a log.
+-- What is found on a disk that represents the records of a log.
 use Rattle.std.proofs.Common.{◌≡◌, List, Option, Some, None, Ok, option_map, sym, ap, ◌∙◌}
 use Rattle.std.specs.Option.{IfSome}
 use Rattle.byte_formats.specs.Types.{Text}
@@ -11,7 +11,7 @@ module _ {S E : Type 0} (fold : Fold S E) where
   same_found : (a b : Found S) → a ≡ b → (Some a.records ≡ Some b.records) × (a.state ≡ b.state)
   same_found a b e = (ap (λ (f : Found S). Some f.records) e, ap (λ (f : Found S). f.state) e)
 
-  -- the state is told by the records
+  -- the records determine the state
   pub found_modelled : (contents : Option Text) (list : Option (List Text)) (state : List Text → S)
       → list ≡ option_map records_of contents
       → IfSome contents (λ b. IfSome list (λ found. read_by fold b

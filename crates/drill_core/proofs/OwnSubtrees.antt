@@ -1,4 +1,4 @@
--- Subtrees of a log with their hashes, one behind the other.
+-- Subtrees of a log with their hashes, one after the other.
 use Rattle.std.proofs.Common.{◌≡◌, ◌∙◌, ◌+◌, ◌-◌, ◌<◌, ◌≤◌, ℕ, Bool, true, false, List, []}
 use Rattle.std.proofs.Common.{◌∷◌, ◌++◌, Option, Some, None, inl, inr, refl, sym, ap, subst, arith}
 use Rattle.std.proofs.Common.{append_assoc, eqb-true, ne_eqb}

@@ -116,7 +116,7 @@ newest_due h size marks log same some few =
 
 -- ---- a round
 
--- A round was played behind so many others. Its index lies in the log.
+-- A round was played after so many others. Its index lies in the log.
 pub record IsNext {H : Type 0} {hashes : Hashes H} (h : HashFunction) (number count : ℕ) (d : Drill)
     (r : Round) (old new : FleetNodes H hashes) : Type 0 where
   pub was : IsAfter h number count d old
@@ -217,7 +217,7 @@ module _ {H : Type 0} {hashes : Hashes H} (h : HashFunction) (number count next 
       (all_stand h number count next d r cosigner_arcs new.cosigners.nodes.items
       is.played.cert (arcs_count number) cosigners_next is.disks written_next accepted_next))
 
-  -- the nodes behind it
+  -- the parties after it
   pub after_next : IsAfter h number (suc count) e new
   after_next =
       let p = is.played in

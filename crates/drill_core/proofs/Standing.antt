@@ -17,7 +17,7 @@ use Rattle.drill_core.specs.declared.nodes.FleetNodes.{FleetNodes}
 use Rattle.drill_core.proofs.EntryCounts.{entries_length}
 use Rattle.drill_core.proofs.Rounding.{IsNext, after_next}
 
--- A round of the drill with a number, behind so many others: it is drawn from x, which leaves y for
+-- A round of the drill with a number, after so many others: it is drawn from x, which leaves y for
 -- the next draw, and it was played.
 pub record IsRound {H : Type 0} {hashes : Hashes H} (h : HashFunction) (number count x y : ℕ)
     (r : Round) (old new : FleetNodes H hashes) : Type 0 where

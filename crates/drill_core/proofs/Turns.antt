@@ -65,7 +65,7 @@ module _ {H : Type 0} {hashes : Hashes H} where
       (cosigner_shown a) part) (sym advanced.state)
       (λ is. record { cosigner = is.cosigner; verifies = is.verifies; short = is.short }) by
 
-  -- a cosigner that was looked at since
+  -- a cosigner that was read since
   pub signed_still : (size : ℕ) (hash : Hash) (a b c : CosignerNode H hashes)
       → IsSigned size hash a b → IsStill b c → IsSigned size hash a c
   signed_still size hash a b c signed still = record {
@@ -81,7 +81,7 @@ module _ {H : Type 0} {hashes : Hashes H} where
         (sym still.records) signed.recorded;
   }
 
-  -- audits of cosigners that were looked at since
+  -- audits of cosigners that were read since
   pub all_still : (h : HashFunction) (store : Store) (cert : Text) (log : LogState)
       (old new : List (CosignerNode H hashes)) → Paired IsStill old new
       → AllStand h store cert log new → AllStand h store cert log old

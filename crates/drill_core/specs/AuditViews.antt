@@ -1,4 +1,4 @@
--- The audits of a certificate with the nodes of a drill.
+-- The audits of a certificate with the parties of a drill.
 use Rattle.std.specs.Prelude.{List}
 use Rattle.std.specs.List.{AllByRecursion}
 use Rattle.byte_formats.specs.Types.{HashFunction, Text}

@@ -36,8 +36,8 @@ count_in s (Issue request) = length s.entries
 count_in s Mark = length s.marks
 
 module _ {H D T : Type 0} {hashes : Hashes H} {g : Ghosts D} {k : Ghosts T} where
-  -- This record more, which makes this of the log that the journal tells, and each image of its
-  -- disk stands for the records with it.
+  -- This record more, which makes this of the log that the journal has, as the model knows it; and
+  -- each crash state of its disk represents the records with it.
   pub record HasGrownBy (body : Text) (next : LogState → LogState) (old new : Log H D T hashes g k)
       : Type 0 where
     pub records : log_records new ≡ option_map (λ list. list ++ body ∷ []) (log_records old)
@@ -45,8 +45,8 @@ module _ {H D T : Type 0} {hashes : Hashes H} {g : Ghosts D} {k : Ghosts T} wher
     pub sound : log_broken new ≡ false
     pub kept : IfSome (log_records old) (λ list. AllRepresent g (log_disk new) (list ++ body ∷ []))
 
-  -- A call of a log: the records with that of the call are a log's, and each image of the disk
-  -- stands for the old records or for these. Where it is done, the log has grown by its record.
+  -- A call of a log: the records with that of the call are a log's, and each crash state of the
+  -- disk represents the old records or these. If the call is done, the log has grown by its record.
   pub record HasCalledLog (h : HashFunction) (call : LogCall) (old new : Log H D T hashes g k)
       (done : Bool) : Type 0 where
     pub valid : IfSome (log_records old) (λ list.
@@ -68,7 +68,7 @@ module _ {H D T : Type 0} {hashes : Hashes H} {g : Ghosts D} {k : Ghosts T} wher
     pub records : log_records it ≡ Some list
     pub valid : log_of h list ≡ Ok s
 
-  -- A disk that stands for records was opened as the log that they make.
+  -- A disk that represents records was opened as the log that they make.
   pub record HasOpenedLog (h : HashFunction) (disk : D) (it : Log H D T hashes g k)
       : Type 0 where
     pub sound : log_broken it ≡ false

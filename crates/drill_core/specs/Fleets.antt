@@ -1,4 +1,4 @@
--- What a drill hands out.
+-- What a drill leaves.
 use Rattle.std.specs.Prelude.{◌≡◌, ◌≤◌, ℕ, List, length}
 use Rattle.std.specs.List.{AllByRecursion, sum_by}
 use Rattle.byte_formats.specs.Types.{HashFunction, Text}
@@ -33,7 +33,7 @@ abbrev pub EachStands : HashFunction → ℕ → List Text → LogState → Cosi
 EachStands h number certs log s list =
     AllByRecursion (λ cert. StandsWith h (drill_store number) cert log s list) certs
 
--- The disk of a cosigner behind a drill: all that a crash may leave of it stands for records that
+-- The disk of a cosigner after a drill: all that a crash may leave of it represents records that
 -- make a cosigner with this id and secret. It holds all of the log, and at least sixteen of its
 -- one-time keys are used. The audit of each certificate with its records finds the entry.
 pub record IsDrilled (h : HashFunction) (number : ℕ) (d : Drill) (certs : List Text) (arc : ℕ)
@@ -49,7 +49,7 @@ pub record IsDrilled (h : HashFunction) (number : ℕ) (d : Drill) (certs : List
   pub signed : 16 ≤ signs_on disk
   pub audits : EachStands h number certs (log_with h d.size d.marks) state (records_on disk)
 
--- What the drill with a number hands out. All that a crash may leave of the log's disk stands for
+-- What the drill with a number answers. All that a crash may leave of the log's disk represents
 -- records that make the log with the entries and the landmarks that are drawn; likewise the disks
 -- of the cosigners 32473.2 to 32473.4, in this order. Each certificate is of the index and the size
 -- that are drawn, and is accepted by all three cosigners. The numbers are those of the drill, and
@@ -64,7 +64,7 @@ pub record IsFleet (h : HashFunction) (number : ℕ) (f : Fleet) : Type 0 where
   pub signatures : f.counts.signatures ≡ sum_by signs_on f.cosigners.items
 
 module _ {H : Type 0} {hashes : Hashes H} where
-  -- The numbers are those of the nodes, with so many Signs.
+  -- The numbers are those of the parties, with so many Signs.
   pub record AreOf (nodes : FleetNodes H hashes) (signs : ℕ) (c : Counts) : Type 0 where
     pub entries : c.entries ≡ length (log_shown nodes.log).entries
     pub landmarks : c.landmarks ≡ length (log_shown nodes.log).marks
@@ -74,7 +74,7 @@ module _ {H : Type 0} {hashes : Hashes H} where
     pub stands : c.stands ≡ nodes.stands
     pub light : c.light ≡ nodes.light
 
-  -- The nodes are handed out: each disk stands for the records of its node.
+  -- The disks of the parties go to the caller: each represents the records of its party.
   pub record IsHandedOut (h : HashFunction) (nodes : FleetNodes H hashes) (f : Fleet) : Type 0 where
     pub log : IsLogDisk h (log_shown nodes.log) f.log
     pub fails_none : FailsNone f.log

@@ -47,7 +47,7 @@ pub record IsOwnSubtree (h : HashFunction) (entries : List Text) (t : Trusted) :
   pub subtree : IsSubtree t.start t.end
   pub hash : t.hash ≡ tree_hash h (part_of entries t.start t.end)
 
--- These are different subtrees with their hashes, and none ends behind this place.
+-- These are different subtrees with their hashes, and none ends after this index.
 pub record AreOwn (h : HashFunction) (entries : List Text) (place : ℕ) (list : List Trusted)
     : Type 0 where
   pub own : AllByRecursion (IsOwnSubtree h entries) list

@@ -1,4 +1,4 @@
--- The items of a drill's log, as they are handed out.
+-- The items of a drill's log, as a file of entries has them.
 use Rattle.std.specs.Prelude.{◌≡◌, ◌<◌, ℕ, [], length, slice_index_or}
 use Rattle.byte_formats.specs.Types.{Text}
 use Rattle.entry_list.specs.Items.{ItemLists}

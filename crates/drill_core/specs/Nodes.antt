@@ -23,7 +23,7 @@ abbrev pub log_seen : {H T : Type 0} {hashes : Hashes H} {g : Ghosts MemDisk} {k
     → Log H MemDisk T hashes g k → LogState
 log_seen log = shown_with (view_of log) (durable_of (log_end log) (bytes_of (log_disk log)))
 
--- What a disk holds and all that a crash now may leave of it stand for its records, and these make
+-- What a disk holds and all that a crash now may leave of it represent its records, and these make
 -- this log.
 pub record IsLogDisk (h : HashFunction) (s : LogState) (disk : MemDisk) : Type 0 where
   pub holds : Represents (bytes_of disk) (records_on disk)
@@ -38,8 +38,8 @@ IsLogDisk-prop h s disk = hlevel (
   λ (c : Text). Represents-prop c (records_on disk),
 )
 
--- A disk that a stop within a call has left: each of its images stands for the records from before,
--- or for these and that of the call, and both are those of a log.
+-- A disk that a stop within a call has left: each of its crash states represents the records from
+-- before, or these and that of the call, and both are those of a log.
 pub record IsLeft (h : HashFunction) (call : LogCall) (s : LogState) (images : Text → Type 0)
     : Type 0 where
   pub list : List Text

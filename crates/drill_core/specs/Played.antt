@@ -1,4 +1,4 @@
--- What a round makes of the nodes of a drill, and what rounds make of them.
+-- What a round makes of the parties of a drill, and what rounds make of them.
 use Rattle.std.specs.Prelude.{◌≡◌, ◌+◌, ◌*◌, ◌<◌, ◌≤◌, ℕ, zero, suc, List, [], ◌∷◌, ◌++◌, length}
 use Rattle.std.specs.Prelude.{pos, Option, Some, None}
 use Rattle.std.specs.List.{AllByRecursion}
@@ -59,8 +59,8 @@ module _ {H : Type 0} {hashes : Hashes H} where
   abbrev pub all_stops : FleetNodes H hashes → ℕ
   all_stops nodes = log_stops nodes.log + stops_by nodes.cosigners.nodes.items
 
-  -- What a round asks of the nodes: three cosigners, which hold no more than the log has, and
-  -- counts that have room for it.
+  -- What a round asks of the parties: three cosigners, which hold no more than the log has, and
+  -- counts that are far enough below their limits for it.
   pub record AreReady (nodes : FleetNodes H hashes) : Type 0 where
     pub three : length nodes.cosigners.nodes.items ≡ 3
     pub held : AllByRecursion (λ node. (cosigner_shown node).held.size
@@ -91,7 +91,7 @@ module _ {H : Type 0} {hashes : Hashes H} where
         → new.stands ≡ old.stands + 3
     pub light : new.light ≡ old.light
 
-  -- A cosigner behind a round: it holds this root, and has signed it.
+  -- A cosigner after a round: it holds this root, and has signed it.
   pub record HasHeldAndSigned (size : ℕ) (hash : Hash) (old new : CosignerNode H hashes)
       : Type 0 where
     pub id : (cosigner_shown new).id ≡ (cosigner_shown old).id
@@ -129,7 +129,7 @@ module _ {H : Type 0} {hashes : Hashes H} where
 
 -- ---- so many rounds of the drill with a number
 
--- what the cosigners hold behind so many rounds, where the log has so many entries
+-- what the cosigners hold after so many rounds, if the log has so many entries
 abbrev pub checkpoint_after : HashFunction → ℕ → ℕ → Checkpoint
 checkpoint_after h zero size = empty_checkpoint h
 checkpoint_after h (suc before) size =
@@ -168,14 +168,14 @@ abbrev pub cosigner_arcs : List ℕ
 cosigner_arcs = 2 ∷ 3 ∷ 4 ∷ []
 
 module _ {H : Type 0} {hashes : Hashes H} where
-  -- A cosigner behind so many rounds: it holds all of the log, and has signed it in each.
+  -- A cosigner after so many rounds: it holds all of the log, and has signed it in each.
   pub record IsNodeAfter (h : HashFunction) (number count : ℕ) (d : Drill) (last : ℕ)
       (node : CosignerNode H hashes) : Type 0 where
     pub within : IsCosignerWithin number last count (checkpoint_after h count d.size)
         (cosigner_shown node)
     pub signs : HaveSigns h d.written (records_shown node)
 
-  -- The nodes behind so many rounds of the drill with a number, which stands so, and what was
+  -- The parties after so many rounds of the drill with a number, which stands so, and what was
   -- counted.
   pub record IsAfter (h : HashFunction) (number count : ℕ) (d : Drill) (nodes : FleetNodes H hashes)
       : Type 0 where
@@ -192,7 +192,7 @@ module _ {H : Type 0} {hashes : Hashes H} where
     pub stops : all_stops nodes ≡ d.stops
     pub few_stops : d.stops ≤ 10 * count
 
-  -- A drill with a number, behind so many rounds: the number for the next draw, and the nodes.
+  -- A drill with a number, after so many rounds: the number for the next draw, and the parties.
   pub record IsStanding (h : HashFunction) (number count next : ℕ) (nodes : FleetNodes H hashes)
       : Type 0 where
     pub next_is : next ≡ (after_rounds count (begun number)).next

@@ -147,7 +147,7 @@ fn standing<H: TreeHash>(
 }
 
 /// Audits a certificate with the log's items and the export of each cosigner: how many of the
-/// audits stand. They are as many as the cosigners exactly where all do.
+/// audits stand. They are as many as the cosigners exactly if all do.
 pub(crate) fn audited<H: TreeHash>(
     alloc: Global,
     log: &mut LogNode<H>,

@@ -22,7 +22,7 @@ pub(crate) enum LogCall {
     Mark,
 }
 
-// Issues a request. An error that isn't the device's is answered as want of memory.
+// Issues a request. An error that isn't the device's is answered as out of memory.
 fn issue_on<H: TreeHash, D: Disk, T: Disk>(
     alloc: Global,
     log: &mut Log<H, D, T>,
@@ -63,8 +63,8 @@ pub(crate) fn call_log<H: TreeHash, D: Disk, T: Disk>(
     }
 }
 
-/// Opens the log on a device that stands for one, and a device for its tiles, of which it has
-/// stored none. Each error is answered as want of memory.
+/// Opens the log on a device that represents one, and a device for its tiles, of which it has
+/// stored none. Each error is answered as out of memory.
 pub(crate) fn open_log<H: TreeHash, D: Disk + Drop, T: Disk + Drop>(
     alloc: Global,
     disk: D,

@@ -17,7 +17,7 @@ use tree_core::TreeHash;
 // A drill has so many rounds.
 const ROUNDS: u64 = 16;
 
-// New nodes.
+// New parties.
 fn begin<H: TreeHash>(alloc: Global, number: u64) -> Result<FleetNodes<H>, Memory>
     ensures { IfOk result (IsAfter H.hash number 0 (begun number)) }
 {

@@ -1,4 +1,4 @@
-//! What the nodes of a drill hand out.
+//! What the parties of a drill leave.
 
 ghost use Rattle.std.specs.Prelude.{◌≡◌, ◌≤◌, ◌^◌, length, IfOk};
 ghost use Rattle.drill_nodes.specs.Disks.{FailsNone};

@@ -1,11 +1,11 @@
-//! The drill: a log and three cosigners on devices in memory, which stop at moments that a number
+//! The drill: a log and three cosigners on devices in memory, which stop at times that a number
 //! draws, and are still right.
 //!
 //! A drill has sixteen rounds. In each the log issues entries and sometimes sets a landmark, each
 //! cosigner follows it and signs all of it, and a certificate is written. Before each call that
-//! adds a record the machine may be made to stop within it: the node is opened again on one of the
-//! images that the stop may leave, and goes on. [`fleet`] plays the rounds of a number and hands
-//! out what it has made.
+//! adds a record the machine may be made to stop within it: the party is opened again on one of the
+//! crash states that the stop may leave, and continues. [`fleet`] plays the rounds of a number and
+//! answers what it has made.
 #![tactic(auto)]
 
 mod audits;

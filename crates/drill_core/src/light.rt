@@ -38,7 +38,7 @@ fn trusted<H: TreeHash>(log: &mut Log<H, MemDisk, MemDisk>, span: Span) -> Resul
     })
 }
 
-// Puts the subtrees of a cover behind others.
+// Appends the subtrees of a cover to others.
 fn put_cover<H: TreeHash>(
     log: &mut Log<H, MemDisk, MemDisk>,
     cover: &Cover,

@@ -1,4 +1,4 @@
-//! The items of a drill's log, as they are handed out.
+//! The items of a drill's log, as a file of entries has them.
 
 ghost use Rattle.std.specs.Prelude.{◌≡◌, ◌<◌, ◌++◌, length, Ok, IfOk, OnOk};
 ghost use Rattle.entry_list.specs.Items.{file_text, listed_text};
@@ -16,7 +16,7 @@ use std::alloc::Global;
 use tls_wire::put_vec16;
 use tree_core::TreeHash;
 
-// The item at an index: the entry and its key, in the place of what the two byte strings held.
+// The item at an index: the entry and its key, instead of what the two byte strings held.
 fn read_item<H: TreeHash>(
     log: &mut Log<H, MemDisk, MemDisk>,
     index: u64,
@@ -34,7 +34,7 @@ fn read_item<H: TreeHash>(
     }
 }
 
-// Puts the item at an index behind the bytes, by way of two byte strings.
+// Appends the item at an index to the bytes, by way of two byte strings.
 fn put_item<H: TreeHash>(
     log: &mut Log<H, MemDisk, MemDisk>,
     index: u64,

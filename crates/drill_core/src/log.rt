@@ -39,7 +39,7 @@ fn settings_of(alloc: Global) -> Result<LogSettings, Memory>
     })
 }
 
-// A log on a device that stands for its records, and one for its tiles, with the stops so far.
+// A log on a device that represents its records, and one for its tiles, with the stops so far.
 fn opened<H: TreeHash>(
     alloc: Global,
     disk: MemDisk,
@@ -56,7 +56,7 @@ fn opened<H: TreeHash>(
     })
 }
 
-// The log with its journal behind a fuse, and the stops so far.
+// The log with the device of its journal under a fuse, and the stops so far.
 fn fused<H: TreeHash>(
     alloc: Global,
     node: LogNode<H>,
@@ -72,7 +72,7 @@ fn fused<H: TreeHash>(
     Ok((log, stops))
 }
 
-// What a call leaves of the device behind the fuse, and of that of the tiles, and whether it was
+// What a call leaves of the device under the fuse, and of that of the tiles, and whether it was
 // done. It may find no memory.
 fn halted<H: TreeHash>(
     alloc: Global,
@@ -92,8 +92,8 @@ fn halted<H: TreeHash>(
     Ok((left, tiles, done))
 }
 
-// The call is made behind a fuse, and the log is opened again on an image of what is left of each
-// device. This is the one place where a stop is counted.
+// Makes the call under a fuse, and opens the log again on a crash state of what is left of each
+// device. No other function counts a stop.
 fn stopped<H: TreeHash>(
     alloc: Global,
     node: LogNode<H>,
@@ -138,7 +138,7 @@ impl<H: TreeHash> LogNode<H> {
         }
     }
 
-    // The call, with a stop or without one. Behind a stop it is made again, unless its record was
+    // The call, with a stop or without one. After a stop it is made again, unless its record was
     // recovered.
     fn asked(self, alloc: Global, call: &LogCall, turn: Turn) -> Result<LogNode<H>, Memory>
         ensures state { IfOk result (λ it.

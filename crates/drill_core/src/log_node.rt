@@ -22,7 +22,7 @@ pub(crate) struct LogNode<H: TreeHash> {
         H.TreeHash.hash (log_seen log) (log_disk log) },
 }
 
-// A drop in one step: a derived one is proved field by field wherever a node is let go.
+// A drop in one step: a derived one is proved field by field wherever a party is dropped.
 impl<H: TreeHash> Drop for LogNode<H> {
     fn drop(self) {
         let LogNode { log: _, stops: _ } = self;

@@ -1,4 +1,4 @@
-//! What a drill hands out.
+//! What a drill leaves.
 
 use disk_core::MemDisk;
 use mtc_io::Bytes;
@@ -53,8 +53,8 @@ pub struct Counts {
 /// What a drill has made: the devices of the log and of the cosigners `32473.2`, `32473.3` and
 /// `32473.4`, the certificates of its rounds, and what it came to in numbers.
 ///
-/// Two more numbers tell that calls were stopped, and where: how many of the calls in which a stop
-/// was made did not answer Ok, and behind how many stops in calls of the log and in advances the
+/// Two more numbers say that calls were stopped, and where: how many of the calls in which a stop
+/// was made did not answer Ok, and after how many stops in calls of the log and in advances the
 /// record of the call was there.
 #[derive(Debug, Drop)]
 pub struct Fleet {

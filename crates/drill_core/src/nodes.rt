@@ -1,4 +1,4 @@
-//! The nodes of a drill, and what they have made so far. They are taken apart here alone.
+//! The parties of a drill, and what they have made so far. They are taken apart here alone.
 
 ghost use Rattle.std.specs.Prelude.{◌≡◌, ◌≤◌, ◌+◌, ◌^◌, [], ◌∷◌, length, IfOk};
 ghost use Rattle.issuance_log.specs.Folds.{with_mark};
@@ -32,7 +32,7 @@ pub(crate) struct FleetNodes<H: TreeHash> {
     pub(crate) light: u64,
 }
 
-// A drop in one step: a derived one is proved field by field wherever the nodes are let go.
+// A drop in one step: a derived one is proved field by field wherever the parties are dropped.
 impl<H: TreeHash> Drop for FleetNodes<H> {
     fn drop(self) {
         let FleetNodes {

@@ -79,7 +79,7 @@ pub(crate) fn grown<H: TreeHash>(
     Ok((log, cosigners))
 }
 
-// Each cosigner signs all of the log, and puts its signature behind the others.
+// Each cosigner signs all of the log, and appends its signature to the others.
 fn sign_all<H: TreeHash>(
     alloc: Global,
     log: &mut LogNode<H>,

@@ -12,10 +12,10 @@ use itoa::Buffer;
 use mtc_io::{Bytes, Memory};
 use std::alloc::Global;
 
-/// The first moment of each entry, and that at which certificates are judged: 2026-01-01.
+/// The first time of each entry, and that at which certificates are judged: 2026-01-01.
 pub(crate) const NOT_BEFORE: i64 = 1_767_225_600;
 
-// The last moment of each entry: 2026-01-08.
+// The last time of each entry: 2026-01-08.
 const NOT_AFTER: i64 = 1_767_830_400;
 
 // A subjectPublicKeyInfo of Ed25519 without the last 8 bytes of the key (RFC 8410, section 4).
