@@ -22,7 +22,7 @@ use Rattle.mtc_words.specs.Names.{named_command, word_count, takes_journal, is_t
 use Rattle.mtc_words.specs.Words.{word, word_fault, journal_fault, command_from, command_named}
 use Rattle.mtc_words.specs.Words.{command_of, unless_fault, number_word, id_word}
 
--- A value that a step gives is given behind a value of the step before it.
+-- A value that a step gives is given after a value of the step before it.
 behind : {A B E : Type 0} (P : B → Type 0) (r : Result A E) (f : A → Result B E) (c : B)
     → ((x : A) → f x ≡ Ok c → P c) → (r >>= f) ≡ Ok c → P c
 behind P (Ok x) f c next e = next x e
@@ -95,7 +95,7 @@ from_words Drill ws c e =
     behind (Has Drill ws) (number_word 1 is_any (word ws 0)) _ c (λ number is. told _ c is) e
 from_words Tile ws c e = told _ c e
 
--- The first word passes the test, where the command has a journal.
+-- The first argument passes the test, where the command has a journal.
 abbrev Own : Option Text → Type 0
 Own o = IfSome o (λ j. is_tiles_name j ≡ false)
 
@@ -115,7 +115,7 @@ passed : (name : Name) (ws : List Text) → journal_fault name ws ≡ None → O
 passed name [] e = no_word (takes_journal name)
 passed name (w ∷ ws) e = tested (takes_journal name) w (is_tiles_name w) refl e
 
--- What is answered behind the tests.
+-- What is answered after the tests.
 answered : (fault : Option WordError) (wanted : Result CommandValue WordError) (c : CommandValue)
     → unless_fault fault wanted ≡ Ok c → (fault ≡ None) × (wanted ≡ Ok c)
 answered None wanted c e = (refl, e)
@@ -131,14 +131,14 @@ named (Some name) ws c e =
     let own = answered (journal_fault name ws) (alone made.0) c made.2 in
     subst Own (sym (from_words name ws c (made.1 ∙ own.1))) (passed name ws own.0)
 
--- Where words are a command, no journal of it has the name of a tile file.
+-- No journal of a command has the name of a tile file.
 pub journals_have_own_names : (ws : List Text) (c : CommandValue) → command_of ws ≡ Ok c
     → IfSome (journal_of c) (λ j. is_tiles_name j ≡ false)
 unfolding command_of
 journals_have_own_names [] c e = absurd (cc)
 journals_have_own_names (w ∷ ws) c e = named (named_command w) ws c e
 
--- A name with `.tiles` behind it is the name of a tile file.
+-- A name with `.tiles` at its end is the name of a tile file.
 pub tiles_name_ends : (name : Text) → is_tiles_name (name ++ codes ".tiles") ≡ true
 unfolding is_tiles_name
 tiles_name_ends name =

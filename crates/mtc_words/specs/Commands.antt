@@ -14,7 +14,7 @@ use Rattle.mtc_words.specs.declared.command.Command.TheVariants.{TrustLandmarks,
 use Rattle.mtc_words.specs.declared.command.Command.TheVariants.{Tile}
 use Rattle.mtc_words.specs.declared.error.WordError.{WordError}
 
--- A command with the values of its words: a text is the list of its bytes, and so is an id.
+-- A command with the values of its arguments: a text is the list of its bytes, and so is an id.
 pub data CommandValue : Type 0 where
   member : Text → CommandValue
   show : Text → CommandValue
@@ -39,7 +39,7 @@ pub data CommandValue : Type 0 where
   drill : ℕ → CommandValue
   tile : Text → CommandValue
 
--- The values of a command's words.
+-- The values of a command's arguments.
 abbrev pub command_value : Command → CommandValue
 command_value (Member file) = member file.now
 command_value (Show file) = show file.now
@@ -80,7 +80,7 @@ is_height n = (n == 5) || (n == 10)
 abbrev pub is_width : ℕ → Bool
 is_width n = (n == 1) || ((n == 2) || ((n == 4) || (n == 8)))
 
--- The moments up to the end of the year 9999, in seconds since 1970-01-01T00:00:00Z.
+-- The times up to the end of the year 9999, in seconds since 1970-01-01T00:00:00Z.
 abbrev pub last_moment : ℕ
 last_moment = 253402300799
 

@@ -1,5 +1,5 @@
--- The table of the commands: the name of each, how many words it wants, and whether the first of
--- them is a journal.
+-- The table of the commands: the name of each, how many arguments it wants, and whether the first
+-- of them is a journal.
 use Rattle.std.specs.Prelude.{ℕ, Bool, true, false, Option, Some, None, codes, bytes_eq, nat_eq}
 use Rattle.std.specs.Prelude.{if◌then◌else◌}
 use Rattle.std.specs.List.{ends_with}
@@ -13,7 +13,7 @@ use Rattle.mtc_words.specs.declared.name.Name.TheVariants.{Landmark, Landmarks, 
 use Rattle.mtc_words.specs.declared.name.Name.TheVariants.{TrustLandmarks, Cert, Audit, Drill}
 use Rattle.mtc_words.specs.declared.name.Name.TheVariants.{Tile}
 
--- The command that a word names which names none of those before the commands of landmarks.
+-- The command that an argument names which names none of those before the commands of landmarks.
 abbrev pub named_from_landmark : Text → Option Name
 named_from_landmark word =
     if bytes_eq word (codes "landmark") then Some Landmark
@@ -26,7 +26,7 @@ named_from_landmark word =
     else (if bytes_eq word (codes "tile") then Some Tile
     else None)))))))
 
--- The same for a word that names none of those before the commands of a cosigner.
+-- The same for an argument that names none of those before the commands of a cosigner.
 abbrev pub named_from_cosigner : Text → Option Name
 named_from_cosigner word =
     if bytes_eq word (codes "keygen") then Some Keygen
@@ -36,7 +36,7 @@ named_from_cosigner word =
     else (if bytes_eq word (codes "export") then Some Export
     else named_from_landmark word))))
 
--- The command that a word names.
+-- The command that an argument names.
 unfoldable pub named_command : Text → Option Name
 named_command word =
     if bytes_eq word (codes "member") then Some Member
@@ -50,7 +50,7 @@ named_command word =
     else (if bytes_eq word (codes "subtree") then Some Subtree
     else named_from_cosigner word))))))))
 
--- How many words stand behind a command.
+-- How many arguments follow a command.
 abbrev pub word_count : Name → ℕ
 word_count Member = 1
 word_count Show = 1
@@ -75,7 +75,7 @@ word_count Audit = 5
 word_count Drill = 1
 word_count Tile = 1
 
--- Whether the first word behind a command is a journal.
+-- Whether the first argument after a command is a journal.
 abbrev pub takes_journal : Name → Bool
 takes_journal Member = false
 takes_journal Show = false

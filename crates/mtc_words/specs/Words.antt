@@ -1,4 +1,4 @@
--- The words of a command, and what they say: the first fault in the order of the tests, or the
+-- The arguments of a command, and what they say: the first fault in the order of the tests, or the
 -- command.
 use Rattle.std.specs.Prelude.{ℕ, ◌+◌, ◌==◌, Bool, true, List, [], ◌∷◌, length, Option, Some, None}
 use Rattle.std.specs.Prelude.{Result, Ok, Err, ◌&&◌, slice_index_or, is_some, if◌then◌else◌}
@@ -31,17 +31,17 @@ abbrev pub is_bad_word : Text → Bool
 is_bad_word [] = true
 is_bad_word (first ∷ rest) = first == 45
 
--- The number of the first bad word, where k is that of the first one.
+-- The number of the first bad argument, where k is that of the first one.
 abbrev pub bad_word : ℕ → List Text → Option ℕ
 bad_word k [] = None
 bad_word k (w ∷ ws) = if is_bad_word w then Some k else bad_word (k + 1) ws
 
--- The fault by the count, which is told only where there is no bad word.
+-- The fault by the count, which is reported only if there is no bad argument.
 abbrev pub count_fault : ℕ → ℕ → Option ℕ → Option WordError
 count_fault have want (Some k) = Some (BadWord k)
 count_fault have want None = if have == want then None else Some (WrongCount have want)
 
--- The fault of the words behind a command that wants so many.
+-- The fault of the arguments after a command that wants so many.
 unfoldable pub word_fault : ℕ → List Text → Option WordError
 word_fault want ws = count_fault (length ws) want (bad_word 1 ws)
 
@@ -51,24 +51,24 @@ journal_fault name [] = None
 journal_fault name (w ∷ ws) =
     if takes_journal name && is_tiles_name w then Some (TilesName 1) else None
 
--- The word at a place, counted from 0.
+-- The argument with this number, counted from 0.
 abbrev pub word : List Text → ℕ → Text
 word ws k = slice_index_or ws k []
 
--- A number that passes a test; else the word of this number is a bad one.
+-- A number that passes a test; else the argument of this number is a bad one.
 abbrev pub ranged : ℕ → (ℕ → Bool) → Option ℕ → Result ℕ WordError
 ranged place test None = Err (BadNumber place)
 ranged place test (Some n) = if test n then Ok n else Err (BadNumber place)
 
--- The number that a word is, where it passes a test.
+-- The number that an argument is, where it passes a test.
 abbrev pub number_word : ℕ → (ℕ → Bool) → Text → Result ℕ WordError
 number_word place test w = ranged place test (number_of w)
 
--- The anchor id with this text; else the word of this number is a bad one.
+-- The anchor id with this text; else the argument of this number is a bad one.
 abbrev pub id_word : ℕ → Text → Result Text WordError
 id_word place w = blamed (BadId place) (anchor_text w)
 
--- The command of this name with its words, of which there are as many as it wants.
+-- The command of this name with its arguments, of which there are as many as it wants.
 abbrev pub command_from : Name → List Text → Result CommandValue WordError
 command_from Member ws = Ok (member (word ws 0))
 command_from Show ws = Ok (show (word ws 0))
@@ -133,18 +133,18 @@ abbrev pub unless_fault : {A : Type 0} → Option WordError → Result A WordErr
 unless_fault (Some fault) wanted = Err fault
 unless_fault None wanted = wanted
 
--- What the words behind a name say. The name of a journal is tested last.
+-- What the arguments after a name say. The name of a journal is tested last.
 abbrev pub command_named : Option Name → List Text → Result CommandValue WordError
 command_named None ws = Err UnknownCommand
 command_named (Some name) ws = unless_fault (word_fault (word_count name) ws)
     (command_from name ws >>= λ command. unless_fault (journal_fault name ws) (Ok command))
 
--- What words say.
+-- What arguments say.
 unfoldable pub command_of : List Text → Result CommandValue WordError
 command_of [] = Err NoCommand
 command_of (w ∷ ws) = command_named (named_command w) ws
 
--- The first word where it is a command, and else no bytes.
+-- The first argument where it is a command, and else no bytes.
 abbrev pub known_word : List Text → Text
 known_word [] = []
 known_word (w ∷ ws) = if is_some (named_command w) then w else []

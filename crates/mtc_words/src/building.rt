@@ -1,4 +1,4 @@
-//! The command of a name, from the words behind it.
+//! The command of a name, from the arguments after it.
 
 ghost use Rattle.std.specs.Prelude.{◌≡◌, ◌<◌, ◌+◌, length, map, string_bytes, IfOk};
 ghost use Rattle.byte_formats.specs.Readings.{Answers};
@@ -18,7 +18,7 @@ use tls_wire::{AnchorError, AnchorId, read_number};
 // The last second of the year 9999.
 const LAST_MOMENT: u64 = 253_402_300_799;
 
-// The word at a place, counted from 0.
+// The argument with this number, counted from 0.
 fn text(words: &[String], at: usize) -> &str
     requires { at < length words.now }
     ensures { result.now ≡ word (map string_bytes words.now) at }
@@ -26,7 +26,7 @@ fn text(words: &[String], at: usize) -> &str
     words[at].as_str()
 }
 
-// The number that this word is, if it is one.
+// The number that this argument is, if it is one.
 fn number_at(words: &[String], at: usize) -> Option<u64>
     requires { at < length words.now }
     ensures { result ≡ number_of (word (map string_bytes words.now) at) }
@@ -56,7 +56,7 @@ fn width(words: &[String], at: usize) -> Result<u64, WordError>
     }
 }
 
-// A moment, up to the end of the year 9999.
+// A time, up to the end of the year 9999.
 fn time(words: &[String], at: usize) -> Result<u64, WordError>
     requires { at < length words.now }
     ensures { result ≡ number_word (at + 1) is_time (word (map string_bytes words.now) at) }
@@ -112,7 +112,7 @@ fn id(alloc: Global, words: &[String], at: usize) -> Result<AnchorId, WordError>
     }
 }
 
-// The words of `init-log`.
+// The arguments of `init-log`.
 fn init_log<'a>(alloc: Global, words: &'a [String]) -> Result<Command<'a>, WordError>
     requires { length words.now ≡ word_count Name.InitLog }
     ensures exact { Answers WordError.Memory
@@ -125,7 +125,7 @@ fn init_log<'a>(alloc: Global, words: &'a [String]) -> Result<Command<'a>, WordE
     Ok(Command::InitLog(text(words, 0), id, active, limit))
 }
 
-// The words of the commands that ask for proofs.
+// The arguments of the commands that ask for proofs.
 fn consist<'a>(words: &'a [String]) -> Result<Command<'a>, WordError>
     requires { length words.now ≡ word_count Name.Consist }
     ensures exact { said result ≡ command_from Name.Consist (map string_bytes words.now) }
@@ -184,7 +184,7 @@ fn light_cert<'a>(words: &'a [String]) -> Result<Command<'a>, WordError>
     Ok(Command::LightCert(text(words, 0), index))
 }
 
-// The words of `init-cosigner`.
+// The arguments of `init-cosigner`.
 fn init_cosigner<'a>(alloc: Global, words: &'a [String]) -> Result<Command<'a>, WordError>
     requires { length words.now ≡ word_count Name.InitCosigner }
     ensures exact { Answers WordError.Memory
@@ -242,7 +242,7 @@ fn drill<'a>(words: &'a [String]) -> Result<Command<'a>, WordError>
     Ok(Command::Drill(number))
 }
 
-// The command of this name with its words, of which there are as many as it wants.
+// The command of this name with its arguments, of which there are as many as it wants.
 pub fn build<'a>(alloc: Global, name: Name, words: &'a [String]) -> Result<Command<'a>, WordError>
     requires { length words.now ≡ word_count name }
     ensures exact { Answers WordError.Memory

@@ -1,16 +1,17 @@
-//! The commands and what their words say.
+//! The commands and what their arguments say.
 
 use tls_wire::AnchorId;
 
-/// A command with its words, in their order: a file word is a text, a number a `u64`, and an id an
-/// anchor id. J is the journal of a log, S that of a cosigner; no journal's name ends in `.tiles`.
+/// A command with its arguments, in their order: the name of a file is a text, a number a `u64`,
+/// and an id an anchor id. J is the journal of a log, S that of a cosigner; no journal's name ends
+/// in `.tiles`.
 #[derive(Debug, Drop)]
 pub enum Command<'a> {
     /// `member FILE`: evaluate the inclusion path that the file holds.
     Member(&'a str),
     /// `show CERT`: print what a certificate says.
     Show(&'a str),
-    /// `verify CERT STORE NOW`: judge a certificate by a store at a moment, in seconds since
+    /// `verify CERT STORE NOW`: judge a certificate by a store at a time, in seconds since
     /// 1970-01-01T00:00:00Z, at most 253402300799.
     Verify(&'a str, &'a str, u64),
     /// `init-log J LOGID MAXACTIVE LIMIT`: make the journal of a log, with 1 to 10,000 active
@@ -34,7 +35,7 @@ pub enum Command<'a> {
     /// for the log of LOGID and with the key of a secret. The height is 5 or 10, the width 1, 2, 4
     /// or 8.
     InitCosigner(&'a str, AnchorId, AnchorId, u64, u64, &'a str),
-    /// `advance S REQUEST`: go on to the size of the log that a request tells.
+    /// `advance S REQUEST`: continue to the size of the log that a request has.
     Advance(&'a str, &'a str),
     /// `cosign S REQUEST`: sign the subtree of a request.
     Cosign(&'a str, &'a str),
@@ -44,18 +45,17 @@ pub enum Command<'a> {
     Landmark(&'a str),
     /// `landmarks J`: write the list of the active landmarks.
     Landmarks(&'a str),
-    /// `light-cert J INDEX`: write the certificate of an entry without signatures, with its place
-    /// in the subtree that an active landmark has for it.
+    /// `light-cert J INDEX`: write the certificate of an entry without signatures, with its path in
+    /// the subtree that an active landmark has for it.
     LightCert(&'a str, u64),
     /// `trust-landmarks LIST MAXACTIVE ENTRIES`: write the tables of a store that trusts the
     /// subtrees of the active landmarks of a list, of which at most 1 to 10,000 may be active.
     TrustLandmarks(&'a str, u64, &'a str),
-    /// `cert J INDEX START END SIGNATURES`: write the certificate of an entry, with its place in
-    /// the subtree from START to END and the cosigners' signatures.
+    /// `cert J INDEX START END SIGNATURES`: write the certificate of an entry, with its path in the
+    /// subtree from START to END and the cosigners' signatures.
     Cert(&'a str, u64, u64, u64, &'a str),
-    /// `audit CERT STORE NOW ENTRIES EXPORT`: judge a certificate by a store at a moment as
-    /// `verify` does, and hold what is accepted against the entries of a log and the export of a
-    /// cosigner.
+    /// `audit CERT STORE NOW ENTRIES EXPORT`: judge a certificate by a store at a time as `verify`
+    /// does, and compare what is accepted with the entries of a log and the export of a cosigner.
     Audit(&'a str, &'a str, u64, &'a str, &'a str),
     /// `drill NUMBER`: play the drill with this number on devices in memory, and print what came of
     /// it.

@@ -1,30 +1,31 @@
-//! Why words are no command.
+//! Why arguments are no command.
 
 use thiserror::Error;
 
-/// Why words are no command. The tests are made in this order. A word's number is counted from 1
-/// behind the command.
+/// Why arguments are no command. The tests are made in this order. The number of an argument is
+/// counted from 1 after the command.
 #[derive(Clone, Copy, Debug, Error, PartialEq, Eq)]
 pub enum WordError {
-    /// There is no word.
+    /// There is no argument.
     #[error("no command")]
     NoCommand,
-    /// The first word is no command.
+    /// The first argument is no command.
     #[error("unknown command")]
     UnknownCommand,
-    /// The word of this number is empty, or begins with a hyphen.
+    /// The argument of this number is empty, or begins with a hyphen.
     #[error("word {0} is empty or begins with a hyphen")]
     BadWord(usize),
-    /// There are more or fewer words behind the command than it wants.
+    /// There are more or fewer arguments after the command than it wants.
     #[error("{have} words where {want} are wanted")]
     WrongCount { have: usize, want: usize },
-    /// The word of this number is no number, or lies outside its range.
+    /// The argument of this number is no number, or lies outside its range.
     #[error("word {0} is no number of its range")]
     BadNumber(usize),
-    /// The word of this number is no anchor id.
+    /// The argument of this number is no anchor id.
     #[error("word {0} is no id")]
     BadId(usize),
-    /// The word of this number is a journal, and ends in `.tiles`, as the name of a tile file does.
+    /// The argument of this number is a journal, and ends in `.tiles`, as the name of a tile file
+    /// does.
     #[error("word {0} is the name of a tile file")]
     TilesName(usize),
     /// Memory was refused.

@@ -1,8 +1,8 @@
-//! The words of a command: which command they name, whether they are in their form, and what they
-//! say.
+//! The arguments of a command: which command they name, whether they are in their form, and what
+//! they say.
 //!
-//! All words are positional, and there are no options. Words outside their form are refused, the
-//! first fault in the order of [`WordError`]'s variants.
+//! All arguments are positional, and there are no options. Arguments outside their form are
+//! refused, the first fault in the order of [`WordError`]'s variants.
 #![tactic(auto)]
 
 mod building;

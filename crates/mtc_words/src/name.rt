@@ -31,7 +31,7 @@ pub enum Name {
     Tile,
 }
 
-// The name that a word is, if it is one.
+// The name that an argument is, if it is one.
 #[tactic(auto, unfolding(crate::specs::Names::named_command))]
 pub fn read_name(word: &str) -> Option<Name>
     ensures { result ≡ named_command word.now }
@@ -81,7 +81,7 @@ fn read_landmark_name(word: &str) -> Option<Name>
     }
 }
 
-// How many words a command wants.
+// How many arguments a command wants.
 pub fn wanted_count(name: Name) -> usize
     ensures { result ≡ word_count name }
 {
@@ -96,7 +96,7 @@ pub fn wanted_count(name: Name) -> usize
     }
 }
 
-// Whether the first word of a command is a journal.
+// Whether the first argument of a command is a journal.
 pub fn takes_journal(name: Name) -> bool
     ensures { result ≡ takes_journal name }
 {

@@ -1,4 +1,4 @@
-//! The command that words name and describe.
+//! The command that arguments name and describe.
 
 ghost use Rattle.std.specs.Prelude.{◌≡◌, length, map, string_bytes, IfNone, IfOk};
 ghost use Rattle.byte_formats.specs.Readings.{Answers};
@@ -19,7 +19,7 @@ fn is_bad(word: &str) -> bool
     matches!(word.as_bytes(), [] | [b'-', ..])
 }
 
-// The number of the first bad word.
+// The number of the first bad argument.
 fn first_bad(words: &[String]) -> Option<usize>
     ensures { result ≡ bad_word 1 (map string_bytes words.now) }
 {
@@ -31,7 +31,7 @@ fn first_bad(words: &[String]) -> Option<usize>
     None
 }
 
-// The fault of the words behind a command that wants so many.
+// The fault of the arguments after a command that wants so many.
 #[tactic(auto, unfolding(crate::specs::Words::word_fault))]
 fn fault(words: &[String], want: usize) -> Option<WordError>
     ensures exact { result ≡ word_fault want (map string_bytes words.now) }
@@ -67,11 +67,11 @@ fn journal_fault(name: Name, words: &[String]) -> Option<WordError>
     }
 }
 
-/// Reads the words of a command. Refuses, the first that holds: `NoCommand`, `UnknownCommand`,
-/// `BadWord` with the number of the first word that is empty or begins with a hyphen, `WrongCount`,
-/// `BadNumber` with the number of the first number word that is none, or lies outside its range,
-/// `BadId` with that of the first id word that is no anchor id, `TilesName` where a journal ends in
-/// `.tiles` (input files may).
+/// Reads the arguments of a command. Refuses, the first that holds: `NoCommand`, `UnknownCommand`,
+/// `BadWord` with the number of the first argument that is empty or begins with a hyphen,
+/// `WrongCount`, `BadNumber` with the number of the first number that is none, or lies outside its
+/// range, `BadId` with that of the first id that is no anchor id, `TilesName` where a journal ends
+/// in `.tiles` (input files may).
 #[tactic(auto, unfolding(crate::specs::Words::command_of))]
 pub fn read_words<'a>(alloc: Global, words: &'a [String]) -> Result<Command<'a>, WordError>
     ensures exact { Answers WordError.Memory
@@ -94,8 +94,8 @@ pub fn read_words<'a>(alloc: Global, words: &'a [String]) -> Result<Command<'a>,
     }
 }
 
-/// The first word where it is a command, and else an empty text: what a line about the command
-/// begins with.
+/// The first argument if it is a command, and else an empty text: a line about the command begins
+/// with it.
 pub fn command_word(words: &[String]) -> &str
     ensures { result.now ≡ known_word (map string_bytes words.now) }
 {
