@@ -1,4 +1,4 @@
-//! The files of the system as a room.
+//! The files of the system as a file system of the program.
 
 ghost use Rattle.std.specs.Prelude.{◌≡◌, ◌+◌, ◌≤◌, ◌<◌, ◌^◌, None, IfOk, IfErr};
 ghost use Rattle.mtc_io.specs.Counts.{Rose, with_count};
@@ -14,9 +14,9 @@ use std::fs;
 use std::io::{self, ErrorKind};
 use std::rt::Files;
 
-/// The files of the system. It tells nothing of them: what a file holds is taken as it comes. A
-/// journal, or the file of its tiles, is lent to this process alone, and its name is on the disk
-/// before it is lent.
+/// The files of the system. The model knows nothing of them: what a file holds is taken as it
+/// comes. A journal, or the file of its tiles, is opened for this process alone, and its name is on
+/// the disk before it is opened.
 #[derive(Drop)]
 pub struct FileRoom<'a, R> {
     files: &'a R,
@@ -25,7 +25,7 @@ pub struct FileRoom<'a, R> {
     cause: Cause,
 }
 
-// What the system says of an error: a lock that isn't to be had at once would block.
+// What the system says of an error: a lock that can't be had at once would block.
 fn cause_of(why: &io::Error) -> Cause {
     if why.kind() == ErrorKind::WouldBlock {
         Cause::Locked
@@ -34,7 +34,7 @@ fn cause_of(why: &io::Error) -> Cause {
     }
 }
 
-// Whether the system has no file of that name, also where the name goes on behind a file.
+// Whether the system has no file of that name, also where the name continues after a file.
 fn is_absent(why: &io::Error) -> bool {
     matches!(why.kind(), ErrorKind::NotFound | ErrorKind::NotADirectory)
 }
@@ -43,7 +43,7 @@ impl<'a, R: Files> FileRoom<'a, R>
 where
     R::File: Held,
 {
-    /// A room with nothing out, and no fault so far.
+    /// A file system with nothing open, and no failure so far.
     pub fn new(files: &'a R) -> FileRoom<'a, R>
         ensures opened { ⟦<FileRoom<'a, R> as Room>⟧.opened result ≡ 0 }
         ensures faults { ⟦<FileRoom<'a, R> as Room>⟧.faults result ≡ 0 }
@@ -56,7 +56,7 @@ where
         }
     }
 
-    // An error of the system that no answer of a room's stands for: a fault.
+    // An error of the system that no other answer of a file system represents: a failure.
     fn fail(&mut self, why: &io::Error) -> RoomError
         ensures error { result ≡ RoomError.Failed }
         ensures opened { self.new.opened ≡ self.old.opened }
@@ -69,7 +69,7 @@ where
         RoomError::Failed
     }
 
-    // Takes an object back that counted so many faults. No lock is the cause of these.
+    // Closes an object that counted so many failures. No lock is the cause of these.
     fn take_back(&mut self, faults: u64)
         requires { 0 < self.old.opened }
         ensures out { self.new.opened + 1 ≡ self.old.opened }
@@ -82,7 +82,7 @@ where
         self.opened -= 1;
     }
 
-    // Lends a journal that this process holds, or counts the fault.
+    // Opens a journal that this process holds, or counts the failure.
     fn open_file(&mut self, held: io::Result<R::File>) -> Result<FileDisk<R::File>, RoomError>
         requires { self.old.opened < 2 ^ 32 }
         ensures opens { Opens self.old.opened self.new.opened

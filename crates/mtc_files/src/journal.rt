@@ -19,17 +19,17 @@ const LAST_STREAM: i32 = 2;
 const LONGEST_NAME: usize = 255;
 
 const TILES_END: usize = ".tiles".len();
-// The first record of a journal begins with its tag, behind the header, a gate and a length. That
-// of a cosigner has a secret in it.
+// The first record of a journal begins with its tag, after the header, a commit byte and a length.
+// That of a cosigner has a secret in it.
 const TAG: usize = HEADER.len() + 5;
 
 const COSIGNER_TAG: u8 = 0x11;
 // So many bytes at the end of a journal are written again at each opening, in pieces: all that a
-// command may have written behind the last sync that answered Ok. Behind that sync it writes one
-// record, and no more where a call fails. No write is longer than a journal's longest, of 131,094
+// command may have written after the last sync that answered Ok. After that sync it writes one
+// record, and no more if a call fails. No write is longer than a journal's longest, of 131,094
 // bytes, which is the first one of a new file. A later record's has at most 131,077, and so far at
-// most the file goes on behind the closed gate: a gate that was just opened stands at most 131,078
-// bytes before the end.
+// most the file continues after the closed commit byte: a commit byte that was just opened stands
+// at most 131,078 bytes before the end.
 const TAIL: u64 = PIECES * PIECE as u64;
 
 const PIECES: u64 = ((LONGEST_WRITE + PIECE - 1) / PIECE) as u64;
@@ -50,7 +50,7 @@ pub fn open_to_write<R: Files>(files: &R, name: &str) -> io::Result<R::File> {
 }
 
 /// Makes the empty file of a new journal. A name that has a file, or a link, is refused, and so is
-/// one that leaves no room for the name of its file of tiles.
+/// one that is too long for the name of its file of tiles.
 pub fn create_journal<R: Files>(files: &R, name: &str) -> io::Result<R::File> {
     if leaves_room_for_tiles(name) {
         return create_empty(files, name);
@@ -119,8 +119,9 @@ where
     }
 }
 
-// Locks a file of tiles that was there. It isn't to begin as a journal: no tile is ever written
-// over one. Who holds a journal is looked at behind that, so that it is told as one.
+// Locks a file of tiles that was there. It must not begin as a journal: no tile is ever written
+// over one. The lock is tried after that test, so that a journal that another process holds is
+// reported as a journal.
 fn hold_old_tiles<R: Files>(files: &R, file: R::File, name: &str) -> io::Result<R::File>
 where
     R::File: Held,
@@ -135,7 +136,7 @@ where
     Ok(file)
 }
 
-// Whether a name leaves room for `.tiles` behind it.
+// Whether a name is short enough that `.tiles` can follow it.
 fn leaves_room_for_tiles(name: &str) -> bool {
     match Path::new(name).file_name() {
         Some(last) => last.len() <= LONGEST_NAME - TILES_END,
@@ -155,8 +156,8 @@ fn create_empty<R: Files>(files: &R, name: &str) -> io::Result<R::File> {
 }
 
 // Locks an open file for this process alone, without waiting. A standard stream that was closed at
-// the start leaves its descriptor to the file that is opened next: what is meant for the stream is
-// not to land in that file.
+// the start leaves its descriptor to the file that is opened next: what is meant for the stream
+// must not land in that file.
 fn lock<F: Held + Drop>(file: F) -> io::Result<F> {
     let file = if file.descriptor() <= LAST_STREAM {
         file.try_clone()?
@@ -173,7 +174,7 @@ fn is_plain(named: &Metadata, open: &Metadata) -> bool {
 }
 
 // What a file of so many bytes is by its first ones. The bytes of a record stand in its file before
-// its gate is opened.
+// its commit byte is opened.
 fn kind_of(file: &impl FileExt, length: u64) -> io::Result<Kind> {
     let mut first = [0; TAG + 1];
     let size = length.min(first.len() as u64) as usize;
@@ -200,8 +201,8 @@ fn refuse_journal(file: &impl FileExt, length: u64) -> io::Result<()> {
 }
 
 // Writes the last bytes of a journal of so many bytes again, as they are read. A system may take a
-// page for written whose sync has failed, and keep it in memory: behind this the next sync has to
-// write it, or fails.
+// page for written whose sync has failed, and retain it in memory: after this call the next sync
+// has to write it, or fails.
 fn write_end_again(file: &impl FileExt, length: u64) -> io::Result<()> {
     let mut place = length.saturating_sub(TAIL);
     let mut piece = [0; PIECE];

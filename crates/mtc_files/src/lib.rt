@@ -1,5 +1,5 @@
-//! The files of the system as a room: what the program reads, makes and locks. And standard error
-//! as a sink for one line.
+//! The files of the system as a file system of the program: what it reads, makes and locks. And
+//! standard error as a sink for one line.
 //!
 //! No clause says which error of the system is `Absent`, `Exists`, `Locked` or `Failed`, nor in
 //! which order files are opened, locked, found by their names, read, written again and synced; nor

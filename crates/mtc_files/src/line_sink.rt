@@ -7,12 +7,12 @@ use mtc_io::{Failed, Sink};
 use std::io::{self, Write};
 
 // So many bytes of a line go out at once: the longest name of a file fits, each of its bytes
-// spelled out.
+// escaped.
 const LONGEST: usize = 5 * 4096;
 
 /// A writer that takes one line. It gathers what it is given, and [`LineSink::finish`] writes that
 /// at once, so that the lines of programs that share a stream aren't mixed: of a line of more than
-/// 20,480 bytes each full 20,480 go out by themselves. It tells nothing of what it took.
+/// 20,480 bytes each full 20,480 go out by themselves. The model doesn't know what it took.
 ///
 /// A control character, from U+0000 to U+001F or from U+007F to U+009F, goes out as `\x` and two
 /// hexadecimal digits for each of its bytes, but for a newline at the end. So a name that stands in
@@ -23,8 +23,8 @@ pub struct LineSink<W> {
     faults: u64,
 }
 
-// What was gathered, with each control character spelled out. A newline waits: it goes out as it is
-// where nothing follows.
+// What was gathered, with each control character escaped. A newline waits: it goes out as it is if
+// nothing follows.
 #[derive(Drop)]
 struct Line<W> {
     writer: W,
@@ -49,7 +49,7 @@ impl<W: Write> Line<W> {
         Ok(())
     }
 
-    // Holds a byte as it is spelled.
+    // Holds a byte in its escaped form.
     fn encode(&mut self, byte: u8) -> io::Result<()> {
         for part in [b'\\', b'x', digit(byte >> 4), digit(byte & 15)] {
             self.hold(part)?;
@@ -103,7 +103,7 @@ fn digit(value: u8) -> u8 {
 }
 
 impl<W: Write> LineSink<W> {
-    /// A sink that has gathered nothing, without a fault so far.
+    /// A sink that has gathered nothing, without a failure so far.
     pub fn new(writer: W) -> LineSink<W>
         ensures faults { ⟦<LineSink<W> as Sink>⟧.faults result ≡ 0 }
     {
@@ -117,7 +117,7 @@ impl<W: Write> LineSink<W> {
         }
     }
 
-    /// Writes what was gathered. An error is told to nobody: there is no other place for the line.
+    /// Writes what was gathered. The call reports no error: there is no other stream for the line.
     pub fn finish(self) -> W {
         let mut line = self.line;
         let _ = line.finish();
