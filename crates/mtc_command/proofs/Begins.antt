@@ -1,4 +1,4 @@
--- A new journal over any room, from the call that makes it to the command.
+-- A new journal over any file system, from the call that makes it to the command.
 use Rattle.std.proofs.Common.{◌≡◌, ◌⊎◌, inl, inr, ℕ, List, codes, Some, ◌∙◌, sym}
 use Rattle.disk_core.specs.declared.disk.Disk.{Ghosts as Disks}
 use Rattle.mtc_room.specs.Room.{Stays}
@@ -61,7 +61,7 @@ module _ {R S D : Type 0} (rooms : Rooms R S D) (g : Disks D) (name : List ℕ) 
       )
   begins_of first text old new ending (inr begun) = inr (first, text, begun)
 
-  -- behind a step that leaves the name's file
+  -- after a step that leaves the name's file
   pub begins_behind : (old mid new : R) (ending : Ending) → NameStays old mid
       → ModelsNew rooms g name mid new ending → ModelsNew rooms g name old new ending
   begins_behind old mid new ending stays (inl not) = inl (

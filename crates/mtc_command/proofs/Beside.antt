@@ -1,4 +1,4 @@
--- A command with a file beside its journal: from the devices that were lent to the room.
+-- A command with a file beside its journal: from the devices that were opened to the file system.
 use Rattle.std.proofs.Common.{◌≡◌, ◌≢◌, ◌≤◌, inl, inr, ℕ, List, [], ◌∷◌, Option, None, Some}
 use Rattle.std.proofs.Common.{IfSome, IsSome, subst, sym, ◌∙◌, ap, refl, arith, codes}
 use Rattle.std.proofs.Common.{length}
@@ -42,7 +42,7 @@ rose_on before count more rose later = elim rose [
   | inr last ↦ inr (omega (arith, last, later))
 ]
 
--- The device of the journal was lent, and then that of its tiles.
+-- The device of the journal was opened, and then that of its tiles.
 module _ {R S D : Type 0} (rooms : Rooms R S D) (g : Ghosts D) (name : List ℕ)
     (old mid both : R) (d e : D) (opened : HasOpened rooms g name old mid d)
     (beside : HasOpenedBeside rooms g (tiles_name name) mid both e) where
@@ -52,7 +52,7 @@ module _ {R S D : Type 0} (rooms : Rooms R S D) (g : Ghosts D) (name : List ℕ)
   held_as None now contents opens kept made = opens.same ∙ made refl
   held_as (Some bytes) now contents opens kept made = opens.same ∙ kept refl
 
-  -- what it tells is what the file held before
+  -- the bytes that it has are what the file held before
   pub held_is : rooms.is_modelled old
       → g.contents e ≡ Some (held_in (rooms.file old (tiles_name name)))
   held_is t =
@@ -69,7 +69,7 @@ module _ {R S D : Type 0} (rooms : Rooms R S D) (g : Ghosts D) (name : List ℕ)
       let other = beside.others name (longer_other name) in
       (other.bytes ∙ (opened.stay name).bytes, other.disk ∙ (opened.stay name).disk)
 
--- the room failed where one of the devices did
+-- the file system failed if one of the devices did
 failed_at : (ending : Ending) (F B Fault : Type 0) (file beside : List ℕ) (files : List (List ℕ))
     → IsNamed files file → IsNamed files beside → (F → Fault) → (B → Fault)
     → FailsAt F file B beside ending → FailedOnly Fault files ending
@@ -87,7 +87,7 @@ if_tells Models (replied reply) P is = is
 if_tells Models (room_failed file) P is = tt
 if_tells Models no_memory P is = tt
 
--- Both devices were worked on and given back, that of the journal last.
+-- Both devices were worked on and closed, that of the journal last.
 module _ {R S D : Type 0} (rooms : Rooms R S D) (g : Ghosts D) (name : List ℕ)
     (files : List (List ℕ)) (says : List ℕ → List ℕ → Outcome) (old mid both kept new : R)
     (d d' e e' : D) (ending : Ending) (opened : HasOpened rooms g name old mid d)
@@ -207,7 +207,7 @@ module _ {R S D : Type 0} (rooms : Rooms R S D) (g : Ghosts D) (name : List ℕ)
     tt,
   )
 
--- what was looked at, or had no call
+-- what was read, or had no call
 pub only_reads_of : {D : Type 0} (g : Ghosts D) (old new : D) → OnlyNow g → ReadsAtMost g old new
     → OnlyReads g old new
 only_reads_of g old new only_now only = elim only [
@@ -215,7 +215,7 @@ only_reads_of g old new only_now only = elim only [
   | inr only_reads ↦ only_reads
 ]
 
--- The device of the tiles was only looked at.
+-- The device of the tiles was only read.
 module _ {R S D : Type 0} (rooms : Rooms R S D) (g : Ghosts D) where
   abbrev pub ModelsAll : Type 0
   ModelsAll = (m : R) (name : List ℕ) → rooms.is_modelled m
@@ -284,7 +284,7 @@ module _ {R S D : Type 0} (rooms : Rooms R S D) (g : Ghosts D) where
         → OnlyReadsBeside rooms g old new (tiles_name name)
     only_read_tiled all only_reads = λ t. only_read_at all only_reads t (rooms.file old beside) refl
 
--- The room failed at the tiles, and the device of the journal was only read and closed.
+-- The file system failed at the tiles, and the device of the journal was only read and closed.
 module _ {R S D : Type 0} (rooms : Rooms R S D) (g : Ghosts D) (name : List ℕ)
     (old mid both new : R) (d d' : D) (opened : HasOpened rooms g name old mid d)
     (failed : HasFailedBeside rooms (tiles_name name) mid both)

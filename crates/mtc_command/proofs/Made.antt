@@ -1,5 +1,5 @@
--- What a command leaves of its journal: from the device as it was opened to the device before, and
--- from the lent device to the room's.
+-- What a command leaves of its journal: from the device before its journal was opened, and to the
+-- device of the file system.
 use Rattle.std.proofs.Common.{◌≡◌, inl, inr, ℕ, ◌≤◌, List, Option, None, Some, sym, subst, arith}
 use Rattle.std.specs.Option.{IsSomeAnd}
 use Rattle.disk_core.specs.Moments.{LeavesOnly, OnlyReads}
@@ -15,14 +15,15 @@ use Rattle.mtc_command.specs.Endings.{LeftBy, AddsBy}
 use Rattle.disk_core.proofs.Moments.{only_read_on}
 
 module _ {D : Type 0} (g : Ghosts D) where
-  -- what a disk tells is an image; and of this moment there are only the images of now
+  -- the bytes of a disk that the model knows are a crash state; and of this time there are only the
+  -- crash states of now
   abbrev pub ReadsImage : Type 0
   ReadsImage = (d : D) (b : List ℕ) → g.contents d ≡ Some b → g.may_leave d b
 
   abbrev pub OnlyNow : Type 0
   OnlyNow = (d : D) (c : List ℕ) → g.left_since d (g.moment d) c → g.may_leave d c
 
-  -- a look leaves nothing new
+  -- a read leaves nothing new
   pub kept_of : (old mid : D) (did : Journaled) → OnlyReads g old mid
       → Leaves g (HasKept did) (Some old) (Some mid)
   kept_of old mid did only_reads = record {
@@ -39,7 +40,7 @@ module _ {D : Type 0} (g : Ghosts D) where
     stands = is.stands;
   }
 
-  -- the images behind an opening and an append, seen from the device before
+  -- the crash states after an opening and an append, seen from the device before
   has_added : (old mid new : D) (list : List (List ℕ)) (body : List ℕ) (Now : CrashStates)
       → ReadsImage → OnlyReads g old mid → IsOpen g mid list
       → LeavesOnly g mid new (RepresentsEither list body)
@@ -59,7 +60,7 @@ module _ {D : Type 0} (g : Ghosts D) where
       → g.moment old ≤ g.moment new
   later_still old mid new P only_reads run = omega (arith, only_reads.moments.later, run.later)
 
-  -- what was only looked at
+  -- what was only read
   pub only_read : (old mid new : D) → OnlyReads g old mid → ReadsAtMost g mid new
       → OnlyReads g old new
   only_read old mid new only_reads only = elim only [
@@ -74,7 +75,7 @@ module _ {D : Type 0} (g : Ghosts D) where
     | inr more ↦ λ c left. is.all c (more.crash c left)
   ]
 
-  -- what the work behind an opening has made
+  -- what the work after an opening has made
   has_made : (old mid new : D) (did : Journaled) → ReadsImage
       → OnlyReads g old mid → Adds g did mid new → Leaves g (HasMade did) (Some old) (Some new)
   has_made old mid new untouched image only_reads made = absurd made
@@ -117,7 +118,7 @@ module _ {D : Type 0} (g : Ghosts D) where
   worked old mid new no_memory did image only_reads made =
       kept_of old new did (only_read old mid new only_reads made)
 
--- Nothing new is left also by a command that a fault has ended.
+-- Nothing new is left also by a command that a failure has ended.
 pub may_kept : (did : Journaled) (before now since : CrashStates) → Kept before now since
     → MayHaveMade did before now since
 may_kept untouched before now since kept = kept
@@ -154,7 +155,7 @@ module _ {D : Type 0} (g : Ghosts D) where
   still x y did only_now same =
       subst (λ z. Leaves g (HasKept did) x z) (sym same) (still_at x did only_now)
 
--- Images may be exchanged: those before for more, those now and since for fewer.
+-- Crash states may be exchanged: those before for more, those now and since for fewer.
 record Wider (before before' now now' since since' : CrashStates) : Type 0 where
   pub from_before : (c : List ℕ) → before c → before' c
   pub to_now : (c : List ℕ) → now' c → now c
@@ -204,7 +205,7 @@ module _ (b b' n n' s s' : CrashStates) (w : Wider b b' n n' s s') where
   ]
   may_through (started body) k = tt
 
--- a device d was lent as a copy of x's, and e was put back as z's
+-- a device d was opened as a copy of x's, and e was closed as z's
 module _ {D : Type 0} (g : Ghosts D) where
   abbrev pub Opened : Option D → D → Type 0
   Opened x d = IsSomeAnd x (λ a. SameDevice g a d)

@@ -1,4 +1,4 @@
--- What holds of each journal that a command works on, and of a command behind what it has read.
+-- What holds of each journal that a command works on, and of a command after what it has read.
 use Rattle.std.proofs.Common.{◌≡◌, ◌≢◌, ◌≤◌, inl, inr, ℕ, List, [], ◌∷◌, ◌++◌, refl, sym, subst, ap}
 use Rattle.std.proofs.Common.{◌∙◌}
 use Rattle.std.proofs.Common.{arith}
@@ -112,7 +112,7 @@ module _ {R S D : Type 0} (rooms : Rooms R S D) (disks : Disks D) where
     made = done.made;
   }
 
-  -- A command that has given back what it read does the rest of its work.
+  -- A command that has closed what it read does the rest of its work.
   module _ (files files' names besides : List (List ℕ)) (wanted wanted' : Outcome) (old mid new : R)
       (ending : Ending) (read : ClosesAll rooms old mid []) where
     made_behind : rooms.is_modelled old → wanted' ≡ wanted
@@ -161,7 +161,7 @@ module _ {R S D : Type 0} (rooms : Rooms R S D) (disks : Disks D) where
       made = λ t. made_behind t (same t) (done.made (read.is_modelled t));
     }
 
-  -- A command that has given back what it read ends, and opens no journal.
+  -- A command that has closed what it read ends, and opens no journal.
   module _ (files names besides : List (List ℕ)) (wanted : Outcome) (old new : R)
       (read : ClosesAll rooms old new []) (only_now : OnlyNow disks) where
     alone : (ending : Ending) (name : List ℕ) (did : Journaled)

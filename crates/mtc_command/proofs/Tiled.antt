@@ -1,5 +1,5 @@
--- The work on the devices of a journal and of its tiles: from the devices as they were opened to
--- those that were lent.
+-- The work on the devices of a journal and of its tiles: from the devices after the journal was
+-- opened to those that the file system opened.
 use Rattle.std.proofs.Common.{◌≡◌, ◌≤◌, inl, inr, ℕ, List, [], ◌∷◌, Option, None, Some}
 use Rattle.std.proofs.Common.{IfSome, option_map, subst, arith}
 use Rattle.std.specs.Prelude.{option_and_then}
@@ -59,7 +59,7 @@ module _ {D : Type 0} (g : Ghosts D) (name : List ℕ) (list : Option (List (Lis
     adds = work.adds;
   }
 
-  -- the records are known where the device of the tiles tells its bytes, and perhaps where not
+  -- the records are known if the model knows the bytes of the disk of the tiles, and perhaps if not
   less : (P : List (List ℕ) → Type 0) (contents : Option (List ℕ)) → IfSome list P
       → IfSome (option_and_then (λ bytes. list) contents) P
   less P None is = tt
@@ -81,7 +81,7 @@ module _ {D : Type 0} (g : Ghosts D) (name : List ℕ) (list : Option (List (Lis
   reads_by (room_failed file) records reply only opened = (opened, only)
   reads_by no_memory records reply only opened = only
 
-  -- both devices were only looked at
+  -- both devices were only read
   pub read_tiled : (reply_by : List (List ℕ) → Reply) (ending : Ending) → ReadsAtMost g mid new
       → HasFinishedTiled g name mid new tiles tiles' ending
       → IfReply ending (λ reply. IfSome list (λ records. reply ≡ reply_by records))
@@ -93,7 +93,7 @@ module _ {D : Type 0} (g : Ghosts D) (name : List ℕ) (list : Option (List (Lis
     adds = each_some list _ (λ records. reads_by ending records (reply_by records) only);
   }
 
--- The devices were opened, which only looked at them.
+-- The log was opened, which only read the devices.
 module _ {D : Type 0} (g : Ghosts D) (name : List ℕ) (says : List ℕ → List ℕ → Outcome)
     (next : List (List ℕ) → Outcome) (old mid new : D) (tiles tiles_mid tiles' : D)
     (ending : Ending) where
@@ -116,7 +116,7 @@ module _ {D : Type 0} (g : Ghosts D) (name : List ℕ) (says : List ℕ → List
       (subst (λ (o : Option (List ℕ)). IfSome (option_and_then (λ bytes. list) o)
       (λ l. IsOpen g mid l → AddsBy g ending (journaled_by (next l)) mid new)) is work.adds)
 
-  -- the work behind the opening is work on the devices that were lent
+  -- the work after the opening is work on the devices that the file system opened
   pub tiled_on : ReadsImage g → OnlyReads g old mid → g.faults mid ≡ g.faults old
       → OnlyReads g tiles tiles_mid → g.faults tiles_mid ≡ g.faults tiles
       → IfSome (g.contents tiles) (λ held. IfSome (g.contents old) (λ b.
@@ -138,7 +138,7 @@ module _ {D : Type 0} (g : Ghosts D) (name : List ℕ) (says : List ℕ → List
         work;
   }
 
--- where a record was added, it keeps to the rules
+-- where a record was added, it follows the rules
 pub valid_tiled_on : {D : Type 0} (g : Ghosts D) (Valid : List (List ℕ) → Type 0) (name : List ℕ)
     (says : List ℕ → List ℕ → Outcome) (next : List (List ℕ) → Outcome) (old mid new : D)
     (contents : Option (List ℕ)) → OnlyReads g old mid
@@ -152,7 +152,7 @@ valid_tiled_on g Valid name says next old mid new None only_reads found stands a
 valid_tiled_on g Valid name says next old mid new (Some held) only_reads found stands all valid =
     valid_on g Valid name (λ b. says b held) next old mid new only_reads found stands all valid
 
--- The opening was refused, and both devices were only looked at.
+-- The opening was refused, and both devices were only read.
 module _ {D : Type 0} (g : Ghosts D) (name : List ℕ) (says : List ℕ → List ℕ → Outcome)
     (old new tiles tiles' : D) (only_reads : OnlyReads g old new) where
   early_at : (held : Option (List ℕ)) (ending : Ending)

@@ -1,4 +1,4 @@
--- A command's record keeps to the rules of its node, from the open device to the room.
+-- A command's record follows the rules of its party, from the open device to the file system.
 use Rattle.std.proofs.Common.{◌≡◌, inl, inr, ℕ, List, [], ◌∷◌, Option, None, Some}
 use Rattle.std.proofs.Common.{arith, IfSome, IsSome, option_map, subst, sym, refl, ap, ◌∙◌}
 use Rattle.std.specs.Option.{IsSomeAnd}
@@ -20,7 +20,8 @@ use Rattle.mtc_command.proofs.Made.{OnlyNow, kept_of, left_opened, only_read, st
 use Rattle.mtc_command.proofs.Served.{each_is, each_so}
 use Rattle.mtc_command.proofs.Works.{of_bytes, opened_at}
 
--- a device that was lent and put back tells what it told, where the one that was worked on does
+-- the model knows what a device that was opened and closed holds, if it knows that of the one that
+-- was worked on
 pub contents_opened : {D : Type 0} (g : Disks D) (x y : Option D) (d e : D)
     → IsSomeAnd x (λ a. SameDevice g a d) → IsSomeAnd y (λ b. SameDevice g e b)
     → g.contents e ≡ g.contents d → device_contents g y ≡ device_contents g x
@@ -28,7 +29,7 @@ contents_opened g None y d e opened put same = absurd opened
 contents_opened g (Some a) None d e opened put same = absurd put
 contents_opened g (Some a) (Some b) d e opened put same = put.reads ∙ same ∙ opened.reads
 
--- the work behind an opening is work on the device that was lent
+-- the work after an opening is work on the device that was opened
 module _ {D : Type 0} (g : Disks D) (Valid : List (List ℕ) → Type 0) (name : List ℕ)
     (says : List ℕ → Outcome) (next : List (List ℕ) → Outcome) (old mid new : D) where
   pub valid_on : OnlyReads g old mid
@@ -58,7 +59,7 @@ gives_same rooms old = record {
 
 module _ {R S D : Type 0} (rooms : Rooms R S D) (disks : Disks D)
     (Valid : List (List ℕ) → Type 0) where
-  -- a journal was lent, worked on and given back
+  -- a journal was opened, worked on and closed
   pub served_valid : (name : List ℕ) (says : List ℕ → Outcome) (old mid new : R) (d e : D)
       → HasOpened rooms disks name old mid d → ServesValidly disks Valid says d e
       → HasClosed rooms disks name mid new e
@@ -80,7 +81,7 @@ module _ {R S D : Type 0} (rooms : Rooms R S D) (disks : Disks D)
     tt,
   )
 
-  -- what was read was given back, and nothing else was done
+  -- what was read was closed, and nothing else was done
   pub kept_valid : (names : List (List ℕ)) (wanted : Outcome) (old new : R)
       → ClosesAll rooms old new [] → OnlyNow disks
       → KeepsValid rooms disks Valid names wanted old new
@@ -98,7 +99,7 @@ module _ {R S D : Type 0} (rooms : Rooms R S D) (disks : Disks D)
   same_valid names wanted old only_now =
       kept_valid names wanted old old (gives_same rooms old) only_now
 
-  -- what was read was given back, and then comes the rest of the command
+  -- what was read was closed, and then comes the rest of the command
   pub behind_valid : (names : List (List ℕ)) (wanted wanted' : Outcome) (old mid new : R)
       → ClosesAll rooms old mid [] → (rooms.is_modelled old → wanted' ≡ wanted)
       → KeepsValid rooms disks Valid names wanted' mid new

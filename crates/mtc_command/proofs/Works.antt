@@ -1,5 +1,5 @@
--- The work on a journal's device: from the device as it was opened to the one that was lent, and
--- from that to the room.
+-- The work on a journal's device: from the device after the journal was opened to the one that the
+-- file system opened, and from that to the file system.
 use Rattle.std.proofs.Common.{◌≡◌, ◌≤◌, inl, inr, ℕ, List, [], ◌∷◌, ◌++◌, Option, None}
 use Rattle.std.proofs.Common.{Some}
 use Rattle.std.proofs.Common.{IfSome, IsSome, option_map, subst, sym, ◌∙◌, ap, refl, arith, rules}
@@ -103,7 +103,7 @@ module _ {D : Type 0} (g : Ghosts D) (name : List ℕ) (list : Option (List (Lis
         subst (λ o. AddsBy g ending (journaled_by o) mid new) equal (adds opened));
   }
 
--- The device was opened, which only looked at it: mid, where its records were found.
+-- The journal was opened, which only read the device: mid, where its records were found.
 module _ {D : Type 0} (g : Ghosts D) (name : List ℕ) (says : List ℕ → Outcome)
     (next : List (List ℕ) → Outcome) (old mid new : D) where
   pub opened_at : (P : Outcome → Type 0) (contents x : Option (List ℕ)) → g.contents mid ≡ x
@@ -130,7 +130,7 @@ module _ {D : Type 0} (g : Ghosts D) (name : List ℕ) (says : List ℕ → Outc
   no_early (room_failed file) adds = tt
   no_early no_memory adds = tt
 
-  -- the work behind an opening has given what work on the device that was lent gives
+  -- the work after an opening has given what work on the device that was opened gives
   pub given_on : (ending : Ending) → ReadsImage g → OnlyReads g old mid
       → IfSome (g.contents old) (λ b. IfSome list (λ l. says b ≡ next l))
       → IfSome (g.contents mid) (λ b. IfSome list (Represents b))
@@ -171,7 +171,7 @@ module _ {D : Type 0} (g : Ghosts D) (name : List ℕ) (says : List ℕ → Outc
     early = (given_on ending image only_reads found stands all work.reply work.adds).early;
   }
 
--- The opening was refused, and the device was only looked at.
+-- The opening was refused, and the device was only read.
 module _ {D : Type 0} (g : Ghosts D) (says : List ℕ → Outcome) (old new : D)
     (only_reads : OnlyReads g old new) where
   kept : (ending : Ending) (did : Journaled) → IfReply ending (λ reply. did ≡ untouched)
@@ -213,7 +213,7 @@ not_opened g name says old new only_reads ending ends early is =
 pub rose_with : (before count : ℕ) → Rose 0 count → Rose before (with_count before count)
 rose_with before count rose = search rules
 
--- a fact of the bytes that were lent is one of the file
+-- a fact of the bytes that were opened is one of the file
 pub of_bytes : (P : Outcome → Type 0) (name : List ℕ) (file contents : Option (List ℕ))
     (says : List ℕ → Outcome) → OpensBytes file contents
     → IfSome contents (λ bytes. P (says bytes)) → P (with_file name file says)
@@ -242,7 +242,7 @@ module _ {R S D : Type 0} (rooms : Rooms R S D) (g : Ghosts D) (name : List ℕ)
         | inr never ↦ absurd never
       ])
 
-  -- a journal was lent, worked on and given back
+  -- a journal was opened, worked on and closed
   pub served : HasOpened rooms g name old mid d → HasWorkedOn g name says d e ending
       → HasClosed rooms g name mid new e → IsNamed files name
       → HasServed rooms g files name wanted old new ending

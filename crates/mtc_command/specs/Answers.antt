@@ -32,7 +32,7 @@ pub data Reply : Type 0 where
 -- How a command ends.
 pub data Ending : Type 0 where
   replied : Reply → Ending
-  -- The room, or an object that it lent, failed at this file.
+  -- The file system, or an object that it opened, failed at this file.
   room_failed : Text → Ending
   -- Memory was refused.
   no_memory : Ending
@@ -61,7 +61,7 @@ abbrev pub out_of : Reply → Text
 out_of (said status text) = text
 out_of (refused why file reason) = []
 
--- What goes to standard error, where the words begin with this command.
+-- What goes to standard error, where the arguments begin with this command.
 abbrev pub err_of : Text → Reply → Text
 err_of command (said status text) = []
 err_of command (refused why file reason) = line_of command file reason
@@ -71,13 +71,13 @@ abbrev pub IsEarly : ℕ → Type 0
 IsEarly status =
     (status ≡ 1) ⊎ ((status ≡ 2) ⊎ ((status ≡ 5) ⊎ ((status ≡ 7) ⊎ ((status ≡ 8) ⊎ (status ≡ 9)))))
 
--- It is so of the reply, where there is one.
+-- This holds of the reply, if there is one.
 abbrev pub IfReply : Ending → (Reply → Type 0) → Type 0
 IfReply (replied reply) P = P reply
 IfReply (room_failed file) P = Unit {0}
 IfReply no_memory P = Unit {0}
 
--- The text of a reason: its name, and what stands behind it.
+-- The text of a reason: its name, and what follows it.
 abbrev pub more_text : More → Text
 more_text Nothing = []
 more_text (Name name) = codes " " ++ name.now
@@ -93,7 +93,7 @@ reason_text reason = reason.name.now ++ more_text reason.more
 abbrev pub tiles_name : Text → Text
 tiles_name journal = journal ++ codes ".tiles"
 
--- The refusal of the tiles of a journal, by the level and the place of the first one that the file
+-- The refusal of the tiles of a journal, by the level and the index of the first one that the file
 -- has not.
 abbrev pub bad_tile_text : ℕ → ℕ → Text
 bad_tile_text level place = codes "BadTile " ++ (decimal level ++ (codes " " ++ decimal place))

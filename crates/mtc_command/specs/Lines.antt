@@ -5,11 +5,11 @@ use Rattle.std.specs.Io.KnownBytes.{Appends}
 use Rattle.byte_formats.specs.Types.{Text}
 use Rattle.mtc_io.specs.Streams.{AppendsPrefix}
 
--- A text behind a command and a colon, where the command is known.
+-- A text after a command and a colon, if the command is known.
 abbrev pub of_command : Text → Text → Text
 of_command command text = if length command == 0 then text else command ++ (codes ": " ++ text)
 
--- A text behind a file and a colon, where it is one about a file.
+-- A text after a file and a colon, if it is one about a file.
 abbrev pub of_file : Option Text → Text → Text
 of_file None text = text
 of_file (Some file) text = file ++ (codes ": " ++ text)

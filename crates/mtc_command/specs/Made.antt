@@ -1,5 +1,5 @@
--- What a command leaves of its journal: the images that a crash may leave of it now, and since the
--- call began.
+-- What a command leaves of its journal: the crash states that a crash may leave of it now, and
+-- since the call began.
 use Rattle.std.specs.Prelude.{◌≡◌, ◌⊎◌, ◌≤◌, List, [], ◌∷◌, ◌++◌, Option, None, Some}
 use Rattle.byte_formats.specs.Types.{Text}
 use Rattle.disk_core.specs.Moments.{LeavesOnly, OnlyReads}
@@ -17,7 +17,7 @@ IsOnOld (reads list) = Unit {0}
 IsOnOld (appended list body) = Unit {0}
 IsOnOld (started body) = ⊥
 
--- What is said of the images before a call, of those now, and of those at any moment since it
+-- What is said of the crash states before a call, of those now, and of those at any time since it
 -- began.
 abbrev pub Leaving : Type 1
 Leaving = CrashStates → CrashStates → CrashStates → Type 0
@@ -27,16 +27,16 @@ abbrev pub device_contents : {D : Type 0} → Ghosts D → Option D → Option T
 device_contents g None = None
 device_contents g (Some d) = g.contents d
 
--- Nothing new is left: each image, now and since the call began, is one from before.
+-- Nothing new is left: each crash state, now and since the call began, is one from before.
 pub record Kept (before now since : CrashStates) : Type 0 where
   pub now_is : (c : Text) → now c → before c
   pub since_is : (c : Text) → since c → before c
 
--- So it is of each command that wanted memory.
+-- This holds of each command that ran out of memory.
 abbrev pub HasKept : Journaled → Leaving
 HasKept did before now since = Kept before now since
 
--- What was read is an image from before, and stands for these records.
+-- What was read is a crash state from before, and represents these records.
 pub record WasRead (before : CrashStates) (list : List Text) : Type 0 where
   pub bytes : Text
   pub image : before bytes
@@ -48,15 +48,16 @@ pub record WasOpened (list : List Text) (before now since : CrashStates) : Type 
   pub now_is : (c : Text) → now c → Represents c list
   pub since_is : (c : Text) → since c → before c
 
--- One record is added behind those that were read. Each image now is one of these: one with the new
--- record, or where a fault came between, one with it or without it.
+-- One record is added after those that were read. Each crash state now is one of these: one with
+-- the new record, or if a failure came between, one with it or without it.
 pub record HasAdded (list : List Text) (body : Text)
     (Now before now since : CrashStates) : Type 0 where
   pub read : WasRead before list
   pub now_is : (c : Text) → now c → Now c
   pub since_is : (c : Text) → since c → before c ⊎ RepresentsEither list body c
 
--- What a command has left of its journal that ends without a fault of the room or want of memory.
+-- What a command has left of its journal that ends neither because the file system failed nor
+-- because memory ran out.
 abbrev pub HasMade : Journaled → Leaving
 HasMade untouched before now since = Kept before now since
 HasMade (reads list) before now since = WasOpened list before now since
@@ -64,7 +65,7 @@ HasMade (appended list body) before now since =
     HasAdded list body (λ c. Represents c (list ++ body ∷ [])) before now since
 HasMade (started body) before now since = (c : Text) → now c → Represents c (body ∷ [])
 
--- And one that a fault of the room has ended.
+-- And one that a failure of the file system has ended.
 abbrev pub MayHaveMade : Journaled → Leaving
 MayHaveMade untouched before now since = Kept before now since
 MayHaveMade (reads list) before now since = Kept before now since
@@ -74,18 +75,18 @@ MayHaveMade (started body) before now since = Unit {0}
 
 -- The same over a device as it was opened and as it is afterwards.
 module _ {D : Type 0} (g : Ghosts D) where
-  -- It was opened and stands for these records.
+  -- It was opened and represents these records.
   pub record IsOpen (mid : D) (list : List Text) : Type 0 where
     pub bytes : Text
     pub contents : g.contents mid ≡ Some bytes
     pub stands : Represents bytes list
     pub all : AllRepresent g mid list
 
-  -- The work looked at the device, or made no call of it.
+  -- The work read the device, or made no call of it.
   abbrev pub ReadsAtMost : D → D → Type 0
   ReadsAtMost mid new = (new ≡ mid) ⊎ OnlyReads g mid new
 
-  -- What the work behind the opening makes of the device, and what it may where the device failed.
+  -- What the work after the opening makes of the device, and what it may if the device failed.
   abbrev pub Adds : Journaled → D → D → Type 0
   Adds untouched mid new = ⊥
   Adds (reads list) mid new = IsOpen mid list × ReadsAtMost mid new
@@ -102,7 +103,7 @@ module _ {D : Type 0} (g : Ghosts D) where
       × ((c : Text) → g.may_leave new c → RepresentsEither list body c)
   MayAdd (started body) mid new = ⊥
 
--- From one device of a name to a later one moments don't fall, and the images are so.
+-- From one device of a name to a later one times don't fall, and the crash states are so.
 pub record Leaves {D : Type 0} (g : Ghosts D) (How : Leaving) (old new : Option D) : Type 0 where
   pub later : clock_of g old ≤ clock_of g new
   pub images : How (states_at g old) (states_at g new) (states_since g new (clock_of g old))

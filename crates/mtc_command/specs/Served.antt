@@ -1,4 +1,4 @@
--- What a command leaves of a room, and how it ends.
+-- What a command leaves of a file system, and how it ends.
 use Rattle.std.specs.Prelude.{◌≡◌, ◌≢◌, ◌≤◌, List, [], ◌∷◌, ◌++◌, None}
 use Rattle.byte_formats.specs.Types.{Text}
 use Rattle.disk_core.specs.declared.disk.Disk.{Ghosts as Disks}
@@ -12,7 +12,7 @@ use Rattle.mtc_command.specs.Endings.{FailedOnly, LeftBy, RepliesToBadWords}
 use Rattle.mtc_command.specs.Steps.{Outcome}
 use Rattle.mtc_command.specs.Wanted.{Meets}
 
--- It is so of each of them.
+-- This holds of each of them.
 abbrev pub OfEach : (Text → Journaled → Type 0) → Journals → Type 0
 OfEach P [] = Unit {0}
 OfEach P (journal ∷ rest) = P journal.0 journal.1 × OfEach P rest
@@ -37,8 +37,8 @@ IsOther [] name = Unit {0}
 IsOther (other ∷ others) name = (name ≢ other) × IsOther others name
 
 module _ {R S D : Type 0} (rooms : Rooms R S D) (old new : R) where
-  -- All that was lent is given back, the room's count of faults hasn't fallen, and each file that
-  -- has none of these names stays.
+  -- All that was opened is closed, the file system's count of failures has not fallen, and each
+  -- file that has none of these names stays.
   pub record ClosesAll (names : List Text) : Type 0 where
     pub opened : rooms.opened new ≡ rooms.opened old
     pub later : rooms.faults old ≤ rooms.faults new
@@ -57,8 +57,8 @@ module _ {R S D : Type 0} (rooms : Rooms R S D) (disks : Disks D) (old new : R) 
       OfEach (λ name did. Leaves disks (How did) (rooms.device old name) (rooms.device new name))
       journals
 
-  -- This file is no journal, and was only looked at: where the room tells its files a crash leaves
-  -- nothing new of it. It may be made, with nothing in it.
+  -- This file is no journal, and was only read: if the model knows the files, a crash leaves
+  -- nothing new of it. It may be created empty.
   abbrev pub OnlyReadsBeside : Text → Type 0
   OnlyReadsBeside beside = rooms.is_modelled old
       → Leaves disks (HasKept untouched) (rooms.device old beside) (rooms.device new beside)
@@ -70,8 +70,8 @@ module _ {R S D : Type 0} (rooms : Rooms R S D) (disks : Disks D) (old new : R) 
     pub left : LeavesEach journals (LeftBy ending)
 
 -- A command that has to give this outcome, names these files, and works on these journals ended so.
--- Where the room tells its files the reply is the one that is wanted, and one before which a
--- journal wasn't opened has one of the early statuses. Bad says that the words are no command.
+-- If the model knows the files, the reply is the one that is wanted, and one before which a journal
+-- wasn't opened has one of the early statuses. Bad says that the arguments are no command.
 pub record EndsAs (Models Fault Bad : Type 0) (files : List Text) (journals : Journals)
     (wanted : Outcome) (ending : Ending) : Type 0 where
   pub reply : IfReply ending (λ reply. Models → Meets wanted.answer reply)
@@ -84,8 +84,8 @@ pub record EndsAs (Models Fault Bad : Type 0) (files : List Text) (journals : Jo
 module _ {R S D : Type 0} (rooms : Rooms R S D) (disks : Disks D) (Bad : Type 0)
     (files names besides : List Text) (wanted : Outcome) (old new : R) where
   -- A command that names these files, works on the journals of these names and has to give that
-  -- outcome left the room so, and ended so. The files beside its journals are no journals, and may
-  -- be made and changed.
+  -- outcome left the file system so, and ended so. The files beside its journals are no journals,
+  -- and may be made and changed.
   pub record HasDone (ending : Ending) : Type 0 where
     pub back : ClosesAll rooms old new (besides ++ names)
     pub ends : EndsAs (rooms.is_modelled old) (Rose (rooms.faults old) (rooms.faults new)) Bad files

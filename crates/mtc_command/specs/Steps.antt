@@ -11,7 +11,7 @@ use Rattle.mtc_command.specs.declared.answer.Stopped.{Stopped}
 use Rattle.mtc_command.specs.declared.answer.Stopped.TheVariants.{BadForm, Missing, Beyond}
 
 -- What a command has to reply, and what it does with each of its journals, in the order in which
--- the command names them. Where the list has none for it, it isn't opened.
+-- the command names them. It isn't opened if the list has none for it.
 pub record Outcome : Type 0 where
   pub answer : Wanted
   pub journals : List Journaled
@@ -35,7 +35,7 @@ stops why reason = answers (refused why None reason)
 abbrev pub stops_at : Stopped → Text → Text → Outcome
 stops_at why file reason = answers (refused why (Some file) reason)
 
--- The same behind the opening of a journal, where these records were found.
+-- The same after the opening of a journal, where these records were found.
 abbrev pub answers_on : List Text → Reply → Outcome
 answers_on list reply = record { answer = exactly reply; journals = reads list ∷ [] }
 

@@ -1,4 +1,4 @@
--- The records that a command adds to a journal, by the rules of its node.
+-- The records that a command adds to a journal, by the rules of its party.
 use Rattle.std.specs.Prelude.{◌≡◌, ◌⊎◌, List, [], ◌∷◌, ◌++◌, Option, IfSome}
 use Rattle.byte_formats.specs.Types.{Text}
 use Rattle.disk_core.specs.Moments.{OnlyReads}
@@ -10,7 +10,7 @@ use Rattle.mtc_command.specs.Served.{OfEach, done_with}
 use Rattle.mtc_command.specs.Steps.{Outcome}
 use Rattle.mtc_command.specs.Works.{journaled_by}
 
--- The records with the one that is added, or the first one of a new journal, keep to these rules.
+-- The records with the one that is added, or the first one of a new journal, follow these rules.
 abbrev pub AddsValid : (List Text → Type 0) → Journaled → Type 0
 AddsValid Valid untouched = Unit {0}
 AddsValid Valid (reads list) = Unit {0}
@@ -19,7 +19,7 @@ AddsValid Valid (started body) = Valid (body ∷ [])
 
 module _ {R S D : Type 0} (rooms : Rooms R S D) (disks : Disks D)
     (Valid : List Text → Type 0) where
-  -- Nothing new is left of a journal, and it reads as before; or a record that keeps to the rules.
+  -- Nothing new is left of a journal, and it reads as before; or a record that follows the rules.
   abbrev pub LeavesValid : R → R → Text → Journaled → Type 0
   LeavesValid old new name did =
       (Leaves disks (HasKept did) (rooms.device old name) (rooms.device new name)
@@ -34,13 +34,13 @@ module _ {R S D : Type 0} (rooms : Rooms R S D) (disks : Disks D)
 
 module _ {D : Type 0} (g : Disks D)
     (Valid : List Text → Type 0) where
-  -- The work on an open device, where these records were found, only looked at it, or its record
-  -- keeps to the rules.
+  -- The work on an open device, where these records were found, only read it, or its record follows
+  -- the rules.
   abbrev pub WorksValidly : Option (List Text) → (List Text → Outcome) → D → D → Type 0
   WorksValidly list says old new = ReadsAtMost g old new
       ⊎ IfSome list (λ records. AddsValid Valid (journaled_by (says records)))
 
-  -- The same of a device that was lent, over its bytes.
+  -- The same of a device that was opened, over its bytes.
   abbrev pub ServesValidly : (Text → Outcome) → D → D → Type 0
   ServesValidly says old new = OnlyReads g old new
       ⊎ IfSome (g.contents old) (λ bytes. AddsValid Valid (journaled_by (says bytes)))

@@ -10,7 +10,7 @@ pub data Wanted : Type 0 where
   exactly : Reply → Wanted
   -- A text of this form, with this status.
   formed : Said → (Text → Bool) → Wanted
-  -- Two different strings with one hash, one of each list, so spelled, with this status.
+  -- Two different strings with one hash, one of each list, encoded so, with this status.
   pair_of : Said → HashFunction → (Text → Text → Text)
       → List Text → List Text → Wanted
 

@@ -28,15 +28,15 @@ abbrev pub journaled_by : Outcome → Journaled
 journaled_by wanted = first_journaled wanted.journals
 
 module _ {D : Type 0} (g : Ghosts D) (name : Text) where
-  -- What holds of each ending, whatever the device tells: the words were a command's, and a failure
-  -- is one of this journal's device.
+  -- What holds of each ending, whatever the bytes of the device: the arguments were a command's,
+  -- and a failure is one of this journal's device.
   pub record HasFinished (old new : D) (ending : Ending) : Type 0 where
     pub plain : IfReply ending (λ reply. status_of reply ≢ 1)
     pub later : g.faults old ≤ g.faults new
     pub fault : FailedOnly (Rose (g.faults old) (g.faults new)) (name ∷ []) ending
 
-  -- The work on an open device, where these records were found if it tells them, which has to give
-  -- the outcome of those records.
+  -- The work on an open device, where these records were found if the model knows them, which has
+  -- to give the outcome of those records.
   pub record HasWorked (list : Option (List Text)) (says : List Text → Outcome)
       (old new : D) (ending : Ending) : Type 0 where
     pub ends : HasFinished old new ending
@@ -44,7 +44,7 @@ module _ {D : Type 0} (g : Ghosts D) (name : Text) where
     pub adds : IfSome list (λ records. IsOpen g old records
         → AddsBy g ending (journaled_by (says records)) old new)
 
-  -- The work on a device that was lent, which has to give the outcome of its bytes.
+  -- The work on a device that was opened, which has to give the outcome of its bytes.
   pub record HasWorkedOn (says : Text → Outcome) (old new : D) (ending : Ending) : Type 0 where
     pub ends : HasFinished old new ending
     pub reply : IfReply ending (λ reply. IfSome (g.contents old) (λ bytes.
@@ -55,7 +55,8 @@ module _ {D : Type 0} (g : Ghosts D) (name : Text) where
         journaled_by (says bytes) ≡ untouched → IsEarly (status_of reply)))
 
 module _ {D : Type 0} (g : Ghosts D) where
-  -- What the work on a device that was lent has given, which has to give the outcome of its bytes.
+  -- What the work on a device that was opened has given, which has to give the outcome of its
+  -- bytes.
   pub record HasGiven (says : Text → Outcome) (old new : D) (ending : Ending) : Type 0 where
     pub reply : IfReply ending (λ reply. IfSome (g.contents old) (λ bytes.
         Meets (says bytes).answer reply))
@@ -65,18 +66,18 @@ module _ {D : Type 0} (g : Ghosts D) where
         journaled_by (says bytes) ≡ untouched → IsEarly (status_of reply)))
 
 -- The same with the tiles of the journal on a second device: the device of the journal before the
--- work and behind it, and so that of the tiles.
+-- work and after it, and so that of the tiles.
 module _ {D : Type 0} (g : Ghosts D) (name : Text) where
-  -- What holds of each ending, whatever the devices tell: the words were a command's, and a failure
-  -- is one of the device of the file that is named.
+  -- What holds of each ending, whatever the bytes of the devices: the arguments were a command's,
+  -- and a failure is one of the device of the file that is named.
   pub record HasFinishedTiled (old new tiles tiles' : D) (ending : Ending) : Type 0 where
     pub plain : IfReply ending (λ reply. status_of reply ≢ 1)
     pub later : g.faults old ≤ g.faults new
     pub fault : FailsAt (Rose (g.faults old) (g.faults new)) name
         (Rose (g.faults tiles) (g.faults tiles')) (tiles_name name) ending
 
-  -- The work on open devices, where these records were found if both tell them, which has to give
-  -- the outcome of those records.
+  -- The work on open devices, where these records were found if the model knows both, which has to
+  -- give the outcome of those records.
   pub record HasWorkedTiled (list : Option (List Text)) (says : List Text → Outcome)
       (old new tiles tiles' : D) (ending : Ending) : Type 0 where
     pub ends : HasFinishedTiled old new tiles tiles' ending
@@ -84,7 +85,7 @@ module _ {D : Type 0} (g : Ghosts D) (name : Text) where
     pub adds : IfSome list (λ records. IsOpen g old records
         → AddsBy g ending (journaled_by (says records)) old new)
 
-  -- The work on devices that were lent, which has to give the outcome of the bytes of both.
+  -- The work on devices that were opened, which has to give the outcome of the bytes of both.
   pub record HasWorkedTiledOn (says : Text → Text → Outcome) (old new tiles tiles' : D)
       (ending : Ending) : Type 0 where
     pub ends : HasFinishedTiled old new tiles tiles' ending
@@ -92,8 +93,8 @@ module _ {D : Type 0} (g : Ghosts D) (name : Text) where
         HasGiven g (λ bytes. says bytes held) old new ending)
 
 module _ {R S D : Type 0} (rooms : Rooms R S D) (g : Ghosts D) (name : Text) where
-  -- The device of this journal was lent: it has no fault so far, reads as the file does, and leaves
-  -- what the file's device leaves.
+  -- The device of this journal was opened: it has no failure so far, reads as the file does, and
+  -- leaves what the file's device leaves.
   pub record HasOpened (old new : R) (disk : D) : Type 0 where
     pub opened : rooms.opened new ≡ rooms.opened old + 1
     pub fine : rooms.faults new ≡ rooms.faults old
@@ -104,7 +105,7 @@ module _ {R S D : Type 0} (rooms : Rooms R S D) (g : Ghosts D) (name : Text) whe
     pub device : rooms.is_modelled old
         → IsSomeAnd (rooms.device old name) (λ d. SameDevice g d disk)
 
-  -- The device of this file was lent, which was made empty where it wasn't there.
+  -- The device of this file was opened, which was made empty if it wasn't there.
   pub record HasOpenedBeside (old new : R) (disk : D) : Type 0 where
     pub opened : rooms.opened new ≡ rooms.opened old + 1
     pub fine : rooms.faults new ≡ rooms.faults old
@@ -122,7 +123,7 @@ module _ {R S D : Type 0} (rooms : Rooms R S D) (g : Ghosts D) (name : Text) whe
         → (c : Text) → g.may_leave disk c → c ≡ []
     pub time : rooms.is_modelled old → rooms.file old name ≡ None → g.moment disk ≡ 0
 
-  -- The device was put in the place of that file's, where there is one.
+  -- The device was closed: it stands in the place of that file's, if there is one.
   pub record HasClosed (old new : R) (disk : D) : Type 0 where
     pub opened : rooms.opened new + 1 ≡ rooms.opened old
     pub count : rooms.faults new ≡ with_count (rooms.faults old) (g.faults disk)
@@ -134,7 +135,7 @@ module _ {R S D : Type 0} (rooms : Rooms R S D) (g : Ghosts D) (name : Text) whe
         → IsSomeAnd (rooms.device new name) (λ d. SameDevice g disk d)
 
 module _ {R S D : Type 0} (rooms : Rooms R S D) (name : Text) where
-  -- The room failed at this file, which stays as it was, as each other one does.
+  -- The file system failed at this file, which stays as it was, as each other one does.
   pub record HasFailedBeside (old new : R) : Type 0 where
     pub opened : rooms.opened new ≡ rooms.opened old
     pub rose : Rose (rooms.faults old) (rooms.faults new)
@@ -156,7 +157,7 @@ made_ending file text (Err Failed) = room_failed file
 made_ending file text (Err Memory) = no_memory
 
 -- What came of beginning a journal with this record on a device. It was empty and is a journal; or
--- it held bytes, and was only looked at; or it failed, and was only looked at where it held bytes.
+-- it held bytes, and was only read; or it failed, and was only read if it held bytes.
 abbrev pub BeginsOn : {D : Type 0} → Ghosts D → Text → D → D → Result (Unit {0}) StartError
     → Type 0
 BeginsOn g first old new (Ok done) = (g.faults new ≡ g.faults old)
@@ -166,7 +167,8 @@ BeginsOn g first old new (Err why) = IsNotStarted g old new why × (why ≢ Memo
     × IfSome (g.contents old) (λ bytes. bytes ≢ [] → OnlyReads g old new)
 
 module _ {R S D : Type 0} (rooms : Rooms R S D) (g : Ghosts D) (name : Text) where
-  -- No device was lent for a new file, and none is made: the name has one, or the room failed.
+  -- No device was opened for a new file, and none is made: the name has one, or the file system
+  -- failed.
   pub record HasNotOpened (old new : R) (ending : Ending) : Type 0 where
     pub opened : rooms.opened new ≡ rooms.opened old
     pub others : OthersStay (rooms.file old) (rooms.file new)
@@ -176,8 +178,8 @@ module _ {R S D : Type 0} (rooms : Rooms R S D) (g : Ghosts D) (name : Text) whe
         × (rooms.is_modelled old → IsSome (rooms.file old name)))
         ⊎ ((ending ≡ room_failed name) × Rose (rooms.faults old) (rooms.faults new))
 
-  -- A device was lent, the journal begun on it and the device put back, over any room. The ending
-  -- is what came of it.
+  -- A device was opened, the journal begun on it and the device closed, over any file system. The
+  -- ending is what came of it.
   pub record HasBegunOn (first text : Text) (new : R) (ending : Ending) : Type 0 where
     pub mid : R
     pub opened : D
@@ -188,9 +190,9 @@ module _ {R S D : Type 0} (rooms : Rooms R S D) (g : Ghosts D) (name : Text) whe
     pub taken : HasClosed rooms g name mid new left
     pub ends : ending ≡ made_ending name text made
 
-  -- Of a command that makes a journal of this name, over any room: none was begun, and the name's
-  -- file and device stay; or one was begun on a device that was lent for it, and the ending is what
-  -- came of it. So `NotEmpty` is told exactly where the start answered it.
+  -- For a command that makes a journal of this name, over any file system: none was begun, and the
+  -- name's file and device stay; or one was begun on a device that was opened for it, and the
+  -- ending is what came of it. So `NotEmpty` is reported exactly if the start answered it.
   abbrev pub IsNotBegun : R → R → Ending → Type 0
   IsNotBegun old new ending =
       Stays (rooms.file old) (rooms.file new) (rooms.device old) (rooms.device new) name

@@ -19,7 +19,7 @@ pub enum Said {
 /// Why a command was refused.
 #[derive(Clone, Copy, Debug, PartialEq, Eq)]
 pub enum Stopped {
-    /// The words are no command in its form.
+    /// The arguments are no command in its form.
     BadWords,
     /// A named file isn't in its grammar.
     BadForm,
@@ -31,7 +31,7 @@ pub enum Stopped {
     Beyond,
 }
 
-/// What stands behind the name of a reason, each with a blank before it.
+/// What follows the name of a reason, each with a blank before it.
 #[derive(Clone, Copy, Debug)]
 pub enum More {
     Nothing,
@@ -42,7 +42,7 @@ pub enum More {
     Hashes([u8; 32], [u8; 32]),
 }
 
-/// A reason: its name, as `BadRecord`, and what stands behind it.
+/// A reason: its name, as `BadRecord`, and what follows it.
 #[derive(Clone, Copy, Debug)]
 pub struct Reason {
     pub name: &'static str,
@@ -82,12 +82,12 @@ impl Answer {
 pub enum Stop<'a> {
     /// It is refused.
     Refused(Refusal<'a>),
-    /// The room, or an object that it lent, failed at this file.
+    /// The file system, or an object that it opened, failed at this file.
     Room(&'a str),
     /// The same at the file of the tiles of this journal.
     Tiles(&'a str),
-    /// The command is refused: the file of the tiles of this journal hasn't this tile, or another
-    /// one in its place.
+    /// The command is refused: the file of the tiles of this journal doesn't have this tile, or has
+    /// another one instead.
     BadTile {
         journal: &'a str,
         level: u8,

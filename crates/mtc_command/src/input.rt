@@ -19,7 +19,7 @@ pub const INPUT_LIMIT: u64 = 16_777_216;
 /// Those of a list of entries and of an export are at most so many.
 pub const LIST_LIMIT: u64 = 1_073_741_824;
 
-/// Reads a file of at most so many bytes, and gives back what the room lent.
+/// Reads a file of at most so many bytes, and closes what the file system opened.
 pub fn read_input<'a, R: Room>(
     alloc: Global,
     room: &mut R,

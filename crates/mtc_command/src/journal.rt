@@ -1,4 +1,4 @@
-//! The journal of a command: one that is there is lent and given back, or a new one is made.
+//! The journal of a command: one that is there is opened and closed, or a new one is made.
 
 ghost use Rattle.std.specs.Prelude.{◌≡◌, ◌⊎◌, ◌≤◌, ◌<◌, ◌^◌, List, [], IfOk, IfErr, string_bytes};
 ghost use Rattle.byte_formats.specs.Types.{Text};
@@ -18,9 +18,10 @@ use mtc_io::{Bytes, Failed, Memory};
 use mtc_room::{Room, RoomError};
 use std::alloc::Global;
 
-/// Lends the device of a journal that is there.
+/// Opens the device of a journal that is there.
 ///
-/// Errors: `Absent` (status 7) where no file has this name, and `Room` where the room failed.
+/// Errors: `Absent` (status 7) where no file has this name, and `Room` where the file system
+/// failed.
 pub fn open_file<'a, R: Room>(room: &mut R, journal: &'a str) -> Result<R::Dsk, Stop<'a>>
     requires { R.opened room.old < 2 ^ 32 }
     ensures opened { IfOk result (HasOpened R.Room R.Dsk.Disk journal.now room.old room.new) }
@@ -47,10 +48,10 @@ pub fn tiles_name(alloc: Global, journal: &str) -> Result<String, Memory>
     Ok(format!(in alloc; "{journal}.tiles")?)
 }
 
-/// Lends the device of the tiles of a journal, by the name of their file. Where that isn't there an
+/// Opens the device of the tiles of a journal, by the name of their file. If that isn't there an
 /// empty one is made.
 ///
-/// Errors: `Tiles` where the room failed, which leaves each file as it was.
+/// Errors: `Tiles` where the file system failed, which leaves each file as it was.
 pub fn open_tiles<'a, R: Room>(
     room: &mut R,
     journal: &'a str,
@@ -68,7 +69,7 @@ pub fn open_tiles<'a, R: Room>(
     }
 }
 
-/// Gives a journal's device, or that of its tiles, back to the room.
+/// Closes a journal's device, or that of its tiles.
 pub fn close<R: Room>(room: &mut R, journal: &str, disk: R::Dsk)
     requires { 0 < R.opened room.old }
     ensures { HasClosed R.Room R.Dsk.Disk journal.now room.old room.new disk }
@@ -76,7 +77,7 @@ pub fn close<R: Room>(room: &mut R, journal: &str, disk: R::Dsk)
     room.keep(journal, disk);
 }
 
-// Begins the journal on an empty device, which is handed back.
+// Begins the journal on an empty device, and returns the device.
 fn begin<D: Disk>(first: FirstRecord, disk: D) -> (D, Result<(), StartError>)
     ensures count { D.faults disk ≤ D.faults result.0 }
     ensures begins { BeginsOn D.Disk (first_body first) disk result.0 result.1 }
@@ -111,10 +112,10 @@ fn made_answer<'a>(
 /// Makes a journal of this first record, under a name that has no file. It takes no memory.
 ///
 /// Errors, in the order of the tests: `Exists` (status 7) where the name has a file, `NotEmpty`
-/// (status 7) where the new file has bytes, which one of a room that tells its files hasn't, and
-/// `Room` where the room failed, which may leave a new file without bytes with anything; one with
-/// bytes is only looked at. Each of them, and the answer too, has its cause in the room or in the
-/// device that it lent, over any room.
+/// (status 7) where the new file has bytes, which never happens where the model knows the files,
+/// and `Room` where the file system failed, which may leave a new file without bytes with anything;
+/// one with bytes is only read. Each of them, and the answer too, has its cause in the file system
+/// or in the device that it opened, over any file system.
 pub fn make_journal<'a, R: Room>(
     room: &mut R,
     journal: &'a str,

@@ -2,8 +2,8 @@
 //! input files, and the outcome of which each command's own definition is made
 //! (`specs/Steps.antt`).
 //!
-//! A command answers with an [`Answer`], or ends with a [`Stop`]: it is refused, or the room failed
-//! or memory was refused. A refusal names its reason and takes no memory.
+//! A command answers with an [`Answer`], or ends with a [`Stop`]: it is refused, or the file system
+//! failed or memory was refused. A refusal names its reason and takes no memory.
 #![tactic(auto)]
 
 mod answer;

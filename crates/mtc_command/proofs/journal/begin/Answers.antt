@@ -4,7 +4,7 @@ use Rattle.journal_core.specs.Packed.{first_body}
 use Rattle.journal_core.specs.Words.{AllRepresent, disk_of}
 use Rattle.mtc_command.proofs.journal.begin.Goals as goal
 
--- what was told before was empty
+-- what the model knew before was empty
 begun : {Q : Type 0} (contents : Option (List ℕ)) → IfSome contents (λ bytes. bytes ≡ [])
     → ((bytes : List ℕ) → contents ≡ Some bytes → Q) → IfSome contents (λ bytes. (bytes ≡ []) × Q)
 begun None empty then_ = tt
