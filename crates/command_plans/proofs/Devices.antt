@@ -78,7 +78,7 @@ held_as : (file now contents : Option (List ℕ)) → OpensBytes now contents
 held_as None now contents opens kept made = opens.same ∙ made refl
 held_as (Some bytes) now contents opens kept made = opens.same ∙ kept refl
 
--- ---- from the devices to the room
+-- ---- from the devices to the file system
 
 module _ {R S D : Type 0} (rooms : Rooms R S D) (g : Ghosts D) where
   -- a file of another name
@@ -115,7 +115,7 @@ module _ {R S D : Type 0} (rooms : Rooms R S D) (g : Ghosts D) where
       let inner = later rest opens.0 opens.1 opens.3 in
       omega (arith, inner, opens.2.fine, opens.4.count)
 
-  -- what is so of one device beside the room before all and after all
+  -- what is so of one device beside the file system before all and after all
   pub record IsDeviceOf (old new : R) (device : Device D) : Type 0 where
     pub held : rooms.is_modelled old
         → g.contents device.before ≡ Some (held_in (rooms.file old device.name))

@@ -49,7 +49,7 @@ abbrev pub SomeDevice : {D : Type 0} → (Device D → Type 0) → List (Device 
 SomeDevice P [] = ⊥
 SomeDevice P (device ∷ rest) = P device ⊎ SomeDevice P rest
 
--- It is so, where the file is a journal.
+-- This holds if the file is a journal.
 abbrev pub IfJournal : Bool → Type 0 → Type 0
 IfJournal true P = P
 IfJournal false P = Unit {0}

@@ -27,14 +27,14 @@ module _ (k : Kinds) where
   abbrev pub OutcomesCome : Type 0
   OutcomesCome = (plan : Plan k) (files : Files) → Comes plan files (outcome_of plan files)
 
-  -- So it is of each reply that the command may give over these files.
+  -- This holds of each reply that the command may give over these files.
   abbrev pub OfEachReply : (Plan k → Files → Reply → Type 0) → Type 0
   OfEachReply P = (plan : Plan k) (files : Files) (reply : Reply)
       → Meets (outcome_of plan files).answer reply → P plan files reply
 
   -- ---- what a status says
 
-  -- Status 1 is for words alone.
+  -- Status 1 is for arguments alone.
   abbrev pub NoCommandIsBadWords : Type 0
   NoCommandIsBadWords = OfEachReply (λ plan files reply. status_of reply ≢ 1)
 
@@ -59,7 +59,7 @@ module _ (k : Kinds) where
 
   -- ---- what was found
 
-  -- The file of this name represents these records, and a node of this kind has them.
+  -- The file of this name represents these records, and a party of this kind has them.
   pub record HasRecords (files : Files) (kind : k.Kind) (name : Text) (list : List Text)
       : Type 0 where
     pub bytes : Text
@@ -92,7 +92,7 @@ module _ (k : Kinds) where
   -- ---- what was passed
 
   -- All its files were read and were in their forms, its journals were found, and this is what it
-  -- did and told.
+  -- did and printed.
   pub record HasPassed (plan : Plan k) (files : Files) (status : Said) (text : Text)
       : Type 0 where
     pub read : ReadAll plan.inputs
@@ -104,7 +104,7 @@ module _ (k : Kinds) where
     pub is : outcome_of plan files ≡ deed_outcome plan.journals founds (say founds)
     pub meets : Meets (wanted_of (say founds).answer) (said status text)
 
-  -- Where something goes to standard output, it has.
+  -- It has, if something goes to standard output.
   abbrev pub HeardHasPassed : Type 0
   HeardHasPassed = (plan : Plan k) (files : Files) (status : Said) (text : Text)
       → Meets (outcome_of plan files).answer (said status text)

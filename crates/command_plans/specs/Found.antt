@@ -30,7 +30,7 @@ pub record IsTooLong (files : Files) (inputs : List Input) (file : Text) : Type 
   pub many : input.limit < length bytes
 
 module _ (k : Kinds) (files : Files) where
-  -- The file beside a journal, where there is one, lacks nothing of this node.
+  -- The file beside a journal, where there is one, lacks nothing of this party.
   abbrev pub LacksNothing : (kind : k.Kind) → k.State kind → Option Text → Type 0
   LacksNothing kind state None = Unit {0}
   LacksNothing kind state (Some file) = k.lacks kind state (held_in (files file)) ≡ None
@@ -42,7 +42,7 @@ module _ (k : Kinds) (files : Files) where
     pub is : read_by (k.fold kind) bytes ≡ Ok found
     pub whole : LacksNothing kind found.state (k.beside kind name)
 
-  -- It is none, and this file is refused for this reason: itself, since its bytes are no node's of
+  -- It is none, and this file is refused for this reason: itself, since its bytes are no party's of
   -- the kind, or the file beside it for what that lacks.
   pub record IsNoNode (kind : k.Kind) (name file reason : Text) : Type 0 where
     pub bytes : Text
@@ -64,7 +64,7 @@ module _ (k : Kinds) (files : Files) where
   IsRefused kind name file reason =
       IsNoNode kind name file reason ⊎ IsLacking kind name file reason
 
-  -- So it is of a journal of these that is opened.
+  -- This holds of a journal of these that is opened.
   abbrev pub AnyIsRefused : List (Journal k) → Text → Text → Type 0
   AnyIsRefused [] file reason = ⊥
   AnyIsRefused (opens kind beside name ∷ rest) file reason =

@@ -36,7 +36,7 @@ abbrev pub unless_lacking : Text → Option Text → Outcome → Outcome
 unless_lacking file None next = next
 unless_lacking file (Some reason) next = stops_at BadForm file reason
 
--- So it is of the file beside this journal, where there is one. It is made empty where it isn't
+-- This holds of the file beside this journal, if there is one. It is made empty where it isn't
 -- there.
 abbrev pub with_beside : (k : Kinds) (kind : k.Kind) → k.State kind → Option Text → Files
     → Outcome → Outcome
@@ -93,7 +93,7 @@ module _ {k : Kinds} where
 
   -- ---- the whole command
 
-  -- Behind the reading: a file that is not in its form stops the command, or else its work is done.
+  -- After the reading: a file that is not in its form stops the command, or else its work is done.
   abbrev pub step_outcome : {inputs : List Input} (journals : List (Journal k))
       → Step inputs journals → Files → Outcome
   step_outcome journals (misreads read reason) files = stops_at BadForm read.file.name reason

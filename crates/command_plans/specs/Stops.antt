@@ -13,7 +13,7 @@ use Rattle.mtc_command.specs.Steps.{Outcome, answers}
 use Rattle.command_plans.specs.Devices.{AllDiffer, AreThere, Device, EachDevice, OpensEach}
 use Rattle.command_plans.specs.Devices.{SomeDevice}
 
--- It is so of each name.
+-- This holds of each name.
 abbrev pub EachName : (Text → Type 0) → List Text → Type 0
 EachName P [] = Unit {0}
 EachName P (name ∷ rest) = P name × EachName P rest
@@ -26,7 +26,7 @@ IsOpenedOrOther devices name =
 
 module _ {R S D : Type 0} (rooms : Rooms R S D) (g : Ghosts D) where
   -- A command with these journals and other files, which opened devices of different names among
-  -- these, only read and closed them, and replies as is wanted or stops at a fault, has done what
+  -- these, only read and closed them, and replies as is wanted or stops at a failure, has done what
   -- the outcome wants.
   abbrev pub StopsServe : Type 0
   StopsServe = (files names besides : List Text) (wanted : Outcome) (devices : List (Device D))

@@ -17,9 +17,9 @@ pub fn law_outcomes_come<K: JournalKinds>()
     ensures { OutcomesCome K.kinds }
 {}
 
-/// What a status says of a command. Status 1 is for words that are no command. Status 2 is about a
-/// file that the command reads, a journal that it opens and that is none of its kind, or a file
-/// beside one that lacks something. Where a journal isn't opened the status is one that may come
+/// What a status says of a command. Status 1 is for arguments that are no command. Status 2 is
+/// about a file that the command reads, a journal that it opens and that is none of its kind, or a
+/// file beside one that lacks something. If a journal isn't opened, the status is one that may come
 /// before.
 pub fn law_statuses_tell<K: JournalKinds>()
     ensures words { NoCommandIsBadWords K.kinds }
@@ -28,29 +28,29 @@ pub fn law_statuses_tell<K: JournalKinds>()
 {}
 
 /// A command opens and makes all of its journals or none. The records that it finds in one are
-/// those that the file represents, and a node of its kind has them; a journal that it makes had no
+/// those that the file represents, and a party of its kind has them; a journal that it makes had no
 /// file.
 pub fn law_found_records_are_valid<K: JournalKinds>()
     ensures { FoundIsValid K.kinds }
 {}
 
-/// Where something goes to standard output a command has passed all tests: its files were read and
+/// If something goes to standard output, a command has passed all tests: its files were read and
 /// are in their forms, its journals were found, and what it answered and did is the work for these.
 pub fn law_heard_commands_have_passed<K: JournalKinds>()
     ensures { HeardHasPassed K.kinds }
 {}
 
 /// A command opens the devices of any number of journals, each of which is there, and of other
-/// files, which are made empty where they aren't there. It closes them in the opposite order. Where
-/// its work on them gives the outcome of the files that they read as, whatever these are, it has
-/// done what the outcome wants.
+/// files, which are made empty where they aren't there. It closes them in the opposite order. It
+/// has done what the outcome wants if its work on them gives the outcome of the files that they
+/// read as, whatever these are.
 pub fn law_work_on_devices_serves<R: Room>()
     ensures { DevicesServe R.Room R.Dsk.Disk }
 {}
 
 /// A command that stops before its work, after it has opened some devices, closes them and leaves
-/// nothing new of them. Where it replies as is wanted, with an early status, or stops at a fault,
-/// it has done what the outcome wants.
+/// nothing new of them. It has done what the outcome wants if it replies as is wanted, with an
+/// early status, or stops at a failure.
 pub fn law_stops_before_the_work_serve<R: Room>()
     ensures { StopsServe R.Room R.Dsk.Disk }
 {}
