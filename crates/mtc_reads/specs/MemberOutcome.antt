@@ -8,7 +8,7 @@ use Rattle.mtc_command.specs.Steps.{Outcome, Files, says, with_bytes, with_form}
 use Rattle.mtc_reads.specs.Member.{member_file, member_judgement}
 use Rattle.mtc_reads.specs.Reasons.{hashes_fault_text, shape_text, judged_against}
 
--- What is told of a judgement on the entry of this index.
+-- What is reported of a judgement on the entry of this index.
 abbrev pub judgement_says : ℕ → Result Bool EvalError → Outcome
 judgement_says index (Ok true) = says Done (codes "member " ++ (decimal index ++ codes "\n"))
 judgement_says index (Ok false) = judged_against (codes "HashDiffers")

@@ -1,5 +1,5 @@
 -- The reasons of faults and of judgements against: the name of each, and the number or the second
--- name behind it.
+-- name after it.
 use Rattle.std.specs.Prelude.{ℕ, List, ◌++◌, codes}
 use Rattle.std.specs.Fmt.{decimal}
 use Rattle.byte_formats.specs.Types.{Text}

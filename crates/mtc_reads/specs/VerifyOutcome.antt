@@ -13,7 +13,8 @@ use Rattle.mtc_command.specs.Steps.{Outcome, Files, says, stops_at, with_bytes, 
 use Rattle.mtc_reads.specs.Reasons.{cert_fault_text, proof_fault_text, store_fault_text}
 use Rattle.mtc_reads.specs.Reasons.{refusal_text, judged_against}
 
--- What is told of a judgement. Bytes that are no certificate or no proof are faults of the file.
+-- What is reported of a judgement. Bytes that are no certificate or no proof are faults of the
+-- file.
 abbrev pub verdict_says : Text → Result Accepted Refusal → Outcome
 verdict_says cert (Ok accepted) =
     says Done (codes "accepted " ++ (decimal accepted.index ++ codes "\n"))

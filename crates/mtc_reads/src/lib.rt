@@ -1,7 +1,7 @@
 //! The commands that only read files: `member`, `show` and `verify`.
 //!
-//! What each has to answer is a definition over its words and the room's files, in a file of
-//! `specs/` of its own.
+//! What each has to answer is a definition over its arguments and the files of the file system, in
+//! a file of `specs/` of its own.
 #![tactic(auto)]
 
 pub mod member;

@@ -101,7 +101,7 @@ pub fn store_reason(fault: StoreError) -> Reason
     }
 }
 
-// Why a path has no value at its place in an interval.
+// Why a path has no value at its index in an interval.
 pub fn shape_name(why: EvalError) -> &'static str
     ensures { result.now ≡ shape_text why }
 {

@@ -30,7 +30,7 @@ use tls_wire::{AnchorBytesError, AnchorId};
 // A subject without a name: a SEQUENCE of nothing.
 const NO_NAME: [u8; 2] = [SEQUENCE, 0x00];
 
-// Puts pieces behind the bytes, one behind the other.
+// Appends pieces to the bytes, one after the other.
 fn append_all(out: &mut Bytes, pieces: &[&[u8]]) -> Result<(), Memory>
     ensures { OnOk result (out.new ≡ out.old ++ joined pieces.now) }
 {

@@ -53,7 +53,7 @@ fn answer_of<'a, H: TreeHash>(
     }
 }
 
-/// The command `verify CERT STORE NOW`. The moment is in seconds since 1970-01-01T00:00:00Z.
+/// The command `verify CERT STORE NOW`. The time is in seconds since 1970-01-01T00:00:00Z.
 pub fn verify<'a, H: TreeHash, R: Room>(
     alloc: Global,
     room: &mut R,
