@@ -18,7 +18,7 @@ first_part : (h : HashFunction) (entries : List Text) (n : ℕ)
 first_part h entries n =
     let all : n - 0 ≡ n = omega arith in ap (λ k. tree_hash h (take k entries)) all
 
--- ---- where both disks tell the log
+-- ---- if the model knows the log of both disks
 
 abbrev pub leaves_modelled : HashFunction → Option LogState → Option (List Hash)
 leaves_modelled h contents = option_map (λ (s : LogState). map (leaf_hash h) s.entries) contents

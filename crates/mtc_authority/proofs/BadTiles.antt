@@ -1,5 +1,5 @@
--- That the first bad tile of a log is told: the search of the outcome finds the tile that an
--- opening refuses, and none where an opening finds all.
+-- The first bad tile of a log is reported: the search of the outcome finds the tile that an opening
+-- refuses, and none where an opening finds all.
 use Rattle.std.proofs.Common.{◌≡◌, ◌⊎◌, ◌≤◌, ◌<◌, ◌+◌, ◌*◌, ◌/◌, ◌^◌, inl, inr, ℕ, zero, suc, List}
 use Rattle.std.proofs.Common.{[], ◌∷◌, ◌++◌, Bool, true, false, Option, None, Some, refl}
 use Rattle.std.proofs.Common.{nat_lt, if◌then◌else◌, sym, subst, ap, ◌∙◌, arith}

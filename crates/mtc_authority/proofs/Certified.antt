@@ -50,8 +50,8 @@ certificate_is h s index start end signatures bytes is =
     is.written ∙ ap (certificate_with index (slice_index_or s.keys index [])
     (proof_text (proof_for h s index start end signatures))) (sym is.read)
 
--- Where a certificate is refused so: by the numbers of the log, unless a device failed or memory
--- was refused.
+-- A certificate is refused so: by the numbers of the log, unless a device failed or memory was
+-- refused.
 abbrev pub IsRefusedBy : Option WriteError → WriteError → Type 0
 IsRefusedBy wanted JournalFailed = Unit {0}
 IsRefusedBy wanted TilesFailed = Unit {0}

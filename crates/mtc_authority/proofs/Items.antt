@@ -1,4 +1,4 @@
--- The items of a log, one behind the other.
+-- The items of a log, one after the other.
 use Rattle.std.proofs.Common.{◌≡◌, ℕ, zero, suc, ◌+◌, ◌<◌, ◌++◌, [], length, slice_index_or}
 use Rattle.std.proofs.Common.{Option, Some, None, IfSome, Ok, true, ap, sym, ◌∙◌, ◌≤◌}
 use Rattle.std.proofs.Common.{append_assoc, arith}
@@ -27,7 +27,7 @@ is_item h s index entry key sound below is =
       short_key = rw same.1 at both.1;
     }
 
--- where the journal tells the log
+-- if the model knows the log of the journal
 pub item_modelled : (h : HashFunction) (contents : Option LogState) (v : LogView) (index : ℕ)
     (entry key : Text) → index < v.size → IfSome contents (IsSound h)
     → IfSome contents (λ s. view_in s ≡ v)
@@ -60,7 +60,7 @@ printed_again h s count sound le =
     })
     le
 
--- an item behind the bytes
+-- an item after the bytes
 pub item_behind : (contents : Option LogState) (index : ℕ) (entry key out mid new : Text)
     → IfSome contents (λ s. IsItemAt s index entry key) → mid ≡ out ++ vector w16 entry
     → new ≡ mid ++ vector w16 key

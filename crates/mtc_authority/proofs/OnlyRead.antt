@@ -1,4 +1,4 @@
--- The tiles of a journal are only looked at by a command that has given back what it read.
+-- The tiles of a journal are only read by a command that has closed what it read.
 use Rattle.std.proofs.Common.{◌≡◌, [], Option, None, Some, IfSome, take, subst, sym, ◌∙◌}
 use Rattle.byte_formats.specs.Types.{Text}
 use Rattle.disk_core.specs.declared.disk.Disk.{Ghosts as Disks}

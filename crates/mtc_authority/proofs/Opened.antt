@@ -31,8 +31,8 @@ use Rattle.mtc_authority.specs.declared.work.Work.{Work}
 use Rattle.mtc_authority.proofs.Appends.{mapped_some}
 use Rattle.mtc_authority.proofs.BadTiles.{bad_is, none_bad}
 
--- What is known behind an opening of these records beside these tiles: the outcome of the bytes is
--- that of them, and the device and each image of it stand for them.
+-- What is known after an opening of these records beside these tiles: the outcome of the bytes is
+-- that of them, and the device and each crash state of it represent them.
 pub record IsFoundBeside {D : Type 0} (g : Ghosts D) (says : Text → Text → Outcome)
     (next : List Text → Outcome) (old new tiles : D) (records : Option (List Text)) : Type 0 where
   pub contents : IfSome (g.contents tiles) (λ held. IfSome (g.contents old) (λ b.
@@ -101,7 +101,7 @@ module _ (h : HashFunction) (name : Text) (work : Work) where
         (record { plain = tt; later = only_reads.faults; fault = tt }) tt tt
     header_says why is = no_journal why is
 
-  -- the device of the journal was read since it was lent, as `old`
+  -- the device of the journal was read since it was opened, as `old`
   module _ {D : Type 0} (g : Ghosts D) (old mid new tiles tiles' : D)
       (first : OnlyReads g old mid) (fine : g.faults mid ≡ g.faults old)
       (second : OnlyReads g mid new) where

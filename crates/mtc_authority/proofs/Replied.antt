@@ -1,4 +1,4 @@
--- What comes of a work that only looks at a log.
+-- What comes of a work that only reads a log.
 use Rattle.std.proofs.Common.{◌≡◌, ◌≢◌, ℕ, ◌≤◌, Option, Some, None, IfSome}
 use Rattle.std.proofs.Common.{option_map, inl, inr, ap, ◌∙◌, subst}
 use Rattle.std.specs.Prelude.{option_and_then}
@@ -21,7 +21,7 @@ use Rattle.authority_core.proofs.Modelled.{both_of}
 use Rattle.mtc_authority.specs.LogOutcomes.{StopsAt}
 use Rattle.mtc_authority.specs.Works.{RepliesOnLog}
 
--- ---- where both disks tell the log
+-- ---- if the model knows the log of both disks
 
 -- two facts
 pub both_so : {X : Type 0} (P Q : X → Type 0) (o : Option X) → IfSome o P → IfSome o Q
@@ -32,7 +32,7 @@ both_so P Q (Some x) first second = (first, second)
 -- ---- the work
 
 module _ {H D : Type 0} {hashes : Hashes H} {g : Ghosts D} where
-  -- what both disks tell stays where nodes alone were asked for
+  -- what the model knows of both disks stays where nodes alone were asked for
   pub both_modelled : (old new : Log H D D hashes g g) → LogAsksTiles old new
       → modelled_by_both new ≡ modelled_by_both old
   both_modelled old new is =
@@ -47,13 +47,13 @@ module _ {H D : Type 0} {hashes : Hashes H} {g : Ghosts D} where
       ∙ ap (λ o. option_map (shown_with (view_of old)) (option_and_then
       (λ (t : Text). log_records old) o)) is.tiles.contents
 
-  -- so a fact of what they tell behind it is one of what they told before
+  -- so a fact of what it knows after that is one of what it knew before
   pub both_before : (P : LogState → Type 0) (old new : Log H D D hashes g g)
       → LogAsksTiles old new → IfSome (modelled_by_both new) P → IfSome (modelled_by_both old) P
   both_before P old new is fact = subst (λ (o : Option LogState). IfSome o P)
       (both_modelled old new is) fact
 
-  -- a fact of the log that the journal tells
+  -- a fact of the log that the journal has, as the model knows it
   pub modelled_both : (P : LogState → Type 0) (log : Log H D D hashes g g)
       → IfSome (modelled_state log) P
       → IfSome (modelled_by_both log) P
@@ -62,7 +62,7 @@ module _ {H D : Type 0} {hashes : Hashes H} {g : Ghosts D} where
 
   module _ (name : Text) (wanted : LogState → Reply) (old new : Log H D D hashes g g)
       (stays : LogStays old new) where
-    -- it replies so to what both disks tell
+    -- it replies so to what both disks have, as the model knows it
     pub modelled_so : (reply : Reply) → status_of reply ≢ 1
         → IfSome (modelled_by_both old) (λ s. reply ≡ wanted s)
         → RepliesOnLog name wanted old new (replied reply)
@@ -98,7 +98,7 @@ module _ {H D : Type 0} {hashes : Hashes H} {g : Ghosts D} where
         record { plain = tt; fault = inr is; reply = tt; stays = stays }
     at_tiles no_memory is = starved_so
 
--- ---- faults of more than one call
+-- ---- failures of more than one call
 
 pub stops_later : (before mid after : ℕ) (file : Text) → before ≤ mid → (ending : Ending)
     → StopsAt (Rose mid after) file ending → StopsAt (Rose before after) file ending

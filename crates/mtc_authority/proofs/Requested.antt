@@ -1,4 +1,4 @@
--- Requests and refusals over what both devices tell of a log.
+-- Requests and refusals over what both devices have of a log, as the model knows it.
 use Rattle.std.proofs.Common.{◌≡◌, ℕ, ◌<◌, ◌≤◌, ◌∙◌, length, take, ap, true, false, arith}
 use Rattle.std.proofs.Common.{List, Option, Some, None, IfSome, option_map}
 use Rattle.std.specs.Prelude.{codes}

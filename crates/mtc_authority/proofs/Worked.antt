@@ -1,4 +1,4 @@
--- The work on a log that only looks at it.
+-- The work on a log that only reads it.
 use Rattle.std.proofs.Common.{◌≡◌, ◌∙◌, IfSome, ap, inr, sym}
 use Rattle.std.proofs.lemmas.Option.{IfSome_then}
 use Rattle.byte_formats.specs.Types.{Text}
@@ -34,7 +34,7 @@ module _ {H D : Type 0} {hashes : Hashes H} {g : Ghosts D} (name : Text)
 
 module _ {H D : Type 0} {hashes : Hashes H} {g : Ghosts D} (name : Text)
     (old new : OpenLog H D D hashes g g) where
-  -- it tells the landmarks that the log shows
+  -- it prints the landmarks that the log shows
   pub landmarks_so : (ending : Ending) → LogStays old new
       → IfSome (modelled_state old) (λ s. view_in s ≡ view_of old)
       → Replies (exactly (landmarks_reply (view_of old))) ending

@@ -46,7 +46,7 @@ first_missing has (tile ∷ tiles) =
     if has tile.0 tile.1 then first_missing has tiles
     else sooner_of tile (first_missing has tiles)
 
--- The level and the place of the first tile of the log's last size that the file has not, if there
+-- The level and the index of the first tile of the log's last size that the file has not, if there
 -- is one.
 unfoldable pub first_bad : HashFunction → LogState → Text → Option (ℕ × ℕ)
 first_bad h s tiles =

@@ -1,4 +1,4 @@
--- The outcome of `cert` over the room's files: the signatures first, then the journal.
+-- The outcome of `cert` over the files of the file system: the signatures first, then the journal.
 use Rattle.std.specs.Prelude.{ℕ, Option}
 use Rattle.byte_formats.specs.Types.{HashFunction, Text}
 use Rattle.mtc_command.specs.Answers.{tiles_name}

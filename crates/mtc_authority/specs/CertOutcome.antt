@@ -53,8 +53,8 @@ cert_refused write_error.JournalFailed = refused Beyond None (codes "Failed")
 cert_refused write_error.TilesFailed = refused Beyond None (codes "Failed")
 cert_refused write_error.Memory = refused Beyond None (codes "Memory")
 
--- What comes of it in a command on this journal: it is told, unless a device failed or memory was
--- refused.
+-- What comes of it in a command on this journal: it is reported, unless a device failed or memory
+-- was refused.
 abbrev pub cert_ending : Text → WriteError → Ending
 cert_ending journal write_error.JournalFailed = room_failed journal
 cert_ending journal write_error.TilesFailed = room_failed (tiles_name journal)
@@ -62,7 +62,7 @@ cert_ending journal write_error.Memory = no_memory
 cert_ending journal why = replied (cert_refused why)
 
 -- The certificate of an entry that was read, with its key, index and proof. No log has an item
--- behind the first one whose entry isn't of type 1.
+-- after the first one whose entry isn't of type 1.
 abbrev pub certificate_with : ℕ → Text → Text → Result (Option TbsParts) EntryError → Text
 certificate_with index key proof (Ok (Some fields)) =
     certificate (parts_with index fields key proof)

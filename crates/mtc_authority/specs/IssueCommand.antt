@@ -1,4 +1,5 @@
--- The outcome of `issue J REQUEST` over the room's files: the request first, then the journal.
+-- The outcome of `issue J REQUEST` over the files of the file system: the request first, then the
+-- journal.
 use Rattle.std.specs.Prelude.{Option}
 use Rattle.byte_formats.specs.Types.{HashFunction, Text}
 use Rattle.authority_core.specs.Files.{request_of}

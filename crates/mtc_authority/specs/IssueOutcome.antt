@@ -46,7 +46,7 @@ request_fault_text DatesReversed = codes "DatesReversed"
 request_fault_text NoNames = codes "NoNames"
 request_fault_text Memory = codes "Memory"
 
--- What comes of it: the file is told not to be a request, unless memory was refused.
+-- What comes of it: the line says that the file isn't a request, unless memory was refused.
 abbrev pub request_ending : Text → RequestError → Ending
 request_ending file Memory = no_memory
 request_ending file why = replied (refused BadForm (Some file) (request_fault_text why))

@@ -66,7 +66,7 @@ pub record IsItemAt (s : LogState) (index : ℕ) (entry key : Text) : Type 0 whe
   pub short_entry : length entry < 65536
   pub short_key : length key < 65536
 
--- It ends without a reply: the room failed at this file, or memory was refused.
+-- It ends without a reply: the file system failed at this file, or memory was refused.
 abbrev pub StopsAt : Type 0 → Text → Ending → Type 0
 StopsAt Fault file (replied reply) = ⊥
 StopsAt Fault file (room_failed at) = (at ≡ file) × Fault

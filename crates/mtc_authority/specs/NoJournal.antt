@@ -14,14 +14,13 @@ abbrev pub IsNoJournal : Option Text → Type 0
 IsNoJournal None = Unit {0}
 IsNoJournal (Some bytes) = take 16 bytes ≢ header
 
--- If the file of this name is no journal, the file of its tiles isn't asked for: it stays as it
--- was, and isn't made.
+-- If the file of this name is no journal, the file of its tiles stays as it was, and isn't made.
 abbrev pub SparesTiles : {R S D : Type 0} → Rooms R S D → R → R → Text → Type 0
 SparesTiles rooms old new journal = rooms.is_modelled old → IsNoJournal (rooms.file old journal)
     → Stays (rooms.file old) (rooms.file new) (rooms.device old) (rooms.device new)
     (tiles_name journal)
 
--- The device of the journal was opened, and has only been read since, without a fault.
+-- The device of the journal was opened, and has only been read since, without a failure.
 pub record HasReadHeader {R S D : Type 0} (rooms : Rooms R S D) (g : Ghosts D) (name : Text)
     (old new : R) (disk : D) : Type 0 where
   pub lent : D

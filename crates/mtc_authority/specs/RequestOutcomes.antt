@@ -18,7 +18,7 @@ prefix_proof h entries start end size =
     proof_of h start end true (map (leaf_hash h) (take size entries))
 
 -- The first new entries: the id of the log, their number, their tree hash, and the proof that the
--- first old ones are among them. Of no old ones there is nothing to prove.
+-- first old ones are among them. For no old ones there is nothing to prove.
 
 abbrev pub growth_at : HashFunction → List Text → ℕ → ℕ → List Hash
 growth_at h entries old new = if old == 0 then [] else prefix_proof h entries 0 old new

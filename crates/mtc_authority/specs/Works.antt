@@ -51,8 +51,8 @@ log_open_text (Open (open_error.CutShort place)) = codes "CutShort " ++ decimal 
 log_open_text (Open open_error.Failed) = codes "Failed"
 log_open_text (Open open_error.Memory) = codes "Memory"
 
--- What comes of it: the file is told not to be a log, or that of its tiles not to have them, unless
--- the device of one failed or memory was refused.
+-- What comes of it: the line says that the file isn't a log, or that the file of its tiles doesn't
+-- have them, unless the device of one failed or memory was refused.
 abbrev pub log_open_ending : Text → LogOpenError → Ending
 log_open_ending file (Open open_error.Failed) = room_failed file
 log_open_ending file (Open open_error.Memory) = no_memory
@@ -81,7 +81,7 @@ log_says h (Cert index start end signatures) found =
     answers_on found.records (cert_reply h index start end signatures found.state)
 log_says h Tile found = tile_says found
 
--- A log whose file of tiles hasn't this one of them is refused.
+-- A log whose file of tiles doesn't have this one of them is refused.
 abbrev pub unless_missing : Text → Option (ℕ × ℕ) → Outcome → Outcome
 unless_missing journal None next = next
 unless_missing journal (Some tile) next = answers (bad_tile journal tile.0 tile.1)
@@ -125,13 +125,13 @@ module _ {H D : Type 0} {hashes : Hashes H} {g : Ghosts D} where
   StaysLog h says old new = WorksValidly g (IsLog h) (log_records old)
       (λ list. says (found_log (shown_with (view_of old) list) list)) (log_disk old) (log_disk new)
 
-  -- The device of the tiles was only looked at, or had no call, unless the work stores tiles.
+  -- The device of the tiles was only read, or had no call, unless the work stores tiles.
   abbrev pub OnlyReadsTiles : Work → Log H D D hashes g g → Log H D D hashes g g → Type 0
   OnlyReadsTiles work old new =
       work ≢ Tile → ReadsAtMost g (log_tiles_disk old) (log_tiles_disk new)
 
-  -- The work on the log of this journal that only looks at it, and has to reply so to what its
-  -- devices tell, whatever they are.
+  -- The work on the log of this journal that only reads it, and has to reply so to what its devices
+  -- hold, as far as the model knows it.
   pub record RepliesOnLog (name : Text) (wanted : LogState → Reply) (old new : Log H D D hashes g g)
       (ending : Ending) : Type 0 where
     pub plain : IfReply ending (λ reply. status_of reply ≢ 1)

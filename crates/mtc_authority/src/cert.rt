@@ -27,7 +27,7 @@ use std::alloc::Global;
 use std::marker::Model;
 use tree_core::TreeHash;
 
-/// Signatures of cosigners, one behind the other, or none. Contracts see the bytes.
+/// Signatures of cosigners, one after the other, or none. Contracts see the bytes.
 #[derive(Drop)]
 pub struct Signatures {
     bytes: Bytes,

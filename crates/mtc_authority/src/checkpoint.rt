@@ -56,7 +56,7 @@ pub fn too_many<'a>(size: u64) -> Stop<'a>
     refuse(Stopped::NotAllowed, Reason::with_number("Beyond", size))
 }
 
-// The item at an index: the entry and its key, in the place of what the two byte strings held.
+// The item at an index: the entry and its key, instead of what the two byte strings held.
 fn read_item<'a, H: TreeHash, D: Disk>(
     journal: &'a str,
     log: &mut Log<H, D, D>,
@@ -81,7 +81,7 @@ fn read_item<'a, H: TreeHash, D: Disk>(
     }
 }
 
-// Puts the item at an index behind the bytes: the entry and its key, each behind its length of two
+// Appends the item at an index to the bytes: the entry and its key, each after its length of two
 // bytes. They are copied by way of two byte strings, whatever these hold.
 fn put_item<'a, H: TreeHash, D: Disk>(
     journal: &'a str,

@@ -57,8 +57,8 @@ fn refuse_entry<'a>(journal: &'a str, why: IssueError) -> Stop<'a>
     }
 }
 
-/// The work of `issue J REQUEST`. The text is made before the entry is added, so that nothing wants
-/// memory behind the append.
+/// The work of `issue J REQUEST`. The text is made before the entry is added, so that nothing takes
+/// memory after the append.
 pub fn issue_on<'a, H: TreeHash, D: Disk>(
     alloc: Global,
     journal: &'a str,

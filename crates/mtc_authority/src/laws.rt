@@ -19,8 +19,8 @@ pub fn law_printed_entries_are_read()
         → items_in h (file_text (items_of s) count) ≡ Ok (first_items count (items_of s)) }
 {}
 
-/// A command on a log tells no bad tile exactly where the file of its tiles has those of its last
-/// size, and the one that it tells is the first of them that the file has not.
+/// A command on a log reports no bad tile exactly if the file of its tiles has those of its last
+/// size, and the one that it reports is the first of them that the file has not.
 pub fn law_bad_tiles_are_reported()
     ensures none { (h : HashFunction) (s : LogState) (tiles : Text) → HasItsTiles h s tiles
         → first_bad h s tiles ≡ None }

@@ -1,5 +1,5 @@
-//! The commands on a log that has a journal: the journal and the file of its tiles are lent,
-//! opened, worked on and put back.
+//! The commands on a log that has a journal: the file system opens the journal and the file of its
+//! tiles, the log is opened over them and worked on, and both are closed.
 
 ghost use Rattle.std.specs.Prelude.{◌≡◌, ◌≢◌, ◌<◌, ◌+◌, ◌^◌, [], ◌∷◌, take, IfErr, IfSome, OnOk};
 ghost use Rattle.disk_core.specs.Moments.{OnlyReads};
@@ -59,7 +59,7 @@ fn refuse_log<'a>(journal: &'a str, why: LogOpenError) -> Stop<'a>
     }
 }
 
-// Reads the header of a journal, before the file of its tiles is asked for.
+// Reads the header of a journal, before the file of its tiles is opened.
 fn read_header<D: Disk>(disk: &mut D) -> Result<(), OpenError>
     ensures ok { OnOk result (IfSome (D.contents disk.old) (λ bytes. take 16 bytes ≡ header)) }
     ensures fine { OnOk result (D.faults disk.new ≡ D.faults disk.old) }
@@ -81,7 +81,7 @@ fn read_header<D: Disk>(disk: &mut D) -> Result<(), OpenError>
 
 // Opens the log on the device of its journal and on that of its tiles, with a pool of 64 frames
 // that hold nothing, and works on it. The device of the journal may have been read since it was
-// lent.
+// opened.
 fn on_devices<'a, H: TreeHash, D: Disk>(
     alloc: Global,
     disk: D,
@@ -110,8 +110,8 @@ fn on_devices<'a, H: TreeHash, D: Disk>(
     }
 }
 
-// Lends the device of the tiles beside that of a journal whose header was read, and works on the
-// log. Whatever comes of it, both are put back, that of the journal last: so who has the journal
+// Opens the device of the tiles beside that of a journal whose header was read, and works on the
+// log. Whatever comes of it, both are closed, that of the journal last: so whoever has the journal
 // has the tiles.
 fn on_open_journal<'a, H: TreeHash, R: Room>(
     alloc: Global,
@@ -155,8 +155,8 @@ fn on_open_journal<'a, H: TreeHash, R: Room>(
     }
 }
 
-// Lends the device of a journal, reads its header, and works on the log. A file that is no journal
-// is refused, and nothing is asked for beside it.
+// Opens the device of a journal, reads its header, and works on the log. A file that is no journal
+// is refused, and no other file is opened then.
 fn on_journal<'a, H: TreeHash, R: Room>(
     alloc: Global,
     room: &mut R,
@@ -190,10 +190,10 @@ fn on_journal<'a, H: TreeHash, R: Room>(
     }
 }
 
-/// Lends a journal and the file of its tiles, which is made where it isn't there, opens the log and
-/// works on it. Whatever comes of it, the devices are put back. The memory for the tiles is taken
-/// before anything is lent, so that no file is made without it. The journal's header is read before
-/// the file of the tiles is asked for: no such file is made beside a file that is no journal.
+/// Opens a journal and the file of its tiles, which is made if it isn't there, opens the log and
+/// works on it. Whatever comes of it, the devices are closed. The memory for the tiles is taken
+/// before any file is opened, so that no file is made without it. The journal's header is read
+/// before the file of the tiles is opened: no such file is made beside a file that is no journal.
 pub fn on_log<'a, H: TreeHash, R: Room>(
     alloc: Global,
     room: &mut R,

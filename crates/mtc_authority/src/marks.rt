@@ -45,8 +45,8 @@ fn refuse_landmark<'a>(journal: &'a str, why: LogError) -> Stop<'a>
     }
 }
 
-/// The work of `landmark J`. The text is made before the landmark is set, so that nothing wants
-/// memory behind the append.
+/// The work of `landmark J`. The text is made before the landmark is set, so that nothing takes
+/// memory after the append.
 pub fn set_landmark<'a, H: TreeHash, D: Disk>(
     alloc: Global,
     journal: &'a str,

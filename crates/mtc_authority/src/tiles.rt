@@ -44,8 +44,8 @@ fn refuse_tiles<'a>(journal: &'a str, why: LogError) -> Stop<'a>
     }
 }
 
-/// The work of `tile J`. The text is made before the tiles are stored, so that nothing wants memory
-/// behind the append.
+/// The work of `tile J`. The text is made before the tiles are stored, so that nothing takes memory
+/// after the append.
 pub fn tile_on<'a, H: TreeHash, D: Disk>(
     alloc: Global,
     journal: &'a str,

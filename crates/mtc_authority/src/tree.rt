@@ -67,7 +67,7 @@ pub fn proof_of<H: TreeHash, D: Disk>(
     }
 }
 
-// The proof that the first `old` entries are among the first `new` ones. Of none there is nothing
+// The proof that the first `old` entries are among the first `new` ones. For none there is nothing
 // to prove.
 pub fn growth_of<H: TreeHash, D: Disk>(
     log: &mut Log<H, D, D>,

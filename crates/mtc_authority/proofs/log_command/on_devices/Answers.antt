@@ -85,7 +85,7 @@ returns-in-Err-clause-serves g c = λ opened first fine.
     (refused_says h name c.args.work d opened c.args.disk disk c.args.tiles tiles first fine
     c.in-Err.ensures.refused.only_reads _ c.in-Err.ensures.refused.cause)
 
--- a device that was only read keeps to the rules
+-- a device that was only read follows the rules
 only_read_valid : {D : Type 0} (g : Ghosts D) (Valid : List Text → Type 0)
     (says : Text → Text → Outcome) (old new : D) (held : Option Text) → OnlyReads g old new
     → IfSome held (λ t. ServesValidly g Valid (λ b. says b t) old new)
