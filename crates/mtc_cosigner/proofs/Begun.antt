@@ -32,7 +32,7 @@ begun_so P name file secret other at s first text long same is line made =
 abbrev settings : Text → Text → LmsType → OtsType → CosignerSettings
 settings id log lms ots = record { id = id; log = log; lms = lms; ots = ots }
 
--- the outcome behind a secret that was read
+-- the outcome after a secret that was read
 pub asked_so : (journal id log file : Text) (height width : ℕ) (files : Files) (bytes other : Text)
     (at : Option Text) (lms : LmsType) (ots : OtsType) → lms ≡ lms_type height
     → ots ≡ ots_type width → other ≡ bytes → at ≡ files journal → files file ≡ Some bytes

@@ -38,7 +38,7 @@ no_words why kind one = elim kind [
 ]
 
 -- A call that appends this record and has this text, by the refusal of a cosigner that no append
--- has broken and whose journal ends at this place.
+-- has broken and whose journal ends at this offset.
 module _ {D : Type 0} (g : Ghosts D) (name : Text) (old new : Owner D CosignerState)
     (ready : IsReadyCosigner old) (body text : Text) (next : CosignerState)
     (refusal : Bool → ℕ → Option CosignError) where

@@ -31,7 +31,8 @@ cosigner_open_text (Open (open_error.CutShort place)) = codes "CutShort " ++ dec
 cosigner_open_text (Open open_error.Failed) = codes "Failed"
 cosigner_open_text (Open open_error.Memory) = codes "Memory"
 
--- What comes of it: the file is told to be none, unless the device failed or memory was refused.
+-- What comes of it: the line says that the file is none, unless the device failed or memory was
+-- refused.
 abbrev pub cosigner_open_ending : Text → StateOpenError → Ending
 cosigner_open_ending file (Open open_error.Failed) = room_failed file
 cosigner_open_ending file (Open open_error.Memory) = no_memory

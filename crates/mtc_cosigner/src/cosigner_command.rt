@@ -1,5 +1,4 @@
-//! The commands on a cosigner that has a journal: the journal is lent, opened, worked on and given
-//! back.
+//! The commands on a cosigner that has a journal: the journal is opened, worked on and closed.
 
 ghost use Rattle.std.specs.Prelude.{◌≡◌, ◌<◌, ◌^◌, [], ◌∷◌};
 ghost use Rattle.mtc_command.specs.Answers.{stop_ending, ending_of};
@@ -59,8 +58,7 @@ fn on_device<'a, H: TreeHash, D: Disk>(
     }
 }
 
-/// Lends a journal, opens its cosigner and works on it. Whatever comes of it, the device is given
-/// back.
+/// Opens a journal, opens its cosigner and works on it. Whatever comes of it, the device is closed.
 pub fn on_cosigner<'a, H: TreeHash, R: Room>(
     alloc: Global,
     room: &mut R,

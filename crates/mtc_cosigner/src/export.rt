@@ -19,7 +19,7 @@ use mtc_room::Room;
 use std::alloc::Global;
 use tree_core::TreeHash;
 
-// A text in the making. Its one fault is want of memory.
+// A text in the making. It fails only if memory runs out.
 #[derive(Drop)]
 struct TextSink {
     text: Bytes,

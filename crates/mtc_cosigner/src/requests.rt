@@ -33,7 +33,7 @@ use std::alloc::{AllocError, Global};
 use tls_wire::AnchorId;
 use tree_core::TreeHash;
 
-// The room for a signature: a buffer holds no more.
+// The capacity for a signature: a buffer holds no more.
 const CAPACITY: usize = 17_748;
 
 // Why a file is no request.
@@ -100,7 +100,7 @@ pub(crate) fn advance_on<'a, H: TreeHash, D: Disk>(
     }
 }
 
-// The id of a cosigner behind its length, with room for a signature behind it.
+// The id of a cosigner after its length, with capacity for a signature after it.
 fn begun_with(alloc: Global, id: &AnchorId) -> Result<Vec<u8>, AllocError>
     ensures text { IfOk result (λ text. text.items ≡ vector w8 id.now) }
     ensures room { IfOk result (λ text. vec_len text + 2 + 17748 ≤ vec_capacity text) }
@@ -112,7 +112,7 @@ fn begun_with(alloc: Global, id: &AnchorId) -> Result<Vec<u8>, AllocError>
     Ok(text)
 }
 
-// The same with the signature behind its length.
+// The same with the signature after its length.
 fn with_signature(mut text: Vec<u8>, signature: &[u8]) -> Bytes
     requires short { length signature.now ≤ 17748 }
     requires room { vec_len text + 2 + 17748 ≤ vec_capacity text }
@@ -129,7 +129,7 @@ fn with_signature(mut text: Vec<u8>, signature: &[u8]) -> Bytes
 }
 
 /// The work of `cosign S REQUEST`. All memory is taken before the record is added, and the
-/// signature is made behind it.
+/// signature is made after it.
 pub(crate) fn cosign_on<'a, H: TreeHash, D: Disk>(
     alloc: Global,
     journal: &'a str,

@@ -1,5 +1,5 @@
 //! The work of a command on a cosigner whose journal is open: its own refusals, its text, and at
-//! most one append, behind which nothing wants memory.
+//! most one append, after which nothing takes memory.
 
 ghost use Rattle.cosigner_core.specs.Keyless.{keyless_owner};
 ghost use Rattle.mtc_command.specs.Answers.{ending_of};
@@ -22,12 +22,13 @@ pub enum Work<'r> {
     Advance(AdvanceRequest<'r>),
     /// It signs a subtree.
     Cosign(SubtreeRequest<'r>),
-    /// It tells what others may know of it.
+    /// It prints what others may know of it.
     Export,
 }
 
 /// Carries out a command on the cosigner of a journal, and hands its device back. It makes the key
-/// for a signature and for an export alone. A failure of the device is told by the journal's name.
+/// for a signature and for an export alone. A failure of the device is reported by the journal's
+/// name.
 #[tactic(auto, unfolding(crate::specs::Works::cosigner_says))]
 pub(crate) fn carry_out<'a, H: TreeHash, D: Disk>(
     alloc: Global,
