@@ -1,4 +1,4 @@
--- `audit` behind each of the files that it reads.
+-- `audit` after each of the files that it reads.
 use Rattle.std.proofs.Common.{◌≡◌, ◌≤◌, ℕ, List, [], ◌∷◌, length, Option, Some, ap, sym, subst, ◌∙◌}
 use Rattle.disk_core.specs.declared.disk.Disk.{Ghosts as Disks}
 use Rattle.mtc_room.specs.declared.room.Room.{Ghosts as Rooms}

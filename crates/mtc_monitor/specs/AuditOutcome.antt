@@ -55,7 +55,7 @@ case_of store items kept j = record {
   kept = kept;
 }
 
--- ---- what is told of it
+-- ---- what it prints of that
 
 abbrev pub foreign_text : Hash × Hash → Text
 foreign_text hashes = codes "foreign " ++ (encode_lower hashes.0 ++ (codes " "
@@ -96,7 +96,7 @@ pub record InputFile : Type 0 where
   pub name : Text
   pub text : Text
 
--- A refused certificate is told as by `verify`.
+-- A refused certificate is reported as by `verify`.
 abbrev pub audit_accepted_says : HashFunction → Text → Store → ItemLists → Option Export
     → Result AcceptedParts Refusal → Outcome
 audit_accepted_says h cert store items kept (Ok j) = audit_says h (case_of store items kept j)

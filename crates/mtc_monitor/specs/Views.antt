@@ -1,4 +1,4 @@
--- What contracts see of the code's values, and what is told of them.
+-- What contracts see of the code's values, and what is reported of them.
 use Rattle.cert_fields.specs.Views.{parts}
 use Rattle.mtc_command.specs.Answers.{Reply, said}
 use Rattle.mtc_command.specs.declared.answer.Said.TheVariants.{Done, Against, Collided}

@@ -1,4 +1,4 @@
-//! The command `audit`: what is accepted of a certificate is held against the entries of a log and
+//! The command `audit`: what is accepted of a certificate is compared with the entries of a log and
 //! the export of a cosigner.
 
 ghost use Rattle.std.specs.Prelude.{◌≡◌, ◌<◌, ◌^◌, true, [], ◌∷◌, IfOk, IfSome, option_map};
@@ -153,9 +153,9 @@ fn input<'a, 'b>(name: &'a str, bytes: &'b Bytes) -> Input<'a, 'b>
     }
 }
 
-/// The command `audit CERT STORE NOW ENTRIES EXPORT`. The moment is in seconds since
-/// 1970-01-01T00:00:00Z. All files are read before the first is looked into; then the store is
-/// tested, the entries and the export, and the certificate is judged last.
+/// The command `audit CERT STORE NOW ENTRIES EXPORT`. The time is in seconds since
+/// 1970-01-01T00:00:00Z. All files are read before any is tested; then the store is tested, the
+/// entries and the export, and the certificate is judged last.
 pub fn audit<'a, H: TreeHash, R: Room>(
     alloc: Global,
     room: &mut R,

@@ -1,4 +1,4 @@
-//! What an audit finds, and what is told of it.
+//! What an audit finds, and what it reports of that.
 
 ghost use Rattle.std.specs.Prelude.{◌≡◌, IfOk, IfSome, option_map};
 ghost use Rattle.cert_fields.specs.Views.{parts};
@@ -48,7 +48,7 @@ fn answer_to(alloc: Global, found: Audit) -> Result<Answer, Memory>
     }
 }
 
-/// Holds what was accepted against these items, and against the export of a cosigner.
+/// Compares what was accepted with these items, and with the export of a cosigner.
 pub(crate) fn audited<H: TreeHash>(
     alloc: Global,
     accepted: &AcceptedCert,

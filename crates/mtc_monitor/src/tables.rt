@@ -38,7 +38,7 @@ fn subtree_table<H: TreeHash>(
     Ok(format!(in alloc; "[[subtree]]\nstart = {start}\nend = {end}\nhash = \"{hash}\"\n\n")?)
 }
 
-// Puts the tables of the one subtree or the two of a cover behind a text.
+// Appends the tables of the one subtree or the two of a cover to a text.
 #[tactic(auto, using(std::proofs::lemmas::List::append_assoc))]
 fn put_cover<H: TreeHash>(
     alloc: Global,

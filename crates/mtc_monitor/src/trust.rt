@@ -58,7 +58,7 @@ fn entries_answer<'a, H: TreeHash>(
 }
 
 /// The command `trust-landmarks LIST MAXACTIVE ENTRIES`. Both files are read before the entries are
-/// looked into, and these before the list.
+/// tested, and these before the list.
 pub fn trust_landmarks<'a, H: TreeHash, R: Room>(
     alloc: Global,
     room: &mut R,
