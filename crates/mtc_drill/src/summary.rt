@@ -11,7 +11,7 @@ use mtc_command::{Answer, Said, Stop};
 use std::alloc::{AllocError, Global};
 use tree_core::TreeHash;
 
-// Puts a line of a name and a number behind the text.
+// Appends a line of a name and a number to the text.
 fn put_line(text: &mut String, name: &str, number: u64) -> Result<(), AllocError>
     ensures { OnOk result (string_bytes text.new
         ≡ string_bytes text.old ++ numbered_line name.now number) }
