@@ -1,4 +1,4 @@
--- The texts of the files of a plan, and what is told of them.
+-- The texts of the files of a plan, and what is reported of them.
 use Rattle.std.proofs.Common.{◌≡◌, inl, inr, ℕ, Bool, true, false, List, [], ◌∷◌, None, refl, ap}
 use Rattle.std.proofs.Common.{if◌then◌else◌}
 use Rattle.mtc_command.specs.Answers.{Reply}
@@ -28,7 +28,7 @@ abbrev pub fourth_read : (one two three four : Input) (rest : List Input) → Li
 fourth_read one two three four rest text =
     record { file = four; text = text; is_input = inr (inr (inr (inl refl))) }
 
--- ---- what is told
+-- ---- what is reported
 
 -- without a journal
 abbrev pub told_alone : Judged → Outcome

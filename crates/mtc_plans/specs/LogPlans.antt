@@ -28,7 +28,7 @@ module _ (h : HashFunction) where
       → Step inputs (opens_log beside journal)
   work_step beside journal work = works (λ found. deed_on (work_told h work found.0))
 
-  -- A command of its words alone.
+  -- A command of its arguments alone.
   abbrev pub work_plan : Beside → Text → Work → Plan (node_kinds h)
   work_plan beside journal work = record {
     inputs = [];

@@ -43,9 +43,9 @@ pub fn law_plans_name_their_files()
 {}
 
 /// What is proved of every plan holds of the program's kinds of journals: each outcome is one of
-/// six; status 1 is for words alone, and status 2 about a file that the command reads, a journal
-/// that it opens or a tile of one; a journal that isn't opened goes with an early status; what is
-/// found is what its file represents; and a command that is heard has passed all tests.
+/// six; status 1 is for arguments alone, and status 2 about a file that the command reads, a
+/// journal that it opens or a tile of one; a journal that isn't opened goes with an early status;
+/// what is found is what its file represents; and a command that is heard has passed all tests.
 pub fn law_commands_come()
     ensures six { (h : HashFunction) → OutcomesCome (node_kinds h) }
     ensures words { (h : HashFunction) → NoCommandIsBadWords (node_kinds h) }
