@@ -1,4 +1,4 @@
--- An audit of a certificate that a landmark or a handed out signature backs.
+-- An audit of a certificate that a landmark or a released signature backs.
 use Rattle.std.proofs.Common.{◌≡◌, ◌⊎◌, inl, inr, ℕ, zero, suc, ◌+◌, ◌<◌, true, false, Bool}
 use Rattle.std.proofs.Common.{List, [], ◌∷◌, length, Option, None, Some, Result, refl, sym}
 use Rattle.std.proofs.Common.{subst, ap, ◌∙◌, arith, get_or, ◌&&◌, ◌==◌, is_some}
@@ -155,7 +155,7 @@ counted_so store set e id key cosigner public has =
     ((bytes_eq-Decides has.known.id e.cosigner).1 (has.id_is ∙ sym cosigner))
     ((bytes_eq-Decides has.known.key e.public).1 (has.key_is ∙ sym public))))
 
--- what was told to have gone out is what was printed
+-- what went out, as the model knows it, is what was printed
 printed_text : (old new : Option (List ℕ)) (before kept text : List ℕ) → old ≡ Some before
     → new ≡ Some (before ++ kept) → Appends old new text → kept ≡ text
 printed_text None new before kept text was is prints =

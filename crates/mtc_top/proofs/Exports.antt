@@ -1,4 +1,4 @@
--- A run of `export` behind a course.
+-- A run of `export` after an execution.
 use Rattle.std.proofs.Common.{◌≡◌, inr, ℕ, suc, List, [], ◌∷◌, ◌++◌, drop}
 use Rattle.std.proofs.Common.{Some, Result, Ok, refl, sym, subst, ap, ◌∙◌, arith}
 use Rattle.std.proofs.Common.{append_assoc}
@@ -78,7 +78,7 @@ same_found : {F E : Type 0} (r : Result F E) (one other : F) → r ≡ Ok one �
     → one ≡ other
 same_found r one other is so = cc
 
--- a node that began as a cosigner is read as one
+-- a party that began as a cosigner is read as one
 read_cosigner : (h : HashFunction) (start : NodeStart) (settings : CosignerSettings)
     (public bytes : List ℕ) (list : List (List ℕ)) → start ≡ Cosigner settings public
     → IsReadAs h start bytes list → (s : CosignerState)

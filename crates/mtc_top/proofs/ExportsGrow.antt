@@ -1,4 +1,4 @@
--- A run of `export` behind a course, beside one in the course.
+-- A run of `export` after an execution, beside one in the execution.
 use Rattle.std.proofs.Common.{◌≡◌, ℕ, List, ◌++◌, Some, Ok, sym, subst, ap, ◌∙◌}
 use Rattle.byte_formats.specs.Places.{IsBytes}
 use Rattle.byte_formats.specs.Types.{HashFunction}
@@ -32,7 +32,7 @@ module _ {R S D O E : Type 0} (h : HashFunction) (rooms : Rooms R S D) (disks : 
   module _ (name : List ℕ) (begins new : R) (links : List (Link R O E))
       (settings : CosignerSettings) (public : List ℕ) (turn : Turn R O E)
       (now : HasExported h rooms disks outs errs settings public name begins links new turn) where
-    -- the earlier run read a front of the records
+    -- the earlier run read a prefix of the records
     has_more : (old : R) (earlier : Turn R O E) → rooms.is_modelled old
         → HasTurned h rooms disks outs errs old earlier → IsHeard outs earlier
         → command_of earlier.words ≡ Ok (export name)

@@ -131,7 +131,7 @@ none_left g file None c models none is = is
 none_left g None (Some d) c models none is = absurd (grind (rules, models))
 none_left g (Some b) (Some d) c models none is = absurd cc
 
--- what a device tells is one, and what the room tells of the file
+-- what a device tells is one, and what the file system tells of the file
 pub contents_image : {D : Type 0} (g : Disks D) (x : Option D) (c : List ℕ) → ReadsImage g
     → device_contents g x ≡ Some c → states_at g x c
 contents_image g None c image is = absurd cc
@@ -148,7 +148,7 @@ pub file_bytes : {D : Type 0} (g : Disks D) (file : Option (List ℕ)) (x : Opti
 file_bytes g file None c bytes models is = absurd cc
 file_bytes g file (Some d) c bytes models is = bytes d c (models.0 ∙ is)
 
--- of this moment there are the crash states of now
+-- of this time there are the crash states of now
 now_of : {D : Type 0} (g : Disks D) → OnlyNow g → (x : Option D) (c : List ℕ)
     → states_since g x (clock_of g x) c → states_at g x c
 now_of g only None c is = is
@@ -232,7 +232,7 @@ module _ {R S D O E : Type 0} (h : HashFunction) (rooms : Rooms R S D) (disks : 
           (contents old name is_modelled) none at
     ]
 
-    -- where a record was added nothing would be kept
+    -- where a record was added nothing would be retained
     added_valid : (list : List (List ℕ)) (body : List ℕ)
         → IsFound (Rules turn) (rooms.file old name) list
         → LeavesValid rooms disks (Rules turn) old turn.room name (appended list body)
@@ -255,7 +255,7 @@ module _ {R S D O E : Type 0} (h : HashFunction) (rooms : Rooms R S D) (disks : 
     ]
 
     module _ (c : List ℕ) where
-      -- what is left at some moment
+      -- what is left at some time
       abbrev Left : Journaled → Type 0
       Left did = NoNew Before (λ d. d ≡ c) ⊎ HalfDone Valid did Before (λ d. d ≡ c)
 
@@ -298,7 +298,7 @@ module _ {R S D O E : Type 0} (h : HashFunction) (rooms : Rooms R S D) (disks : 
         (added_valid list body knows.finds knows.valid made.now_is)) (made.since_is c at)
     done_then (started body) knows made c at = inr (empty_before body knows.is_new)
 
-    -- the room failed
+    -- the file system failed
     half : (did : Journaled) → Knows did → MayHaveMade did Before Now Between
         → NoNew Before Now ⊎ HalfDone Valid did Before Now
     half untouched knows made = inl made.now_is
@@ -444,7 +444,7 @@ module _ {R S D O E : Type 0} (h : HashFunction) (rooms : Rooms R S D) (disks : 
         ((facts h (command_of turn.words)).outcome (rooms.file old)).journals name
         (Done' name old turn) (held_among list held)
 
-    -- the records keep to the rules of the command
+    -- the records follow the rules of the command
     pub held_rules : (list : List (List ℕ)) → rooms.is_modelled old
         → HasTurned h rooms disks outs errs old turn
         → HasHeld h rooms disks outs errs name old turn list → Rules turn list
@@ -455,7 +455,7 @@ module _ {R S D O E : Type 0} (h : HashFunction) (rooms : Rooms R S D) (disks : 
         (leaves name old turn is_modelled run (Rules turn) (λ l is. is)
         (none_beside h (command_of turn.words) name (held_own list held))).leads
 
-  -- in a course the first run has such a name
+  -- in an execution the first run has such a name
   pub first_own : (name : List ℕ) (list : List (List ℕ)) (old : R) (links : List (Link R O E))
       → FirstHolds list (events h rooms disks outs errs name old links) → IsOwn name
   first_own name list old [] held = absurd held

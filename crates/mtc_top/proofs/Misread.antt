@@ -1,4 +1,5 @@
--- Status 2 behind a course is about an input, or a tile that the file of a log's tiles hasn't.
+-- Status 2 after an execution is about an input, or a tile that the file of a log's tiles doesn't
+-- have.
 use Rattle.std.proofs.Common.{◌≡◌, inl, inr, ℕ, List, [], ◌∷◌, Option, None, Some}
 use Rattle.std.proofs.Common.{Result, Ok, Err, IsOk, refl, sym, subst, ◌∙◌, arith}
 use Rattle.std.proofs.lemmas.Option.{same_Some}
@@ -71,7 +72,7 @@ none_refused k files [] file reason none any = any
 none_refused k files (opens kind beside name ∷ rest) file reason none any = cc
 none_refused k files (makes kind name ∷ rest) file reason none any = cc
 
--- ---- a journal that stands for the records of a node
+-- ---- a journal that represents the records of a node
 
 module _ (h : HashFunction) (start : NodeStart) (first name : List ℕ) (files : Files)
     (stands : (c : List ℕ) → files name ≡ Some c

@@ -21,7 +21,7 @@ use Rattle.mtc_plans.specs.NodeKinds.{node_kinds}
 use Rattle.mtc_top.specs.Facts.{facts, facts_of}
 use Rattle.mtc_top.proofs.Planned.{one_planned}
 
--- the file is a journal of these records, which keep to the rules
+-- the file is a journal of these records, which follow the rules
 pub record IsFound (Valid : List (List ℕ) → Type 0) (file : Option (List ℕ))
     (list : List (List ℕ)) : Type 0 where
   pub bytes : List ℕ
@@ -43,7 +43,7 @@ IsNewAt files name did = IsOnOld did ⊎ (files name ≡ None)
 -- ---- what is found
 
 module _ (k : Kinds) (files : Files) (Valid : List (List ℕ) → Type 0) where
-  -- records of a node of this kind keep to the rules
+  -- records of a node of this kind follow the rules
   abbrev Keeps : k.Kind → Type 0
   Keeps kind = (list : List (List ℕ)) → AreOfKind k kind list → Valid list
 

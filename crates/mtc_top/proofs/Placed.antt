@@ -1,5 +1,5 @@
--- A file that is placed in a room in memory has one image, and so each file has where the others
--- had one.
+-- A file that is placed in a file system in memory has one crash state, and so each file has if the
+-- others had one.
 use Rattle.std.proofs.Common.{◌≡◌, ◌≢◌, ℕ, true, false, Bool, List}
 use Rattle.std.proofs.Common.{Option, None, Some, refl, sym, subst, ◌∙◌}
 use Rattle.std.proofs.Common.{true≢false}
@@ -36,7 +36,7 @@ module _ {D : Type 0} (g : Disks D) (May : List ℕ → List ℕ → Type 0)
     (others : (other : List ℕ) → other ≢ name → new other ≡ old other)
     (settle : (other : List ℕ) → other ≢ name → (c : List ℕ) × (May other c
     × ((d : List ℕ) → states_at g (old other) d → d ≡ c))) where
-  -- the one image of a file
+  -- the one crash state of a file
   pub record IsLeft (n : List ℕ) : Type 0 where
     pub image : List ℕ
     pub was : May n image

@@ -1,4 +1,4 @@
--- What becomes of the records behind what went out in a course.
+-- What becomes of the records of what went out in an execution.
 use Rattle.std.proofs.Common.{◌≡◌, ℕ, List, [], ◌∷◌, ◌++◌, Some}
 use Rattle.byte_formats.specs.Places.{IsBytes}
 use Rattle.byte_formats.specs.Types.{HashFunction}

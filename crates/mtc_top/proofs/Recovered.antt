@@ -1,4 +1,4 @@
--- What may be recovered of a node's journal behind a course, and its history.
+-- What may be recovered of a node's journal after an execution, and its history.
 use Rattle.std.proofs.Common.{◌≡◌, ◌⊎◌, inl, inr, ℕ, true, List, [], ◌∷◌, ◌++◌, Option, None, Some}
 use Rattle.std.proofs.Common.{Result, Ok, refl, sym, subst, ap, ◌∙◌, append_assoc}
 use Rattle.std.specs.Prelude.{IsOk, is_ok}
@@ -52,7 +52,7 @@ use Rattle.mtc_top.proofs.Turns.{heard_event, heard_held}
 
 -- ---- lists
 
--- a front up to a record of a front
+-- a prefix up to a record of a prefix
 first_of_more : (list : List (List ℕ)) (body : List ℕ) (more found : List (List ℕ))
     → IsPrefix (list ++ body ∷ more) found → IsPrefix (list ++ body ∷ []) found
 first_of_more list body more found prefix = (
@@ -61,7 +61,7 @@ first_of_more list body more found prefix = (
       ∙ (sym (append_assoc list (body ∷ more) prefix.0) ∙ prefix.1),
 )
 
--- what stands for pending records begins with the first of them
+-- what represents pending records begins with the first of them
 first_is : (first other c : List ℕ) (others settled list : List (List ℕ))
     (pending : Option (List ℕ)) → RepresentsPending (other ∷ settled) pending c → Represents c list
     → first ∷ others ≡ list → other ≡ first
@@ -74,7 +74,7 @@ first_is first other c others settled list (Some body) stands found is = elim st
       (one_list c (other ∷ (settled ++ body ∷ [])) list new found ∙ sym is)
 ]
 
--- a node that began as a log has one
+-- a party that began as a log has one
 log_found : (h : HashFunction) (start : NodeStart) (settings : Settings) (first : List ℕ)
     (list : List (List ℕ)) → start ≡ Log settings → StartsWith start first
     → AreOfParty h start first list → (t : LogState) × (log_of h list ≡ Ok t)
@@ -162,7 +162,7 @@ module _ {R S D O E : Type 0} (h : HashFunction) (rooms : Rooms R S D) (disks : 
               (subst (Represents c) of.is b.stands);
         }
 
-    -- what was held is the front of what is recovered
+    -- what was held is the prefix of what is recovered
     pub held_prefix : (list found : List (List ℕ))
         → WasHeld h rooms disks outs errs name begins links list
         → IsRecovered h rooms disks outs errs name new found → IsPrefix list found
@@ -181,7 +181,7 @@ module _ {R S D O E : Type 0} (h : HashFunction) (rooms : Rooms R S D) (disks : 
         let b = (held_stand States (AreRecords h) list begins new evs held execution).each c at in
         (b.list, (b.stands, b.begins))
 
-    -- what holds of each run of the course, where it holds by the records that it held
+    -- what holds of each run of the execution, where it holds by the records that it held
     pub each_held : (Told : List (List ℕ) → Type 0) (P : R → Turn R O E → Type 0)
         → ((list : List (List ℕ)) → WasHeld h rooms disks outs errs name begins links list
         → Told list)

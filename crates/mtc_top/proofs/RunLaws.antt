@@ -1,4 +1,4 @@
--- What follows of each run, and how it ends as steps of a node.
+-- What follows of each run, and how it ends as steps of a party.
 use Rattle.std.proofs.Common.{◌≡◌, ◌≢◌, ◌≤◌, ◌<◌, ◌⊎◌, inl, inr, ℕ, List, [], ◌∷◌, Option}
 use Rattle.std.proofs.Common.{None, Some, codes, length, take, refl, sym, ap, subst, ◌∙◌}
 use Rattle.std.proofs.Common.{arith, rules, length-take, take_all, Bool, true, false, ◌||◌, ◌==◌}
@@ -106,14 +106,14 @@ unheard status n old new is some other none heard = elim (heard_ways status old 
   ]
 ]
 
--- a front of a front
+-- a prefix of a prefix
 take_both : (j k : ℕ) (l : List ℕ) → (n : ℕ) × (take j (take k l) ≡ take n l)
 take_both j k l = elim (leb_tells j k) [
   | inl less ↦ (j, take-take j k l less.1)
   | inr more ↦ (k, take_all j (take k l) (omega (arith, more.1, length-take k l)))
 ]
 
--- a front of what went out of a text is one of the text
+-- a prefix of what went out of a text is one of the text
 prefix_on : (old new failed : Option (List ℕ)) (text whole : List ℕ) → TookSome old new
     → Appends old new text → AppendsPrefix old new whole → AppendsPrefix old failed text
     → AppendsPrefix old failed whole
@@ -150,7 +150,7 @@ module _ {R S D O E : Type 0} (h : List ℕ → List ℕ) (rooms : Rooms R S D) 
   abbrev went : Type 0
   went = is_heard status (outs.taken out) (outs.taken out') ≡ true
 
-  -- where the room or memory ended it, it isn't heard
+  -- where the file system or memory ended it, it isn't heard
   not_failed : Failed → went → ⊥
   not_failed failed any = unheard status 5 (outs.taken out) (outs.taken out') failed.code
       (omega arith) (λ six. omega (arith, six)) failed.text any
@@ -220,7 +220,7 @@ module _ {R S D O E : Type 0} (h : List ℕ → List ℕ) (rooms : Rooms R S D) 
     ];
   }
 
-  -- ---- a front of what went out
+  -- ---- a prefix of what went out
 
   module _ (some : TookSome (outs.taken out) (outs.taken out')) (failed : O) (contents : E)
       (text : List ℕ) (is : Prints outs out out' text) (prefix : PrintsPrefix outs out failed text)
@@ -291,7 +291,7 @@ module _ {R S D O E : Type 0} (h : HashFunction) (rooms : Rooms R S D) (disks : 
       | inr other ↦ other
     ]
 
-    -- time goes on
+    -- time continues
     later : IsOther asked.besides name
         → clock_of disks (rooms.device old name) ≤ clock_of disks (rooms.device turn.room name)
     later beside = elim (find_name asked.journals (asked.outcome (rooms.file old)).journals name) [

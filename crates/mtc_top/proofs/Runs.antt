@@ -1,4 +1,4 @@
--- How a run ends: it answers, or the room failed, or memory was refused.
+-- How a run ends: it answers, or the file system failed, or memory was refused.
 use Rattle.std.proofs.Common.{◌≡◌, ◌≢◌, ◌≤◌, ◌<◌, ◌⊎◌, inl, inr, ℕ, List, [], ◌++◌, length}
 use Rattle.std.proofs.Common.{refl, sym, subst, ◌∙◌, arith, IsErr, IfSome}
 use Rattle.disk_core.specs.declared.disk.Disk.{Ghosts as Disks}
@@ -53,7 +53,7 @@ reply_code (refused NotAllowed file reason) = is_reply 4 (inl (omega arith))
 reply_code (refused Missing file reason) = is_reply 7 (inr (inl refl))
 reply_code (refused Beyond file reason) = is_reply 9 (inr (inr (inl refl)))
 
--- a reply that says something doesn't come early, and not to words that are no command
+-- a reply that says something doesn't come early, and not to arguments that are no command
 said_late : (kind : Said) (text : List ℕ) → (status_of (said kind text) ≡ 1 → ⊥)
     × (IsEarly (status_of (said kind text)) → ⊥)
 said_late Done text = (λ is. omega (arith, is), λ is. omega (arith, is))
@@ -70,7 +70,7 @@ module _ {O E : Type 0} (outs : Sinks O) (errs : Sinks E) (command : List ℕ) (
     (err err' : E) (reply : Reply) (status : ℕ)
     (ends : Wrote outs errs command out out' err err' reply status
     ⊎ Lost outs errs command out out' err err' (out_of reply) status) where
-  -- a front of its text
+  -- a prefix of its text
   pub prefix_of : PrintsPrefix outs out out' (out_of reply)
   prefix_of = elim ends [
     | inl wrote ↦ prefix_whole _ _ _ wrote.text
@@ -142,7 +142,7 @@ module _ {R S D O E : Type 0} (h : List ℕ → List ℕ) (rooms : Rooms R S D) 
   Out ending status =
       Concludes outs errs (known_word words) out out' err err' ending (rooms.why new) status
 
-  -- the room failed
+  -- the file system failed
   pub record HasFailed (status : ℕ) : Type 0 where
     pub code : status ≡ 5
     pub cause : Rose (rooms.faults old) (rooms.faults new)
@@ -228,7 +228,7 @@ module _ {R S D O E : Type 0} (h : List ℕ → List ℕ) (rooms : Rooms R S D) 
     pub all_early : rooms.is_modelled old → Early status
     all_early = early_by run.ending status run.ends run.concludes
 
-    -- where the room didn't fail and memory was had it answered
+    -- where the file system didn't fail and memory was had it answered
     pub answered : status ≢ 5 → status ≢ 8 → Answers status
     answered not5 not8 = elim ended [
       | inl a ↦ a

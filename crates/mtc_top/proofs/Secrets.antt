@@ -146,7 +146,7 @@ module _ {R S D O E : Type 0} (h : HashFunction) (rooms : Rooms R S D) (disks : 
         (KeysSo (rooms.file old) height width file) (keyed_so h (rooms.file old) height width file))
     says_so other spoken = logs other spoken refl
 
-    -- words that are no command are refused
+    -- arguments that are no command are refused
     has_command : (r : Result CommandValue WordError) → command_of turn.words ≡ r
         → (command : CommandValue) × Speaks command
     has_command (Ok command) is = (command, is)

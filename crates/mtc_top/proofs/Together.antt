@@ -1,4 +1,4 @@
--- Histories of several nodes make one history of all.
+-- Histories of several parties make one history of all.
 use Rattle.std.proofs.Common.{◌≡◌, ℕ, zero, suc, ◌+◌, List, [], ◌∷◌, ◌++◌, map, Option, None, Some}
 use Rattle.std.proofs.Common.{Ok, refl, sym, subst, ap, ◌∙◌, option_map, option_and_then, slice_get}
 use Rattle.std.specs.Prelude.{slice_set}
@@ -22,21 +22,21 @@ use Rattle.node_history.proofs.Chains.{first_step, no_some}
 use Rattle.mtc_top.specs.RoomLaws.{AreOneHistory, IsJournalOf, JournalsAreOneHistory}
 use Rattle.mtc_top.proofs.Recovered.{reached}
 
--- the same step of the next node
+-- the same step of the next party
 abbrev later : NodeStep → NodeStep
 later (Begin node body) = Begin (suc node) body
 later (Settle node) = Settle (suc node)
 later (Hand node) = Hand (suc node)
 later (Stop node kept) = Stop (suc node) kept
 
--- a node of the list is moved on
+-- a party of the list is moved on
 abbrev moved_in : (HistoryState → Option HistoryState) → List HistoryState → ℕ
     → Option (List HistoryState)
 moved_in f states n =
     option_and_then (λ s. option_map (slice_set states n) (f s)) (slice_get states n)
 
 module _ (x : HistoryState) (xs : List HistoryState) where
-  -- a node behind the first one
+  -- a party after the first one
   next_moved : (f : HistoryState → Option HistoryState) (n : ℕ)
       → moved_in f (x ∷ xs) (suc n) ≡ option_map (λ l. x ∷ l) (moved_in f xs n)
   next_moved f n = of (slice_get xs n)
@@ -52,7 +52,7 @@ module _ (x : HistoryState) (xs : List HistoryState) where
       of None = refl
       of (Some s) = of_move (f s)
 
-  -- the only node, with others behind it
+  -- the only party, with others after it
   only_moved : (f : HistoryState → Option HistoryState) (n : ℕ) (next : List HistoryState)
       → moved_in f (x ∷ []) n ≡ Some next
       → (t : HistoryState) × (next ≡ t ∷ []) × (moved_in f (x ∷ xs) n ≡ Some (t ∷ xs))
@@ -102,7 +102,7 @@ module _ (valid : Valid) where
       goes_first j states step steps first.0 ends first.1
       (any_number (k + 1) (j + 1) first.0 ends steps first.2)
 
-  -- steps behind steps
+  -- steps after steps
   goes_behind : (k : ℕ) (states mid ends : List HistoryState) (earlier more : List NodeStep)
       → states_from valid k states earlier ≡ Ok mid → states_from valid 0 mid more ≡ Ok ends
       → states_from valid k states (earlier ++ more) ≡ Ok ends
@@ -114,7 +114,7 @@ module _ (valid : Valid) where
       goes_first k states step (earlier ++ more) first.0 ends first.1
       (goes_behind (k + 1) first.0 mid ends earlier more first.2 rest)
 
-  -- a history with a node in front that takes no step
+  -- a history with a party before the others that takes no step
   with_first : (k : ℕ) (x : HistoryState) (states ends : List HistoryState)
       (steps : List NodeStep) → states_from valid k states steps ≡ Ok ends
       → states_from valid k (x ∷ states) (map later steps) ≡ Ok (x ∷ ends)
@@ -127,7 +127,7 @@ module _ (valid : Valid) where
       ∙ ap (option_map (λ (l : List HistoryState). x ∷ l)) first.1)
       (with_first (k + 1) x first.0 ends steps first.2)
 
-  -- a history of one node, with others behind it that take no step
+  -- a history of one party, with others after it that take no step
   with_others : (k : ℕ) (x : HistoryState) (others ends : List HistoryState)
       (steps : List NodeStep) → states_from valid k (x ∷ []) steps ≡ Ok ends
       → (t : HistoryState) × (ends ≡ t ∷ [])

@@ -55,7 +55,7 @@ module _ {R S D O E : Type 0} (h : HashFunction) (rooms : Rooms R S D) (disks : 
   heard_wrote zero_ = wrote_of outs errs word turn.out turn.out_after turn.err turn.err_after
       heard_run.reply turn.status heard_run.concludes (λ six. omega (arith, zero_, six))
 
-  -- a text that was asked for went out, or a front of it
+  -- a text that was asked for went out, or a prefix of it
   pub printed_so : (text : List ℕ) → heard_run.reply ≡ said Done text → HasPrinted outs turn text
   printed_so text is = record {
     ends = elim heard_run.concludes [

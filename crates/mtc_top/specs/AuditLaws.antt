@@ -1,5 +1,5 @@
 -- What `audit` prints of a certificate that was accepted by a landmark, or by a signature whose
--- record a run of a course of a cosigner's journal held.
+-- record a run of an execution of a cosigner's journal held.
 use Rattle.std.specs.Prelude.{◌≡◌, ◌≢◌, ◌⊎◌, ℕ, ◌≤◌, true, pos, List, ◌∷◌, ◌++◌, length, None}
 use Rattle.std.specs.Prelude.{Some, Ok, slice_get}
 use Rattle.byte_formats.specs.Types.{HashFunction, Text}
@@ -34,8 +34,8 @@ pub record HoldsText (files : Files) (name : Text) (limit : ℕ) (text : Text) :
   pub there : files name ≡ Some text
   pub few : length text ≤ limit
 
--- The four files are read, each by its grammar, and the store accepts the certificate at that
--- moment: this is the case to be audited.
+-- The four files are read, each by its grammar, and the store accepts the certificate at that time:
+-- this is the case to be audited.
 pub record IsAuditOf (h : HashFunction) (files : Files) (cert store : Text) (moment : ℕ)
     (entries kept : Text) (x : AuditCase) : Type 0 where
   pub cert_text : Text
@@ -52,7 +52,7 @@ pub record IsAuditOf (h : HashFunction) (files : Files) (cert store : Text) (mom
   pub judged : accepted_in h cert_text x.store (pos moment)
       ≡ Ok (record { accepted = x.accepted; cert = x.cert; proof = x.proof })
 
--- The store has a cosigner with this id and this public key, at a place of the set.
+-- The store has a cosigner with this id and this public key, at an index of the set.
 pub record HasCounted (store : Store) (set : ℕ) (id key : Text) : Type 0 where
   pub place : ℕ
   pub known : Known
@@ -63,9 +63,9 @@ pub record HasCounted (store : Store) (set : ℕ) (id key : Text) : Type 0 where
 
 module _ {R S D O E : Type 0} (h : HashFunction) (rooms : Rooms R S D) (disks : Disks D)
     (outs : Sinks O) (errs : Sinks E) where
-  -- A run of a course of a cosigner's journal held the record of a signature of the accepted
-  -- interval and hash, a run of `export` behind it printed what was kept, and the store counts the
-  -- cosigner.
+  -- A run of an execution of a cosigner's journal held the record of a signature of the accepted
+  -- interval and hash, a run of `export` after it printed the export that was retained, and the
+  -- store counts the cosigner.
   pub record IsSignedInCourse (x : AuditCase) (kept_text : Text) : Type 0 where
     -- a run made or opened the journal
     pub name : Text
@@ -75,7 +75,7 @@ module _ {R S D O E : Type 0} (h : HashFunction) (rooms : Rooms R S D) (disks : 
     pub begins : R
     pub links : List (Link R O E)
     pub begun : IsBegun h rooms disks outs errs name (Cosigner settings public) first begins links
-    -- the course
+    -- the execution
     pub old : R
     pub course : IsCourse h rooms disks outs errs name begins links old
     -- a record that a run of it found or added
@@ -87,7 +87,7 @@ module _ {R S D O E : Type 0} (h : HashFunction) (rooms : Rooms R S D) (disks : 
     pub proof : List Text
     pub signs : step_in body
         ≡ Some (Sign index x.accepted.start x.accepted.end x.accepted.hash proof)
-    -- the run of `export`, over an output that tells what it took
+    -- the run of `export`, over an output of which the model knows what it took
     pub turn : Turn R O E
     pub turned : HasTurned h rooms disks outs errs old turn
     pub spoken : command_of turn.words ≡ Ok (export name)
@@ -109,9 +109,9 @@ module _ {R S D O E : Type 0} (h : HashFunction) (rooms : Rooms R S D) (disks : 
       ⊎ ((one : Text) × ((other : Text) × ((turn.status ≡ 10) × (one ≢ other) × (h one ≡ h other)
       × Prints outs turn.out turn.out_after (collision_text one other))))
 
-  -- So it is of each run of `audit` that ends without a failure and without want of memory. A
+  -- This holds of each run of `audit` that ends without a failure and with memory enough. A
   -- landmark backs the certificate, and the list has its hash in the accepted interval; or such a
-  -- signature does, and the list begins with the entries of the last checkpoint that was kept.
+  -- signature does, and the list begins with the entries of the last checkpoint that was retained.
   abbrev pub AuditsSettle : Type 0
   AuditsSettle = (old : R) (turn : Turn R O E) (cert store : Text) (moment : ℕ)
       (entries kept : Text) (x : AuditCase) → rooms.is_modelled old
@@ -123,8 +123,8 @@ module _ {R S D O E : Type 0} (h : HashFunction) (rooms : Rooms R S D) (disks : 
       × ((x.kept ≡ Some export) × HasPrefix h x.items.entries (held_by h export.steps))))
       → turn.status ≢ 5 → turn.status ≢ 6 → turn.status ≢ 8 → StandsOrCollides x turn
 
-  -- The same by the words of `audit`, and the first of the two strings is one of the list's, the
-  -- second one of the certificate's or the cosigner's.
+  -- The same by the arguments of `audit`, and the first of the two strings is one of the list's,
+  -- the second one of the certificate's or the cosigner's.
   abbrev pub StandsOrPair : AuditCase → Turn R O E → Type 0
   StandsOrPair x turn = ((turn.status ≡ 0) × (has_own h x.items x.accepted x.cert ≡ true)
       × Prints outs turn.out turn.out_after (stands_text x.accepted.index))
@@ -132,7 +132,7 @@ module _ {R S D O E : Type 0} (h : HashFunction) (rooms : Rooms R S D) (disks : 
       × IsPair h collision_text (firsts_of h x) (seconds_of h x) text
       × Prints outs turn.out turn.out_after text))
 
-  -- So it is where a landmark or such a signature backs the certificate, and the list is the one
+  -- This holds if a landmark or such a signature backs the certificate, and the list is the one
   -- that is wanted.
   abbrev pub AuditsStand : Type 0
   AuditsStand = (old : R) (turn : Turn R O E) (cert store : Text) (moment : ℕ)

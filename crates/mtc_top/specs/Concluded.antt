@@ -11,19 +11,19 @@ use Rattle.mtc_command.specs.Answers.{Ending, Reply, replied, room_failed, no_me
 use Rattle.mtc_command.specs.Answers.{status_of, out_of, err_of}
 use Rattle.mtc_command.specs.Lines.{line_of, WritesLine}
 
--- This went to standard output; a front of it did.
+-- This went to standard output; a prefix of it did.
 abbrev pub Prints : {O : Type 0} → Sinks O → O → O → Text → Type 0
 Prints outs out out' text = Appends (outs.taken out) (outs.taken out') text
 
 abbrev pub PrintsPrefix : {O : Type 0} → Sinks O → O → O → Text → Type 0
 PrintsPrefix outs out out' text = AppendsPrefix (outs.taken out) (outs.taken out') text
 
--- This line went to standard error, or a front of it where that failed.
+-- This line went to standard error, or a prefix of it if that failed.
 abbrev pub Reports : {E : Type 0} → Sinks E → E → E → Text → Type 0
 Reports errs err err' line = WritesLine (Rose (errs.faults err) (errs.faults err'))
     (errs.taken err) (errs.taken err') line
 
--- What the line says of a room's failure.
+-- What the line says of a failure of the file system.
 abbrev pub word_of : Cause → Text
 word_of Locked = codes "Locked"
 word_of Failed = codes "Failed"
@@ -50,8 +50,8 @@ module _ {O E : Type 0} (outs : Sinks O) (errs : Sinks E) (command : Text)
     pub nothing : Prints outs out out' []
     pub line : Reports errs err err' (line_of command file reason)
 
-  -- How it ended; and why the room failed last, where that is how. A reply went out, or standard
-  -- output failed at its text.
+  -- How it ended; and why the file system failed last, where that is how. A reply went out, or
+  -- standard output failed at its text.
   abbrev pub Concludes : Ending → Cause → ℕ → Type 0
   Concludes (replied reply) cause status = Wrote reply status ⊎ Lost (out_of reply) status
   Concludes (room_failed file) cause status = Reported 5 (Some file) (word_of cause) status

@@ -1,4 +1,4 @@
--- What holds of each course of a journal, from the run on that made or opened it.
+-- What holds of each execution of a journal, from the run on that made or opened it.
 use Rattle.std.specs.Prelude.{◌≡◌, ◌⊎◌, ℕ, true, List, [], ◌∷◌, ◌++◌, length, Some, Ok}
 use Rattle.byte_formats.specs.Types.{HashFunction, Text}
 use Rattle.file_events.specs.Executions.{IsPrefix}
@@ -20,14 +20,14 @@ use Rattle.mtc_command.specs.Made.{appended}
 use Rattle.mtc_top.specs.Courses.{Link, IsBegun, IsCourse, IsReached, IsRecovered, HasHeld, WasHeld}
 use Rattle.mtc_top.specs.Courses.{DidWith, HasTurned, IsHeard, OfEachTurn, Turn, events, images_in}
 
--- These records begin with the first one of the node's journal, and the others may stand behind it.
+-- These records begin with the first one of the party's journal, and the others may follow it.
 pub record AreOfParty (h : HashFunction) (start : NodeStart) (first : Text)
     (list : List Text) : Type 0 where
   pub others : List Text
   pub is : list ≡ first ∷ others
   pub valid : may_follow h start others ≡ true
 
--- A file is read as the log or the cosigner that has these records, which are the node's.
+-- A file is read as the log or the cosigner that has these records, which are the party's.
 pub record IsReadAsParty (h : HashFunction) (start : NodeStart) (first c : Text) : Type 0 where
   pub records : List Text
   pub of_party : AreOfParty h start first records
@@ -39,20 +39,20 @@ UsesKey list body number = indices_of (list ++ body ∷ []) ≡ indices_of list 
 
 module _ {R S D O E : Type 0} (h : HashFunction) (rooms : Rooms R S D) (disks : Disks D)
     (outs : Sinks O) (errs : Sinks E) where
-  -- So it is of each course that begins with a run that made or opened the journal.
+  -- This holds of each execution that begins with a run that made or opened the journal.
   abbrev pub OfCourses : (Text → NodeStart → Text → R → List (Link R O E) → R → Type 0)
       → Type 0
   OfCourses P = (name : Text) (start : NodeStart) (first : Text) (old new : R)
       (links : List (Link R O E)) → IsBegun h rooms disks outs errs name start first old links
       → IsCourse h rooms disks outs errs name old links new → P name start first old links new
 
-  -- It is a history of the node.
+  -- It is a history of the party.
   abbrev pub CoursesAreHistories : Type 0
   CoursesAreHistories = OfCourses (λ name start first old links new.
       IsReached h rooms disks outs errs name start first old links new)
 
-  -- No journal is refused: what a crash may leave of the file, and what the room tells of it, is
-  -- read as the node.
+  -- No journal is refused: what a crash may leave of the file, and what the file system has of it,
+  -- as the model knows it, is read as the party.
   abbrev pub JournalsAreRead : Type 0
   JournalsAreRead = OfCourses (λ name start first old links new.
       (c : Text) → images_in h rooms disks outs errs new name c ⊎ (rooms.file new name ≡ Some c)
@@ -66,7 +66,7 @@ module _ {R S D O E : Type 0} (h : HashFunction) (rooms : Rooms R S D) (disks : 
       → (record0 : Text) (bodies : List Text)
       → IsRecovered h rooms disks outs errs name new (record0 ∷ bodies) → AreCounted bodies)
 
-  -- Two records that runs held, each with whatever stood behind it, and which used one key, are one
+  -- Two records that runs held, each with whatever followed it, and which used one key, are one
   -- record.
   abbrev pub KeysSignOneMessage : Type 0
   KeysSignOneMessage = OfCourses (λ name start first old links new.
@@ -76,7 +76,7 @@ module _ {R S D O E : Type 0} (h : HashFunction) (rooms : Rooms R S D) (disks : 
       → WasHeld h rooms disks outs errs name old links (other ++ message ∷ others)
       → UsesKey list body number → UsesKey other message number → body ≡ message)
 
-  -- Each image stands for records, and those that a run found or made are the first of them.
+  -- Each crash state represents records, and those that a run found or made are the first of them.
   abbrev pub RecoveredListsGrow : Type 0
   RecoveredListsGrow = OfCourses (λ name start first old links new. (list : List Text) (c : Text)
       → WasHeld h rooms disks outs errs name old links list
@@ -90,22 +90,22 @@ module _ {R S D O E : Type 0} (h : HashFunction) (rooms : Rooms R S D) (disks : 
       (body : Text) → DidWith h rooms disks outs errs old turn name (appended list body)
       → IsHeard outs turn → P list body)
 
-  -- A run that handed a record out is an event that releases it, and held it, as the last one
-  -- behind those that were there.
+  -- A run that handed a record out is an event that releases it, and held it, as the last one after
+  -- those that were there.
   abbrev pub ReleasedWasHeld : Type 0
   ReleasedWasHeld = OfCourses (λ name start first old links new. OfReleased name (λ list body.
       HasReleased (events h rooms disks outs errs name old links) list body
       × WasHeld h rooms disks outs errs name old links (list ++ body ∷ [])) old links)
 
-  -- So where a record was handed out, each image stands for records that begin with those that were
-  -- there and that one.
+  -- So if a record was released, each crash state represents records that begin with those that
+  -- were there and that one.
   abbrev pub ReleasedStand : Type 0
   ReleasedStand = OfCourses (λ name start first old links new. (c : Text)
       → images_in h rooms disks outs errs new name c → OfReleased name (λ list body.
       (found : List Text) × (Represents c found × IsPrefix (list ++ body ∷ []) found)) old links)
 
   -- Each entry that a log had where a run found or made its records has its index in each log that
-  -- may be recovered behind it, and so has its key.
+  -- may be recovered after it, and so has its key.
   abbrev pub EntriesStand : Type 0
   EntriesStand = OfCourses (λ name start first old links new. (settings : Settings)
       (list found : List Text) (s : LogState) → start ≡ Log settings
@@ -125,7 +125,7 @@ module _ {R S D O E : Type 0} (h : HashFunction) (rooms : Rooms R S D) (disks : 
       → (log : LogState) × ((log_of h found ≡ Ok log)
       × HasItemAt (length s.entries) entry key log))
 
-  -- Each journal that a run made or opened is that of a node, as the laws of courses suppose.
+  -- Each journal that a run made or opened is that of a party, as the laws of executions suppose.
   abbrev pub JournalsAreOfParties : Type 0
   JournalsAreOfParties = (name : Text) (old : R) (turn : Turn R O E) (list : List Text)
       → rooms.is_modelled old → HasTurned h rooms disks outs errs old turn

@@ -1,6 +1,6 @@
--- Courses: what happens to a room, one run after the other, with stops of the machine between the
--- runs and in the middle of one, with programs that are killed, and with other files that change
--- between runs. What happens to one journal are events of it.
+-- Executions: what happens to a file system, one run after the other, with stops of the machine
+-- between the runs and in the middle of one, with programs that are killed, and with other files
+-- that change between runs. What happens to one journal are events of it.
 use Rattle.std.specs.Prelude.{◌≡◌, ◌⊎◌, true, List, [], ◌∷◌}
 use Rattle.byte_formats.specs.Types.{HashFunction, Text}
 use Rattle.disk_core.specs.declared.disk.Disk.{Ghosts as Disks}
@@ -30,12 +30,12 @@ AreAmong (journal ∷ rest) name did =
     ((journal.0 ≡ name) × (journal.1 ≡ did)) ⊎ AreAmong rest name did
 
 module _ {R O E : Type 0} (outs : Sinks O) (turn : Turn R O E) where
-  -- The run did its work, or a byte of it may have gone out: the output tells that it took one; or
-  -- it failed (status 6), and doesn't tell what it took.
+  -- The run did its work, or a byte of it may have gone out: the model knows that the output took
+  -- one; or the output failed (status 6), and the model doesn't know what it took.
   abbrev pub IsHeard : Type 0
   IsHeard = is_heard turn.status (outs.taken turn.out) (outs.taken turn.out_after) ≡ true
 
-  -- A front of this text went out: the whole with status 0, and with 6 what came before standard
+  -- A prefix of this text went out: the whole with status 0, and with 6 what came before standard
   -- output failed.
   pub record HasPrinted (text : Text) : Type 0 where
     pub ends : (turn.status ≡ 0) ⊎ (turn.status ≡ 6)
@@ -44,7 +44,7 @@ module _ {R O E : Type 0} (outs : Sinks O) (turn : Turn R O E) where
 
 module _ {R S D O E : Type 0} (h : HashFunction) (rooms : Rooms R S D) (disks : Disks D)
     (outs : Sinks O) (errs : Sinks E) where
-  -- The run began with this room.
+  -- The run began with this file system.
   abbrev pub HasTurned : R → Turn R O E → Type 0
   HasTurned old turn = HasRun h rooms disks outs errs turn.words old turn.room
       turn.out turn.out_after turn.err turn.err_after turn.status
@@ -81,11 +81,11 @@ module _ {R S D O E : Type 0} (h : HashFunction) (rooms : Rooms R S D) (disks : 
   abbrev pub images_from : R → R → Text → CrashStates
   images_from old room name = states_between program name old room
 
-  -- These links are a course of the journal of this name.
+  -- These links are an execution of the journal of this name.
   abbrev pub IsCourse : Text → R → List (Link R O E) → R → Type 0
   IsCourse name = IsFileCourse program (owner name)
 
-  -- The events of the journal in a course.
+  -- The events of the journal in an execution.
   abbrev pub events : Text → R → List (Link R O E) → List Event
   events name = events_of program (owner name)
 
@@ -94,12 +94,12 @@ module _ {R S D O E : Type 0} (h : HashFunction) (rooms : Rooms R S D) (disks : 
   abbrev pub HasHeld : Text → R → Turn R O E → List Text → Type 0
   HasHeld name old turn list = EventHolds list ((owner name).run_event old turn)
 
-  -- A run of the course opened or made the journal so.
+  -- A run of the execution opened or made the journal so.
   abbrev pub WasHeld : Text → R → List (Link R O E) → List Text → Type 0
   WasHeld name old links = WereHeld (events name old links)
 
-  -- The first link is a run that did so, and the first of the records is one with which such a node
-  -- begins.
+  -- The first event is a run that did so, and the first of the records is one with which such a
+  -- party begins.
   pub record IsBegun (name : Text) (start : NodeStart) (first : Text) (old : R)
       (links : List (Link R O E)) : Type 0 where
     pub is_modelled : rooms.is_modelled old
@@ -107,16 +107,16 @@ module _ {R S D O E : Type 0} (h : HashFunction) (rooms : Rooms R S D) (disks : 
     pub held : FirstHolds (first ∷ others) (events name old links)
     pub starts : StartsWith start first
 
-  -- It is so of each run of the course, with the room in which it began.
+  -- It is so of each run of the execution, with the file system in which it began.
   abbrev pub OfEachTurn : (R → Turn R O E → Type 0) → R → List (Link R O E) → Type 0
   OfEachTurn = EachRun program
 
-  -- With these records the journal may be recovered: a crash may leave a file that stands for them.
+  -- With these records the journal may be recovered: a crash may leave a file that represents them.
   abbrev pub IsRecovered : Text → R → List Text → Type 0
   IsRecovered name room = MayRecover (images_in room name)
 
   -- The journal of this name is that of a node at the end of a history, in which the records were
-  -- handed out that were released in the course, in this order.
+  -- handed out that were released in the execution, in this order.
   pub record IsReached (name : Text) (start : NodeStart) (first : Text) (old : R)
       (links : List (Link R O E)) (room : R) : Type 0 where
     pub steps : List NodeStep

@@ -1,4 +1,4 @@
--- What a run of `export` prints behind a course.
+-- What a run of `export` prints after an execution.
 use Rattle.std.specs.Prelude.{◌≡◌, List, ◌∷◌, ◌++◌, drop, Some, Ok, Contains}
 use Rattle.byte_formats.specs.Types.{HashFunction, Text}
 use Rattle.disk_core.specs.declared.disk.Disk.{Ghosts as Disks}
@@ -50,8 +50,8 @@ module _ {R S D O E : Type 0} (h : HashFunction) (rooms : Rooms R S D) (disks : 
         → WasHeld h rooms disks outs errs name begun links (first ∷ (prefix ++ body ∷ more))
         → step_in body ≡ Some step → Contains export.steps step
 
-  -- So it is of each run of `export` behind a course of a cosigner's journal that did its work, or
-  -- of which a byte may have gone out.
+  -- This holds of each run of `export` after an execution of a cosigner's journal that did its
+  -- work, or of which a byte may have gone out.
   abbrev pub ExportsHoldTheSteps : Type 0
   ExportsHoldTheSteps = OfCourses h rooms disks outs errs (λ name start first old links new.
       (settings : CosignerSettings) (public : Text) → start ≡ Cosigner settings public
@@ -61,7 +61,7 @@ module _ {R S D O E : Type 0} (h : HashFunction) (rooms : Rooms R S D) (disks : 
 
   -- The earlier run read these records and printed their export. The later one, which began with
   -- `new`, read these and the rest after them, and printed what the earlier one did and the rest
-  -- after it. Of a run that ended with status 0 it is the whole text.
+  -- after it. It is the whole text of a run that ended with status 0.
   pub record HasMoreThan (name : Text) (old : R) (earlier : Turn R O E) (new : R)
       (later : Turn R O E) : Type 0 where
     pub list : List Text
@@ -73,8 +73,8 @@ module _ {R S D O E : Type 0} (h : HashFunction) (rooms : Rooms R S D) (disks : 
     pub before : HasPrinted outs earlier (export_text state list)
     pub now : HasPrinted outs later (export_text state list ++ records_text rest)
 
-  -- So it is of each run of `export` behind a course of a cosigner's journal, and of each before it
-  -- in the course, that did its work, or of which a byte may have gone out.
+  -- This holds of each run of `export` after an execution of a cosigner's journal, and of each
+  -- before it in the execution, that did its work, or of which a byte may have gone out.
   abbrev pub ExportsOnlyGrow : Type 0
   ExportsOnlyGrow = OfCourses h rooms disks outs errs (λ name start first old links new.
       (settings : CosignerSettings) (public : Text) → start ≡ Cosigner settings public

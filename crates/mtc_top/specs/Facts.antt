@@ -13,10 +13,10 @@ use Rattle.mtc_plans.specs.NodeKinds.{node_kinds}
 use Rattle.mtc_top.specs.WordsOutcome.{word_fault_text}
 
 -- What is to be known of a command: the journals that it works on, the files that it may make or
--- change beside them, those of these that it only looks at, the journal that it makes, the files
--- that it reads, which lists of records are a node's of the kind that it works on, and what it
--- answers over the room's files. Its words name its journals first, and then the files that it
--- reads.
+-- change beside them, those of these that it only reads, the journal that it makes, the files that
+-- it reads, which lists of records are a party's of the kind that it works on, and what it answers
+-- over the files of the file system. Its arguments name its journals first, and then the files that
+-- it reads.
 pub record Facts : Type 1 where
   pub journals : List Text
   pub besides : List Text

@@ -71,9 +71,9 @@ module _ {R S D O E : Type 0} (h : HashFunction) (rooms : Rooms R S D) (disks : 
     pub printed : HasPrinted outs turn (cosigned_text state request)
 
   -- What goes out of a command that opens a cosigner's journal, or is given a secret file as such.
-  -- `cosign` says a signature, and has added its record. `advance` says the size in the request
-  -- that it read, `export` the ids, the public key and the records behind the first of those that
-  -- it read, and those that are given a secret file say its public key. Each journal that another
+  -- `cosign` prints a signature, and has added its record. `advance` prints the size in the request
+  -- that it read, `export` the ids, the public key and the records after the first of those that it
+  -- read, and those that are given a secret file print its public key. Each journal that another
   -- command opens or makes is a log's, and of what goes out of it nothing is said here.
   abbrev pub Says : CommandValue → R → Turn R O E → Type 0
   Says (cosign name file) old turn = HasCosigned name file old turn
@@ -93,11 +93,11 @@ module _ {R S D O E : Type 0} (h : HashFunction) (rooms : Rooms R S D) (disks : 
   Says other old turn = (name : Text) (list : List Text)
       → HasHeld h rooms disks outs errs name old turn list → IsLog h list
 
-  -- So it is of each run by this command that did its work, or of which a byte may have gone out.
+  -- This holds of each run by this command that did its work, or of which a byte may have gone out.
   abbrev pub OfHeard : CommandValue → (R → Turn R O E → Type 0) → R → Turn R O E → Type 0
   OfHeard command P old turn = command_of turn.words ≡ Ok command → IsHeard outs turn → P old turn
 
-  -- So it is of each run over files whose contents are known.
+  -- This holds of each run over files whose contents are known.
   abbrev pub OfEachRun : (R → Turn R O E → Type 0) → Type 0
   OfEachRun P = (old : R) (turn : Turn R O E) → rooms.is_modelled old
       → HasTurned h rooms disks outs errs old turn → P old turn
@@ -114,7 +114,7 @@ module _ {R S D O E : Type 0} (h : HashFunction) (rooms : Rooms R S D) (disks : 
 
   -- Each run that did its work, or of which a byte may have gone out, has a command, and so it is
   -- of it. Of the commands that open a cosigner's journal, or are given a secret file as such, only
-  -- `cosign` says a signature by it.
+  -- `cosign` prints a signature by it.
   abbrev pub OnlyCosignSigns : Type 0
   OnlyCosignSigns = (old : R) (turn : Turn R O E) → rooms.is_modelled old
       → HasTurned h rooms disks outs errs old turn → IsHeard outs turn
@@ -129,7 +129,7 @@ module _ {R S D O E : Type 0} (h : HashFunction) (rooms : Rooms R S D) (disks : 
     pub at_index : HasItemAt (length issued.state.entries)
         (issued_entry h issued.state.settings issued.request) issued.request.key log
 
-  -- Of each run of a course: so it is of each log with which the journal may be recovered.
+  -- For each run of an execution: this holds of each log with which the journal may be recovered.
   abbrev pub IssuedEntriesStand : Type 0
   IssuedEntriesStand = OfCourses h rooms disks outs errs (λ name start first old links new.
       (settings : Settings) (file : Text) (found : List Text) → start ≡ Log settings
@@ -137,8 +137,8 @@ module _ {R S D O E : Type 0} (h : HashFunction) (rooms : Rooms R S D) (disks : 
       → OfEachTurn h rooms disks outs errs (OfHeard (issue name file) (λ old turn.
       IsInLog name file old turn found)) old links)
 
-  -- Each image of the journal stands for records. Of each run of the course these begin with those
-  -- that were there and the record of the signature.
+  -- Each crash state of the journal represents records. For each run of the execution these begin
+  -- with those that were there and the record of the signature.
   abbrev pub SignaturesStand : Type 0
   SignaturesStand = OfCourses h rooms disks outs errs (λ name start first old links new.
       (file c : Text) → images_in h rooms disks outs errs new name c

@@ -1,4 +1,4 @@
--- All journals of a room at once: what became of them is one history.
+-- All journals of a file system at once: what became of them is one history.
 use Rattle.std.specs.Prelude.{◌≡◌, List, [], ◌∷◌, map, Ok}
 use Rattle.byte_formats.specs.Types.{HashFunction, Text}
 use Rattle.disk_core.specs.declared.disk.Disk.{Ghosts as Disks}
@@ -16,7 +16,7 @@ use Rattle.mtc_top.specs.Courses.{Link, IsBegun, IsCourse, events, images_in}
 
 module _ {R S D O E : Type 0} (h : HashFunction) (rooms : Rooms R S D) (disks : Disks D)
     (outs : Sinks O) (errs : Sinks E) (room : R) where
-  -- A course of this journal led to the room.
+  -- An execution of this journal led to the file system.
   pub record IsJournalOf : Type 0 where
     pub name : Text
     pub start : NodeStart
@@ -26,21 +26,21 @@ module _ {R S D O E : Type 0} (h : HashFunction) (rooms : Rooms R S D) (disks : 
     pub begun : IsBegun h rooms disks outs errs name start first old links
     pub course : IsCourse h rooms disks outs errs name old links room
 
-  -- Each image of the journal stands for the state, which handed out what was released.
+  -- Each crash state of the journal represents the state, which handed out what was released.
   pub record StandsSo (journal : IsJournalOf) (state : HistoryState) : Type 0 where
     pub stands : (c : Text) → images_in h rooms disks outs errs room journal.name c
         → RepresentsPending (journal.first ∷ state.settled) state.pending c
     pub handed : released_bodies state
         ≡ all_released (events h rooms disks outs errs journal.name journal.old journal.links)
 
-  -- So it is of each journal and its state.
+  -- This holds of each journal and its state.
   abbrev pub EachStandsSo : List IsJournalOf → List HistoryState → Type 0
   EachStandsSo [] [] = Unit {0}
   EachStandsSo (journal ∷ journals) (state ∷ states) =
       StandsSo journal state × EachStandsSo journals states
   EachStandsSo journals states = ⊥
 
-  -- One history of all nodes leads to the states of the journals.
+  -- One history of all parties leads to the states of the journals.
   pub record AreOneHistory (journals : List IsJournalOf) : Type 0 where
     pub steps : List NodeStep
     pub states : List HistoryState
@@ -48,7 +48,7 @@ module _ {R S D O E : Type 0} (h : HashFunction) (rooms : Rooms R S D) (disks : 
         (map (λ (journal : IsJournalOf). journal.start) journals) steps ≡ Ok states
     pub each : EachStandsSo journals states
 
--- So it is of any journals of any room.
+-- This holds of any journals of any file system.
 abbrev pub JournalsAreOneHistory : {R S D O E : Type 0} → HashFunction → Rooms R S D → Disks D
     → Sinks O → Sinks E → Type 0
 JournalsAreOneHistory {R} {S} {D} {O} {E} h rooms disks outs errs =

@@ -1,4 +1,5 @@
--- What a run of the program did, by these words, over a room and two sinks, each before and after.
+-- What a run of the program did, by these arguments, over a file system and two sinks, each before
+-- and after.
 use Rattle.std.specs.Prelude.{◌⊎◌, ℕ, List, [], ◌++◌, IfSome, IsErr}
 use Rattle.byte_formats.specs.Types.{HashFunction, Text}
 use Rattle.disk_core.specs.declared.disk.Disk.{Ghosts as Disks}
@@ -20,7 +21,7 @@ use Rattle.mtc_top.specs.Facts.{Facts, facts}
 module _ {R S D O E : Type 0} (h : HashFunction) (rooms : Rooms R S D) (disks : Disks D)
     (outs : Sinks O) (errs : Sinks E) (words : List Text)
     (old new : R) (out out' : O) (err err' : E) where
-  -- What the words ask for, and what the files make of that: what is done with each journal.
+  -- What the arguments ask for, and what the files make of that: what is done with each journal.
   abbrev pub asked : Facts
   asked = facts h (command_of words)
 
@@ -53,8 +54,8 @@ module _ {R S D O E : Type 0} (h : HashFunction) (rooms : Rooms R S D) (disks : 
     -- Nothing new is left of a file that the command only reads.
     pub only_read : rooms.is_modelled old
         → LeavesEach rooms disks old new (done_with asked.only_reads []) HasKept
-    -- Where a journal isn't there, or its file doesn't begin with the header of a journal, the file
-    -- of its tiles stays as it was, and isn't made.
+    -- If a journal isn't there, or its file doesn't begin with the header of a journal, the file of
+    -- its tiles stays as it was, and isn't made.
     pub spares : OfEach (λ name did. SparesTiles rooms old new name) journals
     -- A new record makes a log or a cosigner with those before it; or nothing new is left of the
     -- journal, and it reads as before.

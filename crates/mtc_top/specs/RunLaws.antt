@@ -24,7 +24,7 @@ use Rattle.mtc_top.specs.Courses.{DidWith, HasTurned, Turn, images_from, images_
 use Rattle.mtc_top.specs.Facts.{facts}
 use Rattle.mtc_top.specs.Run.{Answered, HasRun, journals}
 
--- A byte went out, where the sink tells.
+-- A byte went out, if the model knows it of the sink.
 abbrev pub TookSome : Option Text → Option Text → Type 0
 TookSome None new = ⊥
 TookSome (Some old) None = ⊥
@@ -45,7 +45,7 @@ module _ {R S D O E : Type 0} (h : HashFunction) (rooms : Rooms R S D) (disks : 
       : Type 0 where
     -- The status is one of the eleven.
     pub known : status ≤ 10
-    -- Status 1 says that the words are no command, and such words are answered by it.
+    -- Status 1 says that the arguments are no command, and such arguments are answered by it.
     pub only : status ≡ 1 → IsErr (command_of words)
     pub first : IsErr (command_of words) → status ≢ 8 → status ≡ 1
     -- A journal that isn't opened goes with a status that may come before.
@@ -55,21 +55,21 @@ module _ {R S D O E : Type 0} (h : HashFunction) (rooms : Rooms R S D) (disks : 
     -- With another status than those of a failed file and of refused memory it answers.
     pub answers : status ≢ 5 → status ≢ 8
         → Answered h rooms disks outs errs words old new out out' err err' status
-    -- Without a failure and want of memory it answers, and by another status than 6.
+    -- Without a failure, and with memory enough, it answers, and by another status than 6.
     pub complete : (Rose (rooms.faults old) (rooms.faults new) → ⊥)
         → (Rose (outs.faults out) (outs.faults out') → ⊥) → status ≢ 8 → (status ≢ 6)
         × Answered h rooms disks outs errs words old new out out' err err' status
-    -- A refusal, a failure of the room and want of memory print nothing.
+    -- It prints nothing if it is refused, the file system failed, or memory ran out.
     pub silent : status ≢ 0 → status ≢ 3 → status ≢ 6 → status ≢ 10
         → Prints outs out out' []
-    -- Of what goes out something is known from its first byte on, also of what may have gone out.
+    -- Something is known of what goes out from its first byte on, also of what may have gone out.
     pub heard : is_heard status (outs.taken out) (outs.taken out') ≡ true
         → Answered h rooms disks outs errs words old new out out' err err' status
     -- Such a run didn't break off.
     pub whole : is_heard status (outs.taken out) (outs.taken out') ≡ true
         → breaks_off status ≡ false
 
-  -- So it is of each run.
+  -- This holds of each run.
   abbrev pub RunsShow : Type 0
   RunsShow = (words : List Text) (old new : R) (out out' : O) (err err' : E) (status : ℕ)
       → HasRun h rooms disks outs errs words old new out out' err err' status
@@ -87,14 +87,14 @@ module _ {R S D O E : Type 0} (h : HashFunction) (rooms : Rooms R S D) (disks : 
     pub stops : (c : Text) → images_from h rooms disks outs errs old turn.room name c
         → AllGoOn h (broke (did_to (program h rooms disks outs errs) name old turn))
         (images_in h rooms disks outs errs old name) (λ d. d ≡ c)
-    -- What the room tells of the file is an image.
+    -- What the file system tells of the file is a crash state.
     pub as_read : (c : Text) → rooms.file turn.room name ≡ Some c
         → images_in h rooms disks outs errs turn.room name c
-    -- Time goes on.
+    -- Time continues.
     pub later : clock_of disks (rooms.device old name)
         ≤ clock_of disks (rooms.device turn.room name)
 
-  -- So it is of each journal that a run works on, where the room tells its files; and of each other
+  -- So it is of each journal that a run works on, if the model knows the files; and of each other
   -- name that isn't that of a file beside one.
   abbrev pub RunsAreSteps : Type 0
   RunsAreSteps = (old : R) (turn : Turn R O E) → rooms.is_modelled old
@@ -102,8 +102,9 @@ module _ {R S D O E : Type 0} (h : HashFunction) (rooms : Rooms R S D) (disks : 
       → ((did : Journaled) × DidWith h rooms disks outs errs old turn name did)
       ⊎ IsOther (facts h (command_of turn.words)).besides name → RunSteps old turn name
 
-  -- A run of which a byte went out might have had a standard output that failed there: where only a
-  -- front of what it wrote came through, it is a run with status 6, which leaves the same room.
+  -- A run of which a byte went out might have had a standard output that failed there: if only a
+  -- prefix of what it wrote came through, it is a run with status 6, which leaves the same file
+  -- system.
   abbrev pub PrefixesAreRuns : Type 0
   PrefixesAreRuns = (words : List Text) (old new : R) (out out' failed : O) (err err' contents : E)
       (status : ℕ) (text : Text)

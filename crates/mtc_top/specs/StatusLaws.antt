@@ -1,4 +1,4 @@
--- Status 2 behind a course: it is never about the journal.
+-- Status 2 after an execution: it is never about the journal.
 use Rattle.std.specs.Prelude.{◌≡◌, ◌⊎◌, ℕ, List, [], ◌∷◌, Some, Ok}
 use Rattle.byte_formats.specs.Types.{HashFunction, Text}
 use Rattle.disk_core.specs.declared.disk.Disk.{Ghosts as Disks}
@@ -20,15 +20,15 @@ use Rattle.mtc_top.specs.CourseLaws.{AreOfParty, OfCourses}
 use Rattle.mtc_top.specs.Courses.{Turn, HasTurned}
 use Rattle.mtc_top.specs.Facts.{facts_of}
 
--- The command works on the journal of this name, and takes it for one of such a node: each list of
--- the node's records, of which this is the first, is one of the kind that it works on.
+-- The command works on the journal of this name, and takes it for one of such a party: each list of
+-- the party's records, of which this is the first, is one of the kind that it works on.
 pub record WorksOn (h : HashFunction) (start : NodeStart) (first name : Text)
     (command : CommandValue) : Type 0 where
   pub works : (facts_of h command).journals ≡ name ∷ []
   pub kind : (list : List Text) → AreOfParty h start first list → (facts_of h command).Valid list
 
 -- The file is that of the tiles of this journal's log, and the reason names the first of the tiles
--- of the log's last size that it hasn't.
+-- of the log's last size that it doesn't have.
 pub record LacksTile (h : HashFunction) (files : Files) (journal file reason : Text) : Type 0 where
   pub bytes : Text
   pub found : FoundLog
@@ -42,7 +42,7 @@ pub record LacksTile (h : HashFunction) (files : Files) (journal file reason : T
 module _ {R S D O E : Type 0} (h : HashFunction) (rooms : Rooms R S D) (disks : Disks D)
     (outs : Sinks O) (errs : Sinks E) where
   -- What is asked for is a refusal of an input of the command, or of the file of its log's tiles
-  -- for a tile that it hasn't; and the line on standard error says so.
+  -- for a tile that it doesn't have; and the line on standard error says so.
   pub record IsAboutInput (name : Text) (command : CommandValue) (room : R) (turn : Turn R O E)
       : Type 0 where
     pub file : Text
@@ -54,8 +54,9 @@ module _ {R S D O E : Type 0} (h : HashFunction) (rooms : Rooms R S D) (disks : 
     pub line : Reports errs turn.err turn.err_after
         (line_of (known_word turn.words) (Some file) reason)
 
-  -- So it is of each run with status 2 that works on the journal behind a course of it. A command
-  -- that has no input never ends so, unless the file of its log's tiles hasn't one of them.
+  -- This holds of each run with status 2 that works on the journal after an execution of it. A
+  -- command that has no input never ends so, unless the file of its log's tiles doesn't have one of
+  -- them.
   abbrev pub MisreadFilesAreInputs : Type 0
   MisreadFilesAreInputs = OfCourses h rooms disks outs errs (λ name start first old links new.
       (command : CommandValue) (turn : Turn R O E) → WorksOn h start first name command

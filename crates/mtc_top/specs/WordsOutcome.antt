@@ -1,4 +1,4 @@
--- What is answered where the words are no command.
+-- What is answered where the arguments are no command.
 use Rattle.std.specs.Prelude.{◌++◌, codes}
 use Rattle.std.specs.Fmt.{decimal}
 use Rattle.byte_formats.specs.Types.{Text}
@@ -7,7 +7,7 @@ use Rattle.mtc_words.specs.declared.error.WordError.TheVariants.{NoCommand, Unkn
 use Rattle.mtc_words.specs.declared.error.WordError.TheVariants.{WrongCount, TilesName, BadNumber}
 use Rattle.mtc_words.specs.declared.error.WordError.TheVariants.{BadId, Memory}
 
--- A fault of the words, with its numbers.
+-- A fault of the arguments, with its numbers.
 abbrev pub word_fault_text : WordError → Text
 word_fault_text NoCommand = codes "NoCommand"
 word_fault_text UnknownCommand = codes "UnknownCommand"

@@ -63,7 +63,7 @@ fn digits_of<'x>(hash: [u8; 32], digits: &'x mut [u8; 64]) -> &'x [u8]
     }
 }
 
-// What stands behind the name of a reason. Numbers and hashes are written to the buffers.
+// What follows the name of a reason. Numbers and hashes are written to the buffers.
 fn pieces_of<'x>(
     more: More,
     numbers: (&'x mut Buffer, &'x mut Buffer),
@@ -172,7 +172,7 @@ fn write_tiles_line<E: Sink>(err: &mut E, command: &str, journal: &str, reason: 
     write_reason(err, command, (journal, ".tiles", ": "), reason);
 }
 
-// Writes the text of an answer. At one that is empty no output fails.
+// Writes the text of an answer. If it is empty no output fails.
 fn write_answer<O: Sink, E: Sink>(command: &str, out: &mut O, err: &mut E, answer: &Answer) -> u8
     ensures { Wrote O.Sink E.Sink command.now out.old out.new err.old err.new
         (said answer.now.status answer.now.text) result
@@ -190,7 +190,8 @@ fn write_answer<O: Sink, E: Sink>(command: &str, out: &mut O, err: &mut E, answe
     }
 }
 
-/// Writes what a command ended with, and answers the status. Where the room failed, that is why.
+/// Writes what a command ended with, and answers the status. If the file system failed, the line
+/// says why.
 pub fn conclude<O: Sink, E: Sink>(
     command: &str,
     ended: Result<Answer, Stop>,

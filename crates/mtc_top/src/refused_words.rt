@@ -1,4 +1,4 @@
-//! The refusal of words that are no command.
+//! The refusal of arguments that are no command.
 
 ghost use Rattle.std.specs.Prelude.{◌≡◌};
 ghost use Rattle.mtc_command.specs.Answers.{reason_text};
@@ -7,7 +7,7 @@ ghost use Rattle.mtc_top.specs.WordsOutcome.{word_fault_text};
 use mtc_command::Reason;
 use mtc_words::WordError;
 
-// A fault of the words, with its numbers.
+// A fault of the arguments, with its numbers.
 pub fn word_reason(why: WordError) -> Reason
     ensures { reason_text result ≡ word_fault_text why }
 {

@@ -1,4 +1,4 @@
-//! A stop of the machine, over a room in memory.
+//! A stop of the machine, over a file system in memory.
 
 ghost use Rattle.std.specs.Prelude.{◌≡◌, OnErr, OnOk};
 ghost use Rattle.std.specs.Option.{IsSomeAnd};
@@ -14,13 +14,13 @@ use mtc_io::{Bytes, Memory, Sink};
 use mtc_room::{MemRoom, Room};
 use tree_core::TreeHash;
 
-/// Stops the machine over a room in memory, and leaves these bytes of the named file, on a device
-/// that fails the calls with these numbers. Where memory is refused each file stays.
+/// Stops the machine over a file system in memory, and leaves these bytes of the named file, on a
+/// device that fails the calls with these numbers. If memory is refused each file stays.
 ///
-/// It is a stop between two runs where a crash may leave them now, and one image alone of each
-/// other file. It is a stop in the middle of a run where a crash may have left them at some moment
-/// since the room was as that run found it, and so for each other file the one image that it may
-/// leave now.
+/// It is a stop between two runs if a crash may leave these bytes now, and one crash state alone of
+/// each other file. It is a stop in the middle of a run if a crash may have left them at some time
+/// since the file system was as that run found it, and so for each other file the one crash state
+/// that it may leave now.
 pub fn stop_leaving<H: TreeHash, O: Sink, E: Sink>(
     room: &mut MemRoom,
     name: &str,

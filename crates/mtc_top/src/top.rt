@@ -1,4 +1,4 @@
-//! The program's one call: the words, the work, and what goes out.
+//! The program's one call: the arguments, the work, and what goes out.
 
 ghost use Rattle.std.specs.Prelude.{◌≡◌, ◌<◌, ◌^◌, ◌+◌, [], ◌++◌, map, string_bytes, IfSome};
 ghost use Rattle.std.specs.Prelude.{IsErr};
@@ -98,7 +98,7 @@ fn perform<'a, H: TreeHash, R: Room>(
     }
 }
 
-// Reads the words, and carries out what they say.
+// Reads the arguments, and carries out what they say.
 fn answer<'a, H: TreeHash, R: Room>(
     alloc: Global,
     words: &'a [String],
@@ -130,22 +130,22 @@ fn answer<'a, H: TreeHash, R: Room>(
     }
 }
 
-/// Does all that the program does: reads the words of a command, carries it out over a room, and
-/// writes its text to `out` or a line to `err`. Everything that the room lends is given back. Each
-/// file stays as it was but the command's journal and the file of its log's tiles, and none is made
-/// but a new journal and such a file of tiles.
+/// Does all that the program does: reads the arguments of a command, carries it out over a file
+/// system, and writes its text to `out` or a line to `err`. It closes everything that it opened.
+/// Each file stays as it was but the command's journal and the file of its log's tiles, and none is
+/// made but a new journal and such a file of tiles.
 ///
 /// Answers the status. 0 the command did its work, 3 the judgement is against, and 10 two different
 /// strings with one hash were found: each wrote to `out`. The others wrote a line to `err`: 1 the
-/// words are no command; 2 a named file isn't in its grammar, or that of a log's tiles hasn't what
-/// the log has stored; 4 the log or the cosigner doesn't allow what is asked; 5 the room failed; 6
-/// `out` failed; 7 a named file isn't there, or that of a new journal is there already; 8 memory
-/// was refused; 9 an input is over its limit, or the log or a journal takes no more. Tests come in
-/// the order of the program's steps: the words, the input files, their grammars (a certificate's
-/// with its judgement), the journal, the log's tiles, and the command's own. A fault of `err`
-/// changes no status.
+/// arguments are no command; 2 a named file isn't in its grammar, or the file of a log's tiles
+/// doesn't have what the log has stored; 4 the log or the cosigner doesn't allow what is asked; 5
+/// the file system failed; 6 `out` failed; 7 a named file isn't there, or that of a new journal is
+/// there already; 8 memory was refused; 9 an input is over its limit, or the log or a journal takes
+/// no more. Tests come in the order of the program's steps: the arguments, the input files, their
+/// grammars (a certificate's with its judgement), the journal, the log's tiles, and the command's
+/// own. A failure of `err` changes no status.
 ///
-/// What follows of each run, and how it ends as steps of a node, is [`crate::law_runs_are_steps`].
+/// What follows of each run, and how it ends as steps of a party, is [`crate::law_runs_are_steps`].
 pub fn run<H: TreeHash, R: Room, O: Sink, E: Sink>(
     alloc: Global,
     words: &[String],

@@ -14,7 +14,7 @@ spared : {R S D : Type 0} (rooms : Rooms R S D) (old new : R) (name : List ℕ)
 spared rooms old new name closes = λ t not. closes.others (tiles_name name)
     (λ (same : tiles_name name ≡ name). longer_other name (sym same), tt)
 
--- the room is as it was
+-- the file system is as it was
 pub returns-in-Drill-clause-done : goal.returns-in-Drill-clause-done
 returns-in-Drill-clause-done g c =
     rw c.in-Drill.is
