@@ -2,8 +2,9 @@
 //! Tree Certificates. All that it does is done by [`mtc_top::run`], over the system's files and the
 //! standard streams.
 //!
-//! No clause says that `main` hands on all words and writes the line: that is tested alone. What it
-//! calls, `act`, does what `run` does, with SHA-256 and the system's files, and answers its status.
+//! No clause says that `main` passes on all arguments and writes the line: that is tested alone.
+//! What it calls, `act`, does what `run` does, with SHA-256 and the system's files, and answers its
+//! status.
 #![tactic(auto)]
 
 ghost use Rattle.std.specs.Prelude.{◌≡◌, map, string_bytes};
@@ -27,7 +28,7 @@ const BAD_WORDS: u8 = 1;
 
 const NO_MEMORY: u8 = 8;
 
-// Collects the words behind the program's name.
+// Collects the arguments after the program's name.
 fn words_behind_name(rt: &(impl Env + AllocGlobal)) -> io::Result<Vec<String>> {
     let mut words = Vec::new(rt.alloc());
     for word in env::args(rt)?.skip(1) {
@@ -36,7 +37,7 @@ fn words_behind_name(rt: &(impl Env + AllocGlobal)) -> io::Result<Vec<String>> {
     Ok(words)
 }
 
-// Says that the words can't be had, and answers the status.
+// Says that the arguments can't be had, and answers the status.
 fn refuse(err: &mut impl Sink, why: &io::Error) -> u8 {
     if why.kind() == io::ErrorKind::OutOfMemory {
         let _ = write_all(err, b"mtc: Memory\n");
@@ -47,7 +48,7 @@ fn refuse(err: &mut impl Sink, why: &io::Error) -> u8 {
     }
 }
 
-// Does what the words say with SHA-256, over the system's files and the standard streams.
+// Does what the arguments say with SHA-256, over the system's files and the standard streams.
 fn act<'a, R: Files<File = File>>(
     alloc: Global,
     words: &[String],
