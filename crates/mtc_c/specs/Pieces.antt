@@ -37,7 +37,7 @@ name_in bytes number =
 abbrev pub entry_hash_in : HashFunction → Text → Result Hash ℕ
 entry_hash_in h bytes = cert_in bytes >>= λ c. Ok (leaf_hash h (entry_of h c))
 
--- Bytes are put at the front of a buffer, where they fit, and the rest of it stays; or 9 and the
+-- Bytes are put at the start of a buffer, where they fit, and the rest of it stays; or 9 and the
 -- buffer as it was.
 abbrev pub put_in : Text → Text → ℕ × Text
 put_in piece before = if nat_le (length piece) (length before)
