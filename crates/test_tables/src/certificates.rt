@@ -1,7 +1,7 @@
 //! What reading a certificate answers to every change of one byte, to be compared with what
 //! `tests/certificate_table.py` makes, a reader that is written from the pages and the standards.
 //!
-//! An answer is `Ok` with the serial number, both moments, the lengths of issuer, subject, public
+//! An answer is `Ok` with the serial number, both times, the lengths of issuer, subject, public
 //! key, extensions and proof, the number of dNSNames, and 1 where a critical extension isn't known;
 //! or the fault and its offset.
 

@@ -12,7 +12,7 @@ use relying_party::judge;
 use std::alloc::Global;
 use tree_core::Sha;
 
-// Who is asked: the reader of certificates, or the judge, with a store and at a moment in seconds.
+// Who is asked: the reader of certificates, or the judge, with a store and at a time in seconds.
 #[derive(Clone, Copy)]
 enum Asked<'a> {
     Reader,
@@ -46,7 +46,7 @@ fn run_of(alloc: Global, from: u8, to: u8, answer: Answer) -> Result<String> {
     Ok(format!(in alloc; ", {from}-{to} {answer}")?)
 }
 
-// Writes such a run behind those before it.
+// Appends such a run to those before it.
 fn add_run(alloc: Global, text: &mut String, from: u8, to: u8, answer: Answer) -> Result<()> {
     let run = run_of(alloc, from, to, answer)?;
     text.push_str(run.as_str())?;

@@ -1,7 +1,7 @@
 //! What a relying party answers to every change of one byte of a certificate, to be compared with
 //! what `tests/certificate_table.py` makes.
 //!
-//! A line is `LABEL MOMENT LOG START END HASH FROM TO CERTIFICATE`: the moment in seconds since
+//! A line is `LABEL MOMENT LOG START END HASH FROM TO CERTIFICATE`: the time in seconds since
 //! 1970-01-01T00:00:00Z, and a store for the log with the id LOG, which trusts the interval from
 //! START to END with HASH, and has revoked the serial numbers from FROM to TO, without TO. An
 //! answer is `Accepted` with index, start and end, or the refusal.
@@ -14,10 +14,10 @@ use std::alloc::Global;
 use tls_wire::AnchorId;
 use tree_core::Span;
 
-/// The place of the moment in a line.
+/// The index of the time in a line.
 pub(crate) const MOMENT: usize = 1;
 
-/// The place of the certificate in a line, its last word.
+/// The index of the certificate in a line, its last word.
 pub(crate) const CERTIFICATE: usize = 8;
 
 /// What the relying party knows of a certificate, or why it refuses it.

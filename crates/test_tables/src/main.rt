@@ -2,12 +2,12 @@
 //! implementations answer: signatures, certificates, judgements and the proofs of a list. Bytes
 //! are hexadecimal, and `-` is no bytes. A line is one of these.
 //!
-//! - `hss LABEL KEY MESSAGE SIGNATURE`, and `lms` with the same words for one tree alone: the
-//!   label and what `verify` answers. A label tells the height and the width of each level, as
+//! - `hss LABEL KEY MESSAGE SIGNATURE`, and `lms` with the same words for one tree alone: the label
+//!   and what `verify` answers. A label has the height and the width of each level, as
 //!   `h5w4/h10w1`, or what is tried (`one` and `tree` are of one level, `3-levels` of three), and
-//!   behind a colon what was changed: `q1023` the number of the one-time key, `s7` or `k7` byte 7
-//!   of the signature or of the key, `L9` the number of levels, `key59` the key's length,
-//!   `message` the message, `cut4` all behind 4 bytes, `long` a byte more.
+//!   after a colon what was changed: `q1023` the number of the one-time key, `s7` or `k7` byte 7 of
+//!   the signature or of the key, `L9` the number of levels, `key59` the key's length, `message`
+//!   the message, `cut4` all after 4 bytes, `long` a byte more.
 //! - `tree HEIGHT WIDTH SECRET`: the public key of the tree, of height 5 or 10 and width 1, 2, 4
 //!   or 8, by a secret of 48 bytes.
 //! - `sign HEIGHT WIDTH SECRET NEXT MESSAGE ..`: height, width and public key, and for each

@@ -11,7 +11,7 @@ use lms_core::Tree;
 use sha2::{Digest, Sha256};
 use std::alloc::Global;
 
-// The place of the first message among the words of a key.
+// The index of the first message among the words of a key.
 const MESSAGES: usize = 4;
 
 // A height of which keys are made.
@@ -96,7 +96,7 @@ fn signed_word(alloc: Global, key: &mut Key, word: &str) -> Result<String> {
     signed(alloc, key, &message)
 }
 
-// Writes what signing the message of a word answers behind what stands there.
+// Appends what signing the message of a word answers.
 fn add_signed(alloc: Global, text: &mut String, key: &mut Key, word: &str) -> Result<()> {
     let line = signed_word(alloc, key, word)?;
     text.push_str(line.as_str())?;

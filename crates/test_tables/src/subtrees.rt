@@ -2,7 +2,7 @@
 //! that `tests/list_table.py` makes.
 //!
 //! For each subtree of the list a line `START END HASH PATHS` is written: its hash, and the SHA-256
-//! of the inclusion paths of its entries one behind the other. For each size from 1 to the list's
+//! of the inclusion paths of its entries one after the other. For each size from 1 to the list's
 //! and each subtree within it a line `START END SIZE COUNT PROOF` is written: the number of hashes
 //! of its consistency proof, and the first 16 digits of their SHA-256. Each path is evaluated and
 //! each proof checked here; one that fails ends the program.
@@ -130,7 +130,7 @@ fn proof_line(
     Ok(format!(in alloc; "{start} {end} {size} {count} {digits}\n")?)
 }
 
-// Adds the entry that a word stands for to the list.
+// Adds the entry that a word represents to the list.
 fn add_entry(alloc: Global, nodes: &mut Listed<Sha>, word: &str) -> Result<()> {
     let entry = bytes_of(alloc, word)?;
     if nodes.push(&leaf::<Sha>(entry.as_slice())).is_err() {

@@ -3,7 +3,7 @@
 use anyhow::{Context, Result};
 use std::alloc::Global;
 
-/// The bytes that a word stands for.
+/// The bytes that a word represents.
 pub(crate) fn bytes_of(alloc: Global, word: &str) -> Result<Vec<u8>> {
     if word == "-" {
         return Ok(Vec::new(alloc));
@@ -11,12 +11,12 @@ pub(crate) fn bytes_of(alloc: Global, word: &str) -> Result<Vec<u8>> {
     hex::decode(alloc, word).context("no hexadecimal")
 }
 
-/// The word at this place of a line, counted from 0.
+/// The word at this index of a line, counted from 0.
 pub(crate) fn word(line: &str, place: usize) -> Result<&str> {
     line.split(' ').nth(place).context("too few words")
 }
 
-/// The number at this place of a line.
+/// The number at this index of a line.
 pub(crate) fn number(line: &str, place: usize) -> Result<u64> {
     word(line, place)?.parse().context("no number")
 }
