@@ -10,7 +10,7 @@ const EIGHT: &[u8] = b"abcdefgh";
 
 const PIECE: [u8; 8] = *b"WXYZ!?+-";
 
-// Writes behind a call for the length.
+// Writes after a call for the length.
 fn write(disk: &mut MemDisk, place: u64, bytes: &[u8]) -> Result<(), Failed> {
     if disk.len()? < place || place > 1000 || bytes.len() > 1000 {
         return Err(Failed);
@@ -32,7 +32,8 @@ fn is_written(disk: &mut MemDisk, synced: bool) -> bool {
     write(disk, 4, &PIECE) == Ok(()) && (!synced || sync(disk) == Ok(()))
 }
 
-// Whether a crash leaves this image by this pick of eight bytes over which eight were written.
+// Whether a crash leaves this crash state by this pick of eight bytes over which eight were
+// written.
 fn is_left(alloc: Global, pick: u64, synced: bool, image: &[u8]) -> Result<bool, Memory> {
     let mut disk = disk(alloc, EIGHT, &[])?;
     let written = is_written(&mut disk, synced);
@@ -59,8 +60,8 @@ fn a_crash_leaves_an_image(rt: HostRuntime) -> Result<(), Fail> {
     Ok(())
 }
 
-// Whether a crash leaves this image, by this pick, of eight bytes over which these were written
-// from the fourth on.
+// Whether a crash leaves this crash state, by this pick, of eight bytes over which these were
+// written from the fourth on.
 fn is_left_of_four(
     alloc: Global,
     piece: &[u8; 4],
@@ -148,7 +149,7 @@ fn is_sync(change: &Change) -> bool {
 }
 
 // The changes of the disk, each with its answer, and the length that was asked before them. What
-// was read behind them is counted alone.
+// was read after them is counted alone.
 fn are_noted(disk: &MemDisk) -> bool {
     match disk.changes() {
         [failed, written, synced] => {
@@ -189,7 +190,7 @@ fn is_blown(fuse: &mut Fused) -> bool {
     fuse.len() == Err(Failed) && fuse.write_at(0, b"wxyz") == Err(Failed) && fuse.refused() == 4
 }
 
-// Whether a fuse that passes one write refuses what comes behind it.
+// Whether a fuse that passes one write refuses what comes after it.
 fn blows(fuse: &mut Fused) -> bool {
     if fuse.write_at(0, b"abcd") != Ok(()) || fuse.len() != Ok(4) || fuse.refused() != 0 {
         return false;
@@ -197,7 +198,7 @@ fn blows(fuse: &mut Fused) -> bool {
     fuse.sync() == Err(Failed) && fuse.read_at(0, &mut [0; 4]) == Err(Failed) && is_blown(fuse)
 }
 
-// The disk inside behind these calls, where they were refused.
+// The disk inside the fuse after these calls, if they were refused.
 fn behind_the_fuse(alloc: Global) -> Option<MemDisk> {
     let mut fuse = Fuse::new(MemDisk::new(alloc, Vec::new(alloc)), 1);
     let blown = blows(&mut fuse);

@@ -1,4 +1,4 @@
-//! In which order the room of real files calls the system.
+//! In which order the file system of real files calls the system.
 
 use crate::noted::{Call, Noted, Wanted};
 use crate::system::{disk_refusal, fresh_refusal, scratch_refusal};
@@ -13,7 +13,7 @@ use std::os::unix::fs::PermissionsExt;
 use std::rt::Files;
 use std::test::Fail;
 
-// What a room is asked for: a journal, a new one, or a file of tiles.
+// What a file system is asked for: a journal, a new one, or a file of tiles.
 #[derive(Clone, Copy)]
 enum Asked {
     Journal,
@@ -21,7 +21,7 @@ enum Asked {
     Tiles,
 }
 
-// Why the room doesn't lend it.
+// Why the file system doesn't open it.
 fn refusal<R: Files<File = File>>(
     files: &R,
     asked: Asked,
@@ -43,8 +43,8 @@ fn ended<R: Files<File = File>>(files: &R, asked: Asked, name: &str, wanted: &Wa
     (refusal(files, asked, name, wanted), wanted.met())
 }
 
-// Of so many bytes, those from a place on are written again, in pieces of which the last one has a
-// size of its own; before that so many of the first ones are read, or none.
+// Of so many bytes, those from an offset on are written again, in pieces of which the last one has
+// a size of its own; before that so many of the first ones are read, or none.
 type End = (u64, u64, u64, usize, usize);
 
 const ENDS: [End; 12] = [
@@ -122,7 +122,7 @@ fn holds<R: Files<File = File> + Alloc>(files: &R, path: &str, bytes: &[u8]) -> 
     Ok(fs::read(files, path)?.as_slice() == bytes)
 }
 
-// How a journal is lent where the calls for this end are to come, and how many these are.
+// How a journal is opened where the calls for this end are to come, and how many these are.
 fn ended_by<R: Files<File = File>>(
     files: &R,
     alloc: Global,
@@ -252,7 +252,7 @@ fn prepare<R: Files<File = File>>(
 }
 
 // What is asked for, of a file of so many bytes or of none; the calls for it, and the number of the
-// one that finds the file by its name behind the lock.
+// one that finds the file by its name after the lock.
 type Case = (Asked, Option<u64>, Vec<Call>, usize);
 
 fn cases(alloc: Global) -> Result<[Case; 6], AllocError> {
@@ -292,8 +292,8 @@ fn tried<R: Files<File = File>>(
     Ok(ended)
 }
 
-// Whether a case makes its calls, and none behind one that fails, or that finds another file by the
-// name. A new file's node is asked for behind its name's.
+// Whether a case makes its calls, and none after one that fails, or that finds another file by the
+// name. A new file's node is asked for after its name's.
 fn is_as_told<R: Files<File = File>>(files: &R, alloc: Global, case: &Case) -> io::Result<bool> {
     let (_, _, calls, found) = case;
     let mut right = tried(files, alloc, case, None, None)? == (None, Some(calls.len()));
@@ -346,8 +346,8 @@ fn opened_once<D: Disk>(alloc: Global, disk: D) -> (D, bool) {
     }
 }
 
-// Whether the opening of a journal syncs it first, of which the room has written the end again, and
-// is refused where that fails.
+// Whether the opening of a journal syncs it first, of which the file system has written the end
+// again, and is refused if that fails.
 fn syncs_first<R: Files<File = File>>(
     files: &R,
     alloc: Global,

@@ -91,7 +91,7 @@ fn each_write_is_followed_by_its_sync(rt: HostRuntime) {
     assert!(rt; calls_of_writes() == 12121);
 }
 
-// Whether each call of a lost file fails, behind two that failed.
+// Whether each call of a lost file fails, after two that failed.
 fn is_lost(disk: &mut FileDisk<Counted>) -> bool {
     disk.len() == Err(Failed)
         && disk.write_at(0, b"a") == Err(Failed)
@@ -99,7 +99,7 @@ fn is_lost(disk: &mut FileDisk<Counted>) -> bool {
         && disk.faults() == 5
 }
 
-// Whether a sync behind a write fails, and then all calls.
+// Whether a sync after a write fails, and then all calls.
 fn is_lost_by_a_sync(disk: &mut FileDisk<Counted>) -> bool {
     if disk.write_at(0, b"abcd") != Ok(()) || disk.sync() != Err(Failed) {
         return false;
@@ -126,7 +126,7 @@ fn opened<R: Files<File = File>>(rt: &R, path: &str) -> io::Result<File> {
     how.open(rt, path)
 }
 
-// What is read behind two writes, one over the other, in an empty file.
+// What is read after two writes, one over the other, in an empty file.
 fn written(disk: &mut FileDisk) -> Result<[u8; 5], Failed> {
     if disk.len()? != 0 {
         return Err(Failed);

@@ -18,7 +18,7 @@ fn reads(alloc: Global, bytes: Bytes, records: &[u8], end: End) -> Result<bool, 
     Ok(is_read(&read_all(alloc, disk)?, records, end))
 }
 
-// The same of these bytes behind a front.
+// The same of these bytes after a prefix.
 fn reads_both(
     alloc: Global,
     prefix: &[u8],
@@ -86,7 +86,7 @@ fn holds(disk: &MemDisk, behind: &[u8]) -> bool {
     prefix == HEADER && back == behind
 }
 
-// What a journal of two records reads at the place of the second body.
+// What a journal of two records reads at the offset of the second body.
 fn second_body(journal: &mut MemJournal) -> Option<[u8; 2]> {
     if journal.end() != 30 {
         return None;
@@ -96,7 +96,7 @@ fn second_body(journal: &mut MemJournal) -> Option<[u8; 2]> {
     Some(body)
 }
 
-// What it reads at the place of the length of that, as bytes and as a number.
+// What it reads at the offset of the length of that, as bytes and as a number.
 fn second_length(journal: &mut MemJournal) -> Option<[u8; 4]> {
     if journal.end() != 30 {
         return None;
@@ -137,7 +137,7 @@ fn is_broken(journal: &mut MemJournal) -> bool {
         && append(journal, &[0xaa, 0xbb]) == Err(AppendError::Broken)
 }
 
-// Whether an append fails where this call of the disk fails, and makes none behind it; nor does the
+// Whether an append fails if this call of the disk fails, and makes none after it; nor does the
 // next append.
 fn breaks(alloc: Global, call: u64) -> Result<bool, Memory> {
     let Some(mut journal) = begun_on(alloc, &[call])? else {
@@ -149,7 +149,8 @@ fn breaks(alloc: Global, call: u64) -> Result<bool, Memory> {
 
 #[test]
 fn a_broken_journal_calls_no_disk(rt: HostRuntime) -> Result<(), Fail> {
-    // A start makes five calls, and an append four: the record, its sync, the gate, its sync.
+    // A start makes five calls, and an append four: the record, its sync, the commit byte, its
+    // sync.
     for call in 5..9 {
         assert!(rt; breaks(rt.alloc(), call)?, "call {call}");
     }
@@ -169,7 +170,7 @@ fn takes_one_more(journal: &mut Journal<FileDisk>) -> bool {
     journal.end() == 30 && append(journal, &[0xcc]) == Ok(())
 }
 
-// The file of the journal in this file behind a third record.
+// The file of the journal in this file after a third record.
 fn gone_on(alloc: Global, file: fs::File) -> Option<FileDisk> {
     let mut journal = opened(alloc, FileDisk::new(file))?;
     let taken = takes_one_more(&mut journal);

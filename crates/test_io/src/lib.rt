@@ -1,4 +1,4 @@
-//! Cases over the streams, the disks, the journals and the rooms.
+//! Cases over the streams, the disks, the journals and the file systems.
 #![tactic(auto)]
 
 #[cfg(test)]

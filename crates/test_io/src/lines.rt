@@ -6,7 +6,7 @@ use std::alloc::Global;
 use std::io::{self, ErrorKind, Write};
 use std::test::Fail;
 
-// A writer that keeps what it takes, with a bar behind each write; or one that takes nothing.
+// A writer that retains what it takes, with a bar after each write; or one that takes nothing.
 #[derive(Drop)]
 struct Barred {
     bytes: Vec<u8>,

@@ -13,7 +13,7 @@ use std::rt::Files;
 
 // A call of the system: for a name, whose link is followed or not; one that opens a file to be
 // written, a new file, or a folder; and of an open file one that locks it, moves its descriptor,
-// asks for its length and node, reads or writes so many bytes from a place on, or syncs it.
+// asks for its length and node, reads or writes so many bytes from an offset on, or syncs it.
 #[derive(Clone, Copy, PartialEq)]
 pub enum Call {
     Find,

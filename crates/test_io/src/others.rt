@@ -1,4 +1,4 @@
-//! Files that the room of real files refuses, though they can be opened.
+//! Files that the file system of real files refuses, though they can be opened.
 
 use crate::system::{disk_refusal, fresh_refusal, scratch_refusal};
 use journal_core::HEADER;
@@ -97,7 +97,7 @@ fn tiles_are_never_written_over_a_journal(rt: HostRuntime) -> Result<(), Fail> {
     Ok(())
 }
 
-// Whether the room refuses a journal with this mode.
+// Whether the file system refuses a journal with this mode.
 fn is_refused<R: Files<File = File>>(files: &R, name: &str, mode: u32) -> io::Result<bool> {
     fs::set_permissions(files, name, Permissions::from_mode(mode))?;
     Ok(disk_refusal(files, name) == FAILED)
@@ -159,7 +159,8 @@ fn long_name(alloc: Global, length: usize) -> Result<String, AllocError> {
     Ok(name)
 }
 
-// A new journal's name leaves room for `.tiles` behind it. One that has a file is told as such.
+// A new journal's name is short enough that `.tiles` can follow it. One that has a file is reported
+// as such.
 #[test]
 fn a_new_name_leaves_room_for_its_tiles(rt: HostRuntime) -> Result<(), Fail> {
     for (length, wanted) in [(249, None), (250, FAILED), (255, FAILED), (256, FAILED)] {

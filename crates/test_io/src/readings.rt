@@ -10,7 +10,7 @@ use std::alloc::Global;
 /// How a reading ends.
 pub(crate) type End = Result<(), OpenError>;
 
-/// The records of a file, each behind its length, and how the reading ends; none where it ends
+/// The records of a file, each after its length, and how the reading ends; none where it ends
 /// otherwise when it is asked again.
 pub(crate) type Reading = Option<(Bytes, End)>;
 
@@ -27,7 +27,7 @@ pub(crate) fn disk_of(alloc: Global, bytes: Bytes, failing: &[u64]) -> Result<Me
     Ok(MemDisk::over(alloc, bytes, Vec::from_slice(alloc, failing)?))
 }
 
-/// A record behind others, behind its length.
+/// A record after others, with its length before it.
 pub(crate) fn add(records: &mut Bytes, body: &[u8]) -> Result<(), Memory> {
     let size = body.len().min(MAX_BODY) as u32;
     records.append_both(&size.to_be_bytes(), body)
@@ -56,7 +56,7 @@ pub(crate) fn append<D: Disk>(journal: &mut Journal<D>, body: &[u8]) -> Result<(
     journal.append(body)
 }
 
-// One step, with the body that it finds put behind the others; or how the reading ends.
+// One step, which appends the body that it finds; or how the reading ends.
 fn step<D: Disk>(opening: &mut Opening<D>, found: &mut Bytes) -> Result<Option<End>, Memory> {
     match opening.next() {
         Ok(Some(body)) => {
@@ -69,7 +69,7 @@ fn step<D: Disk>(opening: &mut Opening<D>, found: &mut Bytes) -> Result<Option<E
 }
 
 // Whether so many records were read, and the reading ends so when it is asked again. Four bytes of
-// length stand for the gate and the length of each record.
+// length represent the commit byte and the length of each record.
 fn is_ended<D: Disk>(
     opening: &mut Opening<D>,
     found: &mut Bytes,

@@ -1,4 +1,4 @@
-//! Rooms in memory.
+//! File systems in memory.
 
 ghost use Rattle.std.specs.Prelude.{◌≡◌, IfOk};
 ghost use Rattle.mtc_room.specs.Memory.{state};
@@ -9,7 +9,7 @@ use mtc_room::{MemRoom, Room, RoomError};
 use std::alloc::Global;
 use std::test::Fail;
 
-// Places a file of which these calls fail, and lends nothing.
+// Places a file of which these calls fail, and opens nothing.
 fn place(
     alloc: Global,
     room: &mut MemRoom,
@@ -32,7 +32,7 @@ fn place_all(alloc: Global, room: &mut MemRoom) -> Result<(), Memory>
     place(alloc, room, "bad", b"three", &[0])
 }
 
-// The room with these files. None of them is out.
+// The file system with these files. None of them is open.
 fn room(alloc: Global) -> Result<MemRoom, Memory>
     ensures { IfOk result (λ room. (state room).opened ≡ 0) }
 {
@@ -45,7 +45,7 @@ fn holds(room: &MemRoom, name: &str, bytes: &[u8]) -> bool {
     room.bytes(name) == Some(bytes)
 }
 
-// What a room answers to one that reads a file of three bytes.
+// What a file system answers to one that reads a file of three bytes.
 #[derive(Clone, Copy, Debug, PartialEq, Eq)]
 enum Opened {
     Refused(RoomError),
@@ -108,7 +108,7 @@ fn fails_to_sync(disk: &mut MemDisk) -> bool {
     disk.sync() == Err(Failed) && disk.faults() == 1
 }
 
-// Why no file of that name is made, by a room of which nothing else is out.
+// Why no file of that name is made, by a file system of which nothing else is open.
 fn fresh_refusal(room: &mut MemRoom, name: &str) -> Option<RoomError>
     requires { (state room.old).opened ≡ 1 }
     ensures { (state room.new).opened ≡ 1 }
@@ -122,7 +122,7 @@ fn fresh_refusal(room: &mut MemRoom, name: &str) -> Option<RoomError>
     }
 }
 
-// Whether a file is made that takes three bytes while its device is out, and no second one of its
+// Whether a file is made that takes three bytes while its device is open, and no second one of its
 // name.
 fn makes(room: &mut MemRoom) -> bool
     requires { (state room.old).opened ≡ 0 }
@@ -137,7 +137,7 @@ fn makes(room: &mut MemRoom) -> bool
     again == Some(RoomError::Exists) && written && holds(room, "j", b"abc")
 }
 
-// Whether the calls are counted over all lendings: the third one fails.
+// Whether the calls are counted over all openings: the third one fails.
 fn fails_later(room: &mut MemRoom) -> bool
     requires { (state room.old).opened ≡ 0 }
     ensures { (state room.new).opened ≡ 0 }
@@ -150,7 +150,7 @@ fn fails_later(room: &mut MemRoom) -> bool
     failed
 }
 
-// Why a file isn't lent.
+// Why a file isn't opened.
 fn disk_refusal(room: &mut MemRoom, name: &str) -> Option<RoomError>
     requires { (state room.old).opened ≡ 0 }
 {
@@ -190,7 +190,7 @@ fn makes_what_it_has_not(room: &mut MemRoom) -> bool
     written
 }
 
-// Whether it has them when it is lent a second time.
+// Whether it has them when it is opened a second time.
 fn opens_what_it_made(room: &mut MemRoom) -> bool
     requires { (state room.old).opened ≡ 0 }
 {

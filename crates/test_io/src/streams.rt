@@ -17,7 +17,7 @@ fn read(alloc: Global, source: &mut MemSource, limit: u64) -> Result<Bytes, Read
     read_all(alloc, source, limit)
 }
 
-// Whether the bytes were read without a fault, or refused so.
+// Whether the bytes were read without a failure, or refused so.
 fn is_read(read: Result<Bytes, ReadError>, bytes: &[u8], refusal: Option<ReadError>) -> bool {
     match read {
         Ok(read) => refusal.is_none() && read.as_slice() == bytes,
@@ -146,7 +146,8 @@ fn failed_reads_are_counted() -> bool {
     first && reader.read(&mut into) == Err(Failed) && reader.faults() == 2
 }
 
-// A writer with room for two bytes takes no more, which is a fault for a piece that isn't empty.
+// A writer with capacity for two bytes takes no more, which is a failure for a piece that isn't
+// empty.
 fn full_writer_fails() -> bool {
     let mut room = [0; 2];
     let mut full = StdSink::new(room.as_mut_slice());
@@ -164,7 +165,7 @@ fn readers_and_writers_are_adapted(rt: HostRuntime) -> Result<(), Fail> {
     Ok(())
 }
 
-// Bytes that were put one behind the other.
+// Bytes that were appended, one after the other.
 fn grown(alloc: Global) -> Result<Bytes, Memory> {
     let mut bytes = Bytes::copy_of(alloc, b"log")?;
     bytes.append(b" ")?;

@@ -1,4 +1,4 @@
-//! The room of real files.
+//! The file system of real files.
 
 use disk_core::{Disk, FileDisk};
 use mtc_files::{FileRoom, Held};
@@ -11,7 +11,7 @@ use std::os::unix::fs::MetadataExt;
 use std::rt::Files;
 use std::test::Fail;
 
-// Why a room doesn't lend an input file of that name; none where it does.
+// Why a file system doesn't open an input file of that name; none if it does.
 fn source_refusal<R: Files>(files: &R, name: &str) -> Option<RoomError>
 where
     R::File: Held,
@@ -84,7 +84,7 @@ fn read<S: Source>(alloc: Global, source: &mut S) -> Result<Bytes, ReadError> {
     read_all(alloc, source, 5)
 }
 
-// What a room gives of an input file of five bytes at most.
+// What a file system gives of an input file of five bytes at most.
 fn opened_bytes<R: Files<File = File>>(files: &R, alloc: Global, name: &str) -> Option<Bytes> {
     let mut room = FileRoom::new(files);
     let mut source = room.source(name).ok()?;
@@ -132,7 +132,7 @@ fn makes<R: Files<File = File>>(files: &R, name: &str) -> bool {
     filled && fresh_refusal(files, name) == Some(RoomError::Exists)
 }
 
-// Whether the file is lent again, and takes more.
+// Whether the file is opened again, and takes more.
 fn opens_again<R: Files<File = File>>(files: &R, name: &str) -> bool {
     let mut room = FileRoom::new(files);
     let Ok(mut disk) = room.disk(name) else {
@@ -222,12 +222,12 @@ fn open_to_write<R: Files>(files: &R, name: &str) -> io::Result<R::File> {
     File::options().read(true).write(true).open(files, name)
 }
 
-// Whether a room can lend the journal of that name.
+// Whether a file system can open the journal of that name.
 fn opens<R: Files<File = File>>(files: &R, name: &str) -> bool {
     disk_refusal(files, name).is_none()
 }
 
-// Whether nobody else is lent a new journal while it is out.
+// Whether no other opening of a new journal succeeds while it is open.
 fn is_opened_alone<R: Files<File = File>>(files: &R, name: &str) -> bool {
     let mut room = FileRoom::new(files);
     let Ok(disk) = room.fresh(name) else {
@@ -238,7 +238,7 @@ fn is_opened_alone<R: Files<File = File>>(files: &R, name: &str) -> bool {
     found == [None, Some(RoomError::Failed), Some(RoomError::Exists)]
 }
 
-// Why a room failed at a journal, and at a file of tiles, if it did.
+// Why a file system failed at a journal, and at a file of tiles, if it did.
 fn causes<R: Files<File = File>>(files: &R, name: &str) -> [Cause; 2] {
     let mut room = FileRoom::new(files);
     if let Ok(disk) = room.disk(name) {
@@ -252,8 +252,8 @@ fn causes<R: Files<File = File>>(files: &R, name: &str) -> [Cause; 2] {
     [of_journal, room.cause()]
 }
 
-// Why a room failed at a journal that is locked, and then at a folder that it opens and can't read:
-// nothing where it doesn't open it.
+// Why a file system failed at a journal that is locked, and then at a folder that it opens and
+// can't read: nothing if it doesn't open it.
 fn causes_after_lock<R: Files<File = File>>(files: &R, name: &str) -> Option<[Cause; 2]> {
     let mut room = FileRoom::new(files);
     if let Ok(disk) = room.disk(name) {
@@ -269,8 +269,8 @@ fn causes_after_lock<R: Files<File = File>>(files: &R, name: &str) -> Option<[Ca
     Some([of_journal, room.cause()])
 }
 
-// Whether a file isn't lent that another opening has locked, as a journal or for tiles, and that
-// is reported; once the lock is gone it is lent.
+// Whether a file isn't opened that another opening has locked, as a journal or for tiles, and that
+// is reported; once the lock is gone it is opened.
 fn is_refused<R: Files<File = File>>(files: &R, name: &str) -> io::Result<bool> {
     let other = open_to_write(files, name)?;
     let is_reported = other.try_lock().is_ok() && !opens(files, name);
@@ -288,7 +288,7 @@ fn is_locked<R: Files<File = File>>(files: &R, name: &str) -> bool {
     }
 }
 
-// Whether it can't while the journal is out.
+// Whether it can't while the journal is open.
 fn is_opened_locked<R: Files<File = File>>(files: &R, name: &str) -> bool {
     let mut room = FileRoom::new(files);
     let Ok(disk) = room.disk(name) else {

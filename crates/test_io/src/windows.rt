@@ -7,7 +7,7 @@ use mtc_io::{Bytes, Memory};
 use std::alloc::Global;
 use std::test::Fail;
 
-// Puts so many records with this body of so many bytes, and a closed gate, behind a header.
+// Appends so many records with this body of so many bytes, and a closed commit byte, to a header.
 fn add_records(bytes: &mut Bytes, count: u64, size: u32, body: &[u8]) -> Result<(), Memory> {
     for _ in 0..count {
         bytes.append(&[1])?;
@@ -52,7 +52,7 @@ fn read(alloc: Global, count: u64, size: u32, failing: &[u64]) -> Result<Option<
     Ok(read_whole(alloc, disk_of(alloc, bytes, failing)?))
 }
 
-// A sync, the length and the header come first. A window has 131,094 bytes, and a fault comes at
+// A sync, the length and the header come first. A window has 131,094 bytes, and a failure comes at
 // the record that needs it.
 #[test]
 fn records_are_read_in_windows(rt: HostRuntime) -> Result<(), Fail> {
