@@ -1,7 +1,7 @@
-//! What a script has begun: a name, a file or a run, and the bytes that its lines spell for it.
+//! What a script has begun: a name, a file or a run, and the bytes that its lines encode for it.
 //!
-//! Where a line can't be read, or memory is refused, a call answers none; and else whether all is
-//! as the line says.
+//! If a line can't be read, or memory is refused, a call answers none; and else whether all is as
+//! the line says.
 
 use crate::texts::parted;
 use std::alloc::Global;
@@ -44,7 +44,7 @@ impl Block {
         Some(true)
     }
 
-    /// Appends what a word spells in hexadecimal.
+    /// Appends what a word encodes in hexadecimal.
     pub fn append_encoded(&mut self, word: &str) -> Option<bool> {
         let bytes = hex::decode(self.alloc, word).ok()?;
         self.append(bytes.as_slice())
@@ -55,7 +55,7 @@ impl Block {
         self.append(end.as_bytes())
     }
 
-    /// Another byte at a place: `N HEX`.
+    /// Another byte at an offset: `N HEX`.
     pub fn change(&mut self, words: &str) -> Option<bool> {
         let (place, digits) = parted(words);
         let place = place.parse::<usize>().ok()?;
@@ -98,7 +98,7 @@ impl Block {
         replace(&mut self.failing, Vec::new(self.alloc))
     }
 
-    /// Whether a line that says more of a run, or of a file, stands behind one.
+    /// Whether a line that says more of a run, or of a file, follows one.
     pub fn is_in_place(&self, what: &str) -> bool {
         match what {
             "status" | "!" | "!=" | ">" => matches!(self.begun, Begun::Run),

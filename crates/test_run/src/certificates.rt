@@ -1,5 +1,5 @@
 //! What `cert` writes, what `show` prints of a certificate, and what `verify` answers to one, a
-//! store and a moment.
+//! store and a time.
 
 use crate::scripts::{Outcome, outcome_of};
 

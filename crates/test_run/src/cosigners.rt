@@ -178,7 +178,7 @@ fn cosigns_more(alloc: Global, desk: &mut Desk) -> u64 {
     30
 }
 
-// A room with a cosigner that holds 1,024 entries, and the request for a signature of all.
+// A file system with a cosigner that holds 1,024 entries, and the request for a signature of all.
 fn ready(alloc: Global) -> Option<Desk> {
     desk_behind(alloc, NAMES, "file t ALL\nfile s ADVANCED 00")
 }
@@ -218,7 +218,7 @@ fn status_of(answer: &Answer, size: usize, [out, old, new]: [usize; 3]) -> Optio
     }
 }
 
-// The status of a command in a room of which a call of the journal's device fails.
+// The status of a command in a file system of which a call of the journal's device fails.
 fn status_with(
     alloc: Global,
     desk: &mut Desk,
@@ -232,7 +232,7 @@ fn status_with(
     status_of(&answer, size, lengths)
 }
 
-// The same in a room that is made anew, with this file for the journal.
+// The same in a file system that is rebuilt, with this file for the journal.
 fn status_in(
     alloc: Global,
     words: &str,
@@ -262,9 +262,9 @@ fn wrong_call(
     None
 }
 
-// Four calls open the journal: a sync, the length, the header, and what stands behind it. Four add
-// a record: it is written and synced, and so is its gate. Two copy the only record that `export`
-// shows: its length is read, and then the whole.
+// Four calls open the journal: a sync, the length, the header, and what follows it. Four add a
+// record: it is written and synced, and so is its commit byte. Two copy the only record that
+// `export` shows: its length is read, and then the whole.
 #[test]
 fn a_device_fails_a_cosigner(rt: HostRuntime) {
     let alloc = rt.alloc();

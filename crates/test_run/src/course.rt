@@ -1,5 +1,6 @@
-//! A course: runs of the program over a room, and beside them the steps of the nodes that they
-//! were. Behind each run the room is compared with the states of the history of these steps.
+//! An execution: runs of the program over a file system, and beside them the steps of the parties
+//! that they were. After each run the file system is compared with the states of the history of
+//! these steps.
 
 use crate::course_desk::{Desk, Outlet, Ran, WHOLE};
 use crate::course_draws::Draws;
@@ -12,9 +13,9 @@ use node_history::{HistoryError, NodeStart, NodeState, NodeStep, history};
 use std::alloc::Global;
 use tree_core::Sha;
 
-/// How many runs and stops ended so: what a node refused, what failed in the device, pending
-/// records that a stop kept and that were gone, records that were settled and not handed out, those
-/// that were handed out in part, and stops of the machine.
+/// How many runs and stops ended so: what a party refused, what failed in the device, pending
+/// records that a stop retained and that were gone, records that were durable and not released,
+/// those that were released in part, and stops of the machine.
 #[derive(Clone, Copy, Debug, PartialEq, Eq)]
 pub struct Tally {
     pub refused: u64,
@@ -27,7 +28,7 @@ pub struct Tally {
     pub within: u64,
 }
 
-// What a run printed of a record, all of it or its front.
+// What a run printed of a record, all of it or a prefix.
 #[derive(Drop)]
 struct Printed {
     node: Node,
@@ -35,7 +36,7 @@ struct Printed {
     is_whole: bool,
 }
 
-/// The room, and the steps and states of the nodes.
+/// The file system, and the steps and states of the parties.
 pub struct Course {
     pub alloc: Global,
     pub draws: Draws,
@@ -53,7 +54,7 @@ impl Printed {
     }
 }
 
-// A drop in one step: a derived one is proved field by field wherever a value is let go.
+// A drop in one step: a derived one is proved field by field wherever a value is dropped.
 impl Drop for Course {
     fn drop(self) {
         let Course {
@@ -79,7 +80,7 @@ fn place_request(desk: &mut Desk, alloc: Global, name: &str) -> Result<(), Diffe
     desk.place(name, request.as_bytes())
 }
 
-// Makes both nodes, by two requests and the secret of the cosigner.
+// Makes both parties, by two requests and the secret of the cosigner.
 fn make_nodes(desk: &mut Desk, alloc: Global) -> Result<(), Difference> {
     for name in ["a", "b"] {
         place_request(desk, alloc, name)?;
@@ -97,7 +98,7 @@ fn make_nodes(desk: &mut Desk, alloc: Global) -> Result<(), Difference> {
     Ok(())
 }
 
-// Whether the text begins with what is printed, and is all of it where it is whole.
+// Whether the bytes begin with what is printed, and are all of it if it is whole.
 fn is_printed(printed: &Printed, text: &Text) -> bool {
     for (found, wanted) in printed.text.iter().zip(text.prefix.as_slice()) {
         if found != wanted {
@@ -112,7 +113,7 @@ fn is_printed(printed: &Printed, text: &Text) -> bool {
     }
 }
 
-// Whether this was printed of the record that was handed out at this place.
+// Whether this was printed of the record that was released at this index.
 fn is_handed(
     alloc: Global,
     state: &NodeState,
@@ -130,7 +131,7 @@ fn is_handed(
 }
 
 impl Course {
-    // A room without a file.
+    // A file system without a file.
     fn new(alloc: Global, seed: u64, tally: Tally) -> Result<Course, Difference> {
         let starts = starts(alloc)?;
         Ok(Course {
@@ -145,21 +146,21 @@ impl Course {
         })
     }
 
-    // Both nodes are made.
+    // Both parties are made.
     fn start(&mut self) -> Result<(), Difference> {
         make_nodes(&mut self.desk, self.alloc)?;
         self.replay()?;
         self.compare()
     }
 
-    /// A room in which both nodes were made.
+    /// A file system in which both parties were made.
     pub fn begin(alloc: Global, seed: u64, tally: Tally) -> Result<Course, Difference> {
         let mut course = Course::new(alloc, seed, tally)?;
         course.start()?;
         Ok(course)
     }
 
-    /// The state of a node behind the steps so far.
+    /// The state of a party after the steps so far.
     pub fn state(&self, node: Node) -> Result<&NodeState, Difference> {
         match self.states.as_slice().get(node.number() as usize) {
             Some(state) => Ok(state),
@@ -167,7 +168,7 @@ impl Course {
         }
     }
 
-    // The states behind the steps so far.
+    // The states after the steps so far.
     fn replay(&mut self) -> Result<(), Difference> {
         match history::<Sha>(self.alloc, &self.starts, self.steps.as_slice()) {
             Ok(states) => {
@@ -179,7 +180,7 @@ impl Course {
         }
     }
 
-    /// A node stops, and is opened again.
+    /// A party stops, and is opened again.
     pub fn restart(&mut self, node: Node, kept: bool) -> Result<(), Difference> {
         let node = node.number();
         self.steps.push(NodeStep::Stop { node, kept })?;
@@ -193,7 +194,7 @@ impl Course {
         Ok(())
     }
 
-    /// Begins a record behind a stop, if the rules allow it.
+    /// Begins a record after a stop, if the rules allow it.
     pub fn begin_record(&mut self, node: Node, body: &[u8]) -> Result<bool, Difference> {
         self.restart(node, false)?;
         let number = self.steps.len() as u64;
@@ -208,7 +209,7 @@ impl Course {
         }
     }
 
-    // The record is settled, and nothing of it was printed.
+    // The record becomes durable, and nothing of it was printed.
     fn settle_silently(&mut self, node: Node, is_whole: bool) -> Result<(), Difference> {
         let node = node.number();
         self.steps.push(NodeStep::Settle { node })?;
@@ -220,7 +221,7 @@ impl Course {
         }
     }
 
-    // The record is settled and handed out.
+    // The record becomes durable and is released.
     fn hand(&mut self, node: Node, is_whole: bool) -> Result<(), Difference> {
         if !is_whole {
             self.tally.cut = self.tally.cut.saturating_add(1);
@@ -231,7 +232,7 @@ impl Course {
         Ok(())
     }
 
-    // The record is settled, and handed out if a byte of it was printed.
+    // The record becomes durable, and is released if a byte of it was printed.
     fn settle(&mut self, node: Node, text: Vec<u8>, is_whole: bool) -> Result<(), Difference> {
         if text.is_empty() {
             return self.settle_silently(node, is_whole);
@@ -244,7 +245,7 @@ impl Course {
         self.hand(node, is_whole)
     }
 
-    // How a run ended. Where its device failed, the record stays pending.
+    // How a run ended. The record stays pending if its device failed.
     fn end(&mut self, node: Node, allowed: bool, ran: Ran) -> Result<(), Difference> {
         match (ran.status, allowed) {
             (0, true) => self.settle(node, ran.out, true),
@@ -261,7 +262,7 @@ impl Course {
         }
     }
 
-    // Whether a file has the records of a node's state, with the pending one or without it.
+    // Whether a file has the records of a party's state, with the pending one or without it.
     fn is_of(&self, node: Node, bytes: &[u8]) -> Result<bool, Difference> {
         Ok(kept_in(self.alloc, bytes, node, self.state(node)?)?.is_some())
     }
@@ -276,8 +277,8 @@ impl Course {
         }
     }
 
-    // The records of a node's journal are those of its state, with the pending one or without it;
-    // and so are those of some images that a crash may leave.
+    // The records of a party's journal are those of its state, with the pending one or without it;
+    // and so are those of some crash states that a crash may leave.
     fn compare_records(&mut self, node: Node) -> Result<(), Difference> {
         if !self.is_of(node, self.desk.bytes(node.file())?)? {
             return Err(Difference::Records);
@@ -288,7 +289,7 @@ impl Course {
         Ok(())
     }
 
-    // What the runs of a node printed are the records that were handed out.
+    // What the runs of a party printed are the records that were released.
     fn compare_printed(&self, node: Node) -> Result<(), Difference> {
         let state = self.state(node)?;
         let mut place = 0usize;
@@ -360,7 +361,7 @@ impl Course {
         Ok(status == 5)
     }
 
-    // One run of a command, and a stop behind it where it failed, or by chance; or one in which the
+    // One run of a command, and a stop after it if it failed, or by chance; or one in which the
     // machine stops.
     fn follow(&mut self, plan: &Plan) -> Result<(), Difference> {
         if self.draws.below(10) == 0 {

@@ -1,4 +1,5 @@
-//! A room in memory, runs of the program over it, and what a stop of the machine leaves of it.
+//! A file system in memory, runs of the program over it, and what a stop of the machine leaves of
+//! it.
 
 ghost use Rattle.std.specs.Prelude.{◌≡◌};
 
@@ -38,7 +39,7 @@ pub struct Ran {
     pub out: Vec<u8>,
 }
 
-/// A room of which nothing is out.
+/// A file system of which nothing is open.
 #[derive(Drop)]
 pub struct Desk {
     alloc: Global,
@@ -47,7 +48,7 @@ pub struct Desk {
 }
 
 impl Desk {
-    /// A room without a file.
+    /// A file system without a file.
     pub fn new(alloc: Global) -> Desk {
         Desk {
             alloc,
@@ -92,19 +93,19 @@ impl Desk {
         Ok(copy?)
     }
 
-    /// One of the images that a stop of the machine may leave of a file.
+    /// One of the crash states that a stop of the machine may leave of a file.
     pub fn image(&mut self, name: &str, pick: u64) -> Result<Bytes, Difference> {
         let image = self.device(name)?.crash(pick)?;
         Ok(Bytes::copy_of(self.alloc, image.bytes())?)
     }
 
-    /// The machine stops, and leaves this image.
+    /// The machine stops, and leaves this crash state.
     pub fn leave(&mut self, name: &str, image: Bytes) -> Result<(), Difference> {
         stop_leaving::<Sha, MemSink, MemSink>(&mut self.room, name, image, Vec::new(self.alloc))?;
         Ok(())
     }
 
-    // The words of a text, as the program gets them.
+    // The arguments of a text, as the program gets them.
     fn words(&self, text: &str) -> Result<Vec<String>, Difference> {
         let mut words = Vec::new(self.alloc);
         for word in text.split_whitespace() {
@@ -113,7 +114,7 @@ impl Desk {
         Ok(words)
     }
 
-    // Runs the program with these words.
+    // Runs the program with these arguments.
     fn run_words(&mut self, words: &[String], out: &mut MemSink) -> u8 {
         let mut err = MemSink::new(self.alloc, 100, Vec::new(self.alloc));
         run::<Sha, _, _, _>(self.alloc, words, &mut self.room, out, &mut err)

@@ -1,4 +1,4 @@
-//! The two nodes of a course: a log, and a cosigner of it.
+//! The two parties of an execution: a log, and a cosigner of it.
 
 use crate::difference::Difference;
 use cosigner_core::CosignerSettings;
@@ -45,7 +45,7 @@ pub fn secret() -> &'static [u8] {
 }
 
 impl Node {
-    /// Its place among the starts.
+    /// Its index among the starts.
     pub fn number(self) -> u32 {
         match self {
             Node::Log => 0,

@@ -8,7 +8,7 @@ use crate::difference::Difference;
 use mtc_io::Bytes;
 use std::alloc::Global;
 
-/// A command on a node's journal, and the body of its record.
+/// A command on a party's journal, and the body of its record.
 #[derive(Drop)]
 pub struct Plan {
     pub node: Node,
@@ -16,8 +16,8 @@ pub struct Plan {
     pub body: Bytes,
 }
 
-// What stands in the record of an entry up to the first byte of its name, and behind that byte:
-// the entry is that of a certificate for that name.
+// What stands in the record of an entry up to the first byte of its name, and after that byte: the
+// entry is that of a certificate for that name.
 const BEFORE_NAME: [u8; 125] = [
     0x02, 0x00, 0x83, 0x00, 0x01, 0xA0, 0x03, 0x02, 0x01, 0x02, 0x30, 0x19, 0x31, 0x17, 0x30, 0x15,
     0x06, 0x0A, 0x2B, 0x06, 0x01, 0x04, 0x01, 0x82, 0xDA, 0x4B, 0x2F, 0x01, 0x0C, 0x07, 0x33, 0x32,
@@ -41,7 +41,7 @@ const ROOT: usize = 13;
 
 const HASH: usize = 21;
 
-// Two pieces, one behind the other.
+// Two pieces, one after the other.
 fn joined(alloc: Global, prefix: &[u8], behind: &[u8]) -> Result<Bytes, Difference> {
     let mut bytes = Bytes::copy_of(alloc, prefix)?;
     bytes.append(behind)?;
@@ -55,7 +55,7 @@ fn body_of_entry(alloc: Global, name: u8) -> Result<Bytes, Difference> {
     Ok(body)
 }
 
-// That of a record of which a request says all behind the log's id, behind this head.
+// That of a record of which a request says all that follows the log's id, after this head.
 fn body_behind(alloc: Global, head: &[u8], request: &[u8]) -> Result<Bytes, Difference> {
     match request.split_at_checked(5) {
         Some((_, rest)) => joined(alloc, head, rest),
@@ -84,7 +84,7 @@ impl Course {
         Ok(last_size(self.state(Node::Cosigner)?.settled.as_slice(), ADVANCE))
     }
 
-    /// Runs a command that only reads a node's journal, and has to answer.
+    /// Runs a command that only reads a party's journal, and has to answer.
     pub fn ask(&mut self, node: Node, words: &str) -> Result<Vec<u8>, Difference> {
         self.restart(node, false)?;
         let ran = self.desk.run(words, WHOLE)?;
@@ -117,7 +117,7 @@ impl Course {
         })
     }
 
-    // No course has a full tile: there is nothing to store.
+    // No execution has a full tile: there is nothing to store.
     fn tile(&self) -> Result<Plan, Difference> {
         Ok(Plan {
             node: Node::Log,
@@ -159,7 +159,7 @@ impl Course {
         self.request(asked.as_str(), "advance s q", &[ADVANCE], spoilt)
     }
 
-    // Over a front of what is held, or with another hash.
+    // Over a prefix of what is held, or with another hash.
     fn cosign(&mut self, is_spoilt: bool) -> Result<Plan, Difference> {
         let held = self.held()?;
         if held == 0 {

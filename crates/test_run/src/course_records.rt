@@ -1,4 +1,4 @@
-//! The records of journals beside those of a node's state, and what is printed of them.
+//! The records of journals beside those of a party's state, and what is printed of them.
 
 use crate::course_node::Node;
 use crate::difference::Difference;
@@ -29,7 +29,7 @@ fn opened(alloc: Global, bytes: &[u8]) -> Result<Opening<MemDisk>, Difference> {
     }
 }
 
-// Puts the body of the next record behind the others: whether there is one.
+// Appends the body of the next record to the others: whether there is one.
 fn read_next(
     alloc: Global,
     opening: &mut Opening<MemDisk>,
@@ -66,8 +66,8 @@ fn bodies_in(alloc: Global, bytes: &[u8]) -> Result<Vec<Bytes>, Difference> {
     Ok(bodies)
 }
 
-// Whether these bodies are the settled ones with the pending one, or without it. None where they
-// are others.
+// Whether these bodies are the durable ones with the pending one, or without it. None if they are
+// others.
 fn matched(bodies: &[Bytes], state: &NodeState) -> Option<bool> {
     let settled = state.settled.as_slice();
     for (found, wanted) in bodies.iter().zip(settled) {
@@ -87,7 +87,7 @@ fn matched(bodies: &[Bytes], state: &NodeState) -> Option<bool> {
     }
 }
 
-/// Whether a file is the journal of a node in this state with its pending record, or without it.
+/// Whether a file is the journal of a party in this state with its pending record, or without it.
 /// None where it is the journal of another state.
 pub fn kept_in(
     alloc: Global,
@@ -113,7 +113,7 @@ pub fn count(bodies: &[Bytes], tag: u8) -> u64 {
     count
 }
 
-// The number in the eight bytes behind the tag.
+// The number in the eight bytes after the tag.
 fn size_in(body: &Bytes) -> u64 {
     let mut size = 0u64;
     for byte in body.as_slice().iter().skip(1).take(8) {
@@ -133,14 +133,14 @@ pub fn last_size(bodies: &[Bytes], tag: u8) -> u64 {
     size
 }
 
-/// What is printed of a record: its front, and the length of all.
+/// What is printed of a record: a prefix, and the length of all.
 #[derive(Drop)]
 pub struct Text {
     pub prefix: Vec<u8>,
     pub length: usize,
 }
 
-// The front of a signature by the one-time key of this number.
+// The prefix of a signature by the one-time key of this number.
 fn signature(alloc: Global, number: u64) -> Result<Text, Difference> {
     let mut prefix = Vec::from_slice(alloc, &SIGNATURE)?;
     prefix.extend_from_slice(&((number & 0xFFFF_FFFF) as u32).to_be_bytes())?;
@@ -150,7 +150,7 @@ fn signature(alloc: Global, number: u64) -> Result<Text, Difference> {
     })
 }
 
-// A text of one line.
+// The bytes of one line.
 fn line(alloc: Global, line: &str) -> Result<Text, Difference> {
     Ok(Text {
         prefix: Vec::from_slice(alloc, line.as_bytes())?,

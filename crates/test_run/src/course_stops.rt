@@ -1,4 +1,4 @@
-//! Stops: what the journals hold behind one says which step it was, and the next run opens them.
+//! Stops: what the journals hold after one says which step it was, and the next run opens them.
 
 use crate::course::Course;
 use crate::course_desk::WHOLE;
@@ -17,7 +17,7 @@ impl Course {
         }
     }
 
-    // The node is opened again, by a command that reads.
+    // The party is opened again, by a command that reads.
     fn open(&mut self, node: Node) -> Result<(), Difference> {
         if node == Node::Cosigner {
             self.ask(node, "export s")?;
@@ -33,7 +33,8 @@ impl Course {
         }
     }
 
-    // The step is a stop that kept what the journal holds. The state has these records and no more.
+    // The step is a stop that retained what the journal holds. The state has these records and no
+    // more.
     fn stop(&mut self, node: Node) -> Result<(), Difference> {
         let kept = self.keeps(node)?;
         if self.state(node)?.pending.is_some() {
@@ -51,14 +52,14 @@ impl Course {
         self.open(node)
     }
 
-    // Leaves one of the images of a file that a stop may leave.
+    // Leaves one of the crash states of a file that a stop may leave.
     fn leave_image(&mut self, name: &str) -> Result<(), Difference> {
         let pick = self.draws.below(65_536);
         let image = self.desk.image(name, pick)?;
         self.desk.leave(name, image)
     }
 
-    // The machine stops, and leaves an image of each file.
+    // The machine stops, and leaves a crash state of each file.
     fn leave_images(&mut self) -> Result<(), Difference> {
         let is_tiled = self.desk.bytes("j.tiles").is_ok();
         for name in ["j", "s"] {
@@ -77,14 +78,14 @@ impl Course {
         Ok(())
     }
 
-    /// The machine stops. Of each file it leaves a drawn image.
+    /// The machine stops. Of each file it leaves a drawn crash state.
     pub fn stop_machine(&mut self) -> Result<(), Difference> {
         self.tally.stops = self.tally.stops.saturating_add(1);
         self.leave_images()?;
         self.stop_all()
     }
 
-    // A run, and images behind it: whether one of before it is left of the node's journal.
+    // A run, and crash states after it: whether one of before it is left of the party's journal.
     fn run_and_leave(&mut self, plan: &Plan) -> Result<bool, Difference> {
         self.begin_record(plan.node, plan.body.as_slice())?;
         self.desk.run(plan.words, WHOLE)?;
@@ -93,8 +94,8 @@ impl Course {
         Ok(is_before)
     }
 
-    /// The machine stops in the middle of a run, before a byte of it goes out: of the node's
-    /// journal it leaves an image of before the run, or of behind it.
+    /// The machine stops in the middle of a run, before a byte of it goes out: of the party's
+    /// journal it leaves a crash state of before the run, or of after it.
     pub fn stop_within(&mut self, plan: &Plan) -> Result<(), Difference> {
         self.tally.within = self.tally.within.saturating_add(1);
         let name = plan.node.file();
@@ -107,7 +108,7 @@ impl Course {
         self.stop_all()
     }
 
-    /// Behind a run that failed the machine stops, or the program alone.
+    /// After a run that failed the machine stops, or the program alone.
     pub fn stop_behind(&mut self, node: Node) -> Result<(), Difference> {
         if self.draws.below(2) == 0 {
             self.stop_machine()

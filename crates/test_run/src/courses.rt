@@ -1,11 +1,11 @@
-//! Courses of eighty turns.
+//! Executions of eighty runs.
 
 use crate::course::{Course, Tally};
 use crate::difference::Difference;
 use std::alloc::Global;
 use std::test::Fail;
 
-// Eighty turns; or the number of the turn in which the course and its history differ, and in what.
+// Eighty runs; or the number of the run in which the execution and its history differ, and in what.
 fn play(course: &mut Course) -> Result<(), (u64, Difference)> {
     for turn in 1..81 {
         if let Err(why) = course.turn() {
@@ -15,7 +15,7 @@ fn play(course: &mut Course) -> Result<(), (u64, Difference)> {
     Ok(())
 }
 
-// What came about in a course and before it, or where it differs.
+// What came about in an execution and before it, or where it differs.
 fn played(alloc: Global, seed: u64, tally: Tally) -> Result<Tally, (u64, Difference)> {
     let mut course = match Course::begin(alloc, seed, tally) {
         Ok(course) => course,

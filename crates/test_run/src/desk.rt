@@ -1,4 +1,4 @@
-//! A room in memory, and runs of the program over it.
+//! A file system in memory, and runs of the program over it.
 
 ghost use Rattle.std.specs.Prelude.{◌≡◌};
 
@@ -28,7 +28,7 @@ pub fn sink(alloc: Global, takes: usize, failing: Vec<u64>) -> MemSink {
     MemSink::new(alloc, takes.max(1), failing)
 }
 
-/// A room of which nothing is out.
+/// A file system of which nothing is open.
 #[derive(Drop)]
 pub struct Desk {
     room: MemRoom,
@@ -37,7 +37,7 @@ pub struct Desk {
 }
 
 impl Desk {
-    /// A room without a file.
+    /// A file system without a file.
     pub fn new(alloc: Global) -> Desk {
         Desk {
             room: MemRoom::new(alloc),
@@ -71,7 +71,7 @@ impl Desk {
         self.room.bytes(name)
     }
 
-    // Runs the program, and tells the status.
+    // Runs the program, and answers the status.
     fn run(&mut self, alloc: Global, words: &[String], out: &mut MemSink, err: &mut MemSink) -> u8 {
         if self.is_toy {
             return run::<Toy, _, _, _>(alloc, words, &mut self.room, out, err);
@@ -79,7 +79,7 @@ impl Desk {
         run::<Sha, _, _, _>(alloc, words, &mut self.room, out, err)
     }
 
-    /// What a run with these words and streams answers.
+    /// What a run with these arguments and streams answers.
     pub fn run_over(
         &mut self,
         alloc: Global,
@@ -91,7 +91,7 @@ impl Desk {
         Answer { status, out, err }
     }
 
-    /// What a run with the words of a text answers, where its streams take 1,000 bytes a call.
+    /// What a run with the arguments of a text answers, where its streams take 1,000 bytes a call.
     pub fn answer(&mut self, alloc: Global, text: &str) -> Result<Answer, Memory> {
         let words = owned_words(alloc, text)?;
         let out = sink(alloc, 1_000, Vec::new(alloc));

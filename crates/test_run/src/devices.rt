@@ -228,8 +228,8 @@ file r
 file j 6d74632d6a6f75726e616c2f76310a00010000000e010481fd59010000000200000040 00
 "#;
 
-// A command on that journal, its line, and how long the journal is behind it; where it fails, what
-// it says of that.
+// A command on that journal, its line, and how long the journal is after it; if it fails, what it
+// says of that.
 #[derive(Clone, Copy)]
 struct Appending {
     words: &'static str,
@@ -253,11 +253,11 @@ const LANDMARK: Appending = Appending {
 };
 
 // The calls of the device: the length and the header are read; a sync, the length, the header and
-// what stands behind it open the journal; the record is written and synced, and so is its gate.
+// what follows it open the journal; the record is written and synced, and so is its commit byte.
 const CALLS: u64 = 10;
 
-// The status, where the answer and the length of the journal are as they have to be: behind status
-// 0 the journal has the new record, and behind 5 its old ones, or these and the new one.
+// The status, if the answer and the length of the journal are as they have to be: after status 0
+// the journal has the new record, and after 5 its old ones, or these and the new one.
 fn status_of(answer: &Answer, length: usize, appending: &Appending) -> Option<u8> {
     let is_done = answer.is(0, appending.said, b"") && length == appending.length;
     let is_old_or_new = length == 36 || length == appending.length;
@@ -268,7 +268,7 @@ fn status_of(answer: &Answer, length: usize, appending: &Appending) -> Option<u8
     }
 }
 
-// The status in a room of which these calls of the journal's device fail.
+// The status in a file system of which these calls of the journal's device fail.
 fn status_with(
     alloc: Global,
     desk: &mut Desk,
@@ -295,7 +295,7 @@ fn calls_from(alloc: Global, call: u64, count: u64) -> Option<Vec<u64>> {
     Some(calls)
 }
 
-// The status where so many calls from this one on fail, in a room that is made anew.
+// The status where so many calls from this one on fail, in a file system that is rebuilt.
 fn status_from(alloc: Global, appending: &Appending, call: u64, count: u64) -> Option<u8> {
     let mut desk = desk_behind(alloc, READY, "")?;
     status_with(alloc, &mut desk, appending, calls_from(alloc, call, count)?)
@@ -313,7 +313,7 @@ fn wrong_call(alloc: Global, appending: &Appending, count: u64) -> Option<u64> {
     None
 }
 
-// One call fails alone; or the device stops at it, so that none behind it is answered.
+// One call fails alone; or the device stops at it, so that none after it is answered.
 #[test]
 fn a_device_fails_an_append(rt: HostRuntime) {
     for appending in [ISSUE, LANDMARK] {

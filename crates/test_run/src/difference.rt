@@ -1,4 +1,4 @@
-//! What a course and its history differ in.
+//! What an execution and its history differ in.
 
 ghost use Rattle.std.specs.Prelude.{◌≡◌};
 ghost use Rattle.test_run.specs.declared.difference.Difference.TheVariants.{Memory as NoMemory};
@@ -6,7 +6,7 @@ ghost use Rattle.test_run.specs.declared.difference.Difference.TheVariants.{Memo
 use mtc_io::Memory;
 use std::alloc::{AllocError, AllocFailed};
 
-/// What a course and its history differ in, or why they can't be compared.
+/// What an execution and its history differ in, or why they can't be compared.
 #[derive(Clone, Copy, Debug, PartialEq, Eq)]
 pub enum Difference {
     Memory,
@@ -20,7 +20,7 @@ pub enum Difference {
     Records,
     /// A crash may leave other records than those of the state.
     Image,
-    /// A run printed something else than what was handed out.
+    /// A run printed something else than what was released.
     Printed,
 }
 

@@ -46,7 +46,7 @@ fn a_drill_prints_eight_lines(rt: HostRuntime) -> Result<(), Fail> {
     Ok(())
 }
 
-// A script that plays a drill and wants the numbers of what `fleet` hands out for it.
+// A script that plays a drill and wants the numbers of what `fleet` answers for it.
 fn script_of(alloc: Global, number: u64) -> Result<String, Fail> {
     let counts = fleet::<Sha>(alloc, number)?.counts;
     let mut script = format!(in alloc; "$ drill {number}\n| drill {number}\n")?;
@@ -64,7 +64,7 @@ fn script_of(alloc: Global, number: u64) -> Result<String, Fail> {
     Ok(script)
 }
 
-// In each of these drills a record that was stopped is there when the node is opened again.
+// In each of these drills a record that was stopped is there when the party is opened again.
 #[test]
 fn the_numbers_are_those_of_what_is_handed_out(rt: HostRuntime) -> Result<(), Fail> {
     for number in [5, 48] {

@@ -1,4 +1,4 @@
-//! The audits of a drill, made anew.
+//! The audits of a drill, done again.
 
 use crate::fleet_summary::{exported, open_log, store_of};
 use cert_fields::parse;
@@ -17,7 +17,7 @@ use world_core::{Audit, audit};
 
 const MAX_TEXT: usize = 65_535;
 
-// Puts bytes behind their length of two bytes.
+// Appends bytes with their length of two bytes before them.
 fn put(out: &mut Bytes, text: &[u8]) -> Result<(), Memory> {
     if text.len() > MAX_TEXT {
         return Err(Memory);

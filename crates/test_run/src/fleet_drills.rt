@@ -1,4 +1,4 @@
-//! Drills in numbers, and what is counted anew of one.
+//! Drills in numbers, and what is counted again of one.
 
 use crate::fleet_audits::found_entries;
 use crate::fleet_summary::recounted;
@@ -7,12 +7,12 @@ use std::test::Fail;
 use tree_core::Sha;
 
 // Of each number the entries, the landmarks, the signatures, the stops, how many of the calls that
-// were stopped did not answer Ok, and behind how many of those that sign nothing the record was
-// there, all as `tests/drills.py` counts them from the draws alone. A call answers where its stop
-// draws 4 below 5: all its device calls pass then. Where it draws 3 the record is there by an odd
-// choice of the image alone, and a signing is then made again: without stops each drill has 48
+// were stopped did not answer Ok, and after how many of those that sign nothing the record was
+// there, all as `tests/drills.py` counts them from the draws alone. A call answers if its stop
+// draws 4 below 5: all its device calls pass then. If it draws 3, an odd choice of the crash state
+// alone has the record, and a signing is then made again: without stops each drill has 48
 // signatures. So a number is another one where the log never stops, an advance or a signing, and
-// where one image is taken for each choice.
+// where one crash state is taken for each choice.
 const DRILLS: [(u64, u64, u64, u64, u64, u64, u64); 6] = [
     (3, 43, 5, 48, 13, 12, 1),
     (4, 31, 5, 48, 26, 19, 5),

@@ -1,4 +1,4 @@
-//! What a drill has handed out, counted anew.
+//! What a drill has answered, counted again.
 
 use cosigner_core::{Cosigner, Export, Step, read_export};
 use disk_core::MemDisk;

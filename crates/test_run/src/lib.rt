@@ -1,6 +1,6 @@
-//! Tests of the program over a room in memory: the words of commands, and what each command answers
-//! to its files and leaves of them; courses of runs and stops, each beside the history that it is.
-//! Then drills, and what is counted anew of what they hand out.
+//! Tests of the program over a file system in memory: the arguments of commands, and what each
+//! command answers to its files and leaves of them; executions of runs and stops, each beside the
+//! history that it is. Then drills, and what is counted again of what they answer.
 #![tactic(auto)]
 
 #[cfg(test)]

@@ -1,4 +1,4 @@
-//! Words over one file, with streams that fail: what comes of each.
+//! Arguments over one file, with streams that fail: what comes of each.
 
 use crate::desk::Desk;
 use crate::scripts::{Outcome, outcome_of};

@@ -1,34 +1,34 @@
-//! Scripts: files in a room, runs of the program over them, and what each run has to answer.
+//! Scripts: files in a file system, runs of the program over them, and what each run has to answer.
 //!
 //! A line of a script is one of these:
 //!
 //! ```text
 //! # TEXT          a remark
-//! case TEXT       a new room, without files
+//! case TEXT       a new file system, without files
 //! toy             in it the program hashes by the sum of the bytes
-//! name X BYTES    from here on X stands for these bytes
-//! file F BYTES    the room has this file
+//! name X BYTES    from here on X represents these bytes
+//! file F BYTES    the file system has this file
 //! again F         a file that is there, as it then is
 //! times N BYTES   so many times these bytes
 //! cut N           of its bytes the first N alone
-//! byte N HEX      another byte at the place N of it
+//! byte N HEX      another byte at its offset N
 //! fails N ..      the calls on it that fail
 //! fresh N ..      the calls that fail on each file that is made
 //! takes N         the output of the next run takes so many bytes a call
 //! out-fails N ..  the calls on it that fail
 //! err-fails N ..  the calls on the standard error of the next run that fail
-//! $ WORD ..       a run with these words, '' for an empty one; it has to do what follows
+//! $ WORD ..       a run with these arguments, '' for an empty one; it has to do what follows
 //! status N        the status, if it isn't 0
 //! ! TEXT          a line of its standard error
-//! > F BYTES       its output isn't compared: it becomes this file, behind these bytes
+//! > F BYTES       its output isn't compared: it becomes this file, after these bytes
 //! left F BYTES    what a file holds then
 //! gone F          there is no such file then
 //! same F G        two files hold the same
 //! length F N      a file holds so many bytes
 //! ```
 //!
-//! BYTES are pairs of hexadecimal digits and names. They go on in lines that begin with a blank,
-//! and in lines `| TEXT`, each of which is a line of text. Those behind `$` are the output.
+//! BYTES are pairs of hexadecimal digits and names. They continue in lines that begin with a blank,
+//! and in lines `| TEXT`, each of which is a line of text. Those after `$` are the output.
 //! `|= TEXT` and `!= TEXT` are text without the end of its line.
 
 use crate::blocks::{Begun, Block};
@@ -45,7 +45,7 @@ pub enum Outcome {
     FailedBefore(u64),
 }
 
-// A name, and the bytes for which it stands.
+// A name, and the bytes that it represents.
 #[derive(Drop)]
 struct Named {
     name: String,
@@ -79,7 +79,7 @@ struct Script {
     runs: u64,
 }
 
-// The bytes that a name stands for.
+// The bytes that a name represents.
 fn known<'a>(names: &'a [Named], word: &str) -> Option<&'a [u8]> {
     for named in names {
         if named.name.as_str() == word {
@@ -142,10 +142,10 @@ fn new_script(alloc: Global) -> Script {
     }
 }
 
-// Where a line can't be read, or memory is refused, its helpers answer none; and else whether all
-// is as the line says.
+// If a line can't be read, or memory is refused, its helpers answer none; and else whether all is
+// as the line says.
 impl Script {
-    // Appends what a name stands for, or what a word spells in hexadecimal.
+    // Appends what a name represents, or what a word encodes in hexadecimal.
     fn append_word(&mut self, word: &str) -> Option<bool> {
         match known(self.names.as_slice(), word) {
             Some(bytes) => self.block.append(bytes),
@@ -197,7 +197,7 @@ impl Script {
         self.ran.is(out.as_slice())
     }
 
-    // Makes a file of what the run wrote behind the bytes: whether it ended as is wanted.
+    // Makes a file of what the run wrote, after the bytes: whether it ended as is wanted.
     fn end_kept(&mut self) -> Option<bool> {
         self.block.append(self.ran.answer.out.taken())?;
         self.end_file()?;
@@ -219,7 +219,7 @@ impl Script {
         }
     }
 
-    // What a run with these words answers over the streams that were set.
+    // What a run with these arguments answers over the streams that were set.
     fn answer(&mut self, words: &[String]) -> Answer {
         let streams = replace(&mut self.streams, Streams::new(self.alloc));
         let out = sink(self.alloc, streams.takes, streams.out_fails);
@@ -236,7 +236,7 @@ impl Script {
         Some(true)
     }
 
-    // Begins what goes on in the next lines.
+    // Begins what continues in the next lines.
     fn begin(&mut self, begun: Begun, words: &str) -> Option<bool> {
         let (name, bytes) = parted(words);
         self.block.begin(begun, name)?;
@@ -276,7 +276,7 @@ impl Script {
         Some(true)
     }
 
-    // A line behind the end of what was begun.
+    // A line after the end of what was begun.
     fn start(&mut self, what: &str, words: &str) -> Option<bool> {
         match what {
             "case" => self.desk = Desk::new(self.alloc),
@@ -366,7 +366,7 @@ pub fn outcome_of(alloc: Global, text: &str) -> Result<Outcome, Unread> {
     script.play(text).ok_or(Unread)
 }
 
-/// How a script ends that goes on behind the names of another one.
+/// How a script ends that continues after the names of another one.
 pub fn outcome_behind(alloc: Global, names: &str, text: &str) -> Result<Outcome, Unread> {
     let mut script = new_script(alloc);
     match script.play(names) {
@@ -375,7 +375,7 @@ pub fn outcome_behind(alloc: Global, names: &str, text: &str) -> Result<Outcome,
     }
 }
 
-/// The room that a script leaves behind the names of another one, where both pass.
+/// The file system that a script leaves after the names of another one, if both pass.
 pub fn desk_behind(alloc: Global, names: &str, text: &str) -> Option<Desk> {
     let mut script = new_script(alloc);
     match (script.play(names), script.play(text)) {
@@ -385,8 +385,8 @@ pub fn desk_behind(alloc: Global, names: &str, text: &str) -> Option<Desk> {
 }
 
 // Scripts that fail in their last line: another status, no line of an error, an output that isn't
-// written, bytes that a file doesn't have, a file that is there, a cut behind the end, no such
-// line, a status of no run, an output of a refusal, a file that isn't there, files that differ, and
+// written, bytes that a file doesn't have, a file that is there, a cut after the end, no such line,
+// a status of no run, an output of a refusal, a file that isn't there, files that differ, and
 // another length.
 const WRONG: [&str; 12] = [
     "$ frob\n! mtc: UnknownCommand",

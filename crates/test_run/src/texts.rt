@@ -7,7 +7,7 @@ use std::alloc::Global;
 #[derive(Clone, Copy, Debug, PartialEq, Eq)]
 pub struct Unread;
 
-/// The first word of a line, and what stands behind the blank after it.
+/// The first word of a line, and what follows the blank after it.
 pub fn parted(line: &str) -> (&str, &str) {
     line.split_once(' ').unwrap_or((line, ""))
 }
@@ -25,7 +25,7 @@ fn put_words(alloc: Global, words: &mut Vec<String>, text: &str) -> Result<(), M
     Ok(())
 }
 
-/// The words of a text, as the program gets them; '' is an empty one.
+/// The arguments of a text, as the program gets them; '' is an empty one.
 pub fn owned_words(alloc: Global, text: &str) -> Result<Vec<String>, Memory> {
     let mut words = Vec::new(alloc);
     put_words(alloc, &mut words, text)?;

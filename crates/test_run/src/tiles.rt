@@ -5,9 +5,9 @@ use crate::texts::Unread;
 use std::alloc::Global;
 
 // The journal of log 32473.1 with 2 active landmarks and at most 1,024 entries, its header and its
-// first record without the gate behind it; the record of an entry; and that of the tiles that 256
-// entries fill. The expected values are those of an implementation that was written apart from the
-// program.
+// first record without the commit byte after it; the record of an entry; and that of the tiles that
+// 256 entries fill. The expected values are those of an implementation that was written apart from
+// the program.
 const NAMES: &str = r#"
 name SETTINGS 6d74632d6a6f75726e616c2f76310a00010000000e010481fd59010000000200000400
 name ITEM
@@ -171,8 +171,8 @@ fn tiles_are_stored_beside_a_log(rt: HostRuntime) {
     assert!(rt; outcome == Ok(Outcome::Passed(30)), "{outcome:?}");
 }
 
-// A case is what comes before the run in which a call of the file of tiles fails, the words of this
-// run, and what it prints where none fails.
+// A case is what comes before the run in which a call of the file of tiles fails, the arguments of
+// this run, and what it prints where none fails.
 type Case = (&'static str, &'static str, &'static str);
 
 const TILE: Case = ("file j.tiles", "tile j", "| tiled 256");
@@ -225,7 +225,7 @@ fn wrong_call(alloc: Global, case: Case, calls: u64) -> Option<u64> {
     None
 }
 
-// Tiles are settled, written and settled; or their file's length and a tile are read, and the tile
+// Tiles are synced, written and synced; or their file's length and a tile are read, and the tile
 // once more for a path.
 #[test]
 fn a_file_of_tiles_fails(rt: HostRuntime) {

@@ -275,7 +275,7 @@ fn subtrees_of_landmarks_are_trusted(rt: HostRuntime) {
 // The hash of an entry of no bytes.
 const EMPTY_LEAF: &str = "6e340b9cffb37a989ca544e6bb780a2c78901d3fb33738768511a30617afa01d";
 
-// Writes a list of 10,000 active landmarks, one behind each entry of no bytes.
+// Writes a list of 10,000 active landmarks, one after each entry of no bytes.
 fn write_list(list: &mut String) -> Option<()> {
     write!(list, "10000 10000\n10000\n").ok()?;
     for number in 0..10_000u64 {
@@ -297,7 +297,7 @@ fn write_tables(tables: &mut String) -> Option<()> {
     Some(())
 }
 
-// Puts 10,000 items of no bytes behind the bytes.
+// Appends 10,000 items of no bytes to the bytes.
 fn put_items(bytes: &mut Bytes) -> Result<(), Memory> {
     for _ in 0..10_000 {
         bytes.append(&[0, 0, 0, 0])?;

@@ -1,10 +1,10 @@
-//! Words that are no command, by their first fault.
+//! Arguments that are no command, by their first fault.
 
 use crate::texts::owned_words;
 use mtc_words::{Command, WordError, read_words};
 use std::alloc::Global;
 
-// Words, '' for an empty one, and the fault with its numbers.
+// Arguments, '' for an empty one, and the fault with its numbers.
 const CASES: &str = "\
  => NoCommand
 frob => UnknownCommand
