@@ -29,7 +29,7 @@ fn the_first_fault_of_a_number_is_answered(rt: HostRuntime) {
     assert!(rt; refused_text(rt.alloc(), other) == Some(AnchorError::ArcTooLarge(0)));
 }
 
-// A number, so many others, and this behind them.
+// A number, so many others, and this after them.
 fn long_text(alloc: Global, others: u32, behind: &str) -> Result<String, Fail> {
     let mut text = String::from_str(alloc, "1")?;
     for _ in 0..others {

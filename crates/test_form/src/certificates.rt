@@ -30,7 +30,7 @@ const CERTIFICATE: [u8; 231] = [
     0xBD, 0x70, 0xF8, 0x14, 0x7C, 0x00, 0x00,
 ];
 
-// The certificate with other bytes at some places.
+// The certificate with other bytes at some offsets.
 fn changed(changes: &[(usize, u8)]) -> [u8; 231] {
     let mut bytes = CERTIFICATE;
     for (place, byte) in changes {

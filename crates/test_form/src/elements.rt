@@ -37,7 +37,7 @@ fn faults_of_a_length_have_their_order_and_place(rt: HostRuntime) {
     assert!(rt; refused_sequence(&[5, 0x30, 0x02, 0x05]) == cut);
 }
 
-// The place and the contents of a SEQUENCE at offset 1.
+// The offset and the contents of a SEQUENCE at offset 1.
 fn sequence_of(input: &[u8]) -> Option<(usize, &[u8])> {
     if input.is_empty() {
         return None;

@@ -1,5 +1,5 @@
-//! The entry of the certificate of one name that a log with id 32473.1 issues, and what is told of
-//! changes to it.
+//! The entry of the certificate of one name that a log with id 32473.1 issues, and what is reported
+//! of changes to it.
 
 use cert_fields::Cert;
 use cert_time::Validity;
@@ -45,7 +45,7 @@ const WEEK: Validity = Validity {
     not_after: 1_767_830_400,
 };
 
-// The entry with another byte at one place.
+// The entry with another byte at one offset.
 fn changed(place: usize, byte: u8) -> [u8; 131] {
     let mut bytes = ENTRY;
     if let Some(old) = bytes.get_mut(place) {
@@ -54,7 +54,7 @@ fn changed(place: usize, byte: u8) -> [u8; 131] {
     bytes
 }
 
-// The fault that is told of these bytes.
+// The fault that is reported of these bytes.
 fn fault_of(bytes: &[u8]) -> Option<EntryError> {
     read_entry(bytes).err()
 }
@@ -83,7 +83,7 @@ fn the_fields_of_an_entry_are_parts_of_its_bytes(rt: HostRuntime) {
     assert!(rt; is_null(&[0, 0]));
 }
 
-// The fault that is told of the entry with another byte at one place.
+// The fault that is reported of the entry with another byte at one offset.
 fn reported(place: usize, byte: u8) -> Option<EntryError> {
     fault_of(&changed(place, byte))
 }

@@ -7,7 +7,7 @@ use std::alloc::Global;
 use std::test::Fail;
 
 // The extensions field with 69 extensions of nine bytes each, whose identifiers differ in their
-// last byte, and this one behind them, at offset 629.
+// last byte, and this one after them, at offset 629.
 fn field(alloc: Global, last: &[u8; 9]) -> Result<Bytes, Memory> {
     let mut out = Bytes::copy_of(alloc, &[0xA3, 0x82, 0x02, 0x7A, 0x30, 0x82, 0x02, 0x76])?;
     for number in 0..69u8 {
@@ -30,7 +30,7 @@ fn extension(number: u32) -> [u8; 9] {
 }
 
 // A field of so many extensions of nine bytes: the tags and lengths before the first, and the
-// offset behind the last.
+// offset after the last.
 struct Listed {
     count: u32,
     head: &'static [u8],
@@ -38,7 +38,7 @@ struct Listed {
 }
 
 // The extensions field with the extensions of the numbers below the count less one, and that of
-// this number behind them.
+// this number after them.
 fn long_field(alloc: Global, listed: &Listed, last: u32) -> Result<Bytes, Memory> {
     let mut out = Bytes::copy_of(alloc, listed.head)?;
     for number in 1..listed.count {

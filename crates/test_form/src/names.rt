@@ -26,7 +26,7 @@ fn the_name_of_a_log_holds_its_id(rt: HostRuntime) -> Result<(), Fail> {
     Ok(())
 }
 
-// The name with another byte at one place.
+// The name with another byte at one offset.
 fn changed(place: usize, value: u8) -> [u8; 27] {
     let mut other = NAME;
     if let Some(byte) = other.get_mut(place) {

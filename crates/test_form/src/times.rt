@@ -1,4 +1,4 @@
-//! Moments as texts and as times of a certificate, against values from other software.
+//! Times as texts and as times of a certificate, against values from other software.
 
 use cert_time::{Validity, put_validity, read_time, seconds_to_text, text_to_seconds};
 use mtc_io::{Bytes, Memory};
@@ -54,7 +54,7 @@ fn texts_outside_their_form_or_the_calendar_name_none(rt: HostRuntime) {
     }
 }
 
-// Whether the moment is one and has this text.
+// Whether the number is a time and has this text.
 fn has_text(moment: i64, text: &str) -> bool {
     FIRST <= moment && moment <= LAST && seconds_to_text(moment).as_slice() == text.as_bytes()
 }
@@ -74,7 +74,7 @@ fn number(word: Option<&str>) -> Option<i64> {
     word?.parse::<i64>().ok()
 }
 
-// Whether the time of a line names the moment of the line.
+// Whether the time of a line names the number of seconds of the line.
 fn is_read(line: &str) -> bool {
     let mut words = line.split(' ');
     let tag = match words.next() {
@@ -86,7 +86,7 @@ fn is_read(line: &str) -> bool {
     time_of(tag, contents) == number(words.next())
 }
 
-// How many times of a text name the moments of their lines.
+// How many times of a text name the seconds of their lines.
 fn count_read(text: &str) -> u64 {
     let mut count = 0u64;
     for line in text.lines() {
@@ -97,7 +97,7 @@ fn count_read(text: &str) -> u64 {
     count
 }
 
-// A type, contents, and the moment that they name; none where they name none.
+// A type, contents, and the seconds that they name; none if they name none.
 const NAMED: &str = "\
 UTCTime 491231235959Z 2524607999
 UTCTime 500101000000Z -631152000
@@ -121,7 +121,7 @@ fn times_of_a_certificate_name_moments(rt: HostRuntime) {
     assert!(rt; count_read(NAMED) == 16);
 }
 
-// The element of a validity, where both numbers are moments.
+// The element of a validity, if both numbers are times.
 fn written(alloc: Global, not_before: i64, not_after: i64) -> Result<Option<Bytes>, Memory> {
     if not_before < FIRST || not_before > LAST || not_after < FIRST || not_after > LAST {
         return Ok(None);

@@ -1,4 +1,4 @@
-//! Forms are read from left to right, and written one behind the other.
+//! Forms are read from left to right, and written one after the other.
 
 use mtc_io::{Bytes, Memory};
 use std::alloc::Global;
@@ -38,7 +38,7 @@ fn forms_are_read_from_left_to_right(rt: HostRuntime) {
     assert!(rt; cursor.rest() == [0, 5, 1].as_slice());
 }
 
-// The cursor within the vector that begins at offset 10, and the cursor behind it.
+// The cursor within the vector that begins at offset 10, and the cursor after it.
 fn places_of_the_vector() -> Option<(usize, usize, usize)> {
     let mut cursor = Cursor::new(&FORMS);
     cursor.bytes(10).ok()?;
@@ -82,7 +82,7 @@ fn reads_two_hashes() -> bool {
         && (cursor.place(), cursor.left()) == (66, 2)
 }
 
-// The refusal of hashes behind this length, and where the cursor then stands.
+// The refusal of hashes after this length, and where the cursor then stands.
 fn refused_hashes(length: u8) -> (Option<HashesError>, usize) {
     let input = behind_length(length);
     let mut cursor = Cursor::new(&input);
