@@ -92,7 +92,8 @@ fn an_item_has_65535_bytes_at_most(rt: HostRuntime) -> Result<(), Fail> {
     Ok(())
 }
 
-// Whether each of sixteen images that a crash leaves has the null entry alone, or the entry too.
+// Whether each of sixteen crash states that a crash leaves has the null entry alone, or the entry
+// too.
 fn leaves_one_more_at_most(alloc: Global, journal: &MemDisk) -> Result<bool, Memory> {
     for pick in 0..16 {
         let image = left(journal, pick)?;
@@ -122,7 +123,7 @@ fn fails_to_add(alloc: Global, mut log: MemLog) -> Result<bool, Memory> {
     Ok(shows_the_old_log(alloc, log)? && reported)
 }
 
-// Whether a disk that failed is handed back as it was.
+// Whether a refusal returns a disk that failed as it was.
 fn is_handed_back(refused: MemRefused) -> bool {
     refused.why == LogOpenError::Open(OpenError::Failed) && holds(&refused.disk, &NEW_LOG)
 }

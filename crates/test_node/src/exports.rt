@@ -199,7 +199,7 @@ fn export_over(
     }
 }
 
-// Whether an export whose read of this number fails tells so, with the front of the whole.
+// Whether an export whose read of this number fails answers so, with a prefix of the whole.
 fn tells_no_read(alloc: Global, journal: &[u8], text: &[u8], read: u64) -> Result<bool, Memory> {
     let mut out = sink(alloc, 1, &[])?;
     let answer = export_over(alloc, journal, &[read], &mut out)?;
@@ -213,7 +213,7 @@ fn tells_no_write(alloc: Global, journal: &[u8], text: &[u8], byte: u64) -> Resu
     Ok(answer == Some(Err(ExportError::Write)) && text.get(..byte as usize) == Some(out.taken()))
 }
 
-// Whether both tell so.
+// Whether both answer so.
 fn tells_both(
     alloc: Global,
     journal: &[u8],
@@ -254,7 +254,7 @@ fn each_read_and_each_write_of_an_export_may_fail(rt: HostRuntime) -> Result<(),
     Ok(())
 }
 
-// The export of the cosigner that holds eight entries, behind a Sign in which this call of the disk
+// The export of the cosigner that holds eight entries, after a Sign in which this call of the disk
 // failed.
 fn behind_failure(alloc: Global, call: u64) -> Result<Option<Bytes>, Memory> {
     let Some(mut cosigner) = of_eight(alloc, &[call])? else {
@@ -266,7 +266,7 @@ fn behind_failure(alloc: Global, call: u64) -> Result<Option<Bytes>, Memory> {
     text_of(alloc, &mut cosigner, 9)
 }
 
-// The record and its gate are written and synced, from call 12 on. The Signs begin at 198.
+// The record and its commit byte are written and synced, from call 12 on. The Signs begin at 198.
 #[test]
 fn a_failed_append_is_not_exported(rt: HostRuntime) -> Result<(), Fail> {
     let text = exported(rt.alloc())?.ok_or("the export")?;

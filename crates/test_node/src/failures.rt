@@ -58,7 +58,7 @@ fn is_broken(cosigner: &mut MemCosigner, out: &mut SigBuf) -> bool {
         && sign_all(cosigner, out) == Err(CosignError::Append(AppendError::Broken))
 }
 
-// Whether each of sixteen images that a crash leaves has seven Sign records or eight.
+// Whether each of sixteen crash states that a crash leaves has seven Sign records or eight.
 fn has_seven_or_eight(alloc: Global, journal: &MemDisk) -> Result<bool, Memory> {
     for pick in 0..16 {
         if !matches!(next_of(alloc, left(journal, pick)?), Some(7 | 8)) {

@@ -19,7 +19,7 @@ const ADVANCE: [u8; 43] = [
     7, 7, 7, 7, 7, 7, 7, 7, 7, 7, 0, 0,
 ];
 
-// What a node does.
+// What a party does.
 #[derive(Clone, Copy)]
 enum Turn {
     Mark,
@@ -95,8 +95,8 @@ fn states(
     Ok(reported(alloc, starts, steps.as_slice()))
 }
 
-// Of each node, how many records are settled, how many were handed out, and the number of the last
-// of these; node 0 is a log, and node 1 a cosigner.
+// Of each party, how many records are durable, how many were released, and the number of the last
+// of these; party 0 is a log, and party 1 a cosigner.
 type Counts = (usize, usize, u64);
 
 fn counts_of(state: &NodeState) -> Counts {

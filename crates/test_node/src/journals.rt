@@ -19,7 +19,7 @@ pub(crate) const NEW_LOG: [u8; 36] = [
     0x00, 0x00, 0x40, 0x00,
 ];
 
-// What stands in the journal of that log with one entry behind the gate of its record, up to the
+// What follows the commit byte of the record in the journal of that log with one entry, up to the
 // entry.
 pub(crate) const ENTRY_HEAD: [u8; 7] = [0x00, 0x00, 0x00, 0xB4, 0x02, 0x00, 0x83];
 
@@ -133,7 +133,7 @@ pub(crate) fn log_in(alloc: Global, bytes: &[u8]) -> Result<Option<MemLog>, Memo
     Ok(opened(alloc, disk(alloc, bytes, &[])?))
 }
 
-// How many entries a log has that is let go.
+// How many entries a log has that is dropped.
 fn last_size(log: MemLog) -> u64 {
     size(&log)
 }
@@ -196,7 +196,7 @@ pub(crate) fn with_entry(alloc: Global) -> Result<Bytes, Memory> {
     Ok(wanted)
 }
 
-/// The record of the entry behind those of a journal that was cut off before its last gate.
+/// The record of the entry after those of a journal that was cut off before its last commit byte.
 pub(crate) fn add_entry(journal: &mut Bytes) -> Result<(), Memory> {
     journal.append(&[0x01])?;
     journal.append(&ENTRY_HEAD)?;
@@ -206,7 +206,7 @@ pub(crate) fn add_entry(journal: &mut Bytes) -> Result<(), Memory> {
     journal.append(&[0x00])
 }
 
-/// The bytes with another one at a place.
+/// The bytes with another one at an offset.
 pub(crate) fn changed(
     alloc: Global,
     bytes: &[u8],
@@ -231,7 +231,7 @@ pub(crate) fn entry_for(alloc: Global, key: &[u8]) -> Result<Bytes, Memory> {
     Ok(Bytes::from_vec(entry))
 }
 
-/// What a log gives at an index, where the two byte strings held another text.
+/// What a log gives at an index, where the two byte strings held other bytes.
 pub(crate) fn item_at(
     alloc: Global,
     log: &mut MemLog,

@@ -54,7 +54,7 @@ pub(crate) const NEW: [u8; 89] = [
     0x07, 0x07, 0x07, 0x07, 0x07, 0x07, 0x07, 0x07, 0x00,
 ];
 
-// The journal behind each call of the walk: an Advance to 4 entries, one to 8, a Sign of [0, 8) and
+// The journal after each call of the walk: an Advance to 4 entries, one to 8, a Sign of [0, 8) and
 // one of [4, 6).
 pub(crate) const JOURNALS: [Known; 4] = [
     (

@@ -1,4 +1,4 @@
-//! Cases over nodes: over logs, over cosigners, and over histories of both.
+//! Cases over parties: over logs, over cosigners, and over histories of both.
 #![tactic(auto)]
 
 #[cfg(test)]

@@ -47,8 +47,8 @@ fn a_changed_byte_is_reported(rt: HostRuntime) -> Result<(), Fail> {
     Ok(())
 }
 
-// Byte 113 is of the entry's hash of its key: a record that breaks the rules is told before what is
-// missing behind it; what is missing within it, before that.
+// Byte 113 is of the entry's hash of its key: a record that breaks the rules is reported before
+// what is missing after it; what is missing within it, before that.
 #[test]
 fn the_first_fault_is_reported(rt: HostRuntime) -> Result<(), Fail> {
     let cuts: [(u8, usize, Result<u64, LogOpenError>); 8] = [

@@ -11,8 +11,8 @@ use mtc_io::{Bytes, Memory};
 use std::alloc::Global;
 use std::test::Fail;
 
-// The record of a landmark at this size, below 256, behind those of a journal that was cut off
-// before its last gate.
+// The record of a landmark at this size, below 256, after those of a journal that was cut off
+// before its last commit byte.
 fn add_landmark(journal: &mut Bytes, size: u8) -> Result<(), Memory> {
     journal.append(&[0x01, 0x00, 0x00, 0x00, 0x09])?;
     journal.append(&[0x03, 0x00, 0x00, 0x00, 0x00, 0x00, 0x00, 0x00, size])?;
@@ -46,7 +46,7 @@ fn answers(log: &mut MemLog) -> bool {
         && sets(log, (2, 2), &[1, 2])
 }
 
-// The journal behind these calls.
+// The journal after these calls.
 fn marked(alloc: Global) -> Result<Option<MemDisk>, Memory> {
     let Some(mut log) = log_in(alloc, &NEW_LOG)? else {
         return Ok(None);
@@ -104,7 +104,7 @@ fn a_changed_landmark_is_reported(rt: HostRuntime) -> Result<(), Fail> {
     Ok(())
 }
 
-// A new log, and behind its record this body.
+// A new log, and after its record this body.
 fn size_behind(alloc: Global, body: &[u8]) -> Result<Result<u64, LogOpenError>, Memory> {
     let mut bytes = Bytes::copy_of(alloc, &NEW_LOG[..35])?;
     bytes.append(&[0x01, 0x00, 0x00, 0x00, (body.len() & 255) as u8])?;
@@ -147,7 +147,7 @@ fn count_left(alloc: Global, bytes: &[u8]) -> Result<Option<usize>, Memory> {
     Ok(Some(count))
 }
 
-// Whether each of sixteen images that a crash leaves has no landmark, or the one.
+// Whether each of sixteen crash states that a crash leaves has no landmark, or the one.
 fn leaves_one_at_most(alloc: Global, journal: &MemDisk) -> Result<bool, Memory> {
     for pick in 0..16 {
         let image = left(journal, pick)?;

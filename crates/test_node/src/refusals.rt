@@ -1,4 +1,4 @@
-//! Requests that are refused, each at its place in the order of the tests.
+//! Requests that are refused, each at its turn in the order of the tests.
 
 use crate::cosigners::{
     MemCosigner, advance_to_4, cosigner_in, disk_behind, held, is_known, of_eight, sign_32,

@@ -113,7 +113,7 @@ fn begun(alloc: Global, passes: u64) -> Result<(bool, MemDisk), Memory> {
     Ok((why.is_none(), left.into_inner()))
 }
 
-// The same, after so many calls of the disk behind the opening, which takes one for its sync.
+// The same, after so many calls of the disk that follow the opening, which takes one for its sync.
 fn stopped(alloc: Global, call: Call, passes: u64) -> Result<Option<(bool, MemDisk)>, Memory> {
     let ready = match call {
         Call::Create => return Ok(Some(begun(alloc, passes)?)),
@@ -127,13 +127,14 @@ fn stopped(alloc: Global, call: Call, passes: u64) -> Result<Option<(bool, MemDi
 }
 
 // Whether a file is in the old state. Before the first write of a journal is synced it may be no
-// journal, and behind that it is one without a record.
+// journal, and after that it is one without a record.
 fn is_old(found: State, old: State, passes: u64) -> bool {
     found == old
         || passes < 2 && old == NO_RECORD && matches!(found, Err(CosignerOpenError::Open(_)))
 }
 
-// How many of the sixteen images hold the new record, where each other one holds the old ones.
+// How many of the sixteen crash states hold the new record, where each other one holds the old
+// ones.
 fn kept(
     alloc: Global,
     left: &MemDisk,
@@ -151,7 +152,7 @@ fn kept(
     Ok(Some(count))
 }
 
-// Whether the call was done, and how many images hold the new record.
+// Whether the call was done, and how many crash states hold the new record.
 fn ended(
     alloc: Global,
     call: Call,
@@ -167,7 +168,7 @@ fn ended(
     }
 }
 
-// By the number of calls before the stop: a torn gate is open by every second pick.
+// By the number of calls before the stop: a torn commit byte is open by every second pick.
 const KEPT: [u64; 5] = [0, 0, 0, 8, 16];
 
 // What a journal is that has no record.

@@ -112,7 +112,8 @@ fn fails_from(
     }
 }
 
-// The first call that is not one of the opening, where each of these is told and the leaf fails.
+// The first call that is not one of the opening, where each of these is reported and the leaf
+// fails.
 fn calls_of_opening(alloc: Global, journal: &MemDisk, tiles: &[u8]) -> Result<Option<u64>, Memory> {
     for call in 0..20 {
         match fails_from(alloc, journal, tiles, call)? {
@@ -132,7 +133,7 @@ fn a_file_of_tiles_may_fail(rt: HostRuntime) -> Result<(), Fail> {
     Ok(())
 }
 
-// The size of the log in the images that a crash leaves of both files by a pick.
+// The size of the log in the crash states that a crash leaves of both files by a pick.
 fn size_left(
     alloc: Global,
     journal: &MemDisk,
@@ -143,7 +144,8 @@ fn size_left(
     size_over(alloc, &left(journal, pick)?, stored.bytes())
 }
 
-// Whether each of some images that a crash leaves of both files opens as a log of 256 entries.
+// Whether each of some crash states that a crash leaves of both files opens as a log of 256
+// entries.
 fn opens_again(alloc: Global, journal: &MemDisk, tiles: &MemDisk) -> Result<bool, Memory> {
     for pick in 0..4 {
         if size_left(alloc, journal, tiles, pick)? != Ok(256) {
@@ -154,7 +156,7 @@ fn opens_again(alloc: Global, journal: &MemDisk, tiles: &MemDisk) -> Result<bool
 }
 
 // What `tile` answers where these calls of the two disks fail, and whether the log is still of 256
-// entries then, and behind a crash; none where the log isn't opened.
+// entries then, and after a crash; none if the log isn't opened.
 fn tile_over(
     alloc: Global,
     journal: &[u8],
@@ -184,7 +186,7 @@ fn tile_failing(
     }
 }
 
-// How many calls of the disk of the tiles, and of that of the journal behind its opening, fail
+// How many calls of the disk of the tiles, and of that of the journal after its opening, fail
 // before `tile` answers Ok.
 fn failures(alloc: Global, journal: &[u8], of_tiles: bool) -> Result<Option<u64>, Memory> {
     let wanted = if of_tiles {
@@ -204,7 +206,7 @@ fn failures(alloc: Global, journal: &[u8], of_tiles: bool) -> Result<Option<u64>
     Ok(None)
 }
 
-// The tiles are settled, the one of 256 entries is written, and they are settled; the record is
+// The tiles are synced, the one of 256 entries is written, and they are synced; the record is
 // appended by two writes and two syncs.
 #[test]
 fn each_call_of_tile_may_fail(rt: HostRuntime) -> Result<(), Fail> {

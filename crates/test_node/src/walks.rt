@@ -69,7 +69,7 @@ fn holds_behind(cosigner: &mut MemCosigner, call: usize, wanted: (u64, [u8; 32])
     walk_on(cosigner, call).is_ok() && held(cosigner) == wanted
 }
 
-// Whether the journal is the one that is known behind a call of the walk.
+// Whether the journal is the one that is known after a call of the walk.
 fn is_left(journal: &MemDisk, call: usize) -> bool {
     match JOURNALS.get(call) {
         Some(known) => is_known(journal.bytes(), *known),
