@@ -38,7 +38,7 @@ const CERTIFICATE: [u8; 232] = [
     0x00, 0x00, 0x00, 0x00, 0x00, 0x00, 0x00, 0x00,
 ];
 
-// 2026-01-01T00:00:00Z, the first moment of the certificate.
+// 2026-01-01T00:00:00Z, the first time of the certificate.
 const FIRST: i64 = 1_767_225_600;
 
 // A length in two bytes; 0 where it is too long for these.
@@ -46,7 +46,7 @@ fn two_bytes(length: usize) -> [u8; 2] {
     u16::try_from(length).unwrap_or(0).to_be_bytes()
 }
 
-// Puts what the certificate has before its proof behind the bytes, where its proof has this size.
+// Appends what the certificate has before its proof to the bytes, if its proof has this size.
 fn put_prefix(bytes: &mut Bytes, size: usize) -> Result<(), Memory> {
     bytes.append(&[0x30, 0x82])?;
     bytes.append(&two_bytes(size.saturating_add(178)))?;
@@ -55,13 +55,13 @@ fn put_prefix(bytes: &mut Bytes, size: usize) -> Result<(), Memory> {
     bytes.append(&two_bytes(size))
 }
 
-// Puts the proof with these signatures behind the bytes.
+// Appends the proof with these signatures to the bytes.
 fn put_proof(bytes: &mut Bytes, signatures: &[u8]) -> Result<(), Memory> {
     bytes.append(&CERTIFICATE[179..230])?;
     put_text(bytes, signatures)
 }
 
-// Puts the certificate with these signatures in its proof behind the bytes.
+// Appends the certificate with these signatures in its proof to the bytes.
 fn put_certificate(bytes: &mut Bytes, signatures: &[u8]) -> Result<(), Memory> {
     put_prefix(bytes, signatures.len().saturating_add(53))?;
     put_proof(bytes, signatures)
@@ -96,7 +96,7 @@ fn sign(alloc: Global, text: &[u8], out: &mut SigBuf) -> Option<()> {
     Some(())
 }
 
-// Puts the cosigner's id and its signature of the first two entries behind the bytes.
+// Appends the cosigner's id and its signature of the first two entries to the bytes.
 fn put_signature(alloc: Global, bytes: &mut Bytes) -> Option<()> {
     let mut text = InputBuf::new();
     put_input(alloc, &mut text)?;
@@ -155,8 +155,8 @@ fn store_of(alloc: Global, subtrees: &[Trusted]) -> Option<Store> {
     })
 }
 
-// Steps of the cosigner, by a name: all of them; the Sign behind the second Advance; no Sign, one
-// of the first entry, of the second, of the first four, and two of these.
+// Steps of the cosigner, by a name: all of them; the Sign after the second Advance; no Sign, one of
+// the first entry, of the second, of the first four, and two of these.
 fn steps_of(name: &str) -> &'static str {
     match name {
         "late" => "a:4:164 s:0:0:2:157:6 a:8:190:25",

@@ -30,7 +30,7 @@ const MOST: [u8; 32] = [
     0xE6, 0x2A, 0xB1, 0x2D, 0xE5, 0x8C, 0x2E, 0x47, 0xDC, 0xB7, 0xE2, 0x8E, 0x38, 0xF5, 0x79, 0x25,
 ];
 
-// Adds the one entry, behind the null entry.
+// Adds the one entry, after the null entry.
 fn add_entry(alloc: Global, log: &mut MemLog) -> Result<bool, Fail> {
     Ok(issued(alloc, log, &[DATES, DNS, KEY])? == Ok(1))
 }
@@ -44,7 +44,7 @@ fn log_of_two(alloc: Global) -> Result<MemLog, Fail> {
     }
 }
 
-// One signature of the cosigner `a`, of zeros, with so many bytes behind its head of four bytes.
+// One signature of the cosigner `a`, of zeros, with so many bytes after its head of four bytes.
 fn signature(alloc: Global, size: u16) -> Result<Bytes, Fail> {
     let mut bytes = Bytes::new(alloc);
     bytes.append(&[0x01, 0x61])?;
@@ -99,7 +99,7 @@ fn an_entry_gets_its_certificate(rt: HostRuntime) -> Result<(), Fail> {
 }
 
 // An index, an interval, the length of a signature or a hyphen, and the refusal: which of two comes
-// first is told too.
+// first is reported too.
 const REFUSED: &str = "\
 2 0 2 - NoSuchEntry
 2 1 3 - NoSuchEntry

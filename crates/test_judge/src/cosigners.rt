@@ -25,7 +25,7 @@ fn keys_of(alloc: Global) -> Result<Vec<Key>, Fail> {
     Ok(keys)
 }
 
-// The place of the key of the cosigner with this number.
+// The index of the key of the cosigner with this number.
 fn place_of(number: u8) -> usize {
     usize::from(number.saturating_sub(2))
 }

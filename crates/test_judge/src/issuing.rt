@@ -152,7 +152,7 @@ fn failing_log(alloc: Global, bytes: &[u8], call: u64) -> Result<Option<MemLog>,
     open_over(alloc, disk, no_bytes(alloc))
 }
 
-// Whether a failure of the log's disk is told of this request, and its size then; none where the
+// Whether a failure of the log's disk is reported of this request, and its size then; none if the
 // log isn't opened.
 fn issued_at_failure(
     alloc: Global,

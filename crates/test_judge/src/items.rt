@@ -10,7 +10,7 @@ fn read(alloc: Global, bytes: &[u8]) -> Result<Items<'_, Toy>, ItemsError> {
     read_items::<Toy>(alloc, bytes)
 }
 
-// Whether the item at this place is that of the letter.
+// Whether the item at this index is that of the letter.
 fn is_item(items: &Items<'_, Toy>, place: usize, letter: u8) -> bool {
     if place >= items.len() {
         return false;
@@ -93,7 +93,7 @@ fn wrong_item(letter: u8) -> (&'static [u8], &'static [u8]) {
     }
 }
 
-// The items of the letters before a wrong one, the wrong one, and those behind it.
+// The items of the letters before a wrong one, the wrong one, and those after it.
 fn with_wrong(alloc: Global, before: &str, wrong: u8, behind: &str) -> Result<Bytes, Memory> {
     let (entry, key) = wrong_item(wrong);
     let mut bytes = list_of(alloc, before)?;
@@ -102,7 +102,7 @@ fn with_wrong(alloc: Global, before: &str, wrong: u8, behind: &str) -> Result<By
     Ok(bytes)
 }
 
-// Items before a wrong one, the wrong one, and the items behind it.
+// Items before a wrong one, the wrong one, and the items after it.
 const WRONG: &str = "\
 - n - 0
 - x c 0
@@ -115,7 +115,7 @@ const WRONG: &str = "\
 02 e c 2
 ";
 
-// Whether the wrong item of a line is told by its number.
+// Whether the wrong item of a line is reported by its number.
 fn is_reported(alloc: Global, line: &str) -> Option<bool> {
     let (before, rest) = line.split_once(' ')?;
     let (wrong, rest) = rest.split_once(' ')?;
@@ -156,7 +156,7 @@ fn refusal_of_cut(alloc: Global, count: usize) -> Option<ItemsError> {
     refusal(alloc, bytes.as_slice().get(..count).unwrap_or(&[]))
 }
 
-// Whether what doesn't fit is told by the offset of a line.
+// Whether what doesn't fit is reported by the offset of a line.
 fn is_short(alloc: Global, line: &str) -> Option<bool> {
     let (count, offset) = line.split_once(' ')?;
     let wanted = ItemsError::Short(offset.parse::<usize>().ok()?);
@@ -173,7 +173,7 @@ fn an_item_that_does_not_fit_is_reported_by_its_offset(rt: HostRuntime) {
     assert!(rt; count == 10);
 }
 
-// What is told of an item with no key, and a byte behind it that is no item.
+// What is reported of an item with no key, and a byte after it that is no item.
 fn first_of_two(alloc: Global) -> Option<ItemsError> {
     let mut bytes = with_wrong(alloc, "0", b'x', "-").ok()?;
     bytes.append(&[0]).ok()?;

@@ -38,7 +38,7 @@ pub const TRUSTED: [u8; 32] = [
     0xD2, 0xC8, 0x79, 0x45, 0xEE, 0x98, 0xF7, 0x31, 0xB2, 0xAA, 0x96, 0xB9, 0xE6, 0xB1, 0x1C, 0xF6,
 ];
 
-// 2026-01-01T00:00:00Z, the first moment of the certificate.
+// 2026-01-01T00:00:00Z, the first time of the certificate.
 pub const FIRST: i64 = 1_767_225_600;
 
 // 2026-01-08T00:00:00Z, the last one.
@@ -89,7 +89,7 @@ pub fn store_of(
     })
 }
 
-// The bytes of the certificate from a place up to another one; no bytes where it has them not.
+// The bytes of the certificate from one offset up to another; no bytes if it has none there.
 pub fn piece(from: usize, to: usize) -> &'static [u8] {
     CERTIFICATE.get(from..to).unwrap_or(&[])
 }
@@ -130,7 +130,7 @@ const ACCEPTED: Accepted = Accepted {
     by: By::Landmark,
 };
 
-// The judgement at a moment.
+// The judgement at a time.
 pub fn answer(certificate: &[u8], store: &Store, now: i64) -> Result<Accepted, Refusal> {
     judge::<Sha>(certificate, store, now)
 }
@@ -147,7 +147,7 @@ fn a_certificate_is_accepted_from_its_first_to_its_last_moment(
     Ok(())
 }
 
-// Other bytes at some places, `PLACE=BYTE`, and why the certificate is refused then. A critical
+// Other bytes at some offsets, `PLACE=BYTE`, and why the certificate is refused then. A critical
 // issuerAltName is `143=18`; `27=1 175=1` puts the attribute's identifier in the place of the
 // algorithm's.
 const CHANGES: &str = "\
@@ -164,7 +164,7 @@ const CHANGES: &str = "\
 54=57 UnknownLog
 ";
 
-// Puts a byte at its place, as `PLACE=BYTE` says, where the word says it.
+// Puts a byte at its offset, as `PLACE=BYTE` says, where the word says it.
 fn change(bytes: &mut [u8; 231], word: &str) -> Result<bool, Fail> {
     match word.split_once('=') {
         Some((place, byte)) => match bytes.get_mut(place.parse::<usize>()?) {

@@ -72,8 +72,8 @@ pub fn key_of(letter: u8) -> &'static [u8] {
     }
 }
 
-/// Puts a text behind the bytes, and before it its length in two bytes. One that is too long for
-/// these is refused as for want of memory.
+/// Appends bytes with their length in two bytes before them. Bytes that are too many for these are
+/// refused with `Memory`.
 pub fn put_text(bytes: &mut Bytes, text: &[u8]) -> Result<(), Memory> {
     match u16::try_from(text.len()) {
         Ok(length) => bytes.append_both(&length.to_be_bytes(), text),
@@ -81,13 +81,13 @@ pub fn put_text(bytes: &mut Bytes, text: &[u8]) -> Result<(), Memory> {
     }
 }
 
-/// Puts an entry and its key behind the bytes.
+/// Appends an entry and its key to the bytes.
 pub fn put_item(bytes: &mut Bytes, entry: &[u8], key: &[u8]) -> Result<(), Memory> {
     put_text(bytes, entry)?;
     put_text(bytes, key)
 }
 
-/// Puts the items of these letters behind the bytes; a hyphen is none.
+/// Appends the items of these letters to the bytes; a hyphen is none.
 pub fn put_items(bytes: &mut Bytes, letters: &str) -> Result<(), Memory> {
     for letter in letters.bytes() {
         if letter != b'-' {
@@ -111,7 +111,7 @@ pub fn toy(sum: u8) -> [u8; 32] {
     hash
 }
 
-/// What stands before a word's first colon, and what behind it.
+/// What stands before a word's first colon, and what follows it.
 pub fn cut(word: &str) -> (&str, &str) {
     word.split_once(':').unwrap_or((word, ""))
 }

@@ -14,12 +14,12 @@ pub const PUBLIC: [u8; 60] = [
     0x00, 0x00, 0x00, 0x00, 0x00, 0x00, 0x00, 0x00, 0x00, 0x00, 0x00, 0x00,
 ];
 
-// The id 32473.NUMBER behind its length.
+// The id 32473.NUMBER after its length.
 fn id_of(number: u8) -> [u8; 5] {
     [4, 0x81, 0xFD, 0x59, number]
 }
 
-// Puts the number before the first colon behind the bytes, in eight of them; the rest of the word.
+// Appends the number before the first colon to the bytes, in eight of them; the rest of the word.
 fn put_number<'a>(bytes: &mut Bytes, word: &'a str) -> Option<&'a str> {
     let (number, rest) = cut(word);
     bytes
@@ -28,12 +28,12 @@ fn put_number<'a>(bytes: &mut Bytes, word: &'a str) -> Option<&'a str> {
     Some(rest)
 }
 
-// Puts the hash with this first byte behind the bytes.
+// Appends the hash with this first byte to the bytes.
 fn put_hash(bytes: &mut Bytes, sum: &str) -> Option<()> {
     bytes.append(&toy(sum.parse::<u8>().ok()?)).ok()
 }
 
-// Puts the hashes with these first bytes behind the bytes.
+// Appends the hashes with these first bytes to the bytes.
 fn put_hashes(bytes: &mut Bytes, sums: &str) -> Option<()> {
     if !sums.is_empty() {
         for sum in sums.split(':') {
@@ -50,7 +50,7 @@ fn put_proof(alloc: Global, bytes: &mut Bytes, sums: &str) -> Option<()> {
     put_text(bytes, hashes.as_slice()).ok()
 }
 
-// Puts what a Sign has before its end behind the bytes; the rest of the word.
+// Appends what a Sign has before its end to the bytes; the rest of the word.
 fn put_start<'a>(bytes: &mut Bytes, word: &'a str) -> Option<&'a str> {
     let (index, rest) = cut(word);
     bytes
@@ -59,7 +59,7 @@ fn put_start<'a>(bytes: &mut Bytes, word: &'a str) -> Option<&'a str> {
     put_number(bytes, rest)
 }
 
-// Puts the tag of a step and what a Sign has before its end behind the bytes; the rest of the word.
+// Appends the tag of a step and what a Sign has before its end to the bytes; the rest of the word.
 fn put_head<'a>(bytes: &mut Bytes, word: &'a str) -> Option<&'a str> {
     let (kind, fields) = cut(word);
     if kind == "a" {
@@ -70,8 +70,8 @@ fn put_head<'a>(bytes: &mut Bytes, word: &'a str) -> Option<&'a str> {
     put_start(bytes, fields)
 }
 
-// Puts the body of the record of a step behind the bytes: `a:SIZE:ROOT` and the hashes of the
-// proof, or `s:INDEX:START:END:HASH` and these.
+// Appends the body of the record of a step to the bytes: `a:SIZE:ROOT` and the hashes of the proof,
+// or `s:INDEX:START:END:HASH` and these.
 fn put_body(alloc: Global, bytes: &mut Bytes, word: &str) -> Option<()> {
     let rest = put_head(bytes, word)?;
     let (sum, hashes) = cut(put_number(bytes, rest)?);
@@ -79,20 +79,20 @@ fn put_body(alloc: Global, bytes: &mut Bytes, word: &str) -> Option<()> {
     put_proof(alloc, bytes, hashes)
 }
 
-// Puts a record with this body behind the bytes.
+// Appends a record with this body to the bytes.
 fn put_record(bytes: &mut Bytes, body: &[u8]) -> Result<(), Memory> {
     bytes.append(&[0, 0])?;
     put_text(bytes, body)
 }
 
-// Puts the record of a step behind the bytes.
+// Appends the record of a step to the bytes.
 fn put_step(alloc: Global, bytes: &mut Bytes, word: &str) -> Option<()> {
     let mut body = Bytes::new(alloc);
     put_body(alloc, &mut body, word)?;
     put_record(bytes, body.as_slice()).ok()
 }
 
-// Puts the records of these steps behind the bytes; `-` is none.
+// Appends the records of these steps to the bytes; `-` is none.
 fn put_steps(alloc: Global, bytes: &mut Bytes, steps: &str) -> Option<()> {
     for word in steps.split(' ') {
         if word != "-" {
@@ -102,7 +102,7 @@ fn put_steps(alloc: Global, bytes: &mut Bytes, steps: &str) -> Option<()> {
     Some(())
 }
 
-// Puts what stands before the records behind the bytes.
+// Appends what stands before the records to the bytes.
 fn put_prefix(bytes: &mut Bytes, id: u8, log: u8, public: &[u8; 60]) -> Result<(), Memory> {
     bytes.append(&id_of(id))?;
     bytes.append(&id_of(log))?;

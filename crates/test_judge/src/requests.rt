@@ -21,7 +21,7 @@ fn refusal(alloc: Global, text: &str) -> Option<RequestError> {
     read(alloc, text).err()
 }
 
-// Requests that are refused: behind `== ` why, and a remark; then the request.
+// Requests that are refused: after `== ` why, and a remark; then the request.
 const REFUSED: &str = r#"== NotToml
 |= not_before
 == NotToml
@@ -246,7 +246,7 @@ fn host_names_are_labels_with_dots_between_them(rt: HostRuntime) -> Result<(), F
     Ok(())
 }
 
-// So many bytes, `a` and dots at these places alone.
+// So many bytes, `a` and dots at these offsets alone.
 fn long_name(alloc: Global, size: u64, dots: &[u64]) -> Result<Vec<u8>, Fail> {
     let mut name = Vec::new(alloc);
     for place in 0..size {

@@ -25,7 +25,7 @@ fn refusal(alloc: Global, text: &str) -> Option<StoreError> {
     read(alloc, text).err()
 }
 
-// Store files that are refused: behind `== ` why, and a remark; then the file.
+// Store files that are refused: after `== ` why, and a remark; then the file.
 const REFUSED: &str = r#"== Missing(LogId)
 == NotToml
 |= [log
@@ -419,7 +419,7 @@ fn crowd(alloc: Global, count: u64, text: &str) -> Result<String, Fail> {
     Ok(file)
 }
 
-// A number of cosigners, what follows them, and what is told of the store.
+// A number of cosigners, what follows them, and what is reported of the store.
 const CROWDS: [(u64, &str, &str); 4] = [
     (64, "", "64"),
     (65, "", "BadValue(CosignerId)"),
@@ -445,7 +445,7 @@ fn cosigner_reported(alloc: Global, known: &Known) -> Result<String, Fail> {
     Ok(format!(in alloc; "{id:?} {last}, ")?)
 }
 
-// A rule by its count and places.
+// A rule by its count and indices.
 fn rule_reported(alloc: Global, rule: &Rule) -> Result<String, Fail> {
     let (count, places) = (rule.count, rule.cosigners.as_slice());
     Ok(format!(in alloc; "{count} of {places:?}, ")?)

@@ -3,7 +3,7 @@
 use std::alloc::Global;
 use std::test::Fail;
 
-/// The pieces, one behind the other.
+/// The pieces, one after the other.
 pub fn joined(alloc: Global, pieces: &[&str]) -> Result<String, Fail> {
     let mut text = String::new(alloc);
     for piece in pieces {
@@ -33,7 +33,7 @@ pub fn headed(block: &str) -> (&str, &str) {
     }
 }
 
-// The text; what stands behind the mark `|= `, without the end of the line, where it has the mark.
+// The text; what follows the mark `|= `, without the end of the line, if it has the mark.
 fn unmarked(text: &str) -> &str {
     match text.strip_prefix("|= ") {
         Some(line) => line.strip_suffix('\n').unwrap_or(line),

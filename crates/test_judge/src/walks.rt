@@ -1,4 +1,4 @@
-//! The walk from a Sign to the list of entries behind it.
+//! The walk from a Sign to the list of entries that underlies it.
 
 use crate::lists::{are_strings, list_of};
 use crate::records::{PUBLIC, export_of};
@@ -10,7 +10,7 @@ use std::alloc::Global;
 use tree_core::Toy;
 use world_core::{has_prefix, held_by, walk};
 
-// Eight entries, of which the first two are signed at once, and again behind the first four.
+// Eight entries, of which the first two are signed at once, and again after the first four.
 const STEPS: &str = "a:2:157 s:0:0:2:157 a:4:164:6 s:1:0:2:157:6 a:8:190:25";
 
 // The walk from the step with this number; none where it is no Sign, or the list doesn't begin with
