@@ -5,7 +5,7 @@ use mtc_io::Memory;
 use std::alloc::Global;
 use std::test::Fail;
 
-// The tile of level 0 at a place.
+// The tile of level 0 at an index.
 fn tile(place: u64) -> TileKey {
     TileKey { level: 0, place }
 }
@@ -100,7 +100,7 @@ fn followed_by_new(alloc: Global, frames: usize, script: &str) -> Result<u64, Me
     Ok(followed(&mut pool, script))
 }
 
-// Scripts of lines about the tile of level 0 at a place: claim a frame for it, which is that of
+// Scripts of lines about the tile of level 0 at an index: claim a frame for it, which is that of
 // this slot; pin its frame, take the pin away, make the frame empty; its frame is that of this
 // slot, or there is none. And: so many frames have no pin. Here for one frame.
 const ONE: &str = "\

@@ -1,4 +1,4 @@
-//! Nodes that are kept, beside the known ones and beside those that are made anew.
+//! Nodes that are retained, beside the known ones and beside those that are rebuilt.
 
 use crate::known::{
     ENTRIES, N0_1, N0_2, N0_4, N0_6, N0_8, N1_2, N2_4, N4_5, N4_6, N4_8, N6_8, NONE,
@@ -18,7 +18,7 @@ fn add_first(cache: &mut Cache<Sha>, count: usize) -> Result<(), Memory> {
     Ok(())
 }
 
-// The first entries, half of them in reserved room.
+// The first entries, half of them in reserved capacity.
 fn kept(alloc: Global, count: usize) -> Result<Cache<Sha>, Memory> {
     let mut cache = Cache::new(alloc);
     cache.reserve(count / 2)?;
@@ -75,7 +75,7 @@ fn length(cache: &Cache<Sha>, level: u32) -> usize {
     cache.row(level).len()
 }
 
-// Whether the hash at a place of a row is this one.
+// Whether the hash at an index of a row is this one.
 fn is_in_row(cache: &Cache<Sha>, level: u32, place: usize, wanted: &[u8; 32]) -> bool {
     cache.row(level).get(place) == Some(wanted)
 }

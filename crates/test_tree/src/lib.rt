@@ -1,6 +1,6 @@
 //! Tests of trees, of landmarks, of proofs in certificates and of requests to cosigners; of two
-//! strings with one hash; and of the nodes that are kept, of the frames for tiles and of the store
-//! of tiles.
+//! strings with one hash; and of the nodes that are retained, of the frames for tiles and of the
+//! store of tiles.
 #![tactic(auto)]
 
 #[cfg(test)]

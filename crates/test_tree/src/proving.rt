@@ -20,7 +20,7 @@ fn entries(alloc: Global) -> Result<Vec<Bytes>, Memory> {
     Ok(entries)
 }
 
-// The nodes of the entries, the first half in reserved room.
+// The nodes of the entries, the first half in reserved capacity.
 fn nodes(alloc: Global) -> Result<Listed<Sha>, Memory> {
     let mut nodes = Listed::new(alloc);
     nodes.reserve(4)?;
@@ -117,7 +117,7 @@ fn subtrees_of_a_list_have_the_known_hashes(rt: HostRuntime) -> Result<(), Fail>
     Ok(())
 }
 
-// Whether these hashes are made as the path of an entry, in place of what the path held.
+// Whether these hashes are made as the path of an entry, instead of what the path held.
 fn is_path(nodes: &mut Listed<Sha>, index: u64, start: u64, end: u64, wanted: &[[u8; 32]]) -> bool {
     let mut path = Path::new();
     make_path(nodes, 2, 0, 8, &mut path) == Some(Ok(()))
@@ -133,7 +133,7 @@ fn inclusion_paths_begin_beside_the_leaf(rt: HostRuntime) -> Result<(), Fail> {
     Ok(())
 }
 
-// Whether these hashes are made as the proof of a subtree, in place of what the path held.
+// Whether these hashes are made as the proof of a subtree, instead of what the path held.
 fn is_proof(nodes: &mut Listed<Sha>, start: u64, end: u64, size: u64, wanted: &[[u8; 32]]) -> bool {
     let mut proof = Path::new();
     make_proof(nodes, 0, 1, 8, &mut proof) == Some(Ok(()))
@@ -222,7 +222,7 @@ fn a_proof_of_no_subtree_gives_nothing(rt: HostRuntime) {
     assert!(rt; given(1, 3, 4, true, &[N0_1, N2_4]) == None);
 }
 
-// Eight leaves that are not told, whose nodes fail from the call with this number on.
+// Eight leaves that the model doesn't know, whose nodes fail from the call with this number on.
 #[derive(Drop)]
 struct Failing {
     calls: u64,

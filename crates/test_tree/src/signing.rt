@@ -1,4 +1,4 @@
-//! Proofs of certificates with and without signatures, and what is told of changes to them.
+//! Proofs of certificates with and without signatures, and what is reported of changes to them.
 
 use mtc_proof::{ProofError, SigRef, check_signatures, read_proof, signatures};
 
@@ -12,7 +12,7 @@ const PROOF: [u8; 65] = [
     0x00,
 ];
 
-// The proof with another byte at one place.
+// The proof with another byte at one offset.
 fn changed(place: usize, byte: u8) -> [u8; 65] {
     let mut bytes = PROOF;
     if let Some(old) = bytes.get_mut(place) {

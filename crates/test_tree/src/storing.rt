@@ -13,7 +13,7 @@ use tree_proofs::{Listed, Nodes};
 
 type MemTiles = Tiles<Sha, MemDisk>;
 
-// The leaf hash of a place.
+// The leaf hash of an index.
 fn leaf_at(place: u64) -> [u8; 32] {
     leaf::<Sha>(&place.to_be_bytes())
 }
@@ -137,7 +137,7 @@ fn full_tiles_are_stored(rt: HostRuntime) -> Result<(), Fail> {
     Ok(())
 }
 
-// So many leaves, whose nodes are made anew from their hashes.
+// So many leaves, whose nodes are rebuilt from their hashes.
 fn leaves(alloc: Global, size: u64) -> Result<Listed<Sha>, Memory> {
     let mut listed = Listed::new(alloc);
     for place in 0..size {
@@ -164,7 +164,7 @@ fn agree(tiles: &mut MemTiles, listed: &mut Listed<Sha>, size: u64) -> bool {
     true
 }
 
-// Whether both have the same nodes before the first tiles are adopted, and behind it.
+// Whether both have the same nodes before the first tiles are adopted, and after it.
 fn stay_the_same(tiles: &mut MemTiles, listed: &mut Listed<Sha>, size: u64, tiled: u64) -> bool {
     is_stored(tiles, tiled)
         && agree(tiles, listed, size)
@@ -208,7 +208,7 @@ fn turn(file: &mut [u8], place: usize) {
 }
 
 // A device with the bytes and a change: they end after so many, there are so many more, or the byte
-// of a place is another one.
+// at an offset is another one.
 fn changed(alloc: Global, bytes: &[u8], change: &str, number: usize) -> Result<MemDisk, Memory> {
     let mut file = Vec::from_slice(alloc, bytes)?;
     match change {
@@ -219,7 +219,7 @@ fn changed(alloc: Global, bytes: &[u8], change: &str, number: usize) -> Result<M
     Ok(MemDisk::over(alloc, Bytes::from_vec(file), Vec::new(alloc)))
 }
 
-// That the file has not the tile of level 0 at the place of a word, or that it has all.
+// That the file has not the tile of level 0 at the index of a word, or that it has all.
 fn reported(word: &str) -> Option<Result<(), TileError>> {
     if word == "-" {
         return Some(Ok(()));
@@ -243,7 +243,7 @@ fn answered(
     Ok(adopted(&mut tiles, 512))
 }
 
-// Whether the file is told as a line says.
+// Whether the file is reported as a line says.
 fn is_reported(alloc: Global, bytes: &[u8], line: &str) -> Result<bool, Memory> {
     let mut words = line.split(' ');
     let change = words.next().unwrap_or("");
@@ -254,7 +254,7 @@ fn is_reported(alloc: Global, bytes: &[u8], line: &str) -> Result<bool, Memory> 
     Ok(wanted.is_some() && answered(alloc, bytes, change, number)? == wanted)
 }
 
-// A change of the file of 512 leaves, its number, and the place of the first bad tile.
+// A change of the file of 512 leaves, its number, and the index of the first bad tile.
 const CHANGES: &str = "\
 cut 0 0
 cut 8191 0
@@ -286,7 +286,7 @@ fn stores(tiles: &mut MemTiles, fails: bool) -> bool {
 }
 
 // Whether one of two storings fails over a device of which this call fails, and its file is then
-// this one. A storing settles, writes two tiles and settles; the fifth call is of the second.
+// this one. A storing syncs, writes two tiles and syncs; the fifth call is of the second.
 fn storing_fails_at(alloc: Global, call: u64, file: &[u8]) -> Result<bool, Memory> {
     let mut tiles = over(alloc, &[], &[call], 512)?;
     let reported = stores(&mut tiles, call < 4) && stores(&mut tiles, call >= 4);
@@ -329,7 +329,7 @@ fn a_failed_adoption_leaves_the_store_as_it_was(rt: HostRuntime) -> Result<(), F
     Ok(())
 }
 
-// The tile of level 0 at a place.
+// The tile of level 0 at an index.
 fn tile(place: u64) -> TileKey {
     TileKey { level: 0, place }
 }
@@ -342,7 +342,7 @@ fn has_leaf(tiles: &mut MemTiles, place: u64) -> bool {
     node(tiles, 0, place) == Some(Ok(leaf_at(place)))
 }
 
-// Whether no frame holds a tile before the two are adopted, and right behind it.
+// Whether no frame holds a tile before the two are adopted, and right after it.
 fn is_adopted_without_frames(tiles: &mut MemTiles) -> bool {
     has_leaf(tiles, 0)
         && !is_held(tiles, tile(0))
@@ -379,7 +379,7 @@ fn an_adopted_node_is_read_through_a_frame(rt: HostRuntime) -> Result<(), Fail> 
     Ok(())
 }
 
-// Whether a byte changed in the tile of level 1 is told, where that tile is adopted.
+// Whether a byte changed in the tile of level 1 is reported, if that tile is adopted.
 fn tells_the_next_level(alloc: Global, bytes: &[u8]) -> Result<bool, Memory> {
     let mut tiles = grown(alloc, changed(alloc, bytes, "byte", 256 * 8192)?, 1, 65_536)?;
     let wanted = Err(TileError::BadTile { level: 1, place: 0 });

@@ -15,7 +15,7 @@ const SIGNED: [u8; 42] = [
     0x00, 0x00, 0x00, 0x00, 0x00, 0x00, 0x00, 0x00, 0x00, 0x08,
 ];
 
-// Whether the bytes are these, with the hash behind them.
+// Whether the bytes are these, with the hash after them.
 fn ends_with_hash(bytes: &[u8], prefix: &[u8]) -> bool {
     bytes.strip_prefix(prefix) == Some(N0_8.as_slice())
 }
