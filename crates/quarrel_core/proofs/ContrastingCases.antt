@@ -71,7 +71,7 @@ case_part_left h s e n k known node other y z first less second rest one two bel
     ∙ sym (both_turned h s e n known node other y z first less second rest first_is second_is
     ∙ contrast-left h s e n k known node other y z p q (sym k_is) inner left)
 
--- the case behind the split, by where the interval starts
+-- the case after the split, by where the interval starts
 contrast-behind : (h : HashFunction) (s e n k from to : ℕ) (known still : Bool)
     (node other y z : Hash) (p q : List Hash) → split_of n ≡ k → (0 < s) ⊎ (e < n) → k < e
     → IsBehind k s e known from to still

@@ -61,7 +61,7 @@ get_here : (xs : List Step) (y : Step) (ys : List Step)
 get_here [] y ys = refl
 get_here (x ∷ xs) y ys = get_here xs y ys
 
--- What is behind a step, by whether it is in conflict.
+-- What follows a step, by whether it is in conflict.
 
 pub conflict_here : (seen : List Step) (step : Step) (rest : List Step) (i : ℕ)
     → position (conflicts step) seen ≡ Some i

@@ -14,6 +14,7 @@ use Rattle.tree_core.specs.Path.{part_of}
 use Rattle.tree_core.specs.Split.{split_of}
 use Rattle.tree_core.specs.Tree.{leaf_hash, root_of, tree_hash}
 use Rattle.tree_proofs.proofs.Aligned.{IsAligned, IsAligned-first, IsAligned-from_words}
+use Rattle.tree_proofs.proofs.Checked.{aligned_right, proof_opens}
 use Rattle.tree_proofs.proofs.Made.{cases_place, proof_of-left, proof_of-over, proof_of-right}
 use Rattle.tree_proofs.proofs.Parts.{part_of-drop, part_of-take, part_of-zero}
 use Rattle.tree_proofs.specs.declared.outcome.Opened.{Opened}
@@ -23,7 +24,6 @@ use Rattle.collide.specs.Inputs.{pair_input}
 use Rattle.quarrel_core.proofs.JoiningSteps.{joined-left, joined-over, joined-same, joined-whole}
 use Rattle.quarrel_core.proofs.JoiningSteps.{joined_there, over-left, over-over, over-right}
 use Rattle.quarrel_core.proofs.Levels.{parts_same}
-use Rattle.quarrel_core.proofs.MadeOpens.{aligned_right, proof_opens}
 use Rattle.quarrel_core.proofs.Parted.{front_split}
 use Rattle.quarrel_core.specs.Joining.{joined_behind, joined_from_root, joined_left, joined_of}
 use Rattle.quarrel_core.specs.Joining.{joined_turned, joined_with, same_pair}
@@ -138,7 +138,7 @@ left_made h s e n known still node front leaves order within less left rest =
     ∙ rest)
     ∙ ap (λ (r : List Hash). Proof r) (sym (made-left h s e k known leaves more refl order inside))
 
--- the front goes beyond the split
+-- the prefix goes beyond the split
 over_made : (h : HashFunction) (s e n : ℕ) (known still : Bool) (node front : Hash)
     (leaves : List Hash) → IsAligned s e → e ≤ n → n < length leaves
     → split_of (length leaves) < n

@@ -45,7 +45,7 @@ joined-whole h s e n m known node front z p q less above first last =
     ∙ cond-false _ _ _ (lt-leb n (split_of m) above)
     ∙ cond-true _ _ _ (and_from (eqb s 0) (eqb e n) (eq-eqb s 0 first) (eq-eqb e n last))
 
--- both proofs are joined behind the split
+-- both proofs are joined after the split
 abbrev pub joined_there : HashFunction → ℕ → ℕ → Hash → Hash → List Hash → ℕ → ℕ → Bool
     → List Hash → Joined
 joined_there h n m node front q from to still rest =
@@ -87,7 +87,7 @@ pub over-over : (h : HashFunction) (s e n k : ℕ) (known : Bool) (node z y : Ha
 over-over h s e n k known node z y beside rest p past before =
     cond-false _ _ _ (lt-leb e k past) ∙ cond-false _ _ _ (lt-leb k s before)
 
--- The same where the interval behind the split is given.
+-- The same where the interval after the split is given.
 pub over-behind : (h : HashFunction) (s e n k from to : ℕ) (known still : Bool) (node z y : Hash)
     (beside : Option Opened) (rest : ℕ → ℕ → Bool → List Hash → Joined) (p : List Hash) → k < e
     → IsBehind k s e known from to still

@@ -7,7 +7,6 @@ pub mod Joins
 pub mod JoiningCases
 pub mod Contrasts
 pub mod ContrastingCases
-pub mod MadeOpens
 pub mod Joinable
 pub mod Places
 pub mod InConflict

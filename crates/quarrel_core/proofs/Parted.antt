@@ -38,7 +38,7 @@ front_split n m grows above =
     let bounds = split_bounds m in
     split_unique n power.0 (omega arith) (omega arith) ∙ sym is
 
--- What the second proof gives behind the split.
+-- What the second proof gives after the split.
 abbrev BesideStep : HashFunction → ℕ → ℕ → Bool → Hash → Hash → List Hash → Opened → Type 0
 BesideStep h n m still front z q other =
     IsStep h 0 (n - split_of m) (m - split_of m) false front q (both_right_of h z) (inputs_over z)
@@ -143,7 +143,7 @@ part_left h sized s e n m known still node front z y p q one other two less abov
     (joins_pair h s e m known node one.subtree other.root xs ys
     (pair_input own.below.root y) (pair_input z step.below.subtree))))
 
--- The subtree lies behind the split.
+-- The subtree lies after the split.
 pub part_right : (h : HashFunction) → IsSized h → (s e n m : ℕ) (known still : Bool)
     (node front z y : Hash) (p q : List Hash) (one other : Opened)
     → AreTwo h s e n m known still node front (y ∷ p) (z ∷ q) one other → n < m → split_of m < n

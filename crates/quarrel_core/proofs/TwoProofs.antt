@@ -1,5 +1,5 @@
 -- Two proofs of 32-byte hashes from the root down, and what they give together: where the second
--- has nothing of the first's entries behind its split, or the subtree is all of them.
+-- has nothing of the first's entries after its split, or the subtree is all of them.
 use Rattle.std.proofs.Common.{◌≡◌, ℕ, ◌+◌, ◌-◌, ◌<◌, ◌≤◌, ◌⊎◌, ⊎_elim, inl, inr, Bool, false, List}
 use Rattle.std.proofs.Common.{◌∷◌, ◌++◌, length, Some, sym, ◌∙◌, ap, refl, subst, arith}
 use Rattle.std.specs.Prelude.{Option, option_map}

@@ -141,7 +141,7 @@ fn join_in<H: TreeHash>(
 ///
 /// If both proofs check, the answer is the proof of the subtree in the longer list, or two strings
 /// with one hash ([`law_proofs_join`](crate::laws::law_proofs_join)). It is `Neither` only if a
-/// proof is too short to be opened.
+/// proof has another length than the proof that is made of such a subtree.
 pub fn join<H: TreeHash>(
     alloc: Global,
     start: u64,

@@ -110,7 +110,7 @@ IsAligned-halves low high is more =
       };
     }
 
--- an interval that starts behind a split, counted from there
+-- an interval that starts after a split, counted from there
 pub IsAligned-right : (start end n e : ℕ) → IsAligned start end → end ≤ n → n ≤ 2 * 2 ^ e
     → 2 ^ e ≤ start → IsAligned (start - 2 ^ e) (end - 2 ^ e)
 IsAligned-right start end n e is inside half behind =

@@ -37,7 +37,7 @@ use Rattle.tree_proofs.specs.ProofLaws.{PassesWhereChecks, ProofsCheck, WrongLen
 
 -- A made proof opens.
 
-aligned_right : (s e n : ℕ) → IsAligned s e → e ≤ n → split_of n ≤ s
+pub aligned_right : (s e n : ℕ) → IsAligned s e → e ≤ n → split_of n ≤ s
     → IsAligned (s - split_of n) (e - split_of n)
 aligned_right s e n aligned within behind =
     let power = split_power n in
@@ -46,7 +46,7 @@ aligned_right s e n aligned within behind =
     subst (λ k. IsAligned (s - k) (e - k)) (sym is)
     (IsAligned-right s e n power.0 aligned within (omega arith) (omega arith))
 
-aligned_over : (s e n : ℕ) → IsAligned s e → e ≤ n → s < split_of n → split_of n < e → s ≡ 0
+pub aligned_over : (s e n : ℕ) → IsAligned s e → e ≤ n → s < split_of n → split_of n < e → s ≡ 0
 aligned_over s e n aligned within before behind =
     let power = split_power n in
     let is : split_of n ≡ 2 ^ power.0 = power.1 in
@@ -66,7 +66,7 @@ whole_opens : (known : Bool) (node root : List ℕ) → (known ≡ true → node
 whole_opens true node root is = ap (λ x. Some (opened_at x x)) (is refl)
 whole_opens false node root is = refl
 
-proof_opens : (depth : ℕ) (h : List ℕ → List ℕ) (s e : ℕ) (known : Bool) (node : List ℕ)
+pub proof_opens : (depth : ℕ) (h : List ℕ → List ℕ) (s e : ℕ) (known : Bool) (node : List ℕ)
     (leaves : List (List ℕ))
     → length leaves ≤ depth → IsAligned s e → e ≤ length leaves
     → (known ≡ true → node ≡ root_of h (part_of leaves s e))
@@ -271,7 +271,7 @@ PassesWhereChecks_always h start end size node root proof = (
       ∙ cond-false _ _ _ (not_from_true _ (top.1 refl)),
 )
 
--- A proof has a value exactly where it is as long as the made one.
+-- A proof has a value exactly if it is as long as the made one.
 
 whole_has : (known : Bool) (node root : List ℕ) (w : List (List ℕ))
     → is_some (open_whole known node w) ≡ eqb (length w) (length (cond known [] (root ∷ [])))
@@ -289,8 +289,8 @@ eqb_suc a b =
     ∙ sym (ne_eqb (suc a) (suc b) (λ same. other (omega arith))))
     (cases_eq a b)
 
--- with one hash behind the made ones, a proof of no hash is too short, and one more is as long
--- where the rest is
+-- with one more hash at the end of the made ones, a proof of no hash is too short, and one more is
+-- as long where the rest is
 one_more : (made rest : List (List ℕ)) (z : List ℕ) (o : Option Opened) → made ≡ rest ++ z ∷ []
     → (q : List (List ℕ)) → is_some o ≡ eqb (length q) (length rest)
     → is_some o ≡ eqb (suc (length q)) (length made)

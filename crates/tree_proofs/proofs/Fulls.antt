@@ -106,7 +106,7 @@ joined h modelled seen start middle end left right node some more is within seen
         ∙ ap (pair_hash h (root_of h (part_of xs start middle))) right_is
         ∙ sym (part-root h xs start middle end within (omega arith) is)
 
--- what is within the number of leaves is within the list, where it is told
+-- what is within the number of leaves is within the list, if the model knows it
 pub modelled_within : (modelled : Option (List (List ℕ))) (count end : ℕ)
     → IfSome modelled (λ xs. count ≡ length xs)
     → end ≤ count → IfSome modelled (λ xs. end ≤ length xs)

@@ -9,7 +9,7 @@ abbrev pub empty_checkpoint : HashFunction → Checkpoint
 empty_checkpoint h = record { size = 0; root = h [] }
 
 -- The entries that are held are the first ones of the list with this size and root, by this proof.
--- Of no entries it is the proof of no hashes.
+-- For no entries it is the proof of no hashes.
 abbrev pub is_prefix_of : HashFunction → Checkpoint → ℕ → Hash → List Hash → Bool
 is_prefix_of h held size root proof =
     if held.size == 0 then length proof == 0

@@ -12,7 +12,7 @@ pub record HasHalves (start middle end : ℕ) : Type 0 where
   pub right : is_subtree middle end ≡ true
 
 -- A subtree begins with a full one of this level that ends at middle: 2^level entries from a
--- multiple of 2^level on. The rest, where there is one, is the part behind the subtree's split.
+-- multiple of 2^level on. The rest, if there is one, is the part after the subtree's split.
 pub record BeginsFull (start end level middle : ℕ) : Type 0 where
   pub low : level < 64
   pub inside : start < middle

@@ -1,4 +1,4 @@
--- What a call over nodes gives, where they tell their leaf hashes.
+-- What a call over nodes gives, where the model knows their leaf hashes.
 use Rattle.std.specs.Prelude.{◌≡◌, ℕ, ◌-◌, Bool, true, List, [], ◌∷◌, ◌++◌, take, Option, IfSome}
 use Rattle.byte_formats.specs.Types.{Hash, HashFunction}
 use Rattle.tree_core.specs.Path.{part_of, path_of}
@@ -27,7 +27,8 @@ abbrev pub IsProofOf : HashFunction → Option (List Hash) → ℕ → ℕ → �
 IsProofOf h modelled start end size proof =
     IfSome modelled (λ leaves. proof ≡ proof_of h start end true (take size leaves))
 
--- The hashes after are those before, and the hash of the leaves from start up to end behind them.
+-- The hashes after the call are those before it, and after them the hash of the leaves from start
+-- up to end.
 pub record HasRootBehind (h : HashFunction) (modelled : Option (List Hash)) (start end : ℕ)
     (before after : List Hash) : Type 0 where
   pub node : Hash

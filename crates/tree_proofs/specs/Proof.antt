@@ -6,8 +6,8 @@ use Rattle.byte_formats.specs.Types.{Hash, HashFunction, Text}
 use Rattle.tree_core.specs.Split.{split_of}
 use Rattle.tree_core.specs.Tree.{leaf_hash, root_of}
 
--- The nodes beside the subtree [start, end) of these leaf hashes, from the lowest level up. Of the
--- whole list there are none where the reader knows its root, and else that root. Of more: where the
+-- The nodes beside the subtree [start, end) of these leaf hashes, from the lowest level up. For the
+-- whole list there are none if the reader knows its root, and else that root. For more: where the
 -- subtree lies within the first split_of of them, the proof there and then the root of the rest;
 -- where it lies within the rest, the proof there and then the root of the first; where it holds the
 -- split it starts at 0, and its part in the rest is proved there, as one whose hash the reader does

@@ -12,7 +12,7 @@ use Rattle.tree_proofs.specs.Consistency.{Checks, consistency}
 use Rattle.tree_proofs.specs.Proof.{consistency_proof, proof_of}
 
 -- The consistency proof of the whole list has no hash where the reader knows its tree hash, and
--- else that one. Of more entries, for k the largest power of two below their number: where the
+-- else that one. For more entries, with k the largest power of two below their number: where the
 -- interval ends by k, it is the proof in the first k and then the tree hash of the rest; where it
 -- starts from k on, the proof in the rest and then the tree hash of the first k; and where it
 -- starts with the list, ends above k and is not the whole, the proof of its part in the rest, whose
@@ -42,11 +42,11 @@ pub record IsConsistencyProof (h : HashFunction) : Type 0 where
 abbrev pub subproof : HashFunction → ℕ → List Text → Bool → List Hash
 subproof h m entries known = consistency_proof h 0 m known entries
 
--- The section's clauses. Of the whole list there is no hash where the reader knows its tree hash,
--- and else that one. Of fewer entries, for k the largest power of two below the list's number:
--- where m ≤ k, it is the proof in the first k and then the tree hash of the rest; where m > k, the
--- proof of m - k in the rest, for a reader who doesn't know their tree hash, and then the tree hash
--- of the first k.
+-- The section's clauses. For the whole list there is no hash if the reader knows its tree hash, and
+-- else that one. For fewer entries, with k the largest power of two below the list's number: where
+-- m ≤ k, it is the proof in the first k and then the tree hash of the rest; where m > k, the proof
+-- of m - k in the rest, for a reader who doesn't know their tree hash, and then the tree hash of
+-- the first k.
 pub record IsRfcProof (h : HashFunction) : Type 0 where
   pub known : (entries : List Text) → 0 < length entries
       → subproof h (length entries) entries true ≡ []
@@ -70,14 +70,14 @@ ProofsCheck h = (entries : List Text) (start end : ℕ)
     let node = tree_hash h (part_of entries start end) in
     Checks h start end (length entries) node (tree_hash h entries) proof
 
--- A proof passes exactly where it checks.
+-- A proof passes exactly if it checks.
 abbrev pub PassesWhereChecks : HashFunction → Type 0
 PassesWhereChecks h = (start end size : ℕ) (node root : Hash) (proof : List Hash)
     → (consistency h start end size node root proof ≡ Ok tt)
     ↔ Checks h start end size node root proof
 
--- For a subtree within the size, the answer is WrongLength exactly where the proof is not as long
--- as the consistency proof of that subtree, whatever the leaves and hashes are.
+-- For a subtree within the size, the answer is WrongLength exactly if the proof is not as long as
+-- the consistency proof of that subtree, whatever the leaves and hashes are.
 abbrev pub WrongLengthByProof : HashFunction → Type 0
 WrongLengthByProof h = (leaves proof : List Hash) (start end : ℕ) (node root : Hash)
     → IsSubtree start end → end ≤ length leaves

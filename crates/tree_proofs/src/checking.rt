@@ -14,7 +14,7 @@ use tree_core::{TreeHash, subtree_ok};
 /// Refuses, the first that holds: `BadSubtree` where the interval is no subtree, `Beyond` where it
 /// ends above the size, `WrongLength` where the proof is not as long as the consistency proof of
 /// that subtree, which has at most 65 hashes, `WrongNode` where it gives another hash for the
-/// subtree, `WrongRoot` where it gives another root. Where the subtree is one node of the tree the
+/// subtree, `WrongRoot` where it gives another root. If the subtree is one node of the tree, the
 /// given hash is taken for it, so that a wrong one shows in the root.
 pub fn check<H: TreeHash>(
     start: u64,

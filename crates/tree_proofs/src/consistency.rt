@@ -55,10 +55,10 @@ fn consist_in<N: Nodes>(
     }
 }
 
-/// Puts into `out`, in place of what it held, the consistency proof of the subtree `[start, end)`
-/// in the first `size` leaves (the draft on Merkle Tree Certificates, where it makes subtree
+/// Puts into `out`, instead of what it held, the consistency proof of the subtree `[start, end)` in
+/// the first `size` leaves (the draft on Merkle Tree Certificates, where it makes subtree
 /// consistency proofs), the lowest hash first. It has at most one hash more than the list has
-/// levels. Where the nodes failed, `out` has hashes that mean nothing.
+/// levels. The hashes in `out` mean nothing if the nodes failed.
 pub fn consist<N: Nodes>(
     nodes: &mut N,
     start: u64,

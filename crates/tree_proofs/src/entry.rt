@@ -6,7 +6,7 @@ ghost use Rattle.byte_formats.specs.Types.{Text};
 
 use mtc_io::Bytes;
 
-/// An item of a list, which lends the entry that is hashed for it.
+/// An item of a list, from which the entry that is hashed for it can be borrowed.
 pub trait AsEntry {
     /// The entry.
     ghost entry: { Self → Text };
@@ -32,7 +32,7 @@ impl<'a> AsEntry for &'a [u8] {
     }
 }
 
-/// A list of entries, which lends each of them, and whose parts are such lists too.
+/// A list of entries, from which each of them can be borrowed, and whose parts are such lists too.
 pub trait EntryList: Drop {
     /// The entries in their order.
     ghost texts: { Self → List Text };

@@ -10,10 +10,9 @@ use crate::tree::split_between;
 use crate::{Nodes, Path};
 use mtc_io::Failed;
 
-/// Puts into `out`, in place of what it held, the inclusion path of the entry at `index` in the
+/// Puts into `out`, instead of what it held, the inclusion path of the entry at `index` in the
 /// subtree `[start, end)` (RFC 9162, section 2.1.3.1), the sibling of the leaf first. It has no
-/// more hashes than the subtree has levels. Where the nodes failed, `out` has hashes that mean
-/// nothing.
+/// more hashes than the subtree has levels. The hashes in `out` mean nothing if the nodes failed.
 pub fn include<N: Nodes>(
     nodes: &mut N,
     index: u64,

@@ -5,10 +5,10 @@ ghost use Rattle.tree_proofs.specs.ProofLaws.{CheckpointsAreShown, IsConsistency
 ghost use Rattle.tree_proofs.specs.ProofLaws.{PassesWhereChecks, ProofsCheck, WrongLengthByProof};
 
 /// The law of consistency proofs, for every hash function: the proof of an interval by the split of
-/// its list (the draft on Merkle Tree Certificates, where it makes subtree consistency proofs). Of
+/// its list (the draft on Merkle Tree Certificates, where it makes subtree consistency proofs). For
 /// the first entries of a list it is the proof of RFC 9162 (section 2.1.4.1). That of a subtree
-/// checks for the tree hashes of the subtree and of the list, a proof passes exactly where it
-/// checks, and the answer is `WrongLength` exactly where the proof is not as long as the made one.
+/// checks for the tree hashes of the subtree and of the list, a proof passes exactly if it checks,
+/// and the answer is `WrongLength` exactly if the proof is not as long as the made one.
 pub fn law_consistency_proofs_check()
     ensures proof { (h : HashFunction) → IsConsistencyProof h }
     ensures rfc { (h : HashFunction) → IsRfcProof h }
@@ -18,8 +18,8 @@ pub fn law_consistency_proofs_check()
 {}
 
 /// What a proof shows of a checkpoint, for every hash function. Its entries are the first ones of
-/// another list exactly where there are none and the proof has no hash, or the proof checks. A hash
-/// is that of a subtree of them exactly where the proof checks.
+/// another list exactly if there are none and the proof has no hash, or the proof checks. A hash is
+/// that of a subtree of them exactly if the proof checks.
 pub fn law_checkpoints_are_shown()
     ensures { (h : HashFunction) → CheckpointsAreShown h }
 {}

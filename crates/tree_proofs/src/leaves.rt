@@ -14,8 +14,8 @@ use std::alloc::Global;
 use std::marker::{Model, PhantomData};
 use tree_core::TreeHash;
 
-/// A list of leaf hashes as nodes, which makes the hash of a full subtree anew each time it is
-/// asked for, in the time of its size. It never fails.
+/// A list of leaf hashes as nodes, which computes the hash of a full subtree each time it is asked
+/// for, in the time of its size. It never fails.
 ///
 /// Contracts see the leaf hashes and a number of spare leaves: so many more need no memory.
 #[derive(Drop)]
@@ -42,8 +42,8 @@ impl<H: TreeHash> Listed<H> {
         }
     }
 
-    /// Makes room for at least `count` more leaves. It is refused only where fewer are spare. The
-    /// list stays as it was, also then.
+    /// Reserves capacity for at least `count` more leaves. It is refused only where fewer are
+    /// spare. The list stays as it was, whether the call is refused or not.
     pub fn reserve(&mut self, count: usize) -> Result<(), Memory>
         ensures list { self.new.leaves ≡ self.old.leaves }
         ensures spare { OnOk result (count ≤ self.new.spare) }
@@ -54,7 +54,7 @@ impl<H: TreeHash> Listed<H> {
         Ok(())
     }
 
-    /// Puts a leaf hash behind the others. It is refused only where no spare leaf is left, and
+    /// Appends a leaf hash to the others. It is refused only where no spare leaf is left, and
     /// leaves the list as it was then.
     pub fn push(&mut self, leaf: &[u8; 32]) -> Result<(), Memory>
         ensures ok { OnOk result (self.new.leaves ≡ self.old.leaves ++ leaf.now ∷ []) }

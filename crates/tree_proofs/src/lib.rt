@@ -3,8 +3,8 @@
 //!
 //! A hash is 32 bytes. An interval `[start, end)` holds the entries from `start` up to `end`,
 //! without `end`. Proofs are made over [`Nodes`], which give the hash of any full subtree of a list
-//! and may fail; contracts see the leaf hashes of the list where the nodes tell them. No call takes
-//! memory but [`Listed::push`] and [`Listed::reserve`].
+//! and may fail; contracts see the leaf hashes of the list where the model knows them. No call
+//! takes memory but [`Listed::push`] and [`Listed::reserve`].
 //!
 //! ```rust
 //! use tree_core::Sha;

@@ -17,7 +17,7 @@ pub trait Nodes {
     /// The hash function of the tree.
     type H: TreeHash;
 
-    /// The leaf hashes, where it tells them.
+    /// The leaf hashes, if the model knows them.
     ghost leaves: { Self → Option (List Hash) };
 
     /// How many leaves there are.
@@ -34,7 +34,8 @@ pub trait Nodes {
         ensures { result ≡ count self.now };
 
     /// The hash of the `2^level` leaves from `place * 2^level` on. `Failed` comes only where the
-    /// count of faults rose. The list stays as it was, also then, and so does what `stays` says.
+    /// count of failures rose. Whether it fails or not, the list stays as it was, and so does what
+    /// `stays` says.
     fn node(&mut self, level: u32, place: u64) -> Result<[u8; 32], Failed>
         requires { (place + 1) * 2 ^ level ≤ count self.old }
         ensures value { IfOk result
@@ -44,7 +45,7 @@ pub trait Nodes {
         ensures stays { stays self.old self.new }
         ensures cause { HasCause (faults self.old) (faults self.new) result };
 
-    /// Where the list is told, it has that many leaves.
+    /// If the model knows the list, it has that many leaves.
     ghost counted: { (n : Self) → IfSome (leaves n) (λ list. count n ≡ length list) };
 
     /// Without a call all stays.
@@ -82,7 +83,7 @@ pub fn node_of<N: Nodes>(nodes: &mut N, start: u64, end: u64) -> Result<[u8; 32]
     Ok(pair::<N::H>(&node, &rest))
 }
 
-// Puts the hash of the subtree `[start, end)` behind the others.
+// Puts the hash of the subtree `[start, end)` after the others.
 pub(crate) fn push_node<N: Nodes>(
     nodes: &mut N,
     start: u64,

@@ -5,8 +5,8 @@ ghost use Rattle.byte_formats.specs.Types.{Hash};
 
 use std::marker::Model;
 
-/// The hashes of a path or a proof, in an array of a fixed size. It has room for 128, and a proof
-/// in a tree of 64 levels has at most 65. Contracts see it as the list of its hashes.
+/// The hashes of a path or a proof, in an array of a fixed size. It has capacity for 128, and a
+/// proof in a tree of 64 levels has at most 65. Contracts see it as the list of its hashes.
 #[derive(Drop)]
 pub struct Path {
     hashes: [[u8; 32]; 128],

@@ -63,7 +63,7 @@ pub fn list_hash<H: TreeHash, L: EntryList>(entries: &L) -> [u8; 32]
     }
 }
 
-/// The same of a list of texts.
+/// The same of a list of byte strings.
 pub fn root<H: TreeHash>(entries: &[Bytes]) -> [u8; 32]
     ensures { result ≡ tree_hash H.hash entries.now }
 {
