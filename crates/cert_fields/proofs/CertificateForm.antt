@@ -1,4 +1,5 @@
--- A whole certificate: what is read is spelled so, and what is spelled so is read again.
+-- A whole certificate is encoded as the bytes from which it was read, and each encoding is read
+-- again.
 use Rattle.std.proofs.Common.{◌≡◌, ℕ, ◌^◌, ◌<◌, true, false, [], ◌∷◌, ◌++◌, length, Result, Ok, Err}
 use Rattle.std.proofs.Common.{IfOk, refl, sym, ap, subst, ◌∙◌, arith, inl, inr, lit<, eqb-true}
 use Rattle.std.proofs.Common.{lt-ltb, ltb-true}
@@ -73,7 +74,7 @@ serial_form : IsForm number IsSerial Anything serial_at
 unfolding serial_at
 serial_form = tested_form (unsigned_form BadSerial) (λ n. nat_lt 0 n) BadSerial
 
--- ---- the fields behind the serial number
+-- ---- the fields after the serial number
 
 abbrev moments_text : Text × Period → Text
 moments_text v = v.0

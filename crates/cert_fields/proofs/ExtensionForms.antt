@@ -1,4 +1,4 @@
--- Extensions: what is read is spelled so, and what is spelled so is read again.
+-- Extensions are encoded as the bytes from which they were read, and each encoding is read again.
 use Rattle.std.proofs.Common.{◌≡◌, ◌≢◌, ℕ, ◌+◌, ◌^◌, ◌<◌, Bool, true, false, List, [], ◌∷◌, ◌++◌}
 use Rattle.std.proofs.Common.{length, Ok, Err, Option, Some, None, IfSome, refl, sym, ap, subst}
 use Rattle.std.proofs.Common.{arith, ◌⊎◌, lit<}
@@ -97,7 +97,7 @@ general_names_again octets f = ap is_read (all_again general_names_form octets f
 
 -- ---- one extension
 
--- A test that looks at the bytes of a value, said otherwise.
+-- A test that reads the bytes of a value, said otherwise.
 tested_as : {X E : Type 0} {encode : X → Text} {Fits : X → Type 0} {Follows : Text → Type 0}
     {read : Reading X E} {Says : X → Type 0}
     → IsForm encode Fits Follows read → (test : X → Bool) (fault : E)

@@ -1,5 +1,5 @@
--- The fields of a certificate but its extensions: what is read is spelled so, and what is spelled
--- so is read again.
+-- The fields of a certificate but its extensions are encoded as the bytes from which they were
+-- read, and each encoding is read again.
 use Rattle.std.proofs.Common.{◌≡◌, ◌≢◌, ℕ, ◌+◌, ◌-◌, ◌%◌, ◌<◌, ◌≤◌, true, false}
 use Rattle.std.proofs.Common.{List, [], ◌∷◌, ◌++◌, length, slice_index, Result, Ok, Err, refl, sym}
 use Rattle.std.proofs.Common.{ap, subst, ◌∙◌, arith, inl, inr, ◌⊎◌, lit<, lit≤}
@@ -336,7 +336,7 @@ times-short v =
               (omega (arith, short))),
         )
 
--- The validity is the element that its moments are written as.
+-- The validity is the element that its times are written as.
 validity_is : (v : Period) → element 0x30 (times_text v) ≡ validity_element v
 unfolding validity_element
 validity_is v =

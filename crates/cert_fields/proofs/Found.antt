@@ -116,7 +116,7 @@ octets_found octets ns f = ap names_in f.encoded ∙ names_found ns f.each f.sho
 
 -- ---- the field of a certificate
 
--- The field is the spelling of some extensions, or absent.
+-- The field is the encoding of some extensions, or absent.
 pub field_extensions : (field : Text) → IsExtensions field → (xs : List ExtensionFields)
     × AreExtensionsOf field xs
 field_extensions field (inl none) = ([], inl (none, refl))

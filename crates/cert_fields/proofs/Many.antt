@@ -1,5 +1,5 @@
--- Many extensions: each is read whatever its identifier, and the identifiers are compared behind
--- it.
+-- Many extensions: each is read whatever its identifier, and the identifiers are compared
+-- afterwards.
 use Rattle.std.proofs.Common.{◌≡◌, ℕ, ◌+◌, ◌<◌, ◌≤◌, Bool, true, false, ◌||◌, List, [], ◌∷◌, ◌++◌}
 use Rattle.std.proofs.Common.{length, Result, Ok, Err, refl, sym, ap, subst, ◌∙◌, append-nil, arith}
 use Rattle.std.proofs.Common.{inl, inr, ◌⊎◌, true≢false, ne_eqb}
@@ -107,8 +107,8 @@ new_identifier : (a : At) (x y : Item × At) (identifier : Text) → wanted_at 0
 unfolding extension_at new_identifier_at
 new_identifier a x y identifier e f g seen away = rw (e, f, g, away) refl
 
--- A fault before an identifier was read: it is the same behind any extensions, and what stands
--- there is none of their identifiers.
+-- A fault before an identifier was read: it is the same after any extensions, and no extension with
+-- one of their identifiers begins there.
 record Stops (a : At) : Type 0 where
   fault : CertError
   same : (seen : List Text) → extension_at seen a ≡ Err fault
@@ -191,8 +191,8 @@ first_part a = element (wanted_at 0x30 a) refl
 
 -- ---- the loop
 
--- Behind so many extensions that were read whatever their identifiers: where none of these stands
--- twice the others decide as
+-- So many extensions were read, whatever their identifiers: if none of these occurs twice, the
+-- others decide as
 -- the whole list does, and else the list has a repetition.
 pub record Reaches (total : Result At CertError) (list : At) (count : ℕ) (a : At) : Type 0 where
   pub seen : List Text

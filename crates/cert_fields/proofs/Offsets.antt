@@ -7,7 +7,7 @@ use Rattle.byte_formats.specs.Places.{At, IsBytes, at}
 use Rattle.byte_formats.specs.Forms.{IsForm}
 use Rattle.byte_formats.proofs.Steps.{IsBytes-drop}
 
--- The offset behind a field lies from its own offset to the end of the input.
+-- The offset after a field lies from its own offset to the end of the input.
 pub read_within : {X E : Type 0} (encode : X → Text) (Fits : X → Type 0) (Follows : Text
     → Type 0) (read : Reading X E)
     → IsForm encode Fits Follows read → (input : Text) (place : ℕ) → IsBytes input

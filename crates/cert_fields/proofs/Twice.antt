@@ -74,7 +74,7 @@ among_first x xs (y ∷ ys) =
     ∙ or_swap (bytes_eq x y) (is_among y xs) (is_among x ys) (any_among xs ys)
     ∙ ap (λ (b : Bool). (b || is_among x ys) || (is_among y xs || any_among xs ys)) (bytes_flip x y)
 
--- The front is free of repetitions, and has nothing of the back: the back decides.
+-- The prefix is free of repetitions, and shares nothing with the rest: the rest decides.
 pub repeated_behind : (xs ys : List Text) → are_repeated xs ≡ false → any_among xs ys ≡ false
     → are_repeated (xs ++ ys) ≡ are_repeated ys
 repeated_behind [] ys none apart = refl
@@ -86,7 +86,7 @@ repeated_behind (x ∷ xs) ys none apart =
     ∙ or_from (is_among x xs) (is_among x ys) new away in
     rw all (repeated_behind xs ys others more)
 
--- A repetition in the front.
+-- A repetition in the prefix.
 pub repeated_prefix : (xs ys : List Text) → are_repeated xs ≡ true → are_repeated (xs ++ ys) ≡ true
 repeated_prefix [] ys e = absurd (true≢false (sym e))
 repeated_prefix (x ∷ xs) ys e = go (is_among x xs) refl e (repeated_prefix xs ys)
@@ -98,7 +98,7 @@ repeated_prefix (x ∷ xs) ys e = go (is_among x xs) refl e (repeated_prefix xs 
         ∙ ap (λ (b : Bool). b || is_among x ys) same) refl
     go false same all more = or_right (is_among x (xs ++ ys)) (are_repeated (xs ++ ys)) (more all)
 
--- One of the back is among the front.
+-- One of the rest is in the prefix.
 pub repeated_across : (xs ys : List Text) → any_among xs ys ≡ true → are_repeated (xs ++ ys) ≡ true
 repeated_across [] ys e = absurd (true≢false (sym e ∙ among_nothing ys))
 repeated_across (x ∷ xs) ys e = go (is_among x ys) refl (sym (among_first x xs ys)
@@ -111,7 +111,7 @@ repeated_across (x ∷ xs) ys e = go (is_among x ys) refl (sym (among_first x xs
         ∙ or_right (is_among x xs) (is_among x ys) same) refl
     go false same all more = or_right (is_among x (xs ++ ys)) (are_repeated (xs ++ ys)) (more all)
 
--- One more behind a list.
+-- One more at the end of a list.
 pub repeated_push : (xs : List Text) (y : Text)
     → are_repeated (xs ++ y ∷ []) ≡ (are_repeated xs || is_among y xs)
 repeated_push xs y = go (are_repeated xs) (is_among y xs) refl refl
@@ -179,7 +179,7 @@ among_permuted xs ys (z ∷ zs) p =
     (list_any-IsPermutation (λ other. bytes_eq other z) (texts xs) (texts ys) there)
     ∙ ap (λ (b : Bool). is_among z (texts ys) || b) (among_permuted xs ys zs p)
 
--- Of two that are in order and aren't equal the first is less.
+-- The first of two that are in order and aren't equal is less.
 is_less : (a b : Text) → is_lt (slice_cmp nat_cmp b a) ≡ false → bytes_eq a b ≡ false
     → slice_cmp nat_cmp a b ≡ Less
 is_less a b rise differ = go (slice_cmp nat_cmp b a) refl rise
@@ -296,7 +296,7 @@ searched xs x (Err i) rise range found =
           ∙ ap is_eq (parted.1 k d above less)
     ]))
 
--- A block whose front was put in order: what is looked up there was there before.
+-- A block whose prefix was sorted: what is looked up there was there before.
 pub among_prefix : (block sorted : List (Bor Text)) (n : ℕ) (ids : List Text) → n ≤ length block
     → IsPermutation (take n block) sorted
     → any_among (texts (take n (sorted ++ drop n block))) ids ≡ any_among (texts (take n block)) ids

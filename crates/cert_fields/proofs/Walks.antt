@@ -85,7 +85,8 @@ any_end total test n a le so_far = sym (ap (list_any test) (first_none head_at n
 
 -- ---- a block of identifiers
 
--- So many of the identifiers from the old place on are these, and the others follow at the new one.
+-- So many of the identifiers from the old position on are these, and the others follow at the new
+-- one.
 abbrev pub Taken : At → ℕ → List Text → At → Type 0
 Taken old count seen a = (n : ℕ) → identifiers (count + n) old ≡ seen ++ identifiers n a
 
@@ -119,7 +120,7 @@ taken_of old count seen a n le so_far =
     let e : n ≡ count + (n - count) = omega arith in
     ap (λ (m : ℕ). identifiers m old) e ∙ so_far (n - count)
 
--- Where nothing was taken, and no extension reads, there are no identifiers.
+-- There are no identifiers if nothing was taken, and no extension reads.
 pub taken_ends : (old : At) (count : ℕ) (slices : List (Bor Text)) (a : At) (fault : DerError)
     → Taken old count (texts (take count slices)) a
     → head_at a ≡ Err fault → count ≡ 0 → (n : ℕ) → identifiers n old ≡ []

@@ -53,7 +53,7 @@ abbrev pub dns_among : List Item → List Text
 dns_among [] = []
 dns_among (e ∷ es) = if e.tag == dns_name then e.contents ∷ dns_among es else dns_among es
 
--- The dNSNames among elements one behind the other, up to the first that doesn't read.
+-- The dNSNames among elements that stand one after the other, up to the first that doesn't read.
 abbrev pub names_left : At → List Text
 names_left a = dns_among (left_at element_at a)
 

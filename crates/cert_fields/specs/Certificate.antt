@@ -1,4 +1,4 @@
--- A certificate (RFC 5280, section 4.1): its fields one behind the other, with the first fault from
+-- A certificate (RFC 5280, section 4.1): its fields, one after the other, with the first fault from
 -- the left.
 use Rattle.std.specs.Prelude.{ℕ, nat_lt, ◌==◌, ◌||◌, Bool, Result}
 use Rattle.std.specs.Str.{bytes_eq}
@@ -32,7 +32,7 @@ pub record Parts : Type 0 where
 abbrev pub nothing : ℕ → Unit {0}
 nothing n = tt
 
--- Version: 2 stands for version 3 (4.1.2.1). It isn't the default, so it is written.
+-- Version: 2 represents version 3 (4.1.2.1). It isn't the default, so it is written.
 unfoldable pub version_at : Reading (Unit {0}) CertError
 version_at =
     mapped_at nothing (headed_at 0xA0 BadVersion
@@ -49,8 +49,7 @@ is_unique_id rest =
     begins_with 0x81 rest || begins_with 0x82 rest
     || begins_with 0xA1 rest || begins_with 0xA2 rest
 
--- The fields behind the serial number: algorithm, issuer, validity, subject, public key,
--- extensions.
+-- The fields after the serial number: algorithm, issuer, validity, subject, public key, extensions.
 abbrev pub Body : Type 0
 Body = Text × (Text × ((Text × Period) × (Text × (Text × Text))))
 

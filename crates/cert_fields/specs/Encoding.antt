@@ -1,4 +1,4 @@
--- How the parts of a certificate are spelled, one behind the other (RFC 5280, section 4.1).
+-- How the parts of a certificate are encoded, one after the other (RFC 5280, section 4.1).
 use Rattle.std.specs.Prelude.{[], ◌∷◌, ◌++◌}
 use Rattle.byte_formats.specs.Types.{Text}
 use Rattle.der_core.specs.Elements.{element}

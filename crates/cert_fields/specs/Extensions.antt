@@ -54,7 +54,7 @@ is_alt_name x = bytes_eq x.identifier subject_alt_name
 abbrev pub has_its_form : ExtensionFields → Bool
 has_its_form x = if is_alt_name x then are_general_names x.octets else true
 
--- Extension, behind extensions with these identifiers: an identifier, a mark, an OCTET STRING.
+-- Extension, after extensions with these identifiers: an identifier, a mark, an OCTET STRING.
 unfoldable pub extension_at : List Text → Reading ExtensionFields CertError
 extension_at seen =
     inside_at 0x30 (tested_at has_its_form BadExtension
@@ -73,7 +73,7 @@ extension_list_at a = each_at identifier_of extension_at (length a.rest) [] a
 unfoldable pub extension_sequence_at : Reading Text CertError
 extension_sequence_at = whole_at 0x30 (some_at BadExtension extension_list_at)
 
--- The field: extensions behind its tag, or nothing.
+-- The field: extensions after its tag, or nothing.
 unfoldable pub extensions_at : Reading Text CertError
 extensions_at = or_nothing_at 0xA3 (whole_at 0xA3 extension_sequence_at)
 
@@ -102,13 +102,13 @@ any_among seen identifiers = list_any (λ identifier. is_among identifier seen) 
 abbrev pub extensions_left : At → List ExtensionFields
 extensions_left = left_at (extension_at [])
 
--- The place of the first extension in the bytes of the field.
+-- The position of the first extension in the bytes of the field.
 unfoldable pub list_in : Text → Result At DerError
 list_in bytes =
     wanted_at 0xA3 (at bytes 0) >>= λ field.
     wanted_at 0x30 (inside field.0) >>= λ list. Ok (inside list.0)
 
--- The extensions from a place on that was found; none where none was.
+-- The extensions from a position on that was found; none where none was.
 abbrev pub extensions_behind : Result At DerError → List ExtensionFields
 extensions_behind (Ok a) = extensions_left a
 extensions_behind (Err fault) = []

@@ -1,5 +1,5 @@
--- The extensions field of a certificate, spelled from its extensions, and the names that are found
--- in it.
+-- The extensions field of a certificate, as the encoding of its extensions, and the names that are
+-- found in it.
 use Rattle.std.specs.Prelude.{◌≡◌, ℕ, ◌^◌, ◌<◌, ◌⊎◌, ◌==◌, List, [], ◌∷◌, length, if◌then◌else◌}
 use Rattle.std.specs.List.{flat_map, AllByRecursion}
 use Rattle.byte_formats.specs.Types.{Text}

@@ -1,4 +1,4 @@
--- What is written: the parts that are handed in, with the algorithm of Merkle tree proofs.
+-- What is written: the parts that the caller gives, with the algorithm of Merkle tree proofs.
 use Rattle.std.specs.Prelude.{ℕ, ◌+◌, [], ◌∷◌, length}
 use Rattle.byte_formats.specs.Types.{Text}
 use Rattle.cert_time.specs.Times.{validity_element}
@@ -13,7 +13,7 @@ mtc_proof =
     0x30 ∷ 0x0C ∷ 0x06 ∷ 0x0A ∷ 0x2B ∷ 0x06 ∷ 0x01 ∷ 0x04 ∷ 0x01 ∷ 0x82 ∷ 0xDA ∷ 0x4B ∷ 0x2F ∷ 0x00
     ∷ []
 
--- The parts of the certificate that is written, of those that are handed in.
+-- The parts of the certificate that is written, of those that the caller gives.
 abbrev pub given : CertParts → Parts
 given p = record {
   serial = p.serial;

@@ -12,7 +12,7 @@ use Rattle.cert_fields.specs.Extensions.{ExtensionFields, is_among, is_alt_name,
 use Rattle.cert_fields.specs.Certificate.{Parts}
 use Rattle.cert_fields.specs.Encoding.{certificate_fields}
 
--- The bytes are one element with this tag, and its contents spell a value.
+-- The bytes are one element with this tag, and its contents encode a value.
 abbrev pub IsElementOf : {X : Type 0} → ℕ → (X → Text) → (X → Type 0) → Text → Type 0
 IsElementOf tag encode Fits =
     IsEncoding (λ x. element tag (encode x)) (λ x. Fits x × (length (encode x) < 2 ^ 24))
@@ -57,7 +57,7 @@ IsSet = IsElementOf 0x31 (flat_map itself) AreAttributes
 abbrev pub IsName : Text → Type 0
 IsName = IsElementOf 0x30 (flat_map itself) (AllByRecursion IsSet)
 
--- Validity (4.1.2.5): the element that its moments are written as.
+-- Validity (4.1.2.5): the element that its times are written as.
 pub record IsValidity (v : Text × Period) : Type 0 where
   pub period : IsPeriod v.1
   pub encoded : v.0 ≡ validity_element v.1
@@ -90,7 +90,7 @@ mark true = 0x01 ∷ 0x01 ∷ 0xFF ∷ []
 abbrev pub extension_contents : ExtensionFields → Text
 extension_contents x = element 0x06 x.identifier ++ (mark x.critical ++ element 0x04 x.octets)
 
--- Extension (4.1.2.9), behind extensions with these identifiers.
+-- Extension (4.1.2.9), after extensions with these identifiers.
 pub record IsExtension (seen : List Text) (x : ExtensionFields) : Type 0 where
   pub identifier : IsOid x.identifier
   pub new : is_among x.identifier seen ≡ false

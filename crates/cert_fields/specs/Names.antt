@@ -25,6 +25,6 @@ set_at a =
     discarded (up_to_end attribute_at (inside e.0)) >>= λ b.
     der (end_at b) >>= λ done. Ok (e.0.whole, e.1)))
 
--- Name: sets one behind the other, or none.
+-- Name: sets, one after the other, or none.
 unfoldable pub name_at : Reading Text CertError
 name_at = whole_at 0x30 (up_to_end set_at)

@@ -14,7 +14,7 @@ use Rattle.cert_time.specs.Times.{time_moment}
 abbrev pub tag_wanted : Text → ℕ
 tag_wanted rest = if begins_with 0x18 rest then 0x18 else 0x17
 
--- Time: the moment that its contents name.
+-- Time: the time that its contents name.
 unfoldable pub time_at : Reading ℤ CertError
 time_at a =
     der (wanted_at (tag_wanted a.rest) a) >>= λ e.
@@ -24,6 +24,6 @@ time_at a =
 abbrev pub from_to : ℤ × ℤ → Period
 from_to v = record { not_before = v.0; not_after = v.1 }
 
--- Validity: a SEQUENCE of two times, with the bytes that spell it.
+-- Validity: a SEQUENCE of two times, with the bytes that encode it.
 unfoldable pub validity_at : Reading (Text × Period) CertError
 validity_at = noted_at 0x30 (mapped_at from_to (both_at time_at time_at))

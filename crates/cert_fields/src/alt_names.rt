@@ -74,7 +74,7 @@ fn general_names<'a>(reader: &mut Reader<'a>) -> Result<&'a [u8], CertError>
     Ok(outer.whole)
 }
 
-/// The octets are GeneralNames, and nothing stands behind them.
+/// The octets are GeneralNames, and nothing follows them.
 #[tactic(auto, unfolding(crate::specs::AltNames::are_general_names))]
 pub fn is_general_names(octets: &[u8]) -> bool
     ensures { result ≡ are_general_names octets.now }

@@ -25,7 +25,7 @@ use cert_time::Validity;
 use der_core::tags::{INTEGER, SEQUENCE};
 use der_core::{CertError, Reader, unsigned};
 
-/// The fields behind the serial number.
+/// The fields after the serial number.
 #[derive(Clone, Copy)]
 pub struct Fields<'a> {
     pub algorithm: &'a [u8],
@@ -49,8 +49,7 @@ fn version(reader: &mut Reader) -> Result<(), CertError>
     Ok(())
 }
 
-/// The version has to be 3, which is written as 2. After a refusal the reader stands where it
-/// stood.
+/// The version has to be 3, which is written as 2. A refusal leaves the reader where it was.
 #[tactic(auto, unfolding(crate::specs::Certificate::version_at))]
 pub fn read_version(reader: &mut Reader) -> Result<(), CertError>
     ensures { Reads (λ x. x) version_at reader.old result reader.new }
@@ -123,7 +122,7 @@ fn behind_validity<'a>(reader: &mut Reader<'a>) -> Result<(&'a [u8], &'a [u8], &
     Ok((subject, spki, extensions))
 }
 
-// What is signed: the serial number, and the fields behind it.
+// What is signed: the serial number, and the fields after it.
 #[tactic(auto, unfolding(crate::specs::Certificate::tbs_at))]
 fn tbs<'a>(reader: &mut Reader<'a>) -> Result<(u64, Fields<'a>), CertError>
     ensures { Moves (λ t. (tt, (t.0, body t.1))) tbs_at reader.old result reader.new }
@@ -188,15 +187,15 @@ fn whole<'a>(bytes: &'a [u8]) -> Result<Cert<'a>, CertError>
 
 /// Reads a certificate, without taking memory.
 ///
-/// The first fault from the left is answered, an outer element before its parts. Beside the faults
-/// of elements these are, in the order of the fields: `BadVersion` where the version is absent or
-/// isn't 3; `BadSerial` where the serial number isn't from 1 to 2 ^ 64 - 1; `BadName` where a set
-/// of a name is empty; `BadTime` where a time is out of its form; `UniqueId` where a unique
-/// identifier stands behind the public key; `RepeatedExtension` and `BadExtension` as in
+/// The first fault from the left is answered, an outer element before its parts. In addition to the
+/// faults of elements these are, in the order of the fields: `BadVersion` where the version is
+/// absent or isn't 3; `BadSerial` where the serial number isn't from 1 to 2 ^ 64 - 1; `BadName`
+/// where a set of a name is empty; `BadTime` where a time is out of its form; `UniqueId` where a
+/// unique identifier follows the public key; `RepeatedExtension` and `BadExtension` as in
 /// [`check_extensions`](crate::check_extensions); `AlgorithmsDiffer` where the algorithm beside the
 /// signature isn't the one that is signed; `BadBits` where the signature has unused bits;
-/// `Trailing` with the offset of what stands behind the last field of a constructed element or of
-/// the certificate.
+/// `Trailing` with the offset of what follows the last field of a constructed element or of the
+/// certificate.
 pub fn parse<'a>(bytes: &'a [u8]) -> Result<Cert<'a>, CertError>
     ensures found { IfOk result
         (λ c. (bytes.now ≡ certificate (parts c)) × IsCertificate (parts c)) }

@@ -1,4 +1,4 @@
-//! One field in a longer input. The places of refusals count in the whole input.
+//! One field in a longer input. The offsets of refusals count in the whole input.
 
 ghost use Rattle.std.specs.Prelude.{◌≡◌, ◌↔◌, ◌≤◌, length, IfOk, IsTrue};
 ghost use Rattle.byte_formats.specs.Places.{at};
@@ -21,8 +21,8 @@ use cert_time::Validity;
 use der_core::{CertError, Reader};
 
 /// Reads the version with its outer tag A0 (RFC 5280, section 4.1.2.1) at this offset and answers
-/// the offset behind it. Beside the faults of its elements, another tag and another version than 3,
-/// which is written as 2, are `BadVersion`.
+/// the offset after it. In addition to the faults of its elements, another tag and another version
+/// than 3, which is written as 2, are `BadVersion`.
 pub fn check_version(input: &[u8], place: usize) -> Result<usize, CertError>
     requires { place ≤ length input.now }
     ensures exact { Gives (λ p. p) result (place_behind (version_at (at input.now place))) }
@@ -33,8 +33,8 @@ pub fn check_version(input: &[u8], place: usize) -> Result<usize, CertError>
     Ok(reader.place())
 }
 
-/// Reads a Name (RFC 5280, section 4.1.2.4) at this offset and answers the offset behind it. Beside
-/// the faults of its elements, a set that is empty is `BadName`.
+/// Reads a Name (RFC 5280, section 4.1.2.4) at this offset and answers the offset after it. In
+/// addition to the faults of its elements, a set that is empty is `BadName`.
 pub fn check_name(input: &[u8], place: usize) -> Result<usize, CertError>
     requires { place ≤ length input.now }
     ensures exact { Gives (λ p. p) result (place_behind (name_at (at input.now place))) }
@@ -45,8 +45,8 @@ pub fn check_name(input: &[u8], place: usize) -> Result<usize, CertError>
     Ok(reader.place())
 }
 
-/// Reads a Validity (RFC 5280, section 4.1.2.5) at this offset and answers its moments and the
-/// offset behind it. Beside the faults of its elements, a time out of its form is `BadTime`.
+/// Reads a Validity (RFC 5280, section 4.1.2.5) at this offset and answers its times and the offset
+/// after it. In addition to the faults of its elements, a time out of its form is `BadTime`.
 pub fn check_validity(input: &[u8], place: usize) -> Result<(Validity, usize), CertError>
     requires { place ≤ length input.now }
     ensures exact { Gives (λ v. (period v.0, v.1)) result
@@ -59,7 +59,7 @@ pub fn check_validity(input: &[u8], place: usize) -> Result<(Validity, usize), C
 }
 
 /// Reads a SubjectPublicKeyInfo (RFC 5280, section 4.1.2.7) at this offset and answers the offset
-/// behind it.
+/// after it.
 pub fn check_spki(input: &[u8], place: usize) -> Result<usize, CertError>
     requires { place ≤ length input.now }
     ensures exact { Gives (λ p. p) result (place_behind (spki_at (at input.now place))) }
@@ -70,8 +70,8 @@ pub fn check_spki(input: &[u8], place: usize) -> Result<usize, CertError>
     Ok(reader.place())
 }
 
-/// Whether the bytes are one SubjectPublicKeyInfo (RFC 5280, section 4.1.2.7), and nothing stands
-/// behind it.
+/// Whether the bytes are one SubjectPublicKeyInfo (RFC 5280, section 4.1.2.7), and nothing follows
+/// it.
 pub fn is_public_key(bytes: &[u8]) -> bool
     ensures exact { result ≡ is_public_key bytes.now }
     ensures meaning { IsTrue result ↔ IsPublicKey bytes.now }
@@ -80,7 +80,7 @@ pub fn is_public_key(bytes: &[u8]) -> bool
 }
 
 /// Reads an AlgorithmIdentifier (RFC 5280, section 4.1.1.2) at this offset and answers the offset
-/// behind it.
+/// after it.
 pub fn check_algorithm(input: &[u8], place: usize) -> Result<usize, CertError>
     requires { place ≤ length input.now }
     ensures exact { Gives (λ p. p) result (place_behind (algorithm_at (at input.now place))) }
@@ -92,10 +92,10 @@ pub fn check_algorithm(input: &[u8], place: usize) -> Result<usize, CertError>
 }
 
 /// Reads the extensions with their outer tag A3 (RFC 5280, section 4.1.2.9) at this offset and
-/// answers the offset behind them. Where another tag or none stands there they are absent, and the
-/// answer is the offset itself. Beside the faults of elements, a second extension with the same
-/// identifier is `RepeatedExtension`, and an empty list, a BOOLEAN of FALSE or a subjectAltName out
-/// of its form is `BadExtension`.
+/// answers the offset after them. If the field begins with another tag or nothing is left, the
+/// extensions are absent, and the answer is the offset itself. In addition to the faults of
+/// elements, a second extension with the same identifier is `RepeatedExtension`, and an empty list,
+/// a BOOLEAN of FALSE or a subjectAltName out of its form is `BadExtension`.
 pub fn check_extensions(input: &[u8], place: usize) -> Result<usize, CertError>
     requires { place ≤ length input.now }
     ensures exact { Gives (λ p. p) result (place_behind (extensions_at (at input.now place))) }

@@ -63,7 +63,7 @@ fn has_form(extension: &Extension) -> bool
     !is_subject_alt_name(extension.identifier) || is_general_names(extension.octets)
 }
 
-// The parts of an extension, one behind the other.
+// The parts of an extension, one after the other.
 fn extension_parts<'a>(reader: &mut Reader<'a>) -> Result<Extension<'a>, CertError>
     ensures { Moves extension_fields (mapped_at to_extension (both_at (new_identifier_at [])
         (both_at critical_at (contents_at 0x04)))) reader.old result reader.new }
@@ -108,7 +108,7 @@ fn first_fault(list: &Reader, count: usize, fault: CertError) -> CertError
 
 // Extensions with different identifiers, up to the end. First each is read, whatever its
 // identifier, up to the first fault; then the identifiers are compared, that of the fault's
-// extension too, since a repetition is told before what stands behind the identifier.
+// extension too, since a repetition is reported before a fault in what follows the identifier.
 fn extension_list(reader: &mut Reader) -> Result<(), CertError>
     requires { length reader.old.rest < 2 ^ 64 }
     ensures ok { OnOk result (discarded (extension_list_at reader.old) ≡ Ok reader.new) }
@@ -144,8 +144,8 @@ fn extension_sequence<'a>(reader: &mut Reader<'a>) -> Result<&'a [u8], CertError
     Ok(outer.whole)
 }
 
-/// The extensions with their outer tag, or no bytes where another tag stands. After a refusal the
-/// reader stands where it stood.
+/// The extensions with their outer tag, or no bytes where another tag stands. A refusal leaves the
+/// reader where it was.
 #[tactic(auto, unfolding(crate::specs::Extensions::extensions_at))]
 pub fn read_extensions<'a>(reader: &mut Reader<'a>) -> Result<&'a [u8], CertError>
     ensures { Reads (λ bytes. bytes.now) extensions_at reader.old result reader.new }
@@ -173,8 +173,8 @@ fn list_of(extensions: &[u8]) -> Result<Reader<'_>, DerError>
 }
 
 /// Whether the bytes of the extensions field hold a critical extension other than subjectAltName,
-/// basicConstraints, keyUsage and extKeyUsage. Bytes that aren't in the field's grammar are looked
-/// at up to the first extension that doesn't read.
+/// basicConstraints, keyUsage and extKeyUsage. Bytes that aren't in the field's grammar are read up
+/// to the first extension that has a fault.
 pub fn unknown_critical(extensions: &[u8]) -> bool
     ensures { result ≡ has_unknown_critical extensions.now }
 {
@@ -203,15 +203,22 @@ fn any_unknown_critical(list: Reader) -> bool
     false
 }
 
-/// The dNSNames of a certificate in their order (RFC 5280, section 4.2.1.6); none where it has no
-/// subjectAltName.
-pub fn dns_names<'a>(cert: &Cert<'a>) -> DnsNames<'a>
-    ensures { result ≡ dns_names_in cert.now.extensions.now }
+/// The dNSNames in the DER of extensions, in their order (RFC 5280, section 4.2.1.6); none where
+/// there is no subjectAltName.
+pub fn names_of<'a>(extensions: &'a [u8]) -> DnsNames<'a>
+    ensures { result ≡ dns_names_in extensions.now }
 {
-    match list_of(cert.extensions) {
+    match list_of(extensions) {
         Ok(list) => DnsNames::of(alt_name(list)),
         Err(_) => DnsNames::of(&[]),
     }
+}
+
+/// The dNSNames of a certificate in their order; none where it has no subjectAltName.
+pub fn dns_names<'a>(cert: &Cert<'a>) -> DnsNames<'a>
+    ensures { result ≡ dns_names_in cert.now.extensions.now }
+{
+    names_of(cert.extensions)
 }
 
 // The octets of the first subjectAltName, or no octets.

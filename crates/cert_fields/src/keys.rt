@@ -47,7 +47,7 @@ pub fn spki<'a>(reader: &mut Reader<'a>) -> Result<&'a [u8], CertError>
     Ok(outer.whole)
 }
 
-/// The bytes are one subjectPublicKeyInfo, and nothing stands behind it.
+/// The bytes are one subjectPublicKeyInfo, and nothing follows it.
 #[tactic(auto, unfolding(crate::specs::Keys::is_public_key))]
 pub fn reads_as_key(bytes: &[u8]) -> bool
     ensures { result ≡ is_public_key bytes.now }

@@ -22,7 +22,7 @@ ghost use Rattle.cert_fields.specs.Grammar.{IsAlgorithm, IsPublicKey, IsName, Is
 ghost use Rattle.cert_fields.specs.Grammar.{IsSignatureValue, IsGeneralNames, AreExtensions};
 ghost use Rattle.cert_fields.specs.Grammar.{IsExtensionsField, IsCertificate};
 
-/// Algorithms, public keys, names, validities and signatures are read exactly from their spellings,
+/// Algorithms, public keys, names, validities and signatures are read exactly from their encodings,
 /// whatever follows.
 pub fn law_fields_decode_as_encoded()
     ensures algorithms { IsForm itself IsAlgorithm Anything algorithm_at }
@@ -33,8 +33,8 @@ pub fn law_fields_decode_as_encoded()
         signature_at }
 {}
 
-/// The extensions field is read exactly from its spelling where nothing with its tag follows, and
-/// the octets of a subjectAltName pass exactly where they are general names.
+/// The extensions field is read exactly from its encoding where nothing with its tag follows, and
+/// the octets of a subjectAltName pass exactly if they are general names.
 pub fn law_extensions_decode_as_encoded()
     ensures field { IsForm itself (λ bytes. (bytes ≡ []) ⊎ IsExtensionsField bytes)
         (λ rest. Anything rest × OtherThan 0xA3 rest) extensions_at }
@@ -43,7 +43,7 @@ pub fn law_extensions_decode_as_encoded()
     ensures again { (octets : Text) → IsGeneralNames octets → are_general_names octets ≡ true }
 {}
 
-/// In the field that is spelled from extensions just these are found, in their order; and in a
+/// In the field that encodes extensions just these are found, in their order; and in a
 /// subjectAltName just its dNSNames.
 pub fn law_extensions_are_found()
     ensures extensions { (xs : List ExtensionFields) → AreExtensions xs
@@ -52,11 +52,11 @@ pub fn law_extensions_are_found()
         → names_in octets ≡ dns_only ns }
 {}
 
-/// What [`dns_names`](crate::dns_names) and [`unknown_critical`](crate::unknown_critical) tell of a
-/// certificate's field. It is the spelling of some extensions, of none where it is absent, and the
-/// octets of a subjectAltName are those of some names. The dNSNames are those of the one
-/// subjectAltName, none without it; and an unknown extension that is critical is told exactly where
-/// one of the extensions is.
+/// What [`dns_names`](crate::dns_names) and [`unknown_critical`](crate::unknown_critical) answer
+/// for a certificate's field. The field is the encoding of some extensions, of none if it is
+/// absent, and the octets of a subjectAltName are those of some names. The dNSNames are those of
+/// the one subjectAltName, none without it; and an unknown extension that is critical is reported
+/// exactly if one of the extensions is such.
 pub fn law_names_and_marks_are_found()
     ensures field { (field : Text) → (field ≡ []) ⊎ IsExtensionsField field
         → (xs : List ExtensionFields) × AreExtensionsOf field xs }
@@ -71,7 +71,7 @@ pub fn law_names_and_marks_are_found()
         → has_unknown_critical field ≡ list_any is_unknown_critical xs }
 {}
 
-/// What is read as a certificate is spelled as one, and the spelling of each certificate is read as
+/// What is read as a certificate is its encoding, and the encoding of each certificate is read as
 /// its parts.
 pub fn law_certificates_decode_as_encoded()
     ensures only { (bytes : Text) (p : Parts) → IsBytes bytes → parts_of bytes ≡ Ok p
@@ -79,7 +79,7 @@ pub fn law_certificates_decode_as_encoded()
     ensures again { (p : Parts) → IsCertificate p → parts_of (certificate p) ≡ Ok p }
 {}
 
-/// A certificate has one spelling, and no certificate begins another one.
+/// A certificate has one encoding, and no certificate begins another one.
 pub fn law_one_encoding()
     ensures { (p q : Parts) (s t : Text) → IsCertificate p → IsCertificate q
         → certificate p ++ s ≡ certificate q ++ t → (p ≡ q) × (s ≡ t) }

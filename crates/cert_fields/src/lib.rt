@@ -4,11 +4,11 @@
 //!
 //! It is stricter than the standard: serial numbers are below 2 ^ 64, and unique identifiers are
 //! refused. It is laxer where the standard leaves a type open: the contents of such an element
-//! aren't looked into, nor are those of the algorithm beside the signature. The order of both times
-//! and an empty subject are left to the caller.
+//! aren't read, nor are those of the algorithm beside the signature. The order of both times and an
+//! empty subject are left to the caller.
 //!
 //! No clause says how long the comparison of a list's extensions takes, nor that the block that is
-//! lent to it is filled.
+//! borrowed for it is filled.
 #![tactic(auto)]
 
 mod alt_names;
@@ -33,7 +33,7 @@ pub use checks::{
     check_algorithm, check_extensions, check_name, check_spki, check_validity, check_version,
     is_public_key,
 };
-pub use extensions::{dns_names, read_extensions, unknown_critical};
+pub use extensions::{dns_names, names_of, read_extensions, unknown_critical};
 pub use identifiers::{MTC_PROOF, SUBJECT_ALT_NAME};
 pub use names::read_name;
 pub use parts::CertParts;

@@ -62,7 +62,7 @@ fn sets(reader: &mut Reader) -> Result<(), CertError>
     Ok(())
 }
 
-/// A Name: a SEQUENCE of sets of attributes. After a refusal the reader stands where it stood.
+/// A Name: a SEQUENCE of sets of attributes. A refusal leaves the reader where it was.
 #[tactic(auto, unfolding(crate::specs::Names::name_at))]
 pub fn read_name<'a>(reader: &mut Reader<'a>) -> Result<&'a [u8], CertError>
     ensures { Reads (λ bytes. bytes.now) name_at reader.old result reader.new }

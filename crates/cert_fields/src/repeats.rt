@@ -1,7 +1,7 @@
 //! Whether extensions have one identifier twice. The identifiers are taken in blocks: a block is
-//! sorted, and what stands behind it is looked up there, so that no memory is taken. A list of few
+//! sorted, and those that follow it are looked up in it, so that no memory is taken. A list of few
 //! extensions pays for a small block. The time grows with the square of the number of blocks alone,
-//! and there are more than four only where they are as large as blocks get.
+//! and there are more than four only if they are as large as blocks get.
 
 ghost use Rattle.std.specs.Prelude.{◌≡◌, ℕ, ◌+◌, ◌*◌, ◌<◌, ◌≤◌, ◌⊎◌, ◌++◌, []};
 ghost use Rattle.std.specs.Prelude.{length, take, OnOk};
@@ -24,7 +24,7 @@ const LARGE: usize = 32768;
 // A list of more blocks than these is taken in larger ones.
 const FEW_BLOCKS: usize = 4;
 
-// The identifier of the next extension, whose other parts aren't looked into.
+// The identifier of the next extension, whose other parts aren't read.
 #[tactic(auto, unfolding(crate::specs::Extensions::head_at))]
 fn head<'a>(reader: &mut Reader<'a>) -> Result<&'a [u8], DerError>
     ensures exact { Moves (λ bytes. bytes.now) head_at reader.old result reader.new }
@@ -36,7 +36,7 @@ fn head<'a>(reader: &mut Reader<'a>) -> Result<&'a [u8], DerError>
     Ok(identifier.contents)
 }
 
-// Takes the identifiers of extensions one behind the other into a block, as many as it holds, at
+// Takes the identifiers of extensions, one after the other, into a block, as many as it holds, at
 // most so many, and up to one that doesn't read. Answers their number.
 fn take_block<'a>(reader: &mut Reader<'a>, block: &mut [&'a [u8]], most: usize) -> usize
     ensures len { length block.new ≡ length block.old }
@@ -116,7 +116,7 @@ fn is_met(block: &[&[u8]], list: &Reader, count: usize) -> bool
 }
 
 // Whether two of the first `count` extensions of the list have the same identifier, by the block
-// that is lent.
+// that is borrowed.
 fn has_repeats_by<'a>(list: &Reader<'a>, count: usize, block: &mut [&'a [u8]]) -> bool
     requires some { 0 < length block.old }
     requires few_or_large { (count ≤ 4 * length block.old) ⊎ (length block.old ≡ 32768) }

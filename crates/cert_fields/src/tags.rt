@@ -1,4 +1,4 @@
-//! Tags of one byte that have their meaning in one place of a certificate (RFC 5280).
+//! Tags of one byte that have their meaning in one field of a certificate (RFC 5280).
 
 /// The version, `[0]` of TBSCertificate (section 4.1.2.1).
 pub const VERSION: u8 = 0xA0;

@@ -10,7 +10,7 @@ use cert_time::{GENERALIZED_TIME, UTC_TIME, Validity, read_time};
 use der_core::tags::SEQUENCE;
 use der_core::{CertError, Reader};
 
-// The moment of a UTCTime or a GeneralizedTime; `BadTime` where its contents aren't in their form.
+// The time of a UTCTime or a GeneralizedTime; `BadTime` where its contents aren't in their form.
 #[tactic(auto, unfolding(crate::specs::Times::time_at))]
 fn time(reader: &mut Reader) -> Result<i64, CertError>
     ensures exact { Moves (λ z. z) time_at reader.old result reader.new }
@@ -28,7 +28,7 @@ fn time(reader: &mut Reader) -> Result<i64, CertError>
     }
 }
 
-/// A validity as its bytes and its moments. After a refusal the reader stands where it stood.
+/// A validity as its bytes and its times. A refusal leaves the reader where it was.
 #[tactic(auto, unfolding(crate::specs::Times::validity_at))]
 pub fn read_validity<'a>(reader: &mut Reader<'a>) -> Result<(&'a [u8], Validity), CertError>
     ensures { Reads (λ v. (v.0.now, period v.1)) validity_at reader.old result reader.new }

@@ -18,11 +18,11 @@ use std::alloc::Global;
 const VERSION_3: [u8; 5] = [0xA0, 0x03, 0x02, 0x01, 0x02];
 
 /// Writes a certificate (RFC 5280, section 4.1) whose algorithm is that of Merkle tree proofs. The
-/// parts have at most 16,000,000 bytes together. Want of memory is the only refusal.
+/// parts have at most 16,000,000 bytes together. The call refuses only if memory runs out.
 ///
-/// The parts are put together as they are. Where they are those of a certificate, which has a
-/// serial number from 1 on and elements in the grammar of their fields, [`parse`](crate::parse)
-/// reads them again from what is written.
+/// The parts are put together as they are. [`parse`](crate::parse) reads them again from what is
+/// written if they are those of a certificate, which has a serial number from 1 on and elements in
+/// the grammar of their fields.
 pub fn write(alloc: Global, parts: &CertParts) -> Result<Bytes, Memory>
     requires short { size_of parts.now ≤ 16000000 }
     ensures exact { IfOk result (λ bytes. bytes ≡ certificate (given parts.now)) }

@@ -1,4 +1,4 @@
--- A run is answered with what was found exactly where the new entries lead on.
+-- A run is answered with what was found exactly if the new entries lead on.
 use Rattle.std.proofs.Common.{◌≡◌, ℕ, ◌+◌, ◌-◌, Bool, true, false, List, ◌++◌, length, refl, sym}
 use Rattle.std.proofs.Common.{ap, ◌∙◌, subst, arith}
 use Rattle.std.specs.Prelude.{◌==◌, not, nat_le, if◌then◌else◌, map, Option, Some, None, Ok, is_ok}
@@ -74,7 +74,7 @@ module _ (h : HashFunction) (s : MonitorState) (log : Text) (size : ℕ) (root :
       let found = all.found in
       rw (id, newer, count, shown, found) refl
 
--- an answer is Ok exactly where nothing is refused
+-- an answer is Ok exactly if nothing is refused
 ok_none : {A E : Type 0} (refusal : Option E) (x : A)
     → is_ok (answer_of refusal >>= λ passed. Ok x) ≡ true → refusal ≡ None
 ok_none None x is = refl

@@ -1,4 +1,4 @@
--- A name under a domain, by its length and the byte in front of the domain.
+-- A name under a domain, by its length and the byte before the domain.
 use Rattle.std.proofs.Common.{◌≡◌, ◌≢◌, ℕ, ◌+◌, ◌-◌, ◌<◌, ◌≤◌, Bool, true, false, ◌&&◌, ◌||◌, ◌∷◌}
 use Rattle.std.proofs.Common.{length, drop, get_or, refl, sym, ap, ◌∙◌, arith}
 use Rattle.std.specs.Prelude.{◌==◌, nat_eq, map, bytes_eq}
@@ -80,7 +80,7 @@ is_under-long name domain dot longer is =
     ∙ ap (λ b. (get_or name dot 0 == 0x2E) && b)
     (turned (str_to_ascii_lowercase domain) (str_to_ascii_lowercase (drop (dot + 1) name))))
 
--- a longer one with a dot in front of its end, and with another byte there
+-- a longer one with a dot before its end, and with another byte there
 pub is_under-dot : (name domain part : Text) (dot : ℕ) → length domain < length name
     → dot ≡ length name - length domain - 1 → get_or name dot 0 ≡ 0x2E → part ≡ drop (dot + 1) name
     → str_eq_ignore_ascii_case part domain ≡ is_under name domain

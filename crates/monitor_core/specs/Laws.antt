@@ -31,7 +31,7 @@ pub record HasReported (h : HashFunction) (kept : MonitorState) (watch old new :
   pub state : IsStateOf h (old ++ new) found.state
 
 -- The empty list has the state without entries. For every list that has the state, and all new
--- entries: the answer is Ok exactly where they lead on, and then this was found.
+-- entries: the answer is Ok exactly if they lead on, and then this was found.
 pub record MonitorIsExact (h : HashFunction) : Type 0 where
   pub empty : (log : Text) → IsStateOf h [] (empty_state log)
   pub ok : (kept : MonitorState) (watch : List Text) (log : Text) (size : ℕ) (root : Hash)

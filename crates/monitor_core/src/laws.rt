@@ -10,10 +10,10 @@ use tree_core::TreeHash;
 
 /// The law of one run, for every hash function. The empty list has the state without entries. For
 /// every list that has the state, and all new entries, a run is answered with what was found, or
-/// with `Memory`, exactly where the ids are equal, the size is that of the list with the new
-/// entries and above that of the list, the proof passes, or has no hash where the list has no
-/// entry, and the list with the new entries has the root. Then the lines are the report of the new
-/// entries, and the state is that of the list with them.
+/// with `Memory`, exactly if the ids are equal, the size is that of the list with the new entries
+/// and above that of the list, the proof passes, or has no hash where the list has no entry, and
+/// the list with the new entries has the root. Then the lines are the report of the new entries,
+/// and the state is that of the list with them.
 pub fn law_monitors_are_exact()
     ensures { (h : HashFunction) → MonitorIsExact h }
 {}

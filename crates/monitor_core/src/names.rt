@@ -2,11 +2,8 @@
 
 ghost use Rattle.std.specs.Prelude.{◌≡◌};
 ghost use Rattle.std.specs.Str.{str_eq_ignore_ascii_case};
-ghost use Rattle.cert_fields.specs.Extensions.{dns_names_in};
 ghost use Rattle.monitor_core.specs.Report.{is_under, is_watched};
 
-use cert_fields::{Cert, DnsNames, dns_names};
-use log_entry::TbsEntry;
 use mtc_io::Bytes;
 
 // The same bytes, with A to Z taken as a to z.
@@ -32,21 +29,4 @@ pub(crate) fn is_watched(watch: &[Bytes], name: &[u8]) -> bool
     ensures { result ≡ is_watched watch.now name.now }
 {
     watch.iter().any(|domain| is_under(name, domain.as_slice()))
-}
-
-// The dNSNames of an entry in their order: those of a certificate with its extensions.
-pub(crate) fn names_of<'a>(tbs: &TbsEntry<'a>) -> DnsNames<'a>
-    ensures { result ≡ dns_names_in tbs.now.extensions.now }
-{
-    dns_names(&Cert {
-        serial: 0,
-        issuer: tbs.issuer,
-        validity: tbs.validity,
-        validity_der: tbs.validity_der,
-        subject: tbs.subject,
-        spki: &[],
-        extensions: tbs.extensions,
-        algorithm: &[],
-        proof: &[],
-    })
 }

@@ -5,8 +5,8 @@ ghost use Rattle.monitor_core.specs.Report.{lines_of, matches_of, report_of};
 ghost use Rattle.monitor_core.specs.declared.lines.Line.TheVariants.{Match};
 
 use crate::lines::Line;
-use crate::names::{is_watched, names_of};
-use cert_fields::DnsNames;
+use crate::names::is_watched;
+use cert_fields::{DnsNames, names_of};
 use log_entry::{Entry, read_entry};
 use mtc_io::{Bytes, Memory};
 use std::alloc::Global;
@@ -59,7 +59,7 @@ fn put_entry(
 {
     match read_entry(entry) {
         Ok(Entry::Null) => Ok(()),
-        Ok(Entry::Tbs(tbs)) => put_matches(alloc, lines, watch, index, names_of(&tbs)),
+        Ok(Entry::Tbs(tbs)) => put_matches(alloc, lines, watch, index, names_of(tbs.extensions)),
         Err(_fault) => push(lines, Line::Unread { index }),
     }
 }

@@ -4,7 +4,7 @@ use Rattle.cert_fields.specs.Extensions.{extension_list_at}
 use Rattle.cert_fields.proofs.Many.{Reaches}
 use Rattle.cert_fields.proofs.extensions.extension_list.Given as goal
 
--- Behind the first extensions of the list, the others decide as the whole list does, unless an
+-- After the first extensions of the list, the others decide as the whole list does, unless an
 -- identifier stood twice.
 abbrev pub invariant-loop-count : goal.invariant-loop-count
 invariant-loop-count l = Reaches (discarded (extension_list_at l.fn.reader)) l.list l.count l.reader

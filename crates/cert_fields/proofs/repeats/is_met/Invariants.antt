@@ -3,8 +3,7 @@ use Rattle.cert_fields.specs.Views.{texts}
 use Rattle.cert_fields.proofs.Walks.{StillAny}
 use Rattle.cert_fields.proofs.repeats.is_met.Given as goal
 
--- The extensions that are left to look at have an identifier of the block where all of them have
--- one.
+-- The extensions that are left to read have an identifier of the block if all of them have one.
 abbrev pub invariant-loop-left : goal.invariant-loop-left
 invariant-loop-left l =
     StillAny (any_among (texts l.fn.block) (identifiers l.fn.count l.fn.list))
