@@ -119,12 +119,15 @@ pub data Happening (Turn R : Type 0) : Type 0 where
   writes : R → Happening Turn R
 
 module _ (p : Program) where
+  -- A run of the program.
   abbrev pub RunOf : Type 0
   RunOf = Run p.R p.O p.E
 
+  -- What happens to the program's files.
   abbrev pub HappeningOf : Type 0
   HappeningOf = Happening RunOf p.R
 
+  -- Somebody may have read a byte of its answer.
   abbrev pub heard_of : RunOf → Bool
   heard_of run =
       may_be_heard run.status (p.world.outs.taken run.out) (p.world.outs.taken run.out_after)
@@ -181,6 +184,8 @@ pub record FileOwner (p : Program) : Type 1 where
   pub Cuts : p.R → RunOf p → p.R → Type 0
 
 module _ (p : Program) (o : FileOwner p) where
+  -- It happens to these files: a run does what the program's runs do, and what breaks a run off or
+  -- changes files leaves what it may leave.
   abbrev pub IsHappening : p.R → HappeningOf p → Type 0
   IsHappening old (turned run) = p.HasRun old run
   IsHappening old (died run room) =
