@@ -1,5 +1,4 @@
--- The records of an item, of a landmark and of tiles: what they make, and what there is to be for
--- them.
+-- The records of an item, of a landmark and of tiles: what they make, and which capacity they need.
 use Rattle.std.proofs.Common.{◌≡◌, ℕ, ◌+◌, ◌%◌, ◌^◌, ◌<◌, ◌≤◌, length, Some, None}
 use Rattle.std.proofs.Common.{ap, sym, subst, ◌∙◌, true, arith}
 use Rattle.std.proofs.lemmas.Option.{same_Some}
@@ -113,7 +112,7 @@ module _ (h : HashFunction) (v : LogView) (size : ℕ) (fits : size < 2 ^ 64)
         takes = tiles_taken_as.shows;
       })
 
--- ---- what there is to be for them
+-- ---- which capacity they need
 
 module _ {H T : Type 0} {hashes : Hashes H} {k : Ghosts T} (numbers : LogNumbers)
     (items : Items H T hashes k) (text : Text) where

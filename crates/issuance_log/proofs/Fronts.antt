@@ -1,4 +1,4 @@
--- The durable records are the first of those that a journal's disk tells.
+-- The durable records are a prefix of those in the bytes of a journal's disk.
 use Rattle.std.proofs.Common.{◌≡◌, ℕ, ◌+◌, List, [], ◌∷◌, ◌++◌, length, Option, Some, None, IfSome}
 use Rattle.std.proofs.Common.{option_map, Result, append_assoc, refl, ap, sym, subst, ◌∙◌}
 use Rattle.std.specs.Prelude.{OnOk}
@@ -9,8 +9,8 @@ use Rattle.journal_core.specs.Format.{AreRecordsAt, IsClosedAt, Represents, behi
 use Rattle.journal_core.proofs.Records.{body_found}
 use Rattle.issuance_log.specs.Places.{IsPlaced}
 
--- Of two lists of records that stand in the same bytes, one is the prefix of the other, after which
--- stands a closed commit byte.
+-- Of two lists of records in the same bytes, the one that a closed commit byte follows begins with
+-- the other.
 front : (bytes : Text) (place : ℕ) (list all : List Text) → AreRecordsAt bytes place list
     → AreRecordsAt bytes place all → IsClosedAt bytes (behind place all)
     → (rest : List Text) × (all ≡ list ++ rest)
@@ -27,7 +27,7 @@ front bytes place (body ∷ bodies) (other ∷ others) are stand closed =
       ap (λ (b : Text). b ∷ others) same ∙ ap (λ (l : List Text). body ∷ l) more.1,
     )
 
--- what stands at a place in the prefix stands there in all of them
+-- the item at an offset of the prefix is at this offset of the whole list
 placed_front : (list all rest : List Text) (place : ℕ) (item : Text × Text) → all ≡ list ++ rest
     → IsPlaced list place item → IsPlaced all place item
 placed_front list all rest place item is at = record {
@@ -40,7 +40,7 @@ placed_front list all rest place item is at = record {
   is = at.is;
 }
 
--- So what is read of the records that are reported is read of the durable ones.
+-- So what is read of all records in the bytes is read of the durable ones.
 read_front : (contents : Option Text) (end place : ℕ) (wanted : Text × Text)
     → ((b : Text) → contents ≡ Some b → Represents b (records_of b))
     → ((b : Text) → contents ≡ Some b → AreDurable end b)

@@ -179,7 +179,7 @@ module _ {D T : Type 0} (g : Ghosts D) (k : Ghosts T) (h : HashFunction) (disk l
 
 -- ---- after the last record
 
--- The first bad tile is reported, or that their disk failed.
+-- The first bad tile is reported, or a failure of the tiles' disk.
 pub tile_refused : {D H T : Type 0} {hashes : Hashes H} {k : Ghosts T} (g : Ghosts D)
     (disk later : D) (was : TileRest T) (nodes : Tiles H T hashes k) (refusal : Option TileError)
     (new : T) (size : ℕ) (why : TileError) → OnlyReads g disk later

@@ -31,7 +31,7 @@ pub not_starved : {X : Type 0} (r : Result X Misfit) → IsOk r → IsOutOfMemor
 not_starved (Ok x) is starved = starved
 not_starved (Err why) is starved = let wrong : false ≡ true = is in absurd cc
 
--- the same disk is handed back
+-- the same disk is returned
 abbrev rest_over : {T : Type 0} → Option TileError → T → TileRest T
 rest_over refusal disk = record { disk = disk; refusal = refusal }
 

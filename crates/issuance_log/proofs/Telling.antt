@@ -1,4 +1,5 @@
--- What is reported of a log: what its durable records make, and what one record more makes of it.
+-- What the model knows of a log: what its durable records make, and what one record more makes of
+-- it.
 use Rattle.std.proofs.Common.{◌≡◌, ℕ, true, false, List, [], ◌∷◌, ◌++◌, ◌∙◌, Option, Some}
 use Rattle.std.proofs.Common.{None, IfSome, option_map, refl, ap}
 use Rattle.std.specs.Prelude.{map, option_and_then, is_some}

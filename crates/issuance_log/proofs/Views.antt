@@ -94,7 +94,7 @@ state_shows h [] = refl
 state_shows h (first ∷ bodies) =
     each_shows h 0 bodies (begun_log first) (λ s. taken_shows h 1 s bodies)
 
--- they are taken by what is shown exactly if they are taken
+-- what is shown takes them exactly if the log takes them
 pub views_taken : (h : HashFunction) (k : ℕ) (s : LogState) (bodies : List Text)
     → is_ok (taken_from (view_fold h) k (view_in s) bodies)
     ≡ is_ok (taken_from (log_fold h) k s bodies)

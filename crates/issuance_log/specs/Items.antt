@@ -31,7 +31,7 @@ abbrev pub AreHashed : HashFunction → LogView → Option (List Hash) → List 
 AreHashed h v leaves list =
     IfSome leaves (λ hashes. hashes ≡ map (leaf_hash h) (shown_with v list).entries)
 
--- These records make what the log shows, and each of its items stands at its place.
+-- These records make what the log shows, and each of its items is at its offset.
 pub record AreKept (h : HashFunction) (v : LogView) (places : List ℕ) (leaves : Option (List Hash))
     (list : List Text) : Type 0 where
   pub made : log_of h list ≡ Ok (shown_with v list)

@@ -1,5 +1,5 @@
--- A log as a state machine over its journal: what it keeps beside what it shows, and what it has
--- beside its records.
+-- A log as a state machine over its journal: what it keeps in addition to what it shows, and what
+-- it has in addition to its records.
 use Rattle.std.specs.Prelude.{◌≡◌, ◌≢◌, ℕ, ◌+◌, ◌≤◌, false, List, Option, Some, None}
 use Rattle.std.specs.Prelude.{is_some, length}
 use Rattle.byte_formats.specs.Types.{Text}
@@ -23,14 +23,14 @@ use Rattle.issuance_log.specs.declared.machine.LogMachine.{LogMachine}
 use Rattle.issuance_log.specs.declared.machine.TileRest.{TileRest}
 use Rattle.issuance_log.specs.declared.machine.TileSeed.{TileSeed}
 
--- ---- the tiles that a log begins with, and that it hands back
+-- ---- the tiles that a log begins with, and that it returns
 
 -- no call of their disk has failed
 abbrev pub IsUsable : Option TileError → Type 0
 IsUsable refusal = refusal ≢ Some Failed
 
 module _ {T : Type 0} (k : Ghosts T) (was now : TileRest T) where
-  -- While records are read their disk is only read, without a fault.
+  -- While records are read the disk of the tiles is only read, without a fault.
   pub record TilesAreRead : Type 0 where
     pub usable : IsUsable now.refusal
     pub only_reads : OnlyReads k was.disk now.disk

@@ -45,8 +45,8 @@ module _ {H D T : Type 0} {hashes : Hashes H} {g : Ghosts D} {k : Ghosts T} wher
   abbrev pub log_tiles_disk : Log H D T hashes g k → T
   log_tiles_disk log = tiles_disk (log_tiles log)
 
-  -- The records that make the log, where the journal's disk tells its bytes. Unless an append has
-  -- failed they are all records of its journal.
+  -- The records that make the log, if the model knows the bytes of the journal's disk. Unless an
+  -- append has failed they are all records of its journal.
   abbrev pub log_records : Log H D T hashes g k → Option (List Text)
   log_records log = durable_records log.journal
 

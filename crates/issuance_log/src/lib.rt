@@ -9,7 +9,7 @@
 //! What the records of a journal make of a log is one function of them. A log follows it: unless an
 //! append has failed, its settings, items and landmarks are what the records on its disk make.
 //!
-//! A log keeps the place of each entry in the journal, from which [`Log::entry`] reads it back. It
+//! A log keeps the offset of each entry in the journal, from which [`Log::entry`] reads it back. It
 //! is the [`Nodes`](tree_proofs::Nodes) of the tree over its entries, in
 //! [`Tiles`](tile_store::Tiles) on a second disk: [`Log::tile`] stores those that are full and then
 //! appends their size, and the next opening adopts them where it reads that record. So an opening

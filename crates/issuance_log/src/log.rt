@@ -54,9 +54,9 @@ use tree_core::TreeHash;
 /// made when a node is asked for, and before tiles over them are stored or adopted: an opening that
 /// adopts none hashes no pair.
 ///
-/// So a log shows its numbers over every disk, and its entries where the disk of the journal tells
-/// its bytes. They are what its records on the disk make. Where an append has failed, the disk may
-/// hold one record more.
+/// So a log shows its numbers over every disk, and its entries if the model knows the bytes of the
+/// journal's disk. They are what its records on the disk make. Where an append has failed, the disk
+/// may hold one record more.
 pub struct Log<H: TreeHash, D: Disk, T: Disk> {
     alloc: Global,
     journal: Journal<D>,
@@ -118,7 +118,7 @@ impl<H: TreeHash, D: Disk, T: Disk> Log<H, D, T> {
     ///
     /// Errors: what [`open_state`] refuses, where `BadRecord` comes at the first record that breaks
     /// the rules, or where there is none; where the disk of the tiles fails, `Tile(Failed)` at
-    /// once; and after the last record the first bad tile. The disks are handed back, and were only
+    /// once; and after the last record the first bad tile. The disks are returned, and were only
     /// read.
     pub fn open(
         alloc: Global,
@@ -323,8 +323,8 @@ impl<H: TreeHash, D: Disk, T: Disk> Log<H, D, T> {
         self.machine.numbers.marks()
     }
 
-    // The hash of the `2^level` entries from `place * 2^level` on. The call leaves the journal's
-    // disk alone.
+    // The hash of the `2^level` entries from `place * 2^level` on, where `place` is an index in the
+    // level. The call leaves the journal's disk alone.
     pub(crate) fn node_at(&mut self, level: u32, place: u64) -> Result<[u8; 32], Failed>
         requires { (place + 1) * 2 ^ level ≤ (view_of self.old).size }
         ensures node { IfOk result (IsRootOf H.hash (log_leaves self.old) (place * 2 ^ level)

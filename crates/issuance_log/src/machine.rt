@@ -26,8 +26,8 @@ use std::alloc::Global;
 use tile_store::TileError;
 use tree_core::TreeHash;
 
-/// What the machine of a log is begun with beside its first record: the disk of its tiles, and a
-/// pool of frames for them.
+/// What the machine of a log is begun with in addition to its first record: the disk of its tiles,
+/// and a pool of frames for them.
 pub(crate) struct TileSeed<T> {
     pub(crate) disk: T,
     pub(crate) pool: Pool,
@@ -39,8 +39,8 @@ pub(crate) struct TileRest<T> {
     pub(crate) refusal: Option<TileError>,
 }
 
-/// What the records of a journal make of a log: its numbers, and its items as they are retained.
-/// The tiles of a size are adopted when its record is read, so that the nodes in them are let go at
+/// What the records of a journal make of a log: its numbers, and what it retains of its items. The
+/// tiles of a size are adopted when its record is read, so that the nodes in them are let go at
 /// once. Where one of them is bad, no more are adopted, and the records are read on, since a bad
 /// record is reported first. Where their disk fails, the records are not read on.
 ///
@@ -158,7 +158,8 @@ impl<H: TreeHash, T: Disk> LogMachine<H, T> {
         }
     }
 
-    // Takes one record more, whose commit byte stands at a place, and adopts the tiles of its size.
+    // Takes one record more, whose commit byte stands at an offset, and adopts the tiles of its
+    // size.
     fn take_next(&mut self, place: u64, body: &[u8]) -> Result<(), Misfit>
         requires { IsKeptWithin self.old place }
         ensures takes { TakesRecord (next_view H.hash) (λ it. machine_view it)
