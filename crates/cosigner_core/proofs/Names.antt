@@ -68,7 +68,7 @@ begun_long h first s bytes is = go (cosigner_in first) refl is
         let secret = took.1.sized in
         omega (arith, long, secret, id, log)
 
--- The first record holds the ids, and 59 bytes beside them.
+-- The first record holds the ids, and 59 bytes in addition.
 pub first-long : (h : HashFunction) (first : Text) (bodies : List Text) (s : CosignerState)
     → IsBytes first → cosigner_of h (first ∷ bodies) ≡ Ok s
     → length first ≡ 59 + length s.id + length s.log

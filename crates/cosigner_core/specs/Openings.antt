@@ -19,8 +19,8 @@ FoundCosigner = Found CosignerState
 abbrev pub cosigner_read : HashFunction → Text → Result FoundCosigner StateOpenError
 cosigner_read h bytes = read_by (cosigner_fold h) bytes
 
--- the cause of a refusal, over the disk before the call and after it: the bytes, a failure, or that
--- memory ran out
+-- the cause of a refusal, over the disk before the call and after it: the bytes, a failure, or
+-- memory that ran out
 abbrev pub HasCosignerCause : {D : Type 0} → Ghosts D → HashFunction → D → D → StateOpenError
     → Type 0
 HasCosignerCause g h old new why = HasStateCause g (cosigner_fold h) old new why
@@ -30,9 +30,9 @@ abbrev pub CosignerCountsNoOther : {D : Type 0} → Ghosts D → D → D → Sta
 CosignerCountsNoOther g old new why = CountsNoOther g old new why
 
 -- What an opened cosigner shows, over the disk before the call: no append has failed, and the disk
--- was only read, without a fault. Where it tells its bytes, they are read as these records and this
--- cosigner, which they make; they and each crash state of the disk represent the records; and the
--- journal ends after them.
+-- was only read, without a fault. If the model knows its bytes, they are read as these records and
+-- this cosigner, which the records make; the bytes and each crash state of the disk represent the
+-- records; and the journal ends after them.
 pub record IsOpenedCosigner {D : Type 0} (g : Ghosts D) (h : HashFunction) (disk : D)
     (it : Owner D CosignerState) : Type 0 where
   pub sound : it.broken ≡ false

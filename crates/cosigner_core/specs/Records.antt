@@ -86,7 +86,7 @@ cosigner_settings_with id log lms ots =
     option_and_then (λ l. option_and_then (λ t. with_ids l t (anchor_of id) (anchor_of log))
     (type_of_code ots)) (signing_type lms)
 
--- settings, and the secret beside them
+-- settings, and the secret after them
 abbrev pub founded : Text × (Text × (ℕ × (ℕ × Text))) → Option (CosignerSettings × Text)
 founded x =
     option_map (λ s. (s, x.1.1.1.1)) (cosigner_settings_with x.0 x.1.0 x.1.1.0 x.1.1.1.0)

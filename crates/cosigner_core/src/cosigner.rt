@@ -60,7 +60,7 @@ impl<H: TreeHash, D: Disk> Cosigner<H, D> {
     ///
     /// Errors, of which the first that is met is answered: what [`Opening::begin`] and
     /// [`Opening::next`] refuse; `BadRecord` at the first record that breaks the rules, or where
-    /// there is none; `Open(Memory)` for the key. The disk is handed back, and was only read.
+    /// there is none; `Open(Memory)` for the key. The disk is returned, and was only read.
     pub fn open(alloc: Global, disk: D) -> Result<Cosigner<H, D>, Refused<D, CosignerOpenError>>
         ensures sound { IfOk result (λ it. cosigner_broken it ≡ false) }
         ensures only_reads { IfOk result (λ it. OnlyReads D.Disk disk (cosigner_disk it)) }
@@ -98,7 +98,7 @@ impl<H: TreeHash, D: Disk> Cosigner<H, D> {
     /// The cosigner with its key, which is rebuilt from the secret in its first record: the
     /// one-time keys that have signed by its records are used.
     ///
-    /// The one error is `Memory`, for the key. The disk is handed back as it was.
+    /// The one error is `Memory`, for the key. The disk is returned as it was.
     pub fn with_key(
         alloc: Global,
         keyless: KeylessCosigner<H, D>,

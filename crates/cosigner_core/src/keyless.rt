@@ -65,7 +65,7 @@ impl<H: TreeHash, D: Disk> KeylessCosigner<H, D> {
     ///
     /// Errors, of which the first that is met is answered: what [`Opening::begin`] and
     /// [`Opening::next`] refuse; `BadRecord` at the first record that breaks the rules, or where
-    /// there is none. The disk is handed back, and was only read.
+    /// there is none. The disk is returned, and was only read.
     pub fn open(
         alloc: Global,
         disk: D,
