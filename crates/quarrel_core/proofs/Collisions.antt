@@ -1,4 +1,4 @@
--- Two Signs in conflict, and the two texts that their proofs show; the order of keys.
+-- Two Signs in conflict, and the two strings that their proofs show; the order of keys.
 use Rattle.std.proofs.Common.{◌≡◌, ◌⊎◌, ⊎_elim, ℕ, zero, suc, ◌+◌, ◌<◌, ◌≤◌, true, List, []}
 use Rattle.std.proofs.Common.{◌∷◌, ◌++◌, length, get_or, take, Some, sym, ap, subst, ◌∙◌, arith}
 use Rattle.std.proofs.Common.{eqb-true, inl, inr, refl, ◌-◌}
@@ -26,7 +26,7 @@ use Rattle.quarrel_core.specs.ConflictLaws.{AreInConflict, KeysRise, QuarrelsCol
 use Rattle.quarrel_core.specs.declared.joined.Joined.{Joined}
 use Rattle.quarrel_core.specs.declared.joined.Joined.TheVariants.{Neither, Pair, Proof}
 
--- A step that is read at a place.
+-- A step that is read at an index.
 
 pub read_at : (steps : List Step) (k : ℕ) (s : Step) → slice_get steps k ≡ Some s
     → s ≡ get_or steps k s

@@ -1,4 +1,4 @@
--- Two proofs of one interval with one root: their subtrees are the same, or there are two texts
+-- Two proofs of one interval with one root: their subtrees are the same, or there are two strings
 -- with one hash.
 use Rattle.std.proofs.Common.{◌≡◌, ℕ, ◌-◌, ◌<◌, ◌≤◌, ◌⊎◌, inl, inr, Bool, true, false, eqb, List}
 use Rattle.std.proofs.Common.{[], ◌∷◌, Some, sym, ◌∙◌, ap, refl, subst, arith}

@@ -18,7 +18,7 @@ use Rattle.quarrel_core.specs.Conflicts.{conflict_behind, conflict_in, conflicts
 use Rattle.quarrel_core.specs.ConflictLaws.{AreInConflict, ConflictAt, ConflictsAreFirst}
 use Rattle.quarrel_core.specs.ConflictLaws.{IsFirstConflict}
 
--- The test and the words agree.
+-- The test and the definition agree.
 
 not_true : (b : Bool) → not b ≡ true → b ≡ false
 not_true true is = absurd (false≢true is)
@@ -61,7 +61,7 @@ get_here : (xs : List Step) (y : Step) (ys : List Step)
 get_here [] y ys = refl
 get_here (x ∷ xs) y ys = get_here xs y ys
 
--- What follows a step, by whether it is in conflict.
+-- What the steps after one give, by whether that one is in conflict.
 
 pub conflict_here : (seen : List Step) (step : Step) (rest : List Step) (i : ℕ)
     → position (conflicts step) seen ≡ Some i
@@ -83,11 +83,11 @@ pub conflict_end : (seen : List Step) → conflict_behind seen [] ≡ None
 unfolding conflict_behind
 conflict_end seen = refl
 
--- No two steps up to a place are in conflict.
+-- No two steps up to an index are in conflict.
 abbrev pub NoneUpTo : List Step → ℕ → Type 0
 NoneUpTo steps count = (a b : ℕ) → a < b → b < count → ConflictAt steps a b → ⊥
 
--- a step at a place, with an earlier one
+-- a step at an index, with an earlier one
 at_here : (seen : List Step) (step : Step) (rest : List Step) (a : ℕ) → a < length seen
     → ConflictAt (seen ++ step ∷ rest) a (length seen)
     → conflicts step (get_or seen a step) ≡ true

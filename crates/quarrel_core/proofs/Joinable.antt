@@ -138,7 +138,7 @@ left_made h s e n known still node front leaves order within less left rest =
     ∙ rest)
     ∙ ap (λ (r : List Hash). Proof r) (sym (made-left h s e k known leaves more refl order inside))
 
--- the prefix goes beyond the split
+-- the first n entries go beyond the split
 over_made : (h : HashFunction) (s e n : ℕ) (known still : Bool) (node front : Hash)
     (leaves : List Hash) → IsAligned s e → e ≤ n → n < length leaves
     → split_of (length leaves) < n

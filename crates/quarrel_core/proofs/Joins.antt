@@ -1,5 +1,5 @@
 -- What two proofs of 32-byte hashes give together: a proof that opens to the subtree of the first
--- and the root of the second, or two texts with one hash.
+-- and the root of the second, or two strings with one hash.
 use Rattle.std.proofs.Common.{◌≡◌, ℕ, ◌-◌, ◌<◌, ◌≤◌, ◌⊎◌, ⊎_elim, inl, inr, Bool, true, false, List}
 use Rattle.std.proofs.Common.{[], ◌∷◌, Some, sym, ◌∙◌, ap, refl, subst, arith}
 use Rattle.std.specs.Prelude.{Option, reverse}

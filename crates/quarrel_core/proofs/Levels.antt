@@ -1,5 +1,5 @@
 -- One node that is hashed by two computations: the hashes below it are the same, or there are two
--- texts with one hash.
+-- strings with one hash.
 use Rattle.std.proofs.Common.{◌≡◌, Bool, true, false, List, ◌++◌, length, sym, ◌∙◌, refl}
 use Rattle.std.specs.Prelude.{bytes_eq, if◌then◌else◌}
 use Rattle.std.specs.List.{Contains}
@@ -13,7 +13,7 @@ use Rattle.collide.specs.Extraction.{IsCollision}
 use Rattle.collide.specs.Inputs.{pair_input}
 use Rattle.quarrel_core.specs.Joining.{same_pair}
 
--- the texts of two pairs are the same only where the pairs are
+-- the strings of two pairs are the same only where the pairs are
 abbrev pub TellsPairs : Hash → Hash → Hash → Hash → Type 0
 TellsPairs a b c d = pair_input a b ≡ pair_input c d → (a ≡ c) × (b ≡ d)
 

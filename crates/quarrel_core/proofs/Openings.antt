@@ -69,8 +69,8 @@ inputs_unknown h s e n a b (z ∷ q) =
     let over = inputs_unknown h 0 (e - k) (n - k) a b q in
     cc
 
--- One level of an opening, whose part gave `below`: the texts for the pairs at the list's root and
--- those of the part are among its texts.
+-- One level of an opening, whose part gave `below`: the strings for the pairs at the list's root
+-- and those of the part are among its strings.
 pub record IsStep (h : HashFunction) (from to size : ℕ) (still : Bool) (node : Hash)
     (q : List Hash) (f : Opened → Opened) (top : Option Opened → List Text) (given : Opened)
     (texts : List Text) : Type 0 where
@@ -152,7 +152,7 @@ step_over h s e n known node z q given more zeroth past part gives =
     (open_inputs_over h s e n (split_of n) (e - split_of n) (n - split_of n)
     known node z q more refl before last size some part)
 
--- the two texts at the root of a list whose subtree goes beyond the split
+-- the two strings at the root of a list whose subtree goes beyond the split
 pub over_root_in : (z : Hash) (o : Opened)
     → Contains (inputs_over z (Some o)) (pair_input z o.root)
 over_root_in z o = first_in (pair_input z o.root) (pair_input z o.subtree ∷ [])

@@ -226,7 +226,7 @@ part_right h sized s e n m known still node front z y p q one other two less abo
     (joins_pair h s e m known node one.subtree other.root xs ys
     (pair_input y own.below.root) (pair_input z step.below.subtree))))
 
--- the two texts at the root of the joined proof, where the subtree goes beyond the split
+-- the two strings at the root of the joined proof, where the subtree goes beyond the split
 over_tops : (z y : Hash) (part beside : Opened) (xs ys : List Text) (t : Text) → y ≡ z
     → Contains xs (pair_input y part.subtree) → Contains ys (pair_input z beside.root)
     → Contains (inputs_over z (Some (opened_at part.subtree beside.root))) t

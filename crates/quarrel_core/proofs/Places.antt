@@ -1,4 +1,4 @@
--- The first place at which a test passes, in a list and in one with an element more.
+-- The first index at which a test passes, in a list and in one with an element more.
 use Rattle.std.proofs.Common.{◌≡◌, ℕ, ◌<◌, ◌≤◌, ⊎_elim, Bool, true, false, cond, ltb, List, []}
 use Rattle.std.proofs.Common.{◌∷◌, ◌++◌, length, get_or, Some, None, sym, ◌∙◌, ap, refl, arith}
 use Rattle.std.specs.Prelude.{Option, unwrap_or}

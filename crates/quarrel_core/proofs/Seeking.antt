@@ -1,4 +1,4 @@
--- The search for the first conflict, which has the place of the first Sign of each interval.
+-- The search for the first conflict, which has the index of the first Sign of each interval.
 use Rattle.std.proofs.Common.{◌≡◌, ℕ, ◌+◌, ◌<◌, ◌≤◌, ⊎_elim, Bool, true, false, ◌&&◌, cond, eqb}
 use Rattle.std.proofs.Common.{eqb-true, List, [], ◌∷◌, ◌++◌, length, get_or, take, drop, Some, None}
 use Rattle.std.proofs.Common.{sym, ◌∙◌, ap, refl, subst, arith, ◌⊎◌}
@@ -137,7 +137,7 @@ agrees_on i s e a p x f is none agree = by (signs (s, e) x) refl
         ∙ ap not (let decides = bytes_eq-Decides a (hash_of x) in decides.1 (first ∙ sym second))
     by false apart = no_conflict_apart i s e a p x apart
 
--- The state of the search before the step at a place.
+-- The state of the search before the step at an index.
 pub record IsSought (steps : List Step) (place : ℕ) (at : ℕ × ℕ → Option ℕ) : Type 0 where
   pub whole : conflict_in steps ≡ conflict_behind (take place steps) (drop place steps)
   pub firsts : (q : ℕ × ℕ) → at q ≡ position (signs q) (take place steps)

@@ -1,5 +1,5 @@
--- Two proofs of 32-byte hashes from the root down, and what they give together: where the second
--- has nothing of the first's entries after its split, or the subtree is all of them.
+-- Two proofs of 32-byte hashes from the root down, and what they give together: where no entry of
+-- the first lies after the second's split, or the subtree is all of them.
 use Rattle.std.proofs.Common.{◌≡◌, ℕ, ◌+◌, ◌-◌, ◌<◌, ◌≤◌, ◌⊎◌, ⊎_elim, inl, inr, Bool, false, List}
 use Rattle.std.proofs.Common.{◌∷◌, ◌++◌, length, Some, sym, ◌∙◌, ap, refl, subst, arith}
 use Rattle.std.specs.Prelude.{Option, option_map}
@@ -35,7 +35,7 @@ pub record AreTwo (h : HashFunction) (s e n m : ℕ) (known still : Bool) (node 
   pub second : open_from_root h 0 n m still front q ≡ Some other
   pub meet : one.root ≡ other.subtree
 
--- A proof from the root down that opens so, and hashes only these texts.
+-- A proof from the root down that opens so, and hashes only these strings.
 pub record IsJoinedTo (h : HashFunction) (s e m : ℕ) (known : Bool) (node subtree root : Hash)
     (firsts seconds : List Text) (r : List Hash) : Type 0 where
   pub opens : open_from_root h s e m known node r ≡ Some (opened_at subtree root)
@@ -71,7 +71,8 @@ pub joins_proof : (h : HashFunction) (s e m : ℕ) (known : Bool) (node subtree 
 unfolding JoinsTo
 joins_proof h s e m known node subtree root firsts seconds r is = is
 
--- A joined proof of a part, with one hash more: how that opens, and which texts it hashes beside.
+-- A joined proof of a part, with one hash more: how that opens, and which strings it hashes in
+-- addition.
 pub raised : (h : HashFunction) (s e m from to size : ℕ) (known still : Bool)
     (node z subtree root : Hash) (below : Opened) (f : Opened → Opened)
     (top : Option Opened → List Text) (vs ws xs ys : List Text) → length z ≡ 32

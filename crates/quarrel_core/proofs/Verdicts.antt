@@ -1,4 +1,4 @@
--- What a conflict that was found says of both steps, and what two texts make of it.
+-- What a conflict that was found says of both steps, and what two strings make of it.
 use Rattle.std.proofs.Common.{◌≡◌, ℕ, ◌<◌, List, length, get_or, Some, sym, ◌∙◌, ap}
 use Rattle.std.proofs.Common.{subst, true}
 use Rattle.std.specs.Prelude.{option_map, slice_get}

@@ -16,7 +16,7 @@ AreInConflict (Sign index start end hash proof) (Sign number from to node shown)
 AreInConflict (Sign index start end hash proof) (Advance size root shown) = ⊥
 AreInConflict (Advance size root proof) step = ⊥
 
--- The steps at these places are in conflict.
+-- The steps at these indices are in conflict.
 pub record ConflictAt (steps : List Step) (i j : ℕ) : Type 0 where
   pub one : Step
   pub other : Step
@@ -24,7 +24,7 @@ pub record ConflictAt (steps : List Step) (i j : ℕ) : Type 0 where
   pub second : slice_get steps j ≡ Some other
   pub conflict : AreInConflict one other
 
--- These places are in conflict, the first before the second, none before the second is in conflict
+-- These indices are in conflict, the first before the second, none before the second is in conflict
 -- with an earlier one, and none before the first with the second.
 pub record IsFirstConflict (steps : List Step) (i j : ℕ) : Type 0 where
   pub order : i < j
@@ -32,7 +32,7 @@ pub record IsFirstConflict (steps : List Step) (i j : ℕ) : Type 0 where
   pub none_before : (a b : ℕ) → a < b → b < j → ConflictAt steps a b → ⊥
   pub none_earlier : (a : ℕ) → a < i → ConflictAt steps a j → ⊥
 
--- The places that are found are the first in conflict, and where none are found there are none.
+-- The indices that are found are the first in conflict, and where none are found there are none.
 pub record ConflictsAreFirst : Type 0 where
   pub found : (steps : List Step) (i j : ℕ) → conflict_in steps ≡ Some (i, j)
       → IsFirstConflict steps i j
@@ -47,7 +47,7 @@ KeysRise h = (steps : List Step) (i j : ℕ) (a b start end from to : ℕ) (hash
     → slice_get steps j ≡ Some (Sign b from to node shown) → a < b
 
 -- Steps that are allowed, with proofs of 32-byte hashes, two of which are in conflict, have two
--- texts with one hash among those of their proofs.
+-- strings with one hash among those of their proofs.
 abbrev pub QuarrelsCollide : HashFunction → Type 0
 QuarrelsCollide h = (steps : List Step) (i j : ℕ) → AreSteps h steps
     → AllByRecursion HasHashes steps → ConflictAt steps i j

@@ -12,7 +12,7 @@ conflicts (Sign index start end hash proof) (Sign number from to node shown) =
 conflicts (Sign index start end hash proof) (Advance size root shown) = false
 conflicts (Advance size root proof) step = false
 
--- The two places, where an earlier one was found.
+-- The two indices, where an earlier one was found.
 abbrev pub places_or : Option ℕ → ℕ → Option (ℕ × ℕ) → Option (ℕ × ℕ)
 places_or (Some earlier) place rest = Some (earlier, place)
 places_or None place rest = rest
@@ -24,12 +24,12 @@ conflict_behind seen (step ∷ rest) =
     places_or (position (conflicts step) seen) (length seen)
     (conflict_behind (seen ++ step ∷ []) rest)
 
--- The places of two Signs in conflict: the first one that conflicts with an earlier one comes
+-- The indices of two Signs in conflict: the first one that conflicts with an earlier one comes
 -- second, and the earliest of these first.
 abbrev pub conflict_in : List Step → Option (ℕ × ℕ)
 conflict_in steps = conflict_behind [] steps
 
--- The number of the one-time key of a Sign, and of the Sign at a place.
+-- The number of the one-time key of a Sign, and of the Sign at an index.
 abbrev pub key_number : Step → ℕ
 key_number (Advance size root proof) = 0
 key_number (Sign index start end hash proof) = index

@@ -1,4 +1,4 @@
--- Two consistency proofs of one interval with one root, beside each other, from the root down.
+-- Two consistency proofs of one interval with one root, level by level, from the root down.
 use Rattle.std.specs.Prelude.{ℕ, ◌-◌, ◌&&◌, ◌==◌, Bool, false, nat_le, if◌then◌else◌, List, []}
 use Rattle.std.specs.Prelude.{◌∷◌, Option, Some, None}
 use Rattle.byte_formats.specs.Types.{Hash, HashFunction}
@@ -27,7 +27,7 @@ contrast_behind y z rest (Some one) (Some other) =
 contrast_behind y z rest (Some one) None = Same
 contrast_behind y z rest None other = Same
 
--- The texts of the topmost node that both proofs hash, by other hashes, or that there is none.
+-- The strings of the topmost node that both proofs hash, by other hashes, or that there is none.
 unfoldable pub contrast_from_root : HashFunction → ℕ → ℕ → ℕ → Bool → Hash → Hash → List Hash
     → List Hash → Finding
 contrast_from_root h start end n known node other [] q = Same

@@ -1,4 +1,4 @@
--- The place of the first Sign of each interval.
+-- The index of the first Sign of each interval.
 use Rattle.std.specs.Prelude.{ℕ, ◌&&◌, ◌==◌, Bool, false, Option}
 use Rattle.std.specs.BTreeMap.{BTreeMap, get}
 use Rattle.std.specs.Ordering.{nat_cmp, ordering_then}

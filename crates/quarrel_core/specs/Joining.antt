@@ -27,8 +27,8 @@ abbrev pub same_pair : Hash → Hash → Hash → Hash → Bool
 same_pair a b c d = bytes_eq a c && bytes_eq b d
 
 -- Both proofs hash the left part of the longer list's node: the first proof by what it gave of the
--- left part and by y, the second by z and by what it gave of the prefix's share of the right part.
--- If these are the same, the root of the whole right part stands beside the subtree.
+-- left part and by y, the second by z and by what it gave of the prefix's entries in the right
+-- part. If these are the same, the root of the whole right part stands beside the subtree.
 abbrev pub joined_left : Hash → Hash → List Hash → Option Opened → Option Opened → Joined
 joined_left y z p (Some part) (Some beside) =
     if same_pair part.root y z beside.subtree then Proof (beside.root ∷ p)
@@ -45,9 +45,9 @@ joined_behind y z rest (Some part) (Some beside) =
 joined_behind y z rest (Some part) None = Neither
 joined_behind y z rest None beside = Neither
 
--- The prefix of n entries and its list are both split at k, and the subtree isn't the whole prefix.
--- The second proof gave `beside` of the right part, and `rest` joins the proofs there: of an
--- interval, of which the hash is known or not, with what is left of the first proof.
+-- The first n entries and the whole list are both split at k, and the subtree isn't all of the
+-- first n. The second proof gave `beside` of the right part, and `rest` joins the proofs there: of
+-- an interval, of which the hash is known or not, with what is left of the first proof.
 abbrev pub joined_over : HashFunction → ℕ → ℕ → ℕ → ℕ → Bool → Hash → Hash → Option Opened
     → (ℕ → ℕ → Bool → List Hash → Joined) → List Hash → Joined
 joined_over h start end n k known node z beside rest [] = Neither
@@ -62,8 +62,8 @@ joined_over h start end n k known node z beside rest (y ∷ p) =
 
 -- The first proof is of the subtree [start, end) in n entries, the second of these n in m entries,
 -- with the hash `front`. Where the n are all, it is the first proof. Where they lie left of the
--- split, the proofs are joined there, and then comes z. Where the subtree is the whole prefix, it
--- is the second proof.
+-- split, the proofs are joined there, and then comes z. Where the subtree is all of the n, it is
+-- the second proof.
 unfoldable pub joined_from_root : HashFunction → ℕ → ℕ → ℕ → ℕ → Bool → Hash → Hash → List Hash
     → List Hash → Joined
 joined_from_root h start end n m known node front p [] = if n == m then Proof p else Neither
@@ -79,7 +79,7 @@ joined_from_root h start end n m known node front p (z ∷ q) =
     joined_from_root h from to (n - k) (m - k) still node front rest q) p))
 
 -- The same of proofs whose lowest hash comes first: the proof of the subtree in m entries, or the
--- texts of the topmost node that both hash, by other hashes. Neither, where a proof has another
+-- strings of the topmost node that both hash, by other hashes. Neither, where a proof has another
 -- length.
 unfoldable pub joined_of : HashFunction → ℕ → ℕ → ℕ → ℕ → Hash → Hash → List Hash → List Hash
     → Joined

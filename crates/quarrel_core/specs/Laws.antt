@@ -14,7 +14,7 @@ use Rattle.quarrel_core.specs.Joining.{joined_of}
 use Rattle.quarrel_core.specs.declared.joined.Joined.{Joined}
 use Rattle.quarrel_core.specs.declared.joined.Joined.TheVariants.{Neither, Pair, Proof}
 
--- A joined proof checks for the subtree in the longer list, and hashes no text that neither proof
+-- A joined proof checks for the subtree in the longer list, and hashes no string that neither proof
 -- hashes.
 pub record IsJoined (h : HashFunction) (start end size : ℕ) (node root : Hash)
     (firsts seconds : List Text) (proof : List Hash) : Type 0 where
@@ -23,7 +23,7 @@ pub record IsJoined (h : HashFunction) (start end size : ℕ) (node root : Hash)
       → Contains firsts t ⊎ Contains seconds t
   pub whole : AreFullHashes proof
 
--- Such a proof, or two texts with one hash, one of each proof.
+-- Such a proof, or two strings with one hash, one of each proof.
 abbrev pub Joins : HashFunction → ℕ → ℕ → ℕ → Hash → Hash → List Text → List Text → Joined → Type 0
 Joins h start end size node root firsts seconds (Proof proof) =
     IsJoined h start end size node root firsts seconds proof
@@ -40,7 +40,7 @@ ProofsJoin h = (start end n m : ℕ) (node front root : Hash) (first second : Li
     (open_inputs_of h 0 n m true front second) (joined_of h start end n m node front first second)
 
 -- Two proofs of 32-byte hashes of one subtree, at one size and root, have one hash for it, or there
--- are two texts with one hash, one of each.
+-- are two strings with one hash, one of each.
 abbrev pub OneSubtree : HashFunction → Type 0
 OneSubtree h = (start end size : ℕ) (node other root : Hash) (first second : List Hash)
     → AreFullHashes first → AreFullHashes second

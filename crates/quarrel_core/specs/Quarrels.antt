@@ -8,7 +8,7 @@ use Rattle.quarrel_core.specs.declared.answer.Quarrel.{Quarrel}
 use Rattle.quarrel_core.specs.declared.answer.Quarrel.TheVariants.{Agree, Pair}
 use Rattle.quarrel_core.specs.Conflicts.{conflict_in, quarrel_of}
 
--- No two Signs are in conflict; or these are the keys of the first that are, with two texts that
+-- No two Signs are in conflict; or these are the keys of the first that are, with two strings that
 -- have one hash, both hashed in the opening of the steps' proofs.
 abbrev pub IsQuarrel : HashFunction → List Step → Quarrel → Type 0
 IsQuarrel h steps Agree = conflict_in steps ≡ None

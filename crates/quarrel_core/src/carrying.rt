@@ -29,7 +29,7 @@ fn held_after<H: TreeHash>(steps: &[Step], place: usize, held: &Checkpoint) -> C
     }
 }
 
-// The proof of a subtree of what is held, carried over the step at a place.
+// The proof of a subtree of what is held, carried over the step at an index.
 fn onward<H: TreeHash>(
     alloc: Global,
     steps: &[Step],

@@ -34,7 +34,7 @@ fn are_in_conflict(one: &Step, other: &Step) -> bool
     }
 }
 
-// The place of the first Sign of an interval, by the places of those before this one, which is
+// The index of the first Sign of an interval, by the indices of those before this one, which is
 // noted if there is none.
 fn first_sign(
     firsts: &mut BTreeMap<(u64, u64), usize>,
@@ -56,7 +56,7 @@ fn first_sign(
     Ok(place)
 }
 
-/// The places of the first Sign that is in conflict with an earlier one, and of the earliest of
+/// The indices of the first Sign that is in conflict with an earlier one, and of the earliest of
 /// these before it. Each step is read once, with one look-up.
 pub(crate) fn conflict(alloc: Global, steps: &[Step]) -> Result<Option<(usize, usize)>, Memory>
     ensures { IfOk result (λ found. found ≡ conflict_in steps.now) }

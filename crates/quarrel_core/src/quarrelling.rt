@@ -19,7 +19,7 @@ use mtc_io::Memory;
 use std::alloc::Global;
 use tree_core::TreeHash;
 
-// The number of the one-time key of the Sign at a place.
+// The number of the one-time key of the Sign at an index.
 fn key_at(steps: &[Step], place: usize) -> u32
     requires { place < length steps.now }
     ensures { result ≡ key_in (slice_get steps.now place) }
