@@ -1,4 +1,4 @@
--- What runs and stops do to a journal are steps of its node's history.
+-- What runs and stops do to a journal are steps of its party's history.
 use Rattle.std.proofs.Common.{◌≡◌, inl, inr, ℕ, ◌+◌, ◌&&◌, not, Bool, true, false, List, [], ◌∷◌}
 use Rattle.std.proofs.Common.{◌++◌, length, Option, Some, None, Result, Ok, is_some, refl, ap, sym}
 use Rattle.std.proofs.Common.{◌∙◌, subst, append_assoc, slice_get, map, if◌then◌else◌, IsOk}
@@ -67,7 +67,7 @@ unfolding state_behind
 no_records h (inl is) = absurd cc
 no_records h (inr is) = absurd cc
 
--- ---- what is settled after a stop
+-- ---- what is durable after a stop
 
 recovered_is : (kept : Bool) (first : Text) (settled : List Text) (pending : Option Text)
     → recovered kept (first ∷ settled) pending
@@ -129,7 +129,7 @@ module _ (h : HashFunction) (starts : List NodeStart) (place : ℕ) (start : Nod
         (few list pending out g) (stop_prefix kept g.state));
   }
 
-  -- a record that is valid after them
+  -- a record that is valid after these begins
   pub begun : (list : List Text) (body : Text) (out : List Text)
       → AreRecords h (list ++ body ∷ []) → Goes list None out → Goes list (Some body) out
   begun list body out records g =
@@ -191,7 +191,7 @@ module _ (h : HashFunction) (starts : List NodeStart) (place : ℕ) (start : Nod
     hands = handed;
   }
 
--- ---- each valid list is reached, with no record handed out
+-- ---- each valid list is reached, with no record released
 
 module _ (h : HashFunction) (start : NodeStart) (first : Text) (begins : StartsWith start first)
   where

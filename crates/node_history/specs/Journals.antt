@@ -1,5 +1,5 @@
--- Histories by the records of a journal: which of them are settled, which one is pending, and which
--- were handed out.
+-- Histories by the records of a journal: which of them are durable, which one is pending, and which
+-- were released.
 use Rattle.std.specs.Prelude.{◌≡◌, ℕ, List, [], ◌∷◌, ◌++◌, Option}
 use Rattle.byte_formats.specs.Types.{HashFunction, Text}
 use Rattle.node_history.specs.Laws.{LeadsTo, released_bodies}
@@ -8,8 +8,8 @@ use Rattle.node_history.specs.Rules.{StartsWith, may_follow}
 use Rattle.node_history.specs.declared.start.NodeStart.{NodeStart}
 use Rattle.node_history.specs.declared.step.NodeStep.{NodeStep}
 
--- More steps follow these, and leave the node with this place so: its journal begins with this
--- record and has these, this one is pending, and these were handed out.
+-- More steps follow these, and leave the party with this index so: its journal begins with this
+-- record, these are its durable ones, this one is pending, and these were released.
 pub record GoesOn (h : HashFunction) (starts : List NodeStart) (place : ℕ) (first : Text)
     (steps : List NodeStep) (list : List Text) (pending : Option Text) (out : List Text)
     : Type 0 where
@@ -20,7 +20,7 @@ pub record GoesOn (h : HashFunction) (starts : List NodeStart) (place : ℕ) (fi
   pub pending_is : pending ≡ state.pending
   pub out_is : out ≡ released_bodies state
 
--- Each node that begins with the first of the records has a history that leaves its journal so.
+-- Each party that begins with the first of the records has a history that leaves its journal so.
 pub record HasHistory (h : HashFunction) (list : List Text) (pending : Option Text)
     (out : List Text) : Type 0 where
   pub first : Text

@@ -81,11 +81,11 @@ pub fn law_journals_and_histories_agree()
         → Represents bytes (first ∷ bodies) → IsReadAs h start bytes (first ∷ bodies) }
 {}
 
-/// What runs and stops do to a journal are steps of its node: a record that was begun is there
-/// after a stop, or not; and where none is pending a record that is valid with the others is begun,
-/// settled, and handed out. So each history that led to the journal continues. Whatever valid
-/// records there are, each node that begins with the first of them has a history that settles them
-/// and hands none out.
+/// What runs and stops do to a journal are steps of its party: after a stop a pending record is
+/// durable or gone; and if none is pending, a record that is valid with the others becomes pending,
+/// durable, and released. So each history that led to the journal continues. Whatever valid records
+/// there are, each party that begins with the first of them has a history in which they are durable
+/// and none is released.
 pub fn law_journals_have_histories()
     ensures on { (h : HashFunction) (starts : List NodeStart) (place : ℕ) (start : NodeStart)
         (first : Text) (steps : List NodeStep) → slice_get starts place ≡ Some start

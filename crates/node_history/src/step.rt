@@ -11,6 +11,6 @@ pub enum NodeStep {
     Settle { node: u32 },
     /// The last durable record is released.
     Hand { node: u32 },
-    /// The party stops, and is opened again. A pending record is retained, and durable, or is gone.
+    /// The party stops, and is opened again. A pending record is durable then, or is gone.
     Stop { node: u32, kept: bool },
 }
