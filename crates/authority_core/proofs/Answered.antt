@@ -33,7 +33,7 @@ or_memory wanted Failed keeps = keeps
 or_memory wanted (Append why) keeps = keeps
 or_memory wanted Memory keeps = tt
 
--- after the tests a disk fails, or memory is refused
+-- after the tests a disk failed, or memory was refused
 pub kept_behind : (wanted : Option WriteError) (result : Result Text WriteError) → wanted ≡ None
     → IfErr result IsOfDisks → KeepsToRefusal wanted result
 kept_behind wanted (Ok bytes) none is = none

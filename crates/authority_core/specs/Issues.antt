@@ -1,4 +1,4 @@
--- What issuing answers, beside what the log answers when an entry is added.
+-- What issuing answers, in addition to what the log answers when an entry is added.
 use Rattle.std.specs.Prelude.{ℕ, Option, Result, Ok, Err}
 use Rattle.byte_formats.specs.Types.{Text, HashFunction}
 use Rattle.issuance_log.specs.Folds.{LogState, with_item}

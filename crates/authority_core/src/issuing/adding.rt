@@ -1,4 +1,4 @@
-//! Issuing: the entry of a request is added to the log.
+//! Issuing: the call adds the entry of a request to the log.
 
 ghost use Rattle.std.specs.Prelude.{◌≡◌, ◌≢◌, ◌++◌, ◌∷◌, [], slice_index_or, None, Ok, Err};
 ghost use Rattle.std.specs.Prelude.{IfOk, IfSome};
