@@ -115,7 +115,7 @@ digit_some c d is = grind (arith, nat_tests)
 digit_high : (d : ℕ) → d < 16 → 48 ≤ get_or lower_digits d 0
 digit_high d small = digit_some (get_or lower_digits d 0) d (IsDigits-lower_digits d small)
 
--- a place of the table is a digit, or past the table
+-- an index of the table is that of a digit, or past the table
 digit_other : (mark d : ℕ) → 0 < mark → mark < 48 → get_or lower_digits d 0 ≢ mark
 digit_other mark d some low =
     ⊎_elim

@@ -9,7 +9,7 @@ use Rattle.monitor_core.specs.Report.{Findings, report_of}
 use Rattle.monitor_core.specs.States.{IsStateOf, MonitorState, empty_state}
 use Rattle.monitor_core.specs.declared.lines.Line.{Line}
 
--- What a run is given beside the state and the watched domains.
+-- What a run is given in addition to the state and the watched domains.
 pub record MonitorRun : Type 0 where
   pub log : Text
   pub size : ℕ
@@ -47,14 +47,14 @@ EachEntryOnce h = (log : Text) (watch : List Text) (runs : List MonitorRun)
     → (flat_map found_lines found ≡ report_of watch 0 (flat_map run_entries runs))
     × IsStateOf h (flat_map run_entries runs) (last_state (empty_state log) found)
 
--- Two lists whose states are one are one list, or they show two texts with one hash.
+-- Two lists whose states are one are one list, or they show two strings with one hash.
 abbrev pub StatesAreOfOneList : HashFunction → Type 0
 StatesAreOfOneList h = (first second : List Text) (state : MonitorState)
     → IsStateOf h first state → IsStateOf h second state
     → (first ≡ second) ⊎ HasCollision h (inputs_of h first) (inputs_of h second)
 
 -- Two monitors of one log that end at one state saw one list, whatever they watch and however their
--- runs were cut, or their lists show two texts with one hash.
+-- runs were cut, or their lists show two strings with one hash.
 abbrev pub MonitorsSawOneList : HashFunction → Type 0
 MonitorsSawOneList h = (log : Text) (watch other_watch : List Text) (runs others : List MonitorRun)
     (found other_found : List Findings)
