@@ -56,7 +56,7 @@ where
         }
     }
 
-    // An error of the system that no other answer of a file system represents: a failure.
+    // An error of the system for which a file system has no other answer: a failure.
     fn fail(&mut self, why: &io::Error) -> RoomError
         ensures error { result ≡ RoomError.Failed }
         ensures opened { self.new.opened ≡ self.old.opened }

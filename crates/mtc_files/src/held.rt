@@ -1,4 +1,4 @@
-//! What the file system asks of an open file, beside its bytes.
+//! What the file system asks of an open file, in addition to its bytes.
 
 use std::fs::{File, OpenFile, TryLockError};
 use std::os::fd::AsRawFd;

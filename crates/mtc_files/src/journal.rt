@@ -201,7 +201,7 @@ fn refuse_journal(file: &impl FileExt, length: u64) -> io::Result<()> {
 }
 
 // Writes the last bytes of a journal of so many bytes again, as they are read. A system may take a
-// page for written whose sync has failed, and retain it in memory: after this call the next sync
+// page for written although its sync failed, and keep it in memory: after this call the next sync
 // has to write it, or fails.
 fn write_end_again(file: &impl FileExt, length: u64) -> io::Result<()> {
     let mut place = length.saturating_sub(TAIL);
