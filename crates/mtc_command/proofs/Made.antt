@@ -15,8 +15,8 @@ use Rattle.mtc_command.specs.Endings.{LeftBy, AddsBy}
 use Rattle.disk_core.proofs.Moments.{only_read_on}
 
 module _ {D : Type 0} (g : Ghosts D) where
-  -- the bytes of a disk that the model knows are a crash state; and of this time there are only the
-  -- crash states of now
+  -- the bytes of a disk that the model knows are a crash state; and the crash states since now are
+  -- those of now
   abbrev pub ReadsImage : Type 0
   ReadsImage = (d : D) (b : List ℕ) → g.contents d ≡ Some b → g.may_leave d b
 

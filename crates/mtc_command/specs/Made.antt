@@ -1,5 +1,5 @@
--- What a command leaves of its journal: the crash states that a crash may leave of it now, and
--- since the call began.
+-- What a command leaves of its journal: the crash states that it may have now, and since the call
+-- began.
 use Rattle.std.specs.Prelude.{◌≡◌, ◌⊎◌, ◌≤◌, List, [], ◌∷◌, ◌++◌, Option, None, Some}
 use Rattle.byte_formats.specs.Types.{Text}
 use Rattle.disk_core.specs.Moments.{LeavesOnly, OnlyReads}
@@ -17,12 +17,12 @@ IsOnOld (reads list) = Unit {0}
 IsOnOld (appended list body) = Unit {0}
 IsOnOld (started body) = ⊥
 
--- What is said of the crash states before a call, of those now, and of those at any time since it
+-- A statement on the crash states before a call, on those now, and on those at any time since it
 -- began.
 abbrev pub Leaving : Type 1
 Leaving = CrashStates → CrashStates → CrashStates → Type 0
 
--- The bytes that a name's device tells. A file that isn't there tells none.
+-- The bytes of a name's device, if the model knows them. A file that isn't there has none.
 abbrev pub device_contents : {D : Type 0} → Ghosts D → Option D → Option Text
 device_contents g None = None
 device_contents g (Some d) = g.contents d
@@ -103,7 +103,7 @@ module _ {D : Type 0} (g : Ghosts D) where
       × ((c : Text) → g.may_leave new c → RepresentsEither list body c)
   MayAdd (started body) mid new = ⊥
 
--- From one device of a name to a later one times don't fall, and the crash states are so.
+-- From one device of a name to a later one the clock doesn't go back, and the crash states are so.
 pub record Leaves {D : Type 0} (g : Ghosts D) (How : Leaving) (old new : Option D) : Type 0 where
   pub later : clock_of g old ≤ clock_of g new
   pub images : How (states_at g old) (states_at g new) (states_since g new (clock_of g old))

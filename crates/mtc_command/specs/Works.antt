@@ -123,7 +123,7 @@ module _ {R S D : Type 0} (rooms : Rooms R S D) (g : Ghosts D) (name : Text) whe
         → (c : Text) → g.may_leave disk c → c ≡ []
     pub time : rooms.is_modelled old → rooms.file old name ≡ None → g.moment disk ≡ 0
 
-  -- The device was closed: it stands in the place of that file's, if there is one.
+  -- The device was closed: it is that of the file now, if there is one.
   pub record HasClosed (old new : R) (disk : D) : Type 0 where
     pub opened : rooms.opened new + 1 ≡ rooms.opened old
     pub count : rooms.faults new ≡ with_count (rooms.faults old) (g.faults disk)
