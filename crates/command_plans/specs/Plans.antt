@@ -1,4 +1,4 @@
--- A command as data: the files that it reads, its journals, and what it does with the texts of
+-- A command as data: the files that it reads, its journals, and what it does with the bytes of
 -- those files.
 use Rattle.std.specs.Prelude.{◌≡◌, ◌⊎◌, ℕ, Bool, List, [], ◌∷◌, Option, Result, Ok, Err}
 use Rattle.byte_formats.specs.Types.{HashFunction, Text}
@@ -18,7 +18,7 @@ abbrev pub IsInputOf : List Input → Input → Type 0
 IsInputOf [] input = ⊥
 IsInputOf (first ∷ rest) input = (input ≡ first) ⊎ IsInputOf rest input
 
--- The text of one of these files.
+-- The bytes of one of these files.
 pub record Read (inputs : List Input) : Type 0 where
   pub file : Input
   pub text : Text
@@ -76,7 +76,7 @@ pub record Deed {k : Kinds} (journals : List (Journal k)) : Type 0 where
   pub answer : Judged
   pub does : Deeds journals
 
--- What comes of the texts of the files: one of them isn't in its form, for this reason; or this is
+-- What comes of the bytes of the files: one of them isn't in its form, for this reason; or this is
 -- done where those states are found.
 pub data Step {k : Kinds} (inputs : List Input) (journals : List (Journal k)) : Type 0 where
   misreads : Read inputs → Text → Step inputs journals

@@ -1,7 +1,7 @@
 //! What a command does, as data.
 //!
 //! A plan has the files that a command reads, each with its limit, the journals that it opens or
-//! makes, and a function from the texts of the files to a step: a file is misread, or there is work
+//! makes, and a function from the bytes of the files to a step: a file is misread, or there is work
 //! to do on the journals. What a command has to answer over any files is computed from its plan,
 //! and so is which files it names. The crate is made of definitions (`specs/`) and of laws about
 //! them (`proofs/`); it has no state and runs nothing.
