@@ -132,7 +132,7 @@ module _ {H D : Type 0} {hashes : Hashes H} {g : Ghosts D}
       (λ free. sound (ap (λ broken. refusal_by (view_of old) broken (log_end old)) ready.sound
       ∙ ap (refusal_by (view_of old) false) end ∙ free)))
 
-  -- a record that the log doesn't refuse keeps to these rules
+  -- a record that the log doesn't refuse follows these rules
   pub valid_so : (Valid Sound : List Text → Type 0)
       → ((list : List Text) (why : Option LogError) → (why ≡ None → Sound list)
       → AddsValid Valid (journaled_by (outcome_by (view_of old) list why)))

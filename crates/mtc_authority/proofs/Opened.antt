@@ -31,8 +31,9 @@ use Rattle.mtc_authority.specs.declared.work.Work.{Work}
 use Rattle.mtc_authority.proofs.Appends.{mapped_some}
 use Rattle.mtc_authority.proofs.BadTiles.{bad_is, none_bad}
 
--- What is known after an opening of these records beside these tiles: the outcome of the bytes is
--- that of them, and the device and each crash state of it represent them.
+-- What is known after an opening that found these records, with these tiles on the second device:
+-- the outcome of the bytes is that of the records, and the device and each crash state of it
+-- represent them.
 pub record IsFoundBeside {D : Type 0} (g : Ghosts D) (says : Text → Text → Outcome)
     (next : List Text → Outcome) (old new tiles : D) (records : Option (List Text)) : Type 0 where
   pub contents : IfSome (g.contents tiles) (λ held. IfSome (g.contents old) (λ b.

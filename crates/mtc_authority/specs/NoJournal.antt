@@ -1,4 +1,4 @@
--- What is known of a journal whose header was read, and what stays beside a file that has none.
+-- What is known of a journal whose header was read, and what stays where a file has no such header.
 use Rattle.std.specs.Prelude.{◌≡◌, ◌≢◌, Option, None, Some, take}
 use Rattle.byte_formats.specs.Types.{Text}
 use Rattle.disk_core.specs.Moments.{OnlyReads}

@@ -46,8 +46,8 @@ pub enum Work {
     Tile,
 }
 
-/// Carries out a command on the log of a journal. A failure of a device is reported by the name of
-/// its file. The device of the tiles is only read, unless tiles are stored.
+/// Carries out a command on the log of a journal. A failure of a device is reported with the name
+/// of its file. The device of the tiles is only read, unless tiles are stored.
 #[tactic(auto, unfolding(crate::specs::Works::log_says))]
 pub fn carry_out<'a, H: TreeHash, D: Disk>(
     alloc: Global,

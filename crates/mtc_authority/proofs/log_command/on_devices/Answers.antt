@@ -27,8 +27,8 @@ open-requires g c = λ slot key holds.
     let none : None ≡ Some key = sym (c.requires.empty slot) ∙ holds.held in
     absurd cc
 
--- What was found of the bytes is so of those before the device was read, and of the records that it
--- tells now.
+-- What was found of the bytes holds of those before the device was read, and of the records that it
+-- has now, as the model knows them.
 found_since : {D : Type 0} (g : Ghosts D) (h : HashFunction) (name : Text) (work : Work)
     (old mid new tiles : D) (list : Option (List Text)) (state : List Text → LogState)
     → OnlyReads g old mid → list ≡ option_map records_of (g.contents new)
