@@ -20,8 +20,8 @@ use Rattle.mtc_command.proofs.Works.{not_opened}
 use Rattle.mtc_cosigner.specs.Works.{cosigner_bytes_say, found_cosigner, cosigner_open_ending}
 use Rattle.mtc_cosigner.specs.Works.{cosigner_open_text}
 
--- What is known after an opening of these records: the outcome of the bytes is that of them, and
--- the device and each crash state of it represent them.
+-- What is known after an opening that found these records: the outcome of the bytes is that of the
+-- records, and the device and each crash state of it represent them.
 pub record IsFound {D : Type 0} (g : Ghosts D) (says : Text → Outcome) (next : List Text → Outcome)
     (old new : D) (records : Option (List Text)) : Type 0 where
   pub contents : IfSome (g.contents old) (λ b. IfSome records (λ list. says b ≡ next list))

@@ -76,7 +76,7 @@ fn line_of_size(alloc: Global, size: u64) -> Result<Bytes, Memory>
 }
 
 /// The work of `advance S REQUEST`, which needs no key. The text is made before the record is
-/// added, so that nothing wants memory after the append.
+/// added, so that nothing takes memory after the append.
 pub(crate) fn advance_on<'a, H: TreeHash, D: Disk>(
     alloc: Global,
     journal: &'a str,

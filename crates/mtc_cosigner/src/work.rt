@@ -26,8 +26,8 @@ pub enum Work<'r> {
     Export,
 }
 
-/// Carries out a command on the cosigner of a journal, and hands its device back. It makes the key
-/// for a signature and for an export alone. A failure of the device is reported by the journal's
+/// Carries out a command on the cosigner of a journal, and returns its device. It makes the key for
+/// a signature and for an export alone. A failure of the device is reported with the journal's
 /// name.
 #[tactic(auto, unfolding(crate::specs::Works::cosigner_says))]
 pub(crate) fn carry_out<'a, H: TreeHash, D: Disk>(
