@@ -110,7 +110,7 @@ module _ {F E : Type 0} (h : HashFunction) (files : Files) (kind : NodeKind) (be
     steps = λ (r, none). in_form r fault_text (reading r.text) told_on;
   }
 
-  -- its file was read, its journal was found, and this is what it told and added
+  -- its file was read, its journal was found, and this is what it answered and added
   pub record HasTold (status : Said) (text : List ℕ) : Type 0 where
     pub bytes : List ℕ
     pub has_bytes : HoldsSmall files file bytes

@@ -1,4 +1,4 @@
--- The texts of the files of a plan, and what is reported of them.
+-- The bytes of the files of a plan, and what is reported of them.
 use Rattle.std.proofs.Common.{◌≡◌, inl, inr, ℕ, Bool, true, false, List, [], ◌∷◌, None, refl, ap}
 use Rattle.std.proofs.Common.{if◌then◌else◌}
 use Rattle.mtc_command.specs.Answers.{Reply}

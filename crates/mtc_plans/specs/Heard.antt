@@ -139,7 +139,8 @@ abbrev pub KeyTextsAreOfSecrets : Type 0
 KeyTextsAreOfSecrets = (h : HashFunction) (files : Files) (height width : ℕ) (file : Text)
     → OfSaid (planned_outcome h (keygen height width file) files) (KeysSo files height width file)
 
--- A new cosigner says so, its journal had no file, and its first record is of the secret.
+-- The text is the line of a new cosigner. Its journal had no file, and its first record is of the
+-- secret.
 pub record BeginsSo (h : HashFunction) (files : Files) (journal id log_id : Text)
     (height width : ℕ) (file : Text) (reply : Reply) : Type 0 where
   pub keys : KeysSo files height width file reply

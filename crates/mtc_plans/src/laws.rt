@@ -26,10 +26,10 @@ pub fn law_commands_have_plans()
         → command_outcome h command files ≡ planned_outcome h command files }
 {}
 
-/// The journals of a command's plan are those that its words name, and it makes one where the words
-/// begin a log or a cosigner. A file beside a journal of any plan is one of tiles, so a journal
-/// whose name isn't that of a tile file is none of these. `tile` alone writes such a file: every
-/// other command only reads the one beside its journal.
+/// The journals of a command's plan are those that its arguments name, and it makes one if the
+/// command begins a log or a cosigner. A file beside a journal of any plan is one of tiles, so a
+/// journal whose name isn't that of a tile file is none of these. `tile` alone writes such a file:
+/// every other command only reads the one beside its journal.
 pub fn law_plans_name_their_files()
     ensures journals { (h : HashFunction) (command : CommandValue)
         → journal_names (plan_of h command).journals ≡ option_to_list (journal_of command) }
