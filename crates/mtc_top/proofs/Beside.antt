@@ -21,7 +21,7 @@ use Rattle.mtc_top.specs.Facts.{facts}
 abbrev pub IsOwn : List ℕ → Type 0
 IsOwn name = is_tiles_name name ≡ false
 
--- the journal that the words name
+-- the journal that the arguments name
 named_own : (journal : Option (List ℕ)) (dids : List Journaled) (name : List ℕ)
     (did : Journaled) → AreAmong (done_with (option_to_list journal) dids) name did
     → IfSome journal IsOwn → IsOwn name

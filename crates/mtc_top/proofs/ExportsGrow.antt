@@ -1,4 +1,4 @@
--- A run of `export` after an execution, beside one in the execution.
+-- A run of `export` after an execution, and one in the execution.
 use Rattle.std.proofs.Common.{◌≡◌, ℕ, List, ◌++◌, Some, Ok, sym, subst, ap, ◌∙◌}
 use Rattle.byte_formats.specs.Places.{IsBytes}
 use Rattle.byte_formats.specs.Types.{HashFunction}

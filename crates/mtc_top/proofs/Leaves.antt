@@ -131,7 +131,7 @@ none_left g file None c models none is = is
 none_left g None (Some d) c models none is = absurd (grind (rules, models))
 none_left g (Some b) (Some d) c models none is = absurd cc
 
--- what a device tells is one, and what the file system tells of the file
+-- the bytes of a device that the model knows are one, and so are those of the file
 pub contents_image : {D : Type 0} (g : Disks D) (x : Option D) (c : List ℕ) → ReadsImage g
     → device_contents g x ≡ Some c → states_at g x c
 contents_image g None c image is = absurd cc
@@ -148,7 +148,7 @@ pub file_bytes : {D : Type 0} (g : Disks D) (file : Option (List ℕ)) (x : Opti
 file_bytes g file None c bytes models is = absurd cc
 file_bytes g file (Some d) c bytes models is = bytes d c (models.0 ∙ is)
 
--- of this time there are the crash states of now
+-- the crash states since now are those of now
 now_of : {D : Type 0} (g : Disks D) → OnlyNow g → (x : Option D) (c : List ℕ)
     → states_since g x (clock_of g x) c → states_at g x c
 now_of g only None c is = is
@@ -232,7 +232,7 @@ module _ {R S D O E : Type 0} (h : HashFunction) (rooms : Rooms R S D) (disks : 
           (contents old name is_modelled) none at
     ]
 
-    -- where a record was added nothing would be retained
+    -- an added record follows the rules: the journal can't be as it was
     added_valid : (list : List (List ℕ)) (body : List ℕ)
         → IsFound (Rules turn) (rooms.file old name) list
         → LeavesValid rooms disks (Rules turn) old turn.room name (appended list body)

@@ -72,7 +72,7 @@ none_refused k files [] file reason none any = any
 none_refused k files (opens kind beside name ∷ rest) file reason none any = cc
 none_refused k files (makes kind name ∷ rest) file reason none any = cc
 
--- ---- a journal that represents the records of a node
+-- ---- a journal that represents the records of a party
 
 module _ (h : HashFunction) (start : NodeStart) (first name : List ℕ) (files : Files)
     (stands : (c : List ℕ) → files name ≡ Some c
@@ -80,7 +80,7 @@ module _ (h : HashFunction) (start : NodeStart) (first name : List ℕ) (files :
   abbrev KeepTo : (List (List ℕ) → Type 0) → Type 0
   KeepTo Valid = (list : List (List ℕ)) → AreOfParty h start first list → Valid list
 
-  -- it is read, where the node is of this kind
+  -- it is read, if the party is of this kind
   is_read : (kind : NodeKind) → KeepTo (AreOfKind (node_kinds h) kind) → (c : List ℕ)
       → files name ≡ Some c → IsOk (read_by (node_fold h kind) c)
   is_read kind keeps c is =
@@ -133,7 +133,7 @@ module _ (h : HashFunction) (start : NodeStart) (first name : List ℕ) (files :
       absurd (none_refused (node_kinds h) files rest file reason
       (no_more journal name (journal_names rest) named) any)
 
--- a file that is read as a node's
+-- a file that is read as a party's
 stands_of : (h : HashFunction) (start : NodeStart) (c : List ℕ) (list : List (List ℕ))
     → IsBytes c → IsReadAs h start c list → Represents c list
 stands_of h (Log settings) c list are read =

@@ -43,7 +43,7 @@ IsNewAt files name did = IsOnOld did ⊎ (files name ≡ None)
 -- ---- what is found
 
 module _ (k : Kinds) (files : Files) (Valid : List (List ℕ) → Type 0) where
-  -- records of a node of this kind follow the rules
+  -- records of a party of this kind follow the rules
   abbrev Keeps : k.Kind → Type 0
   Keeps kind = (list : List (List ℕ)) → AreOfKind k kind list → Valid list
 

@@ -1,4 +1,4 @@
--- What the words ask for is what comes of the plan of their command.
+-- What the arguments ask for is what comes of the plan of their command.
 use Rattle.std.proofs.Common.{◌≡◌, true, Result, Ok, Err, refl}
 use Rattle.byte_formats.specs.Types.{HashFunction}
 use Rattle.mtc_words.specs.Commands.{CommandValue, member}

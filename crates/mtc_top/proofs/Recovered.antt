@@ -1,4 +1,4 @@
--- What may be recovered of a node's journal after an execution, and its history.
+-- What may be recovered of a party's journal after an execution, and its history.
 use Rattle.std.proofs.Common.{◌≡◌, ◌⊎◌, inl, inr, ℕ, true, List, [], ◌∷◌, ◌++◌, Option, None, Some}
 use Rattle.std.proofs.Common.{Result, Ok, refl, sym, subst, ap, ◌∙◌, append_assoc}
 use Rattle.std.specs.Prelude.{IsOk, is_ok}
@@ -61,7 +61,7 @@ first_of_more list body more found prefix = (
       ∙ (sym (append_assoc list (body ∷ more) prefix.0) ∙ prefix.1),
 )
 
--- what represents pending records begins with the first of them
+-- bytes that represent durable records and a pending one begin with the first of them
 first_is : (first other c : List ℕ) (others settled list : List (List ℕ))
     (pending : Option (List ℕ)) → RepresentsPending (other ∷ settled) pending c → Represents c list
     → first ∷ others ≡ list → other ≡ first
@@ -162,7 +162,7 @@ module _ {R S D O E : Type 0} (h : HashFunction) (rooms : Rooms R S D) (disks : 
               (subst (Represents c) of.is b.stands);
         }
 
-    -- what was held is the prefix of what is recovered
+    -- what was held is a prefix of what is recovered
     pub held_prefix : (list found : List (List ℕ))
         → WasHeld h rooms disks outs errs name begins links list
         → IsRecovered h rooms disks outs errs name new found → IsPrefix list found
@@ -196,7 +196,7 @@ module _ {R S D O E : Type 0} (h : HashFunction) (rooms : Rooms R S D) (disks : 
         (journal_lead p (AreRecords h) name serves_so) (List (List ℕ)) EventHolds Told P each links
         begins new begun.is_modelled course told
 
-    -- each record that was handed out
+    -- each record that was released
     pub released_so : OfReleased h rooms disks outs errs name (λ list body.
         HasReleased evs list body
         × WasHeld h rooms disks outs errs name begins links (list ++ body ∷ [])) begins links

@@ -150,7 +150,7 @@ module _ {R S D O E : Type 0} (h : List ℕ → List ℕ) (rooms : Rooms R S D) 
   abbrev went : Type 0
   went = is_heard status (outs.taken out) (outs.taken out') ≡ true
 
-  -- where the file system or memory ended it, it isn't heard
+  -- no byte of a run goes out that the file system or memory ended
   not_failed : Failed → went → ⊥
   not_failed failed any = unheard status 5 (outs.taken out) (outs.taken out') failed.code
       (omega arith) (λ six. omega (arith, six)) failed.text any
@@ -291,7 +291,7 @@ module _ {R S D O E : Type 0} (h : HashFunction) (rooms : Rooms R S D) (disks : 
       | inr other ↦ other
     ]
 
-    -- time continues
+    -- the clock of the device doesn't go back
     later : IsOther asked.besides name
         → clock_of disks (rooms.device old name) ≤ clock_of disks (rooms.device turn.room name)
     later beside = elim (find_name asked.journals (asked.outcome (rooms.file old)).journals name) [

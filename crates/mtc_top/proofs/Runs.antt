@@ -228,7 +228,7 @@ module _ {R S D O E : Type 0} (h : List ℕ → List ℕ) (rooms : Rooms R S D) 
     pub all_early : rooms.is_modelled old → Early status
     all_early = early_by run.ending status run.ends run.concludes
 
-    -- where the file system didn't fail and memory was had it answered
+    -- if the file system didn't fail and memory wasn't refused, it answered
     pub answered : status ≢ 5 → status ≢ 8 → Answers status
     answered not5 not8 = elim ended [
       | inl a ↦ a

@@ -64,8 +64,8 @@ pub record HasCounted (store : Store) (set : ℕ) (id key : Text) : Type 0 where
 module _ {R S D O E : Type 0} (h : HashFunction) (rooms : Rooms R S D) (disks : Disks D)
     (outs : Sinks O) (errs : Sinks E) where
   -- A run of an execution of a cosigner's journal held the record of a signature of the accepted
-  -- interval and hash, a run of `export` after it printed the export that was retained, and the
-  -- store counts the cosigner.
+  -- interval and hash, a run of `export` after it printed the export that is audited, and the store
+  -- counts the cosigner.
   pub record IsSignedInCourse (x : AuditCase) (kept_text : Text) : Type 0 where
     -- a run made or opened the journal
     pub name : Text
@@ -109,9 +109,9 @@ module _ {R S D O E : Type 0} (h : HashFunction) (rooms : Rooms R S D) (disks : 
       ⊎ ((one : Text) × ((other : Text) × ((turn.status ≡ 10) × (one ≢ other) × (h one ≡ h other)
       × Prints outs turn.out turn.out_after (collision_text one other))))
 
-  -- This holds of each run of `audit` that ends without a failure and with memory enough. A
+  -- This holds of each run of `audit` that ends without a failure and without memory refused. A
   -- landmark backs the certificate, and the list has its hash in the accepted interval; or such a
-  -- signature does, and the list begins with the entries of the last checkpoint that was retained.
+  -- signature does, and the list begins with the entries of the last checkpoint of the export.
   abbrev pub AuditsSettle : Type 0
   AuditsSettle = (old : R) (turn : Turn R O E) (cert store : Text) (moment : ℕ)
       (entries kept : Text) (x : AuditCase) → rooms.is_modelled old

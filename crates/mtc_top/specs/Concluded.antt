@@ -50,8 +50,8 @@ module _ {O E : Type 0} (outs : Sinks O) (errs : Sinks E) (command : Text)
     pub nothing : Prints outs out out' []
     pub line : Reports errs err err' (line_of command file reason)
 
-  -- How it ended; and why the file system failed last, where that is how. A reply went out, or
-  -- standard output failed at its text.
+  -- How it ended; and, if the file system failed, why it failed last. A reply went out, or standard
+  -- output failed at its text.
   abbrev pub Concludes : Ending → Cause → ℕ → Type 0
   Concludes (replied reply) cause status = Wrote reply status ⊎ Lost (out_of reply) status
   Concludes (room_failed file) cause status = Reported 5 (Some file) (word_of cause) status

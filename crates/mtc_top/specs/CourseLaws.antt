@@ -83,15 +83,15 @@ module _ {R S D O E : Type 0} (h : HashFunction) (rooms : Rooms R S D) (disks : 
       → images_in h rooms disks outs errs new name c
       → (found : List Text) × (Represents c found × IsPrefix list found))
 
-  -- It is so of each record that a run added of which a byte may have gone out, with those that
-  -- were there: the record is handed out.
+  -- This holds of each record that was released, with those before it: a run added it, and a byte
+  -- of the run may have gone out.
   abbrev pub OfReleased : Text → (List Text → Text → Type 0) → R → List (Link R O E) → Type 0
   OfReleased name P = OfEachTurn h rooms disks outs errs (λ old turn. (list : List Text)
       (body : Text) → DidWith h rooms disks outs errs old turn name (appended list body)
       → IsHeard outs turn → P list body)
 
-  -- A run that handed a record out is an event that releases it, and held it, as the last one after
-  -- those that were there.
+  -- A run that released a record is an event that releases it. The run held the record, after those
+  -- that were there.
   abbrev pub ReleasedWasHeld : Type 0
   ReleasedWasHeld = OfCourses (λ name start first old links new. OfReleased name (λ list body.
       HasReleased (events h rooms disks outs errs name old links) list body

@@ -81,7 +81,7 @@ module _ {R S D O E : Type 0} (h : HashFunction) (rooms : Rooms R S D) (disks : 
   abbrev pub images_from : R → R → Text → CrashStates
   images_from old room name = states_between program name old room
 
-  -- These links are an execution of the journal of this name.
+  -- These events are an execution of the journal of this name.
   abbrev pub IsCourse : Text → R → List (Link R O E) → R → Type 0
   IsCourse name = IsFileCourse program (owner name)
 
@@ -115,8 +115,8 @@ module _ {R S D O E : Type 0} (h : HashFunction) (rooms : Rooms R S D) (disks : 
   abbrev pub IsRecovered : Text → R → List Text → Type 0
   IsRecovered name room = MayRecover (images_in room name)
 
-  -- The journal of this name is that of a node at the end of a history, in which the records were
-  -- handed out that were released in the execution, in this order.
+  -- The journal of this name is that of a party at the end of a history, in which those records are
+  -- released that the execution released, in their order.
   pub record IsReached (name : Text) (start : NodeStart) (first : Text) (old : R)
       (links : List (Link R O E)) (room : R) : Type 0 where
     pub steps : List NodeStep

@@ -38,7 +38,7 @@ facts_of h command = record {
   outcome = planned_outcome h command;
 }
 
--- Words that are no command name no file, and are answered so.
+-- Arguments that are no command name no file, and are answered so.
 abbrev pub no_command : WordError → Facts
 no_command why = record {
   journals = [];
@@ -50,7 +50,7 @@ no_command why = record {
   outcome = λ files. stops BadWords (word_fault_text why);
 }
 
--- What is to be known where the words say this.
+-- What is to be known where the arguments say this.
 abbrev pub facts : HashFunction → Result CommandValue WordError → Facts
 facts h (Ok command) = facts_of h command
 facts h (Err why) = no_command why

@@ -1,5 +1,5 @@
--- What goes out of `issue` and `cosign`, beside the request that they read and the record that they
--- add, and what becomes of that record.
+-- What goes out of `issue` and `cosign`, in addition to the request that they read and the record
+-- that they add, and what becomes of that record.
 use Rattle.std.specs.Prelude.{◌≡◌, List, [], ◌∷◌, ◌++◌, length, Some, Ok}
 use Rattle.byte_formats.specs.Types.{HashFunction, Text}
 use Rattle.file_events.specs.Executions.{IsPrefix}

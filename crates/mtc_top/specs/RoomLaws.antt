@@ -26,7 +26,8 @@ module _ {R S D O E : Type 0} (h : HashFunction) (rooms : Rooms R S D) (disks : 
     pub begun : IsBegun h rooms disks outs errs name start first old links
     pub course : IsCourse h rooms disks outs errs name old links room
 
-  -- Each crash state of the journal represents the state, which handed out what was released.
+  -- Each crash state of the journal represents the state, and what the state has released is what
+  -- the execution released.
   pub record StandsSo (journal : IsJournalOf) (state : HistoryState) : Type 0 where
     pub stands : (c : Text) → images_in h rooms disks outs errs room journal.name c
         → RepresentsPending (journal.first ∷ state.settled) state.pending c

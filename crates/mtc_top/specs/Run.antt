@@ -33,8 +33,8 @@ module _ {R S D O E : Type 0} (h : HashFunction) (rooms : Rooms R S D) (disks : 
     -- How the command ended: it replied, or a file failed, or memory was refused.
     pub ending : Ending
     -- The reply is the one that is asked for, where the contents of all files are known or where
-    -- the words are no command. Status 1 says that they are none, and they are answered by it. A
-    -- failure has its cause, and its file is one of the command. A journal that isn't opened goes
+    -- the arguments are no command. Status 1 says that they are none, and they are answered by it.
+    -- A failure has its cause, and its file is one of the command. A journal that isn't opened goes
     -- with a status that may come before.
     pub ends : EndsAs (rooms.is_modelled old) (Rose (rooms.faults old) (rooms.faults new))
         (IsErr (command_of words)) (asked.journals ++ (asked.besides ++ asked.inputs)) journals

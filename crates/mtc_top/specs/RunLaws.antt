@@ -1,4 +1,4 @@
--- What follows of each run, and what it is as steps of the nodes whose journals it works on.
+-- What follows of each run, and what it is as steps of the parties whose journals it works on.
 use Rattle.std.specs.Prelude.{◌≡◌, ◌≢◌, ◌<◌, ◌≤◌, ◌⊎◌, ℕ, true, false, List, [], ◌++◌, length}
 use Rattle.std.specs.Prelude.{Option, None, Some, IsErr, codes, slice_get}
 use Rattle.byte_formats.specs.Types.{HashFunction, Text}
@@ -30,8 +30,8 @@ TookSome None new = ⊥
 TookSome (Some old) None = ⊥
 TookSome (Some old) (Some new) = length old < length new
 
--- Each history that led to a journal with the crash states before continues to those now, and hands
--- out what the event releases.
+-- Each history that led to a journal with the crash states before continues to those now, and
+-- releases what the event releases.
 abbrev pub AllGoOn : HashFunction → Event → CrashStates → CrashStates → Type 0
 AllGoOn h event before now = (starts : List NodeStart) (place : ℕ) (start : NodeStart)
     (first : Text) (steps : List NodeStep) (out : List Text) → slice_get starts place ≡ Some start
@@ -55,7 +55,7 @@ module _ {R S D O E : Type 0} (h : HashFunction) (rooms : Rooms R S D) (disks : 
     -- With another status than those of a failed file and of refused memory it answers.
     pub answers : status ≢ 5 → status ≢ 8
         → Answered h rooms disks outs errs words old new out out' err err' status
-    -- Without a failure, and with memory enough, it answers, and by another status than 6.
+    -- Without a failure, and without memory refused, it answers, and by another status than 6.
     pub complete : (Rose (rooms.faults old) (rooms.faults new) → ⊥)
         → (Rose (outs.faults out) (outs.faults out') → ⊥) → status ≢ 8 → (status ≢ 6)
         × Answered h rooms disks outs errs words old new out out' err err' status
@@ -75,7 +75,7 @@ module _ {R S D O E : Type 0} (h : HashFunction) (rooms : Rooms R S D) (disks : 
       → HasRun h rooms disks outs errs words old new out out' err err' status
       → RunShows words old new out out' err err' status
 
-  -- The run as steps of the node whose journal has this name.
+  -- The run as steps of the party whose journal has this name.
   pub record RunSteps (old : R) (turn : Turn R O E) (name : Text) : Type 0 where
     -- It is an event of the journal. Where the machine stops in the middle of it, what is left is
     -- one of a run that broke off.
@@ -87,10 +87,10 @@ module _ {R S D O E : Type 0} (h : HashFunction) (rooms : Rooms R S D) (disks : 
     pub stops : (c : Text) → images_from h rooms disks outs errs old turn.room name c
         → AllGoOn h (broke (did_to (program h rooms disks outs errs) name old turn))
         (images_in h rooms disks outs errs old name) (λ d. d ≡ c)
-    -- What the file system tells of the file is a crash state.
+    -- The bytes of the file that the model knows are a crash state.
     pub as_read : (c : Text) → rooms.file turn.room name ≡ Some c
         → images_in h rooms disks outs errs turn.room name c
-    -- Time continues.
+    -- The clock of the file's device doesn't go back.
     pub later : clock_of disks (rooms.device old name)
         ≤ clock_of disks (rooms.device turn.room name)
 

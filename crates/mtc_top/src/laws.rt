@@ -24,7 +24,7 @@ pub fn law_runs_are_steps<H: TreeHash, R: Room, O: Sink, E: Sink>()
     ensures steps { RunsAreSteps H.hash R.Room R.Dsk.Disk O.Sink E.Sink }
 {}
 
-/// Once a byte of a run went out, how much of its text came through does not affect the files. If
+/// Once a byte of a run went out, how much of its text went out does not affect the files. If
 /// standard output failed after a prefix of the text, that is a run with status 6 that leaves the
 /// same file system. So a stop of the machine while the text goes out is such a run, and then a
 /// stop.
@@ -123,10 +123,10 @@ pub fn law_exports_only_grow<H: TreeHash, R: Room, O: Sink, E: Sink>()
 /// two different strings with one hash. Its four files are read, and the store accepts the
 /// certificate: by a landmark, or by cosigners. Then one of those that count has signed the
 /// accepted hash: a run of an execution of its journal found or added that record, and the export
-/// that was retained is what a run of `export` with status 0 printed after it. The list is the
-/// wanted one: it has the landmark's hash, or the root of the last checkpoint of that export. The
-/// clause `stand` says in addition of which lists the two strings are: the first is hashed for the
-/// list or a key of it, the second for the certificate or in the cosigner's proofs.
+/// file is what a run of `export` with status 0 printed after it. The list is the wanted one: it
+/// has the landmark's hash, or the root of the last checkpoint of that export. The clause `stand`
+/// says in addition of which lists the two strings are: the first is hashed for the list or a key
+/// of it, the second for the certificate or in the cosigner's proofs.
 pub fn law_audits_stand<H: TreeHash, R: Room, O: Sink, E: Sink>()
     ensures settle { AuditsSettle H.hash R.Room R.Dsk.Disk O.Sink E.Sink }
     ensures stand { AuditsStand H.hash R.Room R.Dsk.Disk O.Sink E.Sink }
