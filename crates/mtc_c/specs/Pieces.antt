@@ -1,4 +1,4 @@
--- What the C library hands out of a certificate.
+-- What the C library writes of a certificate.
 use Rattle.std.specs.Prelude.{ℕ, ◌≡◌, ◌++◌, drop, length, nat_le, if◌then◌else◌}
 use Rattle.std.specs.Prelude.{Option, Some, None, Result, Ok, Err}
 use Rattle.std.specs.List.{slice_get}
@@ -37,15 +37,15 @@ name_in bytes number =
 abbrev pub entry_hash_in : HashFunction → Text → Result Hash ℕ
 entry_hash_in h bytes = cert_in bytes >>= λ c. Ok (leaf_hash h (entry_of h c))
 
--- Bytes are put at the start of a buffer, where they fit, and the rest of it stays; or 9 and the
--- buffer as it was.
+-- Bytes are put at the start of a buffer, if they fit, and the rest of it stays; or the status is 9
+-- and the buffer as it was.
 abbrev pub put_in : Text → Text → ℕ × Text
 put_in piece before = if nat_le (length piece) (length before)
     then (0, piece ++ drop (length piece) before) else (9, before)
 
--- What a call that hands out a part of a certificate makes of the caller's buffer, of its length
--- and of the status. Where there is no such part the buffer stays, the length is 0, and the status
--- says why.
+-- What a call that writes a part of a certificate makes of the caller's buffer, of its length and
+-- of the status. Where there is no such part the buffer stays, the length is 0, and the status says
+-- why.
 abbrev pub IsPutInBuffer : Result Text ℕ → Text → Text → ℕ → ℕ → Type 0
 IsPutInBuffer (Err status) before after len result =
     (result ≡ status) × ((after ≡ before) × (len ≡ 0))

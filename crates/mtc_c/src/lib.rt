@@ -3,7 +3,7 @@
 //! The header `mtc.h` declares these functions, says what each answers and names the numbers. A
 //! slice is passed as a pointer and a length. The library keeps nothing between two calls, so
 //! threads may call it at once. It takes memory only to read a store, by the C library's `malloc`,
-//! and gives it back before it answers.
+//! and frees it before it answers.
 #![tactic(auto)]
 
 ghost use Rattle.std.specs.Prelude.{◌≡◌};

@@ -34,7 +34,7 @@ pub struct Verdict {
     pub start: u64,
     /// The end of that subtree: the first entry after it.
     pub end: u64,
-    /// The cosigners that count: bit i is set for the one at place i of the store. 0 where the
+    /// The cosigners that count: bit i is set for the one at index i of the store. 0 where the
     /// store trusts the subtree itself.
     pub cosigners: u64,
 }
