@@ -68,8 +68,8 @@ fn step<D: Disk>(opening: &mut Opening<D>, found: &mut Bytes) -> Result<Option<E
     }
 }
 
-// Whether so many records were read, and the reading ends so when it is asked again. Four bytes of
-// length represent the commit byte and the length of each record.
+// Whether so many records were read, and the reading ends so when it is asked again. In place of a
+// record's commit byte and length in the file, `found` has a length of four bytes.
 fn is_ended<D: Disk>(
     opening: &mut Opening<D>,
     found: &mut Bytes,
