@@ -26,7 +26,7 @@ struct Line<'a> {
     words: &'a str,
 }
 
-// Another byte at a place of the file with this name.
+// Another byte at an offset of the file with this name.
 #[derive(Clone, Copy)]
 struct Change<'a> {
     name: &'a str,
@@ -146,7 +146,7 @@ impl MemoryFiles {
         Ok(())
     }
 
-    // Writes what a line asks for beside the status and the outputs.
+    // Writes what a line asks for in addition to the status and the outputs.
     fn add_rest(&self, alloc: Global, text: &mut String, ended: &Ended, files: &str) -> Result<()> {
         if self.is_starved(ended) {
             text.push_str(" starved")?;
