@@ -33,7 +33,7 @@ use Rattle.issuance_log.specs.declared.machine.TileRest.{TileRest}
 use Rattle.issuance_log.proofs.ReadViews.{log_refused, log_why}
 use Rattle.issuance_log.proofs.Views.{view_fold}
 
--- what is durable, by items with the same places and leaves
+-- what is durable, by items with the same offsets and leaves
 pub durable_as : (h : HashFunction) (v : LogView) (places places' : List ℕ)
     (leaves leaves' : Option (List Hash)) (end : ℕ) (b : Text) → places' ≡ places
     → leaves' ≡ leaves → AreDurable end b → AreKept h v places leaves (durable_of end b)

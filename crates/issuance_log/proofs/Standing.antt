@@ -1,4 +1,4 @@
--- The items of a log stand at their places, record by record.
+-- The items of a log are at their offsets, record by record.
 use Rattle.std.proofs.Common.{◌≡◌, ℕ, zero, suc, ◌+◌, ◌<◌, ◌≤◌, List, [], ◌∷◌, ◌++◌, length}
 use Rattle.std.proofs.Common.{Option, Some, None, refl, ap, sym, subst, ◌∙◌, slice_index_or, arith}
 use Rattle.std.specs.Prelude.{map, option_to_list}

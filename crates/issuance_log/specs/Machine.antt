@@ -46,7 +46,7 @@ module _ {T : Type 0} (k : Ghosts T) (was now : TileRest T) where
 abbrev pub HasNoTiles : {T : Type 0} → TileSeed T → Type 0
 HasNoTiles seed = (slot : ℕ) (key : TileKey) → HoldsKey seed.pool slot key → ⊥
 
--- what it hands back
+-- what it returns
 abbrev pub rest_of_seed : {T : Type 0} → TileSeed T → TileRest T
 rest_of_seed seed = record { disk = seed.disk; refusal = None }
 
@@ -57,7 +57,7 @@ module _ {H T : Type 0} {hashes : Hashes H} {k : Ghosts T} where
   abbrev pub machine_view : LogMachine H T hashes k → LogView
   machine_view it = it.numbers.view
 
-  -- what it hands back
+  -- what it returns
   abbrev pub rest_in : LogMachine H T hashes k → TileRest T
   rest_in it = record { disk = tiles_disk (items_tiles it.items); refusal = it.refusal }
 
@@ -71,8 +71,8 @@ module _ {H T : Type 0} {hashes : Hashes H} {k : Ghosts T} where
   HasStored it = is_some it.refusal ≡ false
       → (machine_view it).tiled ≤ tiles_stored (items_tiles it.items)
 
-  -- Over any disk, where the next record's commit byte stands here: its numbers are sound, each
-  -- item has its place below that commit byte, and the tiles are stored.
+  -- Over any disk, where the next record's commit byte stands here: its numbers are sound, the
+  -- offset of each item is below that commit byte, and the tiles are stored.
   pub record IsKeptWithin (it : LogMachine H T hashes k) (gate : ℕ) : Type 0 where
     pub sound : HasSoundNumbers (machine_view it)
     pub below : AreBelow (items_places it.items) (gate + 1)

@@ -95,8 +95,8 @@ item_at s index =
     then Ok (slice_index_or s.entries index [], slice_index_or s.keys index [])
     else Err NoSuchEntry
 
--- two byte strings hold that item; after a refusal, for which memory or a failure may be the reason
--- beside it, this says nothing of them
+-- two byte strings hold that item; after a refusal, also one by memory or a failure, this says
+-- nothing of them
 abbrev pub GivesItem : Result (Text × Text) LogError → Result (Unit {0}) LogError
     → Text → Text → Type 0
 GivesItem wanted (Ok done) entry key = wanted ≡ Ok (entry, key)
