@@ -1,5 +1,5 @@
--- One list beside a cosigner: where a list begins with what is held at last, each Sign is of the
--- list, or there are two strings with one hash.
+-- One list and a cosigner: if the list begins with what is held at last, each Sign is of the list,
+-- or there are two strings with one hash.
 use Rattle.std.proofs.Common.{◌≡◌, ◌⊎◌, ⊎_elim, inl, inr, ℕ, zero, suc, ◌+◌, ◌-◌, ◌<◌, ◌≤◌, true}
 use Rattle.std.proofs.Common.{List, [], ◌∷◌, length, get_or, take, sym, ap, subst, ◌∙◌, arith}
 use Rattle.std.specs.List.{AllByRecursion, Contains}

@@ -1,4 +1,5 @@
--- What a cosigner's steps hold and hash, beside the list of entries that it has signed.
+-- What a cosigner's steps hold and hash, and what that is of the list of entries that it has
+-- signed.
 use Rattle.std.specs.Prelude.{◌≡◌, ℕ, ◌≤◌, true, List, [], ◌∷◌, ◌++◌, length, take, Some}
 use Rattle.std.specs.List.{flat_map}
 use Rattle.byte_formats.specs.Types.{HashFunction, Text}

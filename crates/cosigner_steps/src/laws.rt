@@ -30,11 +30,11 @@ pub fn law_steps_lead_to_what_is_held()
         → progress_by h keys (first_progress h) steps ≡ Some done → held_by h steps ≡ done.held }
 {}
 
-/// One list beside a cosigner: where a list begins with what is held at last by steps that are
-/// allowed, with proofs of 32-byte hashes, each Sign among them has the hash of the list's own
-/// entries in its interval. Or else there are two different strings with one hash: the first is
-/// hashed in the tree hash of so many of the list's first entries as a checkpoint of the steps has,
-/// the second in the opening of their proofs.
+/// One list and a cosigner: if the list begins with what is held at last by steps that are allowed,
+/// with proofs of 32-byte hashes, each Sign among them has the hash of the list's own entries in
+/// its interval. Or else there are two different strings with one hash: the first is hashed in the
+/// tree hash of so many of the list's first entries as a checkpoint of the steps has, the second in
+/// the opening of their proofs.
 pub fn law_one_list_is_behind<H: TreeHash>()
     ensures { OneListBehind H.hash }
 {}
