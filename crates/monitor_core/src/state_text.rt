@@ -68,7 +68,7 @@ fn read_log(alloc: Global, text: &[u8], n: usize) -> Result<AnchorId, TextError>
     }
 }
 
-// The place of the first space.
+// The index of the first space.
 fn first_space(text: &[u8]) -> Option<usize>
     ensures place { result ≡ position (λ byte. byte == 0x20) text.now }
     ensures within { IfSome result (λ place. place < length text.now) }
