@@ -35,7 +35,7 @@ pub enum Command<'a> {
     /// for the log of LOGID and with the key of a secret. The height is 5 or 10, the width 1, 2, 4
     /// or 8.
     InitCosigner(&'a str, AnchorId, AnchorId, u64, u64, &'a str),
-    /// `advance S REQUEST`: continue to the size of the log that a request has.
+    /// `advance S REQUEST`: hold the root of the larger log in a request.
     Advance(&'a str, &'a str),
     /// `cosign S REQUEST`: sign the subtree of a request.
     Cosign(&'a str, &'a str),
