@@ -57,16 +57,15 @@ pub fn law_no_one_time_key_signs_twice<H: TreeHash, R: Room, O: Sink, E: Sink>()
 /// If a run that added a record did its work, or a byte of it may have gone out, it ended with
 /// another status than 5 and 8. A byte may have gone out if standard output took one, or if it
 /// failed and the model doesn't know what it took. So its record is among those that the run found
-/// or added, and each crash state that a crash may leave afterwards represents records. These begin
-/// with those that were there, and that one.
+/// or added, and each crash state afterwards represents records. These begin with those that were
+/// there, and that one.
 pub fn law_released_records_stand<H: TreeHash, R: Room, O: Sink, E: Sink>()
     ensures held { ReleasedWasHeld H.hash R.Room R.Dsk.Disk O.Sink E.Sink }
     ensures stand { ReleasedStand H.hash R.Room R.Dsk.Disk O.Sink E.Sink }
 {}
 
-/// Each crash state that a crash may leave represents records. What a run found in the journal
-/// before, or made of it, is a prefix of them, whatever went out of the run, unless it ended with
-/// status 5 or 8.
+/// Each crash state represents records. What a run found in the journal before, or made of it, is a
+/// prefix of them, whatever went out of the run, unless it ended with status 5 or 8.
 pub fn law_recovered_lists_only_grow<H: TreeHash, R: Room, O: Sink, E: Sink>()
     ensures { RecoveredListsGrow H.hash R.Room R.Dsk.Disk O.Sink E.Sink }
 {}
