@@ -33,7 +33,7 @@ abbrev pub node_fold : HashFunction → (kind : NodeKind) → Fold (NodeState ki
 node_fold h log = log_fold h
 node_fold h cosigner = cosigner_fold h
 
--- The words of a fault, as a command prints them.
+-- The text of a fault, as a command prints it.
 abbrev pub node_fault_text : (kind : NodeKind) → NodeFault kind → Text
 node_fault_text log = log_open_text
 node_fault_text cosigner = cosigner_open_text
@@ -48,7 +48,7 @@ abbrev pub missing_text : Option (ℕ × ℕ) → Option Text
 missing_text None = None
 missing_text (Some tile) = Some (bad_tile_text tile.0 tile.1)
 
--- What the file beside a journal lacks, in the words of the refusal.
+-- What the file beside a journal lacks, as the reason of the refusal.
 abbrev pub node_lacks : HashFunction → (kind : NodeKind) → NodeState kind → Text → Option Text
 node_lacks h log state tiles = missing_text (first_bad h state tiles)
 node_lacks h cosigner state held = None
