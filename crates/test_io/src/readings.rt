@@ -1,4 +1,4 @@
-//! Disks, and journals that are begun and read, for the cases beside.
+//! Disks, and journals that are begun and read, for the cases of this crate.
 
 use disk_core::{Disk, MemDisk};
 use journal_core::{
