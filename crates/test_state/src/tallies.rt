@@ -38,7 +38,7 @@ fn disk_of(alloc: Global, records: &[u8], failing: &[u64]) -> Result<Option<MemD
     Ok(Some(disk(alloc, written.bytes(), failing)?))
 }
 
-// The tally on a disk, and beside it a disk with one byte.
+// The tally on a disk, and a second disk with one byte.
 fn open(alloc: Global, journal: MemDisk) -> Result<Answer, Memory>
     ensures { IfOk result (λ answer. IfOk answer
         (λ opened. IsMadeBy ⟦<Tally as StateMachine>⟧ opened.0 opened.1)) }
@@ -47,8 +47,8 @@ fn open(alloc: Global, journal: MemDisk) -> Result<Answer, Memory>
     Ok(open_state(alloc, journal, beside))
 }
 
-// How far the tally on a disk has counted, in how many records; or why it is refused, where the
-// disk beside comes back.
+// How far the tally on a disk has counted, in how many records; or why it is refused, if the second
+// disk comes back.
 fn counted(alloc: Global, journal: MemDisk) -> Result<Result<(u8, u64), StateOpenError>, Memory> {
     match open(alloc, journal)? {
         Ok((_, tally)) => Ok(Ok((tally.total, tally.count))),

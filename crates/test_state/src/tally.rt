@@ -1,5 +1,5 @@
-//! A tally as a state machine, for the cases beside. It counts its records too, and keeps a disk
-//! that has no part in them.
+//! A tally as a state machine, for the cases of this crate. It counts its records too, and keeps a
+//! disk that has no part in them.
 
 ghost use Rattle.std.specs.Prelude.{◌≡◌, ◌<◌, ◌≤◌, length};
 
