@@ -1,4 +1,4 @@
-//! An execution: runs of the program over a file system, and beside them the steps of the parties
+//! An execution: runs of the program over a file system, and with them the steps of the parties
 //! that they were. After each run the file system is compared with the states of the history of
 //! these steps.
 

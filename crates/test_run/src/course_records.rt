@@ -1,4 +1,4 @@
-//! The records of journals beside those of a party's state, and what is printed of them.
+//! The records of journals, compared with those of a party's state, and what is printed of them.
 
 use crate::course_node::Node;
 use crate::difference::Difference;
