@@ -1,4 +1,4 @@
-//! Cosigners over disks in memory, for the cases beside.
+//! Cosigners over disks in memory, for the cases of this crate.
 
 use crate::journals::disk;
 use crate::known::{

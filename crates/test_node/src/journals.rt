@@ -1,4 +1,4 @@
-//! The journals of small logs, for the cases beside; and disks in memory for all cases.
+//! The journals of small logs, for the cases of this crate; and disks in memory for all cases.
 
 ghost use Rattle.std.specs.Prelude.{◌≤◌};
 
