@@ -1,4 +1,4 @@
-//! Nodes that are retained, beside the known ones and beside those that are rebuilt.
+//! Nodes that are retained, compared with the known ones and with those that are rebuilt.
 
 use crate::known::{
     ENTRIES, N0_1, N0_2, N0_4, N0_6, N0_8, N1_2, N2_4, N4_5, N4_6, N4_8, N6_8, NONE,
