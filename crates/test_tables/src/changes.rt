@@ -151,7 +151,7 @@ fn by_store(alloc: Global, line: &str, store: &Store) -> Result<String> {
     )
 }
 
-/// The lines for `LABEL MOMENT LOG START END HASH FROM TO CERTIFICATE`.
+/// The lines for `LABEL TIME LOG START END HASH FROM TO CERTIFICATE`.
 pub(crate) fn of_judgement(alloc: Global, line: &str) -> Result<String> {
     let store = store_of(alloc, line)?;
     by_store(alloc, line, &store)

@@ -1,7 +1,7 @@
 //! What a relying party answers to every change of one byte of a certificate, to be compared with
 //! what `tests/certificate_table.py` makes.
 //!
-//! A line is `LABEL MOMENT LOG START END HASH FROM TO CERTIFICATE`: the time in seconds since
+//! A line is `LABEL TIME LOG START END HASH FROM TO CERTIFICATE`: the time in seconds since
 //! 1970-01-01T00:00:00Z, and a store for the log with the id LOG, which trusts the interval from
 //! START to END with HASH, and has revoked the serial numbers from FROM to TO, without TO. An
 //! answer is `Accepted` with index, start and end, or the refusal.

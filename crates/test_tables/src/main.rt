@@ -14,7 +14,7 @@
 //!   message a line with the number used, the signature's length and SHA-256, and what `verify`
 //!   says of it.
 //! - `certificate LABEL CERTIFICATE`: what `parse` answers to it and to every change of one byte.
-//! - `judgement LABEL MOMENT LOG START END HASH FROM TO CERTIFICATE`: what `judge` answers to it
+//! - `judgement LABEL TIME LOG START END HASH FROM TO CERTIFICATE`: what `judge` answers to it
 //!   and to every change of one byte.
 //! - `run LABEL OUT FILE .. : WORD ..`: what a command answers over these files and this output.
 //! - `each NAME VALUES OUT FILE .. : WORD ..`: the same of each byte of a file set to each value.
