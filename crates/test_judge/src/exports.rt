@@ -73,7 +73,7 @@ fn an_export_is_read_as_its_parts(rt: HostRuntime) {
     assert!(rt; is_read_again(rt.alloc()) == Some(true));
 }
 
-// The first bytes of an export of these steps, with other bytes at some offsets, `PLACE=BYTE`; and
+// The first bytes of an export of these steps, with other bytes at some offsets, `OFFSET=BYTE`; and
 // the number of steps that are read, or why it is none. The ids and the key have 72 bytes, the
 // records 47, 59 and 79. What follows is of the ids, of the key, and of each record.
 const CHANGES: &str = "\
@@ -148,7 +148,7 @@ fn is_answered(alloc: Global, bytes: &[u8], word: &str) -> bool {
     }
 }
 
-// Puts a byte at its offset, as `PLACE=BYTE` says.
+// Puts a byte at its offset, as `OFFSET=BYTE` says.
 fn change(bytes: &mut [u8], word: &str) -> Option<()> {
     let (place, byte) = word.split_once('=')?;
     *bytes.get_mut(place.parse::<usize>().ok()?)? = byte.parse::<u8>().ok()?;

@@ -147,7 +147,7 @@ fn a_certificate_is_accepted_from_its_first_to_its_last_moment(
     Ok(())
 }
 
-// Other bytes at some offsets, `PLACE=BYTE`, and why the certificate is refused then. A critical
+// Other bytes at some offsets, `OFFSET=BYTE`, and why the certificate is refused then. A critical
 // issuerAltName is `143=18`; `27=1 175=1` puts the attribute's identifier in the place of the
 // algorithm's.
 const CHANGES: &str = "\
@@ -164,7 +164,7 @@ const CHANGES: &str = "\
 54=57 UnknownLog
 ";
 
-// Puts a byte at its offset, as `PLACE=BYTE` says, where the word says it.
+// Puts a byte at its offset, as `OFFSET=BYTE` says, where the word says it.
 fn change(bytes: &mut [u8; 231], word: &str) -> Result<bool, Fail> {
     match word.split_once('=') {
         Some((place, byte)) => match bytes.get_mut(place.parse::<usize>()?) {
