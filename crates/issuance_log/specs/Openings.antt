@@ -36,7 +36,7 @@ pub record IsBadTile (h : HashFunction) (bytes tiles : Text) (level place : ℕ)
       level place
 
 -- the cause of a refusal of the journal, over the disk before the call and after it: the bytes, a
--- failure, or that memory ran out; tiles are none
+-- failure, or memory that ran out; tiles are none
 abbrev pub HasLogCause : {D : Type 0} → Ghosts D → HashFunction → D → D → LogOpenError → Type 0
 HasLogCause g h old new (BadRecord k) = AreRefused (log_fold h) (g.contents old) (BadRecord k)
 HasLogCause g h old new (Tile why) = ⊥

@@ -95,8 +95,8 @@ item_at s index =
     then Ok (slice_index_or s.entries index [], slice_index_or s.keys index [])
     else Err NoSuchEntry
 
--- two byte strings hold that item; after a refusal, also one by memory or a failure, this says
--- nothing of them
+-- two byte strings hold that item; `NoSuchEntry` is answered exactly if there is none, and any
+-- other refusal is of memory or a failure; after a refusal this says nothing of the byte strings
 abbrev pub GivesItem : Result (Text × Text) LogError → Result (Unit {0}) LogError
     → Text → Text → Type 0
 GivesItem wanted (Ok done) entry key = wanted ≡ Ok (entry, key)

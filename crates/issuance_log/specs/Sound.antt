@@ -26,8 +26,9 @@ pub record IsItem (h : HashFunction) (entry key : Text) : Type 0 where
   pub short_entry : IsShort entry
   pub short_key : IsShort key
 
--- If the model knows the records on its disk: in addition to the numbers, each entry has a key, the
--- null entry none, and each later one that which belongs to it.
+-- If the model knows the records on its disk: in addition to the numbers, there are as many keys as
+-- entries, the first entry is the null entry, without a key, and each later one has the key that
+-- belongs to it.
 pub record IsSound (h : HashFunction) (s : LogState) : Type 0 where
   pub numbers : HasSoundNumbers (view_in s)
   pub even : length s.keys ≡ length s.entries

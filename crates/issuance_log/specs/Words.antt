@@ -80,8 +80,8 @@ module _ {H D T : Type 0} {hashes : Hashes H} {g : Ghosts D} {k : Ghosts T} wher
   abbrev pub log_leaves : Log H D T hashes g k → Option (List Hash)
   log_leaves log = option_map (λ s. map (leaf_hash hashes.hash) s.entries) (modelled_by_both log)
 
-  -- The disks were only read. The log shows what it showed, with the same records and the same end,
-  -- and is broken if it was.
+  -- The disks were only read. The log shows what it showed, with the same end, and is broken
+  -- exactly if it was.
   pub record LogStays (old new : Log H D T hashes g k) : Type 0 where
     pub only_reads : OnlyReads g (log_disk old) (log_disk new)
     pub tiles : OnlyReads k (log_tiles_disk old) (log_tiles_disk new)
