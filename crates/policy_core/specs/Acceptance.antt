@@ -65,9 +65,10 @@ accepted_by store p hash =
     if list_any (is_of p.start p.end) store.subtrees then Landmark
     else Cosigners (counted store p hash)
 
--- The bytes encode a certificate of the store's log that is valid at the time, isn't revoked, and
--- has no critical extension that isn't known; its signature encodes a proof, whose path gives the
--- interval a hash that the store trusts there, or for which enough cosigners count.
+-- The bytes encode a certificate of the store's log, with the algorithm of Merkle tree proofs, that
+-- is valid at the time, isn't revoked, and has no critical extension that isn't known; its
+-- signature encodes a proof, whose path gives the interval a hash that the store trusts there, or,
+-- if it trusts none there, one for which enough cosigners count.
 pub record IsAccepted (h : HashFunction) (bytes : Text) (store : Store) (now : ℤ) (a : Accepted)
     : Type 0 where
   pub parts : Parts

@@ -24,7 +24,7 @@ use Rattle.policy_core.specs.Stores.{has_repeat, is_same_place}
 abbrev pub cosigner_keys : List Text
 cosigner_keys = codes "id" ∷ codes "key" ∷ []
 
--- The id of the cosigner at this index, from 0: none is taken after the most.
+-- The id of the cosigner at this index, counted from 0; there is none after the most cosigners.
 abbrev pub id_data_at : ℕ → Data → Option Text
 id_data_at place d = if nat_lt place most_cosigners then id_data d else None
 
