@@ -24,12 +24,13 @@ const MOST_SIGNATURES: usize = 65_535;
 /// cosigners, or none (the draft on Merkle Tree Certificates, where it defines MTCProof). The call
 /// only reads the disks of the log, which shows what it showed before.
 ///
-/// Each store that is set up for the log and this entry accepts it, at each time of the entry's
-/// validity. A store is set up so if it holds no other hash for the subtree, and trusts it with the
-/// log's, or has rules which the signatures meet.
+/// If the entry names the log as its issuer and has no critical extension that is unknown, each
+/// store that is set up for the log and this entry accepts the certificate, at each time of the
+/// entry's validity. A store is set up so if it is valid, doesn't revoke the index, holds no other
+/// hash for the subtree, and trusts it with the log's, or has rules which the signatures meet.
 ///
-/// Errors, in the order of the tests: those of [`WriteError`] but `NotCovered`. `Memory` comes
-/// last.
+/// Errors, in the order of the tests: those of [`WriteError`] but `NotCovered`. After all tests a
+/// disk may fail or memory be refused, and what comes first is answered.
 #[tactic(auto, unfolding(crate::specs::Certificates::cert_refusal))]
 pub fn cert<H: TreeHash, D: Disk, T: Disk>(
     alloc: Global,

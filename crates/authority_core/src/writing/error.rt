@@ -5,8 +5,9 @@ ghost use Rattle.authority_core.specs.declared.writing.error.WriteError.TheVaria
 
 use mtc_io::Memory;
 
-/// Why no certificate is written, in the order of the tests. With signatures, `NotCovered` doesn't
-/// come; without them, `BadSubtree` to `Beyond` and `TooManySignatures` don't.
+/// Why no certificate is written, in the order of the tests. [`cert`](crate::cert) never answers
+/// `NotCovered`, and [`light_cert`](crate::light_cert) never `BadSubtree` to `Beyond` or
+/// `TooManySignatures`. Of the last three the one that comes first is answered.
 #[derive(Clone, Copy, Debug, PartialEq, Eq)]
 pub enum WriteError {
     /// The log has no entry at this index.

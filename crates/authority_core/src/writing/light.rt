@@ -37,12 +37,13 @@ fn covering_subtree<H: TreeHash, D: Disk, T: Disk>(
 /// landmark of the log above it (the draft on Merkle Tree Certificates, where it defines
 /// landmarks). The call only reads the disks of the log, which shows what it showed before.
 ///
-/// Each store for the log that trusts this subtree with the log's hash, and doesn't revoke the
-/// index, accepts it at each time of the entry's validity.
+/// If the entry names the log as its issuer and has no critical extension that is unknown, each
+/// valid store for the log that trusts this subtree with the log's hash, and doesn't revoke the
+/// index, accepts the certificate at each time of the entry's validity.
 ///
 /// Errors, in the order of the tests: `NoSuchEntry`, `NullEntry`, and `NotCovered` where no
 /// landmark is above the entry, or the least one isn't active any more. `Memory` may come before
-/// `NotCovered`.
+/// `NotCovered`, and a failure of a disk after it.
 #[tactic(auto, unfolding(crate::specs::Certificates::light_refusal))]
 pub fn light_cert<H: TreeHash, D: Disk, T: Disk>(
     alloc: Global,
