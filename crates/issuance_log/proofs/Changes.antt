@@ -13,13 +13,13 @@ use Rattle.issuance_log.specs.Items.{HasItemCapacity}
 use Rattle.issuance_log.specs.Machine.{HasCapacityFor}
 use Rattle.issuance_log.specs.Marks.{last_mark}
 use Rattle.issuance_log.specs.Records.{IsShort, entry_record, item_in, landmark_record, mark_in}
-use Rattle.issuance_log.specs.Records.{tiles_record}
+use Rattle.issuance_log.specs.Records.{landmark_tag, tiles_record, tiles_tag}
 use Rattle.issuance_log.specs.Results.{HasMarkCapacity}
 use Rattle.issuance_log.specs.Settings.{most_item}
 use Rattle.issuance_log.specs.Sound.{HasSoundNumbers}
 use Rattle.issuance_log.specs.declared.items.Items.{Items}
-use Rattle.issuance_log.proofs.Encoded.{item_again, length-entry, length-landmark, length-tiles}
-use Rattle.issuance_log.proofs.Encoded.{mark_again, mark_alone, next_added, next_marked, next_tiled}
+use Rattle.issuance_log.proofs.Encoded.{item_again, length-entry, length-size, mark_alone}
+use Rattle.issuance_log.proofs.Encoded.{next_added, next_marked, next_tiled, size_again}
 use Rattle.issuance_log.proofs.Encoded.{tiles_no_item, tiles_no_mark}
 use Rattle.issuance_log.proofs.Growth.{size_fits}
 use Rattle.issuance_log.proofs.Views.{view_added, view_marked, view_tiled}
@@ -81,7 +81,7 @@ module _ (h : HashFunction) (v : LogView) (sound : HasSoundNumbers v)
   pub mark_record : (text : Text) → text ≡ landmark_record v.size
       → IsGoodRecord h v (one_mark_more v) text
   mark_record text text_is =
-      let size = length-landmark v.size in
+      let size = length-size landmark_tag v.size in
       subst (λ (t : Text). IsGoodRecord h v (one_mark_more v) t) (sym text_is) (record {
         some = omega arith;
         few = omega arith;
@@ -105,7 +105,7 @@ module _ (h : HashFunction) (v : LogView) (size : ℕ) (fits : size < 2 ^ 64)
   pub tiles_record_of : (text : Text) → text ≡ tiles_record size
       → IsGoodRecord h v (tiled_to size v) text
   tiles_record_of text text_is =
-      let bytes = length-tiles size in
+      let bytes = length-size tiles_tag size in
       subst (λ (t : Text). IsGoodRecord h v (tiled_to size v) t) (sym text_is) (record {
         some = omega arith;
         few = omega arith;
@@ -136,7 +136,8 @@ module _ {H T : Type 0} {hashes : Hashes H} {k : Ghosts T} (numbers : LogNumbers
       → 1 ≤ numbers.mark_spare → HasCapacityFor numbers items text
   mark_ready size is fits capacity =
       without_item (ap item_in is ∙ mark_alone size)
-      (subst (HasMarkCapacity numbers) (sym (ap mark_in is ∙ mark_again size fits)) capacity)
+      (subst (HasMarkCapacity numbers)
+      (sym (ap mark_in is ∙ size_again landmark_tag (omega arith) size fits)) capacity)
 
   pub tiles_ready : (size : ℕ) → text ≡ tiles_record size → HasCapacityFor numbers items text
   tiles_ready size is =

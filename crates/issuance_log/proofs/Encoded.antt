@@ -25,9 +25,10 @@ use Rattle.issuance_log.specs.Folds.{takes_landmark, takes_tiles}
 use Rattle.issuance_log.specs.Marks.{last_mark}
 use Rattle.log_entry.specs.Matching.{matches}
 use Rattle.issuance_log.specs.Records.{log_tag, entry_tag, landmark_tag, tiles_tag, settings_at}
-use Rattle.issuance_log.specs.Records.{entry_at, tiled_in, tiles_record, landmark_record}
+use Rattle.issuance_log.specs.Records.{entry_at, entry_record, tiled_in, tiles_record}
 use Rattle.issuance_log.specs.Records.{with_id, log_settings_with, tagged, settings_in}
-use Rattle.issuance_log.specs.Records.{item_in, mark_in, settings_record, IsShort, entry_record}
+use Rattle.issuance_log.specs.Records.{item_in, mark_in, settings_record, size_in, size_record}
+use Rattle.issuance_log.specs.Records.{IsShort, landmark_record}
 use Rattle.issuance_log.specs.Results.{LogFinds}
 use Rattle.issuance_log.specs.declared.error.RecordError.{RecordError}
 use Rattle.issuance_log.specs.declared.error.RecordError.TheVariants.{Unfit, Memory}
@@ -43,13 +44,9 @@ pub length-entry : (entry key : List ℕ)
 unfolding entry_record
 length-entry entry key = simp length-append (omega arith)
 
-pub length-tiles : (size : ℕ) → length (tiles_record size) ≡ 9
-unfolding tiles_record
-length-tiles size = simp length-append (omega arith)
-
-pub length-landmark : (size : ℕ) → length (landmark_record size) ≡ 9
-unfolding landmark_record
-length-landmark size = simp length-append (omega arith)
+pub length-size : (tag size : ℕ) → length (size_record tag size) ≡ 9
+unfolding size_record
+length-size tag size = simp length-append (omega arith)
 
 -- ---- a form after its tag
 
@@ -127,45 +124,35 @@ next_says h s body item mark tiled one two three =
     ap (λ o. changed_log h s o (mark_in body) (tiled_in body)) one
     ∙ ap (λ o. changed_log h s item o (tiled_in body)) two ∙ ap (changed_log h s item mark) three
 
--- ---- a Landmark
+-- ---- a Landmark and a Tiles
 
 abbrev pub IsLong : ℕ → Type 0
 IsLong n = n < 2 ^ 64
 
-pub mark_again : (size : ℕ) → size < 2 ^ 64 → mark_in (landmark_record size) ≡ Some size
-unfolding mark_in landmark_record
-mark_again = tagged_again landmark_tag (omega arith) word_form
+module _ (tag : ℕ) (small : tag < 256) where
+  pub size_again : (size : ℕ) → size < 2 ^ 64 → size_in tag (size_record tag size) ≡ Some size
+  unfolding size_in size_record
+  size_again = tagged_again tag small word_form
 
-pub mark_takes : (body : List ℕ) (size : ℕ) → IsBytes body → mark_in body ≡ Some size
-    → (body ≡ landmark_record size) × (size < 2 ^ 64)
-unfolding mark_in landmark_record
-mark_takes = tagged_takes landmark_tag (omega arith) word_form
+  pub size_takes : (body : List ℕ) (size : ℕ) → IsBytes body → size_in tag body ≡ Some size
+      → (body ≡ size_record tag size) × (size < 2 ^ 64)
+  unfolding size_in size_record
+  size_takes = tagged_takes tag small word_form
 
 -- a Landmark is no Entry
 pub mark_alone : (size : ℕ) → item_in (landmark_record size) ≡ None
-unfolding item_in landmark_record
+unfolding item_in size_record
 mark_alone size = ap (tagged entry_tag entry_at)
     ((number_form w8 (2 ^ 8) wide8).again landmark_tag 0 (number w64 size) (omega arith) tt)
 
--- ---- a Tiles
-
-pub tiled_again : (size : ℕ) → size < 2 ^ 64 → tiled_in (tiles_record size) ≡ Some size
-unfolding tiled_in tiles_record
-tiled_again = tagged_again tiles_tag (omega arith) word_form
-
-pub tiled_takes : (body : List ℕ) (size : ℕ) → IsBytes body → tiled_in body ≡ Some size
-    → (body ≡ tiles_record size) × (size < 2 ^ 64)
-unfolding tiled_in tiles_record
-tiled_takes = tagged_takes tiles_tag (omega arith) word_form
-
 -- a Tiles is neither an Entry nor a Landmark
 pub tiles_no_item : (size : ℕ) → item_in (tiles_record size) ≡ None
-unfolding item_in tiles_record
+unfolding item_in size_record
 tiles_no_item size = ap (tagged entry_tag entry_at)
     ((number_form w8 (2 ^ 8) wide8).again tiles_tag 0 (number w64 size) (omega arith) tt)
 
 pub tiles_no_mark : (size : ℕ) → mark_in (tiles_record size) ≡ None
-unfolding mark_in tiles_record
+unfolding size_in size_record
 tiles_no_mark size = ap (tagged landmark_tag (number_at w64))
     ((number_form w8 (2 ^ 8) wide8).again tiles_tag 0 (number w64 size) (omega arith) tt)
 
@@ -243,7 +230,7 @@ next_marked h s fits above =
     let test : takes_landmark (view_in s) size ≡ true =
     rw (eq-eqb size size refl, lt-ltb (last_mark s.marks) size above) refl in
     next_says h s (landmark_record size) None (Some size) _ (mark_alone size)
-    (mark_again size fits) refl
+    (size_again landmark_tag (omega arith) size fits) refl
     ∙ ap (λ (b : Bool). if b then Some (with_mark s) else None) test
 
 -- of one Tiles more
@@ -258,7 +245,7 @@ next_tiled h s size fits multiple above within =
       le-leb size (length s.entries) within,
     ) refl in
     next_says h s (tiles_record size) None None (Some size) (tiles_no_item size)
-    (tiles_no_mark size) (tiled_again size fits)
+    (tiles_no_mark size) (size_again tiles_tag (omega arith) size fits)
     ∙ ap (λ (b : Bool). if b then Some (with_tiles size s) else None) test
 
 pub log_added : (h : List ℕ → List ℕ) (list : List (List ℕ)) (s : LogState) (entry key : List ℕ)

@@ -20,11 +20,11 @@ use Rattle.issuance_log.specs.Folds.{begun_log, next_log, takes_entry, takes_lan
 use Rattle.issuance_log.specs.Marks.{last_mark}
 use Rattle.issuance_log.specs.Records.{log_tag, settings_at, with_id, log_settings_with, tagged}
 use Rattle.issuance_log.specs.Records.{settings_in, item_in, mark_in, tiled_in, settings_record}
-use Rattle.issuance_log.specs.Records.{landmark_record}
+use Rattle.issuance_log.specs.Records.{landmark_record, landmark_tag, tiles_tag}
 use Rattle.issuance_log.specs.Rules.{IsFirst, IsNext}
 use Rattle.issuance_log.specs.Settings.{Settings, are_allowed, AreAllowed}
-use Rattle.issuance_log.proofs.Encoded.{settings_text, settings_form, tiled_takes}
-use Rattle.issuance_log.proofs.Encoded.{settings_again, item_takes, mark_takes, tagged_takes}
+use Rattle.issuance_log.proofs.Encoded.{settings_text, settings_form}
+use Rattle.issuance_log.proofs.Encoded.{settings_again, item_takes, size_takes, tagged_takes}
 use Rattle.issuance_log.proofs.Encoded.{changed_log, next_added, next_marked, next_tiled}
 
 pub is_next : (h : List ℕ → List ℕ) (s : LogState) (body : List ℕ) (t : LogState)
@@ -63,7 +63,7 @@ next_is h s body t bytes is =
           made = sym (same_Some _ _ made.1);
         })
     go None (Some size) tiled one two three is =
-        let encoded = mark_takes body size bytes two in
+        let encoded = size_takes landmark_tag (omega arith) body size bytes two in
         let made = when_some (takes_landmark (view_in s) size) (Some (with_mark s)) t is in
         let tests = and_parts (size == length s.entries) (nat_lt (last_mark s.marks) size)
         made.0 in
@@ -75,7 +75,7 @@ next_is h s body t bytes is =
           made = sym (same_Some _ _ made.1);
         }))
     go None None (Some size) one two three is =
-        let encoded = tiled_takes body size bytes three in
+        let encoded = size_takes tiles_tag (omega arith) body size bytes three in
         let made = when_some (takes_tiles (view_in s) size) (Some (with_tiles size s)) t is in
         let tests = and_parts (size % 256 == 0)
         (nat_lt s.tiled size && nat_le size (length s.entries)) made.0 in

@@ -1,6 +1,6 @@
 -- A log is what it shows over every disk, with the first items in its records.
 use Rattle.std.proofs.Common.{◌≡◌, ℕ, ◌+◌, ◌≤◌, List, [], ◌∷◌, ◌++◌, length, take}
-use Rattle.std.proofs.Common.{Ok, refl, ap, sym, ◌∙◌, arith}
+use Rattle.std.proofs.Common.{None, Ok, refl, ap, sym, ◌∙◌, arith}
 use Rattle.std.specs.Prelude.{map, option_to_list}
 use Rattle.std.proofs.lemmas.List.{append-nil, length-append, length-map}
 use Rattle.std.proofs.lemmas.List.{length-take-le, map-append, take-append-le, take_all}
@@ -8,11 +8,10 @@ use Rattle.std.proofs.lemmas.Grind.{flat_map-append}
 use Rattle.byte_formats.specs.Types.{Text, HashFunction}
 use Rattle.issuance_log.specs.Folds.{LogState, LogView, log_of, new_log, null_entry, view_in}
 use Rattle.issuance_log.specs.Folds.{with_item}
-use Rattle.issuance_log.specs.Records.{IsShort, entry_record, item_in, landmark_record}
-use Rattle.issuance_log.specs.Records.{tiles_record}
+use Rattle.issuance_log.specs.Records.{IsShort, entry_record, item_in}
 use Rattle.issuance_log.specs.Shown.{recorded_items, shown_with}
 use Rattle.issuance_log.proofs.Behind.{behind_items, entries_of, keys_of, later_items, only_begins}
-use Rattle.issuance_log.proofs.Encoded.{item_again, mark_alone, tiles_no_item}
+use Rattle.issuance_log.proofs.Encoded.{item_again}
 
 -- what is shown, with these entries and keys
 abbrev made : LogView → List Text → List Text → LogState
@@ -90,14 +89,15 @@ recorded_item (first ∷ bodies) entry key few_entry few_key some =
     ∙ ap (λ o. recorded_items (first ∷ bodies) ++ (option_to_list o ++ []))
     (item_again entry key few_entry few_key)
 
--- that of a landmark has none
-pub recorded_mark : (list : List Text) (size : ℕ) → 1 ≤ length (recorded_items list)
-    → recorded_items (list ++ landmark_record size ∷ []) ≡ recorded_items list
-recorded_mark [] size some = absurd (omega arith)
-recorded_mark (first ∷ bodies) size some =
+-- a record without an item has none
+pub recorded_other : (list : List Text) (body : Text) → item_in body ≡ None
+    → 1 ≤ length (recorded_items list)
+    → recorded_items (list ++ body ∷ []) ≡ recorded_items list
+recorded_other [] body none some = absurd (omega arith)
+recorded_other (first ∷ bodies) body none some =
     ap (λ l. (null_entry, []) ∷ l)
-    (flat_map-append (λ b. option_to_list (item_in b)) bodies (landmark_record size ∷ []))
-    ∙ ap (λ o. recorded_items (first ∷ bodies) ++ (option_to_list o ++ [])) (mark_alone size)
+    (flat_map-append (λ b. option_to_list (item_in b)) bodies (body ∷ []))
+    ∙ ap (λ o. recorded_items (first ∷ bodies) ++ (option_to_list o ++ [])) none
     ∙ append-nil (recorded_items (first ∷ bodies))
 
 one_more : (f : Text × Text → Text) (n : ℕ) (items more : List (Text × Text)) (x : Text × Text)
@@ -146,13 +146,3 @@ pub shown_view : (v : LogView) (list : List Text) → v.size ≡ length (recorde
 shown_view v list all =
     ap (λ (n : ℕ). record { settings = v.settings; size = n; marks = v.marks; tiled = v.tiled })
     (shown_size v list all)
-
--- a Tiles has no item
-pub recorded_tiles : (list : List Text) (size : ℕ) → 1 ≤ length (recorded_items list)
-    → recorded_items (list ++ tiles_record size ∷ []) ≡ recorded_items list
-recorded_tiles [] size some = absurd (omega arith)
-recorded_tiles (first ∷ bodies) size some =
-    ap (λ l. (null_entry, []) ∷ l)
-    (flat_map-append (λ b. option_to_list (item_in b)) bodies (tiles_record size ∷ []))
-    ∙ ap (λ o. recorded_items (first ∷ bodies) ++ (option_to_list o ++ [])) (tiles_no_item size)
-    ∙ append-nil (recorded_items (first ∷ bodies))

@@ -1,7 +1,7 @@
 -- What a log shows over every disk, record by record.
 use Rattle.std.proofs.Common.{◌≡◌, ℕ, ◌+◌, ◌%◌, ◌^◌, ◌<◌, ◌≤◌, Bool, true, false, List}
 use Rattle.std.proofs.Common.{[], ◌∷◌, ◌++◌, length, drop, Option, Some, None, option_map, Result}
-use Rattle.std.proofs.Common.{Ok, Err, IfOk, is_ok, refl, ap, sym, ◌∙◌}
+use Rattle.std.proofs.Common.{Ok, Err, IfOk, is_ok, refl, ap, sym, ◌∙◌, arith}
 use Rattle.std.specs.Prelude.{if◌then◌else◌, nat_lt}
 use Rattle.std.specs.Result.{result_map_both}
 use Rattle.std.proofs.lemmas.Bool.{and_parts, eq-eqb, le-leb, lt-ltb, ltb-true}
@@ -19,11 +19,11 @@ use Rattle.issuance_log.specs.Folds.{takes_landmark, takes_tiles, tiled_to, view
 use Rattle.issuance_log.specs.Folds.{with_mark, with_tiles}
 use Rattle.issuance_log.specs.Marks.{last_mark}
 use Rattle.issuance_log.specs.Records.{IsShort, entry_record, item_in, landmark_record, mark_in}
-use Rattle.issuance_log.specs.Records.{tiled_in, tiles_record}
+use Rattle.issuance_log.specs.Records.{landmark_tag, tiled_in, tiles_record, tiles_tag}
 use Rattle.issuance_log.specs.Results.{HasTried}
 use Rattle.issuance_log.proofs.Behind.{last_follows, last_not}
-use Rattle.issuance_log.proofs.Encoded.{item_again, mark_again, mark_alone, tiled_again}
-use Rattle.issuance_log.proofs.Encoded.{tiles_no_item, tiles_no_mark}
+use Rattle.issuance_log.proofs.Encoded.{item_again, mark_alone, size_again, tiles_no_item}
+use Rattle.issuance_log.proofs.Encoded.{tiles_no_mark}
 
 -- what is shown as a kind of journal
 abbrev pub view_fold : HashFunction → Fold LogView StateOpenError
@@ -176,7 +176,7 @@ view_marked h v fits above =
     let test : takes_landmark v v.size ≡ true =
     rw (eq-eqb v.size v.size refl, lt-ltb (last_mark v.marks) v.size above) refl in
     view_says h v (landmark_record v.size) None (Some v.size) _ (mark_alone v.size)
-    (mark_again v.size fits) refl
+    (size_again landmark_tag (omega arith) v.size fits) refl
     ∙ ap (λ (b : Bool). if b then Some (one_mark_more v) else None) test
 
 pub view_tiled : (h : HashFunction) (v : LogView) (size : ℕ) → size < 2 ^ 64 → size % 256 ≡ 0
@@ -190,5 +190,5 @@ view_tiled h v size fits multiple above within =
       le-leb size v.size within,
     ) refl in
     view_says h v (tiles_record size) None None (Some size) (tiles_no_item size)
-    (tiles_no_mark size) (tiled_again size fits)
+    (tiles_no_mark size) (size_again tiles_tag (omega arith) size fits)
     ∙ ap (λ (b : Bool). if b then Some (tiled_to size v) else None) test

@@ -43,13 +43,15 @@ IsShort text = length text < 65536
 unfoldable pub entry_record : Text → Text → Text
 entry_record entry key = number w8 entry_tag ++ (vector w16 entry ++ vector w16 key)
 
--- Landmark: the size in eight bytes
-unfoldable pub landmark_record : ℕ → Text
-landmark_record size = number w8 landmark_tag ++ number w64 size
+-- Landmark and Tiles: the size in eight bytes
+unfoldable pub size_record : ℕ → ℕ → Text
+size_record tag size = number w8 tag ++ number w64 size
 
--- Tiles: the size in eight bytes
-unfoldable pub tiles_record : ℕ → Text
-tiles_record size = number w8 tiles_tag ++ number w64 size
+abbrev pub landmark_record : ℕ → Text
+landmark_record = size_record landmark_tag
+
+abbrev pub tiles_record : ℕ → Text
+tiles_record = size_record tiles_tag
 
 -- ---- read
 
@@ -85,10 +87,14 @@ settings_in body =
 unfoldable pub item_in : Text → Option (Text × Text)
 item_in body = tagged entry_tag entry_at (number_at w8 (at body 0))
 
+-- the size in a record of this tag
+unfoldable pub size_in : ℕ → Text → Option ℕ
+size_in tag body = tagged tag (number_at w64) (number_at w8 (at body 0))
+
 -- the size in a Landmark
-unfoldable pub mark_in : Text → Option ℕ
-mark_in body = tagged landmark_tag (number_at w64) (number_at w8 (at body 0))
+abbrev pub mark_in : Text → Option ℕ
+mark_in = size_in landmark_tag
 
 -- the size in a Tiles
-unfoldable pub tiled_in : Text → Option ℕ
-tiled_in body = tagged tiles_tag (number_at w64) (number_at w8 (at body 0))
+abbrev pub tiled_in : Text → Option ℕ
+tiled_in = size_in tiles_tag

@@ -14,7 +14,7 @@ ghost use Rattle.issuance_log.specs.Settings.{AreAllowed};
 ghost use Rattle.issuance_log.specs.Sound.{HasSoundNumbers};
 
 use crate::error::RecordError;
-use crate::record::{read_item, read_mark, read_settings, read_tiles};
+use crate::record::{LANDMARK, TILES, read_item, read_settings, size_in};
 use crate::settings::LogSettings;
 use log_entry::key_matches;
 use mtc_io::Memory;
@@ -134,7 +134,7 @@ impl Numbers {
             self.old.view result self.new.view }
         ensures capacity { HasMarkCapacity self.old (mark_in body.now) → WantsMemory result → ⊥ }
     {
-        match read_mark(body) {
+        match size_in(LANDMARK, body) {
             Ok(size) => self.take_mark(size),
             Err(RecordError::Unfit) => self.take_tiles(body),
             Err(RecordError::Memory) => Err(RecordError::Memory),
@@ -161,7 +161,7 @@ impl Numbers {
             self.old.view result self.new.view }
         ensures sure { WantsMemory result → ⊥ }
     {
-        let size = read_tiles(body)?;
+        let size = size_in(TILES, body)?;
         if size % TILE != 0 || size <= self.tiled || size > self.size {
             return Err(RecordError::Unfit);
         }

@@ -16,7 +16,7 @@ ghost use Rattle.issuance_log.specs.Words.{of_log_journal};
 use crate::error::LogError;
 use crate::items::Items;
 use crate::numbers::Numbers;
-use crate::record::{entry_record, landmark_record, tiles_record};
+use crate::record::{LANDMARK, TILES, entry_record, size_record};
 use disk_core::Disk;
 use mtc_io::Bytes;
 use std::alloc::Global;
@@ -72,7 +72,7 @@ pub(crate) fn prepare_mark(alloc: Global, numbers: &mut Numbers) -> Result<Bytes
     if numbers.last_mark() == size {
         return Err(LogError::NothingNew);
     }
-    let body = landmark_record(alloc, size)?;
+    let body = size_record(alloc, LANDMARK, size)?;
     numbers.prepare_mark()?;
     Ok(body)
 }
@@ -91,6 +91,6 @@ pub(crate) fn prepare_tiles(alloc: Global, numbers: &Numbers) -> Result<Bytes, L
     if size <= numbers.tiled() {
         return Err(LogError::NothingNew);
     }
-    let body = tiles_record(alloc, size)?;
+    let body = size_record(alloc, TILES, size)?;
     Ok(body)
 }

@@ -3,8 +3,8 @@
 ghost use Rattle.std.specs.Prelude.{◌≡◌, ◌+◌, ◌<◌, ◌≤◌, length, true, IfOk, IfErr};
 ghost use Rattle.byte_formats.specs.Readings.{Moves};
 ghost use Rattle.issuance_log.specs.Records.{settings_at, entry_at, log_settings_with, settings_in};
-ghost use Rattle.issuance_log.specs.Records.{item_in, mark_in, tiled_in, settings_record, IsShort};
-ghost use Rattle.issuance_log.specs.Records.{entry_record, landmark_record, tiles_record};
+ghost use Rattle.issuance_log.specs.Records.{item_in, settings_record, IsShort};
+ghost use Rattle.issuance_log.specs.Records.{entry_record, size_in, size_record};
 ghost use Rattle.issuance_log.specs.Results.{LogFinds};
 ghost use Rattle.issuance_log.specs.Settings.{most_item, are_allowed, AreAllowed};
 ghost use Rattle.tls_wire.specs.Arcs.{IsAnchorId};
@@ -21,9 +21,9 @@ const LOG: u8 = 1;
 
 const ENTRY: u8 = 2;
 
-const LANDMARK: u8 = 3;
+pub(crate) const LANDMARK: u8 = 3;
 
-const TILES: u8 = 4;
+pub(crate) const TILES: u8 = 4;
 
 // The settings after the tag, in their order.
 #[tactic(auto, unfolding(crate::specs::Records::settings_at))]
@@ -119,31 +119,14 @@ pub(crate) fn read_item(body: &[u8]) -> Result<(&[u8], &[u8]), RecordError>
     Ok(item)
 }
 
-/// The size in the body of a Landmark.
-#[tactic(auto, unfolding(crate::specs::Records::mark_in))]
-pub(crate) fn read_mark(body: &[u8]) -> Result<u64, RecordError>
-    ensures found { LogFinds (λ size. size) (mark_in body.now) result }
+/// The size in the body of a Landmark or of a Tiles, by its tag.
+#[tactic(auto, unfolding(crate::specs::Records::size_in))]
+pub(crate) fn size_in(tag: u8, body: &[u8]) -> Result<u64, RecordError>
+    ensures found { LogFinds (λ size. size) (size_in tag body.now) result }
     ensures unfit { IfErr result (λ why. why ≡ RecordError.Unfit) }
 {
     let mut cursor = Cursor::new(body);
-    if cursor.u8()? != LANDMARK {
-        return Err(RecordError::Unfit);
-    }
-    let size = cursor.u64()?;
-    if cursor.left() != 0 {
-        return Err(RecordError::Unfit);
-    }
-    Ok(size)
-}
-
-/// The size in the body of a Tiles.
-#[tactic(auto, unfolding(crate::specs::Records::tiled_in))]
-pub(crate) fn read_tiles(body: &[u8]) -> Result<u64, RecordError>
-    ensures found { LogFinds (λ size. size) (tiled_in body.now) result }
-    ensures unfit { IfErr result (λ why. why ≡ RecordError.Unfit) }
-{
-    let mut cursor = Cursor::new(body);
-    if cursor.u8()? != TILES {
+    if cursor.u8()? != tag {
         return Err(RecordError::Unfit);
     }
     let size = cursor.u64()?;
@@ -182,24 +165,13 @@ pub(crate) fn entry_record(alloc: Global, entry: &[u8], key: &[u8]) -> Result<By
     Ok(body)
 }
 
-/// The body of a Landmark at a size.
-#[tactic(auto, unfolding(crate::specs::Records::landmark_record))]
-pub(crate) fn landmark_record(alloc: Global, size: u64) -> Result<Bytes, Memory>
-    ensures { IfOk result (λ body. body ≡ landmark_record size) }
+/// The body of a Landmark or of a Tiles, by its tag.
+#[tactic(auto, unfolding(crate::specs::Records::size_record))]
+pub(crate) fn size_record(alloc: Global, tag: u8, size: u64) -> Result<Bytes, Memory>
+    ensures { IfOk result (λ body. body ≡ size_record tag size) }
 {
     let mut body = Bytes::new(alloc);
-    put_u8(&mut body, LANDMARK)?;
-    put_u64(&mut body, size)?;
-    Ok(body)
-}
-
-/// The body of a Tiles of a size.
-#[tactic(auto, unfolding(crate::specs::Records::tiles_record))]
-pub(crate) fn tiles_record(alloc: Global, size: u64) -> Result<Bytes, Memory>
-    ensures { IfOk result (λ body. body ≡ tiles_record size) }
-{
-    let mut body = Bytes::new(alloc);
-    put_u8(&mut body, TILES)?;
+    put_u8(&mut body, tag)?;
     put_u64(&mut body, size)?;
     Ok(body)
 }

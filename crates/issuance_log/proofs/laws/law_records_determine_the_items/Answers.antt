@@ -1,5 +1,5 @@
-use Rattle.issuance_log.proofs.Shown.{recorded_mark, recorded_tiles, shown_added, shown_longer}
-use Rattle.issuance_log.proofs.Shown.{shown_so}
+use Rattle.issuance_log.proofs.Encoded.{mark_alone, tiles_no_item}
+use Rattle.issuance_log.proofs.Shown.{recorded_other, shown_added, shown_longer, shown_so}
 use Rattle.issuance_log.proofs.laws.law_records_determine_the_items.Goals as goal
 
 pub returns-clause-whole : goal.returns-clause-whole
@@ -12,7 +12,7 @@ pub returns-clause-added : goal.returns-clause-added
 returns-clause-added c = shown_added
 
 pub returns-clause-marked : goal.returns-clause-marked
-returns-clause-marked c = recorded_mark
+returns-clause-marked c = λ list size. recorded_other list _ (mark_alone size)
 
 pub returns-clause-tiled : goal.returns-clause-tiled
-returns-clause-tiled c = recorded_tiles
+returns-clause-tiled c = λ list size. recorded_other list _ (tiles_no_item size)
