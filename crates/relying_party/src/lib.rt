@@ -18,4 +18,4 @@ pub mod laws;
 mod rules;
 mod trust;
 
-pub use judging::judge;
+pub use judging::{judge, judge_cert};
