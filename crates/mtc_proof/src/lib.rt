@@ -20,4 +20,4 @@ pub use input::{InputBuf, signature_input};
 pub use list::{check_signatures, signatures};
 pub use proof::{Proof, SigRef};
 pub use reading::read_proof;
-pub use writing::write_proof;
+pub use writing::{put_signature, write_proof};
