@@ -1,6 +1,5 @@
 -- A signature after signatures that stand one after the other.
 use Rattle.std.proofs.Common.{[], ◌∷◌, ◌++◌, ◌∙◌, ap}
-use Rattle.std.specs.List.{All}
 use Rattle.std.proofs.lemmas.List.{flat_map_more}
 use Rattle.std.proofs.lemmas.List.Elements.{All-append, All-from_recursion, recursion_from_All}
 use Rattle.byte_formats.specs.Types.{Text}
@@ -11,9 +10,9 @@ pub signatures_more : (bytes : Text) (s : SigParts) → AreSignatures bytes → 
 signatures_more bytes s those this = record {
   list = those.list ++ s ∷ [];
   each = recursion_from_All IsMtcSignature (those.list ++ s ∷ [])
-  (All-append IsMtcSignature those.list (s ∷ [])
-  (All-from_recursion IsMtcSignature those.list those.each)
-  (All-from_recursion IsMtcSignature (s ∷ []) (this, tt)));
+      (All-append IsMtcSignature those.list (s ∷ [])
+      (All-from_recursion IsMtcSignature those.list those.each)
+      (All-from_recursion IsMtcSignature (s ∷ []) (this, tt)));
   encoded = ap (λ (t : Text). t ++ signature_text s) those.encoded
-  ∙ flat_map_more signature_text [] those.list s;
+      ∙ flat_map_more signature_text [] those.list s;
 }

@@ -1,4 +1,4 @@
-use Rattle.std.proofs.Common.{rules, subst, sym, ◌∙◌, append_assoc}
+use Rattle.std.proofs.Common.{append_assoc, refl, subst, sym}
 use Rattle.byte_formats.specs.Types.{Text}
 use Rattle.mtc_proof.specs.Proofs.{AreSignatures, SigParts}
 use Rattle.mtc_proof.proofs.Listed.{signatures_more}
