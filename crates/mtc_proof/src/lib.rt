@@ -12,6 +12,7 @@ pub mod laws;
 mod list;
 mod proof;
 mod reading;
+mod reserved;
 mod writing;
 
 pub use fault::ProofError;
@@ -20,4 +21,5 @@ pub use input::{InputBuf, signature_input};
 pub use list::{check_signatures, signatures};
 pub use proof::{Proof, SigRef};
 pub use reading::read_proof;
+pub use reserved::ReservedSignature;
 pub use writing::{put_signature, write_proof};
