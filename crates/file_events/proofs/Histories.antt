@@ -5,12 +5,12 @@ use Rattle.std.proofs.lemmas.List.{append-nil}
 use Rattle.byte_formats.specs.Types.{Text}
 use Rattle.disk_core.specs.Disk.{NoNew}
 use Rattle.journal_core.specs.Format.{Represents}
-use Rattle.file_events.specs.Events.{CrashStates, Done, Event, HalfDone, EventHolds, JournalUse}
+use Rattle.file_events.specs.Events.{CrashStates, Done, Event, HalfDone, EventHolds, Journaled}
 use Rattle.file_events.specs.Events.{Leads, MayAppend, WasFound, appended, broke, elsewhere, ran}
-use Rattle.file_events.specs.Events.{reads, is_empty, records_after, all_released, released_by}
+use Rattle.file_events.specs.Events.{reads, records_after, all_released, released_by}
 use Rattle.file_events.specs.Events.{released_if, started, untouched}
 use Rattle.file_events.specs.Histories.{ExecutionsAreHistories, HistoriesGoOn, History, IsHistory}
-use Rattle.file_events.specs.Histories.{RepresentsPending, TakesSteps}
+use Rattle.file_events.specs.Histories.{ReachesAll, RepresentsPending, TakesSteps}
 use Rattle.file_events.specs.Laws.{IsJournalExecution}
 use Rattle.file_events.proofs.Records.{no_records, none_is, one_list}
 
@@ -72,12 +72,12 @@ module _ (Valid : List Text → Type 0) (Reaches : History) (takes : TakesSteps 
         each = λ c at. history.each c (kept c at);
       }
 
-      not_empty : NoNew is_empty before → ⊥
+      not_empty : NoNew (λ c. c ≡ []) before → ⊥
       not_empty empty =
           no_pending history.list history.pending history.some.0
           (empty history.some.0 history.some.1) (history.each history.some.0 history.some.1)
 
-      whole : (heard : Bool) (did : JournalUse) → Done Valid did before now
+      whole : (heard : Bool) (did : Journaled) → Done Valid did before now
           → IsHistory Reaches (out ++ released_if heard did) now
       whole heard untouched done = no_more out now (same done)
       whole heard (reads list) done = no_more out now (record {
@@ -96,7 +96,7 @@ module _ (Valid : List Text → Type 0) (Reaches : History) (takes : TakesSteps 
       }
       whole heard (started body) done = absurd (not_empty done.0)
 
-      half : (did : JournalUse) → HalfDone Valid did before now → IsHistory Reaches out now
+      half : (did : Journaled) → HalfDone Valid did before now → IsHistory Reaches out now
       half untouched done = same done
       half (reads list) done = record {
         list = list;
@@ -115,34 +115,34 @@ module _ (Valid : List Text → Type 0) (Reaches : History) (takes : TakesSteps 
       half (started body) empty = absurd (not_empty empty)
 
     -- the first event that held some records
-    first_whole : (heard : Bool) (did : JournalUse) (list : List Text)
+    first_whole : ReachesAll Valid Reaches → (heard : Bool) (did : Journaled) (list : List Text)
         → records_after did ≡ Some list → Done Valid did before now
         → IsHistory Reaches (released_if heard did) now
-    first_whole heard untouched list held done = absurd (none_is list held)
-    first_whole heard (reads found) list held done = record {
+    first_whole settles heard untouched list held done = absurd (none_is list held)
+    first_whole settles heard (reads found) list held done = record {
       list = found;
       pending = None;
-      reaches = takes.settles found done.0.valid;
+      reaches = settles found done.0.valid;
       some = some;
       each = done.1;
     }
-    first_whole heard (appended found body) list held done = record {
+    first_whole settles heard (appended found body) list held done = record {
       list = found ++ body ∷ [];
       pending = None;
       reaches = ended heard found body []
-          (takes.begins found body [] done.0.valid (takes.settles found done.0.found.valid));
+          (takes.begins found body [] done.0.valid (settles found done.0.found.valid));
       some = some;
       each = done.1;
     }
-    first_whole heard (started body) list held done = record {
+    first_whole settles heard (started body) list held done = record {
       list = body ∷ [];
       pending = None;
-      reaches = takes.settles (body ∷ []) done.1.0;
+      reaches = settles (body ∷ []) done.1.0;
       some = some;
       each = done.1.1;
     }
 
-  step : (out : List Text) (before now : CrashStates) (event : Event)
+  pub step : (out : List Text) (before now : CrashStates) (event : Event)
       → IsHistory Reaches out before → Leads Valid event before now
       → IsHistory Reaches (out ++ released_by event) now
   step out before now elsewhere history leads =
@@ -154,12 +154,13 @@ module _ (Valid : List Text → Type 0) (Reaches : History) (takes : TakesSteps 
     | inr done ↦ half out before now leads.some history did done
   ])
 
-  first : (list : List Text) (before now : CrashStates) (event : Event) → EventHolds list event
-      → Leads Valid event before now → IsHistory Reaches (released_by event) now
-  first list before now elsewhere held leads = absurd held
-  first list before now (ran heard did) held leads =
-      first_whole [] before now leads.some heard did list held leads.happens
-  first list before now (broke did) held leads = absurd held
+  first : ReachesAll Valid Reaches → (list : List Text) (before now : CrashStates) (event : Event)
+      → EventHolds list event → Leads Valid event before now
+      → IsHistory Reaches (released_by event) now
+  first settles list before now elsewhere held leads = absurd held
+  first settles list before now (ran heard did) held leads =
+      first_whole [] before now leads.some settles heard did list held leads.happens
+  first settles list before now (broke did) held leads = absurd held
 
 module _ {W : Type 0} (states : W → CrashStates) (Valid : List Text → Type 0)
     (Reaches : History) where
@@ -179,8 +180,7 @@ module _ {W : Type 0} (states : W → CrashStates) (Valid : List Text → Type 0
   histories_go_on takes out old new events history is = after takes out events old new history is
 
   pub executions_are_histories : ExecutionsAreHistories states Valid Reaches
-  executions_are_histories takes list old new event events held is = elim held [
-    | inl here ↦ after takes (released_by event) events is.0 new
-        (first Valid Reaches takes list (states old) (states is.0) event here is.1.0) is.1.1
-    | inr never ↦ absurd never
-  ]
+  executions_are_histories takes settles list old new [] held is = absurd held
+  executions_are_histories takes settles list old new (event ∷ events) held is =
+      after takes (released_by event) events is.0 new
+      (first Valid Reaches takes settles list (states old) (states is.0) event held is.1.0) is.1.1

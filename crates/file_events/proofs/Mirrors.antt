@@ -2,7 +2,7 @@
 use Rattle.std.proofs.Common.{◌≡◌, ◌⊎◌, inl, inr, List, [], ◌∷◌, ◌++◌, refl, sym, subst}
 use Rattle.byte_formats.specs.Types.{Text}
 use Rattle.disk_core.specs.Disk.{NoNew}
-use Rattle.file_events.specs.Events.{CrashStates, Event, HalfDone, Happens, MayRecover, JournalUse}
+use Rattle.file_events.specs.Events.{CrashStates, Event, HalfDone, Happens, MayRecover, Journaled}
 use Rattle.file_events.specs.Events.{WasFound, appended, broke, elsewhere, ran, reads, started}
 use Rattle.file_events.specs.Events.{untouched}
 use Rattle.file_events.specs.Executions.{IsExecution}
@@ -13,7 +13,7 @@ use Rattle.file_events.specs.Mirrors.{elsewhere as both_elsewhere, ran as both_r
 use Rattle.file_events.proofs.Records.{not_empty, one_list, stay_durable, whole_is_half}
 
 -- a run added this record to make the list
-record IsAdded (Valid : List Text → Type 0) (did : JournalUse) (before : CrashStates)
+record IsAdded (Valid : List Text → Type 0) (did : Journaled) (before : CrashStates)
     (now : List Text) : Type 0 where
   pub list : List Text
   pub body : Text
@@ -30,7 +30,7 @@ was_recovered Valid before list found = (found.bytes, (found.state, found.stands
 module _ (Valid : List Text → Type 0) (prefix : List Text) (before now : CrashStates)
     (durable : IsDurablePrefix Valid prefix before) where
   -- what is recovered after a run was so before it, or has the record that it added
-  came : (did : JournalUse) (others : List Text) → HalfDone Valid did before now
+  came : (did : Journaled) (others : List Text) → HalfDone Valid did before now
       → MayRecover now others → MayRecover before others ⊎ IsAdded Valid did before others
   came untouched others kept recovered =
       inl (recovered.0, (kept recovered.0 recovered.1.0, recovered.1.1))
@@ -106,18 +106,18 @@ module _ (agrees : List Text → List Text → Type 0)
         agree list others (at.0, (kept at.0 at.1.0, at.1.1))
         (at'.0, (kept' at'.0 at'.1.0, at'.1.1))
 
-    came_mirror : (did : JournalUse) (others : List Text) → HalfDone ValidMirror did mirror mirror'
+    came_mirror : (did : Journaled) (others : List Text) → HalfDone ValidMirror did mirror mirror'
         → MayRecover mirror' others
         → MayRecover mirror others ⊎ IsAdded ValidMirror did mirror others
     came_mirror = came ValidMirror items mirror mirror' durable
 
-    came_cosigner : (did : JournalUse) (others : List Text)
+    came_cosigner : (did : Journaled) (others : List Text)
         → HalfDone ValidCosigner did cosigner cosigner' → MayRecover cosigner' others
         → MayRecover cosigner others ⊎ IsAdded ValidCosigner did cosigner others
     came_cosigner = came ValidCosigner steps cosigner cosigner' durable'
 
     -- a step is added
-    with_step : (m : JournalUse) (list others : List Text) (body : Text)
+    with_step : (m : Journaled) (list others : List Text) (body : Text)
         → MayDo agrees Computed Neutral m (appended others body)
         → HalfDone ValidMirror m mirror mirror' → MayRecover mirror' list
         → MayRecover mirror list → MayRecover cosigner others
@@ -136,7 +136,7 @@ module _ (agrees : List Text → List Text → Type 0)
         → MayDo agrees Computed Neutral (appended list batch) (appended others body) → ⊥
     never_both list others batch body may = may
 
-    half_agree : (m s : JournalUse) → MayDo agrees Computed Neutral m s
+    half_agree : (m s : Journaled) → MayDo agrees Computed Neutral m s
         → HalfDone ValidMirror m mirror mirror' → HalfDone ValidCosigner s cosigner cosigner'
         → Agree agrees Computed Neutral mirror' cosigner'
     half_agree m s may done done' list others at at' =
@@ -145,7 +145,7 @@ module _ (agrees : List Text → List Text → Type 0)
             | inl was' ↦ agree list others was was'
             | inr added ↦ subst (λ (l : List Text). agrees list l) (sym added.now_is)
                 (with_step m list added.list added.body
-                (subst (λ (j : JournalUse). MayDo agrees Computed Neutral m j) added.is may)
+                (subst (λ (j : Journaled). MayDo agrees Computed Neutral m j) added.is may)
                 done at was added.was added.valid)
           ]
           | inr more ↦ elim (came_cosigner s others done' at') [
@@ -153,9 +153,9 @@ module _ (agrees : List Text → List Text → Type 0)
                 (keeps.more more.list others more.body more.valid
                 (agree more.list others more.was was'))
             | inr added ↦ absurd (never_both more.list added.list more.body added.body
-                (subst (λ (j : JournalUse). MayDo agrees Computed Neutral j
+                (subst (λ (j : Journaled). MayDo agrees Computed Neutral j
                 (appended added.list added.body)) more.is
-                (subst (λ (j : JournalUse). MayDo agrees Computed Neutral m j) added.is may)))
+                (subst (λ (j : Journaled). MayDo agrees Computed Neutral m j) added.is may)))
           ]
         ]
 

@@ -1,51 +1,46 @@
 -- Executions of a program, for each owner of files.
-use Rattle.std.proofs.Common.{◌≡◌, inl, inr, Bool, true, false, List, Some, refl, sym, subst, ap}
+use Rattle.std.proofs.Common.{◌≡◌, inl, inr, Bool, true, false, List, refl, ap}
 use Rattle.std.proofs.Common.{◌∙◌}
 use Rattle.byte_formats.specs.Types.{Text}
-use Rattle.file_events.specs.Events.{Event, EventHolds, JournalUse, Leads, appended, broke, ran}
-use Rattle.file_events.specs.Events.{records_after}
+use Rattle.file_events.specs.Events.{Event, Journaled, Leads, broke, ran}
+use Rattle.file_events.specs.Executions.{AnyEvent}
 use Rattle.file_events.specs.Owners.{CoursesAgree, CoursesHold, JournalCourses, ServesJournal}
 use Rattle.file_events.specs.Owners.{ServesLog, ServesMirror, TilesSurvive, did_to, journal_file}
 use Rattle.file_events.specs.Owners.{JournalRunsMayBreak, LogRunsMayBreak, MirrorRunsMayBreak}
-use Rattle.file_events.specs.Owners.{NewTilesSurvive, RunsHold, RunsRelease, log_files}
+use Rattle.file_events.specs.Owners.{NewTilesSurvive, RunsAreEvents, log_files}
 use Rattle.file_events.specs.Owners.{mirror_files}
 use Rattle.file_events.specs.Tiles.{TilesWork}
-use Rattle.file_events.specs.Worlds.{LeavesStopped, HappeningsLead, Program, RunOf, all_states}
+use Rattle.file_events.specs.Worlds.{LeavesStopped, LinksLead, Program, Turn, all_states}
 use Rattle.file_events.specs.Worlds.{breaks_off, event_with, events_of, heard_of, states_between}
 use Rattle.file_events.specs.Worlds.{states_of}
-use Rattle.file_events.proofs.Links.{any_run, courses_execute}
+use Rattle.file_events.proofs.Links.{courses_execute, each_run}
 use Rattle.file_events.proofs.Mirrors.{always_agree}
 use Rattle.file_events.proofs.Stays.{held_stand}
 use Rattle.file_events.proofs.Tiles.{new_tiles_go, tiles_go}
 use Rattle.file_events.proofs.Works.{broke_of_less, cosigner_with_mirror, event_breaks, log_breaks}
 use Rattle.file_events.proofs.Works.{log_with_tiles, mirror_breaks}
 
-held_event : (list : List Text) (broken heard : Bool) (did : JournalUse) → broken ≡ false
-    → records_after did ≡ Some list → EventHolds list (event_with broken heard did)
-held_event list broken heard did whole is =
-    subst (λ (b : Bool). EventHolds list (event_with b heard did)) (sym whole) is
-
-released_event : (broken heard : Bool) (did wanted : JournalUse) → broken ≡ false → heard ≡ true
+pub released_event : (broken heard : Bool) (did wanted : Journaled) → broken ≡ false → heard ≡ true
     → did ≡ wanted → event_with broken heard did ≡ ran true wanted
-released_event broken heard did wanted whole is_heard is =
+released_event broken heard did wanted whole told is =
     ap (λ (b : Bool). event_with b heard did) whole
-    ∙ (ap (λ (b : Bool). ran b did) is_heard ∙ ap (λ (j : JournalUse). ran true j) is)
+    ∙ (ap (λ (b : Bool). ran b did) told ∙ ap (λ (j : Journaled). ran true j) is)
 
 module _ (p : Program) (Valid : List Text → Type 0) (name : Text) where
   -- a stop in the middle of a run
-  cut_leads : ServesJournal p Valid name → (old : p.R) (run : RunOf p) (room : p.R)
-      → p.world.rooms.is_modelled old → p.HasRun old run
-      → LeavesStopped p (λ n. states_between p.world n old run.room) run.room room
-      → p.world.rooms.is_modelled room
-      → Leads Valid (broke (did_to p name old run)) (states_of p.world name old)
-      (states_of p.world name room)
+  cut_leads : ServesJournal p Valid name → (old : p.R) (run : Turn p.R p.O p.E) (room : p.R)
+      → p.rooms.is_modelled old → p.HasRun old run
+      → LeavesStopped p (λ n. states_between p n old run.room) run.room room
+      → p.rooms.is_modelled room
+      → Leads Valid (broke (did_to p name old run)) (states_of p name old)
+      (states_of p name room)
   cut_leads serves old run room modelled is cut modelled' =
       let moment = (serves.leaves old run modelled is).moments (cut.image name) (cut.may name) in
-      broke_of_less Valid (did_to p name old run) (states_of p.world name old)
-      (λ d. d ≡ cut.image name) (states_of p.world name room) moment (cut.only name)
+      broke_of_less Valid (did_to p name old run) (states_of p name old)
+      (λ d. d ≡ cut.image name) (states_of p name room) moment (cut.only name)
       (serves.rooms.some room name modelled')
 
-  journal_lead : ServesJournal p Valid name → HappeningsLead p (journal_file p Valid name)
+  pub journal_lead : ServesJournal p Valid name → LinksLead p (journal_file p Valid name)
   journal_lead serves = record {
     modelled = serves.rooms.modelled;
     runs = λ old run modelled is. (serves.leaves old run modelled is).leads;
@@ -61,46 +56,40 @@ module _ (p : Program) (Valid : List Text → Type 0) (name : Text) where
   journal_courses serves old new links modelled is =
       courses_execute p (journal_file p Valid name) (journal_lead serves) old new links modelled is
 
-  pub runs_hold : RunsHold p Valid name
-  runs_hold old links list =
-      any_run p (journal_file p Valid name)
-      (λ before run. (breaks_off run.status ≡ false)
-      × (records_after (did_to p name before run) ≡ Some list)) (EventHolds list)
-      (λ before run is. held_event list (breaks_off run.status) (heard_of p run)
-      (did_to p name before run) is.0 is.1) links old
-
-  pub runs_release : RunsRelease p Valid name
-  runs_release old links list body =
-      any_run p (journal_file p Valid name)
-      (λ before run. (breaks_off run.status ≡ false)
-      × ((heard_of p run ≡ true) × (did_to p name before run ≡ appended list body)))
-      (λ (event : Event). event ≡ ran true (appended list body))
-      (λ before run is. released_event (breaks_off run.status) (heard_of p run)
-      (did_to p name before run) (appended list body) is.0 is.1.0 is.1.1) links old
+  pub runs_are_events : RunsAreEvents p Valid name
+  runs_are_events serves old new links modelled is =
+      let o = journal_file p Valid name in
+      each_run p o (journal_lead serves) Event (λ (x event : Event). event ≡ x)
+      (λ (x : Event). AnyEvent (λ (event : Event). event ≡ x) (events_of p o old links))
+      (λ before run. p.HasRun before run × AnyEvent
+      (λ (event : Event). event ≡ o.run_event before run) (events_of p o old links))
+      (λ before run modelled ran told. (ran, told (o.run_event before run) refl)) links old new
+      modelled is (λ x any. any)
 
   pub journal_breaks : JournalRunsMayBreak p Valid name
   journal_breaks serves old run modelled is =
       event_breaks Valid (breaks_off run.status) (heard_of p run) (did_to p name old run)
-      (states_of p.world name old) (states_of p.world name run.room)
+      (states_of p name old) (states_of p name run.room)
       (serves.leaves old run modelled is).leads
 
   pub courses_hold : CoursesHold p Valid name
   courses_hold serves old new links modelled is list held =
-      held_stand (states_of p.world name) Valid list old new
+      held_stand (states_of p name) Valid list old new
       (events_of p (journal_file p Valid name) old links) held
       (journal_courses serves old new links modelled is)
 
 module _ (p : Program) (goes : List Text → Text → Type 0) (Plain : List Text → Text → Type 0)
-    (Valid : List Text → Type 0) (name tiles : Text) (how_of : p.R → RunOf p → TilesWork) where
+    (Valid : List Text → Type 0) (name tiles : Text)
+    (how_of : p.R → Turn p.R p.O p.E → TilesWork) where
   log_lead : ServesLog p goes Plain Valid name tiles how_of
-      → HappeningsLead p (log_files p goes Plain Valid name tiles how_of)
+      → LinksLead p (log_files p goes Plain Valid name tiles how_of)
   log_lead serves = record {
     modelled = serves.rooms.modelled;
     runs = λ old run modelled is. record {
       some = serves.rooms.some run.room name (serves.rooms.modelled old run modelled is);
       happens = log_with_tiles goes Plain Valid name tiles (breaks_off run.status)
-          (heard_of p run) (did_to p name old run) (how_of old run) (all_states p.world old)
-          (all_states p.world run.room) (serves.leaves old run modelled is);
+          (heard_of p run) (did_to p name old run) (how_of old run) (all_states p old)
+          (all_states p run.room) (serves.leaves old run modelled is);
     };
     cuts = λ old run room modelled is cut. absurd cut;
     stays = λ old new modelled kept some. record {
@@ -115,18 +104,18 @@ module _ (p : Program) (goes : List Text → Text → Type 0) (Plain : List Text
       let leads = (log_lead serves).runs old run modelled is in record {
         some = leads.some;
         happens = log_breaks goes Plain Valid (breaks_off run.status) (heard_of p run)
-            (did_to p name old run) (how_of old run) (states_of p.world name old)
-            (states_of p.world tiles old) (states_of p.world name run.room)
-            (states_of p.world tiles run.room) leads.happens;
+            (did_to p name old run) (how_of old run) (states_of p name old)
+            (states_of p tiles old) (states_of p name run.room)
+            (states_of p tiles run.room) leads.happens;
       }
 
   pub new_survive : NewTilesSurvive p goes Plain Valid name tiles how_of
-  new_survive = new_tiles_go goes Plain Valid (states_of p.world name) (states_of p.world tiles)
+  new_survive = new_tiles_go goes Plain Valid (states_of p name) (states_of p tiles)
 
   pub tiles_survive : TilesSurvive p goes Plain Valid name tiles how_of
   tiles_survive serves keep prefix old new links modelled is durable go =
       let o = log_files p goes Plain Valid name tiles how_of in
-      (tiles_go goes Plain Valid (states_of p.world name) (states_of p.world tiles) keep prefix
+      (tiles_go goes Plain Valid (states_of p name) (states_of p tiles) keep prefix
       old new (events_of p o old links) durable go
       (courses_execute p o (log_lead serves) old new links modelled is)).1
 
@@ -134,7 +123,7 @@ module _ (p : Program) (agrees : List Text → List Text → Type 0)
     (Computed : List Text → List Text → Text → Type 0) (Neutral : List Text → Text → Type 0)
     (ValidMirror ValidCosigner : List Text → Type 0) (mirror cosigner : Text) where
   mirror_lead : ServesMirror p agrees Computed Neutral ValidMirror ValidCosigner mirror cosigner
-      → HappeningsLead p
+      → LinksLead p
       (mirror_files p agrees Computed Neutral ValidMirror ValidCosigner mirror cosigner)
   mirror_lead serves = record {
     modelled = serves.rooms.modelled;
@@ -144,8 +133,8 @@ module _ (p : Program) (agrees : List Text → List Text → Type 0)
           some_cosigner = serves.rooms.some run.room cosigner modelled';
           happens = cosigner_with_mirror agrees Computed Neutral ValidMirror ValidCosigner
               mirror cosigner (breaks_off run.status) (heard_of p run) (did_to p mirror old run)
-              (did_to p cosigner old run) (all_states p.world old)
-              (all_states p.world run.room) (serves.may old run modelled is)
+              (did_to p cosigner old run) (all_states p old)
+              (all_states p run.room) (serves.may old run modelled is)
               (serves.leaves old run modelled is);
         };
     cuts = λ old run room modelled is cut. absurd cut;
@@ -165,15 +154,15 @@ module _ (p : Program) (agrees : List Text → List Text → Type 0)
         some_cosigner = leads.some_cosigner;
         happens = mirror_breaks agrees Computed Neutral ValidMirror ValidCosigner
             (breaks_off run.status) (heard_of p run) (did_to p mirror old run)
-            (did_to p cosigner old run) (states_of p.world mirror old)
-            (states_of p.world cosigner old) (states_of p.world mirror run.room)
-            (states_of p.world cosigner run.room) leads.happens;
+            (did_to p cosigner old run) (states_of p mirror old)
+            (states_of p cosigner old) (states_of p mirror run.room)
+            (states_of p cosigner run.room) leads.happens;
       }
 
   pub courses_agree : CoursesAgree p agrees Computed Neutral ValidMirror ValidCosigner mirror
       cosigner
   courses_agree serves keeps items steps old new links modelled is durable durable' agree =
       let o = mirror_files p agrees Computed Neutral ValidMirror ValidCosigner mirror cosigner in
-      always_agree agrees Computed Neutral ValidMirror ValidCosigner (states_of p.world mirror)
-      (states_of p.world cosigner) keeps items steps old new (events_of p o old links) durable
+      always_agree agrees Computed Neutral ValidMirror ValidCosigner (states_of p mirror)
+      (states_of p cosigner) keeps items steps old new (events_of p o old links) durable
       durable' agree (courses_execute p o (mirror_lead serves) old new links modelled is)

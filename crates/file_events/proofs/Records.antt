@@ -7,8 +7,8 @@ use Rattle.disk_core.specs.Disk.{NoNew}
 use Rattle.journal_core.specs.Format.{Represents, header}
 use Rattle.journal_core.proofs.Records.{records_of-stands}
 use Rattle.file_events.specs.Events.{CrashStates, Done, Event, HalfDone, Happens, EventHolds}
-use Rattle.file_events.specs.Events.{JournalUse, Leads, WasFound, appended, broke, elsewhere}
-use Rattle.file_events.specs.Events.{is_empty, ran, reads, records_after, started, untouched}
+use Rattle.file_events.specs.Events.{Journaled, Leads, WasFound, appended, broke, elsewhere}
+use Rattle.file_events.specs.Events.{ran, reads, records_after, started, untouched}
 use Rattle.file_events.specs.Executions.{IsPrefix}
 use Rattle.file_events.specs.Laws.{IsDurablePrefix, IsReadBehind}
 
@@ -46,7 +46,7 @@ none_is xs is = absurd cc
 
 module _ (Valid : List Text → Type 0) where
   -- a run that came to its end leaves what one may leave that broke off
-  pub whole_is_half : (did : JournalUse) (before now : CrashStates) → Done Valid did before now
+  pub whole_is_half : (did : Journaled) (before now : CrashStates) → Done Valid did before now
       → HalfDone Valid did before now
   whole_is_half untouched before now done = done
   whole_is_half (reads list) before now done = done
@@ -54,7 +54,7 @@ module _ (Valid : List Text → Type 0) where
   whole_is_half (started body) before now done = done.0
 
   -- so an event of a run that ended is one of a run that broke off
-  pub ran_is_broke : (heard : Bool) (did : JournalUse) (before now : CrashStates)
+  pub ran_is_broke : (heard : Bool) (did : Journaled) (before now : CrashStates)
       → Leads Valid (ran heard did) before now → Leads Valid (broke did) before now
   ran_is_broke heard did before now leads = record {
     some = leads.some;
@@ -71,12 +71,12 @@ module _ (Valid : List Text → Type 0) where
         (one_list found.bytes behind.list list behind.stands found.stands) behind.begins
 
     -- the file is no empty one
-    pub not_empty : NoNew is_empty before → ⊥
+    pub not_empty : NoNew (λ c. c ≡ []) before → ⊥
     not_empty empty =
         let behind = durable.each durable.some.0 durable.some.1 in
         no_records durable.some.0 behind.list (empty durable.some.0 durable.some.1) behind.stands
 
-    half : (did : JournalUse) (now : CrashStates) → HalfDone Valid did before now → (c : Text)
+    half : (did : Journaled) (now : CrashStates) → HalfDone Valid did before now → (c : Text)
         → now c → IsReadBehind Valid prefix c
     half untouched now kept c at = durable.each c (kept c at)
     half (reads list) now done c at = record {
@@ -117,7 +117,7 @@ module _ (Valid : List Text → Type 0) where
         record { some = leads.some; each = happened event now leads.happens }
 
   -- the records that a run held are durable after it
-  held_by : (list : List Text) (did : JournalUse) (before now : CrashStates)
+  held_by : (list : List Text) (did : Journaled) (before now : CrashStates)
       → records_after did ≡ Some list → Done Valid did before now → (c : Text) → now c
       → IsReadBehind Valid list c
   held_by list untouched before now held done c at = absurd (none_is list held)
@@ -146,3 +146,21 @@ module _ (Valid : List Text → Type 0) where
   held_durable list (ran heard did) before now held leads =
       record { some = leads.some; each = held_by list did before now held leads.happens }
   held_durable list (broke did) before now held leads = absurd held
+
+  -- and they are valid
+  valid_by : (list : List Text) (did : Journaled) (before now : CrashStates)
+      → records_after did ≡ Some list → Done Valid did before now → Valid list
+  valid_by list untouched before now held done = absurd (none_is list held)
+  valid_by list (reads found) before now held done =
+      subst Valid (some_is found list held) done.0.valid
+  valid_by list (appended found body) before now held done =
+      subst Valid (some_is (found ++ body ∷ []) list held) done.0.valid
+  valid_by list (started body) before now held done =
+      subst Valid (some_is (body ∷ []) list held) done.1.0
+
+  pub held_valid : (list : List Text) (event : Event) (before now : CrashStates)
+      → EventHolds list event → Leads Valid event before now → Valid list
+  held_valid list elsewhere before now held leads = absurd held
+  held_valid list (ran heard did) before now held leads =
+      valid_by list did before now held leads.happens
+  held_valid list (broke did) before now held leads = absurd held

@@ -1,7 +1,8 @@
 -- What holds of each execution of a journal: the records that runs held stand.
 use Rattle.std.proofs.Common.{inl, inr, List, [], ◌∷◌, ◌++◌, refl, sym, subst}
 use Rattle.byte_formats.specs.Types.{Text}
-use Rattle.file_events.specs.Events.{CrashStates, Event, EventHolds, WereHeld, HasReleased}
+use Rattle.file_events.specs.Events.{CrashStates, Event, EventHolds, FirstHolds, WereHeld}
+use Rattle.file_events.specs.Events.{HasReleased}
 use Rattle.file_events.specs.Executions.{IsPrefix}
 use Rattle.file_events.specs.Laws.{IsDurablePrefix, DurableStay, HeldAreDurable, IsJournalExecution}
 use Rattle.file_events.specs.Laws.{RecoveredIsValid, ReleasedAreDurable}
@@ -15,6 +16,12 @@ released_held list body (event ∷ events) released = elim released [
   | inl is ↦ inl (subst (λ (e : Event). EventHolds (list ++ body ∷ []) e) (sym is) refl)
   | inr later ↦ inr (released_held list body events later)
 ]
+
+-- the first event is one of them
+pub first_held : (list : List Text) (events : List Event) → FirstHolds list events
+    → WereHeld events list
+first_held list [] held = absurd held
+first_held list (event ∷ events) held = inl held
 
 module _ {W : Type 0} (states : W → CrashStates) (Valid : List Text → Type 0) where
   durable_after : (prefix : List Text) (events : List Event) (old new : W)

@@ -2,7 +2,7 @@
 use Rattle.std.proofs.Common.{inl, inr, List, [], ◌∷◌, ◌++◌, sym, subst}
 use Rattle.byte_formats.specs.Types.{Text}
 use Rattle.disk_core.specs.Disk.{NoNew}
-use Rattle.file_events.specs.Events.{CrashStates, Event, HalfDone, Happens, JournalUse, Leads}
+use Rattle.file_events.specs.Events.{CrashStates, Event, HalfDone, Happens, Journaled, Leads}
 use Rattle.file_events.specs.Events.{WasFound, appended, broke, elsewhere, ran, reads, started}
 use Rattle.file_events.specs.Events.{untouched}
 use Rattle.file_events.specs.Executions.{IsExecution}
@@ -49,7 +49,7 @@ module _ (goes : List Text → Text → Type 0) (Plain : List Text → Text → 
     kept_go : NoNew journal journal' → NoNew tiles tiles' → Goes goes journal' tiles'
     kept_go kept same c list at stands t there = go c list (kept c at) stands t (same t there)
 
-    half_go : (did : JournalUse) (how : TilesWork) → HalfDone Valid did journal journal'
+    half_go : (did : Journaled) (how : TilesWork) → HalfDone Valid did journal journal'
         → LeavesTiles goes Plain how did tiles journal' tiles' → Goes goes journal' tiles'
     half_go untouched looked kept same c others at stands t there =
         kept_go kept same c others at stands t there

@@ -2,7 +2,7 @@
 use Rattle.std.proofs.Common.{inl, inr, Bool, true, false, List, [], ◌∷◌}
 use Rattle.byte_formats.specs.Types.{Text}
 use Rattle.disk_core.specs.Disk.{NoNew}
-use Rattle.file_events.specs.Events.{CrashStates, HalfDone, Happens, JournalUse, Leads, appended}
+use Rattle.file_events.specs.Events.{CrashStates, HalfDone, Happens, Journaled, Leads, appended}
 use Rattle.file_events.specs.Events.{broke, reads, started, untouched}
 use Rattle.file_events.specs.Mirrors.{MayDo, MirrorHappens, mirror_event_with, broke as both_broke}
 use Rattle.file_events.specs.Tiles.{LogHappens, TilesWork, log_event_with, broke as log_broke}
@@ -11,7 +11,7 @@ use Rattle.file_events.specs.Worlds.{event_with}
 use Rattle.file_events.proofs.Records.{ran_is_broke, whole_is_half}
 
 pub one_journal : (Valid : List Text → Type 0) (name : Text) (broken heard : Bool)
-    (did : JournalUse) (before now : AllStates)
+    (did : Journaled) (before now : AllStates)
     → LeavesAll broken (journal_work Valid name did ∷ []) before now
     → Happens Valid (event_with broken heard did) (before name) (now name)
 one_journal Valid name false heard did before now all = all.0
@@ -21,7 +21,7 @@ one_journal Valid name true heard did before now all = elim all [
 ]
 
 pub log_with_tiles : (goes : List Text → Text → Type 0) (Plain : List Text → Text → Type 0)
-    (Valid : List Text → Type 0) (name tiles : Text) (broken heard : Bool) (did : JournalUse)
+    (Valid : List Text → Type 0) (name tiles : Text) (broken heard : Bool) (did : Journaled)
     (how : TilesWork) (before now : AllStates)
     → LeavesAll broken
     (journal_work Valid name did ∷ tiles_work goes Plain name tiles did how ∷ []) before now
@@ -36,7 +36,7 @@ log_with_tiles goes Plain Valid name tiles true heard did how before now all = e
 pub cosigner_with_mirror : (agrees : List Text → List Text → Type 0)
     (Computed : List Text → List Text → Text → Type 0) (Neutral : List Text → Text → Type 0)
     (ValidMirror ValidCosigner : List Text → Type 0) (mirror cosigner : Text)
-    (broken heard : Bool) (m s : JournalUse) (before now : AllStates)
+    (broken heard : Bool) (m s : Journaled) (before now : AllStates)
     → MayDo agrees Computed Neutral m s
     → LeavesAll broken
     (journal_work ValidMirror mirror m ∷ journal_work ValidCosigner cosigner s ∷ []) before now
@@ -52,7 +52,7 @@ cosigner_with_mirror agrees Computed Neutral ValidMirror ValidCosigner mirror co
     ]
 
 -- what is left of an event is one, if a crash leaves less
-pub half_of_less : (Valid : List Text → Type 0) (did : JournalUse) (before now less : CrashStates)
+pub half_of_less : (Valid : List Text → Type 0) (did : Journaled) (before now less : CrashStates)
     → HalfDone Valid did before now → NoNew now less → HalfDone Valid did before less
 half_of_less Valid untouched before now less kept fewer = λ c at. kept c (fewer c at)
 half_of_less Valid (reads list) before now less done fewer =
@@ -61,7 +61,7 @@ half_of_less Valid (appended list body) before now less done fewer =
     (done.0, λ c at. done.1 c (fewer c at))
 half_of_less Valid (started body) before now less empty fewer = empty
 
-pub broke_of_less : (Valid : List Text → Type 0) (did : JournalUse)
+pub broke_of_less : (Valid : List Text → Type 0) (did : Journaled)
     (before now less : CrashStates) → Leads Valid (broke did) before now → NoNew now less
     → (c : Text) × less c → Leads Valid (broke did) before less
 broke_of_less Valid did before now less leads fewer some = record {
@@ -73,14 +73,14 @@ broke_of_less Valid did before now less leads fewer some = record {
 }
 
 -- what is left of an event of a run is one of a run that broke off
-pub event_breaks : (Valid : List Text → Type 0) (broken heard : Bool) (did : JournalUse)
+pub event_breaks : (Valid : List Text → Type 0) (broken heard : Bool) (did : Journaled)
     (before now : CrashStates) → Leads Valid (event_with broken heard did) before now
     → Leads Valid (broke did) before now
 event_breaks Valid false heard did before now leads = ran_is_broke Valid heard did before now leads
 event_breaks Valid true heard did before now leads = leads
 
 pub log_breaks : (goes : List Text → Text → Type 0) (Plain : List Text → Text → Type 0)
-    (Valid : List Text → Type 0) (broken heard : Bool) (did : JournalUse) (how : TilesWork)
+    (Valid : List Text → Type 0) (broken heard : Bool) (did : Journaled) (how : TilesWork)
     (journal tiles journal' tiles' : CrashStates)
     → LogHappens goes Plain Valid (log_event_with broken heard did how) journal tiles journal'
     tiles'
@@ -91,7 +91,7 @@ log_breaks goes Plain Valid true heard did how journal tiles journal' tiles' hap
 
 pub mirror_breaks : (agrees : List Text → List Text → Type 0)
     (Computed : List Text → List Text → Text → Type 0) (Neutral : List Text → Text → Type 0)
-    (ValidMirror ValidCosigner : List Text → Type 0) (broken heard : Bool) (m s : JournalUse)
+    (ValidMirror ValidCosigner : List Text → Type 0) (broken heard : Bool) (m s : Journaled)
     (mirror cosigner mirror' cosigner' : CrashStates)
     → MirrorHappens agrees Computed Neutral ValidMirror ValidCosigner
     (mirror_event_with broken heard m s) mirror cosigner mirror' cosigner'

@@ -16,27 +16,23 @@ CrashStates = Text → Type 0
 abbrev pub StatesRepresent : CrashStates → List Text → Type 0
 StatesRepresent states list = (c : Text) → states c → Represents c list
 
--- The file is empty or isn't there.
-abbrev pub is_empty : CrashStates
-is_empty c = c ≡ []
-
 -- With these records the journal may be recovered.
 abbrev pub MayRecover : CrashStates → List Text → Type 0
 MayRecover states list = (c : Text) × (states c × Represents c list)
 
 -- What a run does with a journal.
-pub data JournalUse : Type 0 where
+pub data Journaled : Type 0 where
   -- It isn't opened.
-  untouched : JournalUse
+  untouched : Journaled
   -- It is opened, these records are found, and no record is added.
-  reads : List Text → JournalUse
+  reads : List Text → Journaled
   -- These records are found, and one is added.
-  appended : List Text → Text → JournalUse
+  appended : List Text → Text → Journaled
   -- It is a new journal with this first record.
-  started : Text → JournalUse
+  started : Text → Journaled
 
 -- The records that a run leaves in its journal, where it opens it.
-abbrev pub records_after : JournalUse → Option (List Text)
+abbrev pub records_after : Journaled → Option (List Text)
 records_after untouched = None
 records_after (reads list) = Some list
 records_after (appended list body) = Some (list ++ body ∷ [])
@@ -48,10 +44,10 @@ pub data Event : Type 0 where
   elsewhere : Event
   -- A run came to its end and has done this. It is heard where a byte of its answer may have gone
   -- out.
-  ran : Bool → JournalUse → Event
+  ran : Bool → Journaled → Event
   -- A run that was about to do this broke off: a file failed, memory was refused, or the run was
   -- killed.
-  broke : JournalUse → Event
+  broke : Journaled → Event
 
 -- Which lists of records a journal may have.
 module _ (Valid : List Text → Type 0) where
@@ -68,22 +64,22 @@ module _ (Valid : List Text → Type 0) where
     pub valid : Valid (list ++ body ∷ [])
 
   -- What a run leaves that came to its end.
-  abbrev pub Done : JournalUse → CrashStates → CrashStates → Type 0
+  abbrev pub Done : Journaled → CrashStates → CrashStates → Type 0
   Done untouched before now = NoNew before now
   Done (reads list) before now = WasFound before list × StatesRepresent now list
   Done (appended list body) before now =
       MayAppend list body before × StatesRepresent now (list ++ body ∷ [])
   Done (started body) before now =
-      NoNew is_empty before × (Valid (body ∷ []) × StatesRepresent now (body ∷ []))
+      NoNew (λ c. c ≡ []) before × (Valid (body ∷ []) × StatesRepresent now (body ∷ []))
 
   -- What a run leaves that broke off where it had begun to work on the journal: its record is there
   -- or not.
-  abbrev pub HalfDone : JournalUse → CrashStates → CrashStates → Type 0
+  abbrev pub HalfDone : Journaled → CrashStates → CrashStates → Type 0
   HalfDone untouched before now = NoNew before now
   HalfDone (reads list) before now = WasFound before list × StatesRepresent now list
   HalfDone (appended list body) before now =
       MayAppend list body before × ((c : Text) → now c → RepresentsEither list body c)
-  HalfDone (started body) before now = NoNew is_empty before
+  HalfDone (started body) before now = NoNew (λ c. c ≡ []) before
 
   -- What an event leaves. A run that broke off had begun so, or it leaves nothing new.
   abbrev pub Happens : Event → CrashStates → CrashStates → Type 0
@@ -96,10 +92,6 @@ module _ (Valid : List Text → Type 0) where
     pub some : (c : Text) × now c
     pub happens : Happens event before now
 
-  -- The same of worlds, of which the crash states of one file count.
-  abbrev pub LeadsFile : {W : Type 0} → (W → CrashStates) → Event → W → W → Type 0
-  LeadsFile states event old new = Leads event (states old) (states new)
-
 -- A run that came to its end held these records: it found or made them.
 abbrev pub EventHolds : List Text → Event → Type 0
 EventHolds list elsewhere = ⊥
@@ -109,13 +101,18 @@ EventHolds list (broke did) = ⊥
 abbrev pub WereHeld : List Event → List Text → Type 0
 WereHeld events list = AnyEvent (EventHolds list) events
 
+-- The first event is one of a run that held these records.
+abbrev pub FirstHolds : List Text → List Event → Type 0
+FirstHolds list [] = ⊥
+FirstHolds list (event ∷ events) = EventHolds list event
+
 -- A run that was heard added this record after those: the record is released.
 abbrev pub HasReleased : List Event → List Text → Text → Type 0
 HasReleased events list body =
     AnyEvent (λ (event : Event). event ≡ ran true (appended list body)) events
 
 -- The records that were released, in their order.
-abbrev pub released_if : Bool → JournalUse → List Text
+abbrev pub released_if : Bool → Journaled → List Text
 released_if heard untouched = []
 released_if heard (reads list) = []
 released_if heard (appended list body) = if heard then body ∷ [] else []

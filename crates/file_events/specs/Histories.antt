@@ -2,7 +2,7 @@
 use Rattle.std.specs.Prelude.{Bool, List, [], ◌∷◌, ◌++◌, Option, None, Some, if◌then◌else◌}
 use Rattle.byte_formats.specs.Types.{Text}
 use Rattle.journal_core.specs.Format.{Represents, RepresentsEither}
-use Rattle.file_events.specs.Events.{CrashStates, Event, WereHeld, all_released}
+use Rattle.file_events.specs.Events.{CrashStates, Event, FirstHolds, all_released}
 use Rattle.file_events.specs.Laws.{IsJournalExecution}
 
 -- A history leads so far: these records are settled, the first one of the journal among them; this
@@ -15,11 +15,13 @@ abbrev pub recovered : Bool → List Text → Option Text → List Text
 recovered kept list None = list
 recovered kept list (Some body) = if kept then list ++ body ∷ [] else list
 
--- The steps of a history, by the rules of the journal: whatever valid records there are, a history
--- reaches them that releases none; a stop keeps a record that was begun, or not; and a record may
--- be begun where none is, settled, and released when it was settled.
+-- Whatever valid records there are, a history reaches them that releases none.
+abbrev pub ReachesAll : (List Text → Type 0) → History → Type 0
+ReachesAll Valid Reaches = (list : List Text) → Valid list → Reaches list None []
+
+-- The steps of a history, by the rules of the journal: a stop keeps a record that was begun, or
+-- not; and a record may be begun where none is, settled, and released when it was settled.
 pub record TakesSteps (Valid : List Text → Type 0) (Reaches : History) : Type 0 where
-  pub settles : (list : List Text) → Valid list → Reaches list None []
   pub stops : (kept : Bool) (list : List Text) (pending : Option Text) (out : List Text)
       → Reaches list pending out → Reaches (recovered kept list pending) None out
   pub begins : (list : List Text) (body : Text) (out : List Text) → Valid (list ++ body ∷ [])
@@ -52,7 +54,7 @@ module _ {W : Type 0} (states : W → CrashStates) (Valid : List Text → Type 0
 
   -- Each execution whose first event held some records is a history from there on.
   abbrev pub ExecutionsAreHistories : Type 0
-  ExecutionsAreHistories = TakesSteps Valid Reaches → (first : List Text) (old new : W)
-      (event : Event) (events : List Event) → WereHeld (event ∷ []) first
-      → IsJournalExecution states Valid old (event ∷ events) new
-      → IsHistory Reaches (all_released (event ∷ events)) (states new)
+  ExecutionsAreHistories = TakesSteps Valid Reaches → ReachesAll Valid Reaches
+      → (first : List Text) (old new : W) (events : List Event) → FirstHolds first events
+      → IsJournalExecution states Valid old events new
+      → IsHistory Reaches (all_released events) (states new)

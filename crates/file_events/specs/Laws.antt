@@ -2,7 +2,7 @@
 use Rattle.std.specs.Prelude.{◌≡◌, List, [], ◌∷◌, ◌++◌, Option, Some}
 use Rattle.byte_formats.specs.Types.{Text}
 use Rattle.journal_core.specs.Format.{Represents}
-use Rattle.file_events.specs.Events.{CrashStates, Event, MayRecover, LeadsFile, WereHeld}
+use Rattle.file_events.specs.Events.{CrashStates, Event, Leads, MayRecover, WereHeld}
 use Rattle.file_events.specs.Events.{HasReleased}
 use Rattle.file_events.specs.Executions.{IsExecution, IsPrefix}
 use Rattle.file_events.specs.Keys.{KeyUse, UsesOnce}
@@ -23,7 +23,7 @@ module _ (Valid : List Text → Type 0) where
 module _ {W : Type 0} (states : W → CrashStates) (Valid : List Text → Type 0) where
   -- The events of a journal lead from one world to the other.
   abbrev pub IsJournalExecution : W → List Event → W → Type 0
-  IsJournalExecution = IsExecution (LeadsFile Valid states)
+  IsJournalExecution = IsExecution (λ event old new. Leads Valid event (states old) (states new))
 
   -- Records that were durable before an execution are durable after it.
   abbrev pub DurableStay : Type 0

@@ -3,7 +3,7 @@
 use Rattle.std.specs.Prelude.{◌⊎◌, Bool, List, [], ◌∷◌, ◌++◌, if◌then◌else◌}
 use Rattle.byte_formats.specs.Types.{Text}
 use Rattle.disk_core.specs.Disk.{NoNew}
-use Rattle.file_events.specs.Events.{CrashStates, Done, HalfDone, MayRecover, JournalUse, appended}
+use Rattle.file_events.specs.Events.{CrashStates, Done, HalfDone, MayRecover, Journaled, appended}
 use Rattle.file_events.specs.Events.{reads, started, untouched}
 use Rattle.file_events.specs.Executions.{IsExecution}
 use Rattle.file_events.specs.Laws.{IsDurablePrefix}
@@ -11,10 +11,10 @@ use Rattle.file_events.specs.Laws.{IsDurablePrefix}
 -- An event of both journals at once: what a run did with the mirror's and with the cosigner's.
 pub data MirrorEvent : Type 0 where
   elsewhere : MirrorEvent
-  ran : Bool → JournalUse → JournalUse → MirrorEvent
-  broke : JournalUse → JournalUse → MirrorEvent
+  ran : Bool → Journaled → Journaled → MirrorEvent
+  broke : Journaled → Journaled → MirrorEvent
 
-abbrev pub mirror_event_with : Bool → Bool → JournalUse → JournalUse → MirrorEvent
+abbrev pub mirror_event_with : Bool → Bool → Journaled → Journaled → MirrorEvent
 mirror_event_with broken heard m s = if broken then broke m s else ran heard m s
 
 -- Which items and steps agree, which steps are computed from a mirror's items, and which agree with
@@ -28,7 +28,7 @@ module _ (agrees : List Text → List Text → Type 0)
 
   -- What a run may do with both: it adds to one of them at most, and a step to the cosigner where
   -- it is computed from what was found of the mirror, or neutral.
-  abbrev pub MayDo : JournalUse → JournalUse → Type 0
+  abbrev pub MayDo : Journaled → Journaled → Type 0
   MayDo untouched untouched = Unit {0}
   MayDo untouched (reads steps) = Unit {0}
   MayDo untouched (appended steps body) = Neutral steps body

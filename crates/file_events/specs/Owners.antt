@@ -1,9 +1,10 @@
 -- Owners of files: one journal; a journal with its tiles; the journals of a mirror and of a
 -- cosigner. What happens to files is an execution of the events of each owner.
-use Rattle.std.specs.Prelude.{◌≡◌, ◌⊎◌, true, false, List, [], ◌∷◌, Some}
+use Rattle.std.specs.Prelude.{◌≡◌, ◌⊎◌, List, [], ◌∷◌}
 use Rattle.byte_formats.specs.Types.{Text}
-use Rattle.file_events.specs.Events.{Event, JournalUse, Leads, LeadsFile, WereHeld, broke}
-use Rattle.file_events.specs.Events.{HasReleased, appended, elsewhere, records_after}
+use Rattle.file_events.specs.Events.{Event, Journaled, Leads, WereHeld, broke}
+use Rattle.file_events.specs.Events.{elsewhere}
+use Rattle.file_events.specs.Executions.{AnyEvent}
 use Rattle.file_events.specs.Laws.{IsDurablePrefix, IsJournalExecution}
 use Rattle.file_events.specs.Mirrors.{Agree, LeadsMirror, KeepsAgreement, MayDo, MirrorEvent}
 use Rattle.file_events.specs.Mirrors.{mirror_event_with, broke as broke_mirror}
@@ -12,26 +13,26 @@ use Rattle.file_events.specs.Tiles.{Goes, LeadsLog, LogEvent, NewTilesGo, PlainR
 use Rattle.file_events.specs.Tiles.{TilesWork, log_event_with, broke as broke_log}
 use Rattle.file_events.specs.Tiles.{elsewhere as none_of_log}
 use Rattle.file_events.specs.Works.{LeavesAll, journal_work, tiles_work}
-use Rattle.file_events.specs.Worlds.{LeavesStopped, IsFileCourse, HappeningOf, FileOwner, Program}
-use Rattle.file_events.specs.Worlds.{RunOf, all_states, breaks_off, done_to, event_with, events_of}
-use Rattle.file_events.specs.Worlds.{AnyRun, heard_of, states_between, states_of}
+use Rattle.file_events.specs.Worlds.{LeavesStopped, IsFileCourse, Link, FileOwner, Program}
+use Rattle.file_events.specs.Worlds.{Turn, all_states, breaks_off, done_to, event_with, events_of}
+use Rattle.file_events.specs.Worlds.{EachRun, heard_of, states_between, states_of}
 
 module _ (p : Program) where
   -- What a run did with the journal of a name.
-  abbrev pub did_to : Text → p.R → RunOf p → JournalUse
+  abbrev pub did_to : Text → p.R → Turn p.R p.O p.E → Journaled
   did_to name old run = done_to (p.journals old run) name
 
   -- Where the files are modelled they are so after a run, and a crash leaves something of each.
   pub record KeepsRooms : Type 0 where
-    pub modelled : (old : p.R) (run : RunOf p) → p.world.rooms.is_modelled old → p.HasRun old run
-        → p.world.rooms.is_modelled run.room
-    pub some : (room : p.R) (name : Text) → p.world.rooms.is_modelled room
-        → (c : Text) × states_of p.world name room c
+    pub modelled : (old : p.R) (run : Turn p.R p.O p.E) → p.rooms.is_modelled old → p.HasRun old run
+        → p.rooms.is_modelled run.room
+    pub some : (room : p.R) (name : Text) → p.rooms.is_modelled room
+        → (c : Text) × states_of p name room c
 
   -- A run that is killed over files that stop taking calls all at once is a run in which all of
   -- them fail: whatever its status, what it leaves is what a run leaves that broke off.
   abbrev pub RunsMayBreak : FileOwner p → Type 0
-  RunsMayBreak o = (old : p.R) (run : RunOf p) → p.world.rooms.is_modelled old → p.HasRun old run
+  RunsMayBreak o = (old : p.R) (run : Turn p.R p.O p.E) → p.rooms.is_modelled old → p.HasRun old run
       → o.LeadsTo (o.broken_event old run) old run.room
 
 -- ---- one journal
@@ -39,60 +40,55 @@ module _ (p : Program) where
 module _ (p : Program) (Valid : List Text → Type 0) (name : Text) where
   -- What a run leaves of the journal is an event. Where the machine stops at some time of it, what
   -- is left is an event too: of a run that broke off.
-  pub record LeavesJournal (old : p.R) (run : RunOf p) : Type 0 where
+  pub record LeavesJournal (old : p.R) (run : Turn p.R p.O p.E) : Type 0 where
     pub leads : Leads Valid
         (event_with (breaks_off run.status) (heard_of p run) (did_to p name old run))
-        (states_of p.world name old) (states_of p.world name run.room)
-    pub moments : (c : Text) → states_between p.world name old run.room c
-        → Leads Valid (broke (did_to p name old run)) (states_of p.world name old) (λ d. d ≡ c)
+        (states_of p name old) (states_of p name run.room)
+    pub moments : (c : Text) → states_between p name old run.room c
+        → Leads Valid (broke (did_to p name old run)) (states_of p name old) (λ d. d ≡ c)
 
   abbrev pub journal_file : FileOwner p
   journal_file = record {
     Own = λ n. n ≡ name;
     EventOf = Event;
-    LeadsTo = LeadsFile Valid (states_of p.world name);
+    LeadsTo = λ event old new. Leads Valid event (states_of p name old) (states_of p name new);
     none = elsewhere;
     run_event = λ old run.
         event_with (breaks_off run.status) (heard_of p run) (did_to p name old run);
     broken_event = λ old run. broke (did_to p name old run);
     Cuts = λ old run room.
-        LeavesStopped p (λ n. states_between p.world n old run.room) run.room room;
+        LeavesStopped p (λ n. states_between p n old run.room) run.room room;
   }
 
   -- Runs of the program leave so what they have to leave of the journal.
   pub record ServesJournal : Type 0 where
     pub rooms : KeepsRooms p
-    pub leaves : (old : p.R) (run : RunOf p) → p.world.rooms.is_modelled old → p.HasRun old run
+    pub leaves : (old : p.R) (run : Turn p.R p.O p.E) → p.rooms.is_modelled old → p.HasRun old run
         → LeavesJournal old run
 
   -- An execution of the journal is an execution of its events.
   abbrev pub JournalCourses : Type 0
-  JournalCourses = ServesJournal → (old new : p.R) (links : List (HappeningOf p))
-      → p.world.rooms.is_modelled old → IsFileCourse p journal_file old links new
-      → IsJournalExecution (states_of p.world name) Valid old
+  JournalCourses = ServesJournal → (old new : p.R) (links : List (Link p.R p.O p.E))
+      → p.rooms.is_modelled old → IsFileCourse p journal_file old links new
+      → IsJournalExecution (states_of p name) Valid old
       (events_of p journal_file old links) new
 
   -- So records that a run of the execution held are durable after it.
   abbrev pub CoursesHold : Type 0
-  CoursesHold = ServesJournal → (old new : p.R) (links : List (HappeningOf p))
-      → p.world.rooms.is_modelled old → IsFileCourse p journal_file old links new
+  CoursesHold = ServesJournal → (old new : p.R) (links : List (Link p.R p.O p.E))
+      → p.rooms.is_modelled old → IsFileCourse p journal_file old links new
       → (list : List Text) → WereHeld (events_of p journal_file old links) list
-      → IsDurablePrefix Valid list (states_of p.world name new)
+      → IsDurablePrefix Valid list (states_of p name new)
 
-  -- A run of an execution that ended without a failure of a file and was not refused memory, and
-  -- that found or made these records, held them.
-  abbrev pub RunsHold : Type 0
-  RunsHold = (old : p.R) (links : List (HappeningOf p)) (list : List Text)
-      → AnyRun p (λ before run. (breaks_off run.status ≡ false)
-      × (records_after (did_to p name before run) ≡ Some list)) old links
-      → WereHeld (events_of p journal_file old links) list
-
-  -- One that added a record, and of whose answer a byte may have gone out, released the record.
-  abbrev pub RunsRelease : Type 0
-  RunsRelease = (old : p.R) (links : List (HappeningOf p)) (list : List Text) (body : Text)
-      → AnyRun p (λ before run. (breaks_off run.status ≡ false)
-      × ((heard_of p run ≡ true) × (did_to p name before run ≡ appended list body))) old links
-      → HasReleased (events_of p journal_file old links) list body
+  -- Each run of an execution is one of the program, and its event is one of the execution's: so one
+  -- that came to its end held the records that it found or made, and it released the one that it
+  -- added if it was heard.
+  abbrev pub RunsAreEvents : Type 0
+  RunsAreEvents = ServesJournal → (old new : p.R) (links : List (Link p.R p.O p.E))
+      → p.rooms.is_modelled old → IsFileCourse p journal_file old links new
+      → EachRun p (λ before run. p.HasRun before run
+      × AnyEvent (λ (event : Event). event ≡ journal_file.run_event before run)
+      (events_of p journal_file old links)) old links
 
   abbrev pub JournalRunsMayBreak : Type 0
   JournalRunsMayBreak = ServesJournal → RunsMayBreak p journal_file
@@ -100,13 +96,14 @@ module _ (p : Program) (Valid : List Text → Type 0) (name : Text) where
 -- ---- a journal with its tiles
 
 module _ (p : Program) (goes : List Text → Text → Type 0) (Plain : List Text → Text → Type 0)
-    (Valid : List Text → Type 0) (name tiles : Text) (how_of : p.R → RunOf p → TilesWork) where
+    (Valid : List Text → Type 0) (name tiles : Text)
+    (how_of : p.R → Turn p.R p.O p.E → TilesWork) where
   -- A stop in the middle of a run is a kill, and then a stop.
   abbrev pub log_files : FileOwner p
   log_files = record {
     Own = λ n. (n ≡ name) ⊎ (n ≡ tiles);
     EventOf = LogEvent;
-    LeadsTo = LeadsLog goes Plain Valid (states_of p.world name) (states_of p.world tiles);
+    LeadsTo = LeadsLog goes Plain Valid (states_of p name) (states_of p tiles);
     none = none_of_log;
     run_event = λ old run. log_event_with (breaks_off run.status) (heard_of p run)
         (did_to p name old run) (how_of old run);
@@ -117,11 +114,11 @@ module _ (p : Program) (goes : List Text → Text → Type 0) (Plain : List Text
   -- Runs of the program leave so what they have to leave of both files at once.
   pub record ServesLog : Type 0 where
     pub rooms : KeepsRooms p
-    pub leaves : (old : p.R) (run : RunOf p) → p.world.rooms.is_modelled old → p.HasRun old run
+    pub leaves : (old : p.R) (run : Turn p.R p.O p.E) → p.rooms.is_modelled old → p.HasRun old run
         → LeavesAll (breaks_off run.status)
         (journal_work Valid name (did_to p name old run)
         ∷ tiles_work goes Plain name tiles (did_to p name old run) (how_of old run) ∷ [])
-        (all_states p.world old) (all_states p.world run.room)
+        (all_states p old) (all_states p run.room)
 
   abbrev pub LogRunsMayBreak : Type 0
   LogRunsMayBreak = ServesLog → RunsMayBreak p log_files
@@ -129,16 +126,16 @@ module _ (p : Program) (goes : List Text → Text → Type 0) (Plain : List Text
   -- A new journal goes with any tiles.
   abbrev pub NewTilesSurvive : Type 0
   NewTilesSurvive =
-      NewTilesGo goes Plain Valid (states_of p.world name) (states_of p.world tiles)
+      NewTilesGo goes Plain Valid (states_of p name) (states_of p tiles)
 
   -- Tiles and journal go with each other from then on, through every execution.
   abbrev pub TilesSurvive : Type 0
   TilesSurvive = ServesLog → PlainRecordsKeep goes Plain Valid → (prefix : List Text)
-      (old new : p.R) (links : List (HappeningOf p)) → p.world.rooms.is_modelled old
+      (old new : p.R) (links : List (Link p.R p.O p.E)) → p.rooms.is_modelled old
       → IsFileCourse p log_files old links new
-      → IsDurablePrefix Valid prefix (states_of p.world name old)
-      → Goes goes (states_of p.world name old) (states_of p.world tiles old)
-      → Goes goes (states_of p.world name new) (states_of p.world tiles new)
+      → IsDurablePrefix Valid prefix (states_of p name old)
+      → Goes goes (states_of p name old) (states_of p tiles old)
+      → Goes goes (states_of p name new) (states_of p tiles new)
 
 -- ---- a mirror and a cosigner
 
@@ -150,7 +147,7 @@ module _ (p : Program) (agrees : List Text → List Text → Type 0)
     Own = λ n. (n ≡ mirror) ⊎ (n ≡ cosigner);
     EventOf = MirrorEvent;
     LeadsTo = LeadsMirror agrees Computed Neutral ValidMirror ValidCosigner
-        (states_of p.world mirror) (states_of p.world cosigner);
+        (states_of p mirror) (states_of p cosigner);
     none = none_of_mirror;
     run_event = λ old run. mirror_event_with (breaks_off run.status) (heard_of p run)
         (did_to p mirror old run) (did_to p cosigner old run);
@@ -163,13 +160,13 @@ module _ (p : Program) (agrees : List Text → List Text → Type 0)
   -- once.
   pub record ServesMirror : Type 0 where
     pub rooms : KeepsRooms p
-    pub may : (old : p.R) (run : RunOf p) → p.world.rooms.is_modelled old → p.HasRun old run
+    pub may : (old : p.R) (run : Turn p.R p.O p.E) → p.rooms.is_modelled old → p.HasRun old run
         → MayDo agrees Computed Neutral (did_to p mirror old run) (did_to p cosigner old run)
-    pub leaves : (old : p.R) (run : RunOf p) → p.world.rooms.is_modelled old → p.HasRun old run
+    pub leaves : (old : p.R) (run : Turn p.R p.O p.E) → p.rooms.is_modelled old → p.HasRun old run
         → LeavesAll (breaks_off run.status)
         (journal_work ValidMirror mirror (did_to p mirror old run)
         ∷ journal_work ValidCosigner cosigner (did_to p cosigner old run) ∷ [])
-        (all_states p.world old) (all_states p.world run.room)
+        (all_states p old) (all_states p run.room)
 
   abbrev pub MirrorRunsMayBreak : Type 0
   MirrorRunsMayBreak = ServesMirror → RunsMayBreak p mirror_files
@@ -178,11 +175,11 @@ module _ (p : Program) (agrees : List Text → List Text → Type 0)
   abbrev pub CoursesAgree : Type 0
   CoursesAgree = ServesMirror
       → KeepsAgreement agrees Computed Neutral ValidMirror ValidCosigner
-      → (items steps : List Text) (old new : p.R) (links : List (HappeningOf p))
-      → p.world.rooms.is_modelled old → IsFileCourse p mirror_files old links new
-      → IsDurablePrefix ValidMirror items (states_of p.world mirror old)
-      → IsDurablePrefix ValidCosigner steps (states_of p.world cosigner old)
-      → Agree agrees Computed Neutral (states_of p.world mirror old)
-      (states_of p.world cosigner old)
-      → Agree agrees Computed Neutral (states_of p.world mirror new)
-      (states_of p.world cosigner new)
+      → (items steps : List Text) (old new : p.R) (links : List (Link p.R p.O p.E))
+      → p.rooms.is_modelled old → IsFileCourse p mirror_files old links new
+      → IsDurablePrefix ValidMirror items (states_of p mirror old)
+      → IsDurablePrefix ValidCosigner steps (states_of p cosigner old)
+      → Agree agrees Computed Neutral (states_of p mirror old)
+      (states_of p cosigner old)
+      → Agree agrees Computed Neutral (states_of p mirror new)
+      (states_of p cosigner new)

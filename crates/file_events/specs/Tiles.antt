@@ -4,7 +4,7 @@ use Rattle.std.specs.Prelude.{◌⊎◌, Bool, List, [], ◌∷◌, ◌++◌, if
 use Rattle.byte_formats.specs.Types.{Text}
 use Rattle.disk_core.specs.Disk.{NoNew}
 use Rattle.journal_core.specs.Format.{Represents}
-use Rattle.file_events.specs.Events.{CrashStates, Done, HalfDone, JournalUse, appended, reads}
+use Rattle.file_events.specs.Events.{CrashStates, Done, HalfDone, Journaled, appended, reads}
 use Rattle.file_events.specs.Events.{started, untouched}
 use Rattle.file_events.specs.Executions.{IsExecution}
 use Rattle.file_events.specs.Laws.{IsDurablePrefix}
@@ -18,10 +18,10 @@ pub data TilesWork : Type 0 where
 -- does with the tiles.
 pub data LogEvent : Type 0 where
   elsewhere : LogEvent
-  ran : Bool → JournalUse → TilesWork → LogEvent
-  broke : JournalUse → TilesWork → LogEvent
+  ran : Bool → Journaled → TilesWork → LogEvent
+  broke : Journaled → TilesWork → LogEvent
 
-abbrev pub log_event_with : Bool → Bool → JournalUse → TilesWork → LogEvent
+abbrev pub log_event_with : Bool → Bool → Journaled → TilesWork → LogEvent
 log_event_with broken heard did how = if broken then broke did how else ran heard did how
 
 -- Which bytes of a file of tiles go with a journal that has these records.
@@ -45,7 +45,7 @@ module _ (goes : List Text → Text → Type 0) where
   module _ (Plain : List Text → Text → Type 0) where
     -- What is left of the tiles. A record that is added names no new size (it is plain) where they
     -- are only read.
-    abbrev pub LeavesTiles : TilesWork → JournalUse → CrashStates → CrashStates → CrashStates
+    abbrev pub LeavesTiles : TilesWork → Journaled → CrashStates → CrashStates → CrashStates
         → Type 0
     LeavesTiles looked untouched tiles journal' tiles' = NoNew tiles tiles'
     LeavesTiles looked (reads list) tiles journal' tiles' = NoNew tiles tiles'

@@ -2,7 +2,7 @@
 use Rattle.std.specs.Prelude.{◌⊎◌, Bool, true, false, List, [], ◌∷◌}
 use Rattle.byte_formats.specs.Types.{Text}
 use Rattle.disk_core.specs.Disk.{NoNew}
-use Rattle.file_events.specs.Events.{CrashStates, Done, HalfDone, JournalUse}
+use Rattle.file_events.specs.Events.{CrashStates, Done, HalfDone, Journaled}
 use Rattle.file_events.specs.Tiles.{LeavesTiles, TilesWork}
 
 -- The crash states of all files.
@@ -30,7 +30,7 @@ LeavesAll true works before now =
     ⊎ EachWork (λ (work : Work). work.Half before now) works
 
 -- A journal with these rules.
-abbrev pub journal_work : (List Text → Type 0) → Text → JournalUse → Work
+abbrev pub journal_work : (List Text → Type 0) → Text → Journaled → Work
 journal_work Valid name did = record {
   name = name;
   Whole = λ before now. Done Valid did (before name) (now name);
@@ -39,7 +39,7 @@ journal_work Valid name did = record {
 
 -- The file of the tiles of the journal of a name.
 abbrev pub tiles_work : (List Text → Text → Type 0) → (List Text → Text → Type 0) → Text → Text
-    → JournalUse → TilesWork → Work
+    → Journaled → TilesWork → Work
 tiles_work goes Plain journal name did how = record {
   name = name;
   Whole = λ before now. LeavesTiles goes Plain how did (before name) (now journal) (now name);

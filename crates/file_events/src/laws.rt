@@ -9,8 +9,8 @@ ghost use Rattle.file_events.specs.Laws.{DurableStay, HeldAreDurable, KeysAreOfO
 ghost use Rattle.file_events.specs.Laws.{RecoveredIsValid, ReleasedAreDurable};
 ghost use Rattle.file_events.specs.Owners.{CoursesAgree, CoursesHold, JournalCourses};
 ghost use Rattle.file_events.specs.Owners.{JournalRunsMayBreak, LogRunsMayBreak};
-ghost use Rattle.file_events.specs.Owners.{MirrorRunsMayBreak, NewTilesSurvive, RunsHold};
-ghost use Rattle.file_events.specs.Owners.{RunsRelease, TilesSurvive};
+ghost use Rattle.file_events.specs.Owners.{MirrorRunsMayBreak, NewTilesSurvive, RunsAreEvents};
+ghost use Rattle.file_events.specs.Owners.{TilesSurvive};
 
 use crate::{JournalRules, Programs};
 use disk_core::Disk;
@@ -46,15 +46,15 @@ pub fn law_executions_are_histories<D: Disk, J: JournalRules>()
     ensures begins { ExecutionsAreHistories D.Disk.may_leave J.valid J.reaches }
 {}
 
-/// Where runs of a program leave of a journal what their events leave of it, each execution of
-/// runs, stops, kills and changes of other files is an execution of the journal. So the records
-/// that a run held stand afterwards: those that it found or made, where it didn't break off. A
-/// record that it added is released where a byte of its answer may have gone out.
+/// Where runs of a program leave of a journal what their events leave of it, all that happens by runs,
+/// stops, kills and changes of other files is an execution of the journal, and each of the runs is
+/// one of the events. So the records that a run held stand afterwards: those that it found or made,
+/// where it didn't break off. A record that it added is released where a byte of its answer may
+/// have gone out.
 pub fn law_courses_are_executions<P: Programs, J: JournalRules>()
     ensures executions { (name : Text) → JournalCourses P.program J.valid name }
     ensures hold { (name : Text) → CoursesHold P.program J.valid name }
-    ensures held { (name : Text) → RunsHold P.program J.valid name }
-    ensures released { (name : Text) → RunsRelease P.program J.valid name }
+    ensures events { (name : Text) → RunsAreEvents P.program J.valid name }
 {}
 
 /// Whatever a crash leaves of a journal goes with whatever it leaves of the file of its tiles, in
