@@ -46,11 +46,11 @@ pub fn law_executions_are_histories<D: Disk, J: JournalRules>()
     ensures begins { ExecutionsAreHistories D.Disk.may_leave J.valid J.reaches }
 {}
 
-/// Where runs of a program leave of a journal what their events leave of it, all that happens by runs,
-/// stops, kills and changes of other files is an execution of the journal, and each of the runs is
-/// one of the events. So the records that a run held stand afterwards: those that it found or made,
-/// where it didn't break off. A record that it added is released where a byte of its answer may
-/// have gone out.
+/// Where runs of a program leave of a journal what their events leave of it, all that happens by
+/// runs, stops, kills and changes of other files is an execution of the journal, and each of the
+/// runs is one of the events. So the records that a run held stand afterwards: those that it found
+/// or made, where it didn't break off. A record that it added is released where a byte of its
+/// answer may have gone out.
 pub fn law_courses_are_executions<P: Programs, J: JournalRules>()
     ensures executions { (name : Text) → JournalCourses P.program J.valid name }
     ensures hold { (name : Text) → CoursesHold P.program J.valid name }
