@@ -108,7 +108,7 @@ module _ {R S D : Type 0} (rooms : Rooms R S D) (g : Ghosts D) (name : List ℕ)
       let stays = stays_beside rooms g name old mid both d e opened opened_beside in
       (closed_beside.others name (longer_other name)).bytes ∙ stays.0
 
-  put_back : rooms.is_modelled old → IsSomeAnd (rooms.device new name) (λ x. SameDevice g d' x)
+  pub put_back : rooms.is_modelled old → IsSomeAnd (rooms.device new name) (λ x. SameDevice g d' x)
   put_back t = taken.device (through t) (subst IsSome (sym stays_kept) (opened.bytes t).there)
 
   no_new : rooms.is_modelled old → rooms.file old name ≡ None → rooms.file new name ≡ None
@@ -221,8 +221,8 @@ module _ {R S D : Type 0} (rooms : Rooms R S D) (g : Ghosts D) where
   ModelsAll = (m : R) (name : List ℕ) → rooms.is_modelled m
       → ModelsFile g.contents (rooms.file m name) (rooms.device m name)
 
-  no_device : (file : Option (List ℕ)) (x : Option D) → ModelsFile g.contents file x → file ≡ None
-      → x ≡ None
+  pub no_device : (file : Option (List ℕ)) (x : Option D) → ModelsFile g.contents file x
+      → file ≡ None → x ≡ None
   no_device file None is_modelled none = refl
   no_device file (Some x) is_modelled none =
       let there = subst IsSome none is_modelled.1 in absurd cc
@@ -250,7 +250,7 @@ module _ {R S D : Type 0} (rooms : Rooms R S D) (g : Ghosts D) where
     abbrev beside : List ℕ
     beside = tiles_name name
 
-    put_beside : rooms.is_modelled old
+    pub put_beside : rooms.is_modelled old
         → IsSomeAnd (rooms.device new beside) (λ x. SameDevice g e' x)
     put_beside t =
         let other = taken.others beside (λ same. longer_other name (sym same)) in
@@ -295,7 +295,8 @@ module _ {R S D : Type 0} (rooms : Rooms R S D) (g : Ghosts D) (name : List ℕ)
       let other = failed.others name (longer_other name) in
       (other.bytes ∙ (opened.stay name).bytes, other.disk ∙ (opened.stay name).disk)
 
-  put_failed : rooms.is_modelled old → IsSomeAnd (rooms.device new name) (λ x. SameDevice g d' x)
+  pub put_failed : rooms.is_modelled old
+      → IsSomeAnd (rooms.device new name) (λ x. SameDevice g d' x)
   put_failed t = taken.device (failed.is_modelled (opened.is_modelled t))
       (subst IsSome (sym stays_failed.0) (opened.bytes t).there)
 

@@ -6,3 +6,4 @@ pub mod Valid
 pub mod Begins
 pub mod Tiled
 pub mod Beside
+pub mod Stored

@@ -7,3 +7,4 @@ pub mod Steps
 pub mod Served
 pub mod Works
 pub mod Valid
+pub mod Stored
