@@ -63,7 +63,7 @@ cosigner_tagged (Err short) x is = no_some x is
 cosigner_tagged (Ok tag) x is =
     (tag, (refl, eqb-true tag.0 17 (tested (tag.0 == 17) _ x is)))
 
-apart : (first : Text) (s : Settings) (x : CosignerSettings × Text) → settings_in first ≡ Some s
+pub apart : (first : Text) (s : Settings) (x : CosignerSettings × Text) → settings_in first ≡ Some s
     → cosigner_in first ≡ Some x → ⊥
 unfolding settings_in cosigner_in
 apart first s x log cosigner =
