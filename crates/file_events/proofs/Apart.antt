@@ -1,4 +1,4 @@
--- Two files that each retained its word by itself, and don't go together.
+-- Two files, each left as it may be by itself, that don't go together.
 use Rattle.std.proofs.Common.{◌≡◌, inl, inr, List, [], ◌∷◌, ◌++◌, refl, sym, subst, ◌∙◌}
 use Rattle.std.proofs.Common.{append_assoc}
 use Rattle.byte_formats.specs.Types.{Text}

@@ -43,7 +43,7 @@ module _ (Valid : List Text → Type 0) (Reaches : History) (takes : TakesSteps 
         (takes.stops true old (Some body) out reaches)
   ]
 
-  -- a record that was begun is settled, and released where the run was heard
+  -- a pending record is durable, and released if the run was heard
   ended : (heard : Bool) (list : List Text) (body : Text) (out : List Text)
       → Reaches list (Some body) out
       → Reaches (list ++ body ∷ []) None (out ++ (if heard then body ∷ [] else []))

@@ -1,4 +1,4 @@
--- An execution of an owner's files is an execution of their events.
+-- What happens to an owner's files is an execution of their events.
 use Rattle.std.proofs.Common.{inl, inr, List, [], ◌∷◌, Option, IfSome, sym, subst}
 use Rattle.byte_formats.specs.Types.{Text}
 use Rattle.file_events.specs.Executions.{AnyEvent, IsExecution}
@@ -8,7 +8,7 @@ use Rattle.file_events.specs.Worlds.{died, event_of, events_of, files_after, run
 use Rattle.file_events.specs.Worlds.{states_of, stops, turned, writes}
 
 module _ (p : Program) (o : FileOwner p) (lead : LinksLead p o) where
-  -- a link leads to its file system, which is modelled
+  -- what happens leads to the files after it, which the model knows
   one_link : (old : p.R) (link : Link p.R p.O p.E) → p.rooms.is_modelled old
       → IsLink p o old link
       → p.rooms.is_modelled (files_after p link)

@@ -73,7 +73,7 @@ module _ (Valid : List Text → Type 0) where
       NoNew (λ c. c ≡ []) before × (Valid (body ∷ []) × StatesRepresent now (body ∷ []))
 
   -- What a run leaves that broke off where it had begun to work on the journal: its record is there
-  -- or not.
+  -- or not; and a new file may hold anything.
   abbrev pub HalfDone : Journaled → CrashStates → CrashStates → Type 0
   HalfDone untouched before now = NoNew before now
   HalfDone (reads list) before now = WasFound before list × StatesRepresent now list

@@ -5,12 +5,12 @@ use Rattle.journal_core.specs.Format.{Represents, RepresentsEither}
 use Rattle.file_events.specs.Events.{CrashStates, Event, FirstHolds, all_released}
 use Rattle.file_events.specs.Laws.{IsJournalExecution}
 
--- A history leads so far: these records are settled, the first one of the journal among them; this
--- one is begun and not settled; and these were released, in their order.
+-- A history leads so far: these records are durable, the first one of the journal among them; this
+-- one is pending; and these were released, in their order.
 abbrev pub History : Type 1
 History = List Text → Option Text → List Text → Type 0
 
--- The records that are found after a stop: with the one that was begun, or without it.
+-- The records that are found after a stop: with the pending one, or without it.
 abbrev pub recovered : Bool → List Text → Option Text → List Text
 recovered kept list None = list
 recovered kept list (Some body) = if kept then list ++ body ∷ [] else list
@@ -19,8 +19,8 @@ recovered kept list (Some body) = if kept then list ++ body ∷ [] else list
 abbrev pub ReachesAll : (List Text → Type 0) → History → Type 0
 ReachesAll Valid Reaches = (list : List Text) → Valid list → Reaches list None []
 
--- The steps of a history, by the rules of the journal: a stop keeps a record that was begun, or
--- not; and a record may be begun where none is, settled, and released when it was settled.
+-- The steps of a history, by the rules of the journal: a stop keeps a pending record, or not; where
+-- none is pending a record may be begun; and it becomes durable, and then may be released.
 pub record TakesSteps (Valid : List Text → Type 0) (Reaches : History) : Type 0 where
   pub stops : (kept : Bool) (list : List Text) (pending : Option Text) (out : List Text)
       → Reaches list pending out → Reaches (recovered kept list pending) None out
@@ -31,7 +31,7 @@ pub record TakesSteps (Valid : List Text → Type 0) (Reaches : History) : Type 
   pub hands : (list : List Text) (body : Text) (out : List Text) → Reaches list (Some body) out
       → Reaches (list ++ body ∷ []) None (out ++ body ∷ [])
 
--- A crash state represents the settled records, or these and the one that was begun.
+-- A crash state represents the durable records, or these and the pending one.
 abbrev pub RepresentsPending : List Text → Option Text → Text → Type 0
 RepresentsPending list None c = Represents c list
 RepresentsPending list (Some body) c = RepresentsEither list body c

@@ -60,13 +60,13 @@ module _ (p : Program) (Valid : List Text → Type 0) (name : Text) where
         LeavesStopped p (λ n. states_between p n old run.room) run.room room;
   }
 
-  -- Runs of the program leave so what they have to leave of the journal.
+  -- Runs of the program leave of the journal what they must.
   pub record ServesJournal : Type 0 where
     pub rooms : KeepsRooms p
     pub leaves : (old : p.R) (run : Turn p.R p.O p.E) → p.rooms.is_modelled old → p.HasRun old run
         → LeavesJournal old run
 
-  -- An execution of the journal is an execution of its events.
+  -- What happens to the program's files is an execution of the events of the journal.
   abbrev pub JournalCourses : Type 0
   JournalCourses = ServesJournal → (old new : p.R) (links : List (Link p.R p.O p.E))
       → p.rooms.is_modelled old → IsFileCourse p journal_file old links new
@@ -111,7 +111,7 @@ module _ (p : Program) (goes : List Text → Text → Type 0) (Plain : List Text
     Cuts = λ old run room. ⊥;
   }
 
-  -- Runs of the program leave so what they have to leave of both files at once.
+  -- Runs of the program leave of both files at once what they must.
   pub record ServesLog : Type 0 where
     pub rooms : KeepsRooms p
     pub leaves : (old : p.R) (run : Turn p.R p.O p.E) → p.rooms.is_modelled old → p.HasRun old run

@@ -42,7 +42,7 @@ module _ {D : Type 0} (disks : Disks D) where
 -- ---- how a run ended
 
 -- A byte of the answer may have gone out: the run did its work; or standard output took some; or it
--- failed, and doesn't tell what it took.
+-- failed, and the model doesn't know what it took.
 abbrev pub is_heard : ℕ → Option Text → Option Text → Bool
 is_heard status None after = (status == 0) || (status == 6)
 is_heard status (Some before) None = status == 0
@@ -211,7 +211,7 @@ module _ (p : Program) (o : FileOwner p) where
     pub some : (room : p.R) (name : Text) → p.rooms.is_modelled room
         → (c : Text) × states_of p name room c
 
-  -- An execution of an owner's files is an execution of their events.
+  -- What happens to an owner's files is an execution of their events.
   abbrev pub CoursesAreExecutions : Type 0
   CoursesAreExecutions = LinksLead → (old new : p.R) (links : List (Link p.R p.O p.E))
       → p.rooms.is_modelled old → IsFileCourse old links new

@@ -16,9 +16,9 @@ use crate::{JournalRules, Programs};
 use disk_core::Disk;
 
 /// Whatever runs do with a journal, wherever they break off, and wherever the machine stops: the
-/// records that a run found or made stand in each crash state from then on, first of all records;
-/// those that were released are among them; and whatever is recovered is valid, so no journal is
-/// refused.
+/// records that a run found or made, if it came to its end, are a prefix of the records of each
+/// crash state from then on; those that were released are among them; and whatever is recovered is
+/// valid, so no journal is refused.
 pub fn law_records_stand<D: Disk, J: JournalRules>()
     ensures stay { DurableStay D.Disk.may_leave J.valid }
     ensures held { HeldAreDurable D.Disk.may_leave J.valid }
@@ -39,8 +39,8 @@ pub fn law_counted_records_use_keys_once()
     ensures two { TwoLevelsUseOnce }
 {}
 
-/// What became of a journal is a history of its records: from the first run on that found or made
-/// some, and on from each history.
+/// What became of a journal is a history of its records: from a run on that found or made some and
+/// came to its end, and on from each history.
 pub fn law_executions_are_histories<D: Disk, J: JournalRules>()
     ensures on { HistoriesGoOn D.Disk.may_leave J.valid J.reaches }
     ensures begins { ExecutionsAreHistories D.Disk.may_leave J.valid J.reaches }
@@ -48,9 +48,9 @@ pub fn law_executions_are_histories<D: Disk, J: JournalRules>()
 
 /// Where runs of a program leave of a journal what their events leave of it, all that happens by
 /// runs, stops, kills and changes of other files is an execution of the journal, and each of the
-/// runs is one of the events. So the records that a run held stand afterwards: those that it found
-/// or made, where it didn't break off. A record that it added is released where a byte of its
-/// answer may have gone out.
+/// runs is one of the events. So the records that a run held are durable after it: those that it
+/// found or made, if it came to its end. A record that such a run added is released if a byte of
+/// its answer may have gone out.
 pub fn law_courses_are_executions<P: Programs, J: JournalRules>()
     ensures executions { (name : Text) → JournalCourses P.program J.valid name }
     ensures hold { (name : Text) → CoursesHold P.program J.valid name }
@@ -58,8 +58,8 @@ pub fn law_courses_are_executions<P: Programs, J: JournalRules>()
 {}
 
 /// Whatever a crash leaves of a journal goes with whatever it leaves of the file of its tiles, in
-/// each execution of a program whose runs leave of both what they have to leave, at once. A new
-/// journal goes with any tiles.
+/// each execution of a program whose runs leave both as they must, if it did so before and records
+/// of the journal were durable. A new journal goes with any tiles.
 pub fn law_tiles_survive<P: Programs, J: JournalRules>()
     ensures new { (name tiles : Text)
         → NewTilesSurvive P.program J.goes J.plain J.valid name tiles P.how_of }
@@ -68,8 +68,8 @@ pub fn law_tiles_survive<P: Programs, J: JournalRules>()
 {}
 
 /// Whatever is recovered of a mirror agrees with whatever is recovered of its cosigner, in each
-/// execution of a program whose runs do with both what they may, and leave of both what they have
-/// to leave, at once.
+/// execution of a program whose runs do with both what they may, and leave both as they must, if it
+/// did so before and records of both were durable.
 pub fn law_mirrors_agree<P: Programs, M: JournalRules, C: JournalRules>()
     ensures { (mirror cosigner : Text) → CoursesAgree P.program M.agrees M.computed M.neutral
         M.valid C.valid mirror cosigner }
@@ -85,8 +85,8 @@ pub fn law_runs_may_break<P: Programs, J: JournalRules, C: JournalRules>()
         J.neutral J.valid C.valid mirror cosigner }
 {}
 
-/// It isn't enough that a run that broke off keeps its word for each file by itself, nor that a
-/// stop leaves each file as it was at some time of a run.
+/// It isn't enough that a run that broke off leaves each file as it may be left by itself, nor that
+/// a stop leaves each file as it was at some time of a run.
 pub fn law_files_go_apart_one_by_one()
     ensures files { OneByOneFails }
     ensures clocks { ClocksGoApart }
