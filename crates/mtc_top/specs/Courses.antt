@@ -23,7 +23,7 @@ use Rattle.node_history.specs.declared.step.NodeStep.{NodeStep}
 use Rattle.mtc_top.specs.Concluded.{Prints, PrintsPrefix}
 use Rattle.mtc_top.specs.Run.{HasRun, journals}
 
--- One of these journals has this name, and so it was worked on.
+-- One of these journals has this name, and this was done with it.
 abbrev pub AreAmong : Journals → Text → Journaled → Type 0
 AreAmong [] name did = ⊥
 AreAmong (journal ∷ rest) name did =

@@ -45,8 +45,9 @@ module _ {R S D O E : Type 0} (h : HashFunction) (rooms : Rooms R S D) (disks : 
         status
     -- All that was opened is closed, and no file changes but the journals and those beside them.
     pub back : ClosesAll rooms old new (asked.besides ++ asked.journals)
-    -- Each of its journals has what is asked; after a failure it has its record or not, and where
-    -- memory was refused it has none. No journal is made but a new one, and then none at all.
+    -- Each of its journals has what is asked; after a failure it has its record or not, and if
+    -- memory was refused it has none. No journal is made but a new one, and none at all if memory
+    -- was refused.
     pub made : rooms.is_modelled old → LeavesJournals rooms disks old new journals ending
     -- Of a command that makes a journal, whatever is known of its files: how it ended is what came
     -- of that.

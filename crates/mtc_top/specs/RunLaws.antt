@@ -45,7 +45,8 @@ module _ {R S D O E : Type 0} (h : HashFunction) (rooms : Rooms R S D) (disks : 
       : Type 0 where
     -- The status is one of the eleven.
     pub known : status ≤ 10
-    -- Status 1 says that the arguments are no command, and such arguments are answered by it.
+    -- Status 1 says that the arguments are no command, and such arguments are answered by it,
+    -- unless memory was refused.
     pub only : status ≡ 1 → IsErr (command_of words)
     pub first : IsErr (command_of words) → status ≢ 8 → status ≡ 1
     -- A journal that isn't opened goes with a status that may come before.
@@ -62,7 +63,7 @@ module _ {R S D O E : Type 0} (h : HashFunction) (rooms : Rooms R S D) (disks : 
     -- It prints nothing if it is refused, the file system failed, or memory ran out.
     pub silent : status ≢ 0 → status ≢ 3 → status ≢ 6 → status ≢ 10
         → Prints outs out out' []
-    -- Something is known of what goes out from its first byte on, also of what may have gone out.
+    -- It answers if it did its work, or a byte of it may have gone out.
     pub heard : is_heard status (outs.taken out) (outs.taken out') ≡ true
         → Answered h rooms disks outs errs words old new out out' err err' status
     -- Such a run didn't break off.
