@@ -123,8 +123,8 @@ module _ {R S D O E : Type 0} (h : HashFunction) (rooms : Rooms R S D) (disks : 
       × ((x.kept ≡ Some export) × HasPrefix h x.items.entries (held_by h export.steps))))
       → turn.status ≢ 5 → turn.status ≢ 6 → turn.status ≢ 8 → StandsOrCollides x turn
 
-  -- The same by the arguments of `audit`, and the first of the two strings is one of the list's,
-  -- the second one of the certificate's or the cosigner's.
+  -- The same in the words of an audit (`has_own`), and the first of the two strings is one of the
+  -- list's, the second one of the certificate's or the cosigner's.
   abbrev pub StandsOrPair : AuditCase → Turn R O E → Type 0
   StandsOrPair x turn = ((turn.status ≡ 0) × (has_own h x.items x.accepted x.cert ≡ true)
       × Prints outs turn.out turn.out_after (stands_text x.accepted.index))

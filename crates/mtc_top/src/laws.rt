@@ -18,7 +18,7 @@ use mtc_room::Room;
 use tree_core::TreeHash;
 
 /// What follows of each run: how it may end, and that it is steps of each party whose journal it
-/// works on. If a byte may have gone out, every crash state holds the record that preceded it.
+/// works on. If a byte may have gone out, every crash state holds a record that the run added.
 pub fn law_runs_are_steps<H: TreeHash, R: Room, O: Sink, E: Sink>()
     ensures shows { RunsShow H.hash R.Room R.Dsk.Disk O.Sink E.Sink }
     ensures steps { RunsAreSteps H.hash R.Room R.Dsk.Disk O.Sink E.Sink }
@@ -112,8 +112,8 @@ pub fn law_exports_hold_what_went_out<H: TreeHash, R: Room, O: Sink, E: Sink>()
 /// run of `export` in that execution printed, which is the export of the records that this run
 /// read. Of each it is the whole text with status 0, and a prefix of it with 6. Over any output the
 /// run reads the records that each of those read and a rest after them, and what it prints more is
-/// the rest. So no execution leads to a journal whose export doesn't begin with an earlier one: an
-/// old copy was restored, or the journal was damaged.
+/// the rest. So if an export doesn't begin with an earlier one, an old copy was restored, or the
+/// journal was damaged.
 pub fn law_exports_only_grow<H: TreeHash, R: Room, O: Sink, E: Sink>()
     ensures { ExportsOnlyGrow H.hash R.Room R.Dsk.Disk O.Sink E.Sink }
 {}
