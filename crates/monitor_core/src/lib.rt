@@ -1,6 +1,6 @@
-//! A monitor of a log: what it has under watched names. A monitor retains of a log the number of
-//! its entries and the peaks of its tree, reads the new entries, tests that they lead from there to
-//! a new size and root, and reports each entry with a name under a watched domain.
+//! A monitor of a log: what it has under watched names. A monitor keeps of a log the number of its
+//! entries and the peaks of its tree, reads the new entries, tests that they lead from there to a
+//! new size and root, and reports each entry with a name under a watched domain.
 //!
 //! [`monitor`] is one run. What it finds is a report and the next state; [`write_found`] writes
 //! both, and [`read_state`] reads the state from that text. [`read_watch`] reads the domains.
