@@ -6,8 +6,8 @@
 //! both, and [`read_state`] reads the state from that text. [`read_watch`] reads the domains.
 //!
 //! A state is believed: where it isn't that of the log, a run is refused, or reports entries of
-//! another list. Two monitors of one log that end at one state saw one list, or their lists show two
-//! different strings with one hash
+//! another list. Two monitors of one log that end at one state saw the same list, or their lists
+//! show two different strings with one hash
 //! ([`law_one_state_is_of_one_list`](laws::law_one_state_is_of_one_list)).
 //!
 //! No clause says how long a run takes: it hashes each entry once, and a pair for each peak that a
