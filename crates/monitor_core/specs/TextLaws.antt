@@ -15,8 +15,9 @@ abbrev pub IsIndexed : Line → Type 0
 IsIndexed (Match index name) = index < 2 ^ 63
 IsIndexed (Unread index) = index < 2 ^ 63
 
--- The text of what was found is read as the state that was found; a text that is read ends with the
--- line of what was read; and states with one line are one state.
+-- If the indices of its lines are in range, the text of what was found is read as the state that
+-- was found; a text that is read ends with the line of what was read; and states with one line are
+-- one state.
 pub record StatesAreReadAsWritten : Type 0 where
   pub again : (found : Findings) → IsKept found.state → AllByRecursion IsIndexed found.lines
       → state_in (found_text found) ≡ Ok found.state

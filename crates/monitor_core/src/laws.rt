@@ -28,7 +28,7 @@ pub fn law_each_entry_is_reported_once()
 
 /// The law of states: two lists that have one state are one list, or they show two different
 /// strings with one hash. So two monitors of one log whose last states are one saw one list,
-/// whatever they watch and however their runs were cut.
+/// whatever they watch and however their runs were cut, or their lists show such strings.
 pub fn law_one_state_is_of_one_list<H: TreeHash>()
     ensures states { StatesAreOfOneList H.hash }
     ensures monitors { MonitorsSawOneList H.hash }
@@ -36,9 +36,9 @@ pub fn law_one_state_is_of_one_list<H: TreeHash>()
     law_lists_extract::<H>();
 }
 
-/// The text of what was found is read as the state that was found, where its size is below 2^63.
-/// Each text that is read ends with the line of the state that is read. States that have one line
-/// are one state.
+/// The text of what was found is read as the state that was found, if its size and the indices of
+/// its lines are below 2^63. Each text that is read ends with the line of the state that is read.
+/// States that have one line are one state.
 pub fn law_states_are_read_as_written()
     ensures { StatesAreReadAsWritten }
 {}
