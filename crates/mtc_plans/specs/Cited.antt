@@ -25,7 +25,7 @@ use Rattle.mtc_reads.specs.MemberOutcome.{member_outcome}
 use Rattle.mtc_reads.specs.ShowOutcome.{show_outcome}
 use Rattle.mtc_reads.specs.VerifyOutcome.{verify_outcome}
 
--- The outcome of a command on the log of a journal, by its arguments alone.
+-- The outcome of a command on the log of a journal, which reads no files but the log's.
 abbrev pub outcome_on_log : HashFunction → Text → Work → Files → Outcome
 outcome_on_log h journal work files =
     log_outcome h journal (files journal) (files (tiles_name journal)) work
