@@ -53,11 +53,11 @@ fn take_next<H: TreeHash>(
     }
 }
 
-/// The states of all parties after these steps. `NotAStep` comes exactly if a step is not allowed,
-/// with the number of the first one. A step needs that its party is there. A record may begin if
-/// none is pending, and the journal may hold it after the durable ones; it becomes durable if it is
-/// pending; and the last durable record is released if it was not released yet and no stop came
-/// since it became durable.
+/// The states of all parties after these steps. Unless memory is refused, `NotAStep` comes exactly
+/// if a step is not allowed, with the number of the first one. A step needs that its party is
+/// there. A record may begin if none is pending, and the journal may hold it after the durable
+/// ones; it becomes durable if it is pending; and the last durable record is released if it was not
+/// released yet and no stop came since it became durable.
 pub fn history<H: TreeHash>(
     alloc: Global,
     starts: &[NodeStart],

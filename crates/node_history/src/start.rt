@@ -8,7 +8,7 @@ use mtc_io::Memory;
 use std::alloc::Global;
 use tls_wire::AnchorId;
 
-/// How a party begins: as a log, or as a cosigner, whose secret no other party knows.
+/// How a party begins: as a log, or as a cosigner. It has no secret.
 #[derive(Debug, Drop)]
 pub enum NodeStart {
     /// A log with these settings.
