@@ -1,7 +1,7 @@
 //! In which order the file system of real files calls the system.
 
 use crate::noted::{Call, Noted, Wanted};
-use crate::system::{disk_refusal, fresh_refusal, scratch_refusal};
+use crate::system::{device_refusal, disk_refusal, fresh_refusal, new_refusal, scratch_refusal};
 use disk_core::Disk;
 use journal_core::{HEADER, OpenError, Opening, Refused};
 use mtc_files::FileRoom;
@@ -13,12 +13,15 @@ use std::os::unix::fs::PermissionsExt;
 use std::rt::Files;
 use std::test::Fail;
 
-// What a file system is asked for: a journal, a new one, or a file of tiles.
+// What a file system is asked for: a journal, a new one, or a file of tiles. Or the device alone of
+// a journal, or of a new one.
 #[derive(Clone, Copy)]
 enum Asked {
     Journal,
     New,
     Tiles,
+    Device,
+    NewDevice,
 }
 
 // Why the file system doesn't open it.
@@ -33,6 +36,8 @@ fn refusal<R: Files<File = File>>(
         Asked::Journal => disk_refusal(&noted, name),
         Asked::New => fresh_refusal(&noted, name),
         Asked::Tiles => scratch_refusal(&noted, name),
+        Asked::Device => device_refusal(&noted, name),
+        Asked::NewDevice => new_refusal(&noted, name),
     }
 }
 
@@ -228,7 +233,7 @@ const TILES: [Call; 8] = [
 
 fn first_bytes(asked: Asked) -> &'static [u8] {
     match asked {
-        Asked::Journal => &HEADER,
+        Asked::Journal | Asked::Device => &HEADER,
         _ => &[],
     }
 }
@@ -255,8 +260,9 @@ fn prepare<R: Files<File = File>>(
 // one that finds the file by its name after the lock.
 type Case = (Asked, Option<u64>, Vec<Call>, usize);
 
-fn cases(alloc: Global) -> Result<[Case; 6], AllocError> {
+fn cases(alloc: Global) -> Result<[Case; 8], AllocError> {
     let short = calls_of(alloc, (4097, 0, 2, 1, 22))?;
+    let again = calls_of(alloc, (4097, 0, 2, 1, 22))?;
     let long = calls_of(alloc, (135_169, 1, 33, 4096, 22))?;
     Ok([
         (Asked::Journal, Some(4097), short, 3),
@@ -270,6 +276,8 @@ fn cases(alloc: Global) -> Result<[Case; 6], AllocError> {
             5,
         ),
         (Asked::Tiles, Some(8192), Vec::from_slice(alloc, &TILES)?, 6),
+        (Asked::Device, Some(4097), again, 3),
+        (Asked::NewDevice, None, Vec::from_slice(alloc, &NEW)?, 2),
     ])
 }
 

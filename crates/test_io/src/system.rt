@@ -1,7 +1,7 @@
 //! The file system of real files.
 
 use disk_core::{Disk, FileDisk};
-use mtc_files::{FileRoom, Held};
+use mtc_files::{FileRoom, Held, new_journal, open_journal};
 use mtc_io::{Bytes, Failed, ReadError, Source, read_all};
 use mtc_room::{Cause, Room, RoomError};
 use std::alloc::Global;
@@ -68,6 +68,28 @@ where
             None
         }
         Err(Failed) => Some(RoomError::Failed),
+    }
+}
+
+// The same of the device alone of a journal, whatever the system says of it.
+pub fn device_refusal<R: Files>(files: &R, name: &str) -> Option<RoomError>
+where
+    R::File: Held,
+{
+    match open_journal(files, name) {
+        Ok(_device) => None,
+        Err(_) => Some(RoomError::Failed),
+    }
+}
+
+// The same of the device of a new journal.
+pub fn new_refusal<R: Files>(files: &R, name: &str) -> Option<RoomError>
+where
+    R::File: Held,
+{
+    match new_journal(files, name) {
+        Ok(_device) => None,
+        Err(_) => Some(RoomError::Failed),
     }
 }
 
