@@ -1,9 +1,7 @@
 //! What one cosigner does in a round.
 
-ghost use Rattle.std.specs.Prelude.{◌≡◌, ◌<◌, ◌≤◌, ◌+◌, ◌^◌, ◌++◌, [], ◌∷◌, length, IfOk};
-ghost use Rattle.std.specs.Prelude.{OnOk};
+ghost use Rattle.std.specs.Prelude.{◌≡◌, ◌<◌, ◌≤◌, ◌+◌, [], ◌∷◌, length, IfOk};
 ghost use Rattle.tls_wire.specs.Encoding.{AreHashes};
-ghost use Rattle.mtc_proof.specs.Proofs.{signature_text};
 ghost use Rattle.drill_nodes.specs.Cosigners.{IsAdvanced, IsPut, IsSigned};
 ghost use Rattle.drill_nodes.specs.CosignerNodes.{most_of};
 ghost use Rattle.drill_nodes.specs.CosignerViews.{cosigner_shown, cosigner_stops};
@@ -15,8 +13,8 @@ use crate::turns::Turn;
 use cosigner_core::{AdvanceRequest, SubtreeRequest};
 use hss_core::SigBuf;
 use mtc_io::{Bytes, Memory};
+use mtc_proof::put_signature;
 use std::alloc::Global;
-use tls_wire::{put_vec8, put_vec16};
 use tree_core::TreeHash;
 
 // The types of a hash and of a proof make hashes as long as hashes are: the clauses say it, and the
@@ -27,24 +25,6 @@ fn law_are_hashes(hash: &[u8; 32], proof: &[[u8; 32]])
     ensures all { AreHashes proof.now }
 {
     let _few = proof.len();
-}
-
-// Appends a signature of the cosigner to the others.
-fn put_signature<H: TreeHash>(
-    node: &CosignerNode<H>,
-    signature: &SigBuf,
-    signatures: &mut Bytes,
-) -> Result<(), Memory>
-    requires { length signature.now < 2 ^ 16 }
-    ensures { OnOk result (signatures.new ≡ signatures.old
-        ++ signature_text (record {
-          cosigner = (cosigner_shown node.now).id;
-          signature = signature.now;
-        })) }
-{
-    put_vec8(signatures, node.cosigner.id().as_bytes())?;
-    put_vec16(signatures, signature.as_slice())?;
-    Ok(())
 }
 
 /// The cosigner holds the root of a larger log.
@@ -101,6 +81,6 @@ pub(crate) fn signed<H: TreeHash>(
     law_are_hashes(&request.hash, request.proof);
     let mut out = SigBuf::new();
     let node = node.cosign(alloc, &request, turn, &mut out)?;
-    put_signature(&node, &out, signatures)?;
+    put_signature(signatures, node.cosigner.id().as_bytes(), out.as_slice())?;
     Ok(node)
 }

@@ -1,9 +1,6 @@
 //! The commands `advance` and `cosign`: requests to a cosigner of a log.
 
-ghost use Rattle.std.specs.Prelude.{◌≡◌, ◌≢◌, ◌<◌, ◌≤◌, ◌+◌, ◌++◌, ◌^◌, [], ◌∷◌, length, IfOk};
-ghost use Rattle.std.specs.Prelude.{vec_len, vec_capacity};
-ghost use Rattle.std.specs.Int.{w8, w16};
-ghost use Rattle.tls_wire.specs.Encoding.{vector};
+ghost use Rattle.std.specs.Prelude.{◌≡◌, ◌≢◌, ◌<◌, ◌^◌, [], ◌∷◌, IfOk};
 ghost use Rattle.cosigner_core.specs.Keyless.{keyless_owner};
 ghost use Rattle.cosigner_core.specs.Views.{advance_parts, subtree_parts};
 ghost use Rattle.cosigner_core.specs.Words.{cosigner_disk, cosigner_owner};
@@ -28,13 +25,13 @@ use mtc_command::{
     Answer, INPUT_LIMIT, Reason, Said, Stop, Stopped, read_input, refuse, refuse_file,
 };
 use mtc_io::{Bytes, Memory};
+use mtc_proof::ReservedSignature;
 use mtc_room::Room;
-use std::alloc::{AllocError, Global};
-use tls_wire::AnchorId;
+use std::alloc::Global;
 use tree_core::TreeHash;
 
-// The capacity for a signature: a buffer holds no more.
-const CAPACITY: usize = 17_748;
+// A buffer of a signature holds no more.
+const LONGEST_SIGNATURE: u16 = 17_748;
 
 // Why a file is no request.
 fn reason_of(why: FormError) -> Reason
@@ -100,34 +97,6 @@ pub(crate) fn advance_on<'a, H: TreeHash, D: Disk>(
     }
 }
 
-// The id of a cosigner after its length, with capacity for a signature after it.
-fn begun_with(alloc: Global, id: &AnchorId) -> Result<Vec<u8>, AllocError>
-    ensures text { IfOk result (λ text. text.items ≡ vector w8 id.now) }
-    ensures room { IfOk result (λ text. vec_len text + 2 + 17748 ≤ vec_capacity text) }
-{
-    let id = id.as_bytes();
-    let mut text = Vec::with_capacity(alloc, 1 + id.len() + 2 + CAPACITY)?;
-    text.push(id.len() as u8)?;
-    text.extend_from_slice(id)?;
-    Ok(text)
-}
-
-// The same with the signature after its length.
-fn with_signature(mut text: Vec<u8>, signature: &[u8]) -> Bytes
-    requires short { length signature.now ≤ 17748 }
-    requires room { vec_len text + 2 + 17748 ≤ vec_capacity text }
-    ensures { result ≡ text.items ++ vector w16 signature.now }
-{
-    let length = (signature.len() as u16).to_be_bytes();
-    if text.extend_from_slice(&length).is_err() {
-        unreachable!()
-    }
-    if text.extend_from_slice(signature).is_err() {
-        unreachable!()
-    }
-    Bytes::from_vec(text)
-}
-
 /// The work of `cosign S REQUEST`. All memory is taken before the record is added, and the
 /// signature is made after it.
 pub(crate) fn cosign_on<'a, H: TreeHash, D: Disk>(
@@ -143,12 +112,12 @@ pub(crate) fn cosign_on<'a, H: TreeHash, D: Disk>(
     ensures valid { StaysCosigner D.Disk H.hash (cosign_says H.hash (subtree_parts request.now))
         (cosigner_owner cosigner.old) (cosigner_disk cosigner.new) }
 {
-    let text = begun_with(alloc, cosigner.id())?;
+    let reserved = ReservedSignature::new(alloc, LONGEST_SIGNATURE)?;
     let mut signature = SigBuf::new();
     match cosigner.cosign(request, &mut signature) {
         Ok(()) => Ok(Answer {
             status: Said::Done,
-            text: with_signature(text, signature.as_slice()),
+            text: reserved.fill(cosigner.id().as_bytes(), signature.as_slice()),
         }),
         Err(why) => Err(refuse_step(journal, why)),
     }

@@ -5,8 +5,8 @@ use Rattle.drill_nodes.specs.CosignerViews.{cosigner_shown, records_shown}
 use Rattle.drill_nodes.proofs.CosignerStops.{says_sign}
 use Rattle.drill_nodes.proofs.signing.signed.Goals as goal
 
-pub put_signature-requires : goal.put_signature-requires
-put_signature-requires g c =
+pub put_signature-requires-clause-signature_short : goal.put_signature-requires-clause-signature_short
+put_signature-requires-clause-signature_short g c =
     let short = c.in_ok-node.ensures.state.signed.1 in omega (arith, short)
 
 pub returns-clause-state : goal.returns-clause-state
@@ -36,9 +36,13 @@ returns-clause-put g c =
     record {
       part = record { cosigner = (cosigner_shown c.args.node).id; signature = out };
       signed = record { cosigner = refl; verifies = has.signed.0; short = has.signed.1 };
-      put = c.in_ok-put_signature.ensures
+      put = c.in_ok-put_signature.ensures.ok
+          ∙ ap (λ (t : Text). c.args.signatures.now
+          ++ signature_text (record { cosigner = c.as_bytes.result.now; signature = t }))
+          c.as_slice.ensures.value
           ∙ ap (λ (id : Text). c.args.signatures.now
-          ++ signature_text (record { cosigner = id; signature = out })) has.id;
+          ++ signature_text (record { cosigner = id; signature = out }))
+          (c.as_bytes.ensures.value ∙ c.id.ensures ∙ has.id);
     }
 
 pub returns-clause-keys : goal.returns-clause-keys

@@ -1,8 +1,7 @@
-use Rattle.std.proofs.Common.{rules, subst, sym, ap, ◌∙◌, ◌++◌}
-use Rattle.std.specs.Int.{w8, w16}
-use Rattle.tls_wire.specs.Encoding.{vector}
+use Rattle.std.proofs.Common.{rules, subst, sym, ap, ◌∙◌}
 use Rattle.byte_formats.specs.Types.{Text}
-use Rattle.cosigner_core.specs.Folds.{having_signed}
+use Rattle.mtc_proof.specs.Proofs.{signature_text}
+use Rattle.cosigner_core.specs.Folds.{CosignerState, having_signed}
 use Rattle.cosigner_core.specs.Records.{sign_record}
 use Rattle.cosigner_core.specs.Refusals.{cosign_refused}
 use Rattle.cosigner_core.specs.Views.{subtree_parts}
@@ -31,10 +30,13 @@ returns-in-Ok-clause-works g c =
     let r = subtree_parts c.args.request.now in
     subst (λ (t : Text). HasWorkedOnCosigner g.D.Disk name (cosign_says h r) old new.disk
     (replied (said Done t)))
-    (sym (c.with_signature.ensures
-    ∙ ap (λ (t : Text). t ++ vector w16 c.as_slice.result.now)
-    (c.in_ok-text.ensures.text ∙ ap (vector w8) c.id.ensures)
-    ∙ ap (λ (t : Text). vector w8 old.state.id ++ vector w16 t)
+    (sym (c.fill.ensures
+    ∙ ap (λ (id : Text). signature_text (record {
+      cosigner = id;
+      signature = c.as_slice.result.now;
+    })) (c.as_bytes.ensures.value ∙ c.id.ensures
+    ∙ ap (λ (s : CosignerState). s.id) c.in-Ok.ensures.appends.leaves.state)
+    ∙ ap (λ (t : Text). signature_text (record { cosigner = old.state.id; signature = t }))
     (c.as_slice.ensures.value ∙ c.in-Ok.ensures.signature)))
     (step_made g.D.Disk name old new c.requires
     (sign_record old.state.key.next r.start r.end r.hash r.proof)
