@@ -31,11 +31,12 @@ use mtc_reads::store_reason;
 use mtc_reads::verify::verdict_answer;
 use mtc_room::Room;
 use policy_core::{Refusal, Store, StoreError};
-use relying_party::judge;
+use relying_party::judge_cert;
 use std::alloc::Global;
 use tree_core::TreeHash;
 
 // Judges a certificate, and gives the parts of one that is accepted.
+#[tactic(auto, unfolding(policy_core::specs::Judgement::judgement))]
 fn accepted_in<'b, H: TreeHash>(
     bytes: &'b [u8],
     store: &Store,
@@ -45,8 +46,8 @@ fn accepted_in<'b, H: TreeHash>(
     ensures judged { IfOk result (λ a. WasJudged H.hash store.now (parts a.cert)
         (proof_parts a.proof) a.accepted) }
 {
-    let accepted = judge::<H>(bytes, store, now)?;
     let cert = parse(bytes)?;
+    let accepted = judge_cert::<H>(&cert, store, now)?;
     let proof = read_proof(cert.proof)?;
     Ok(AcceptedCert {
         accepted,
