@@ -15,7 +15,7 @@ use Rattle.mtc_words.specs.declared.name.Name.TheVariants.{Checkpoint, Entries, 
 use Rattle.mtc_words.specs.declared.name.Name.TheVariants.{Keygen, InitCosigner, Advance, Cosign}
 use Rattle.mtc_words.specs.declared.name.Name.TheVariants.{Export, Landmark, Landmarks, LightCert}
 use Rattle.mtc_words.specs.declared.name.Name.TheVariants.{TrustLandmarks, Cert, Audit, Drill}
-use Rattle.mtc_words.specs.declared.name.Name.TheVariants.{Tile}
+use Rattle.mtc_words.specs.declared.name.Name.TheVariants.{Quarrel, Tile}
 use Rattle.mtc_words.specs.Commands.{CommandValue, journal_of, is_height, is_width, is_time}
 use Rattle.mtc_words.specs.Commands.{is_active, is_limit, is_any}
 use Rattle.mtc_words.specs.Names.{named_command, word_count, takes_journal, is_tiles_name}
@@ -91,6 +91,7 @@ from_words Cert ws c e =
     told _ c is) second) first) e
 from_words Audit ws c e =
     behind (Has Audit ws) (number_word 3 is_time (word ws 2)) _ c (λ moment is. told _ c is) e
+from_words Quarrel ws c e = told _ c e
 from_words Drill ws c e =
     behind (Has Drill ws) (number_word 1 is_any (word ws 0)) _ c (λ number is. told _ c is) e
 from_words Tile ws c e = told _ c e

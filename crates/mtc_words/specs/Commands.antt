@@ -8,7 +8,7 @@ use Rattle.mtc_words.specs.declared.command.Command.TheVariants.{Member, Show, V
 use Rattle.mtc_words.specs.declared.command.Command.TheVariants.{Issue, Checkpoint, Entries}
 use Rattle.mtc_words.specs.declared.command.Command.TheVariants.{Consist, Subtree, Keygen}
 use Rattle.mtc_words.specs.declared.command.Command.TheVariants.{InitCosigner, Advance, Cosign}
-use Rattle.mtc_words.specs.declared.command.Command.TheVariants.{Export}
+use Rattle.mtc_words.specs.declared.command.Command.TheVariants.{Export, Quarrel}
 use Rattle.mtc_words.specs.declared.command.Command.TheVariants.{Landmark, Landmarks, LightCert}
 use Rattle.mtc_words.specs.declared.command.Command.TheVariants.{TrustLandmarks, Cert, Audit, Drill}
 use Rattle.mtc_words.specs.declared.command.Command.TheVariants.{Tile}
@@ -36,6 +36,7 @@ pub data CommandValue : Type 0 where
   trust_landmarks : List ℕ → ℕ → List ℕ → CommandValue
   cert : Text → ℕ → ℕ → ℕ → Text → CommandValue
   audit : Text → Text → ℕ → Text → Text → CommandValue
+  quarrel : Text → CommandValue
   drill : ℕ → CommandValue
   tile : Text → CommandValue
 
@@ -65,6 +66,7 @@ command_value (Cert journal index start end signatures) =
     cert journal.now index start end signatures.now
 command_value (Audit certificate store moment items kept) =
     audit certificate.now store.now moment items.now kept.now
+command_value (Quarrel kept) = quarrel kept.now
 command_value (Drill number) = drill number
 command_value (Tile journal) = tile journal.now
 
@@ -121,6 +123,7 @@ IsInRange (light_cert journal index) = Unit {0}
 IsInRange (trust_landmarks list active items) = is_active active ≡ true
 IsInRange (cert journal index start end signatures) = Unit {0}
 IsInRange (audit certificate store moment items kept) = is_time moment ≡ true
+IsInRange (quarrel kept) = Unit {0}
 IsInRange (drill number) = Unit {0}
 IsInRange (tile journal) = Unit {0}
 
@@ -146,5 +149,6 @@ journal_of (light_cert journal index) = Some journal
 journal_of (trust_landmarks list active items) = None
 journal_of (cert journal index start end signatures) = Some journal
 journal_of (audit certificate store moment items kept) = None
+journal_of (quarrel kept) = None
 journal_of (drill number) = None
 journal_of (tile journal) = Some journal

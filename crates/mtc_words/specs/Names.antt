@@ -8,7 +8,7 @@ use Rattle.mtc_words.specs.declared.name.Name.{Name}
 use Rattle.mtc_words.specs.declared.name.Name.TheVariants.{Member, Show, Verify, InitLog, Issue}
 use Rattle.mtc_words.specs.declared.name.Name.TheVariants.{Checkpoint, Entries, Consist, Subtree}
 use Rattle.mtc_words.specs.declared.name.Name.TheVariants.{Keygen, InitCosigner, Advance, Cosign}
-use Rattle.mtc_words.specs.declared.name.Name.TheVariants.{Export}
+use Rattle.mtc_words.specs.declared.name.Name.TheVariants.{Export, Quarrel}
 use Rattle.mtc_words.specs.declared.name.Name.TheVariants.{Landmark, Landmarks, LightCert}
 use Rattle.mtc_words.specs.declared.name.Name.TheVariants.{TrustLandmarks, Cert, Audit, Drill}
 use Rattle.mtc_words.specs.declared.name.Name.TheVariants.{Tile}
@@ -22,9 +22,10 @@ named_from_landmark word =
     else (if bytes_eq word (codes "trust-landmarks") then Some TrustLandmarks
     else (if bytes_eq word (codes "cert") then Some Cert
     else (if bytes_eq word (codes "audit") then Some Audit
+    else (if bytes_eq word (codes "quarrel") then Some Quarrel
     else (if bytes_eq word (codes "drill") then Some Drill
     else (if bytes_eq word (codes "tile") then Some Tile
-    else None)))))))
+    else None))))))))
 
 -- The same for an argument that names none of those before the commands of a cosigner.
 abbrev pub named_from_cosigner : Text → Option Name
@@ -72,6 +73,7 @@ word_count LightCert = 2
 word_count TrustLandmarks = 3
 word_count Cert = 5
 word_count Audit = 5
+word_count Quarrel = 1
 word_count Drill = 1
 word_count Tile = 1
 
@@ -97,6 +99,7 @@ takes_journal LightCert = true
 takes_journal TrustLandmarks = false
 takes_journal Cert = true
 takes_journal Audit = false
+takes_journal Quarrel = false
 takes_journal Drill = false
 takes_journal Tile = true
 

@@ -14,7 +14,7 @@ use Rattle.mtc_words.specs.declared.name.Name.{Name}
 use Rattle.mtc_words.specs.declared.name.Name.TheVariants.{Member, Show, Verify, InitLog, Issue}
 use Rattle.mtc_words.specs.declared.name.Name.TheVariants.{Checkpoint, Entries, Consist, Subtree}
 use Rattle.mtc_words.specs.declared.name.Name.TheVariants.{Keygen, InitCosigner, Advance, Cosign}
-use Rattle.mtc_words.specs.declared.name.Name.TheVariants.{Export}
+use Rattle.mtc_words.specs.declared.name.Name.TheVariants.{Export, Quarrel}
 use Rattle.mtc_words.specs.declared.name.Name.TheVariants.{Landmark, Landmarks, LightCert}
 use Rattle.mtc_words.specs.declared.name.Name.TheVariants.{TrustLandmarks, Cert, Audit, Drill}
 use Rattle.mtc_words.specs.declared.name.Name.TheVariants.{Tile}
@@ -23,7 +23,7 @@ use Rattle.mtc_words.specs.Commands.{checkpoint, entries, consist, subtree, keyg
 use Rattle.mtc_words.specs.Commands.{is_width, is_time, is_active, is_limit, is_any}
 use Rattle.mtc_words.specs.Commands.{init_cosigner, advance, cosign, landmark, landmarks}
 use Rattle.mtc_words.specs.Commands.{export, light_cert, trust_landmarks, cert, audit, drill}
-use Rattle.mtc_words.specs.Commands.{tile}
+use Rattle.mtc_words.specs.Commands.{quarrel, tile}
 use Rattle.mtc_words.specs.Names.{named_command, word_count, takes_journal, is_tiles_name}
 
 -- Empty, or begins with a hyphen.
@@ -123,6 +123,7 @@ command_from Cert ws = do
 command_from Audit ws = do
   moment ← number_word 3 is_time (word ws 2)
   Ok (audit (word ws 0) (word ws 1) moment (word ws 3) (word ws 4))
+command_from Quarrel ws = Ok (quarrel (word ws 0))
 command_from Drill ws = do
   number ← number_word 1 is_any (word ws 0)
   Ok (drill number)

@@ -270,6 +270,7 @@ pub fn build<'a>(alloc: Global, name: Name, words: &'a [String]) -> Result<Comma
         Name::TrustLandmarks => trust_landmarks(words),
         Name::Cert => cert(words),
         Name::Audit => audit(words),
+        Name::Quarrel => Ok(Command::Quarrel(text(words, 0))),
         Name::Drill => drill(words),
         Name::Tile => Ok(Command::Tile(text(words, 0))),
     }

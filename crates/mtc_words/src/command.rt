@@ -57,6 +57,9 @@ pub enum Command<'a> {
     /// `audit CERT STORE NOW ENTRIES EXPORT`: judge a certificate by a store at a time as `verify`
     /// does, and compare what is accepted with the entries of a log and the export of a cosigner.
     Audit(&'a str, &'a str, u64, &'a str, &'a str),
+    /// `quarrel EXPORT`: find two signatures of a cosigner for one interval with different hashes
+    /// in its export, and two strings with one hash that they show.
+    Quarrel(&'a str),
     /// `drill NUMBER`: play the drill with this number on devices in memory, and print what came of
     /// it.
     Drill(u64),

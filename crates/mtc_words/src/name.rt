@@ -27,6 +27,7 @@ pub enum Name {
     TrustLandmarks,
     Cert,
     Audit,
+    Quarrel,
     Drill,
     Tile,
 }
@@ -75,6 +76,7 @@ fn read_landmark_name(word: &str) -> Option<Name>
         "trust-landmarks" => Some(Name::TrustLandmarks),
         "cert" => Some(Name::Cert),
         "audit" => Some(Name::Audit),
+        "quarrel" => Some(Name::Quarrel),
         "drill" => Some(Name::Drill),
         "tile" => Some(Name::Tile),
         _ => None,
@@ -91,6 +93,7 @@ pub fn wanted_count(name: Name) -> usize
         Name::Issue | Name::Entries | Name::Advance | Name::Cosign | Name::LightCert => 2,
         Name::Verify | Name::Consist | Name::Keygen | Name::TrustLandmarks => 3,
         Name::InitLog | Name::Subtree => 4,
+        Name::Quarrel => 1,
         Name::Cert | Name::Audit => 5,
         Name::InitCosigner => 6,
     }
@@ -103,6 +106,7 @@ pub fn takes_journal(name: Name) -> bool
     match name {
         Name::Member | Name::Show | Name::Verify | Name::Keygen => false,
         Name::TrustLandmarks | Name::Audit | Name::Drill => false,
+        Name::Quarrel => false,
         Name::InitLog | Name::Issue | Name::Checkpoint | Name::Entries => true,
         Name::Consist | Name::Subtree | Name::Landmark | Name::Landmarks => true,
         Name::LightCert | Name::Cert | Name::Tile => true,
