@@ -24,7 +24,7 @@ use Rattle.collide.specs.Inputs.{pair_input}
 use Rattle.quarrel_core.proofs.JoiningSteps.{joined-left, joined-over, joined-same, joined-whole}
 use Rattle.quarrel_core.proofs.JoiningSteps.{joined_there, over-left, over-over, over-right}
 use Rattle.quarrel_core.proofs.Levels.{parts_same}
-use Rattle.quarrel_core.proofs.Parted.{front_split}
+use Rattle.quarrel_core.proofs.Parted.{prefix_split}
 use Rattle.quarrel_core.specs.Joining.{joined_behind, joined_from_root, joined_left, joined_of}
 use Rattle.quarrel_core.specs.Joining.{joined_turned, joined_with, same_pair}
 use Rattle.quarrel_core.specs.Laws.{MadeProofsJoin}
@@ -98,23 +98,23 @@ behind_same y z rest part beside first second =
 
 -- What is joined is made, in a list of leaves: the first n of them, all, and a subtree of the n.
 abbrev IsMade : HashFunction → ℕ → ℕ → ℕ → Bool → Bool → Hash → Hash → List Hash → Type 0
-IsMade h s e n known still node front leaves =
-    joined_from_root h s e n (length leaves) known node front (made h s e known (take n leaves))
+IsMade h s e n known still node prefix leaves =
+    joined_from_root h s e n (length leaves) known node prefix (made h s e known (take n leaves))
     (made h 0 n still leaves)
     ≡ Proof (made h s e known leaves)
 
-same_made : (h : HashFunction) (s e n : ℕ) (known still : Bool) (node front : Hash)
-    (leaves : List Hash) → n ≡ length leaves → IsMade h s e n known still node front leaves
-same_made h s e n known still node front leaves same =
-    joined-same h s e n (length leaves) known node front (made h s e known (take n leaves))
+same_made : (h : HashFunction) (s e n : ℕ) (known still : Bool) (node prefix : Hash)
+    (leaves : List Hash) → n ≡ length leaves → IsMade h s e n known still node prefix leaves
+same_made h s e n known still node prefix leaves same =
+    joined-same h s e n (length leaves) known node prefix (made h s e known (take n leaves))
     (made h 0 n still leaves) same
     ∙ ap (λ (all : List Hash). Proof (made h s e known all)) (take_all n leaves (omega arith))
 
-left_made : (h : HashFunction) (s e n : ℕ) (known still : Bool) (node front : Hash)
+left_made : (h : HashFunction) (s e n : ℕ) (known still : Bool) (node prefix : Hash)
     (leaves : List Hash) → s < e → e ≤ n → n < length leaves → n ≤ split_of (length leaves)
-    → IsMade h s e n known still node front (take (split_of (length leaves)) leaves)
-    → IsMade h s e n known still node front leaves
-left_made h s e n known still node front leaves order within less left rest =
+    → IsMade h s e n known still node prefix (take (split_of (length leaves)) leaves)
+    → IsMade h s e n known still node prefix leaves
+left_made h s e n known still node prefix leaves order within less left rest =
     let k = split_of (length leaves) in
     let bounds = split_bounds (length leaves) in
     let more : 1 < length leaves = omega arith in
@@ -126,40 +126,40 @@ left_made h s e n known still node front leaves order within less left rest =
     let z = root_of h (drop k leaves) in
     let p = made h s e known (take n leaves) in
     let q = made h 0 n still (take k leaves) in
-    let front_is : take n (take (split_of (length leaves)) leaves) ≡ take n leaves =
+    let prefix_is : take n (take (split_of (length leaves)) leaves) ≡ take n leaves =
     take-take n (split_of (length leaves)) leaves left in
-    ap (joined_from_root h s e n (length leaves) known node front p)
+    ap (joined_from_root h s e n (length leaves) known node prefix p)
     (made-left h 0 n k still leaves more refl some left)
-    ∙ joined-left h s e n (length leaves) known node front z p q less left
+    ∙ joined-left h s e n (length leaves) known node prefix z p q less left
     ∙ ap (joined_with z)
-    (ap (λ (i : ℕ). joined_from_root h s e n i known node front p q) (sym size)
-    ∙ ap (λ (all : List Hash). joined_from_root h s e n (length (take k leaves)) known node front
-    (made h s e known all) q) (sym front_is)
+    (ap (λ (i : ℕ). joined_from_root h s e n i known node prefix p q) (sym size)
+    ∙ ap (λ (all : List Hash). joined_from_root h s e n (length (take k leaves)) known node prefix
+    (made h s e known all) q) (sym prefix_is)
     ∙ rest)
     ∙ ap (λ (r : List Hash). Proof r) (sym (made-left h s e k known leaves more refl order inside))
 
 -- the first n entries go beyond the split
-over_made : (h : HashFunction) (s e n : ℕ) (known still : Bool) (node front : Hash)
+over_made : (h : HashFunction) (s e n : ℕ) (known still : Bool) (node prefix : Hash)
     (leaves : List Hash) → IsAligned s e → e ≤ n → n < length leaves
     → split_of (length leaves) < n
     → (known ≡ true → node ≡ root_of h (part_of leaves s e))
     → ((from to : ℕ) (yet : Bool) → IsAligned from to → to ≤ n - split_of (length leaves)
     → (yet ≡ true → node ≡ root_of h (part_of (drop (split_of (length leaves)) leaves) from to))
-    → IsMade h from to (n - split_of (length leaves)) yet false node front
+    → IsMade h from to (n - split_of (length leaves)) yet false node prefix
     (drop (split_of (length leaves)) leaves))
-    → IsMade h s e n known still node front leaves
-over_made h s e n known still node front leaves aligned within less above is recurse =
+    → IsMade h s e n known still node prefix leaves
+over_made h s e n known still node prefix leaves aligned within less above is recurse =
     let k = split_of (length leaves) in
     let m = length leaves in
     let order = aligned.inhabited in
     let bounds = split_bounds (length leaves) in
     let positive = bounds.positive in
     let begin : 0 < split_of (length leaves) = omega arith in
-    let split = front_split n (length leaves) (omega arith) above in
+    let split = prefix_split n (length leaves) (omega arith) above in
     let taken : length (take n leaves) ≡ n = length-take-le n leaves (omega arith) in
     let dropped : length (drop (split_of (length leaves)) leaves)
     ≡ length leaves - split_of (length leaves) = length-drop (split_of (length leaves)) leaves in
-    let front_split_is : split_of (length (take n leaves)) ≡ split_of (length leaves) =
+    let prefix_split_is : split_of (length (take n leaves)) ≡ split_of (length leaves) =
     ap split_of taken ∙ split in
     let z = root_of h (take k leaves) in
     let q = made h 0 (n - k) false (drop k leaves) in
@@ -173,12 +173,12 @@ over_made h s e n known still node front leaves aligned within less above is rec
     ap (λ (i : ℕ). drop (split_of (length leaves)) (take i leaves)) n_is
     ∙ drop-take (split_of (length leaves)) (n - split_of (length leaves)) leaves in
     let beside_opens : open_from_root h 0 (n - split_of (length leaves))
-    (length leaves - split_of (length leaves)) false front
+    (length leaves - split_of (length leaves)) false prefix
     (made h 0 (n - split_of (length leaves)) false (drop (split_of (length leaves)) leaves))
     ≡ Some (opened_at (root_of h (part_of (drop (split_of (length leaves)) leaves) 0
     (n - split_of (length leaves)))) (root_of h (drop (split_of (length leaves)) leaves))) =
     made_opens h 0 (n - split_of (length leaves)) (length leaves - split_of (length leaves)) false
-    front (drop (split_of (length leaves)) leaves)
+    prefix (drop (split_of (length leaves)) leaves)
     (IsAligned-first (n - split_of (length leaves)) (omega arith)) (omega arith) dropped
     (λ known. absurd (false≢true known)) in
     let beside = opened_at (root_of h (part_of (drop k leaves) 0 (n - k)))
@@ -188,14 +188,14 @@ over_made h s e n known still node front leaves aligned within less above is rec
     ∙ sym (part_of-zero (drop (split_of (length leaves)) leaves)
     (n - split_of (length leaves)))) in
     let turned = made-over h 0 n k still leaves refl (omega arith) (inr less) begin above in
-    ap (joined_from_root h s e n m known node front p_all) turned
+    ap (joined_from_root h s e n m known node prefix p_all) turned
     ∙ cases_place s e n order within
     (λ first last.
     let all : e ≤ length leaves = omega arith in
     let inner : (0 < s) ⊎ (e < length leaves) = inr (omega arith) in
     let early : s < split_of (length leaves) = omega arith in
     let late : split_of (length leaves) < e = omega arith in
-    joined-whole h s e n m known node front z p_all q less above first last
+    joined-whole h s e n m known node prefix z p_all q less above first last
     ∙ ap (λ (i : ℕ). Proof (z ∷ made h 0 (i - k) false (drop k leaves))) (sym last)
     ∙ ap (λ (r : List Hash). Proof r) (sym (made-over h s e k known leaves refl all inner early
     late)))
@@ -203,24 +203,24 @@ over_made h s e n known still node front leaves aligned within less above is rec
     let inside : e ≤ split_of (length leaves) = omega arith in
     let inner : (0 < s) ⊎ (e < n) = inr (omega arith) in
     let long : 1 < length leaves = omega arith in
-    let long_front : 1 < length (take n leaves) = omega arith in
+    let long_prefix : 1 < length (take n leaves) = omega arith in
     let y = root_of h (drop k (take n leaves)) in
     let p = made h s e known (take k leaves) in
     let size : length (take (split_of (length leaves)) leaves) ≡ split_of (length leaves) =
     length-take-le (split_of (length leaves)) leaves (omega arith) in
     let own_is : made h s e known (take n leaves) ≡ y ∷ p =
-    made-left h s e k known (take n leaves) long_front front_split_is order inside
+    made-left h s e k known (take n leaves) long_prefix prefix_split_is order inside
     ∙ ap (λ (all : List Hash). y ∷ made h s e known all) own_left in
     let part = opened_at (root_of h (part_of (take k leaves) s e)) z in
     let opens = made_opens h s e k known node (take k leaves) aligned inside size
     (λ yes. is yes ∙ ap (root_of h) (sym (part_of-take leaves s e (split_of (length leaves))
     (omega arith) inside))) in
-    ap (λ (r : List Hash). joined_from_root h s e n m known node front r (z ∷ q)) own_is
-    ∙ joined-over h s e n m known node front z (y ∷ p) q less above inner
-    ∙ over-left h s e n k known node z y (open_from_root h 0 (n - k) (m - k) false front q)
-    (joined_there h n m node front q) p inside
+    ap (λ (r : List Hash). joined_from_root h s e n m known node prefix r (z ∷ q)) own_is
+    ∙ joined-over h s e n m known node prefix z (y ∷ p) q less above inner
+    ∙ over-left h s e n k known node z y (open_from_root h 0 (n - k) (m - k) false prefix q)
+    (joined_there h n m node prefix q) p inside
     ∙ ap (λ (o : Option Opened). joined_left y z p o
-    (open_from_root h 0 (n - k) (m - k) false front q)) opens
+    (open_from_root h 0 (n - k) (m - k) false prefix q)) opens
     ∙ ap (joined_left y z p (Some part)) beside_opens
     ∙ left_same y z p part beside refl share
     ∙ ap (λ (r : List Hash). Proof r) (sym (made-left h s e k known leaves long refl order inside)))
@@ -232,7 +232,7 @@ over_made h s e n known still node front leaves aligned within less above is rec
     let p = made h (s - k) (e - k) known (drop k (take n leaves)) in
     let inside : e ≤ length (take n leaves) = omega arith in
     let own_is : made h s e known (take n leaves) ≡ y ∷ p =
-    made-right h s e k known (take n leaves) front_split_is order inside there in
+    made-right h s e k known (take n leaves) prefix_split_is order inside there in
     let short : length (drop (split_of (length leaves)) (take n leaves))
     ≡ n - split_of (length leaves) =
     length-drop (split_of (length leaves)) (take n leaves)
@@ -246,19 +246,19 @@ over_made h s e n known still node front leaves aligned within less above is rec
     (λ yes. is yes
     ∙ ap (root_of h) (sym (part_of-take leaves s e n (omega arith) within)
     ∙ sym (part_of-drop (take n leaves) s e (split_of (length leaves)) there))) in
-    ap (λ (r : List Hash). joined_from_root h s e n m known node front r (z ∷ q)) own_is
-    ∙ joined-over h s e n m known node front z (y ∷ p) q less above inner
-    ∙ over-right h s e n k known node z y (open_from_root h 0 (n - k) (m - k) false front q)
-    (joined_there h n m node front q) p past there
+    ap (λ (r : List Hash). joined_from_root h s e n m known node prefix r (z ∷ q)) own_is
+    ∙ joined-over h s e n m known node prefix z (y ∷ p) q less above inner
+    ∙ over-right h s e n k known node z y (open_from_root h 0 (n - k) (m - k) false prefix q)
+    (joined_there h n m node prefix q) p past there
     ∙ ap (λ (o : Option Opened). joined_behind y z
-    (joined_there h n m node front q (s - k) (e - k) known p) o
-    (open_from_root h 0 (n - k) (m - k) false front q)) opens
-    ∙ ap (joined_behind y z (joined_there h n m node front q (s - k) (e - k) known p) (Some part))
+    (joined_there h n m node prefix q (s - k) (e - k) known p) o
+    (open_from_root h 0 (n - k) (m - k) false prefix q)) opens
+    ∙ ap (joined_behind y z (joined_there h n m node prefix q (s - k) (e - k) known p) (Some part))
     beside_opens
-    ∙ behind_same y z (joined_there h n m node front q (s - k) (e - k) known p) part beside
+    ∙ behind_same y z (joined_there h n m node prefix q (s - k) (e - k) known p) part beside
     (ap (root_of h) own_left) share
     ∙ ap (joined_with z)
-    (there_made h n node front leaves (s - k) (e - k) known own_right
+    (there_made h n node prefix leaves (s - k) (e - k) known own_right
     (recurse (s - k) (e - k) known lies fits
     (λ yes. is yes ∙ ap (root_of h) (sym (part_of-drop leaves s e (split_of (length leaves))
     there)))))
@@ -270,10 +270,10 @@ over_made h s e n known still node front leaves aligned within less above is rec
     let y = root_of h (take k (take n leaves)) in
     let p = made h 0 (e - k) false (drop k (take n leaves)) in
     let inside : e ≤ length (take n leaves) = omega arith in
-    let inner_front : (0 < s) ⊎ (e < length (take n leaves)) =
+    let inner_prefix : (0 < s) ⊎ (e < length (take n leaves)) =
     ⊎_elim (λ (later : 0 < s). inl later) (λ (part : e < n). inr (omega arith)) inner in
     let own_is : made h s e known (take n leaves) ≡ y ∷ p =
-    made-over h s e k known (take n leaves) front_split_is inside inner_front early past in
+    made-over h s e k known (take n leaves) prefix_split_is inside inner_prefix early past in
     let short : length (drop (split_of (length leaves)) (take n leaves))
     ≡ n - split_of (length leaves) =
     length-drop (split_of (length leaves)) (take n leaves)
@@ -284,51 +284,51 @@ over_made h s e n known still node front leaves aligned within less above is rec
     (root_of h (drop k (take n leaves))) in
     let opens = made_opens h 0 (e - k) (n - k) false node (drop k (take n leaves)) lies fits short
     (λ yes. absurd (false≢true yes)) in
-    ap (λ (r : List Hash). joined_from_root h s e n m known node front r (z ∷ q)) own_is
-    ∙ joined-over h s e n m known node front z (y ∷ p) q less above inner
-    ∙ over-over h s e n k known node z y (open_from_root h 0 (n - k) (m - k) false front q)
-    (joined_there h n m node front q) p past early
+    ap (λ (r : List Hash). joined_from_root h s e n m known node prefix r (z ∷ q)) own_is
+    ∙ joined-over h s e n m known node prefix z (y ∷ p) q less above inner
+    ∙ over-over h s e n k known node z y (open_from_root h 0 (n - k) (m - k) false prefix q)
+    (joined_there h n m node prefix q) p past early
     ∙ ap (λ (o : Option Opened). joined_behind y z
-    (joined_there h n m node front q 0 (e - k) false p) o
-    (open_from_root h 0 (n - k) (m - k) false front q)) opens
-    ∙ ap (joined_behind y z (joined_there h n m node front q 0 (e - k) false p) (Some part))
+    (joined_there h n m node prefix q 0 (e - k) false p) o
+    (open_from_root h 0 (n - k) (m - k) false prefix q)) opens
+    ∙ ap (joined_behind y z (joined_there h n m node prefix q 0 (e - k) false p) (Some part))
     beside_opens
-    ∙ behind_same y z (joined_there h n m node front q 0 (e - k) false p) part beside
+    ∙ behind_same y z (joined_there h n m node prefix q 0 (e - k) false p) part beside
     (ap (root_of h) own_left) share
     ∙ ap (joined_with z)
-    (there_made h n node front leaves 0 (e - k) false own_right
+    (there_made h n node prefix leaves 0 (e - k) false own_right
     (recurse 0 (e - k) false lies fits (λ yes. absurd (false≢true yes))))
     ∙ ap (λ (r : List Hash). Proof r)
     (sym (made-over h s e k known leaves refl (omega arith) (inr (omega arith)) early past)))
   where
-    there_made : (h : HashFunction) (n : ℕ) (node front : Hash) (leaves : List Hash)
+    there_made : (h : HashFunction) (n : ℕ) (node prefix : Hash) (leaves : List Hash)
         (from to : ℕ) (yet : Bool)
         → drop (split_of (length leaves)) (take n leaves)
         ≡ take (n - split_of (length leaves)) (drop (split_of (length leaves)) leaves)
-        → IsMade h from to (n - split_of (length leaves)) yet false node front
+        → IsMade h from to (n - split_of (length leaves)) yet false node prefix
         (drop (split_of (length leaves)) leaves)
-        → joined_there h n (length leaves) node front
+        → joined_there h n (length leaves) node prefix
         (made h 0 (n - split_of (length leaves)) false (drop (split_of (length leaves)) leaves))
         from to yet (made h from to yet (drop (split_of (length leaves)) (take n leaves)))
         ≡ Proof (made h from to yet (drop (split_of (length leaves)) leaves))
-    there_made h n node front leaves from to yet own rest =
+    there_made h n node prefix leaves from to yet own rest =
         let k = split_of (length leaves) in
         let q = made h 0 (n - k) false (drop k leaves) in
         ap (λ (all : List Hash). joined_from_root h from to (n - k) (length leaves - k) yet node
-        front (made h from to yet all) q) own
-        ∙ ap (λ (i : ℕ). joined_from_root h from to (n - k) i yet node front
+        prefix (made h from to yet all) q) own
+        ∙ ap (λ (i : ℕ). joined_from_root h from to (n - k) i yet node prefix
         (made h from to yet (take (n - k) (drop k leaves))) q)
         (sym (length-drop (split_of (length leaves)) leaves))
         ∙ rest
 
-all_made : (depth : ℕ) (h : HashFunction) (s e n : ℕ) (known still : Bool) (node front : Hash)
+all_made : (depth : ℕ) (h : HashFunction) (s e n : ℕ) (known still : Bool) (node prefix : Hash)
     (leaves : List Hash) → length leaves ≤ depth → IsAligned s e → e ≤ n → n ≤ length leaves
     → (known ≡ true → node ≡ root_of h (part_of leaves s e))
-    → IsMade h s e n known still node front leaves
-all_made zero h s e n known still node front leaves bound aligned within grows is =
+    → IsMade h s e n known still node prefix leaves
+all_made zero h s e n known still node prefix leaves bound aligned within grows is =
     let some = aligned.inhabited in
     let none : ⊥ = omega arith in absurd none
-all_made (suc depth) h s e n known still node front leaves bound aligned within grows is =
+all_made (suc depth) h s e n known still node prefix leaves bound aligned within grows is =
     let order = aligned.inhabited in
     let sizes = part_sizes leaves in
     let bounds = split_bounds (length leaves) in
@@ -339,18 +339,18 @@ all_made (suc depth) h s e n known still node front leaves bound aligned within 
     (λ (less : n < length leaves).
     ⊎_elim
     (λ (above : split_of (length leaves) < n).
-    over_made h s e n known still node front leaves aligned within less above is
+    over_made h s e n known still node prefix leaves aligned within less above is
     (λ from to yet lies fits knows.
-    all_made depth h from to (n - split_of (length leaves)) yet false node front
+    all_made depth h from to (n - split_of (length leaves)) yet false node prefix
     (drop (split_of (length leaves)) leaves) (omega arith) lies fits (omega arith) knows))
     (λ (left : n ≤ split_of (length leaves)).
-    left_made h s e n known still node front leaves order within less left
-    (all_made depth h s e n known still node front (take (split_of (length leaves)) leaves)
+    left_made h s e n known still node prefix leaves order within less left
+    (all_made depth h s e n known still node prefix (take (split_of (length leaves)) leaves)
     (omega arith) aligned within (omega arith)
     (λ yes. is yes ∙ ap (root_of h) (sym (part_of-take leaves s e (split_of (length leaves))
     (omega arith) (omega arith))))))
     (cases_lt (split_of (length leaves)) n))
-    (λ (le : length leaves ≤ n). same_made h s e n known still node front leaves (omega arith))
+    (λ (le : length leaves ≤ n). same_made h s e n known still node prefix leaves (omega arith))
     (cases_lt n (length leaves))
 
 pub MadeProofsJoin_always : (h : HashFunction) → MadeProofsJoin h
@@ -361,19 +361,19 @@ MadeProofsJoin_always h entries start end n valid within grows =
     let leaves = map (leaf_hash h) entries in
     let size = length-map entries (leaf_hash h) in
     let node = tree_hash h (part_of entries start end) in
-    let front = tree_hash h (take n entries) in
+    let prefix = tree_hash h (take n entries) in
     let part : part_of (map (leaf_hash h) entries) start end
     ≡ map (leaf_hash h) (part_of entries start end) =
     ap (take (end - start)) (drop-map (leaf_hash h) start entries)
     ∙ take-map (leaf_hash h) (end - start) (drop start entries) in
     ap joined_turned
-    (ap (λ (i : ℕ). joined_from_root h start end n i true node front
+    (ap (λ (i : ℕ). joined_from_root h start end n i true node prefix
     (reverse (consistency_proof h start end true (take n entries)))
     (reverse (consistency_proof h 0 n true entries))) (sym size)
     ∙ ap (λ (all : List Hash). joined_from_root h start end n (length (map (leaf_hash h) entries))
-    true node front (reverse (proof_of h start end true all))
+    true node prefix (reverse (proof_of h start end true all))
     (reverse (consistency_proof h 0 n true entries))) (sym (take-map (leaf_hash h) n entries))
-    ∙ all_made (length (map (leaf_hash h) entries)) h start end n true true node front
+    ∙ all_made (length (map (leaf_hash h) entries)) h start end n true true node prefix
     (map (leaf_hash h) entries) (omega arith) aligned within (omega arith)
     (λ yes. ap (root_of h) (sym part)))
     ∙ ap (λ (r : List Hash). Proof r)

@@ -15,32 +15,32 @@ use Rattle.quarrel_core.specs.Joining.{joined_with}
 use Rattle.quarrel_core.specs.declared.joined.Joined.{Joined}
 use Rattle.quarrel_core.specs.declared.joined.Joined.TheVariants.{Neither, Proof}
 
-pub joined-same : (h : HashFunction) (s e n m : ℕ) (known : Bool) (node front : Hash)
-    (p q : List Hash) → n ≡ m → joined_from_root h s e n m known node front p q ≡ Proof p
+pub joined-same : (h : HashFunction) (s e n m : ℕ) (known : Bool) (node prefix : Hash)
+    (p q : List Hash) → n ≡ m → joined_from_root h s e n m known node prefix p q ≡ Proof p
 unfolding joined_from_root
-joined-same h s e n m known node front p [] same = cond-true _ _ _ (eq-eqb n m same)
-joined-same h s e n m known node front p (z ∷ q) same = cond-true _ _ _ (eq-eqb n m same)
+joined-same h s e n m known node prefix p [] same = cond-true _ _ _ (eq-eqb n m same)
+joined-same h s e n m known node prefix p (z ∷ q) same = cond-true _ _ _ (eq-eqb n m same)
 
-pub joined-short : (h : HashFunction) (s e n m : ℕ) (known : Bool) (node front : Hash)
-    (p : List Hash) → n < m → joined_from_root h s e n m known node front p [] ≡ Neither
+pub joined-short : (h : HashFunction) (s e n m : ℕ) (known : Bool) (node prefix : Hash)
+    (p : List Hash) → n < m → joined_from_root h s e n m known node prefix p [] ≡ Neither
 unfolding joined_from_root
-joined-short h s e n m known node front p less =
+joined-short h s e n m known node prefix p less =
     cond-false _ _ _ (ne_eqb n m (λ same. omega arith))
 
-pub joined-left : (h : HashFunction) (s e n m : ℕ) (known : Bool) (node front z : Hash)
+pub joined-left : (h : HashFunction) (s e n m : ℕ) (known : Bool) (node prefix z : Hash)
     (p q : List Hash) → n < m → n ≤ split_of m
-    → joined_from_root h s e n m known node front p (z ∷ q)
-    ≡ joined_with z (joined_from_root h s e n (split_of m) known node front p q)
+    → joined_from_root h s e n m known node prefix p (z ∷ q)
+    ≡ joined_with z (joined_from_root h s e n (split_of m) known node prefix p q)
 unfolding joined_from_root
-joined-left h s e n m known node front z p q less within =
+joined-left h s e n m known node prefix z p q less within =
     cond-false _ _ _ (ne_eqb n m (λ same. omega arith))
     ∙ cond-true _ _ _ (le-leb n (split_of m) within)
 
-pub joined-whole : (h : HashFunction) (s e n m : ℕ) (known : Bool) (node front z : Hash)
+pub joined-whole : (h : HashFunction) (s e n m : ℕ) (known : Bool) (node prefix z : Hash)
     (p q : List Hash) → n < m → split_of m < n → s ≡ 0 → e ≡ n
-    → joined_from_root h s e n m known node front p (z ∷ q) ≡ Proof (z ∷ q)
+    → joined_from_root h s e n m known node prefix p (z ∷ q) ≡ Proof (z ∷ q)
 unfolding joined_from_root
-joined-whole h s e n m known node front z p q less above first last =
+joined-whole h s e n m known node prefix z p q less above first last =
     cond-false _ _ _ (ne_eqb n m (λ same. omega arith))
     ∙ cond-false _ _ _ (lt-leb n (split_of m) above)
     ∙ cond-true _ _ _ (and_from (eqb s 0) (eqb e n) (eq-eqb s 0 first) (eq-eqb e n last))
@@ -48,17 +48,17 @@ joined-whole h s e n m known node front z p q less above first last =
 -- both proofs are joined after the split
 abbrev pub joined_there : HashFunction → ℕ → ℕ → Hash → Hash → List Hash → ℕ → ℕ → Bool
     → List Hash → Joined
-joined_there h n m node front q from to still rest =
-    joined_from_root h from to (n - split_of m) (m - split_of m) still node front rest q
+joined_there h n m node prefix q from to still rest =
+    joined_from_root h from to (n - split_of m) (m - split_of m) still node prefix rest q
 
-pub joined-over : (h : HashFunction) (s e n m : ℕ) (known : Bool) (node front z : Hash)
+pub joined-over : (h : HashFunction) (s e n m : ℕ) (known : Bool) (node prefix z : Hash)
     (p q : List Hash) → n < m → split_of m < n → (0 < s) ⊎ (e < n)
-    → joined_from_root h s e n m known node front p (z ∷ q)
+    → joined_from_root h s e n m known node prefix p (z ∷ q)
     ≡ joined_over h s e n (split_of m) known node z
-    (open_from_root h 0 (n - split_of m) (m - split_of m) false front q)
-    (joined_there h n m node front q) p
+    (open_from_root h 0 (n - split_of m) (m - split_of m) false prefix q)
+    (joined_there h n m node prefix q) p
 unfolding joined_from_root
-joined-over h s e n m known node front z p q less above inner =
+joined-over h s e n m known node prefix z p q less above inner =
     cond-false _ _ _ (ne_eqb n m (λ same. omega arith))
     ∙ cond-false _ _ _ (lt-leb n (split_of m) above)
     ∙ cond-false _ _ _ (other-whole s e n inner)

@@ -3,6 +3,7 @@ pub mod Levels
 pub mod JoiningSteps
 pub mod TwoProofs
 pub mod Parted
+pub mod OpenLevels
 pub mod Joins
 pub mod JoiningCases
 pub mod Contrasts
@@ -15,3 +16,4 @@ pub mod Noting
 pub mod Carries
 pub mod Collisions
 pub mod Verdicts
+pub mod FoundSigns

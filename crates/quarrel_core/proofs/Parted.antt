@@ -31,8 +31,8 @@ use Rattle.quarrel_core.proofs.TwoProofs.{AreTwo, JoinsTo, TwoJoin, joins_pair, 
 
 -- The first proof's entries go beyond the second's split, and are split there too.
 
-pub front_split : (n m : ℕ) → n ≤ m → split_of m < n → split_of n ≡ split_of m
-front_split n m grows above =
+pub prefix_split : (n m : ℕ) → n ≤ m → split_of m < n → split_of n ≡ split_of m
+prefix_split n m grows above =
     let power = split_power m in
     let is : split_of m ≡ 2 ^ power.0 = power.1 in
     let bounds = split_bounds m in
@@ -40,54 +40,54 @@ front_split n m grows above =
 
 -- What the second proof gives after the split.
 abbrev BesideStep : HashFunction → ℕ → ℕ → Bool → Hash → Hash → List Hash → Opened → Type 0
-BesideStep h n m still front z q other =
-    IsStep h 0 (n - split_of m) (m - split_of m) false front q (both_right_of h z) (inputs_over z)
-    other (open_inputs_from_root h 0 n m still front (z ∷ q))
+BesideStep h n m still prefix z q other =
+    IsStep h 0 (n - split_of m) (m - split_of m) false prefix q (both_right_of h z) (inputs_over z)
+    other (open_inputs_from_root h 0 n m still prefix (z ∷ q))
 
-beside_step : (h : HashFunction) (s e n m : ℕ) (known still : Bool) (node front z : Hash)
+beside_step : (h : HashFunction) (s e n m : ℕ) (known still : Bool) (node prefix z : Hash)
     (p q : List Hash) (one other : Opened)
-    → AreTwo h s e n m known still node front p (z ∷ q) one other → n < m → split_of m < n
-    → BesideStep h n m still front z q other
-beside_step h s e n m known still node front z p q one other two less above =
+    → AreTwo h s e n m known still node prefix p (z ∷ q) one other → n < m → split_of m < n
+    → BesideStep h n m still prefix z q other
+beside_step h s e n m known still node prefix z p q one other two less above =
     let bounds = split_bounds m in
     let positive = bounds.positive in
-    step_over h 0 n m still front z q other (omega arith) refl above less two.second
+    step_over h 0 n m still prefix z q other (omega arith) refl above less two.second
 
-beside_sized : (h : HashFunction) → IsSized h → (n m : ℕ) (still : Bool) (front z : Hash)
+beside_sized : (h : HashFunction) → IsSized h → (n m : ℕ) (still : Bool) (prefix z : Hash)
     (q : List Hash) (other : Opened) → n < m → split_of m < n → AreFullHashes q
-    → (step : BesideStep h n m still front z q other) → AreOpened step.below
-beside_sized h sized n m still front z q other less above whole step =
-    unknown_sized q h sized 0 (n - split_of m) (m - split_of m) front step.below (omega arith)
+    → (step : BesideStep h n m still prefix z q other) → AreOpened step.below
+beside_sized h sized n m still prefix z q other less above whole step =
+    unknown_sized q h sized 0 (n - split_of m) (m - split_of m) prefix step.below (omega arith)
     (omega arith) whole step.gives
 
 -- the second hash of the node that both hash
-beside_meets : (h : HashFunction) (n m : ℕ) (still : Bool) (front z : Hash) (q : List Hash)
-    (one other : Opened) (step : BesideStep h n m still front z q other)
+beside_meets : (h : HashFunction) (n m : ℕ) (still : Bool) (prefix z : Hash) (q : List Hash)
+    (one other : Opened) (step : BesideStep h n m still prefix z q other)
     → one.root ≡ other.subtree → one.root ≡ pair_hash h z step.below.subtree
-beside_meets h n m still front z q one other step meet =
+beside_meets h n m still prefix z q one other step meet =
     meet ∙ sym (ap (λ (o : Opened). o.subtree) step.is)
 
 -- The subtree lies left of the split.
 pub part_left : (h : HashFunction) → IsSized h → (s e n m : ℕ) (known still : Bool)
-    (node front z y : Hash) (p q : List Hash) (one other : Opened)
-    → AreTwo h s e n m known still node front (y ∷ p) (z ∷ q) one other → n < m → split_of m < n
+    (node prefix z y : Hash) (p q : List Hash) (one other : Opened)
+    → AreTwo h s e n m known still node prefix (y ∷ p) (z ∷ q) one other → n < m → split_of m < n
     → e ≤ split_of m
     → JoinsTo h s e m known node one.subtree other.root
     (open_inputs_from_root h s e n known node (y ∷ p))
-    (open_inputs_from_root h 0 n m still front (z ∷ q))
+    (open_inputs_from_root h 0 n m still prefix (z ∷ q))
     (joined_left y z p (open_from_root h s e (split_of m) known node p)
-    (open_from_root h 0 (n - split_of m) (m - split_of m) false front q))
-part_left h sized s e n m known still node front z y p q one other two less above left =
+    (open_from_root h 0 (n - split_of m) (m - split_of m) false prefix q))
+part_left h sized s e n m known still node prefix z y p q one other two less above left =
     let order = two.order in
     let more : 1 < n = omega arith in
     let wide : 1 < m = omega arith in
-    let split = front_split n m two.grows above in
+    let split = prefix_split n m two.grows above in
     let inside : e ≤ split_of n = omega arith in
     let xs = open_inputs_from_root h s e n known node (y ∷ p) in
-    let ys = open_inputs_from_root h 0 n m still front (z ∷ q) in
+    let ys = open_inputs_from_root h 0 n m still prefix (z ∷ q) in
     let own = step_left h s e n known node y p one more inside two.first in
-    let step = beside_step h s e n m known still node front z (y ∷ p) q one other two less above in
-    let sizes = beside_sized h sized n m still front z q other less above two.seconds.1 step in
+    let step = beside_step h s e n m known still node prefix z (y ∷ p) q one other two less above in
+    let sizes = beside_sized h sized n m still prefix z q other less above two.seconds.1 step in
     let gives : open_from_root h s e (split_of m) known node p ≡ Some own.below =
     ap (λ (k : ℕ). open_from_root h s e k known node p) (sym split) ∙ own.gives in
     let rest_in : (t : Text) → Contains (open_inputs_from_root h s e (split_of m) known node p) t
@@ -96,12 +96,12 @@ part_left h sized s e n m known still node front z y p q one other two less abov
     Contains (open_inputs_from_root h s e k known node p) t) (sym split) within) in
     let hashes : pair_hash h own.below.root y ≡ pair_hash h z step.below.subtree =
     ap (λ (o : Opened). o.root) own.is
-    ∙ beside_meets h n m still front z q one other step two.meet in
+    ∙ beside_meets h n m still prefix z q one other step two.meet in
     let subtree : own.below.subtree ≡ one.subtree = ap (λ (o : Opened). o.subtree) own.is in
     let root : pair_hash h z step.below.root ≡ other.root =
     ap (λ (o : Opened). o.root) step.is in
     subst (λ (o : Option Opened). JoinsTo h s e m known node one.subtree other.root xs ys
-    (joined_left y z p o (open_from_root h 0 (n - split_of m) (m - split_of m) false front q)))
+    (joined_left y z p o (open_from_root h 0 (n - split_of m) (m - split_of m) false prefix q)))
     (sym gives)
     (subst (λ (o : Option Opened). JoinsTo h s e m known node one.subtree other.root xs ys
     (joined_left y z p (Some own.below) o)) (sym step.gives)
@@ -145,55 +145,56 @@ part_left h sized s e n m known still node front z y p q one other two less abov
 
 -- The subtree lies after the split.
 pub part_right : (h : HashFunction) → IsSized h → (s e n m : ℕ) (known still : Bool)
-    (node front z y : Hash) (p q : List Hash) (one other : Opened)
-    → AreTwo h s e n m known still node front (y ∷ p) (z ∷ q) one other → n < m → split_of m < n
+    (node prefix z y : Hash) (p q : List Hash) (one other : Opened)
+    → AreTwo h s e n m known still node prefix (y ∷ p) (z ∷ q) one other → n < m → split_of m < n
     → split_of m ≤ s
     → ((part beside : Opened) → AreTwo h (s - split_of m) (e - split_of m) (n - split_of m)
-    (m - split_of m) known false node front p q part beside
+    (m - split_of m) known false node prefix p q part beside
     → TwoJoin h (s - split_of m) (e - split_of m) (n - split_of m) (m - split_of m) known false node
-    front p q part beside)
+    prefix p q part beside)
     → JoinsTo h s e m known node one.subtree other.root
     (open_inputs_from_root h s e n known node (y ∷ p))
-    (open_inputs_from_root h 0 n m still front (z ∷ q))
+    (open_inputs_from_root h 0 n m still prefix (z ∷ q))
     (joined_behind y z
-    (joined_there h n m node front q (s - split_of m) (e - split_of m) known p)
+    (joined_there h n m node prefix q (s - split_of m) (e - split_of m) known p)
     (open_from_root h (s - split_of m) (e - split_of m) (n - split_of m) known node p)
-    (open_from_root h 0 (n - split_of m) (m - split_of m) false front q))
-part_right h sized s e n m known still node front z y p q one other two less above right recurse =
+    (open_from_root h 0 (n - split_of m) (m - split_of m) false prefix q))
+part_right h sized s e n m known still node prefix z y p q one other two less above right recurse =
     let order = two.order in
     let within = two.within in
     let bounds = split_bounds m in
     let positive = bounds.positive in
     let more : 1 < n = omega arith in
     let wide : 1 < m = omega arith in
-    let split = front_split n m two.grows above in
+    let split = prefix_split n m two.grows above in
     let there : split_of n ≤ s = omega arith in
     let xs = open_inputs_from_root h s e n known node (y ∷ p) in
-    let ys = open_inputs_from_root h 0 n m still front (z ∷ q) in
+    let ys = open_inputs_from_root h 0 n m still prefix (z ∷ q) in
     let own = subst (λ (k : ℕ). IsStep h (s - k) (e - k) (n - k) known node p (root_right_of h y)
     (inputs_right y) one xs) split
     (step_right h s e n known node y p one more there order within two.first) in
-    let step = beside_step h s e n m known still node front z (y ∷ p) q one other two less above in
+    let step = beside_step h s e n m known still node prefix z (y ∷ p) q one other two less above in
     let begin : s ≡ split_of m + (s - split_of m) = omega arith in
     let end_is : e ≡ split_of m + (e - split_of m) = omega arith in
     let size : m ≡ split_of m + (m - split_of m) = omega arith in
     let some : 0 < e - split_of m = omega arith in
     let hashes : pair_hash h y own.below.root ≡ pair_hash h z step.below.subtree =
     ap (λ (o : Opened). o.root) own.is
-    ∙ beside_meets h n m still front z q one other step two.meet in
+    ∙ beside_meets h n m still prefix z q one other step two.meet in
     let subtree : own.below.subtree ≡ one.subtree = ap (λ (o : Opened). o.subtree) own.is in
     let root : pair_hash h z step.below.root ≡ other.root =
     ap (λ (o : Opened). o.root) step.is in
     subst (λ (o : Option Opened). JoinsTo h s e m known node one.subtree other.root xs ys
-    (joined_behind y z (joined_there h n m node front q (s - split_of m) (e - split_of m) known p) o
-    (open_from_root h 0 (n - split_of m) (m - split_of m) false front q)))
+    (joined_behind y z
+    (joined_there h n m node prefix q (s - split_of m) (e - split_of m) known p) o
+    (open_from_root h 0 (n - split_of m) (m - split_of m) false prefix q)))
     (sym own.gives)
     (subst (λ (o : Option Opened). JoinsTo h s e m known node one.subtree other.root xs ys
-    (joined_behind y z (joined_there h n m node front q (s - split_of m) (e - split_of m) known p)
+    (joined_behind y z (joined_there h n m node prefix q (s - split_of m) (e - split_of m) known p)
     (Some own.below) o)) (sym step.gives)
     (tested (JoinsTo h s e m known node one.subtree other.root xs ys) h xs ys y own.below.root z
     step.below.subtree
-    (joined_with z (joined_there h n m node front q (s - split_of m) (e - split_of m) known p))
+    (joined_with z (joined_there h n m node prefix q (s - split_of m) (e - split_of m) known p))
     (Pair (pair_input y own.below.root) (pair_input z step.below.subtree))
     (told_by_left y own.below.root z step.below.subtree (two.firsts.0 ∙ sym two.seconds.0)) hashes
     (own.tops _ (first_in _ []))
@@ -202,7 +203,7 @@ part_right h sized s e n m known still node front z y p q one other two less abo
     raised h s e m (s - split_of m) (e - split_of m) (m - split_of m) known known node z one.subtree
     other.root (opened_at own.below.subtree step.below.root) (root_right_of h z) (inputs_right z)
     (open_inputs_from_root h (s - split_of m) (e - split_of m) (n - split_of m) known node p)
-    (open_inputs_from_root h 0 (n - split_of m) (m - split_of m) false front q) xs ys two.seconds.0
+    (open_inputs_from_root h 0 (n - split_of m) (m - split_of m) false prefix q) xs ys two.seconds.0
     (λ r. open-right h s e m (split_of m) (s - split_of m) (e - split_of m) (m - split_of m) known
     node z r wide refl begin end_is size some)
     (λ r. open_inputs_right h s e m (split_of m) (s - split_of m) (e - split_of m) (m - split_of m)
@@ -212,7 +213,7 @@ part_right h sized s e n m known still node front z y p q one other two less abo
     (λ t top. inr (step.tops t (subst (Contains (inputs_over z (Some step.below)))
     (sym (only_in _ t top)) (over_root_in z step.below))))
     own.rest step.rest
-    (joined_there h n m node front q (s - split_of m) (e - split_of m) known p)
+    (joined_there h n m node prefix q (s - split_of m) (e - split_of m) known p)
     (recurse own.below step.below (record {
       order = omega arith;
       within = omega arith;
@@ -242,58 +243,58 @@ over_tops z y part beside xs ys t same own other top =
 
 -- The subtree goes beyond the split.
 pub part_over : (h : HashFunction) → IsSized h → (s e n m : ℕ) (known still : Bool)
-    (node front z y : Hash) (p q : List Hash) (one other : Opened)
-    → AreTwo h s e n m known still node front (y ∷ p) (z ∷ q) one other → n < m → split_of m < n
+    (node prefix z y : Hash) (p q : List Hash) (one other : Opened)
+    → AreTwo h s e n m known still node prefix (y ∷ p) (z ∷ q) one other → n < m → split_of m < n
     → s < split_of m → split_of m < e → (0 < s) ⊎ (e < n)
     → ((part beside : Opened) → AreTwo h 0 (e - split_of m) (n - split_of m)
-    (m - split_of m) false false node front p q part beside
+    (m - split_of m) false false node prefix p q part beside
     → TwoJoin h 0 (e - split_of m) (n - split_of m) (m - split_of m) false false node
-    front p q part beside)
+    prefix p q part beside)
     → JoinsTo h s e m known node one.subtree other.root
     (open_inputs_from_root h s e n known node (y ∷ p))
-    (open_inputs_from_root h 0 n m still front (z ∷ q))
+    (open_inputs_from_root h 0 n m still prefix (z ∷ q))
     (joined_behind y z
-    (joined_there h n m node front q 0 (e - split_of m) false p)
+    (joined_there h n m node prefix q 0 (e - split_of m) false p)
     (open_from_root h 0 (e - split_of m) (n - split_of m) false node p)
-    (open_from_root h 0 (n - split_of m) (m - split_of m) false front q))
-part_over h sized s e n m known still node front z y p q one other two less above before past inner
+    (open_from_root h 0 (n - split_of m) (m - split_of m) false prefix q))
+part_over h sized s e n m known still node prefix z y p q one other two less above before past inner
     recurse =
     let order = two.order in
     let within = two.within in
     let more : 1 < n = omega arith in
     let wide : 1 < m = omega arith in
-    let split = front_split n m two.grows above in
+    let split = prefix_split n m two.grows above in
     let earlier : s < split_of n = omega arith in
     let beyond : split_of n < e = omega arith in
     let zeroth = begins_first h s e n known node y p one more earlier beyond two.first in
     let part = not_whole s e n zeroth inner in
     let xs = open_inputs_from_root h s e n known node (y ∷ p) in
-    let ys = open_inputs_from_root h 0 n m still front (z ∷ q) in
+    let ys = open_inputs_from_root h 0 n m still prefix (z ∷ q) in
     let own = subst (λ (k : ℕ). IsStep h 0 (e - k) (n - k) false node p (both_right_of h y)
     (inputs_over y) one xs) split
     (step_over h s e n known node y p one more zeroth beyond part two.first) in
-    let step = beside_step h s e n m known still node front z (y ∷ p) q one other two less above in
+    let step = beside_step h s e n m known still node prefix z (y ∷ p) q one other two less above in
     let end_is : e ≡ split_of m + (e - split_of m) = omega arith in
     let size : m ≡ split_of m + (m - split_of m) = omega arith in
     let some : 0 < e - split_of m = omega arith in
     let short : e < m = omega arith in
     let hashes : pair_hash h y own.below.root ≡ pair_hash h z step.below.subtree =
     ap (λ (o : Opened). o.root) own.is
-    ∙ beside_meets h n m still front z q one other step two.meet in
+    ∙ beside_meets h n m still prefix z q one other step two.meet in
     let subtree : pair_hash h y own.below.subtree ≡ one.subtree =
     ap (λ (o : Opened). o.subtree) own.is in
     let root : pair_hash h z step.below.root ≡ other.root =
     ap (λ (o : Opened). o.root) step.is in
     subst (λ (o : Option Opened). JoinsTo h s e m known node one.subtree other.root xs ys
-    (joined_behind y z (joined_there h n m node front q 0 (e - split_of m) false p) o
-    (open_from_root h 0 (n - split_of m) (m - split_of m) false front q)))
+    (joined_behind y z (joined_there h n m node prefix q 0 (e - split_of m) false p) o
+    (open_from_root h 0 (n - split_of m) (m - split_of m) false prefix q)))
     (sym own.gives)
     (subst (λ (o : Option Opened). JoinsTo h s e m known node one.subtree other.root xs ys
-    (joined_behind y z (joined_there h n m node front q 0 (e - split_of m) false p)
+    (joined_behind y z (joined_there h n m node prefix q 0 (e - split_of m) false p)
     (Some own.below) o)) (sym step.gives)
     (tested (JoinsTo h s e m known node one.subtree other.root xs ys) h xs ys y own.below.root z
     step.below.subtree
-    (joined_with z (joined_there h n m node front q 0 (e - split_of m) false p))
+    (joined_with z (joined_there h n m node prefix q 0 (e - split_of m) false p))
     (Pair (pair_input y own.below.root) (pair_input z step.below.subtree))
     (told_by_left y own.below.root z step.below.subtree (two.firsts.0 ∙ sym two.seconds.0)) hashes
     (own.tops _ (over_root_in y own.below))
@@ -302,7 +303,7 @@ part_over h sized s e n m known still node front z y p q one other two less abov
     raised h s e m 0 (e - split_of m) (m - split_of m) known false node z one.subtree
     other.root (opened_at own.below.subtree step.below.root) (both_right_of h z) (inputs_over z)
     (open_inputs_from_root h 0 (e - split_of m) (n - split_of m) false node p)
-    (open_inputs_from_root h 0 (n - split_of m) (m - split_of m) false front q) xs ys two.seconds.0
+    (open_inputs_from_root h 0 (n - split_of m) (m - split_of m) false prefix q) xs ys two.seconds.0
     (λ r. open-over h s e m (split_of m) (e - split_of m) (m - split_of m) known
     node z r wide refl zeroth end_is size some short)
     (λ r. open_inputs_over h s e m (split_of m) (e - split_of m) (m - split_of m)
@@ -314,7 +315,7 @@ part_over h sized s e n m known still node front z y p q one other two less abov
     (λ t top. over_tops z y own.below step.below xs ys t same
     (own.tops _ (over_subtree_in y own.below)) (step.tops _ (over_root_in z step.below)) top)
     own.rest step.rest
-    (joined_there h n m node front q 0 (e - split_of m) false p)
+    (joined_there h n m node prefix q 0 (e - split_of m) false p)
     (recurse own.below step.below (record {
       order = omega arith;
       within = omega arith;

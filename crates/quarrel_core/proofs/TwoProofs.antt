@@ -24,7 +24,7 @@ use Rattle.quarrel_core.specs.declared.joined.Joined.{Joined}
 use Rattle.quarrel_core.specs.declared.joined.Joined.TheVariants.{Neither, Pair, Proof}
 
 -- Two proofs from the root down: of a subtree in n entries, and of these n in m.
-pub record AreTwo (h : HashFunction) (s e n m : ℕ) (known still : Bool) (node front : Hash)
+pub record AreTwo (h : HashFunction) (s e n m : ℕ) (known still : Bool) (node prefix : Hash)
     (p q : List Hash) (one other : Opened) : Type 0 where
   pub order : s < e
   pub within : e ≤ n
@@ -32,7 +32,7 @@ pub record AreTwo (h : HashFunction) (s e n m : ℕ) (known still : Bool) (node 
   pub firsts : AreFullHashes p
   pub seconds : AreFullHashes q
   pub first : open_from_root h s e n known node p ≡ Some one
-  pub second : open_from_root h 0 n m still front q ≡ Some other
+  pub second : open_from_root h 0 n m still prefix q ≡ Some other
   pub meet : one.root ≡ other.subtree
 
 -- A proof from the root down that opens so, and hashes only these strings.
@@ -53,10 +53,10 @@ JoinsTo h s e m known node subtree root firsts seconds Neither = ⊥
 -- What two such proofs give.
 abbrev pub TwoJoin : HashFunction → ℕ → ℕ → ℕ → ℕ → Bool → Bool → Hash → Hash → List Hash
     → List Hash → Opened → Opened → Type 0
-TwoJoin h s e n m known still node front p q one other =
+TwoJoin h s e n m known still node prefix p q one other =
     JoinsTo h s e m known node one.subtree other.root (open_inputs_from_root h s e n known node p)
-    (open_inputs_from_root h 0 n m still front q)
-    (joined_from_root h s e n m known node front p q)
+    (open_inputs_from_root h 0 n m still prefix q)
+    (joined_from_root h s e n m known node prefix p q)
 
 pub joins_pair : (h : HashFunction) (s e m : ℕ) (known : Bool) (node subtree root : Hash)
     (firsts seconds : List Text) (x y : Text) → IsCollision h firsts seconds x y
@@ -113,18 +113,18 @@ raised h s e m from to size known still node z subtree root below f top vs ws xs
     texts same tops firsts seconds Neither is = is
 
 -- The second proof is of all its entries.
-pub same_joins : (h : HashFunction) (s e n m : ℕ) (known still : Bool) (node front : Hash)
+pub same_joins : (h : HashFunction) (s e n m : ℕ) (known still : Bool) (node prefix : Hash)
     (p q : List Hash) (one other : Opened)
-    → AreTwo h s e n m known still node front p q one other → n ≡ m
-    → TwoJoin h s e n m known still node front p q one other
-same_joins h s e n m known still node front p q one other two same =
+    → AreTwo h s e n m known still node prefix p q one other → n ≡ m
+    → TwoJoin h s e n m known still node prefix p q one other
+same_joins h s e n m known still node prefix p q one other two same =
     let root : one.root ≡ other.root =
-    two.meet ∙ root_of_whole h 0 n m still front q other refl same two.second in
+    two.meet ∙ root_of_whole h 0 n m still prefix q other refl same two.second in
     subst (JoinsTo h s e m known node one.subtree other.root
-    (open_inputs_from_root h s e n known node p) (open_inputs_from_root h 0 n m still front q))
-    (sym (joined-same h s e n m known node front p q same))
+    (open_inputs_from_root h s e n known node p) (open_inputs_from_root h 0 n m still prefix q))
+    (sym (joined-same h s e n m known node prefix p q same))
     (joins_proof h s e m known node one.subtree other.root
-    (open_inputs_from_root h s e n known node p) (open_inputs_from_root h 0 n m still front q) p
+    (open_inputs_from_root h s e n known node p) (open_inputs_from_root h 0 n m still prefix q) p
     (record {
       opens = ap (λ (k : ℕ). open_from_root h s e k known node p) (sym same) ∙ two.first
           ∙ ap (λ (r : Hash). Some (opened_at one.subtree r)) root;
@@ -135,20 +135,20 @@ same_joins h s e n m known still node front p q one other two same =
     }))
 
 -- All of the first proof's entries lie left of the second's split.
-pub left_joins : (h : HashFunction) (s e n m : ℕ) (known still : Bool) (node front z : Hash)
+pub left_joins : (h : HashFunction) (s e n m : ℕ) (known still : Bool) (node prefix z : Hash)
     (p q : List Hash) (one other : Opened)
-    → AreTwo h s e n m known still node front p (z ∷ q) one other → n < m → n ≤ split_of m
-    → ((below : Opened) → AreTwo h s e n (split_of m) known still node front p q one below
-    → TwoJoin h s e n (split_of m) known still node front p q one below)
-    → TwoJoin h s e n m known still node front p (z ∷ q) one other
-left_joins h s e n m known still node front z p q one other two less left recurse =
+    → AreTwo h s e n m known still node prefix p (z ∷ q) one other → n < m → n ≤ split_of m
+    → ((below : Opened) → AreTwo h s e n (split_of m) known still node prefix p q one below
+    → TwoJoin h s e n (split_of m) known still node prefix p q one below)
+    → TwoJoin h s e n m known still node prefix p (z ∷ q) one other
+left_joins h s e n m known still node prefix z p q one other two less left recurse =
     let order = two.order in
     let within = two.within in
     let more : 1 < m = omega arith in
     let inside : e ≤ split_of m = omega arith in
     let xs = open_inputs_from_root h s e n known node p in
-    let ys = open_inputs_from_root h 0 n m still front (z ∷ q) in
-    let step = step_left h 0 n m still front z q other more left two.second in
+    let ys = open_inputs_from_root h 0 n m still prefix (z ∷ q) in
+    let step = step_left h 0 n m still prefix z q other more left two.second in
     let sub : step.below.subtree ≡ other.subtree = ap (λ (o : Opened). o.subtree) step.is in
     let root : pair_hash h step.below.root z ≡ other.root =
     ap (λ (o : Opened). o.root) step.is in
@@ -163,30 +163,30 @@ left_joins h s e n m known still node front z p q one other two less left recurs
       meet = two.meet ∙ sym sub;
     }) in
     subst (JoinsTo h s e m known node one.subtree other.root xs ys)
-    (sym (joined-left h s e n m known node front z p q less left))
+    (sym (joined-left h s e n m known node prefix z p q less left))
     (raised h s e m s e (split_of m) known known node z one.subtree other.root
     (opened_at one.subtree step.below.root) (root_left_of h z) (inputs_left z) xs
-    (open_inputs_from_root h 0 n (split_of m) still front q) xs ys two.seconds.0
+    (open_inputs_from_root h 0 n (split_of m) still prefix q) xs ys two.seconds.0
     (λ r. open-left h s e m (split_of m) known node z r more refl inside)
     (λ r. open_inputs_left h s e m (split_of m) known node z r more refl inside)
     (ap (opened_at one.subtree) root)
     (λ t top. inr (step.tops t top))
     (λ t within. within) step.rest
-    (joined_from_root h s e n (split_of m) known node front p q) joined)
+    (joined_from_root h s e n (split_of m) known node prefix p q) joined)
 
 -- The subtree is all of the first proof's entries.
-pub whole_joins : (h : HashFunction) (s e n m : ℕ) (known still : Bool) (node front z : Hash)
+pub whole_joins : (h : HashFunction) (s e n m : ℕ) (known still : Bool) (node prefix z : Hash)
     (p q : List Hash) (one other : Opened)
-    → AreTwo h s e n m known still node front p (z ∷ q) one other → n < m → split_of m < n
+    → AreTwo h s e n m known still node prefix p (z ∷ q) one other → n < m → split_of m < n
     → s ≡ 0 → e ≡ n
-    → TwoJoin h s e n m known still node front p (z ∷ q) one other
-whole_joins h s e n m known still node front z p q one other two less above first last =
+    → TwoJoin h s e n m known still node prefix p (z ∷ q) one other
+whole_joins h s e n m known still node prefix z p q one other two less above first last =
     let bounds = split_bounds m in
     let positive = bounds.positive in
     let more : 1 < m = omega arith in
     let k = split_of m in
     let xs = open_inputs_from_root h s e n known node p in
-    let ys = open_inputs_from_root h 0 n m still front (z ∷ q) in
+    let ys = open_inputs_from_root h 0 n m still prefix (z ∷ q) in
     let zeroth : s < split_of m = omega arith in
     let begin : 0 < split_of m = omega arith in
     let end_is : e ≡ split_of m + (n - split_of m) = omega arith in
@@ -197,26 +197,26 @@ whole_joins h s e n m known still node front z p q one other two less above firs
     let subtree : one.subtree ≡ other.subtree =
     root_of_whole h s e n known node p one first last two.first ∙ two.meet in
     let openings : open_from_root h s e m known node (z ∷ q)
-    ≡ open_from_root h 0 n m still front (z ∷ q) =
+    ≡ open_from_root h 0 n m still prefix (z ∷ q) =
     open-over h s e m (split_of m) (n - split_of m) (m - split_of m) known node z q more refl first
     end_is m_is some part
     ∙ ap (option_map (both_right_of h z))
-    (open_unknown h 0 (n - split_of m) (m - split_of m) node front q)
-    ∙ sym (open-over h 0 n m (split_of m) (n - split_of m) (m - split_of m) still front z q more
+    (open_unknown h 0 (n - split_of m) (m - split_of m) node prefix q)
+    ∙ sym (open-over h 0 n m (split_of m) (n - split_of m) (m - split_of m) still prefix z q more
     refl refl n_is m_is some less) in
     let texts : open_inputs_from_root h s e m known node (z ∷ q) ≡ ys =
     open_inputs_over h s e m (split_of m) (n - split_of m) (m - split_of m) known node z q more refl
     zeroth end_is m_is some part
     ∙ ap (λ (o : Option Opened). inputs_over z o
     ++ open_inputs_from_root h 0 (n - split_of m) (m - split_of m) false node q)
-    (open_unknown h 0 (n - split_of m) (m - split_of m) node front q)
+    (open_unknown h 0 (n - split_of m) (m - split_of m) node prefix q)
     ∙ ap (λ (all : List Text). inputs_over z
-    (open_from_root h 0 (n - split_of m) (m - split_of m) false front q) ++ all)
-    (inputs_unknown h 0 (n - split_of m) (m - split_of m) node front q)
-    ∙ sym (open_inputs_over h 0 n m (split_of m) (n - split_of m) (m - split_of m) still front z q
+    (open_from_root h 0 (n - split_of m) (m - split_of m) false prefix q) ++ all)
+    (inputs_unknown h 0 (n - split_of m) (m - split_of m) node prefix q)
+    ∙ sym (open_inputs_over h 0 n m (split_of m) (n - split_of m) (m - split_of m) still prefix z q
     more refl begin n_is m_is some less) in
     subst (JoinsTo h s e m known node one.subtree other.root xs ys)
-    (sym (joined-whole h s e n m known node front z p q less above first last))
+    (sym (joined-whole h s e n m known node prefix z p q less above first last))
     (joins_proof h s e m known node one.subtree other.root xs ys (z ∷ q)
     (record {
       opens = openings ∙ two.second

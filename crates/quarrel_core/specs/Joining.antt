@@ -61,28 +61,28 @@ joined_over h start end n k known node z beside rest (y ∷ p) =
     (open_from_root h 0 (end - k) (n - k) false node p) beside)
 
 -- The first proof is of the subtree [start, end) in n entries, the second of these n in m entries,
--- with the hash `front`. Where the n are all, it is the first proof. Where they lie left of the
+-- with the hash `prefix`. Where the n are all, it is the first proof. Where they lie left of the
 -- split, the proofs are joined there, and then comes z. Where the subtree is all of the n, it is
 -- the second proof.
 unfoldable pub joined_from_root : HashFunction → ℕ → ℕ → ℕ → ℕ → Bool → Hash → Hash → List Hash
     → List Hash → Joined
-joined_from_root h start end n m known node front p [] = if n == m then Proof p else Neither
-joined_from_root h start end n m known node front p (z ∷ q) =
+joined_from_root h start end n m known node prefix p [] = if n == m then Proof p else Neither
+joined_from_root h start end n m known node prefix p (z ∷ q) =
     let k = split_of m in
     if n == m then Proof p
     else (if nat_le n k
-    then joined_with z (joined_from_root h start end n k known node front p q)
+    then joined_with z (joined_from_root h start end n k known node prefix p q)
     else (if (start == 0) && (end == n) then Proof (z ∷ q)
     else joined_over h start end n k known node z
-    (open_from_root h 0 (n - k) (m - k) false front q)
+    (open_from_root h 0 (n - k) (m - k) false prefix q)
     (λ from to still rest.
-    joined_from_root h from to (n - k) (m - k) still node front rest q) p))
+    joined_from_root h from to (n - k) (m - k) still node prefix rest q) p))
 
 -- The same of proofs whose lowest hash comes first: the proof of the subtree in m entries, or the
 -- strings of the topmost node that both hash, by other hashes. Neither, where a proof has another
 -- length.
 unfoldable pub joined_of : HashFunction → ℕ → ℕ → ℕ → ℕ → Hash → Hash → List Hash → List Hash
     → Joined
-joined_of h start end n m node front first second =
-    joined_turned (joined_from_root h start end n m true node front (reverse first)
+joined_of h start end n m node prefix first second =
+    joined_turned (joined_from_root h start end n m true node prefix (reverse first)
     (reverse second))

@@ -7,6 +7,7 @@ use Rattle.tree_core.specs.Path.{part_of}
 use Rattle.tree_core.specs.Tree.{tree_hash}
 use Rattle.tree_proofs.specs.Consistency.{Checks}
 use Rattle.tree_proofs.specs.Proof.{consistency_proof}
+use Rattle.tree_proofs.specs.declared.checkpoint.Checkpoint.{Checkpoint}
 use Rattle.collide.specs.Extraction.{HasCollision, IsCollision}
 use Rattle.collide.specs.Inputs.{open_inputs_of}
 use Rattle.quarrel_core.specs.Sizes.{AreFullHashes}
@@ -30,14 +31,24 @@ Joins h start end size node root firsts seconds (Proof proof) =
 Joins h start end size node root firsts seconds (Pair x y) = IsCollision h firsts seconds x y
 Joins h start end size node root firsts seconds Neither = ⊥
 
+-- Two proofs and what is made of them: where the first checks for a subtree's hash in what is held,
+-- and the second for what is held in n entries with any root, they join.
+abbrev pub JoinsIfBothCheck : HashFunction → ℕ → ℕ → Checkpoint → ℕ → Hash → List Hash → List Hash
+    → Joined → Type 0
+JoinsIfBothCheck h start end held n node first second joined = (root : Hash)
+    → Checks h start end held.size node held.root first
+    → Checks h 0 held.size n held.root root second
+    → Joins h start end n node root (open_inputs_of h start end held.size true node first)
+    (open_inputs_of h 0 held.size n true held.root second) joined
+
 -- Two proofs of 32-byte hashes, of which the first checks for a subtree's hash in n entries with
--- the hash `front`, and the second for these entries in m with the hash `root`.
+-- the hash `prefix`, and the second for these entries in m with the hash `root`.
 abbrev pub ProofsJoin : HashFunction → Type 0
-ProofsJoin h = (start end n m : ℕ) (node front root : Hash) (first second : List Hash) → n ≤ m
+ProofsJoin h = (start end n m : ℕ) (node prefix root : Hash) (first second : List Hash) → n ≤ m
     → AreFullHashes first → AreFullHashes second
-    → Checks h start end n node front first → Checks h 0 n m front root second
+    → Checks h start end n node prefix first → Checks h 0 n m prefix root second
     → Joins h start end m node root (open_inputs_of h start end n true node first)
-    (open_inputs_of h 0 n m true front second) (joined_of h start end n m node front first second)
+    (open_inputs_of h 0 n m true prefix second) (joined_of h start end n m node prefix first second)
 
 -- Two proofs of 32-byte hashes of one subtree, at one size and root, have one hash for it, or there
 -- are two strings with one hash, one of each.

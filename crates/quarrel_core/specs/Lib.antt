@@ -1,6 +1,7 @@
 pub mod Joining
 pub mod Contrasting
 pub mod Sizes
+pub mod OpenedParts
 pub mod Laws
 pub mod Conflicts
 pub mod Firsts

@@ -2,18 +2,21 @@
 
 ghost use Rattle.std.specs.Prelude.{◌≡◌, ◌<◌, ◌≤◌, true, reverse, IfOk};
 ghost use Rattle.tree_proofs.specs.Consistency.{Checks};
+ghost use Rattle.collide.specs.declared.finding.Finding.TheVariants.{Same};
 ghost use Rattle.collide.specs.Extraction.{Extracts};
 ghost use Rattle.collide.specs.Inputs.{open_inputs_of};
 ghost use Rattle.quarrel_core.specs.Contrasting.{contrast_behind, contrast_from_root};
 ghost use Rattle.quarrel_core.specs.Contrasting.{contrast_left};
+ghost use Rattle.quarrel_core.specs.OpenedParts.{IsContrast, opened_above};
 
+use crate::opened_parts::{BothOpened, above};
 use crate::part::{Part, after};
 use crate::strings::{are_same, law_are_whole, pair_string};
 use collide::Finding;
 use mtc_io::Memory;
 use std::alloc::Global;
 use tree_core::TreeHash;
-use tree_proofs::{Checkpoint, Opened, opened, split};
+use tree_proofs::{Checkpoint, opened, split};
 
 // What is found where the interval lies left of the split, by what both proofs give of the left
 // part and by what is found there.
@@ -22,16 +25,15 @@ fn left_of(
     own: &[u8; 32],
     sibling: &[u8; 32],
     rest: Finding,
-    one: Option<Opened>,
-    other: Option<Opened>,
+    given: BothOpened,
 ) -> Result<Finding, Memory>
     ensures { IfOk result (λ finding. finding
-        ≡ contrast_left own.now sibling.now rest one other) }
+        ≡ contrast_left own.now sibling.now rest given.first given.second) }
 {
-    let Some(one) = one else {
+    let Some(one) = given.first else {
         return Ok(Finding::Same);
     };
-    let Some(other) = other else {
+    let Some(other) = given.second else {
         return Ok(Finding::Same);
     };
     if are_same(&one.root, own, &other.root, sibling) {
@@ -48,16 +50,15 @@ fn right_of(
     own: &[u8; 32],
     sibling: &[u8; 32],
     rest: Finding,
-    one: Option<Opened>,
-    other: Option<Opened>,
+    given: BothOpened,
 ) -> Result<Finding, Memory>
     ensures { IfOk result (λ finding. finding
-        ≡ contrast_behind own.now sibling.now rest one other) }
+        ≡ contrast_behind own.now sibling.now rest given.first given.second) }
 {
-    let Some(one) = one else {
+    let Some(one) = given.first else {
         return Ok(Finding::Same);
     };
-    let Some(other) = other else {
+    let Some(other) = given.second else {
         return Ok(Finding::Same);
     };
     if are_same(own, &one.root, sibling, &other.root) {
@@ -68,7 +69,51 @@ fn right_of(
     Ok(Finding::Pair(x, y))
 }
 
-// Two proofs of an interval in `size` entries.
+// What both proofs of an interval give of a list that is split at `middle`, by what they give of
+// the part that the interval ends in.
+fn both_above<H: TreeHash>(
+    middle: u64,
+    part: Part,
+    own: &[u8; 32],
+    sibling: &[u8; 32],
+    given: BothOpened,
+) -> BothOpened
+    ensures first { result.first
+        ≡ opened_above H.hash middle part.start part.end own.now given.first }
+    ensures second { result.second
+        ≡ opened_above H.hash middle part.start part.end sibling.now given.second }
+{
+    BothOpened {
+        first: above::<H>(middle, part.start, part.end, own, given.first),
+        second: above::<H>(middle, part.start, part.end, sibling, given.second),
+    }
+}
+
+// What proofs give that show no two strings.
+fn alike<H: TreeHash>(
+    part: Part,
+    size: u64,
+    node: &[u8; 32],
+    other: &[u8; 32],
+    first: &[[u8; 32]],
+    second: &[[u8; 32]],
+) -> (Finding, BothOpened)
+    requires order { part.start < part.end }
+    requires within { part.end ≤ size }
+    requires same { Same ≡ contrast_from_root H.hash part.start part.end size part.known node.now
+        other.now (reverse first.now) (reverse second.now) }
+    ensures { IsContrast H.hash part.start part.end size part.known node.now other.now first.now
+        second.now result.0 result.1 }
+{
+    let given = BothOpened {
+        first: opened::<H>(part.start, part.end, size, part.known, node, first),
+        second: opened::<H>(part.start, part.end, size, part.known, other, second),
+    };
+    (Finding::Same, given)
+}
+
+// Two proofs of an interval in `size` entries: what is found in them, and what each of them gives.
+// Each hash of an opening is computed once.
 fn contrast_in<H: TreeHash>(
     alloc: Global,
     part: Part,
@@ -77,40 +122,37 @@ fn contrast_in<H: TreeHash>(
     other: &[u8; 32],
     first: &[[u8; 32]],
     second: &[[u8; 32]],
-) -> Result<Finding, Memory>
+) -> Result<(Finding, BothOpened), Memory>
     requires order { part.start < part.end }
     requires within { part.end ≤ size }
-    ensures { IfOk result (λ finding. finding
-        ≡ contrast_from_root H.hash part.start part.end size part.known node.now other.now
-        (reverse first.now) (reverse second.now)) }
+    ensures { IfOk result (λ both. IsContrast H.hash part.start part.end size part.known node.now
+        other.now first.now second.now both.0 both.1) }
 {
     let Some((own, less)) = first.split_last() else {
-        return Ok(Finding::Same);
+        return Ok(alike::<H>(part, size, node, other, first, second));
     };
     let Some((sibling, rest)) = second.split_last() else {
-        return Ok(Finding::Same);
+        return Ok(alike::<H>(part, size, node, other, first, second));
     };
     if part.start == 0 && part.end == size {
-        return Ok(Finding::Same);
+        return Ok(alike::<H>(part, size, node, other, first, second));
     }
     let k = split(size);
     if part.end <= k {
-        let one = opened::<H>(part.start, part.end, k, part.known, node, less);
-        let two = opened::<H>(part.start, part.end, k, part.known, other, rest);
-        let below = contrast_in::<H>(alloc, part, k, node, other, less, rest)?;
-        return left_of(alloc, own, sibling, below, one, two);
+        let (below, given) = contrast_in::<H>(alloc, part, k, node, other, less, rest)?;
+        let finding = left_of(alloc, own, sibling, below, given)?;
+        return Ok((finding, both_above::<H>(k, part, own, sibling, given)));
     }
     let there = after(k, part);
-    let one = opened::<H>(there.start, there.end, size - k, there.known, node, less);
-    let two = opened::<H>(there.start, there.end, size - k, there.known, other, rest);
-    let below = contrast_in::<H>(alloc, there, size - k, node, other, less, rest)?;
-    right_of(alloc, own, sibling, below, one, two)
+    let (below, given) = contrast_in::<H>(alloc, there, size - k, node, other, less, rest)?;
+    let finding = right_of(alloc, own, sibling, below, given)?;
+    Ok((finding, both_above::<H>(k, part, own, sibling, given)))
 }
 
 /// Whether two hashes of the subtree `[start, end)` of a checkpoint are the same, where the first
 /// proof checks for one of them and the second for the other. Or else two different strings with
 /// one hash, the first hashed in the opening of the first proof and the second in that of the
-/// second.
+/// second. The time is that of opening both proofs once.
 pub fn two_proofs<H: TreeHash>(
     alloc: Global,
     start: u64,
@@ -137,5 +179,6 @@ pub fn two_proofs<H: TreeHash>(
         end,
         known: true,
     };
-    contrast_in::<H>(alloc, part, held.size, node, other, first, second)
+    let (finding, _) = contrast_in::<H>(alloc, part, held.size, node, other, first, second)?;
+    Ok(finding)
 }

@@ -1,16 +1,34 @@
 //! Two proofs joined, by the definition's recursion from the root down.
 
 ghost use Rattle.std.specs.Prelude.{◌≡◌, ◌<◌, ◌≤◌, reverse, IfOk};
-ghost use Rattle.quarrel_core.specs.Joining.{joined_behind, joined_from_root, joined_left};
+ghost use Rattle.quarrel_core.specs.Joining.{joined_behind, joined_left};
 ghost use Rattle.quarrel_core.specs.Joining.{joined_of, joined_turned, joined_with};
+ghost use Rattle.quarrel_core.specs.Laws.{JoinsIfBothCheck};
+ghost use Rattle.quarrel_core.specs.OpenedParts.{IsJoinedAfter, IsJoinedBefore, IsJoinedBeside};
+ghost use Rattle.quarrel_core.specs.OpenedParts.{IsJoining, joined_proofs, proofs_above};
 
 use crate::joined::Joined;
+use crate::opened_parts::{BothOpened, above};
 use crate::part::{Part, after};
-use crate::strings::{are_same, pair_string};
+use crate::strings::{are_same, law_are_whole, pair_string};
 use mtc_io::Memory;
 use std::alloc::Global;
 use tree_core::TreeHash;
-use tree_proofs::{Checkpoint, Hashes, Opened, opened, split};
+use tree_proofs::{Checkpoint, Hashes, opened, split};
+
+// The proof of an interval of `old` entries, and the proof of these entries in `new` ones.
+#[derive(Clone, Copy)]
+struct Proofs<'a> {
+    part: Part,
+    old: u64,
+    new: u64,
+    // Whether the hash of the old entries is known.
+    still: bool,
+    node: &'a [u8; 32],
+    prefix: &'a [u8; 32],
+    first: &'a [[u8; 32]],
+    second: &'a [[u8; 32]],
+}
 
 // A proof of its own.
 fn copy_of(alloc: Global, proof: &[[u8; 32]]) -> Result<Joined, Memory>
@@ -41,16 +59,15 @@ fn left_of(
     own: &[u8; 32],
     sibling: &[u8; 32],
     proof: &[[u8; 32]],
-    part: Option<Opened>,
-    beside: Option<Opened>,
+    given: BothOpened,
 ) -> Result<Joined, Memory>
     ensures { IfOk result (λ joined. joined_turned joined
-        ≡ joined_left own.now sibling.now (reverse proof.now) part beside) }
+        ≡ joined_left own.now sibling.now (reverse proof.now) given.first given.second) }
 {
-    let Some(part) = part else {
+    let Some(part) = given.first else {
         return Ok(Joined::Neither);
     };
-    let Some(beside) = beside else {
+    let Some(beside) = given.second else {
         return Ok(Joined::Neither);
     };
     if are_same(&part.root, own, sibling, &beside.subtree) {
@@ -68,16 +85,15 @@ fn right_of(
     own: &[u8; 32],
     sibling: &[u8; 32],
     rest: Joined,
-    part: Option<Opened>,
-    beside: Option<Opened>,
+    given: BothOpened,
 ) -> Result<Joined, Memory>
     ensures { IfOk result (λ joined. joined_turned joined
-        ≡ joined_behind own.now sibling.now (joined_turned rest) part beside) }
+        ≡ joined_behind own.now sibling.now (joined_turned rest) given.first given.second) }
 {
-    let Some(part) = part else {
+    let Some(part) = given.first else {
         return Ok(Joined::Neither);
     };
-    let Some(beside) = beside else {
+    let Some(beside) = given.second else {
         return Ok(Joined::Neither);
     };
     if are_same(own, &part.root, sibling, &beside.subtree) {
@@ -88,51 +104,153 @@ fn right_of(
     Ok(Joined::Pair(x, y))
 }
 
-// The proof of a subtree in `old` entries, and the proof of these in `new` entries, joined.
-fn join_in<H: TreeHash>(
-    alloc: Global,
-    part: Part,
-    old: u64,
-    new: u64,
-    node: &[u8; 32],
-    front: &[u8; 32],
-    first: &[[u8; 32]],
-    second: &[[u8; 32]],
-) -> Result<Joined, Memory>
-    requires order { part.start < part.end }
-    requires within { part.end ≤ old }
-    requires grows { old ≤ new }
-    ensures { IfOk result (λ joined. joined_turned joined
-        ≡ joined_from_root H.hash part.start part.end old new part.known node.now front.now
-        (reverse first.now) (reverse second.now)) }
+// What both proofs give of their lists, which are split at `middle`, by what they give of the parts
+// that their intervals end in.
+fn both_above<H: TreeHash>(
+    middle: u64,
+    proofs: Proofs<'_>,
+    own: &[u8; 32],
+    sibling: &[u8; 32],
+    given: BothOpened,
+) -> BothOpened
+    ensures { result ≡ proofs_above H.hash middle proofs.entry own.now sibling.now given }
 {
-    if old == new {
-        return copy_of(alloc, first);
+    let part = proofs.part;
+    BothOpened {
+        first: above::<H>(middle, part.start, part.end, own, given.first),
+        second: above::<H>(middle, 0, proofs.old, sibling, given.second),
     }
-    let Some((sibling, rest)) = second.split_last() else {
-        return Ok(Joined::Neither);
+}
+
+// The old entries lie left of the split. This is what the proofs give there.
+fn joined_before<H: TreeHash>(
+    middle: u64,
+    old: u64,
+    sibling: &[u8; 32],
+    below: (Joined, BothOpened),
+) -> Result<(Joined, BothOpened), Memory>
+    ensures { IfOk result (λ both. IsJoinedBefore H.hash middle old sibling.now below both) }
+{
+    let (joined, given) = below;
+    let given = BothOpened {
+        first: given.first,
+        second: above::<H>(middle, 0, old, sibling, given.second),
+    };
+    Ok((with_hash(joined, sibling)?, given))
+}
+
+// The subtree lies left of the split, and old entries after it. These are the proofs without their
+// last hashes.
+fn joined_beside<H: TreeHash>(
+    alloc: Global,
+    middle: u64,
+    proofs: Proofs<'_>,
+    own: &[u8; 32],
+    less: &[[u8; 32]],
+    sibling: &[u8; 32],
+    rest: &[[u8; 32]],
+) -> Result<(Joined, BothOpened), Memory>
+    requires order { proofs.part.start < proofs.part.end }
+    requires left { proofs.part.end ≤ middle }
+    requires over { middle < proofs.old }
+    requires grows { proofs.old ≤ proofs.new }
+    ensures { IfOk result (λ both. IsJoinedBeside H.hash middle proofs.entry own.now less.now
+        sibling.now rest.now both) }
+{
+    let Proofs { part, old, new, .. } = proofs;
+    let (n, m) = (old - middle, new - middle);
+    let given = BothOpened {
+        first: opened::<H>(part.start, part.end, middle, part.known, proofs.node, less),
+        second: opened::<H>(0, n, m, false, proofs.prefix, rest),
+    };
+    let joined = left_of(alloc, own, sibling, less, given)?;
+    Ok((joined, both_above::<H>(middle, proofs, own, sibling, given)))
+}
+
+// The subtree has entries after the split. This is what the proofs give there.
+fn joined_after<H: TreeHash>(
+    alloc: Global,
+    middle: u64,
+    proofs: Proofs<'_>,
+    own: &[u8; 32],
+    sibling: &[u8; 32],
+    below: (Joined, BothOpened),
+) -> Result<(Joined, BothOpened), Memory>
+    ensures { IfOk result (λ both. IsJoinedAfter H.hash middle proofs.entry own.now sibling.now
+        below both) }
+{
+    let (rest, given) = below;
+    let joined = right_of(alloc, own, sibling, rest, given)?;
+    Ok((joined, both_above::<H>(middle, proofs, own, sibling, given)))
+}
+
+// What proofs give that aren't followed further down, and what they give together.
+fn ended<H: TreeHash>(joined: Joined, proofs: Proofs<'_>) -> (Joined, BothOpened)
+    requires order { proofs.part.start < proofs.part.end }
+    requires within { proofs.part.end ≤ proofs.old }
+    requires grows { proofs.old ≤ proofs.new }
+    requires joined { joined_turned joined ≡ joined_proofs H.hash proofs }
+    ensures { IsJoining H.hash proofs.entry result.0 result.1 }
+{
+    let Proofs {
+        part,
+        old,
+        new,
+        still,
+        node,
+        prefix,
+        first,
+        second,
+    } = proofs;
+    let given = BothOpened {
+        first: opened::<H>(part.start, part.end, old, part.known, node, first),
+        second: opened::<H>(0, old, new, still, prefix, second),
+    };
+    (joined, given)
+}
+
+// What proofs give together, and what each of them gives. Each hash of an opening is computed once.
+fn join_in<H: TreeHash>(alloc: Global, proofs: Proofs<'_>) -> Result<(Joined, BothOpened), Memory>
+    requires order { proofs.part.start < proofs.part.end }
+    requires within { proofs.part.end ≤ proofs.old }
+    requires grows { proofs.old ≤ proofs.new }
+    ensures { IfOk result (λ both. IsJoining H.hash proofs.entry both.0 both.1) }
+{
+    let Proofs { part, old, new, .. } = proofs;
+    if old == new {
+        return Ok(ended::<H>(copy_of(alloc, proofs.first)?, proofs));
+    }
+    let Some((sibling, rest)) = proofs.second.split_last() else {
+        return Ok(ended::<H>(Joined::Neither, proofs));
     };
     let k = split(new);
     if old <= k {
-        let below = join_in::<H>(alloc, part, old, k, node, front, first, rest)?;
-        return with_hash(below, sibling);
+        let left = Proofs {
+            new: k,
+            second: rest,
+            ..proofs
+        };
+        return joined_before::<H>(k, old, sibling, join_in::<H>(alloc, left)?);
     }
     if part.start == 0 && part.end == old {
-        return copy_of(alloc, second);
+        return Ok(ended::<H>(copy_of(alloc, proofs.second)?, proofs));
     }
-    let Some((own, less)) = first.split_last() else {
-        return Ok(Joined::Neither);
+    let Some((own, less)) = proofs.first.split_last() else {
+        return Ok(ended::<H>(Joined::Neither, proofs));
     };
-    let (n, m) = (old - k, new - k);
-    let beside = opened::<H>(0, n, m, false, front, rest);
     if part.end <= k {
-        let given = opened::<H>(part.start, part.end, k, part.known, node, less);
-        return left_of(alloc, own, sibling, less, given, beside);
+        return joined_beside::<H>(alloc, k, proofs, own, less, sibling, rest);
     }
-    let there = after(k, part);
-    let given = opened::<H>(there.start, there.end, n, there.known, node, less);
-    let joined = join_in::<H>(alloc, there, n, m, node, front, less, rest)?;
-    right_of(alloc, own, sibling, joined, given, beside)
+    let lower = Proofs {
+        part: after(k, part),
+        old: old - k,
+        new: new - k,
+        still: false,
+        first: less,
+        second: rest,
+        ..proofs
+    };
+    joined_after::<H>(alloc, k, proofs, own, sibling, join_in::<H>(alloc, lower)?)
 }
 
 /// The proof of a subtree `[start, end)` in the checkpoint `old`, whose hash is `node`, and the
@@ -140,8 +258,8 @@ fn join_in<H: TreeHash>(
 /// first.
 ///
 /// If both proofs check, the answer is the proof of the subtree in the longer list, or two strings
-/// with one hash ([`law_proofs_join`](crate::laws::law_proofs_join)). It is `Neither` only if a
-/// proof has another length than the proof that is made of such a subtree.
+/// with one hash. It is `Neither` only if a proof has another length than the proof that is made of
+/// such a subtree. The time is that of opening both proofs once.
 pub fn join<H: TreeHash>(
     alloc: Global,
     start: u64,
@@ -155,13 +273,28 @@ pub fn join<H: TreeHash>(
     requires order { start < end }
     requires within { end ≤ old.now.size }
     requires grows { old.now.size ≤ new }
-    ensures { IfOk result (λ joined. joined ≡ joined_of H.hash start end old.now.size new node.now
-        old.now.root first.now second.now) }
+    ensures exact { IfOk result (λ joined. joined ≡ joined_of H.hash start end old.now.size new
+        node.now old.now.root first.now second.now) }
+    ensures joins { IfOk result (JoinsIfBothCheck H.hash start end old.now new node.now
+        first.now second.now) }
 {
+    law_are_whole(first);
+    law_are_whole(second);
     let part = Part {
         start,
         end,
         known: true,
     };
-    join_in::<H>(alloc, part, old.size, new, node, &old.root, first, second)
+    let proofs = Proofs {
+        part,
+        old: old.size,
+        new,
+        still: true,
+        node,
+        prefix: &old.root,
+        first,
+        second,
+    };
+    let (joined, _) = join_in::<H>(alloc, proofs)?;
+    Ok(joined)
 }

@@ -30,6 +30,7 @@ mod contrasting;
 mod joined;
 mod joining;
 pub mod laws;
+mod opened_parts;
 mod part;
 mod quarrelling;
 mod strings;

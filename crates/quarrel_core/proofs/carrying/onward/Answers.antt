@@ -33,4 +33,4 @@ returns-in-Advance g c =
     (found_at c.args.steps.now _ _ _ c.index-steps-place.is c.in-Advance.is)
     c.requires.held c.requires.carried
     c.as_slice-first.ensures c.as_slice-second.ensures c.law_are_whole.ensures is)
-    c.join.ensures
+    c.join.ensures.exact

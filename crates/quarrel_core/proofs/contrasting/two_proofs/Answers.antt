@@ -1,6 +1,5 @@
 use Rattle.std.proofs.Common.{◌≡◌, rules}
 use Rattle.tree_proofs.proofs.Fulls.{some_in}
-use Rattle.std.proofs.lemmas.Result.{IfOk-weaker}
 use Rattle.quarrel_core.proofs.Contrasts.{extracts_found}
 use Rattle.quarrel_core.proofs.contrasting.two_proofs.Goals as goal
 
@@ -13,8 +12,8 @@ contrast_in-requires-clause-within g c = c.requires.first.within
 pub returns : goal.returns
 returns g c =
     let differ : c.args.node.now ≡ c.args.other.now → ⊥ = search rules in
-    IfOk-weaker c.contrast_in.result _ _
-    (λ found is. extracts_found g.H.TreeHash.hash c.args.start c.args.end c.args.held.now.size
-    c.args.node.now c.args.other.now c.args.held.now.root c.args.first.now c.args.second.now found
-    c.requires.first c.requires.second c.law_are_whole.ensures c.law_are_whole-2.ensures differ is)
-    c.contrast_in.ensures
+    extracts_found g.H.TreeHash.hash c.args.start c.args.end c.args.held.now.size
+    c.args.node.now c.args.other.now c.args.held.now.root c.args.first.now c.args.second.now
+    c.in_ok-finding.finding
+    c.requires.first c.requires.second c.law_are_whole.ensures c.law_are_whole-2.ensures differ
+    c.in_ok-finding.ensures.finding
