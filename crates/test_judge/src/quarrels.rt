@@ -10,12 +10,18 @@ use tree_core::Toy;
 
 // Steps, and the answer: both keys and both strings, or that the signatures agree. The proof of the
 // first signature is carried over an Advance, and joined to it; the strings are found at both
-// checkpoints, and while the proofs are joined. A signature of another interval is in no conflict.
+// checkpoints, and while the proofs are joined: at the root or further down, left of a split, right
+// of it and over it. A signature of another interval is in no conflict.
 const CASES: &str = "\
 a:2:8 s:0:0:1:5:2 s:1:0:1:4:3|0 1 node:5:2 node:4:3
 a:2:8 s:0:0:1:5:2 a:4:20:11 s:1:0:1:4:3:11|0 1 node:5:2 node:4:3
 a:2:8 s:0:0:1:5:2 a:4:20:11 s:1:0:1:4:2:12|0 1 node:8:11 node:7:12
 a:3:16 s:0:0:2:8:7 a:4:21:6:4:9 s:1:0:2:9:11|0 1 node:8:7 node:9:6
+a:3:14 s:0:2:3:5:8 a:4:18:6:3:7 s:1:2:3:9:3:4|0 1 node:8:5 node:7:6
+a:3:14 s:0:2:3:5:8 a:4:18:5:3:8 s:1:2:3:9:3:4|0 1 node:8:9 node:4:13
+a:7:19 s:0:0:6:15:4:3:10 a:8:26:2:6:4:11 s:1:0:6:13:3:12:9|0 1 node:10:8 node:11:7
+a:7:19 s:0:0:6:15:4:3:10 a:8:26:2:6:5:10 s:1:0:6:13:3:12:9|0 1 node:4:3 node:5:2
+a:7:19 s:0:0:6:15:4:3:10 a:8:26:3:6:4:10 s:1:0:6:13:3:12:9|0 1 node:10:15 node:9:16
 a:2:8 s:0:0:1:5:2 s:1:0:2:8 s:2:0:1:5:2 s:3:0:1:4:3|0 3 node:5:2 node:4:3
 a:2:8 s:0:0:1:5:2 s:1:0:1:4:3 s:2:0:1:3:4|0 1 node:5:2 node:4:3
 a:2:8 s:0:0:1:5:2 s:1:1:2:2:5 s:2:1:2:3:4 s:3:0:1:4:3|1 2 node:5:2 node:4:3
@@ -87,5 +93,5 @@ fn count_shown(alloc: Global) -> u64 {
 #[test]
 fn two_signatures_in_conflict_show_two_strings(rt: HostRuntime) {
     let count = count_shown(rt.alloc());
-    assert!(rt; count == 11, "{count:?}");
+    assert!(rt; count == 16, "{count:?}");
 }
