@@ -31,7 +31,8 @@ COMMANDS = [
     "advance early advance", "cosign cosigner subtree", "cosign early subtree", "export cosigner", "landmark log",
     "landmarks log", "light-cert log 2", "light-cert log 4", "trust-landmarks list 2 entries",
     "cert log 2 0 4 signatures", "audit cert store " + MOMENT + " entries export",
-    "audit light trusting " + MOMENT + " entries empty", "audit light trusting " + MOMENT + " few empty", "drill 7",
+    "audit light trusting " + MOMENT + " entries empty", "audit light trusting " + MOMENT + " few empty", "quarrel export", "quarrel empty",
+    "quarrel entries", "drill 7",
     "checkpoint bare", "tile log", "tile full", "cert tiled 2 0 256 empty", "issue tiled request", "tile none.tiles",
 ]
 

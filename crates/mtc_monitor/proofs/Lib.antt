@@ -1,3 +1,4 @@
 pub mod Audited
 pub mod Behind
+pub mod Quarrels
 pub mod Trusted

@@ -2,10 +2,8 @@
 //! the export of a cosigner.
 
 ghost use Rattle.std.specs.Prelude.{◌≡◌, ◌<◌, ◌^◌, true, [], ◌∷◌, IfOk, IfSome, option_map};
-ghost use Rattle.byte_formats.specs.Readings.{Answers, Gives};
+ghost use Rattle.byte_formats.specs.Readings.{Gives};
 ghost use Rattle.cert_fields.specs.Views.{parts};
-ghost use Rattle.cosigner_core.specs.ExportReading.{export_in};
-ghost use Rattle.cosigner_core.specs.declared.error.ReadExportError.TheVariants.{Memory as NoCapacity};
 ghost use Rattle.mtc_words.specs.Commands.{is_time};
 ghost use Rattle.mtc_command.specs.Answers.{ending_of};
 ghost use Rattle.mtc_command.specs.Endings.{Replies};
@@ -18,11 +16,12 @@ ghost use Rattle.mtc_monitor.specs.AuditOutcome.{audit_items_say, accepted_in, a
 ghost use Rattle.mtc_monitor.specs.Views.{accepted_parts, input_file};
 
 use crate::accepted::AcceptedCert;
+use crate::exported::kept_in;
 use crate::found::audited;
 use crate::input::Input;
 use crate::reasons::{export_reason, items_reason};
 use cert_fields::parse;
-use cosigner_core::{Export, ReadExportError, read_export};
+use cosigner_core::{Export, ReadExportError};
 use entry_list::{Items, ItemsError, read_items};
 use mtc_command::{Answer, INPUT_LIMIT, LIST_LIMIT, Stop, Stopped, read_input, refuse_file};
 use mtc_io::Bytes;
@@ -54,14 +53,6 @@ fn accepted_in<'b, H: TreeHash>(
         cert,
         proof,
     })
-}
-
-// Reads the export. Its steps are those of a cosigner.
-fn kept_in<H: TreeHash>(alloc: Global, bytes: &[u8]) -> Result<Option<Export>, ReadExportError>
-    ensures exact { Answers NoCapacity (export_in H.hash bytes.now) result }
-    ensures allowed { IfOk result (λ kept. IfSome kept (λ e. AreSteps H.hash e.steps)) }
-{
-    read_export::<H>(alloc, bytes)
 }
 
 // Judges the certificate, and audits one that is accepted.

@@ -1,4 +1,5 @@
-//! The commands of those who hold the entries of a log: `trust-landmarks` and `audit`.
+//! The commands of those who hold the entries of a log or the export of a cosigner:
+//! `trust-landmarks`, `audit` and `quarrel`.
 //!
 //! What each has to answer is a definition over its arguments and the files of the file system, in
 //! a file of `specs/` of its own.
@@ -9,8 +10,10 @@
 
 mod accepted;
 pub mod audit;
+mod exported;
 mod found;
 mod input;
+pub mod quarrel;
 mod reasons;
 mod tables;
 pub mod trust;

@@ -1,19 +1,23 @@
--- What `audit` has to answer is what comes of its plan.
+-- What `audit` and `quarrel` have to answer is what comes of their plans.
 use Rattle.std.proofs.Common.{◌≡◌, ℕ, pos, Bool, true, false, List, [], ◌∷◌, Option, None, Some}
 use Rattle.std.proofs.Common.{Result, Ok, Err, refl}
 use Rattle.byte_formats.specs.Types.{Hash, HashFunction}
 use Rattle.cosigner_core.specs.ExportReading.{export_in}
 use Rattle.cosigner_core.specs.declared.lists.Export.{Export}
+use Rattle.cosigner_core.specs.declared.step.Step.{Step as CosignerStep}
 use Rattle.entry_list.specs.Items.{ItemLists}
 use Rattle.entry_list.specs.Reading.{items_in}
 use Rattle.policy_core.specs.Files.{store_of}
 use Rattle.policy_core.specs.declared.refusal.Refusal.{Refusal}
 use Rattle.policy_core.specs.declared.store.Store.{Store}
+use Rattle.quarrel_core.specs.Conflicts.{quarrel_of}
 use Rattle.world_core.specs.Audit.{AuditCase, foreign_of, has_own, is_supported}
 use Rattle.mtc_command.specs.Steps.{Files}
 use Rattle.mtc_monitor.specs.AuditOutcome.{AcceptedParts, InputFile, accepted_in}
 use Rattle.mtc_monitor.specs.AuditOutcome.{audit_accepted_says, audit_by, audit_outcome}
 use Rattle.mtc_monitor.specs.AuditOutcome.{audit_store_says, case_of}
+use Rattle.mtc_monitor.specs.QuarrelOutcome.{quarrel_by, quarrel_kept, quarrel_outcome}
+use Rattle.mtc_monitor.specs.QuarrelOutcome.{quarrel_says}
 use Rattle.mtc_monitor.specs.Reasons.{export_fault_text, items_fault_text}
 use Rattle.mtc_reads.specs.Reasons.{store_fault_text}
 use Rattle.command_plans.specs.Kinds.{Kinds}
@@ -21,6 +25,8 @@ use Rattle.command_plans.specs.Outcomes.{outcome_of, step_outcome}
 use Rattle.command_plans.specs.Plans.{Input, Read}
 use Rattle.command_plans.proofs.Forms.{bytes_same, form_same}
 use Rattle.mtc_plans.specs.AuditPlans.{audit_judged_by, audit_plan, audit_step, audited_step}
+use Rattle.mtc_plans.specs.AuditPlans.{quarrel_judged, quarrel_judged_by, quarrel_plan}
+use Rattle.mtc_plans.specs.AuditPlans.{quarrel_step}
 use Rattle.mtc_plans.specs.Steps.{large_file, small_file}
 use Rattle.mtc_plans.proofs.Reading.{verdict_same}
 use Rattle.mtc_plans.proofs.Texts.{first_read, fourth_read, second_read, third_read, told_alone}
@@ -73,3 +79,26 @@ audit_plans k h cert store moment entries export files =
     (second_read one two (three ∷ (four ∷ [])) s)
     (third_read one two three (four ∷ []) e)
     (fourth_read one two three four [] x)))))
+
+conflict_same : (h : HashFunction) (steps : List CosignerStep) (keys : Option (ℕ × ℕ))
+    → quarrel_by h steps keys ≡ told_alone (quarrel_judged_by h steps keys)
+conflict_same h steps None = refl
+conflict_same h steps (Some keys) = refl
+
+kept_same : (h : HashFunction) (kept : Option Export)
+    → quarrel_kept h kept ≡ told_alone (quarrel_judged h kept)
+kept_same h None = refl
+kept_same h (Some kept) = conflict_same h kept.steps (quarrel_of kept.steps)
+
+module _ (k : Kinds) (h : HashFunction) (files : Files) (inputs : List Input) where
+  quarrel_same : (x : Read inputs) → quarrel_says h x.file.name x.text
+      ≡ step_outcome {k = k} [] (quarrel_step h x) files
+  quarrel_same x =
+      form_same [] files x export_fault_text (export_in h x.text) _ _ (λ kept. kept_same h kept)
+
+pub quarrel_plans : (k : Kinds) (h : HashFunction) (export : List ℕ) (files : Files)
+    → quarrel_outcome h export files ≡ outcome_of (quarrel_plan {k = k} h export) files
+quarrel_plans k h export files =
+    let one = large_file export in
+    bytes_same 1073741824 export (files export) _ _
+    (λ x. quarrel_same k h files (one ∷ []) (first_read one [] x))

@@ -5,6 +5,7 @@ use Rattle.mtc_words.specs.Commands.{CommandValue, member, show, verify, init_lo
 use Rattle.mtc_words.specs.Commands.{checkpoint, entries, consist, subtree, keygen}
 use Rattle.mtc_words.specs.Commands.{init_cosigner, advance, cosign, export, landmark, landmarks}
 use Rattle.mtc_words.specs.Commands.{light_cert, trust_landmarks, cert, audit, drill, tile}
+use Rattle.mtc_words.specs.Commands.{quarrel}
 use Rattle.mtc_command.specs.Steps.{Files}
 use Rattle.mtc_authority.specs.declared.work.Work.TheVariants.{Checkpoint, Consist, Entries}
 use Rattle.mtc_authority.specs.declared.work.Work.TheVariants.{Landmark, Landmarks, LightCert}
@@ -13,7 +14,7 @@ use Rattle.command_plans.specs.Plans.{changes, only_reads}
 use Rattle.mtc_plans.specs.Cited.{command_outcome}
 use Rattle.mtc_plans.specs.Commands.{planned_outcome}
 use Rattle.mtc_plans.specs.NodeKinds.{node_kinds}
-use Rattle.mtc_plans.proofs.Auditing.{audit_plans}
+use Rattle.mtc_plans.proofs.Auditing.{audit_plans, quarrel_plans}
 use Rattle.mtc_plans.proofs.Cosigners.{advance_plans, cosign_plans, export_plans}
 use Rattle.mtc_plans.proofs.Cosigners.{init_cosigner_plans}
 use Rattle.mtc_plans.proofs.Logs.{cert_plans, init_log_plans, issue_plans, work_plans}
@@ -54,5 +55,6 @@ module _ (h : HashFunction) where
       cert_plans h files journal index start end file
   outcome_planned (audit certificate store moment items kept) files =
       audit_plans (node_kinds h) h certificate store moment items kept files
+  outcome_planned (quarrel kept) files = quarrel_plans (node_kinds h) h kept files
   outcome_planned (drill number) files = drill_plans (node_kinds h) h number files
   outcome_planned (tile journal) files = work_plans h files changes journal Tile

@@ -1,19 +1,23 @@
--- The plan of `audit CERT STORE NOW ENTRIES EXPORT`.
+-- The plans of `audit CERT STORE NOW ENTRIES EXPORT` and `quarrel EXPORT`.
 use Rattle.std.specs.Prelude.{ℕ, pos, Bool, true, false, List, [], ◌∷◌, Option, None, Some}
 use Rattle.std.specs.Prelude.{Result, Ok, Err}
 use Rattle.byte_formats.specs.Types.{Hash, HashFunction, Text}
 use Rattle.cosigner_core.specs.ExportReading.{export_in}
 use Rattle.cosigner_core.specs.declared.lists.Export.{Export}
+use Rattle.cosigner_core.specs.declared.step.Step.{Step as CosignerStep}
+use Rattle.cosigner_steps.specs.Steps.{proof_inputs}
 use Rattle.entry_list.specs.Items.{ItemLists}
 use Rattle.entry_list.specs.Reading.{items_in}
 use Rattle.policy_core.specs.Files.{store_of}
 use Rattle.policy_core.specs.declared.refusal.Refusal.{Refusal}
 use Rattle.policy_core.specs.declared.store.Store.{Store}
+use Rattle.quarrel_core.specs.Conflicts.{quarrel_of}
 use Rattle.world_core.specs.Audit.{AuditCase, firsts_of, foreign_of, has_own, is_supported}
 use Rattle.world_core.specs.Audit.{seconds_of}
 use Rattle.mtc_command.specs.declared.answer.Said.TheVariants.{Against, Collided, Done}
 use Rattle.mtc_monitor.specs.AuditOutcome.{AcceptedParts, accepted_in, case_of, collision_text}
 use Rattle.mtc_monitor.specs.AuditOutcome.{foreign_text, stands_text, unrecorded_text}
+use Rattle.mtc_monitor.specs.QuarrelOutcome.{agree_text, quarrel_text}
 use Rattle.mtc_monitor.specs.Reasons.{export_fault_text, items_fault_text}
 use Rattle.mtc_reads.specs.Reasons.{store_fault_text}
 use Rattle.command_plans.specs.Kinds.{Kinds}
@@ -58,4 +62,30 @@ audit_plan h cert store moment entries export = record {
   inputs = small_file cert ∷ (small_file store ∷ (large_file entries ∷ (large_file export ∷ [])));
   journals = [];
   steps = λ (c, (s, (e, (x, none)))). audit_step h moment c s e x;
+}
+
+-- ---- quarrel EXPORT
+
+-- The keys of the first two signatures in conflict, and any two different strings with one hash,
+-- both hashed in the opening of the steps' proofs; or that the signatures agree.
+abbrev pub quarrel_judged_by : HashFunction → List CosignerStep → Option (ℕ × ℕ) → Judged
+quarrel_judged_by h steps None = prints Done agree_text
+quarrel_judged_by h steps (Some keys) =
+    prints_pair Collided h (quarrel_text keys) (proof_inputs h steps) (proof_inputs h steps)
+
+-- The same of an export; one of no bytes has no steps.
+abbrev pub quarrel_judged : HashFunction → Option Export → Judged
+quarrel_judged h None = prints Done agree_text
+quarrel_judged h (Some kept) = quarrel_judged_by h kept.steps (quarrel_of kept.steps)
+
+abbrev pub quarrel_step : {k : Kinds} {inputs : List Input} → HashFunction → Read inputs
+    → Step {k = k} inputs []
+quarrel_step h export = in_form export export_fault_text (export_in h export.text) (λ kept.
+    only_prints (quarrel_judged h kept))
+
+abbrev pub quarrel_plan : {k : Kinds} → HashFunction → Text → Plan k
+quarrel_plan h export = record {
+  inputs = large_file export ∷ [];
+  journals = [];
+  steps = λ (x, none). quarrel_step h x;
 }

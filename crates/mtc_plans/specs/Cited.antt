@@ -5,6 +5,7 @@ use Rattle.mtc_words.specs.Commands.{CommandValue, member, show, verify, init_lo
 use Rattle.mtc_words.specs.Commands.{checkpoint, entries, consist, subtree, keygen}
 use Rattle.mtc_words.specs.Commands.{init_cosigner, advance, cosign, export, landmark, landmarks}
 use Rattle.mtc_words.specs.Commands.{light_cert, trust_landmarks, cert, audit, drill, tile}
+use Rattle.mtc_words.specs.Commands.{quarrel}
 use Rattle.mtc_command.specs.Answers.{tiles_name}
 use Rattle.mtc_command.specs.Steps.{Files, Outcome}
 use Rattle.mtc_cosigner.specs.InitOutcome.{init_cosigner_outcome}
@@ -20,6 +21,7 @@ use Rattle.mtc_authority.specs.declared.work.Work.TheVariants.{Checkpoint, Entri
 use Rattle.mtc_authority.specs.declared.work.Work.TheVariants.{Subtree}
 use Rattle.mtc_authority.specs.declared.work.Work.TheVariants.{Landmark, Landmarks, LightCert, Tile}
 use Rattle.mtc_monitor.specs.AuditOutcome.{audit_outcome}
+use Rattle.mtc_monitor.specs.QuarrelOutcome.{quarrel_outcome}
 use Rattle.mtc_monitor.specs.TrustOutcome.{trust_outcome}
 use Rattle.mtc_reads.specs.MemberOutcome.{member_outcome}
 use Rattle.mtc_reads.specs.ShowOutcome.{show_outcome}
@@ -55,5 +57,6 @@ command_outcome h (trust_landmarks list active items) = trust_outcome h list act
 command_outcome h (cert journal index start end file) = cert_outcome h journal index start end file
 command_outcome h (audit certificate store moment items kept) =
     audit_outcome h certificate store moment items kept
+command_outcome h (quarrel kept) = quarrel_outcome h kept
 command_outcome h (drill number) = λ files. drill_outcome number
 command_outcome h (tile journal) = outcome_on_log h journal Tile

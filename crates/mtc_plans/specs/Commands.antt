@@ -4,13 +4,14 @@ use Rattle.mtc_words.specs.Commands.{CommandValue, member, show, verify, init_lo
 use Rattle.mtc_words.specs.Commands.{checkpoint, entries, consist, subtree, keygen}
 use Rattle.mtc_words.specs.Commands.{init_cosigner, advance, cosign, export, landmark, landmarks}
 use Rattle.mtc_words.specs.Commands.{light_cert, trust_landmarks, cert, audit, drill, tile}
+use Rattle.mtc_words.specs.Commands.{quarrel}
 use Rattle.mtc_command.specs.Steps.{Files, Outcome}
 use Rattle.mtc_authority.specs.declared.work.Work.TheVariants.{Checkpoint, Consist, Entries}
 use Rattle.mtc_authority.specs.declared.work.Work.TheVariants.{Landmark, Landmarks, LightCert}
 use Rattle.mtc_authority.specs.declared.work.Work.TheVariants.{Subtree, Tile}
 use Rattle.command_plans.specs.Outcomes.{outcome_of}
 use Rattle.command_plans.specs.Plans.{Plan, changes, only_reads}
-use Rattle.mtc_plans.specs.AuditPlans.{audit_plan}
+use Rattle.mtc_plans.specs.AuditPlans.{audit_plan, quarrel_plan}
 use Rattle.mtc_plans.specs.CosignerPlans.{advance_plan, cosign_plan, export_plan}
 use Rattle.mtc_plans.specs.CosignerPlans.{init_cosigner_plan}
 use Rattle.mtc_plans.specs.LogPlans.{cert_plan, init_log_plan, issue_plan, work_plan}
@@ -43,6 +44,7 @@ plan_of h (trust_landmarks list active items) = trust_plan h list active items
 plan_of h (cert journal index start end file) = cert_plan h journal index start end file
 plan_of h (audit certificate store moment items kept) =
     audit_plan h certificate store moment items kept
+plan_of h (quarrel kept) = quarrel_plan h kept
 plan_of h (drill number) = drill_plan number
 plan_of h (tile journal) = work_plan h changes journal Tile
 

@@ -29,6 +29,7 @@ use mtc_cosigner::requests::{advance, cosign};
 use mtc_drill::drill;
 use mtc_io::Sink;
 use mtc_monitor::audit::audit;
+use mtc_monitor::quarrel::quarrel;
 use mtc_monitor::trust::trust_landmarks as trust;
 use mtc_reads::member::member;
 use mtc_reads::show::show;
@@ -93,6 +94,7 @@ fn perform<'a, H: TreeHash, R: Room>(
         Command::Audit(cert, store, now, entries, export) => {
             audit::<H, R>(alloc, room, cert, store, now, entries, export)
         }
+        Command::Quarrel(export) => quarrel::<H, R>(alloc, room, export),
         Command::Drill(number) => drill::<H>(alloc, number),
         Command::Tile(log) => on_log::<H, R>(alloc, room, log, Work::Tile),
     }

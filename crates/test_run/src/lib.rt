@@ -52,6 +52,8 @@ mod marks;
 #[cfg(test)]
 mod one_file;
 #[cfg(test)]
+mod quarrels;
+#[cfg(test)]
 mod scripts;
 #[cfg(test)]
 mod texts;

@@ -9,7 +9,7 @@ use Rattle.cosigner_core.specs.declared.error.ReadExportError.TheVariants.{Memor
 use Rattle.cosigner_core.specs.declared.lists.Export.{Export}
 use Rattle.cosigner_steps.specs.Steps.{AreSteps}
 use Rattle.cosigner_steps.proofs.Exported.{export_steps}
-use Rattle.mtc_monitor.proofs.audit.kept_in.Goals as goal
+use Rattle.mtc_monitor.proofs.exported.kept_in.Goals as goal
 
 allowed : (h : HashFunction) (bytes : Text) (read : Result (Option Export) ReadExportError)
     → IsBytes bytes → Answers NoCapacity (export_in h bytes) read
