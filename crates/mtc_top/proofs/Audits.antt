@@ -156,7 +156,7 @@ counted_so store set e id key cosigner public has =
     ((bytes_eq-Decides has.known.key e.public).1 (has.key_is ∙ sym public))))
 
 -- what went out, as the model knows it, is what was printed
-printed_text : (old new : Option (List ℕ)) (before kept text : List ℕ) → old ≡ Some before
+pub printed_text : (old new : Option (List ℕ)) (before kept text : List ℕ) → old ≡ Some before
     → new ≡ Some (before ++ kept) → Appends old new text → kept ≡ text
 printed_text None new before kept text was is prints =
     let wrong : None ≡ Some before = was in absurd cc

@@ -9,6 +9,7 @@ pub mod CourseLaws
 pub mod RoomLaws
 pub mod ExportLaws
 pub mod AuditLaws
+pub mod QuarrelLaws
 pub mod PrintLaws
 pub mod StatusLaws
 pub mod WordsOutcome

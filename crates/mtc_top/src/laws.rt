@@ -2,6 +2,7 @@
 //! do nothing.
 
 ghost use Rattle.mtc_top.specs.AuditLaws.{AuditsSettle, AuditsStand};
+ghost use Rattle.mtc_top.specs.QuarrelLaws.{TwoSignaturesCollide};
 ghost use Rattle.mtc_top.specs.CourseLaws.{AddedEntriesStand, CoursesAreHistories, EntriesStand};
 ghost use Rattle.mtc_top.specs.CourseLaws.{ReleasedStand, ReleasedWasHeld, JournalsAreOfParties};
 ghost use Rattle.mtc_top.specs.CourseLaws.{JournalsAreRead};
@@ -129,6 +130,15 @@ pub fn law_exports_only_grow<H: TreeHash, R: Room, O: Sink, E: Sink>()
 pub fn law_audits_stand<H: TreeHash, R: Room, O: Sink, E: Sink>()
     ensures settle { AuditsSettle H.hash R.Room R.Dsk.Disk O.Sink E.Sink }
     ensures stand { AuditsStand H.hash R.Room R.Dsk.Disk O.Sink E.Sink }
+{}
+
+/// A cosigner that signed twice convicts itself. Let runs of an execution of its journal have found
+/// or added the records of two signatures of one interval with different hashes, and let the export
+/// file be what a run of `export` with status 0 printed after it. Then a run of `quarrel` over that
+/// file prints two numbers of keys and two different strings with one hash, with status 10. Or it
+/// ends with status 5, 6 or 8.
+pub fn law_two_signatures_collide<H: TreeHash, R: Room, O: Sink, E: Sink>()
+    ensures { TwoSignaturesCollide H.hash R.Room R.Dsk.Disk O.Sink E.Sink }
 {}
 
 /// From the first byte on that may have gone out of `issue` or `cosign`, and with status 0, its

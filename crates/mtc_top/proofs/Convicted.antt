@@ -1,0 +1,109 @@
+-- A run of `quarrel` over the export of a cosigner that signed one interval with two hashes.
+use Rattle.std.proofs.Common.{◌≡◌, inl, ℕ, List, Option, Some, Result, Ok, refl, sym, subst, ap}
+use Rattle.std.proofs.Common.{◌∙◌}
+use Rattle.byte_formats.specs.Places.{IsBytes}
+use Rattle.byte_formats.specs.Types.{HashFunction}
+use Rattle.disk_core.specs.declared.disk.Disk.{Ghosts as Disks}
+use Rattle.mtc_io.specs.declared.sink.Sink.{Ghosts as Sinks}
+use Rattle.mtc_room.specs.Room.{ModelsFile}
+use Rattle.mtc_room.specs.declared.room.Room.{Ghosts as Rooms}
+use Rattle.mtc_words.specs.Commands.{CommandValue, quarrel}
+use Rattle.mtc_words.specs.Words.{known_word}
+use Rattle.mtc_words.specs.declared.error.WordError.{WordError}
+use Rattle.cosigner_core.specs.ExportReading.{export_in}
+use Rattle.cosigner_core.specs.declared.error.ReadExportError.{ReadExportError}
+use Rattle.cosigner_core.specs.declared.lists.Export.{Export}
+use Rattle.cosigner_core.specs.declared.step.Step.{Step}
+use Rattle.cosigner_core.specs.declared.step.Step.TheVariants.{Sign}
+use Rattle.quarrel_core.proofs.FoundSigns.{HasQuarrel, signs_found}
+use Rattle.mtc_plans.proofs.Planned.{outcome_planned}
+use Rattle.node_history.specs.declared.start.NodeStart.TheVariants.{Cosigner}
+use Rattle.mtc_command.specs.Answers.{Reply, said, refused, out_of, status_of}
+use Rattle.mtc_command.specs.Steps.{Files, Outcome, with_form}
+use Rattle.mtc_command.specs.Wanted.{Meets}
+use Rattle.mtc_command.proofs.Inputs.{bytes_read}
+use Rattle.mtc_command.proofs.Made.{OnlyNow, ReadsImage}
+use Rattle.mtc_monitor.specs.QuarrelOutcome.{quarrel_by, quarrel_kept, quarrel_outcome}
+use Rattle.mtc_monitor.specs.QuarrelOutcome.{quarrel_says}
+use Rattle.mtc_monitor.specs.Reasons.{export_fault_text}
+use Rattle.mtc_top.specs.AuditLaws.{HoldsText}
+use Rattle.mtc_top.specs.Concluded.{Prints}
+use Rattle.mtc_top.specs.Courses.{Turn}
+use Rattle.mtc_top.specs.Facts.{facts}
+use Rattle.mtc_top.specs.QuarrelLaws.{Convicts, HasSignedTwice, TwoSignaturesCollide}
+use Rattle.mtc_top.proofs.Audits.{printed_text}
+use Rattle.mtc_top.proofs.Exports.{exports_hold}
+use Rattle.mtc_top.proofs.RunLaws.{done_heard}
+use Rattle.mtc_top.proofs.Runs.{answered, wrote_of}
+
+-- An export in which two signatures are in conflict.
+record IsInConflict (h : HashFunction) (text : List ℕ) : Type 0 where
+  export : Export
+  read : export_in h text ≡ Ok (Some export)
+  found : HasQuarrel export.steps
+
+-- what is asked for
+asked : (h : HashFunction) (files : Files) (kept text : List ℕ)
+    → HoldsText files kept 1073741824 text → (is : IsInConflict h text)
+    → quarrel_outcome h kept files ≡ quarrel_by h is.export.steps (Some is.found.0)
+asked h files kept text holds is =
+    bytes_read 1073741824 kept (files kept) text (quarrel_says h kept) holds.there holds.few
+    ∙ ap (λ r. with_form export_fault_text kept r (quarrel_kept h)) is.read
+    ∙ ap (quarrel_by h is.export.steps) is.found.1
+
+module _ {R S D O E : Type 0} (h : HashFunction) (rooms : Rooms R S D) (disks : Disks D)
+    (outs : Sinks O) (errs : Sinks E) (image : ReadsImage disks) (only : OnlyNow disks)
+    (contents : (room : R) (name : List ℕ) → rooms.is_modelled room
+    → ModelsFile disks.contents (rooms.file room name) (rooms.device room name))
+    (bytes : (d : D) (b : List ℕ) → disks.contents d ≡ Some b → IsBytes b) where
+  in_conflict : (kept_text : List ℕ) → HasSignedTwice h rooms disks outs errs kept_text
+      → IsInConflict h kept_text
+  in_conflict kept_text by =
+      let e = exports_hold h rooms disks outs errs image only contents bytes by.name
+      (Cosigner by.settings by.public) by.first by.begins by.old by.links by.begun by.course
+      by.settings by.public refl by.turn by.turned by.spoken
+      (done_heard by.turn.status (outs.taken by.turn.out) (outs.taken by.turn.out_after) by.done) in
+      let same = printed_text (outs.taken by.turn.out) (outs.taken by.turn.out_after) by.before
+      kept_text e.text by.contents by.printed (e.printed.whole by.done) in
+      let one = by.one_signed in
+      let other = by.other_signed in
+      record {
+        export = e.export;
+        read = ap (export_in h) same ∙ e.read;
+        found = signs_found e.export.steps one.index other.index by.start by.end by.one by.other
+            one.proof other.proof
+            (e.signed by.first one.prefix one.more one.body
+            (Sign one.index by.start by.end by.one one.proof) one.held one.signs)
+            (e.signed by.first other.prefix other.more other.body
+            (Sign other.index by.start by.end by.other other.proof) other.held other.signs)
+            by.differ;
+      }
+
+  by_reply : (turn : Turn R O E) (steps : List Step) (keys : ℕ × ℕ) (reply : Reply)
+      → Meets (quarrel_by h steps (Some keys)).answer reply → turn.status ≡ status_of reply
+      → Prints outs turn.out turn.out_after (out_of reply)
+      → Convicts h rooms disks outs errs turn
+  by_reply turn steps keys (said kind out) meets code text = record {
+    keys = keys;
+    one = meets.1.x;
+    other = meets.1.y;
+    code = code ∙ ap (λ k. status_of (said k out)) meets.0;
+    differ = meets.1.differ;
+    one_hash = meets.1.one_hash;
+    printed = subst (λ (t : List ℕ). Prints outs turn.out turn.out_after t) meets.1.is text;
+  }
+  by_reply turn steps keys (refused why file reason) meets code text = absurd meets
+
+  pub two_signatures_collide : TwoSignaturesCollide h rooms disks outs errs
+  two_signatures_collide old turn kept kept_text is_modelled run spoken holds by not5 not6 not8 =
+      let is = in_conflict kept_text by in
+      let a = answered h rooms disks outs errs turn.words old turn.room turn.out turn.out_after
+      turn.err turn.err_after turn.status run not5 not8 in
+      let wrote = wrote_of outs errs (known_word turn.words) turn.out turn.out_after turn.err
+      turn.err_after a.reply turn.status a.concludes not6 in
+      let wanted = ap (λ (q : Result CommandValue WordError). (facts h q).outcome (rooms.file old))
+      spoken ∙ sym (outcome_planned h (quarrel kept) (rooms.file old))
+      ∙ asked h (rooms.file old) kept kept_text holds is in
+      by_reply turn is.export.steps is.found.0 a.reply
+      (subst (λ (w : Outcome). Meets w.answer a.reply) wanted (a.is (inl is_modelled)))
+      wrote.code wrote.text
