@@ -293,7 +293,7 @@ module _ (has : ℕ → ℕ → Bool) where
 not_both : (b : Bool) → b ≡ true → b ≡ false → ⊥
 not_both b there missing = absurd cc
 
-none_full : (level place : ℕ) → IsFull 0 level place → ⊥
+pub none_full : (level place : ℕ) → IsFull 0 level place → ⊥
 none_full level place full =
     let power = power_pos 256 (level + 1) (omega arith) in
     let up = mul-le-mul_right {m = 1} {n = place + 1} (256 ^ (level + 1)) (omega arith) in

@@ -7,6 +7,8 @@ pub mod Issued
 pub mod Marked
 pub mod Stored
 pub mod Worked
+pub mod Plain
+pub mod Both
 pub mod Replied
 pub mod Reading
 pub mod Certified

@@ -6,6 +6,7 @@ pub mod CertOutcome
 pub mod TileOutcome
 pub mod BadTiles
 pub mod Works
+pub mod StoredTiles
 pub mod CertCommand
 pub mod IssueCommand
 pub mod NoJournal

@@ -4,8 +4,10 @@ ghost use Rattle.std.specs.Prelude.{◌≡◌, ◌+◌, ◌<◌, ◌^◌, [], �
 ghost use Rattle.byte_formats.specs.Readings.{Gives};
 ghost use Rattle.mtc_command.specs.Answers.{stop_ending, ending_of, tiles_name};
 ghost use Rattle.mtc_command.specs.Served.{HasServedBeside, OnlyReadsBeside};
+ghost use Rattle.mtc_command.specs.Stored.{StoresBeside};
 ghost use Rattle.mtc_command.specs.Valid.{KeepsValid};
 ghost use Rattle.mtc_authority.specs.NoJournal.{SparesTiles};
+ghost use Rattle.mtc_authority.specs.StoredTiles.{HasTilesOf};
 ghost use Rattle.mtc_authority.specs.Works.{IsLog, RepliesOnLog};
 ghost use Rattle.mtc_proof.specs.Proofs.{AreSignatures};
 ghost use Rattle.mtc_authority.specs.CertOutcome.{cert_ending, cert_reply, light_reply};
@@ -165,6 +167,9 @@ pub fn cert<'a, H: TreeHash, R: Room>(
         room.old room.new }
     ensures only_read { OnlyReadsBeside R.Room R.Dsk.Disk room.old room.new
         (tiles_name journal.now) }
+    ensures stores { StoresBeside (HasTilesOf H.hash) (IsLog H.hash) R.Room R.Dsk.Disk
+        room.old room.new (journal.now ∷ []) (tiles_name journal.now ∷ [])
+        (cert_outcome H.hash journal.now index start end file.now (R.file room.old)) }
     ensures spares { SparesTiles R.Room room.old room.new journal.now }
 {
     let bytes = read_input(alloc, room, file, INPUT_LIMIT)?;

@@ -4,12 +4,14 @@ ghost use Rattle.std.specs.Prelude.{◌≡◌, ◌≢◌, ◌<◌, ◌+◌, ◌^
 ghost use Rattle.issuance_log.specs.Words.{log_tiles_disk};
 ghost use Rattle.mtc_command.specs.Answers.{stop_ending, ending_of, tiles_name};
 ghost use Rattle.mtc_command.specs.Served.{HasServedBeside, OnlyReadsBeside};
+ghost use Rattle.mtc_command.specs.Stored.{StoresBeside};
 ghost use Rattle.mtc_command.specs.Valid.{KeepsValid};
 ghost use Rattle.mtc_authority.specs.NoJournal.{SparesTiles};
 ghost use Rattle.mtc_authority.specs.IssueOutcome.{field_text, issue_ending, issue_says};
 ghost use Rattle.mtc_authority.specs.IssueOutcome.{issued_text};
 ghost use Rattle.mtc_authority.specs.IssueOutcome.{request_ending};
 ghost use Rattle.mtc_authority.specs.IssueCommand.{issue_outcome};
+ghost use Rattle.mtc_authority.specs.StoredTiles.{HasTilesOf};
 ghost use Rattle.mtc_authority.specs.Works.{HasWorkedOnLog, IsLog, IsReadyLog, StaysLog};
 
 use crate::log_command::on_log;
@@ -129,6 +131,9 @@ pub fn issue<'a, H: TreeHash, R: Room>(
         (issue_outcome H.hash journal.now file.now (R.file room.old)) room.old room.new }
     ensures only_read { OnlyReadsBeside R.Room R.Dsk.Disk room.old room.new
         (tiles_name journal.now) }
+    ensures stores { StoresBeside (HasTilesOf H.hash) (IsLog H.hash) R.Room R.Dsk.Disk
+        room.old room.new (journal.now ∷ []) (tiles_name journal.now ∷ [])
+        (issue_outcome H.hash journal.now file.now (R.file room.old)) }
     ensures spares { SparesTiles R.Room room.old room.new journal.now }
 {
     let text = read_input(alloc, room, file, INPUT_LIMIT)?;

@@ -8,9 +8,11 @@ ghost use Rattle.journal_core.specs.Format.{header};
 ghost use Rattle.journal_core.specs.Opens.{HasReason, IsOfHeader};
 ghost use Rattle.mtc_command.specs.Answers.{stop_ending, ending_of, tiles_name};
 ghost use Rattle.mtc_command.specs.Served.{HasServedBeside, OnlyReadsBeside};
+ghost use Rattle.mtc_command.specs.Stored.{HasStoredOn, StoresBeside};
 ghost use Rattle.mtc_command.specs.Valid.{KeepsValid, ServesValidlyTiled};
 ghost use Rattle.mtc_command.specs.Works.{HasWorkedTiledOn};
 ghost use Rattle.mtc_authority.specs.NoJournal.{HasReadHeader, SparesTiles};
+ghost use Rattle.mtc_authority.specs.StoredTiles.{HasTilesOf};
 ghost use Rattle.mtc_authority.specs.Works.{IsLog, log_bytes_say, log_outcome, log_open_ending};
 ghost use Rattle.mtc_authority.specs.declared.work.Work.TheVariants.{Tile};
 
@@ -98,6 +100,9 @@ fn on_devices<'a, H: TreeHash, D: Disk>(
         → ServesValidlyTiled D.Disk (IsLog H.hash) (log_bytes_say H.hash journal.now work)
         opened result.0 tiles }
     ensures only_read { work ≢ Tile → OnlyReads D.Disk tiles result.1 }
+    ensures stores { (opened : D) → OnlyReads D.Disk opened disk
+        → HasStoredOn (HasTilesOf H.hash) (IsLog H.hash) D.Disk
+        (log_bytes_say H.hash journal.now work) opened result.0 tiles result.1 }
 {
     match Log::<H, D, D>::open(alloc, disk, tiles, pool) {
         Ok(mut log) => {
@@ -138,6 +143,11 @@ fn on_open_journal<'a, H: TreeHash, R: Room>(
     ensures only_read { work ≢ Tile → (old : R)
         → HasReadHeader R.Room R.Dsk.Disk journal.now old room.old disk
         → OnlyReadsBeside R.Room R.Dsk.Disk old room.new (tiles_name journal.now) }
+    ensures stores { (old : R) → HasReadHeader R.Room R.Dsk.Disk journal.now old room.old disk
+        → StoresBeside (HasTilesOf H.hash) (IsLog H.hash) R.Room R.Dsk.Disk old room.new
+        (journal.now ∷ []) (tiles_name journal.now ∷ [])
+        (log_outcome H.hash journal.now (R.file old journal.now)
+        (R.file old (tiles_name journal.now)) work) }
 {
     match open_tiles(room, journal, name) {
         Ok(tiles) => {
@@ -178,6 +188,10 @@ fn on_journal<'a, H: TreeHash, R: Room>(
         (R.file room.old (tiles_name journal.now)) work) room.old room.new }
     ensures only_read { work ≢ Tile
         → OnlyReadsBeside R.Room R.Dsk.Disk room.old room.new (tiles_name journal.now) }
+    ensures stores { StoresBeside (HasTilesOf H.hash) (IsLog H.hash) R.Room R.Dsk.Disk
+        room.old room.new (journal.now ∷ []) (tiles_name journal.now ∷ [])
+        (log_outcome H.hash journal.now (R.file room.old journal.now)
+        (R.file room.old (tiles_name journal.now)) work) }
     ensures spares { SparesTiles R.Room room.old room.new journal.now }
 {
     let mut disk = open_file(room, journal)?;
@@ -211,6 +225,10 @@ pub fn on_log<'a, H: TreeHash, R: Room>(
         (R.file room.old (tiles_name journal.now)) work) room.old room.new }
     ensures only_read { work ≢ Tile
         → OnlyReadsBeside R.Room R.Dsk.Disk room.old room.new (tiles_name journal.now) }
+    ensures stores { StoresBeside (HasTilesOf H.hash) (IsLog H.hash) R.Room R.Dsk.Disk
+        room.old room.new (journal.now ∷ []) (tiles_name journal.now ∷ [])
+        (log_outcome H.hash journal.now (R.file room.old journal.now)
+        (R.file room.old (tiles_name journal.now)) work) }
     ensures spares { SparesTiles R.Room room.old room.new journal.now }
 {
     let name = tiles_name(alloc, journal)?;

@@ -2,6 +2,7 @@
 
 ghost use Rattle.std.specs.Prelude.{◌≡◌, ◌/◌, ◌*◌, IfOk};
 ghost use Rattle.mtc_command.specs.Answers.{ending_of, stop_ending};
+ghost use Rattle.mtc_authority.specs.StoredTiles.{StoresLog};
 ghost use Rattle.mtc_authority.specs.TileOutcome.{MayRefuseTiles, tile_says, tiled_line};
 ghost use Rattle.mtc_authority.specs.TileOutcome.{tiles_ending};
 ghost use Rattle.mtc_authority.specs.Works.{HasWorkedOnLog, IsReadyLog, StaysLog};
@@ -45,7 +46,8 @@ fn refuse_tiles<'a>(journal: &'a str, why: LogError) -> Stop<'a>
 }
 
 /// The work of `tile J`. The text is made before the tiles are stored, so that nothing takes memory
-/// after the append.
+/// after the append. At any time a crash leaves the tiles that go with the records: those of the
+/// last size, and those of the new one if it leaves its record.
 pub fn tile_on<'a, H: TreeHash, D: Disk>(
     alloc: Global,
     journal: &'a str,
@@ -54,6 +56,7 @@ pub fn tile_on<'a, H: TreeHash, D: Disk>(
     requires { IsReadyLog log.old }
     ensures works { HasWorkedOnLog journal.now tile_says log.old log.new (ending_of result) }
     ensures valid { StaysLog H.hash tile_says log.old log.new }
+    ensures stores { StoresLog tile_says log.old log.new }
 {
     log.law_unrefused_records_are_taken();
     let text = text_of_tiles(alloc, log.size() / TILE * TILE)?;

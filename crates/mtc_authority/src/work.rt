@@ -1,6 +1,7 @@
 //! The work of a command on a log whose journal is open: its own refusals, its text, and at most
 //! one append, which is its last step.
 
+ghost use Rattle.mtc_authority.specs.StoredTiles.{StoresTiles};
 ghost use Rattle.mtc_authority.specs.Works.{HasWorkedOnLog, IsReadyLog, OnlyReadsTiles, StaysLog};
 ghost use Rattle.mtc_authority.specs.Works.{log_says};
 ghost use Rattle.mtc_command.specs.Answers.{ending_of};
@@ -60,6 +61,7 @@ pub fn carry_out<'a, H: TreeHash, D: Disk>(
         (ending_of result) }
     ensures valid { StaysLog H.hash (log_says H.hash work) log.old log.new }
     ensures only_read { OnlyReadsTiles work log.old log.new }
+    ensures stores { StoresTiles work log.old log.new }
 {
     match work {
         Work::Checkpoint => checkpoint(alloc, journal, log),

@@ -2,8 +2,10 @@ use Rattle.std.proofs.Common.{[], ◌∷◌, inl, inr, refl}
 use Rattle.std.proofs.lemmas.Result.{err_from_is_err_and}
 use Rattle.mtc_command.specs.Answers.{ending_of, tiles_name}
 use Rattle.mtc_command.proofs.Served.{behind, beside}
+use Rattle.mtc_command.proofs.Stored.{behind_stored, kept_stored}
 use Rattle.mtc_command.proofs.Valid.{behind_valid, kept_valid}
 use Rattle.mtc_authority.specs.CertCommand.{cert_outcome, signed_says}
+use Rattle.mtc_authority.specs.StoredTiles.{HasTilesOf}
 use Rattle.mtc_authority.specs.Works.{IsLog, log_outcome}
 use Rattle.mtc_authority.specs.declared.work.Work.TheVariants.{Cert}
 use Rattle.mtc_authority.proofs.Certified.{signed_so}
@@ -116,3 +118,42 @@ pub returns-in-Err-clause-spares : goal.returns-in-Err-clause-spares
 returns-in-Err-clause-spares g c =
     spared_kept g.R.Room c.args.journal.now c.args.room.now c.read_input.new.room
     c.in_ok-bytes.ensures.settled
+
+pub returns-in_err-bytes-clause-stores : goal.returns-in_err-bytes-clause-stores
+returns-in_err-bytes-clause-stores g c =
+    let h = g.H.TreeHash.hash in
+    let journal = c.args.journal.now in
+    kept_stored (HasTilesOf h) (IsLog h) g.R.Room g.R.Dsk.Disk (journal ∷ [])
+    (tiles_name journal ∷ []) (cert_outcome h journal c.args.index c.args.start c.args.end
+    c.args.file.now (g.R.Room.file c.args.room.now)) c.args.room.now c.read_input.new.room
+    c.in_err-bytes.ensures.settled g.met.R.Dsk.Disk.only_now
+
+pub returns-in-Ok-clause-stores : goal.returns-in-Ok-clause-stores
+returns-in-Ok-clause-stores g c =
+    let h = g.H.TreeHash.hash in
+    let rooms = g.R.Room in
+    let journal = c.args.journal.now in
+    let tiles = tiles_name journal in
+    let file = c.args.file.now in
+    let old = c.args.room.now in
+    let mid = c.read_input.new.room in
+    let read = c.in_ok-bytes.ensures in
+    behind_stored (HasTilesOf h) (IsLog h) rooms g.R.Dsk.Disk (journal ∷ []) (tiles ∷ [])
+    (cert_outcome h journal c.args.index c.args.start c.args.end file (rooms.file old))
+    (log_outcome h journal (rooms.file mid journal) (rooms.file mid tiles)
+    (Cert c.args.index c.args.start c.args.end c.in-Ok.signatures)) old mid
+    c.on_log.new.room read.settled
+    (λ t. signed_so h journal c.args.index c.args.start c.args.end file (rooms.file old)
+    c.in_ok-bytes.bytes (read.bytes t).0 (read.bytes t).1 (rooms.file mid journal)
+    (rooms.file mid tiles) c.in-Ok.signatures c.in-Ok.ensures
+    (read.settled.others journal tt).bytes (read.settled.others tiles tt).bytes)
+    c.on_log.ensures.stores
+
+pub returns-in-Err-clause-stores : goal.returns-in-Err-clause-stores
+returns-in-Err-clause-stores g c =
+    let h = g.H.TreeHash.hash in
+    let journal = c.args.journal.now in
+    kept_stored (HasTilesOf h) (IsLog h) g.R.Room g.R.Dsk.Disk (journal ∷ [])
+    (tiles_name journal ∷ []) (cert_outcome h journal c.args.index c.args.start c.args.end
+    c.args.file.now (g.R.Room.file c.args.room.now)) c.args.room.now c.read_input.new.room
+    c.in_ok-bytes.ensures.settled g.met.R.Dsk.Disk.only_now

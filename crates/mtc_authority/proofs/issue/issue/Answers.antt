@@ -7,8 +7,10 @@ use Rattle.authority_core.specs.declared.requests.error.RequestError.TheVariants
 use Rattle.mtc_command.specs.Answers.{Ending, ending_of, tiles_name}
 use Rattle.mtc_command.specs.Served.{HasServedBeside}
 use Rattle.mtc_command.proofs.Served.{behind, beside}
+use Rattle.mtc_command.proofs.Stored.{behind_stored, kept_stored}
 use Rattle.mtc_command.proofs.Valid.{behind_valid, kept_valid}
 use Rattle.mtc_authority.specs.IssueCommand.{issue_outcome, request_says}
+use Rattle.mtc_authority.specs.StoredTiles.{HasTilesOf}
 use Rattle.mtc_authority.specs.Works.{IsLog, log_outcome}
 use Rattle.mtc_authority.specs.declared.work.Work.TheVariants.{Issue}
 use Rattle.mtc_authority.proofs.OnlyRead.{only_read_behind, only_read_kept}
@@ -140,3 +142,44 @@ pub returns-clause-spares : goal.returns-clause-spares
 returns-clause-spares g c =
     spared_kept g.R.Room c.args.journal.now c.args.room.now c.read_input.new.room
     c.in_ok-text.ensures.settled
+
+pub returns-in_err-text-clause-stores : goal.returns-in_err-text-clause-stores
+returns-in_err-text-clause-stores g c =
+    let h = g.H.TreeHash.hash in
+    let journal = c.args.journal.now in
+    kept_stored (HasTilesOf h) (IsLog h) g.R.Room g.R.Dsk.Disk (journal ∷ [])
+    (tiles_name journal ∷ [])
+    (issue_outcome h journal c.args.file.now (g.R.Room.file c.args.room.now)) c.args.room.now
+    c.read_input.new.room c.in_err-text.ensures.settled g.met.R.Dsk.Disk.only_now
+
+pub returns-in-Ok-clause-stores : goal.returns-in-Ok-clause-stores
+returns-in-Ok-clause-stores g c =
+    let h = g.H.TreeHash.hash in
+    let rooms = g.R.Room in
+    let journal = c.args.journal.now in
+    let tiles = tiles_name journal in
+    let file = c.args.file.now in
+    let old = c.args.room.now in
+    let mid = c.read_input.new.room in
+    let read = c.in_ok-text.ensures in
+    let is : request_of c.in_ok-text.text ≡ Ok c.in-Ok.request =
+    subst (λ (t : Text). request_of t ≡ Ok c.in-Ok.request) c.as_slice.ensures
+    c.in-Ok.ensures.exact in
+    behind_stored (HasTilesOf h) (IsLog h) rooms g.R.Dsk.Disk (journal ∷ []) (tiles ∷ [])
+    (issue_outcome h journal file (rooms.file old))
+    (log_outcome h journal (rooms.file mid journal) (rooms.file mid tiles)
+    (Issue c.in-Ok.request)) old mid
+    c.on_log.new.room read.settled
+    (λ t. asked_so h journal file (rooms.file old) c.in_ok-text.text (read.bytes t).0
+    (read.bytes t).1 (rooms.file mid journal) (rooms.file mid tiles) c.in-Ok.request is
+    (read.settled.others journal tt).bytes (read.settled.others tiles tt).bytes)
+    c.on_log.ensures.stores
+
+pub returns-clause-stores : goal.returns-clause-stores
+returns-clause-stores g c =
+    let h = g.H.TreeHash.hash in
+    let journal = c.args.journal.now in
+    kept_stored (HasTilesOf h) (IsLog h) g.R.Room g.R.Dsk.Disk (journal ∷ [])
+    (tiles_name journal ∷ [])
+    (issue_outcome h journal c.args.file.now (g.R.Room.file c.args.room.now)) c.args.room.now
+    c.read_input.new.room c.in_ok-text.ensures.settled g.met.R.Dsk.Disk.only_now

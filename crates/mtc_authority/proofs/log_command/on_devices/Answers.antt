@@ -6,19 +6,24 @@ use Rattle.disk_core.specs.Moments.{OnlyReads}
 use Rattle.disk_core.specs.declared.disk.Disk.{Ghosts}
 use Rattle.journal_core.specs.Format.{Represents, records_of}
 use Rattle.journal_core.specs.Words.{AllRepresent}
-use Rattle.issuance_log.specs.Folds.{LogState}
+use Rattle.issuance_log.specs.Folds.{LogState, log_of}
 use Rattle.issuance_log.specs.Openings.{HasItsTiles, log_read}
 use Rattle.issuance_log.specs.Shown.{shown_with}
 use Rattle.issuance_log.specs.Words.{log_disk, log_records, log_tiles_disk, view_of}
 use Rattle.mtc_command.specs.Answers.{Ending, ending_of}
+use Rattle.mtc_command.specs.Made.{IsOpen}
 use Rattle.mtc_command.specs.Steps.{Outcome}
+use Rattle.mtc_command.specs.Stored.{HasStoredBoth}
 use Rattle.mtc_command.specs.Valid.{ServesValidly, WorksValidly}
-use Rattle.mtc_command.specs.Works.{HasWorkedTiled, HasWorkedTiledOn}
+use Rattle.mtc_command.specs.Works.{HasWorkedTiled, HasWorkedTiledOn, journaled_by}
 use Rattle.mtc_command.proofs.Beside.{only_reads_of}
+use Rattle.mtc_command.proofs.Stored.{read_both, stored_on}
 use Rattle.mtc_command.proofs.Tiled.{tiled_on, valid_tiled_on}
 use Rattle.disk_core.proofs.Moments.{only_read_on}
+use Rattle.mtc_authority.specs.StoredTiles.{HasTilesOf, StoresLog}
 use Rattle.mtc_authority.specs.Works.{IsLog, log_bytes_say, found_log, log_says}
 use Rattle.mtc_authority.specs.declared.work.Work.{Work}
+use Rattle.mtc_authority.proofs.Both.{log_stores}
 use Rattle.mtc_authority.proofs.Opened.{IsFoundBeside, found_tiles, refused_says}
 use Rattle.mtc_authority.proofs.log_command.on_devices.Goals as goal
 
@@ -131,3 +136,58 @@ returns-in-Ok-clause-only_read g c = λ other.
 
 pub returns-in-Err-clause-only_read : goal.returns-in-Err-clause-only_read
 returns-in-Err-clause-only_read g c = λ other. c.in-Err.ensures.refused.only_reads_tiles
+
+-- The work was done on a log whose records make it.
+stored_by : {D : Type 0} (g : Ghosts D) (h : HashFunction) (says : List Text → Outcome)
+    (mid new tiles tiles' : D) (contents : Option Text) (list : Option (List Text))
+    (state : List Text → LogState) → IfSome list (λ l. log_of h l ≡ Ok (state l))
+    → IfSome (option_and_then (λ bytes. list) contents) (λ l. IsOpen g mid l
+    → log_of h l ≡ Ok (state l)
+    → HasStoredBoth (HasTilesOf h) (IsLog h) g (journaled_by (says l)) mid new tiles tiles')
+    → IfSome (option_and_then (λ bytes. list) contents) (λ l. IsOpen g mid l
+    → HasStoredBoth (HasTilesOf h) (IsLog h) g (journaled_by (says l)) mid new tiles tiles')
+stored_by g h says mid new tiles tiles' None list state made stores = tt
+stored_by g h says mid new tiles tiles' (Some bytes) None state made stores = tt
+stored_by g h says mid new tiles tiles' (Some bytes) (Some l) state made stores =
+    λ opened. stores opened made
+
+pub returns-in-Ok-clause-stores : goal.returns-in-Ok-clause-stores
+returns-in-Ok-clause-stores g c = λ opened first.
+    let d = g.D.Disk in
+    let h = g.H.TreeHash.hash in
+    let name = c.args.journal.now in
+    let log = c.in-Ok.log in
+    let later = c.carry_out-answer.new.log in
+    let new = log_disk later in
+    let tiles = log_tiles_disk log in
+    let tiles' = log_tiles_disk later in
+    let next : List Text → Outcome =
+    λ list. log_says h c.args.work (found_log (shown_with (view_of log) list) list) in
+    let is = c.in-Ok.ensures.opened in
+    let found = found_since d h name c.args.work opened c.args.disk (log_disk log) c.args.tiles
+    (log_records log) (shown_with (view_of log)) first is.list is.found is.tiles is.stands is.all in
+    let did = c.carry_out-answer.ensures in
+    let stores = log_stores name log later g.met.D.Disk.only_now c.args.work
+    (ending_of c.carry_out-answer.result) did.works did.valid did.only_read did.stores
+    c.law_sound.ensures.items in
+    rw (c.into_disks-disk.ensures.journal, c.into_disks-disk.ensures.tiles) (stored_on
+    (HasTilesOf h) (IsLog h) d name (log_bytes_say h name c.args.work) next opened
+    (log_disk log) new c.args.tiles tiles tiles'
+    (only_read_on d opened c.args.disk (log_disk log) first is.only_reads) is.only_reads_tiles
+    found.contents found.stands found.all
+    (subst (λ (o : Option (List Text)). IfSome (option_and_then (λ bytes. o) (d.contents tiles))
+    (λ l. IsOpen d (log_disk log) l
+    → HasStoredBoth (HasTilesOf h) (IsLog h) d (journaled_by (next l)) (log_disk log) new tiles
+    tiles')) is.list
+    (stored_by d h next (log_disk log) new tiles tiles' (d.contents tiles) (log_records log)
+    (shown_with (view_of log)) is.valid stores)))
+
+pub returns-in-Err-clause-stores : goal.returns-in-Err-clause-stores
+returns-in-Err-clause-stores g c = λ opened first.
+    let d = g.D.Disk in
+    let h = g.H.TreeHash.hash in
+    let disk = c.in-Err.field-0.disk in
+    read_both (HasTilesOf h) (IsLog h) d (log_bytes_say h c.args.journal.now c.args.work) opened
+    disk c.args.tiles c.in-Err.field-0.tiles
+    (only_read_on d opened c.args.disk disk first c.in-Err.ensures.refused.only_reads)
+    c.in-Err.ensures.refused.only_reads_tiles

@@ -10,8 +10,10 @@ use Rattle.mtc_command.specs.Steps.{held_in}
 use Rattle.mtc_command.proofs.Beside.{longer_other}
 use Rattle.mtc_command.proofs.Made.{still}
 use Rattle.mtc_command.proofs.Served.{beside}
+use Rattle.mtc_command.proofs.Stored.{header_stored, kept_stored}
 use Rattle.mtc_command.proofs.Valid.{kept_valid, served_valid}
 use Rattle.mtc_command.proofs.Works.{served}
+use Rattle.mtc_authority.specs.StoredTiles.{HasTilesOf}
 use Rattle.mtc_authority.specs.Works.{IsLog, log_bytes_say, log_open_ending, log_outcome}
 use Rattle.mtc_authority.proofs.OnlyRead.{is_journal, spared_kept}
 use Rattle.mtc_authority.proofs.Opened.{header_says}
@@ -136,3 +138,31 @@ pub returns-in_err-disk-clause-spares : goal.returns-in_err-disk-clause-spares
 returns-in_err-disk-clause-spares g c =
     spared_kept g.R.Room c.args.journal.now c.args.room.now c.open_file.new.room
     c.in_err-disk.ensures.refused
+
+pub returns-in-Ok-clause-stores : goal.returns-in-Ok-clause-stores
+returns-in-Ok-clause-stores g c = c.on_open_journal.ensures.stores c.args.room.now (record {
+  lent = c.in_ok-disk.disk;
+  opened = c.in_ok-disk.ensures.opened;
+  only_reads = c.read_header.ensures.only_reads;
+  fine = c.in-Ok.ensures.fine;
+})
+
+pub returns-in-Err-clause-stores : goal.returns-in-Err-clause-stores
+returns-in-Err-clause-stores g c =
+    let h = g.H.TreeHash.hash in
+    let name = c.args.journal.now in
+    let old = c.args.room.now in
+    header_stored (HasTilesOf h) (IsLog h) g.R.Room g.R.Dsk.Disk name
+    (log_outcome h name (g.R.Room.file old name)
+    (g.R.Room.file old (tiles_name name)) c.args.work) old c.open_file.new.room c.close.new.room
+    c.in_ok-disk.disk c.read_header.new.disk c.in_ok-disk.ensures.opened c.close.ensures
+    c.read_header.ensures.only_reads g.met.R.Dsk.Disk.only_now
+
+pub returns-in_err-disk-clause-stores : goal.returns-in_err-disk-clause-stores
+returns-in_err-disk-clause-stores g c =
+    let h = g.H.TreeHash.hash in
+    let name = c.args.journal.now in
+    kept_stored (HasTilesOf h) (IsLog h) g.R.Room g.R.Dsk.Disk (name ∷ []) (tiles_name name ∷ [])
+    (log_outcome h name (g.R.Room.file c.args.room.now name)
+    (g.R.Room.file c.args.room.now (tiles_name name)) c.args.work) c.args.room.now
+    c.open_file.new.room c.in_err-disk.ensures.refused g.met.R.Dsk.Disk.only_now

@@ -2,7 +2,9 @@ use Rattle.std.proofs.Common.{[], ◌∷◌, ◌∙◌}
 use Rattle.std.proofs.lemmas.Result.{err_from_is_err_and}
 use Rattle.mtc_command.specs.Answers.{no_memory, tiles_name}
 use Rattle.mtc_command.proofs.Served.{stopped}
+use Rattle.mtc_command.proofs.Stored.{kept_stored}
 use Rattle.mtc_command.proofs.Valid.{gives_same, same_valid}
+use Rattle.mtc_authority.specs.StoredTiles.{HasTilesOf}
 use Rattle.mtc_authority.specs.Works.{IsLog, log_outcome}
 use Rattle.mtc_authority.proofs.OnlyRead.{only_read_kept, spared_kept}
 use Rattle.mtc_authority.proofs.log_command.on_log.Goals as goal
@@ -82,3 +84,24 @@ returns-in_err-pool-clause-spares g c =
 
 pub returns-clause-spares : goal.returns-clause-spares
 returns-clause-spares g c = c.on_journal.ensures.spares
+
+pub returns-in_err-name-clause-stores : goal.returns-in_err-name-clause-stores
+returns-in_err-name-clause-stores g c =
+    let h = g.H.TreeHash.hash in
+    let name = c.args.journal.now in
+    kept_stored (HasTilesOf h) (IsLog h) g.R.Room g.R.Dsk.Disk (name ∷ []) (tiles_name name ∷ [])
+    (log_outcome h name (g.R.Room.file c.args.room.now name)
+    (g.R.Room.file c.args.room.now (tiles_name name)) c.args.work) c.args.room.now
+    c.args.room.now (gives_same g.R.Room c.args.room.now) g.met.R.Dsk.Disk.only_now
+
+pub returns-in_err-pool-clause-stores : goal.returns-in_err-pool-clause-stores
+returns-in_err-pool-clause-stores g c =
+    let h = g.H.TreeHash.hash in
+    let name = c.args.journal.now in
+    kept_stored (HasTilesOf h) (IsLog h) g.R.Room g.R.Dsk.Disk (name ∷ []) (tiles_name name ∷ [])
+    (log_outcome h name (g.R.Room.file c.args.room.now name)
+    (g.R.Room.file c.args.room.now (tiles_name name)) c.args.work) c.args.room.now
+    c.args.room.now (gives_same g.R.Room c.args.room.now) g.met.R.Dsk.Disk.only_now
+
+pub returns-clause-stores : goal.returns-clause-stores
+returns-clause-stores g c = c.on_journal.ensures.stores

@@ -5,6 +5,8 @@ use Rattle.mtc_command.specs.Served.{HasServedBeside}
 use Rattle.mtc_command.specs.Works.{HasFailedBeside, HasOpenedBeside, HasClosed}
 use Rattle.mtc_command.proofs.Beside.{failed_only_read, failed_tiled, failed_valid, only_read_tiled}
 use Rattle.mtc_command.proofs.Beside.{served_tiled, valid_tiled}
+use Rattle.mtc_command.proofs.Stored.{failed_stored, stored_tiled}
+use Rattle.mtc_authority.specs.StoredTiles.{HasTilesOf}
 use Rattle.mtc_authority.specs.Works.{IsLog, log_bytes_say, log_outcome}
 use Rattle.mtc_authority.proofs.log_command.on_open_journal.Goals as goal
 
@@ -88,3 +90,30 @@ returns-in-Err-clause-only_read g c = λ other old read.
     (subst (λ (t : Text). HasFailedBeside g.R.Room t c.args.room.now c.open_tiles.new.room)
     c.requires.named c.in-Err.ensures.refused) c.close-in-Err.ensures read.only_reads
     g.met.R.Dsk.Disk.only_now
+
+pub returns-in-Ok-clause-stores : goal.returns-in-Ok-clause-stores
+unfolding Rattle.mtc_authority.specs.Works.log_outcome
+returns-in-Ok-clause-stores g c = λ old read.
+    let h = g.H.TreeHash.hash in
+    let name = c.args.journal.now in
+    stored_tiled (HasTilesOf h) (IsLog h) g.R.Room g.R.Dsk.Disk name
+    (log_bytes_say h name c.args.work) old c.args.room.now
+    c.open_tiles.new.room c.close.new.room c.close-in-Ok.new.room read.lent
+    c.on_devices-disk.result.0 c.in-Ok.tiles c.on_devices-disk.result.1 read.opened
+    (subst (λ (t : Text). HasOpenedBeside g.R.Room g.R.Dsk.Disk t c.args.room.now
+    c.open_tiles.new.room c.in-Ok.tiles) c.requires.named c.in-Ok.ensures.opened)
+    (subst (λ (t : Text). HasClosed g.R.Room g.R.Dsk.Disk t c.open_tiles.new.room
+    c.close.new.room c.on_devices-disk.result.1) c.requires.named c.close.ensures)
+    c.close-in-Ok.ensures g.met.R.Room.modelled_file
+    (c.on_devices-disk.ensures.stores read.lent read.only_reads)
+
+pub returns-in-Err-clause-stores : goal.returns-in-Err-clause-stores
+returns-in-Err-clause-stores g c = λ old read.
+    let h = g.H.TreeHash.hash in
+    let name = c.args.journal.now in
+    failed_stored (HasTilesOf h) (IsLog h) g.R.Room g.R.Dsk.Disk name old c.args.room.now
+    c.open_tiles.new.room c.close-in-Err.new.room read.lent c.args.disk read.opened
+    (subst (λ (t : Text). HasFailedBeside g.R.Room t c.args.room.now c.open_tiles.new.room)
+    c.requires.named c.in-Err.ensures.refused) c.close-in-Err.ensures read.only_reads
+    (log_outcome h name (g.R.Room.file old name)
+    (g.R.Room.file old (tiles_name name)) c.args.work) g.met.R.Dsk.Disk.only_now

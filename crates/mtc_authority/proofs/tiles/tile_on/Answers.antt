@@ -7,6 +7,7 @@ use Rattle.mtc_command.specs.Answers.{Ending, replied, said}
 use Rattle.mtc_command.specs.declared.answer.Said.TheVariants.{Done}
 use Rattle.mtc_authority.specs.TileOutcome.{tile_says, tiled_line}
 use Rattle.mtc_authority.specs.Works.{HasWorkedOnLog}
+use Rattle.mtc_authority.proofs.Both.{nothing_stored, tiles_so}
 use Rattle.mtc_authority.proofs.Stored.{may_refuse, refused_so, tiled_so, tiled_valid, unstored}
 use Rattle.mtc_authority.proofs.tiles.tile_on.Goals as goal
 
@@ -54,4 +55,19 @@ returns-in-Ok-clause-valid g c =
 pub returns-in-Err-clause-valid : goal.returns-in-Err-clause-valid
 returns-in-Err-clause-valid g c =
     tiled_valid c.args.journal.now c.args.log.now c.tile.new.self c.requires g.H.TreeHash.hash
+    c.law_unrefused_records_are_taken.ensures.tiled
+
+pub returns-in_err-text-clause-stores : goal.returns-in_err-text-clause-stores
+returns-in_err-text-clause-stores g c = nothing_stored c.args.log.now g.met.D.Disk.only_now
+
+pub returns-in-Ok-clause-stores : goal.returns-in-Ok-clause-stores
+returns-in-Ok-clause-stores g c =
+    tiles_so c.args.log.now c.tile.new.self c.requires _ g.met.D.Disk.counts_now
+    c.in-Ok.ensures.appends c.in-Ok.ensures.answer c.tile.ensures.keeps c.tile.ensures.behind
+    c.law_unrefused_records_are_taken.ensures.tiled
+
+pub returns-in-Err-clause-stores : goal.returns-in-Err-clause-stores
+returns-in-Err-clause-stores g c =
+    tiles_so c.args.log.now c.tile.new.self c.requires _ g.met.D.Disk.counts_now
+    c.in-Err.ensures.appends c.in-Err.ensures.answer c.tile.ensures.keeps c.tile.ensures.behind
     c.law_unrefused_records_are_taken.ensures.tiled

@@ -1,4 +1,4 @@
-use Rattle.std.proofs.Common.{inl, inr, subst, sym}
+use Rattle.std.proofs.Common.{inl, inr, subst, sym, ◌∙◌}
 use Rattle.issuance_log.specs.Folds.{LogState, view_in}
 use Rattle.mtc_command.specs.Answers.{ending_of}
 use Rattle.mtc_authority.specs.CertOutcome.{cert_reply, light_reply}
@@ -156,3 +156,42 @@ returns-in-Landmark-clause-only_read g c = λ other. inl c.set_landmark.ensures.
 
 pub returns-in-Tile-clause-only_read : goal.returns-in-Tile-clause-only_read
 returns-in-Tile-clause-only_read g c = λ other. absurd (other c.in-Tile.is)
+
+pub returns-in-Checkpoint-clause-stores : goal.returns-in-Checkpoint-clause-stores
+returns-in-Checkpoint-clause-stores g c =
+    λ tile. absurd (let wrong = sym c.in-Checkpoint.is ∙ tile in cc)
+
+pub returns-in-Entries-clause-stores : goal.returns-in-Entries-clause-stores
+returns-in-Entries-clause-stores g c =
+    λ tile. absurd (let wrong = sym c.in-Entries.is ∙ tile in cc)
+
+pub returns-in-Issue-clause-stores : goal.returns-in-Issue-clause-stores
+returns-in-Issue-clause-stores g c =
+    λ tile. absurd (let wrong = sym c.in-Issue.is ∙ tile in cc)
+
+pub returns-in-Consist-clause-stores : goal.returns-in-Consist-clause-stores
+returns-in-Consist-clause-stores g c =
+    λ tile. absurd (let wrong = sym c.in-Consist.is ∙ tile in cc)
+
+pub returns-in-Subtree-clause-stores : goal.returns-in-Subtree-clause-stores
+returns-in-Subtree-clause-stores g c =
+    λ tile. absurd (let wrong = sym c.in-Subtree.is ∙ tile in cc)
+
+pub returns-in-Landmark-clause-stores : goal.returns-in-Landmark-clause-stores
+returns-in-Landmark-clause-stores g c =
+    λ tile. absurd (let wrong = sym c.in-Landmark.is ∙ tile in cc)
+
+pub returns-in-Landmarks-clause-stores : goal.returns-in-Landmarks-clause-stores
+returns-in-Landmarks-clause-stores g c =
+    λ tile. absurd (let wrong = sym c.in-Landmarks.is ∙ tile in cc)
+
+pub returns-in-LightCert-clause-stores : goal.returns-in-LightCert-clause-stores
+returns-in-LightCert-clause-stores g c =
+    λ tile. absurd (let wrong = sym c.in-LightCert.is ∙ tile in cc)
+
+pub returns-in-Cert-clause-stores : goal.returns-in-Cert-clause-stores
+returns-in-Cert-clause-stores g c =
+    λ tile. absurd (let wrong = sym c.in-Cert.is ∙ tile in cc)
+
+pub returns-in-Tile-clause-stores : goal.returns-in-Tile-clause-stores
+returns-in-Tile-clause-stores g c = λ tile. c.tile_on.ensures.stores
