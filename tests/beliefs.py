@@ -19,8 +19,8 @@ RUNS = ("The statement names", r"run|law_runs_\w+", ("mtc_top.specs.Run", "mtc_t
 LAWS = "mtc_top.specs.{}Laws"
 PRINTED = tuple(map(LAWS.format, ("Export", "Audit", "Print", "Status")))
 PRINTS = ("The laws of what is printed name", r"law_(?:exports|audits|printed|misread)_\w+", PRINTED)
-LINKED = ("mtc_top.specs.Courses", LAWS.format("Course"), LAWS.format("Room"))
-COURSES = ("The laws of courses name", r"law_(?:courses|entries|journals|no|recovered|released)_\w+", LINKED)
+LINKED = ("mtc_top.specs.Courses", *map(LAWS.format, ("Course", "Room", "Tile")))
+COURSES = ("The laws of courses name", r"law_(?:courses|entries|journals|no|recovered|released|tiles)_\w+", LINKED)
 STATEMENTS = (RUNS, COURSES, PRINTS)
 
 # The contracts are generic: what they say of a room, a device, a stream and a hash function is what these traits ensure.

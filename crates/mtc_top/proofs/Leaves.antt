@@ -204,12 +204,12 @@ module _ {R S D O E : Type 0} (h : HashFunction) (rooms : Rooms R S D) (disks : 
         (contents turn.room name (run.back.is_modelled is_modelled))
 
     -- the file that was read is a crash state
-    told : (c : List ℕ) → rooms.file old name ≡ Some c → device_contents disks
+    pub told : (c : List ℕ) → rooms.file old name ≡ Some c → device_contents disks
         (rooms.device old name) ≡ Some c
     told c there = modelled_file disks (rooms.file old name) (rooms.device old name)
         (contents old name is_modelled) ∙ there
 
-    found : (list : List (List ℕ)) → IsFound (Rules turn) (rooms.file old name) list
+    pub found : (list : List (List ℕ)) → IsFound (Rules turn) (rooms.file old name) list
         → WasFound Valid Before list
     found list is = record {
       bytes = is.bytes;
@@ -218,13 +218,13 @@ module _ {R S D O E : Type 0} (h : HashFunction) (rooms : Rooms R S D) (disks : 
       valid = keeps list is.valid;
     }
 
-    may_append : (list : List (List ℕ)) (body : List ℕ)
+    pub may_append : (list : List (List ℕ)) (body : List ℕ)
         → IsFound (Rules turn) (rooms.file old name) list → Rules turn (list ++ body ∷ [])
         → MayAppend Valid list body Before
     may_append list body is valid =
         record { found = found list is; valid = keeps (list ++ body ∷ []) valid }
 
-    empty_before : (body : List ℕ) → IsNewAt (rooms.file old) name (started body)
+    pub empty_before : (body : List ℕ) → IsNewAt (rooms.file old) name (started body)
         → NoNew (λ c. c ≡ []) Before
     empty_before body is_new c at = elim is_new [
       | inl on ↦ absurd on
@@ -327,7 +327,7 @@ module _ {R S D O E : Type 0} (h : HashFunction) (rooms : Rooms R S D) (disks : 
 
     -- by its status
     module _ (did : Journaled) (among : AreAmong (Js old turn) name did) where
-      knows : Knows did
+      pub knows : Knows did
       knows = record {
         finds = of_each (λ n d. Finds (Rules turn) (rooms.file old n) d) (Js old turn) name did
             (spoken_finds h (rooms.file old) (λ n c is. file_bytes disks (rooms.file old n)

@@ -252,6 +252,7 @@ module _ {R S D O E : Type 0} (h : List ℕ → List ℕ) (rooms : Rooms R S D) 
         began = run.began;
         only_read = run.only_read;
         spares = run.spares;
+        stores = run.stores;
         valid = run.valid;
       }
 

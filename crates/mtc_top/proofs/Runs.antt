@@ -12,6 +12,7 @@ use Rattle.mtc_command.specs.Made.{untouched, HasKept, MayHaveMade}
 use Rattle.mtc_command.specs.Served.{EndsAs, HasDone, Journals, LeavesEach, LeavesJournals, OfEach}
 use Rattle.mtc_command.specs.Served.{done_with}
 use Rattle.mtc_command.specs.Steps.{Outcome}
+use Rattle.mtc_command.specs.Stored.{StoresBeside}
 use Rattle.mtc_command.specs.Valid.{KeepsValid}
 use Rattle.mtc_command.specs.declared.answer.Said.{Said}
 use Rattle.mtc_command.specs.declared.answer.Said.TheVariants.{Done, Against, Collided}
@@ -21,6 +22,7 @@ use Rattle.mtc_command.specs.declared.answer.Stopped.TheVariants.{Missing, Beyon
 use Rattle.mtc_command.specs.Works.{ModelsNew}
 use Rattle.mtc_command.proofs.Served.{each_so, each_is}
 use Rattle.mtc_authority.specs.NoJournal.{SparesTiles}
+use Rattle.mtc_authority.specs.StoredTiles.{HasTilesOf}
 use Rattle.mtc_io.proofs.Streams.{prefix_whole}
 use Rattle.mtc_top.specs.Concluded.{Wrote, Lost, Concludes, Prints, PrintsPrefix}
 use Rattle.mtc_top.specs.Cited.{spoken_outcome}
@@ -251,8 +253,10 @@ module _ {R S D O E : Type 0} (h : List ℕ → List ℕ) (rooms : Rooms R S D) 
       → (rooms.is_modelled old
       → LeavesEach rooms disks old new (done_with asked.only_reads []) HasKept)
       → OfEach (λ name did. SparesTiles rooms old new name)
-      (done_with asked.journals cited.journals) → New ending → Out ending status → Run status
-  planned_run ending status done valid only_read spares began gone =
+      (done_with asked.journals cited.journals)
+      → StoresBeside (HasTilesOf h) asked.Valid rooms disks old new asked.journals asked.besides
+      cited → New ending → Out ending status → Run status
+  planned_run ending status done valid only_read spares stores began gone =
       let same : cited ≡ want = spoken_planned h (command_of words) (rooms.file old) in
       let did = subst (λ (o : Outcome). HasDone rooms disks Bad files asked.journals asked.besides
       o old new ending) same done in
@@ -268,4 +272,6 @@ module _ {R S D O E : Type 0} (h : List ℕ → List ℕ) (rooms : Rooms R S D) 
             (done_with asked.journals o.journals)) same spares;
         valid = subst (λ (o : Outcome).
             KeepsValid rooms disks asked.Valid asked.journals o old new) same valid;
+        stores = subst (λ (o : Outcome). StoresBeside (HasTilesOf h) asked.Valid rooms disks old new
+            asked.journals asked.besides o) same stores;
       }

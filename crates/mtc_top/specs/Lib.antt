@@ -12,4 +12,5 @@ pub mod AuditLaws
 pub mod QuarrelLaws
 pub mod PrintLaws
 pub mod StatusLaws
+pub mod TileLaws
 pub mod WordsOutcome

@@ -11,10 +11,12 @@ use Rattle.mtc_command.specs.Answers.{Ending, Reply, replied}
 use Rattle.mtc_command.specs.Made.{HasKept, HasMade}
 use Rattle.mtc_command.specs.Served.{ClosesAll, EndsAs, Journals, LeavesEach, LeavesJournals}
 use Rattle.mtc_command.specs.Served.{OfEach, done_with}
+use Rattle.mtc_command.specs.Stored.{StoresBeside}
 use Rattle.mtc_command.specs.Valid.{KeepsValid}
 use Rattle.mtc_command.specs.Wanted.{Meets}
 use Rattle.mtc_command.specs.Works.{ModelsNew}
 use Rattle.mtc_authority.specs.NoJournal.{SparesTiles}
+use Rattle.mtc_authority.specs.StoredTiles.{HasTilesOf}
 use Rattle.mtc_top.specs.Concluded.{Concludes}
 use Rattle.mtc_top.specs.Facts.{Facts, facts}
 
@@ -62,6 +64,11 @@ module _ {R S D O E : Type 0} (h : HashFunction) (rooms : Rooms R S D) (disks : 
     -- journal, and it reads as before.
     pub valid : KeepsValid rooms disks asked.Valid asked.journals (asked.outcome (rooms.file old))
         old new
+    -- Of the journal of a log and the file of its tiles nothing new is left, and the journal reads
+    -- as before; or it has the records that were found, or these and the new one, and the tiles go
+    -- with the records at each time, with the new one wherever it is there.
+    pub stores : StoresBeside (HasTilesOf h) asked.Valid rooms disks old new asked.journals
+        asked.besides (asked.outcome (rooms.file old))
 
   -- It answered: there is one reply, the one that is asked for, and it did with its journals what
   -- was asked. The reply went out, or standard output failed at its text.

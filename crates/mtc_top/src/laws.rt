@@ -13,6 +13,7 @@ ghost use Rattle.mtc_top.specs.PrintLaws.{SignaturesArePrinted, SignaturesStand}
 ghost use Rattle.mtc_top.specs.RoomLaws.{JournalsAreOneHistory};
 ghost use Rattle.mtc_top.specs.RunLaws.{PrefixesAreRuns, RunsShow, RunsAreSteps};
 ghost use Rattle.mtc_top.specs.StatusLaws.{MisreadFilesAreInputs};
+ghost use Rattle.mtc_top.specs.TileLaws.{NoTileIsBad, TilesSurviveStops};
 
 use mtc_io::Sink;
 use mtc_room::Room;
@@ -98,6 +99,16 @@ pub fn law_no_journal_is_refused<H: TreeHash, R: Room, O: Sink, E: Sink>()
 /// has the tiles.
 pub fn law_misread_files_are_inputs<H: TreeHash, R: Room, O: Sink, E: Sink>()
     ensures { MisreadFilesAreInputs H.hash R.Room R.Dsk.Disk O.Sink E.Sink }
+{}
+
+/// Tiles survive a stop. This holds in each execution of a log's journal and of the file of its
+/// tiles that begins with a run that made the journal, or that found its first record alone:
+/// whatever runs there are, wherever they fail or are killed, and wherever the machine stops.
+/// Whatever a crash leaves of both files, the one has all tiles of the last size in the other. So
+/// no run that opens the log reports a bad tile: with status 2 it is about a file that it reads.
+pub fn law_tiles_survive_stops<H: TreeHash, R: Room, O: Sink, E: Sink>()
+    ensures survive { TilesSurviveStops H.hash R.Room R.Dsk.Disk O.Sink E.Sink }
+    ensures none { NoTileIsBad H.hash R.Room R.Dsk.Disk O.Sink E.Sink }
 {}
 
 /// What goes out of a run of `export` after an execution of a cosigner's journal is the export of a

@@ -7,7 +7,9 @@ ghost use Rattle.mtc_words.specs.Words.{command_of};
 ghost use Rattle.mtc_command.specs.Answers.{ending_of};
 ghost use Rattle.mtc_command.specs.Made.{HasKept};
 ghost use Rattle.mtc_authority.specs.NoJournal.{SparesTiles};
+ghost use Rattle.mtc_authority.specs.StoredTiles.{HasTilesOf};
 ghost use Rattle.mtc_command.specs.Served.{HasDone, LeavesEach, OfEach, done_with};
+ghost use Rattle.mtc_command.specs.Stored.{StoresBeside};
 ghost use Rattle.mtc_command.specs.Valid.{KeepsValid};
 ghost use Rattle.mtc_command.specs.Works.{ModelsNew};
 ghost use Rattle.mtc_plans.specs.Cited.{command_outcome};
@@ -64,6 +66,10 @@ fn perform<'a, H: TreeHash, R: Room>(
         OfEach (λ name did. SparesTiles R.Room room.old room.new name)
         (done_with asked.journals
         (command_outcome H.hash (command_value command.entry) (R.file room.old)).journals) }
+    ensures stores { let asked = facts_of H.hash (command_value command.entry) in
+        StoresBeside (HasTilesOf H.hash) asked.Valid R.Room R.Dsk.Disk room.old room.new
+        asked.journals asked.besides
+        (command_outcome H.hash (command_value command.entry) (R.file room.old)) }
 {
     match command {
         Command::Member(file) => member::<H, R>(alloc, room, file),
@@ -124,6 +130,10 @@ fn answer<'a, H: TreeHash, R: Room>(
         let asked = facts H.hash said in
         OfEach (λ name did. SparesTiles R.Room room.old room.new name)
         (done_with asked.journals (spoken_outcome H.hash said (R.file room.old)).journals) }
+    ensures stores { let said = command_of (map string_bytes words.now) in
+        let asked = facts H.hash said in
+        StoresBeside (HasTilesOf H.hash) asked.Valid R.Room R.Dsk.Disk room.old room.new
+        asked.journals asked.besides (spoken_outcome H.hash said (R.file room.old)) }
 {
     match read_words(alloc, words) {
         Ok(command) => perform::<H, R>(alloc, room, command),

@@ -65,3 +65,19 @@ returns-in-Cosign-clause-spares g c = rw c.in-Cosign.is
 pub returns-in-Export-clause-spares : goal.returns-in-Export-clause-spares
 returns-in-Export-clause-spares g c = rw c.in-Export.is
     (spared g.R.Room c.args.room.now c.export.new.room _ c.export.ensures.serves.back, tt)
+
+pub returns-in-InitLog-clause-stores : goal.returns-in-InitLog-clause-stores
+returns-in-InitLog-clause-stores g c = rw c.in-InitLog.is (λ t. (λ named. absurd named, tt))
+
+pub returns-in-InitCosigner-clause-stores : goal.returns-in-InitCosigner-clause-stores
+returns-in-InitCosigner-clause-stores g c =
+    rw c.in-InitCosigner.is (λ t. (λ named. absurd named, tt))
+
+pub returns-in-Advance-clause-stores : goal.returns-in-Advance-clause-stores
+returns-in-Advance-clause-stores g c = rw c.in-Advance.is (λ t. (λ named. absurd named, tt))
+
+pub returns-in-Cosign-clause-stores : goal.returns-in-Cosign-clause-stores
+returns-in-Cosign-clause-stores g c = rw c.in-Cosign.is (λ t. (λ named. absurd named, tt))
+
+pub returns-in-Export-clause-stores : goal.returns-in-Export-clause-stores
+returns-in-Export-clause-stores g c = rw c.in-Export.is (λ t. (λ named. absurd named, tt))
