@@ -5,7 +5,7 @@ import re
 
 from . import comments, ledger
 from .citations import CRATES
-from .pages import DOCS, blocks_of, by_hand, private_words_in, shown
+from .pages import DOCS, PRIVATE_IN_COMMENTS, PRIVATE_WORDS, blocks_of, by_hand, private_words_in, shown
 from .sources import ROOT
 
 LIMITS = ROOT / "tests" / "limits.txt"
@@ -164,20 +164,36 @@ def bare_heads():
             yield name, f"{shown(path)}: {head[:60]}"
 
 
-COMMENT = {".rt": re.compile(r"//[/!]?(.*)"), ".antt": re.compile(r"(?:^|\s)--( .*)")}
+COMMENT = {".rt": re.compile(r"\s*//[/!]?(.*)"), ".antt": re.compile(r"\s*--(?: (.*))?$")}
+BESIDE_CODE = {".rt": re.compile(r'[^"]*?\S\s+//(.*)'), ".antt": re.compile(r'[^"]*?\S\s+-- (.*)')}
+
+
+def comments_in(path):
+    """(line, text) for each run of comment lines, and for each comment beside code. So a phrase may end in the next line."""
+    found, begin = [], 0
+    for number, line in enumerate(path.read_text().split("\n") + [""], 1):
+        alone = COMMENT[path.suffix].match(line)
+        beside = None if alone else BESIDE_CODE[path.suffix].match(line)
+        if alone:
+            begin = begin if found else number
+            found.append(alone.group(1) or "")
+        elif found:
+            yield begin, "\n".join(found)
+            found = []
+        if beside:
+            yield number, beside.group(1)
 
 
 def private_words():
-    """(page or crate, what) for each private word in a page, and in a comment of src or specs."""
+    """(page or crate, what) for each private word in a page, and in a comment of a crate."""
     for page in by_hand():
         if page.name != "GLOSSARY.md":
             for line, text in blocks_of(page):
-                yield from ((page.name, f"{shown(page, line)}: {word}; {plain}") for word, plain in private_words_in(text))
-    for name, path in code_files("src", "specs"):
-        for number, line in enumerate(path.read_text().split("\n"), 1):
-            comment = COMMENT[path.suffix].search(line)
-            for word, plain in private_words_in(comment.group(1)) if comment else ():
-                yield name, f"{shown(path, number)}: {word}; {plain}"
+                yield from ((page.name, f"{shown(page, line)}: {word}; {plain}") for word, plain, _ in private_words_in(text))
+    for name, path in code_files("src", "specs", "proofs"):
+        for begin, text in comments_in(path):
+            for word, plain, below in private_words_in(text, {**PRIVATE_WORDS, **PRIVATE_IN_COMMENTS}):
+                yield name, f"{shown(path, begin + below)}: {word}; {plain}"
 
 
 def bare_definitions(crate):

@@ -84,13 +84,13 @@ PLAIN_WORDS = {
 }
 
 
-# Words of ours for which the field has others. As yet some stand in pages and comments; tests/limits.txt says how many.
+# Words of ours for which the field has others: none of them stands in a page, nor in a comment.
 PRIVATE_WORDS = {
     r"behind": "after, following",
-    r"(is|are|was|were|be|been) told": "is reported, is answered",
+    r"(is|are|was|were|be|been|being) told": "is reported, is answered",
     r"look(s|ed|ing)? at": "read, reads only",
     r"giv(es?|en|ing) back": "closes, closed",
-    r"st(and|ands|ood) for": "represents",
+    r"st(and|ands|ood|anding) for": "represents",
     r"rooms?": "file system, or capacity",
     r"[Ww]ant of memory": "out of memory",
     r"(mis)?spell(ed|ing|ings|s)?": "encode, encoded, encoding",
@@ -100,15 +100,28 @@ PRIVATE_WORDS = {
     r"made anew": "rebuilt",
     r"goes on|go on": "continues",
     r"besides": "in addition",
-    r"[Ss]omebody|[Nn]obody": "a named agent",
+    r"somebody|nobody": "a named agent",
+}
+# And those that only comments have to do without, since a page may say what a name of the code means.
+PRIVATE_IN_COMMENTS = {
+    r"told|tells?": "is reported; the model knows",
+    r"lent|lends?|lending": "opened, borrowed",
+    r"fronts?": "prefix",
+    r"(?<!of\s)courses?": "execution",
+    r"images?": "crash state",
+    r"gates?": "commit byte",
+    r"settled?": "durable",
+    r"handed out": "released, answered",
+    r"starved": "memory ran out",
 }
 
 
-def private_words_in(text):
-    """(word, what to say for it) for each private word of a text, code marks left out."""
-    text = re.sub(r"`[^`]*`", "", text)
-    for word, plain in PRIVATE_WORDS.items():
-        yield from ((match.group(0), plain) for match in re.finditer(rf"\b(?:{word})\b", text))
+def private_words_in(text, words=None):
+    """(word, what to say for it, in which line of the text) for each private word, code marks left out."""
+    text = re.sub(r"`[^`]*`", lambda match: "\n" * match.group(0).count("\n"), text)
+    for word, plain in (words or PRIVATE_WORDS).items():
+        for match in re.finditer(rf"\b(?:{word})\b".replace(" ", r"\s+"), text, re.I):
+            yield " ".join(match.group(0).split()), plain, text.count("\n", 0, match.start())
 
 
 def check_words():
