@@ -46,7 +46,7 @@ module _ (p : Program) (o : FileOwner p) (lead : LinksLead p o) where
   stays_modelled (link ∷ links) old new modelled is =
       stays_modelled links (files_after p link) new (one_link old link modelled is.0).0 is.1
 
-  -- what holds of each run of an execution, if it holds by what its event tells
+  -- what holds of each run of an execution, if it holds by its event
   module _ (X : Type 0) (Q : X → o.EventOf → Type 0) (Told : X → Type 0)
       (P : p.R → Turn p.R p.O p.E → Type 0)
       (each : (old : p.R) (run : Turn p.R p.O p.E) → p.rooms.is_modelled old → p.HasRun old run

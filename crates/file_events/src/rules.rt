@@ -1,6 +1,6 @@
 //! The rules of journals, and the programs that work on them.
 
-/// Which records a journal of some kind may have, and what its records tell. It has no value and no
+/// Which records a journal of some kind may have, and what its records mean. It has no value and no
 /// call: it names the rules over which laws of executions are proved.
 pub trait JournalRules {
     ghost use Rattle.std.specs.Prelude.{List, Option};
