@@ -16,6 +16,7 @@ use Rattle.mtc_words.specs.declared.name.Name.TheVariants.{Keygen, InitCosigner,
 use Rattle.mtc_words.specs.declared.name.Name.TheVariants.{Export, Landmark, Landmarks, LightCert}
 use Rattle.mtc_words.specs.declared.name.Name.TheVariants.{TrustLandmarks, Cert, Audit, Drill}
 use Rattle.mtc_words.specs.declared.name.Name.TheVariants.{Quarrel, Tile}
+use Rattle.mtc_words.specs.declared.name.Name.TheVariants.{Root, Held, MonitorInit, Monitor}
 use Rattle.mtc_words.specs.Commands.{CommandValue, journal_of, is_height, is_width, is_time}
 use Rattle.mtc_words.specs.Commands.{is_active, is_limit, is_any}
 use Rattle.mtc_words.specs.Names.{named_command, word_count, takes_journal, is_tiles_name}
@@ -95,6 +96,11 @@ from_words Quarrel ws c e = told _ c e
 from_words Drill ws c e =
     behind (Has Drill ws) (number_word 1 is_any (word ws 0)) _ c (λ number is. told _ c is) e
 from_words Tile ws c e = told _ c e
+from_words Root ws c e = told _ c e
+from_words Held ws c e = told _ c e
+from_words MonitorInit ws c e =
+    behind (Has MonitorInit ws) (id_word 1 (word ws 0)) _ c (λ id is. told _ c is) e
+from_words Monitor ws c e = told _ c e
 
 -- The first argument passes the test, where the command has a journal.
 abbrev Own : Option Text → Type 0

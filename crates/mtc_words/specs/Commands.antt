@@ -12,6 +12,7 @@ use Rattle.mtc_words.specs.declared.command.Command.TheVariants.{Export, Quarrel
 use Rattle.mtc_words.specs.declared.command.Command.TheVariants.{Landmark, Landmarks, LightCert}
 use Rattle.mtc_words.specs.declared.command.Command.TheVariants.{TrustLandmarks, Cert, Audit, Drill}
 use Rattle.mtc_words.specs.declared.command.Command.TheVariants.{Tile}
+use Rattle.mtc_words.specs.declared.command.Command.TheVariants.{Root, Held, MonitorInit, Monitor}
 use Rattle.mtc_words.specs.declared.error.WordError.{WordError}
 
 -- A command with the values of its arguments: a text is the list of its bytes, and so is an id.
@@ -39,6 +40,10 @@ pub data CommandValue : Type 0 where
   quarrel : Text → CommandValue
   drill : ℕ → CommandValue
   tile : Text → CommandValue
+  root : Text → CommandValue
+  held : Text → CommandValue
+  monitor_init : Text → CommandValue
+  monitor : Text → Text → Text → Text → CommandValue
 
 -- The values of a command's arguments.
 abbrev pub command_value : Command → CommandValue
@@ -69,6 +74,11 @@ command_value (Audit certificate store moment items kept) =
 command_value (Quarrel kept) = quarrel kept.now
 command_value (Drill number) = drill number
 command_value (Tile journal) = tile journal.now
+command_value (Root items) = root items.now
+command_value (Held kept) = held kept.now
+command_value (MonitorInit id) = monitor_init id
+command_value (Monitor state watch request items) =
+    monitor state.now watch.now request.now items.now
 
 -- The answer, with the command seen by its values.
 abbrev pub said : Result Command WordError → Result CommandValue WordError
@@ -126,6 +136,10 @@ IsInRange (audit certificate store moment items kept) = is_time moment ≡ true
 IsInRange (quarrel kept) = Unit {0}
 IsInRange (drill number) = Unit {0}
 IsInRange (tile journal) = Unit {0}
+IsInRange (root items) = Unit {0}
+IsInRange (held kept) = Unit {0}
+IsInRange (monitor_init id) = Unit {0}
+IsInRange (monitor state watch request items) = Unit {0}
 
 -- The journal that a command names.
 abbrev pub journal_of : CommandValue → Option Text
@@ -152,3 +166,7 @@ journal_of (audit certificate store moment items kept) = None
 journal_of (quarrel kept) = None
 journal_of (drill number) = None
 journal_of (tile journal) = Some journal
+journal_of (root items) = None
+journal_of (held kept) = None
+journal_of (monitor_init id) = None
+journal_of (monitor state watch request items) = None

@@ -12,8 +12,18 @@ use Rattle.mtc_words.specs.declared.name.Name.TheVariants.{Export, Quarrel}
 use Rattle.mtc_words.specs.declared.name.Name.TheVariants.{Landmark, Landmarks, LightCert}
 use Rattle.mtc_words.specs.declared.name.Name.TheVariants.{TrustLandmarks, Cert, Audit, Drill}
 use Rattle.mtc_words.specs.declared.name.Name.TheVariants.{Tile}
+use Rattle.mtc_words.specs.declared.name.Name.TheVariants.{Root, Held, MonitorInit, Monitor}
 
--- The command that an argument names which names none of those before the commands of landmarks.
+-- The command that an argument names which names none of those before the commands of monitors.
+abbrev pub named_from_monitor : Text → Option Name
+named_from_monitor word =
+    if bytes_eq word (codes "root") then Some Root
+    else (if bytes_eq word (codes "held") then Some Held
+    else (if bytes_eq word (codes "monitor-init") then Some MonitorInit
+    else (if bytes_eq word (codes "monitor") then Some Monitor
+    else None)))
+
+-- The same for an argument that names none of those before the commands of landmarks.
 abbrev pub named_from_landmark : Text → Option Name
 named_from_landmark word =
     if bytes_eq word (codes "landmark") then Some Landmark
@@ -25,7 +35,7 @@ named_from_landmark word =
     else (if bytes_eq word (codes "quarrel") then Some Quarrel
     else (if bytes_eq word (codes "drill") then Some Drill
     else (if bytes_eq word (codes "tile") then Some Tile
-    else None))))))))
+    else named_from_monitor word))))))))
 
 -- The same for an argument that names none of those before the commands of a cosigner.
 abbrev pub named_from_cosigner : Text → Option Name
@@ -76,6 +86,10 @@ word_count Audit = 5
 word_count Quarrel = 1
 word_count Drill = 1
 word_count Tile = 1
+word_count Root = 1
+word_count Held = 1
+word_count MonitorInit = 1
+word_count Monitor = 4
 
 -- Whether the first argument after a command is a journal.
 abbrev pub takes_journal : Name → Bool
@@ -102,6 +116,10 @@ takes_journal Audit = false
 takes_journal Quarrel = false
 takes_journal Drill = false
 takes_journal Tile = true
+takes_journal Root = false
+takes_journal Held = false
+takes_journal MonitorInit = false
+takes_journal Monitor = false
 
 -- Whether a name is that of a tile file.
 unfoldable pub is_tiles_name : Text → Bool

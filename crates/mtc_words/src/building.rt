@@ -242,6 +242,16 @@ fn drill<'a>(words: &'a [String]) -> Result<Command<'a>, WordError>
     Ok(Command::Drill(number))
 }
 
+fn monitor_init<'a>(alloc: Global, words: &'a [String]) -> Result<Command<'a>, WordError>
+    requires { length words.now ≡ word_count Name.MonitorInit }
+    ensures exact { Answers WordError.Memory
+        (command_from Name.MonitorInit (map string_bytes words.now)) (said result) }
+    ensures range { IfOk result (λ command. IsInRange (command_value command)) }
+{
+    let log = id(alloc, words, 0)?;
+    Ok(Command::MonitorInit(log))
+}
+
 // The command of this name with its arguments, of which there are as many as it wants.
 pub fn build<'a>(alloc: Global, name: Name, words: &'a [String]) -> Result<Command<'a>, WordError>
     requires { length words.now ≡ word_count name }
@@ -273,5 +283,14 @@ pub fn build<'a>(alloc: Global, name: Name, words: &'a [String]) -> Result<Comma
         Name::Quarrel => Ok(Command::Quarrel(text(words, 0))),
         Name::Drill => drill(words),
         Name::Tile => Ok(Command::Tile(text(words, 0))),
+        Name::Root => Ok(Command::Root(text(words, 0))),
+        Name::Held => Ok(Command::Held(text(words, 0))),
+        Name::MonitorInit => monitor_init(alloc, words),
+        Name::Monitor => Ok(Command::Monitor(
+            text(words, 0),
+            text(words, 1),
+            text(words, 2),
+            text(words, 3),
+        )),
     }
 }

@@ -65,4 +65,13 @@ pub enum Command<'a> {
     Drill(u64),
     /// `tile J`: store the tiles of the log that are full and not stored.
     Tile(&'a str),
+    /// `root ENTRIES`: print the number of the entries of a file and their tree hash.
+    Root(&'a str),
+    /// `held EXPORT`: print what an export says of its cosigner.
+    Held(&'a str),
+    /// `monitor-init LOGID`: print the state that a monitor of a log begins with.
+    MonitorInit(AnchorId),
+    /// `monitor STATE WATCH REQUEST ENTRIES`: test that new entries lead from a state to the size
+    /// and the root of a request, report those with watched names, and print the next state.
+    Monitor(&'a str, &'a str, &'a str, &'a str),
 }

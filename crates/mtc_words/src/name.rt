@@ -2,7 +2,7 @@
 
 ghost use Rattle.std.specs.Prelude.{◌≡◌};
 ghost use Rattle.mtc_words.specs.Names.{named_command, named_from_cosigner, named_from_landmark};
-ghost use Rattle.mtc_words.specs.Names.{takes_journal, word_count};
+ghost use Rattle.mtc_words.specs.Names.{named_from_monitor, takes_journal, word_count};
 
 /// The name of a command.
 #[derive(Clone, Copy)]
@@ -30,6 +30,10 @@ pub enum Name {
     Quarrel,
     Drill,
     Tile,
+    Root,
+    Held,
+    MonitorInit,
+    Monitor,
 }
 
 // The name that an argument is, if it is one.
@@ -79,6 +83,19 @@ fn read_landmark_name(word: &str) -> Option<Name>
         "quarrel" => Some(Name::Quarrel),
         "drill" => Some(Name::Drill),
         "tile" => Some(Name::Tile),
+        _ => read_monitor_name(word),
+    }
+}
+
+// The same from the commands of monitors on.
+fn read_monitor_name(word: &str) -> Option<Name>
+    ensures { result ≡ named_from_monitor word.now }
+{
+    match word {
+        "root" => Some(Name::Root),
+        "held" => Some(Name::Held),
+        "monitor-init" => Some(Name::MonitorInit),
+        "monitor" => Some(Name::Monitor),
         _ => None,
     }
 }
@@ -90,10 +107,10 @@ pub fn wanted_count(name: Name) -> usize
     match name {
         Name::Member | Name::Show | Name::Checkpoint => 1,
         Name::Export | Name::Landmark | Name::Landmarks | Name::Drill | Name::Tile => 1,
+        Name::Quarrel | Name::Root | Name::Held | Name::MonitorInit => 1,
         Name::Issue | Name::Entries | Name::Advance | Name::Cosign | Name::LightCert => 2,
         Name::Verify | Name::Consist | Name::Keygen | Name::TrustLandmarks => 3,
-        Name::InitLog | Name::Subtree => 4,
-        Name::Quarrel => 1,
+        Name::InitLog | Name::Subtree | Name::Monitor => 4,
         Name::Cert | Name::Audit => 5,
         Name::InitCosigner => 6,
     }
@@ -106,7 +123,7 @@ pub fn takes_journal(name: Name) -> bool
     match name {
         Name::Member | Name::Show | Name::Verify | Name::Keygen => false,
         Name::TrustLandmarks | Name::Audit | Name::Drill => false,
-        Name::Quarrel => false,
+        Name::Quarrel | Name::Root | Name::Held | Name::MonitorInit | Name::Monitor => false,
         Name::InitLog | Name::Issue | Name::Checkpoint | Name::Entries => true,
         Name::Consist | Name::Subtree | Name::Landmark | Name::Landmarks => true,
         Name::LightCert | Name::Cert | Name::Tile => true,
