@@ -187,18 +187,18 @@ word_line word tail more visible lacks report =
     cut_again 0x20 word tail (lacks_failing is_visible 0x20 word refl visible) in
     rw (line, cut, report) refl
 
-index_lacks : (index : ℕ) → index < 2 ^ 63 → Lacks 0x0A (decimal index)
+index_lacks : (index : ℕ) → index < 2 ^ 64 → Lacks 0x0A (decimal index)
 index_lacks index small =
-    lacks_failing is_id_byte 0x0A (decimal index) refl (decimal_bytes index (omega arith))
+    lacks_failing is_id_byte 0x0A (decimal index) refl (decimal_bytes index small)
 
-tail_lacks : (index : ℕ) (name : Text) → index < 2 ^ 63 → Lacks 0x0A name
+tail_lacks : (index : ℕ) (name : Text) → index < 2 ^ 64 → Lacks 0x0A name
     → Lacks 0x0A (decimal index ++ (0x20 ∷ name))
 tail_lacks index name small lacks =
     lacks_append 0x0A (decimal index) (0x20 ∷ name) (index_lacks index small)
     (lacks_cons 0x0A 0x20 name (λ same. absurd (omega (arith, same))) lacks)
 
 -- the line of a match is one of these
-match_again : (index : ℕ) (name more : Text) → index < 2 ^ 63
+match_again : (index : ℕ) (name more : Text) → index < 2 ^ 64
     → behind_report_line (first_line (match_text index name ++ more)) ≡ Some more
 match_again index name more small =
     ⊎_elim
@@ -284,3 +284,27 @@ found_again found kept small =
     ∙ report_again found.state kept found.lines left 0 small in
     ap (λ (p : ℕ × Text). last_line p.0 p.1) passed
     ∙ last_again found.state kept (0 + length found.lines)
+
+-- what is written of a state, and of what was found, is read again
+pub state_again : (s : MonitorState) → IsKept s → state_in (state_text s) ≡ Ok s
+unfolding found_text
+state_again s kept = found_again (record { lines = []; state = s }) kept tt
+
+-- the same of texts that are put after no bytes
+pub stated_again : (s : MonitorState) (text none : Text) → IsKept s → none ≡ []
+    → text ≡ none ++ state_text s → state_in text ≡ Ok s
+stated_again s text none kept empty is =
+    ap state_in (is ∙ ap (λ t. t ++ state_text s) empty) ∙ state_again s kept
+
+pub found_so : (found : Findings) (text front none : Text) (lines : List Line)
+    (state : MonitorState) → IsKept found.state → AllByRecursion IsIndexed found.lines
+    → lines ≡ found.lines → state ≡ found.state → none ≡ []
+    → front ≡ none ++ flat_map line_text lines → text ≡ front ++ state_text state
+    → state_in text ≡ Ok found.state
+unfolding found_text
+found_so found text front none lines state kept small same_lines same_state empty first last =
+    ap state_in (last
+    ∙ ap (λ t. t ++ state_text state) (first ∙ ap (λ t. t ++ flat_map line_text lines) empty
+    ∙ ap (λ (ls : List Line). flat_map line_text ls) same_lines)
+    ∙ ap (λ s. flat_map line_text found.lines ++ state_text s) same_state)
+    ∙ found_again found kept small

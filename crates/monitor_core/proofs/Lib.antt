@@ -9,3 +9,5 @@ pub mod Skips
 pub mod PeakLines
 pub mod Again
 pub mod ReadBack
+pub mod LastLines
+pub mod Sofar

@@ -1,7 +1,7 @@
 -- A text whose state is read ends with the line of that state.
 use Rattle.std.proofs.Common.{◌≡◌, ℕ, zero, suc, ◌+◌, ◌≤◌, List, [], ◌∷◌, ◌++◌, length, take, drop}
 use Rattle.std.proofs.Common.{get_or, Option, Some, None, Result, Ok, Err, refl, sym, ap, ◌∙◌}
-use Rattle.std.proofs.Common.{subst, append_assoc, arith, decimal}
+use Rattle.std.proofs.Common.{subst, append_assoc, arith, decimal, inl, inr, ⊎_elim}
 use Rattle.std.specs.Prelude.{◌==◌, ◌&&◌, not, codes, count_ones, nat_le, bytes_eq, option_map}
 use Rattle.std.specs.Prelude.{if◌then◌else◌}
 use Rattle.std.specs.List.{AllByRecursion, flat_map}
@@ -29,7 +29,7 @@ use Rattle.monitor_core.specs.Reading.{begins_report, behind_report, behind_repo
 use Rattle.monitor_core.specs.Reading.{line_with, lower_hash_in, lower_only, peak_in, peaks_in}
 use Rattle.monitor_core.specs.Reading.{skipped, state_in, state_words, word_end}
 use Rattle.monitor_core.specs.States.{IsHash, IsKept, MonitorState}
-use Rattle.monitor_core.specs.TextLaws.{StatesAreReadAsWritten}
+use Rattle.monitor_core.specs.TextLaws.{AreWholeLines, StatesAreReadAsWritten}
 use Rattle.monitor_core.specs.Written.{peak_text, state_text}
 use Rattle.monitor_core.specs.declared.error.TextError.{TextError}
 use Rattle.monitor_core.specs.declared.error.TextError.TheVariants.{BadLine}
@@ -228,12 +228,24 @@ line_parts text rest e = go (first_line text) refl e
               (same_Some cut.1 rest parts.1),
         )
 
+-- a line before whole lines
+whole_lines : (line before : Text) → AreWholeLines before → AreWholeLines (line ++ (0x0A ∷ before))
+whole_lines line before whole =
+    ⊎_elim
+    (λ (none : before ≡ []). inr (line, ap (λ t. line ++ (0x0A ∷ t)) none))
+    (λ (some : (front : Text) × (before ≡ front ++ (0x0A ∷ []))). inr (
+      line ++ (0x0A ∷ some.0),
+      ap (λ t. line ++ (0x0A ∷ t)) some.1 ∙ sym (append_assoc line (0x0A ∷ some.0) (0x0A ∷ [])),
+    ))
+    whole
+
 -- where it is so of what is after the first line
 passed : (n : ℕ) (text : Text) (next : ℕ → Text → ℕ × Text)
-    → ((m : ℕ) (rest : Text) → (before : Text) × (rest ≡ before ++ (next m rest).1))
+    → ((m : ℕ) (rest : Text)
+    → (before : Text) × (rest ≡ before ++ (next m rest).1) × AreWholeLines before)
     → (o : Option Text) → behind_report_line (first_line text) ≡ o
-    → (before : Text) × (text ≡ before ++ (skipped n text o next).1)
-passed n text next more None is = ([], refl)
+    → (before : Text) × (text ≡ before ++ (skipped n text o next).1) × AreWholeLines before
+passed n text next more None is = ([], refl, inl refl)
 passed n text next more (Some rest) is =
     let line = line_parts text rest is in
     let others = more (n + 1) rest in (
@@ -241,27 +253,29 @@ passed n text next more (Some rest) is =
       line.1
           ∙ ap (λ t. line.0 ++ (0x0A ∷ t)) others.1
           ∙ sym (append_assoc line.0 (0x0A ∷ others.0) (next (n + 1) rest).1),
+      whole_lines line.0 others.0 others.2,
     )
 
 report_read : (left n : ℕ) (text : Text)
-    → (before : Text) × (text ≡ before ++ (behind_report left n text).1)
+    → (before : Text) × (text ≡ before ++ (behind_report left n text).1) × AreWholeLines before
 unfolding behind_report
-report_read zero n text = ([], refl)
+report_read zero n text = ([], refl, inl refl)
 report_read (suc left) n text =
     passed n text (behind_report left) (λ m rest. report_read left m rest)
     (behind_report_line (first_line text)) refl
 
 state_read : (text : Text) (state : MonitorState) → IsBytes text → state_in text ≡ Ok state
-    → IsKept state × ((before : Text) × (text ≡ before ++ state_text state))
+    → IsKept state
+    × ((before : Text) × (text ≡ before ++ state_text state) × AreWholeLines before)
 unfolding state_in
 state_read text state bytes e =
     let last : ℕ × Text = behind_report (length text) 0 text in
     let before = report_read (length text) 0 text in
     let all : IsBytes (before.0 ++ last.1) = rw before.1 at bytes in
     let known = last_read last.0 last.1 state (IsBytes-back before.0 last.1 all) e in
-    (known.kept, (before.0, before.1 ∙ ap (λ t. before.0 ++ t) known.written))
+    (known.kept, (before.0, before.1 ∙ ap (λ t. before.0 ++ t) known.written, before.2))
 
-one_state : (first second : MonitorState) → IsKept first → IsKept second
+pub one_state : (first second : MonitorState) → IsKept first → IsKept second
     → state_text first ≡ state_text second → first ≡ second
 one_state first second kept other same =
     ok_is TextError first second (sym (last_again first kept 0) ∙ ap (last_line 0) same

@@ -1,5 +1,5 @@
 -- Runs one after another.
-use Rattle.std.proofs.Common.{◌≡◌, ◌+◌, List, [], ◌∷◌, ◌++◌, length, sym, ap, ◌∙◌, subst}
+use Rattle.std.proofs.Common.{◌≡◌, ◌+◌, List, [], ◌∷◌, ◌++◌, length, refl, sym, ap, ◌∙◌, subst}
 use Rattle.std.proofs.Common.{append-nil, append_assoc}
 use Rattle.std.specs.List.{flat_map}
 use Rattle.std.proofs.lemmas.List.{length-append}
@@ -18,6 +18,7 @@ record HaveReported (h : HashFunction) (watch old : List Text) (kept : MonitorSt
     (runs : List MonitorRun) (found : List Findings) : Type 0 where
   lines : flat_map found_lines found ≡ report_of watch (length old) (flat_map run_entries runs)
   state : IsStateOf h (old ++ flat_map run_entries runs) (last_state kept found)
+  log : (last_state kept found).log ≡ kept.log
 
 have_reported : (h : HashFunction) (watch old : List Text) (kept : MonitorState)
     (runs : List MonitorRun) (found : List Findings) → IsStateOf h old kept
@@ -27,6 +28,7 @@ have_reported h watch old kept [] [] are all =
     record {
       lines = sym (report-none watch (length old));
       state = subst P (sym (append-nil old)) are;
+      log = refl;
     }
 have_reported h watch old kept [] (one ∷ others) are all = absurd all
 have_reported h watch old kept (run ∷ runs) [] are all = absurd all
@@ -42,6 +44,7 @@ have_reported h watch old kept (run ∷ runs) (one ∷ others) are all =
           ∙ ap (λ n. report_of watch n entries) (length-append old run.entries))
           ∙ sym (report-parts watch (length old) run.entries entries);
       state = subst P (append_assoc old run.entries entries) more.state;
+      log = more.log ∙ first.log;
     }
 
 pub EachEntryOnce_always : (h : HashFunction) → EachEntryOnce h
@@ -49,6 +52,13 @@ EachEntryOnce_always h log watch runs found all =
     let none : IsStateOf h [] (empty_state log) = no_leaves h in
     let reported = have_reported h watch [] (empty_state log) runs found none all in
     (reported.lines, reported.state)
+
+-- the log is the same all along
+pub last_log : (h : HashFunction) (watch : List Text) (log : Text) (runs : List MonitorRun)
+    (found : List Findings) → AreRuns h watch (empty_state log) runs found
+    → (last_state (empty_state log) found).log ≡ log
+last_log h watch log runs found all =
+    (have_reported h watch [] (empty_state log) runs found (no_leaves h) all).log
 
 pub states_of_one : (h : HashFunction) → ListsExtract h → StatesAreOfOneList h
 states_of_one h extract first second state one other =

@@ -1,12 +1,14 @@
 -- Runs of a monitor one after another, each from the state that the one before left.
-use Rattle.std.specs.Prelude.{◌≡◌, ◌⊎◌, ℕ, List, [], ◌∷◌, Ok}
+use Rattle.std.specs.Prelude.{◌≡◌, ◌⊎◌, ◌<◌, ◌^◌, ℕ, List, [], ◌∷◌, length, Ok}
 use Rattle.std.specs.List.{flat_map}
 use Rattle.byte_formats.specs.Types.{Hash, HashFunction, Text}
 use Rattle.collide.specs.Extraction.{HasCollision}
 use Rattle.collide.specs.Inputs.{inputs_of}
+use Rattle.tls_wire.specs.Arcs.{IsAnchorId}
 use Rattle.monitor_core.specs.Monitor.{monitor_of}
 use Rattle.monitor_core.specs.Report.{Findings, report_of}
-use Rattle.monitor_core.specs.States.{IsStateOf, MonitorState, empty_state}
+use Rattle.monitor_core.specs.States.{IsHash, IsStateOf, MonitorState, empty_state}
+use Rattle.monitor_core.specs.Written.{state_text}
 use Rattle.monitor_core.specs.declared.lines.Line.{Line}
 
 -- What a run is given in addition to the state and the watched domains.
@@ -61,6 +63,26 @@ MonitorsSawOneList h = (log : Text) (watch other_watch : List Text) (runs others
     → AreRuns h watch (empty_state log) runs found
     → AreRuns h other_watch (empty_state log) others other_found
     → last_state (empty_state log) found ≡ last_state (empty_state log) other_found
+    → (flat_map run_entries runs ≡ flat_map run_entries others)
+    ⊎ HasCollision h (inputs_of h (flat_map run_entries runs))
+    (inputs_of h (flat_map run_entries others))
+
+-- Each value of the hash function is a hash of 32 bytes, as each of SHA-256 is.
+abbrev pub GivesHashes : HashFunction → Type 0
+GivesHashes h = (text : Text) → IsHash (h text)
+
+-- The same of two monitors of one log whose texts end with one line, where the lists have fewer
+-- than 2^63 entries.
+abbrev pub LastLinesAreOfOneList : HashFunction → Type 0
+LastLinesAreOfOneList h = (log : Text) (watch other_watch : List Text)
+    (runs others : List MonitorRun) (found other_found : List Findings)
+    → GivesHashes h → IsAnchorId log
+    → AreRuns h watch (empty_state log) runs found
+    → AreRuns h other_watch (empty_state log) others other_found
+    → length (flat_map run_entries runs) < 2 ^ 63
+    → length (flat_map run_entries others) < 2 ^ 63
+    → state_text (last_state (empty_state log) found)
+    ≡ state_text (last_state (empty_state log) other_found)
     → (flat_map run_entries runs ≡ flat_map run_entries others)
     ⊎ HasCollision h (inputs_of h (flat_map run_entries runs))
     (inputs_of h (flat_map run_entries others))

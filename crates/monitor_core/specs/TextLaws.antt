@@ -1,5 +1,5 @@
 -- What holds of the texts of a monitor.
-use Rattle.std.specs.Prelude.{◌≡◌, ◌^◌, ◌<◌, ◌++◌, Ok}
+use Rattle.std.specs.Prelude.{◌≡◌, ◌⊎◌, ◌^◌, ◌<◌, [], ◌∷◌, ◌++◌, Ok}
 use Rattle.std.specs.List.{AllByRecursion}
 use Rattle.byte_formats.specs.Places.{IsBytes}
 use Rattle.byte_formats.specs.Types.{Text}
@@ -10,18 +10,22 @@ use Rattle.monitor_core.specs.Written.{found_text, state_text}
 use Rattle.monitor_core.specs.declared.lines.Line.{Line}
 use Rattle.monitor_core.specs.declared.lines.Line.TheVariants.{Match, Unread}
 
--- The index of a line is below 2^63.
+-- The index of a line is below 2^64, as a number of 64 bits is.
 abbrev pub IsIndexed : Line → Type 0
-IsIndexed (Match index name) = index < 2 ^ 63
-IsIndexed (Unread index) = index < 2 ^ 63
+IsIndexed (Match index name) = index < 2 ^ 64
+IsIndexed (Unread index) = index < 2 ^ 64
 
--- If the indices of its lines are in range, the text of what was found is read as the state that
--- was found; a text that is read ends with the line of what was read; and states with one line are
--- one state.
+-- Whole lines: no bytes, or the last one is a newline.
+abbrev pub AreWholeLines : Text → Type 0
+AreWholeLines text = (text ≡ []) ⊎ ((front : Text) × (text ≡ front ++ (0x0A ∷ [])))
+
+-- The text of what was found is read as the state that was found; a text that is read is whole lines
+-- and the line of what was read; and states with one line are one state.
 pub record StatesAreReadAsWritten : Type 0 where
   pub again : (found : Findings) → IsKept found.state → AllByRecursion IsIndexed found.lines
       → state_in (found_text found) ≡ Ok found.state
   pub read : (text : Text) (state : MonitorState) → IsBytes text → state_in text ≡ Ok state
-      → IsKept state × ((before : Text) × (text ≡ before ++ state_text state))
+      → IsKept state
+      × ((before : Text) × (text ≡ before ++ state_text state) × AreWholeLines before)
   pub one : (first second : MonitorState) → IsKept first → IsKept second
       → state_text first ≡ state_text second → first ≡ second

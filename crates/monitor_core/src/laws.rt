@@ -1,7 +1,8 @@
 //! Laws of monitors: the clauses are the laws, and the functions do nothing.
 
 ghost use Rattle.byte_formats.specs.Types.{HashFunction};
-ghost use Rattle.monitor_core.specs.Chains.{EachEntryOnce, MonitorsSawOneList, StatesAreOfOneList};
+ghost use Rattle.monitor_core.specs.Chains.{EachEntryOnce, LastLinesAreOfOneList};
+ghost use Rattle.monitor_core.specs.Chains.{MonitorsSawOneList, StatesAreOfOneList};
 ghost use Rattle.monitor_core.specs.Laws.{MonitorIsExact};
 ghost use Rattle.monitor_core.specs.TextLaws.{StatesAreReadAsWritten};
 
@@ -27,18 +28,21 @@ pub fn law_each_entry_is_reported_once()
 {}
 
 /// The law of states: two lists that have one state are one list, or they show two different
-/// strings with one hash. So two monitors of one log whose last states are one saw one list,
-/// whatever they watch and however their runs were cut, or their lists show such strings.
+/// strings with one hash. So two monitors that both began at the state without entries, and whose
+/// last states are one, saw one list, whatever they watch and however their runs were cut, or their
+/// lists show two such strings. The last clause says it of the last lines of their texts, for a
+/// hash function of 32 bytes, as SHA-256, and lists of fewer than 2^63 entries.
 pub fn law_one_state_is_of_one_list<H: TreeHash>()
     ensures states { StatesAreOfOneList H.hash }
     ensures monitors { MonitorsSawOneList H.hash }
+    ensures lines { LastLinesAreOfOneList H.hash }
 {
     law_lists_extract::<H>();
 }
 
-/// The text of what was found is read as the state that was found, if its size and the indices of
-/// its lines are below 2^63. Each text that is read ends with the line of the state that is read.
-/// States that have one line are one state.
+/// The text of what was found is read as the state that was found, where its size is below 2^63.
+/// Each text that is read is whole lines, and then the line of the state that is read. States that
+/// have one line are one state.
 pub fn law_states_are_read_as_written()
     ensures { StatesAreReadAsWritten }
 {}

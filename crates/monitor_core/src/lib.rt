@@ -1,13 +1,14 @@
-//! A monitor of a log: what it has under watched names. A monitor keeps of a log the number of its
-//! entries and the peaks of its tree, reads the new entries, tests that they lead from there to a
-//! new size and root, and reports each entry with a name under a watched domain.
+//! A monitor of a log: what it has under watched names. A monitor retains of a log the number of
+//! its entries and the peaks of its tree, reads the new entries, tests that they lead from there to
+//! a new size and root, and reports each entry with a name under a watched domain.
 //!
 //! [`monitor`] is one run. What it finds is a report and the next state; [`write_found`] writes
 //! both, and [`read_state`] reads the state from that text. [`read_watch`] reads the domains.
 //!
-//! A state is believed: where it isn't that of the log, a run is refused, or reports entries of
-//! another list. Two monitors of one log that end at one state saw the same list, or their lists
-//! show two different strings with one hash
+//! A state is believed. No clause says anything of one that isn't the state of the list that the
+//! monitor saw: a later state of the same log, for one, is taken, and what lies between isn't
+//! reported. Two monitors of one log that began without entries, and whose texts end with one line,
+//! saw one list, or their lists show two different strings with one hash
 //! ([`law_one_state_is_of_one_list`](laws::law_one_state_is_of_one_list)).
 //!
 //! No clause says how long a run takes: it hashes each entry once, and a pair for each peak that a

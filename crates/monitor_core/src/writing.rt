@@ -1,8 +1,12 @@
 //! Writing what was found.
 
-ghost use Rattle.std.specs.Prelude.{◌≡◌, ◌++◌, IfOk, OnOk};
-ghost use Rattle.std.specs.List.{flat_map, list_all};
+ghost use Rattle.std.specs.Prelude.{◌≡◌, ◌<◌, ◌^◌, ◌++◌, Ok, IfOk, OnOk};
+ghost use Rattle.std.specs.List.{AllByRecursion, flat_map, list_all};
+ghost use Rattle.byte_formats.specs.Places.{IsBytes};
 ghost use Rattle.mtc_io.specs.Streams.{joined};
+ghost use Rattle.monitor_core.specs.Reading.{state_in};
+ghost use Rattle.monitor_core.specs.States.{IsHash, IsKept};
+ghost use Rattle.monitor_core.specs.TextLaws.{IsIndexed};
 ghost use Rattle.monitor_core.specs.Written.{found_text, is_visible, line_text, match_text};
 ghost use Rattle.monitor_core.specs.Written.{peak_text, state_text, unread_text};
 
@@ -90,6 +94,60 @@ fn put_peaks(alloc: Global, out: &mut Bytes, peaks: &[[u8; 32]]) -> Result<(), M
     Ok(())
 }
 
+// The types of the parts of a state make it one that a text can hold: the clause says it, and the
+// call does nothing.
+fn law_state_is_kept(state: &State)
+    ensures { state.now.size < 2 ^ 63 → IsKept state.now }
+{
+    let _id = state.log().as_bytes();
+    law_are_hashes(state.peaks());
+}
+
+// The same of hashes: each has 32 bytes.
+fn law_are_hashes(hashes: &[[u8; 32]])
+    ensures { AllByRecursion IsHash hashes.now }
+{
+    for hash in hashes {
+        law_is_hash(hash);
+    }
+}
+
+fn law_is_hash(hash: &[u8; 32])
+    ensures { IsHash hash.now }
+{
+    law_are_bytes(hash.as_slice());
+}
+
+fn law_are_bytes(bytes: &[u8])
+    ensures { IsBytes bytes.now }
+{
+    let _ = bytes;
+}
+
+// The type of an index makes it a number of 64 bits: the clause says it, and the call does nothing.
+fn law_lines_are_indexed(lines: &[Line])
+    ensures { AllByRecursion IsIndexed lines.now }
+{
+    for line in lines {
+        law_line_is_indexed(line);
+    }
+}
+
+fn law_line_is_indexed(line: &Line)
+    ensures { IsIndexed line.now }
+{
+    match line {
+        Line::Match { index, .. } => law_fits(*index),
+        Line::Unread { index } => law_fits(*index),
+    }
+}
+
+fn law_fits(number: u64)
+    ensures { number < 2 ^ 64 }
+{
+    let _ = number;
+}
+
 // Puts the line of a state after the bytes.
 #[tactic(auto, unfolding(crate::specs::Written::state_text))]
 fn put_state(alloc: Global, out: &mut Bytes, state: &State) -> Result<(), Memory>
@@ -104,10 +162,14 @@ fn put_state(alloc: Global, out: &mut Bytes, state: &State) -> Result<(), Memory
 
 /// The line of a state: the word `state`, the log's id in dotted decimal, the size in decimal, and
 /// the peaks, the largest first, each in 64 lower-case hexadecimal digits; with a space before each
-/// word but the first, and a newline at the end.
+/// word but the first, and a newline at the end. It is read as the state again, where the size is
+/// below 2^63.
 pub fn write_state(alloc: Global, state: &State) -> Result<Bytes, Memory>
-    ensures { IfOk result (λ text. text ≡ state_text state.now) }
+    ensures text { IfOk result (λ text. text ≡ state_text state.now) }
+    ensures again { state.now.size < 2 ^ 63
+        → IfOk result (λ text. state_in text ≡ Ok state.now) }
 {
+    law_state_is_kept(state);
     let mut out = Bytes::new(alloc);
     put_state(alloc, &mut out, state)?;
     Ok(out)
@@ -115,11 +177,16 @@ pub fn write_state(alloc: Global, state: &State) -> Result<Bytes, Memory>
 
 /// The text of what was found: a line for each line of the report, `match` with the index and the
 /// name, `match-hex` with the name in hexadecimal where a byte isn't from 21 to 7E, or `unread`
-/// with the index; and last the line of the state.
+/// with the index; and last the line of the state. It is read as that state again, where the size is
+/// below 2^63.
 #[tactic(auto, unfolding(crate::specs::Written::found_text))]
 pub fn write_found(alloc: Global, found: &Found) -> Result<Bytes, Memory>
-    ensures { IfOk result (λ text. text ≡ found_text found.now) }
+    ensures text { IfOk result (λ text. text ≡ found_text found.now) }
+    ensures again { found.now.state.size < 2 ^ 63
+        → IfOk result (λ text. state_in text ≡ Ok found.now.state) }
 {
+    law_state_is_kept(found.state());
+    law_lines_are_indexed(found.lines());
     let mut out = Bytes::new(alloc);
     put_lines(alloc, &mut out, found.lines())?;
     put_state(alloc, &mut out, found.state())?;

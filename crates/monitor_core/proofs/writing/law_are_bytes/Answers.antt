@@ -1,0 +1,4 @@
+use Rattle.monitor_core.proofs.writing.law_are_bytes.Goals as goal
+
+pub returns : goal.returns
+returns c = λ i. (c.type_inv.bytes i).fits
