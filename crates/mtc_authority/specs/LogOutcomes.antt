@@ -3,13 +3,13 @@ use Rattle.std.specs.Prelude.{ℕ, nat_lt, List, [], ◌++◌, length, slice_ind
 use Rattle.std.specs.Prelude.{◌≡◌, ◌<◌, if◌then◌else◌}
 use Rattle.std.specs.Fmt.{decimal}
 use Rattle.byte_formats.specs.Types.{HashFunction, Text}
-use Rattle.hex.specs.Hex.{encode_lower}
 use Rattle.tls_wire.specs.Anchors.{text_of}
 use Rattle.tree_core.specs.Tree.{tree_hash}
 use Rattle.entry_list.specs.Items.{ItemLists, file_text}
 use Rattle.issuance_log.specs.Folds.{LogState}
 use Rattle.issuance_log.specs.Records.{settings_record}
 use Rattle.issuance_log.specs.Settings.{Settings}
+use Rattle.mtc_lines.specs.CheckpointLines.{checkpoint_lines}
 use Rattle.mtc_command.specs.declared.answer.Said.TheVariants.{Done}
 use Rattle.mtc_command.specs.declared.answer.Stopped.TheVariants.{NotAllowed}
 use Rattle.mtc_command.specs.Answers.{Ending, Reply, no_memory, refused, replied, room_failed, said}
@@ -32,10 +32,6 @@ init_log_outcome journal id active limit files = with_fresh journal (files journ
     (starts (settings_record (log_settings_of id active limit)) (log_line id))
 
 -- The size and the tree hash.
-
-abbrev pub checkpoint_lines : ℕ → Text → Text
-checkpoint_lines size root = codes "size " ++ (decimal size
-    ++ (codes "\nroot " ++ (encode_lower root ++ codes "\n")))
 
 abbrev pub checkpoint_reply : HashFunction → List Text → Reply
 checkpoint_reply h entries =

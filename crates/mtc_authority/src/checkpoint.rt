@@ -8,26 +8,18 @@ ghost use Rattle.mtc_command.specs.Answers.{stop_ending, ending_of, replied};
 ghost use Rattle.entry_list.specs.Items.{file_text, listed_text};
 ghost use Rattle.mtc_authority.specs.LogOutcomes.{IsItemAt, beyond, checkpoint_reply};
 ghost use Rattle.mtc_authority.specs.LogOutcomes.{entries_reply};
-ghost use Rattle.mtc_authority.specs.LogOutcomes.{StopsAt, checkpoint_lines, items_of};
+ghost use Rattle.mtc_authority.specs.LogOutcomes.{StopsAt, items_of};
 ghost use Rattle.mtc_authority.specs.Works.{RepliesOnLog};
 
 use crate::tree::root_of;
 use disk_core::Disk;
 use issuance_log::{Log, LogError};
 use mtc_command::{Answer, Reason, Said, Stop, Stopped, refuse};
-use mtc_io::{Bytes, Failed, Memory};
+use mtc_io::{Bytes, Failed};
+use mtc_lines::checkpoint_text;
 use std::alloc::Global;
 use tls_wire::put_vec16;
 use tree_core::TreeHash;
-
-// The size and the tree hash in hexadecimal.
-fn checkpoint_text(alloc: Global, size: u64, root: &[u8; 32]) -> Result<Bytes, Memory>
-    ensures { IfOk result (λ text. text ≡ checkpoint_lines size root.now) }
-{
-    let hash = hex::encode(alloc, root)?;
-    let text = format!(in alloc; "size {size}\nroot {hash}\n")?;
-    Ok(Bytes::from_vec(text.into_bytes()))
-}
 
 /// The work of `checkpoint J`: the size, and the tree hash in hexadecimal.
 pub fn checkpoint<'a, H: TreeHash, D: Disk>(

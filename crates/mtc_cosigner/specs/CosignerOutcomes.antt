@@ -16,22 +16,12 @@ use Rattle.cosigner_core.specs.declared.error.CosignError.{CosignError}
 use Rattle.cosigner_core.specs.declared.error.CosignError.TheVariants.{WrongLog, NotNewer}
 use Rattle.cosigner_core.specs.declared.error.CosignError.TheVariants.{BadSubtree, Beyond, BadProof}
 use Rattle.cosigner_core.specs.declared.error.CosignError.TheVariants.{Exhausted, Append}
-use Rattle.cosigner_core.specs.declared.fault.FormError.{FormError}
-use Rattle.cosigner_core.specs.declared.fault.FormError.TheVariants.{Short, HashLength}
-use Rattle.cosigner_core.specs.declared.fault.FormError.TheVariants.{Trailing, EmptyId}
 use Rattle.mtc_command.specs.Answers.{Ending, replied, room_failed, refused}
 use Rattle.mtc_command.specs.Steps.{Outcome, appends, says_on, stops_on}
 use Rattle.mtc_command.specs.declared.answer.Said.TheVariants.{Done}
 use Rattle.mtc_command.specs.declared.answer.Stopped.{Stopped}
 use Rattle.mtc_command.specs.declared.answer.Stopped.TheVariants.{NotAllowed}
 use Rattle.mtc_command.specs.declared.answer.Stopped.TheVariants.{Beyond as OverLimit}
-
--- Why a file is no request.
-abbrev pub form_fault_text : FormError → Text
-form_fault_text (Short place) = codes "Short " ++ decimal place
-form_fault_text HashLength = codes "HashLength"
-form_fault_text Trailing = codes "Trailing"
-form_fault_text EmptyId = codes "EmptyId"
 
 -- Why a cosigner takes no step: its state doesn't allow it, or its journal is full.
 abbrev pub step_fault_text : CosignError → Text

@@ -18,7 +18,7 @@ use Rattle.mtc_command.specs.Valid.{WorksValidly}
 use Rattle.mtc_command.specs.Works.{HasWorked as HasWorkedWith}
 use Rattle.mtc_command.specs.declared.answer.Stopped.TheVariants.{BadForm}
 use Rattle.mtc_cosigner.specs.CosignerOutcomes.{advance_says, cosign_says, export_says}
-use Rattle.mtc_cosigner.specs.CosignerOutcomes.{form_fault_text}
+use Rattle.mtc_lines.specs.Reasons.{form_fault_text}
 use Rattle.mtc_cosigner.specs.declared.work.Work.{Work}
 use Rattle.mtc_cosigner.specs.declared.work.Work.TheVariants.{Advance, Cosign, Export}
 

@@ -4,11 +4,11 @@ ghost use Rattle.std.specs.Prelude.{◌≡◌, ◌≢◌, ◌<◌, ◌^◌, [], 
 ghost use Rattle.cosigner_core.specs.Keyless.{keyless_owner};
 ghost use Rattle.cosigner_core.specs.Views.{advance_parts, subtree_parts};
 ghost use Rattle.cosigner_core.specs.Words.{cosigner_disk, cosigner_owner};
-ghost use Rattle.mtc_command.specs.Answers.{stop_ending, ending_of, reason_text};
+ghost use Rattle.mtc_command.specs.Answers.{stop_ending, ending_of};
 ghost use Rattle.mtc_command.specs.Served.{HasServed};
 ghost use Rattle.mtc_command.specs.Valid.{KeepsValid};
 ghost use Rattle.mtc_cosigner.specs.CosignerOutcomes.{advance_says, advanced_text, cosign_says};
-ghost use Rattle.mtc_cosigner.specs.CosignerOutcomes.{form_fault_text, step_ending};
+ghost use Rattle.mtc_cosigner.specs.CosignerOutcomes.{step_ending};
 ghost use Rattle.mtc_cosigner.specs.Works.{HasWorkedOnCosigner, IsCosigner, IsReadyCosigner};
 ghost use Rattle.mtc_cosigner.specs.Works.{StaysCosigner, advance_outcome, cosign_outcome};
 
@@ -25,6 +25,7 @@ use mtc_command::{
     Answer, INPUT_LIMIT, Reason, Said, Stop, Stopped, read_input, refuse, refuse_file,
 };
 use mtc_io::{Bytes, Memory};
+use mtc_lines::form_reason;
 use mtc_proof::ReservedSignature;
 use mtc_room::Room;
 use std::alloc::Global;
@@ -32,18 +33,6 @@ use tree_core::TreeHash;
 
 // A buffer of a signature holds no more.
 const LONGEST_SIGNATURE: u16 = 17_748;
-
-// Why a file is no request.
-fn reason_of(why: FormError) -> Reason
-    ensures { reason_text result ≡ form_fault_text why }
-{
-    match why {
-        FormError::Short(place) => Reason::with_number("Short", place as u64),
-        FormError::HashLength => Reason::named("HashLength"),
-        FormError::Trailing => Reason::named("Trailing"),
-        FormError::EmptyId => Reason::named("EmptyId"),
-    }
-}
 
 // Why a cosigner that was opened just now takes no step.
 fn refuse_step<'a>(journal: &'a str, why: CosignError) -> Stop<'a>
@@ -141,7 +130,7 @@ pub fn advance<'a, H: TreeHash, R: Room>(
     let bytes = read_input(alloc, room, file, INPUT_LIMIT)?;
     match read_advance(bytes.as_slice()) {
         Ok(request) => on_cosigner::<H, R>(alloc, room, journal, &Work::Advance(request)),
-        Err(why) => Err(refuse_file(Stopped::BadForm, file, reason_of(why))),
+        Err(why) => Err(refuse_file(Stopped::BadForm, file, form_reason(why))),
     }
 }
 
@@ -163,6 +152,6 @@ pub fn cosign<'a, H: TreeHash, R: Room>(
     let bytes = read_input(alloc, room, file, INPUT_LIMIT)?;
     match read_subtree(bytes.as_slice()) {
         Ok(request) => on_cosigner::<H, R>(alloc, room, journal, &Work::Cosign(request)),
-        Err(why) => Err(refuse_file(Stopped::BadForm, file, reason_of(why))),
+        Err(why) => Err(refuse_file(Stopped::BadForm, file, form_reason(why))),
     }
 }

@@ -26,7 +26,7 @@ use Rattle.mtc_command.specs.Wanted.{pair_of}
 use Rattle.mtc_command.specs.declared.answer.Said.TheVariants.{Done, Against, Collided}
 use Rattle.mtc_reads.specs.Reasons.{store_fault_text}
 use Rattle.mtc_reads.specs.VerifyOutcome.{verdict_says}
-use Rattle.mtc_monitor.specs.Reasons.{export_fault_text, items_fault_text}
+use Rattle.mtc_lines.specs.Reasons.{export_fault_text, items_fault_text}
 
 -- ---- what is audited
 

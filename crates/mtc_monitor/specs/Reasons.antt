@@ -1,19 +1,9 @@
--- The reasons why files of entries, of landmarks and of exports are refused.
+-- The reasons why lists of landmarks are refused.
 use Rattle.std.specs.Prelude.{◌++◌, codes}
 use Rattle.std.specs.Fmt.{decimal}
 use Rattle.byte_formats.specs.Types.{Text}
-use Rattle.cosigner_core.specs.declared.error.ReadExportError.{ReadExportError}
-use Rattle.cosigner_core.specs.declared.error.ReadExportError.TheVariants as export_error
-use Rattle.entry_list.specs.declared.error.ItemsError.{ItemsError}
-use Rattle.entry_list.specs.declared.error.ItemsError.TheVariants as items_error
 use Rattle.landmarks.specs.declared.error.ListError.{ListError}
 use Rattle.landmarks.specs.declared.error.ListError.TheVariants as list_error
-
--- Why a file is no list of entries.
-abbrev pub items_fault_text : ItemsError → Text
-items_fault_text (items_error.Short place) = codes "Short " ++ decimal place
-items_fault_text (items_error.BadItem number) = codes "BadItem " ++ decimal number
-items_fault_text items_error.Memory = codes "Memory"
 
 -- Why a file is no list of landmarks.
 abbrev pub list_fault_text : ListError → Text
@@ -22,11 +12,3 @@ list_fault_text (list_error.NotFalling number) = codes "NotFalling " ++ decimal 
 list_fault_text list_error.TooManyActive = codes "TooManyActive"
 list_fault_text list_error.BeyondLog = codes "BeyondLog"
 list_fault_text list_error.Memory = codes "Memory"
-
--- Why a file is no export of a cosigner.
-abbrev pub export_fault_text : ReadExportError → Text
-export_fault_text (export_error.Short place) = codes "Short " ++ decimal place
-export_fault_text export_error.BadKey = codes "BadKey"
-export_fault_text export_error.BadId = codes "BadId"
-export_fault_text (export_error.BadRecord number) = codes "BadRecord " ++ decimal number
-export_fault_text export_error.Memory = codes "Memory"

@@ -13,7 +13,6 @@ ghost use Rattle.mtc_monitor.specs.QuarrelOutcome.{quarrel_says};
 ghost use Rattle.mtc_monitor.specs.Views.{quarrel_reply};
 
 use crate::exported::kept_in;
-use crate::reasons::export_reason;
 use cosigner_core::{Export, ReadExportError};
 use mtc_command::{Answer, LIST_LIMIT, Said, Stop, Stopped, read_input, refuse_file};
 use mtc_io::Memory;

@@ -8,11 +8,12 @@ ghost use Rattle.mtc_command.specs.Endings.{Replies};
 ghost use Rattle.mtc_command.specs.Served.{HasAnswered};
 ghost use Rattle.mtc_monitor.specs.TrustOutcome.{list_says, trust_outcome, trust_says};
 
-use crate::reasons::{items_reason, list_reason};
+use crate::reasons::list_reason;
 use crate::tables::tables;
 use entry_list::{Items, ItemsError, read_items};
 use landmarks::{ListError, read_list};
 use mtc_command::{Answer, INPUT_LIMIT, LIST_LIMIT, Said, Stop, Stopped, read_input, refuse_file};
+use mtc_lines::items_reason;
 use mtc_room::Room;
 use std::alloc::Global;
 use tree_core::TreeHash;

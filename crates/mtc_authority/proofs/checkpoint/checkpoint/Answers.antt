@@ -9,7 +9,8 @@ use Rattle.issuance_log.specs.Words.{log_disk, modelled_by_both, view_of}
 use Rattle.issuance_log.proofs.Asked.{asks_stays}
 use Rattle.mtc_command.specs.Answers.{said}
 use Rattle.mtc_command.specs.declared.answer.Said.TheVariants.{Done}
-use Rattle.mtc_authority.specs.LogOutcomes.{checkpoint_lines, checkpoint_reply}
+use Rattle.mtc_authority.specs.LogOutcomes.{checkpoint_reply}
+use Rattle.mtc_lines.specs.CheckpointLines.{checkpoint_lines}
 use Rattle.mtc_authority.proofs.Replied.{both_so, starved_so, modelled_both, modelled_so}
 use Rattle.mtc_authority.proofs.checkpoint.checkpoint.Goals as goal
 

@@ -8,7 +8,8 @@ use Rattle.mtc_command.specs.Answers.{ending_of}
 use Rattle.mtc_command.specs.Steps.{with_form}
 use Rattle.mtc_command.proofs.Served.{behind}
 use Rattle.mtc_command.proofs.Valid.{behind_valid, kept_valid}
-use Rattle.mtc_cosigner.specs.CosignerOutcomes.{cosign_says, form_fault_text}
+use Rattle.mtc_cosigner.specs.CosignerOutcomes.{cosign_says}
+use Rattle.mtc_lines.specs.Reasons.{form_fault_text}
 use Rattle.mtc_cosigner.specs.Works.{IsCosigner, cosign_outcome, cosigner_outcome}
 use Rattle.mtc_cosigner.specs.Works.{cosigner_says}
 use Rattle.mtc_cosigner.specs.declared.work.Work.TheVariants.{Cosign}
@@ -70,7 +71,7 @@ returns-clause-serves g c =
     no_request subtree_in wanted
     file rooms g.R.Dsk.Disk (journal ∷ (file ∷ [])) (journal ∷ []) old c.read_input.new.room
     c.in_ok-bytes.bytes _ c.in-Err.why _ read.settled g.met.R.Dsk.Disk.only_now read.bytes is
-    c.reason_of.ensures c.refuse_file.ensures
+    c.form_reason.ensures c.refuse_file.ensures
 
 pub returns-in_err-bytes-clause-valid : goal.returns-in_err-bytes-clause-valid
 returns-in_err-bytes-clause-valid g c =

@@ -1,0 +1,2 @@
+pub mod CheckpointLines
+pub mod Reasons
