@@ -1,0 +1,2 @@
+pub mod FourFiles
+pub mod Reached

@@ -1,0 +1,4 @@
+pub mod Reasons
+pub mod RootOutcome
+pub mod HeldOutcome
+pub mod MonitorOutcome

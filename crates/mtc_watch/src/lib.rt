@@ -1,0 +1,15 @@
+//! The commands of those who watch a log from outside: `root`, `held`, `monitor-init` and
+//! `monitor`. They read files alone, and open no journal.
+//!
+//! What each has to answer is a definition over its arguments and the files of the file system, in
+//! a file of `specs/` of its own.
+//!
+//! No clause says that a state file is the text of the run before: `monitor` believes the state
+//! that it is given.
+#![tactic(auto)]
+
+pub mod held;
+mod held_lines;
+pub mod monitor;
+mod reasons;
+pub mod root;
