@@ -11,8 +11,9 @@ use Rattle.cosigner_core.specs.declared.error.CosignError.{CosignError}
 use Rattle.cosigner_core.specs.declared.error.CosignError.TheVariants.{Append}
 use Rattle.mtc_command.specs.Steps.{Files, Outcome, starts, with_file, with_form, with_fresh}
 use Rattle.mtc_cosigner.specs.CosignerOutcomes.{advance_says, advanced_text, cosign_says}
-use Rattle.mtc_cosigner.specs.CosignerOutcomes.{cosigned_text, export_says, form_fault_text}
+use Rattle.mtc_cosigner.specs.CosignerOutcomes.{cosigned_text, export_says}
 use Rattle.mtc_cosigner.specs.CosignerOutcomes.{stepped}
+use Rattle.mtc_lines.specs.Reasons.{form_fault_text}
 use Rattle.mtc_cosigner.specs.InitOutcome.{cosigner_settings_of, init_cosigner_outcome}
 use Rattle.mtc_cosigner.specs.KeygenOutcome.{public_line}
 use Rattle.mtc_cosigner.specs.Works.{advance_outcome, cosign_outcome, cosigner_open_text}

@@ -1,6 +1,7 @@
 mod Texts
 pub mod Reading
 pub mod Auditing
+pub mod Watching
 mod Working
 pub mod Logs
 pub mod Cosigners

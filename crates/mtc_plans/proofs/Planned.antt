@@ -5,7 +5,7 @@ use Rattle.mtc_words.specs.Commands.{CommandValue, member, show, verify, init_lo
 use Rattle.mtc_words.specs.Commands.{checkpoint, entries, consist, subtree, keygen}
 use Rattle.mtc_words.specs.Commands.{init_cosigner, advance, cosign, export, landmark, landmarks}
 use Rattle.mtc_words.specs.Commands.{light_cert, trust_landmarks, cert, audit, drill, tile}
-use Rattle.mtc_words.specs.Commands.{quarrel}
+use Rattle.mtc_words.specs.Commands.{quarrel, root, held, monitor_init, monitor}
 use Rattle.mtc_command.specs.Steps.{Files}
 use Rattle.mtc_authority.specs.declared.work.Work.TheVariants.{Checkpoint, Consist, Entries}
 use Rattle.mtc_authority.specs.declared.work.Work.TheVariants.{Landmark, Landmarks, LightCert}
@@ -20,6 +20,7 @@ use Rattle.mtc_plans.proofs.Cosigners.{init_cosigner_plans}
 use Rattle.mtc_plans.proofs.Logs.{cert_plans, init_log_plans, issue_plans, work_plans}
 use Rattle.mtc_plans.proofs.Reading.{drill_plans, keygen_plans, member_plans, show_plans}
 use Rattle.mtc_plans.proofs.Reading.{trust_plans, verify_plans}
+use Rattle.mtc_plans.proofs.Watching.{held_plans, monitor_init_plans, monitor_plans, root_plans}
 
 module _ (h : HashFunction) where
   pub outcome_planned : (command : CommandValue) (files : Files)
@@ -58,3 +59,8 @@ module _ (h : HashFunction) where
   outcome_planned (quarrel kept) files = quarrel_plans (node_kinds h) h kept files
   outcome_planned (drill number) files = drill_plans (node_kinds h) h number files
   outcome_planned (tile journal) files = work_plans h files changes journal Tile
+  outcome_planned (root items) files = root_plans (node_kinds h) h items files
+  outcome_planned (held kept) files = held_plans (node_kinds h) h kept files
+  outcome_planned (monitor_init id) files = monitor_init_plans (node_kinds h) h id files
+  outcome_planned (monitor state watch request items) files =
+      monitor_plans (node_kinds h) h state watch request items files

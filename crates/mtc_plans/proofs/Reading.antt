@@ -16,7 +16,8 @@ use Rattle.mtc_command.specs.Steps.{Files, Outcome, stops_at}
 use Rattle.mtc_command.specs.declared.answer.Stopped.TheVariants.{BadForm}
 use Rattle.mtc_cosigner.specs.KeygenOutcome.{keygen_outcome, keygen_says, with_secret}
 use Rattle.mtc_drill.specs.Summary.{drill_outcome}
-use Rattle.mtc_monitor.specs.Reasons.{items_fault_text, list_fault_text}
+use Rattle.mtc_lines.specs.Reasons.{items_fault_text}
+use Rattle.mtc_monitor.specs.Reasons.{list_fault_text}
 use Rattle.mtc_monitor.specs.TrustOutcome.{trust_outcome, trust_says}
 use Rattle.mtc_reads.specs.Member.{member_file, member_judgement}
 use Rattle.mtc_reads.specs.MemberOutcome.{judgement_says, member_outcome, member_says}

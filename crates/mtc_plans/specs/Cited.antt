@@ -5,7 +5,7 @@ use Rattle.mtc_words.specs.Commands.{CommandValue, member, show, verify, init_lo
 use Rattle.mtc_words.specs.Commands.{checkpoint, entries, consist, subtree, keygen}
 use Rattle.mtc_words.specs.Commands.{init_cosigner, advance, cosign, export, landmark, landmarks}
 use Rattle.mtc_words.specs.Commands.{light_cert, trust_landmarks, cert, audit, drill, tile}
-use Rattle.mtc_words.specs.Commands.{quarrel}
+use Rattle.mtc_words.specs.Commands.{quarrel, root, held, monitor_init, monitor}
 use Rattle.mtc_command.specs.Answers.{tiles_name}
 use Rattle.mtc_command.specs.Steps.{Files, Outcome}
 use Rattle.mtc_cosigner.specs.InitOutcome.{init_cosigner_outcome}
@@ -26,6 +26,9 @@ use Rattle.mtc_monitor.specs.TrustOutcome.{trust_outcome}
 use Rattle.mtc_reads.specs.MemberOutcome.{member_outcome}
 use Rattle.mtc_reads.specs.ShowOutcome.{show_outcome}
 use Rattle.mtc_reads.specs.VerifyOutcome.{verify_outcome}
+use Rattle.mtc_watch.specs.HeldOutcome.{held_outcome}
+use Rattle.mtc_watch.specs.MonitorOutcome.{monitor_init_outcome, monitor_outcome}
+use Rattle.mtc_watch.specs.RootOutcome.{root_outcome}
 
 -- The outcome of a command on the log of a journal, which reads no files but the log's.
 abbrev pub outcome_on_log : HashFunction → Text → Work → Files → Outcome
@@ -60,3 +63,8 @@ command_outcome h (audit certificate store moment items kept) =
 command_outcome h (quarrel kept) = quarrel_outcome h kept
 command_outcome h (drill number) = λ files. drill_outcome number
 command_outcome h (tile journal) = outcome_on_log h journal Tile
+command_outcome h (root items) = root_outcome h items
+command_outcome h (held kept) = held_outcome h kept
+command_outcome h (monitor_init id) = λ files. monitor_init_outcome id
+command_outcome h (monitor state watch request items) =
+    monitor_outcome h state watch request items

@@ -4,7 +4,7 @@ use Rattle.mtc_words.specs.Commands.{CommandValue, member, show, verify, init_lo
 use Rattle.mtc_words.specs.Commands.{checkpoint, entries, consist, subtree, keygen}
 use Rattle.mtc_words.specs.Commands.{init_cosigner, advance, cosign, export, landmark, landmarks}
 use Rattle.mtc_words.specs.Commands.{light_cert, trust_landmarks, cert, audit, drill, tile}
-use Rattle.mtc_words.specs.Commands.{quarrel}
+use Rattle.mtc_words.specs.Commands.{quarrel, root, held, monitor_init, monitor}
 use Rattle.mtc_command.specs.Steps.{Files, Outcome}
 use Rattle.mtc_authority.specs.declared.work.Work.TheVariants.{Checkpoint, Consist, Entries}
 use Rattle.mtc_authority.specs.declared.work.Work.TheVariants.{Landmark, Landmarks, LightCert}
@@ -18,6 +18,7 @@ use Rattle.mtc_plans.specs.LogPlans.{cert_plan, init_log_plan, issue_plan, work_
 use Rattle.mtc_plans.specs.NodeKinds.{node_kinds}
 use Rattle.mtc_plans.specs.ReadPlans.{drill_plan, keygen_plan, member_plan, show_plan}
 use Rattle.mtc_plans.specs.ReadPlans.{trust_plan, verify_plan}
+use Rattle.mtc_plans.specs.WatchPlans.{held_plan, monitor_init_plan, monitor_plan, root_plan}
 
 -- The plan of each command.
 abbrev pub plan_of : (h : HashFunction) → CommandValue → Plan (node_kinds h)
@@ -47,6 +48,10 @@ plan_of h (audit certificate store moment items kept) =
 plan_of h (quarrel kept) = quarrel_plan h kept
 plan_of h (drill number) = drill_plan number
 plan_of h (tile journal) = work_plan h changes journal Tile
+plan_of h (root items) = root_plan h items
+plan_of h (held kept) = held_plan h kept
+plan_of h (monitor_init id) = monitor_init_plan id
+plan_of h (monitor state watch request items) = monitor_plan h state watch request items
 
 -- What comes of it over these files.
 abbrev pub planned_outcome : HashFunction → CommandValue → Files → Outcome

@@ -2,6 +2,7 @@ pub mod NodeKinds
 pub mod Steps
 pub mod ReadPlans
 pub mod AuditPlans
+pub mod WatchPlans
 pub mod LogWork
 pub mod LogPlans
 pub mod CosignerPlans

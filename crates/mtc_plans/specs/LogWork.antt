@@ -23,7 +23,8 @@ use Rattle.mtc_command.specs.declared.answer.Said.TheVariants.{Done}
 use Rattle.mtc_authority.specs.CertOutcome.{certificate_in, light_text}
 use Rattle.mtc_authority.specs.IssueOutcome.{issued_text, log_fault_text}
 use Rattle.mtc_authority.specs.LandmarkOutcomes.{log_landmarks, next_line}
-use Rattle.mtc_authority.specs.LogOutcomes.{checkpoint_lines, items_of}
+use Rattle.mtc_authority.specs.LogOutcomes.{items_of}
+use Rattle.mtc_lines.specs.CheckpointLines.{checkpoint_lines}
 use Rattle.mtc_authority.specs.RequestOutcomes.{advance_by_log, subtree_of}
 use Rattle.mtc_authority.specs.TileOutcome.{tiled_line}
 use Rattle.mtc_authority.specs.declared.work.Work.{Work}

@@ -16,7 +16,8 @@ use Rattle.tree_core.specs.declared.error.EvalError.{EvalError}
 use Rattle.mtc_command.specs.declared.answer.Said.TheVariants.{Done}
 use Rattle.mtc_cosigner.specs.KeygenOutcome.{lms_type, ots_type, public_line}
 use Rattle.mtc_drill.specs.Summary.{is_summary}
-use Rattle.mtc_monitor.specs.Reasons.{items_fault_text, list_fault_text}
+use Rattle.mtc_lines.specs.Reasons.{items_fault_text}
+use Rattle.mtc_monitor.specs.Reasons.{list_fault_text}
 use Rattle.mtc_monitor.specs.TrustOutcome.{trust_text}
 use Rattle.mtc_reads.specs.Member.{member_file, member_judgement}
 use Rattle.mtc_reads.specs.Reasons.{cert_fault_text, hashes_fault_text, proof_fault_text}

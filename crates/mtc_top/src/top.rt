@@ -37,6 +37,9 @@ use mtc_reads::member::member;
 use mtc_reads::show::show;
 use mtc_reads::verify::verify;
 use mtc_room::Room;
+use mtc_watch::held::held;
+use mtc_watch::monitor::{monitor, monitor_init};
+use mtc_watch::root::root;
 use mtc_words::{Command, WordError, command_word, read_words};
 use std::alloc::Global;
 use tree_core::TreeHash;
@@ -103,6 +106,12 @@ fn perform<'a, H: TreeHash, R: Room>(
         Command::Quarrel(export) => quarrel::<H, R>(alloc, room, export),
         Command::Drill(number) => drill::<H>(alloc, number),
         Command::Tile(log) => on_log::<H, R>(alloc, room, log, Work::Tile),
+        Command::Root(entries) => root::<H, R>(alloc, room, entries),
+        Command::Held(export) => held::<H, R>(alloc, room, export),
+        Command::MonitorInit(log) => monitor_init(alloc, log),
+        Command::Monitor(state, watch, request, entries) => {
+            monitor::<H, R>(alloc, room, state, watch, request, entries)
+        }
     }
 }
 
