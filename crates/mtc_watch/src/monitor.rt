@@ -8,7 +8,8 @@ ghost use Rattle.mtc_command.specs.Endings.{Replies};
 ghost use Rattle.mtc_command.specs.Served.{HasAnswered};
 ghost use Rattle.monitor_core.specs.Monitor.{monitor_of};
 ghost use Rattle.mtc_watch.specs.MonitorOutcome.{kept_says, monitor_init_outcome, monitor_outcome};
-ghost use Rattle.mtc_watch.specs.MonitorOutcome.{new_items_say, new_size_says, run_says, watch_says};
+ghost use Rattle.mtc_watch.specs.MonitorOutcome.{new_items_say, new_size_says, run_says};
+ghost use Rattle.mtc_watch.specs.MonitorOutcome.{watch_says};
 
 use crate::reasons::{run_reason, text_reason};
 use cosigner_core::{AdvanceRequest, read_advance};

@@ -62,4 +62,6 @@ mod tiles;
 #[cfg(test)]
 mod trust;
 #[cfg(test)]
+mod watching;
+#[cfg(test)]
 mod words;
