@@ -1,0 +1,9 @@
+use Rattle.mtc_room.specs.Memory.{disk_in}
+use Rattle.fuse_room.specs.Fused.{inner_room}
+use Rattle.fuse_room.proofs.Fuses.{same_lent}
+use Rattle.fuse_room.proofs.room.FuseRoomRoom.disk.Goals as goal
+
+pub returns-clause-device : goal.returns-clause-device
+returns-clause-device c = λ all. same_lent
+    (disk_in (inner_room c.args.self.now) c.args.name.now) c.in_ok-disk.disk c.lend.result _
+    c.lend.ensures (c.in_ok-disk.ensures.device all)
