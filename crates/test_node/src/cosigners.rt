@@ -8,7 +8,7 @@ use cosigner_core::{
     AdvanceRequest, CosignError, Cosigner, CosignerOpenError, CosignerSettings, SubtreeRequest,
     create,
 };
-use disk_core::{Disk, Fuse, MemDisk};
+use disk_core::{Disk, MemDisk};
 use hss_core::{LmsType, OtsType, SECRET_LEN, Secret, SigBuf};
 use journal_core::{Refused, StartError};
 use mtc_io::Memory;
@@ -17,8 +17,6 @@ use tls_wire::AnchorId;
 use tree_core::{Sha, TreeHash};
 
 pub(crate) type MemCosigner = Cosigner<Sha, MemDisk>;
-
-pub(crate) type FusedCosigner = Cosigner<Sha, Fuse<MemDisk>>;
 
 pub(crate) fn open(alloc: Global, disk: MemDisk) -> Result<MemCosigner, CosignerOpenError> {
     match MemCosigner::open(alloc, disk) {

@@ -26,8 +26,6 @@ mod marks;
 #[cfg(test)]
 mod refusals;
 #[cfg(test)]
-mod stops;
-#[cfg(test)]
 mod tiles;
 #[cfg(test)]
 mod walks;
