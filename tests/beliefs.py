@@ -27,8 +27,8 @@ STATEMENTS = (RUNS, COURSES, PRINTS)
 TRAITS = ("mtc_room/src/room.rt", "disk_core/src/disk.rt", "mtc_io/src/source.rt", "mtc_io/src/sink.rt", "tree_core/src/hashing.rt")
 
 # The promise as a whole is one law. Its level are the crates of what a reader has to take in for it: the list of all their definitions
-# on which it rests, with their types of the code, has at most so many. It ends at the words of the crates below. These are those of
-# these standards and formats, and behind none of them stands one of its level.
+# on which it rests, with their types of the code, has at most so many. It ends at the words of the crates below, which are those of
+# these standards and formats; the definitions of its level on which such a word rests are in the list too.
 WHOLE = r"law_the_whole_\w+"
 LEVEL = ("file_events", "node_history", "mtc_top")
 MOST = 97
@@ -221,18 +221,14 @@ def promise():
     """The definitions of the level of the promise, the types that they name and the words of the kit, and where their list ends."""
     ends = set()
     own, types, kit = reached(named_by(WHOLE), is_below, ends)
+    behind, _, _ = reached(ends)
+    own |= {one: body for one, body in behind.items() if not is_below(*one)}
     return own, sorted(types), {name for words in kit.values() for name in words}, ends
 
 
 def counted(own, types):
     """How many the list of the promise has: the definitions, and the types of the crates of its level."""
     return len(own) + sum(crate in LEVEL for crate, _ in types)
-
-
-def hidden(own, ends):
-    """What the list of the promise lacks: definitions of its level behind the words at which it ends."""
-    behind, _, _ = reached(ends)
-    return sorted(one for one in behind if not is_below(*one) and one not in own)
 
 
 def written(names):
@@ -398,9 +394,7 @@ def summary():
 
 
 def faults():
-    own, types, _, ends = promise()
-    for dotted, name in hidden(own, ends):
-        yield f"{name} of {dotted} is of the level of the promise, and stands behind a word at which its list ends"
+    own, types, _, _ = promise()
     if counted(own, types) > MOST:
         yield f"the promise as a whole rests on {counted(own, types)} definitions and types of its level, and may on {MOST}"
 
