@@ -183,7 +183,7 @@ def reached(waiting, ends=lambda dotted, name: False, found=None):
     waiting = list(waiting)
     while waiting:
         dotted, name = waiting.pop()
-        if ".specs.declared." in dotted:
+        if ".specs.declared." in dotted and (ROOT / "crates" / dotted.split(".")[0]).is_dir():
             types.add(declared(dotted))
             continue
         module = module_of(dotted)
