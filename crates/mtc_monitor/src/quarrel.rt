@@ -16,6 +16,7 @@ use crate::exported::kept_in;
 use cosigner_core::{Export, ReadExportError};
 use mtc_command::{Answer, LIST_LIMIT, Said, Stop, Stopped, read_input, refuse_file};
 use mtc_io::Memory;
+use mtc_lines::export_reason;
 use mtc_room::Room;
 use quarrel_core::{Quarrel, quarrel as found_in};
 use std::alloc::Global;
