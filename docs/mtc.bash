@@ -3,7 +3,7 @@
 _mtc() {
     local word=${COMP_WORDS[COMP_CWORD]} kinds=()
     if [ "$COMP_CWORD" -eq 1 ]; then
-        COMPREPLY=($(compgen -W 'member show verify init-log issue checkpoint entries consist subtree keygen init-cosigner advance cosign export landmark landmarks light-cert tile trust-landmarks cert audit drill' -- "$word"))
+        COMPREPLY=($(compgen -W 'member show verify init-log issue checkpoint entries consist subtree keygen init-cosigner advance cosign export landmark landmarks light-cert tile trust-landmarks cert audit quarrel drill' -- "$word"))
         return
     fi
     case ${COMP_WORDS[1]} in
@@ -28,6 +28,7 @@ _mtc() {
         trust-landmarks) kinds=(LIST MAXACTIVE ENTRIES) ;;
         cert) kinds=(J INDEX START END SIGNATURES) ;;
         audit) kinds=(CERT STORE NOW ENTRIES EXPORT) ;;
+        quarrel) kinds=(EXPORT) ;;
         drill) kinds=(NUMBER) ;;
     esac
     case ${kinds[COMP_CWORD - 2]-} in

@@ -211,6 +211,12 @@ audit k other 1767225600 y x|7|-|mtc: audit: k: Absent
 audit f k 1767225600 y x|7|-|mtc: audit: k: Absent
 audit f other 1767225600 k x|7|-|mtc: audit: k: Absent
 audit f other 1767225600 y k|7|-|mtc: audit: k: Absent
+quarrel x|0|cb639537d7abfedf|
+quarrel empty|0|cb639537d7abfedf|
+quarrel e|2|-|mtc: quarrel: e: BadKey
+quarrel r|2|-|mtc: quarrel: r: Short 111
+quarrel k|7|-|mtc: quarrel: k: Absent
+quarrel|1|-|mtc: quarrel: WrongCount 0 1
 drill 7|0|bdada2c469064269|
 drill 7|0|bdada2c469064269|
 drill|1|-|mtc: drill: WrongCount 0 1
