@@ -1,5 +1,5 @@
--- Programs that are killed, as runs over files in memory of which a device stops.
-use Rattle.std.specs.Prelude.{◌≡◌, ◌⊎◌}
+-- Programs that are killed, as runs over files of which a device stops.
+use Rattle.std.specs.Prelude.{◌≡◌, false}
 use Rattle.byte_formats.specs.Types.{HashFunction, Text}
 use Rattle.disk_core.specs.declared.disk.Disk.{Ghosts as Disks}
 use Rattle.disk_core.specs.declared.fuse.Fuse.{Fuse}
@@ -10,23 +10,31 @@ use Rattle.mtc_room.specs.declared.memory.MemRoom.{MemRoom}
 use Rattle.mtc_room.specs.declared.room.Room.{Ghosts as Rooms}
 use Rattle.fuse_room.specs.Fused.{inner_room}
 use Rattle.fuse_room.specs.declared.room.FuseRoom.{FuseRoom}
-use Rattle.file_events.specs.Worlds.{IsLink, died}
-use Rattle.mtc_words.specs.Words.{command_of}
-use Rattle.mtc_command.specs.Made.{Journaled}
-use Rattle.mtc_command.specs.Served.{IsOther}
-use Rattle.mtc_top.specs.Courses.{DidWith, HasTurned, Turn, owner, program}
-use Rattle.mtc_top.specs.Facts.{facts}
+use Rattle.file_events.specs.Owners.{RunsMayBreak}
+use Rattle.file_events.specs.Worlds.{FileOwner, IsLink, died}
+use Rattle.mtc_words.specs.Names.{is_tiles_name}
+use Rattle.mtc_top.specs.Courses.{HasTurned, Turn, owner, program}
+use Rattle.mtc_top.specs.TileLaws.{tiled_log}
+
+module _ {R S D O E : Type 0} (h : HashFunction) (rooms : Rooms R S D) (disks : Disks D)
+    (outs : Sinks O) (errs : Sinks E) where
+  -- Each run leaves of a journal what a run leaves that broke off. The name of a journal isn't that
+  -- of a file of tiles.
+  abbrev pub JournalsMayBreak : Type 0
+  JournalsMayBreak = (name : Text) → is_tiles_name name ≡ false
+      → RunsMayBreak (program h rooms disks outs errs) (owner h rooms disks outs errs name)
+
+  -- the same of a journal with the file of its tiles
+  abbrev pub LogsMayBreak : Type 0
+  LogsMayBreak = (name : Text) → is_tiles_name name ≡ false
+      → RunsMayBreak (program h rooms disks outs errs) (tiled_log h rooms disks outs errs name)
 
 module _ {O E : Type 0} (h : HashFunction) (fused_rooms : Rooms FuseRoom MemSource (Fuse MemDisk))
     (fuses : Disks (Fuse MemDisk)) (rooms : Rooms MemRoom MemSource MemDisk) (disks : Disks MemDisk)
-    (outs : Sinks O) (errs : Sinks E) where
-  -- A run over fuses leaves of a journal what is supposed of a program that is killed with the same
-  -- words, over the file system inside. The journal is one that the run works on, or no file beside
-  -- its journals has that name.
-  abbrev pub KilledRunsHaveDied : Type 0
-  KilledRunsHaveDied = (old : FuseRoom) (run : Turn FuseRoom O E) (killed : Turn MemRoom O E)
-      → HasTurned h fused_rooms fuses outs errs old run → killed.words ≡ run.words → (name : Text)
-      → ((did : Journaled) × DidWith h fused_rooms fuses outs errs old run name did)
-      ⊎ IsOther (facts h (command_of run.words)).besides name
-      → IsLink (program h rooms disks outs errs) (owner h rooms disks outs errs name)
-      (inner_room old) (died killed (inner_room run.room))
+    (outs : Sinks O) (errs : Sinks E) (o : FileOwner (program h rooms disks outs errs)) where
+  -- A run over fuses is a kill, with the same words, of a program over the files inside.
+  abbrev pub DiesOverFuses : Type 0
+  DiesOverFuses = (old : FuseRoom) (run : Turn FuseRoom O E) (killed : Turn MemRoom O E)
+      → HasTurned h fused_rooms fuses outs errs old run → killed.words ≡ run.words
+      → IsLink (program h rooms disks outs errs) o (inner_room old)
+      (died killed (inner_room run.room))
