@@ -3,7 +3,7 @@
 _mtc() {
     local word=${COMP_WORDS[COMP_CWORD]} kinds=()
     if [ "$COMP_CWORD" -eq 1 ]; then
-        COMPREPLY=($(compgen -W 'member show verify init-log issue checkpoint entries consist subtree keygen init-cosigner advance cosign export landmark landmarks light-cert tile trust-landmarks cert audit quarrel drill' -- "$word"))
+        COMPREPLY=($(compgen -W 'member show verify init-log issue checkpoint entries consist subtree keygen init-cosigner advance cosign export landmark landmarks light-cert tile trust-landmarks cert audit quarrel drill root held monitor-init monitor' -- "$word"))
         return
     fi
     case ${COMP_WORDS[1]} in
@@ -30,6 +30,10 @@ _mtc() {
         audit) kinds=(CERT STORE NOW ENTRIES EXPORT) ;;
         quarrel) kinds=(EXPORT) ;;
         drill) kinds=(NUMBER) ;;
+        root) kinds=(ENTRIES) ;;
+        held) kinds=(EXPORT) ;;
+        monitor-init) kinds=(LOGID) ;;
+        monitor) kinds=(STATE WATCH REQUEST ENTRIES) ;;
     esac
     case ${kinds[COMP_CWORD - 2]-} in
         J | S | FILE | CERT | STORE | REQUEST | SECRET | SIGNATURES | LIST | ENTRIES | EXPORT) COMPREPLY=($(compgen -f -- "$word")) ;;

@@ -32,7 +32,9 @@ COMMANDS = [
     "landmarks log", "light-cert log 2", "light-cert log 4", "trust-landmarks list 2 entries",
     "cert log 2 0 4 signatures", "audit cert store " + MOMENT + " entries export",
     "audit light trusting " + MOMENT + " entries empty", "audit light trusting " + MOMENT + " few empty", "quarrel export", "quarrel empty",
-    "quarrel entries", "drill 7",
+    "quarrel entries", "drill 7", "root entries", "root export", "held export", "held empty", "held entries",
+    "monitor-init 32473.1", "monitor state watch advance entries", "monitor state watch advance few", "monitor watch watch advance entries",
+    "monitor state state advance entries", "monitor state watch subtree entries", "monitor state watch advance export",
     "checkpoint bare", "tile log", "tile full", "cert tiled 2 0 256 empty", "issue tiled request", "tile none.tiles",
 ]
 
@@ -56,7 +58,7 @@ def make_log(folder):
 def make_files(folder):
     """The files of all commands."""
     make_log(folder)
-    for name, text in (("empty", b""), ("secret", bytes(range(48))), ("wrong", REQUEST.format("-a").encode())):
+    for name, text in (("empty", b""), ("state", b"state 32473.1 0\n"), ("watch", b"b.example\n"), ("secret", bytes(range(48))), ("wrong", REQUEST.format("-a").encode())):
         (folder.path / name).write_bytes(text)
     for name in ("member", "cert", "journal"):
         shutil.copy(ROOT / f"examples/first.{name}", folder.path / f"first.{name}")
