@@ -1,7 +1,7 @@
 //! The commands `monitor-init` and `monitor`: the state of a log without entries, and one run of a
 //! monitor.
 
-ghost use Rattle.std.specs.Prelude.{◌≡◌, ◌<◌, ◌^◌, [], ◌∷◌};
+ghost use Rattle.std.specs.Prelude.{◌<◌, ◌^◌, [], ◌∷◌};
 ghost use Rattle.cosigner_core.specs.Views.{advance_parts};
 ghost use Rattle.mtc_command.specs.Answers.{ending_of};
 ghost use Rattle.mtc_command.specs.Endings.{Replies};
