@@ -1,12 +1,12 @@
 -- What a run leaves of the journal of a log and of the file of its tiles, at once.
 use Rattle.std.proofs.Common.{◌≡◌, ◌⊎◌, inl, inr, ℕ, Bool, true, false, List, [], ◌∷◌, ◌++◌, Option}
-use Rattle.std.proofs.Common.{IsOk, Ok, Some, refl, sym, subst, ◌∙◌}
+use Rattle.std.proofs.Common.{Some, subst, ◌∙◌}
 use Rattle.byte_formats.specs.Places.{IsBytes}
 use Rattle.byte_formats.specs.Types.{HashFunction, Text}
 use Rattle.disk_core.specs.Disk.{NoNew}
 use Rattle.disk_core.specs.declared.disk.Disk.{Ghosts as Disks}
 use Rattle.file_events.specs.Events.{CrashStates, Done, HalfDone, Happens}
-use Rattle.file_events.specs.Owners.{ServesLog, did_to}
+use Rattle.file_events.specs.Owners.{ServesLog}
 use Rattle.file_events.specs.Tiles.{AllGo, LeavesTiles, stored}
 use Rattle.file_events.specs.Works.{LeavesAll, Work, journal_work, tiles_work}
 use Rattle.file_events.specs.Worlds.{all_states, breaks_off, done_to, event_with, heard_of}
@@ -16,7 +16,6 @@ use Rattle.journal_core.specs.Format.{Represents}
 use Rattle.mtc_io.specs.declared.sink.Sink.{Ghosts as Sinks}
 use Rattle.mtc_room.specs.Room.{ModelsFile}
 use Rattle.mtc_room.specs.declared.room.Room.{Ghosts as Rooms}
-use Rattle.cosigner_core.specs.Folds.{cosigner_of}
 use Rattle.mtc_words.specs.Words.{command_of}
 use Rattle.mtc_command.specs.Answers.{tiles_name}
 use Rattle.mtc_command.specs.Endings.{IsNamed}

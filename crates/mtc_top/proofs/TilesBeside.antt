@@ -10,7 +10,6 @@ use Rattle.std.specs.Str.{bytes_eq}
 use Rattle.byte_formats.specs.Places.{IsBytes}
 use Rattle.byte_formats.specs.Types.{HashFunction, Text}
 use Rattle.cosigner_core.specs.Folds.{cosigner_of}
-use Rattle.cosigner_core.specs.Records.{cosigner_in}
 use Rattle.cosigner_core.proofs.Behind.{only_begins as cosigner_begins}
 use Rattle.issuance_log.specs.Folds.{LogState, log_of}
 use Rattle.issuance_log.specs.Records.{settings_in}

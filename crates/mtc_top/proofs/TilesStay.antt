@@ -1,6 +1,6 @@
 -- Tiles survive a stop.
-use Rattle.std.proofs.Common.{◌≡◌, inl, inr, ℕ, List, [], ◌∷◌, ◌++◌, None, Option, Some, Ok, refl}
-use Rattle.std.proofs.Common.{arith, rules, length, drop, sym, subst, ap, ◌∙◌}
+use Rattle.std.proofs.Common.{◌≡◌, inl, inr, ℕ, List, [], ◌∷◌, ◌++◌, None, Option, Some, Ok}
+use Rattle.std.proofs.Common.{arith, rules, drop, sym, subst, ap, ◌∙◌}
 use Rattle.std.specs.Prelude.{map}
 use Rattle.std.proofs.lemmas.List.{length-drop, length-take}
 use Rattle.byte_formats.specs.Places.{IsBytes}
@@ -9,7 +9,7 @@ use Rattle.byte_formats.proofs.Steps.{ok_is}
 use Rattle.disk_core.specs.Disk.{part}
 use Rattle.disk_core.specs.declared.disk.Disk.{Ghosts as Disks}
 use Rattle.file_events.specs.Events.{CrashStates, Done, Event, EventHolds, Happens, StatesRepresent}
-use Rattle.file_events.specs.Events.{FirstHolds, appended, broke, elsewhere, ran, reads}
+use Rattle.file_events.specs.Events.{appended, broke, elsewhere, ran, reads}
 use Rattle.file_events.specs.Events.{Journaled, records_after, started, untouched}
 use Rattle.file_events.specs.Tiles.{Goes}
 use Rattle.file_events.specs.Worlds.{IsFileCourse, IsLink, cut, died, states_at, stops, turned}
@@ -17,31 +17,27 @@ use Rattle.file_events.specs.Worlds.{writes}
 use Rattle.file_events.proofs.Owners.{tiles_survive}
 use Rattle.file_events.proofs.Records.{held_durable, none_is, one_list, some_is}
 use Rattle.file_events.specs.Tiles.{stored}
-use Rattle.journal_core.specs.Format.{Represents}
+use Rattle.journal_core.specs.Folds.{taken_from}
 use Rattle.journal_core.proofs.Standing.{found_stands}
 use Rattle.mtc_io.specs.declared.sink.Sink.{Ghosts as Sinks}
 use Rattle.mtc_room.specs.Room.{ModelsFile}
 use Rattle.mtc_room.specs.declared.room.Room.{Ghosts as Rooms}
-use Rattle.tile_store.specs.Causes.{IsNewTile, StandsIn}
+use Rattle.tile_store.specs.Causes.{StandsIn}
 use Rattle.tile_store.specs.Contents.{HoldsTiles, IsTile}
 use Rattle.tile_store.specs.Layout.{IsFull, tile_at}
 use Rattle.tree_core.specs.Tree.{leaf_hash}
-use Rattle.issuance_log.specs.Folds.{LogState, log_behind, log_fold, log_of, new_log}
-use Rattle.issuance_log.specs.Openings.{FoundLog, HasItsTiles, log_read}
+use Rattle.issuance_log.specs.Folds.{LogState, log_behind, log_fold, new_log}
+use Rattle.issuance_log.specs.Openings.{HasItsTiles}
 use Rattle.issuance_log.specs.Settings.{Settings}
 use Rattle.issuance_log.proofs.Behind.{only_begins}
 use Rattle.mtc_command.specs.Answers.{tiles_name}
-use Rattle.mtc_command.specs.Endings.{IsNamed}
 use Rattle.mtc_command.specs.Steps.{held_in}
 use Rattle.mtc_command.proofs.Made.{OnlyNow, ReadsImage}
-use Rattle.mtc_authority.specs.BadTiles.{first_bad}
 use Rattle.mtc_authority.specs.StoredTiles.{HasTilesOf}
 use Rattle.mtc_authority.proofs.BadTiles.{none_bad, none_full}
 use Rattle.mtc_authority.proofs.Both.{CountsNow}
-use Rattle.node_history.specs.Rules.{AreRecords, StartsWith}
+use Rattle.node_history.specs.Rules.{AreRecords}
 use Rattle.mtc_top.specs.Courses.{IsBegun, IsCourse, Link, images_in, owner, program}
-use Rattle.mtc_top.specs.Facts.{facts_of}
-use Rattle.mtc_top.specs.StatusLaws.{IsAboutInput, LacksTile}
 use Rattle.mtc_top.specs.TileLaws.{NoTileIsBad, TilesSurviveStops, tiled_log}
 use Rattle.mtc_top.proofs.Leaves.{contents_image, first_own, modelled_file, serves}
 use Rattle.mtc_top.proofs.LogLeaves.{serves_log}

@@ -1,6 +1,6 @@
 -- Tiles survive a stop: whatever a crash leaves of the journal of a log, the file of its tiles has
 -- those of the log's last size.
-use Rattle.std.specs.Prelude.{◌≡◌, ℕ, List, [], ◌∷◌, None, Ok}
+use Rattle.std.specs.Prelude.{◌≡◌, List, [], ◌∷◌, None, Ok}
 use Rattle.byte_formats.specs.Types.{HashFunction, Text}
 use Rattle.disk_core.specs.declared.disk.Disk.{Ghosts as Disks}
 use Rattle.file_events.specs.Events.{FirstHolds}
