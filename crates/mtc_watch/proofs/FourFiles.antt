@@ -1,5 +1,5 @@
 -- A command after each of the four files that it reads.
-use Rattle.std.proofs.Common.{◌≡◌, ◌≤◌, ℕ, List, [], ◌∷◌, length, Option, Some, ap, sym, ◌∙◌}
+use Rattle.std.proofs.Common.{◌≡◌, ◌≤◌, ℕ, List, [], ◌∷◌, length, Option, Some, ap, sym, subst, ◌∙◌}
 use Rattle.disk_core.specs.declared.disk.Disk.{Ghosts as Disks}
 use Rattle.mtc_room.specs.declared.room.Room.{Ghosts as Rooms}
 use Rattle.byte_formats.specs.Types.{Text}
@@ -28,6 +28,15 @@ module _ (says : Text → Text → Text → Text → Outcome) (one two three fou
 
   abbrev pub names : List Text
   names = one ∷ two ∷ three ∷ four ∷ []
+
+  -- the bytes that were read are these
+  replies_so : (sa sb sc sd a b c d : Text) (ending : Ending) → sa ≡ a → sb ≡ b → sc ≡ c → sd ≡ d
+      → Replies (says sa sb sc sd).answer ending → Replies (says a b c d).answer ending
+  replies_so sa sb sc sd a b c d ending is_a is_b is_c is_d replies =
+      subst (λ t. Replies (says a b c t).answer ending) is_d
+      (subst (λ t. Replies (says a b t sd).answer ending) is_c
+      (subst (λ t. Replies (says a t sc sd).answer ending) is_b
+      (subst (λ t. Replies (says t sb sc sd).answer ending) is_a replies)))
 
   module _ {R S D : Type 0} (rooms : Rooms R S D) (disks : Disks D) (old mid new : R)
       (ending : Ending) (back : ClosesAll rooms old mid []) where
@@ -74,13 +83,13 @@ module _ (says : Text → Text → Text → Text → Outcome) (one two three fou
   -- the last file was read, and the answer given
   module _ {R S D : Type 0} (rooms : Rooms R S D) (disks : Disks D) (old new : R)
       (ending : Ending) (back : ClosesAll rooms old new []) (only_now : OnlyNow disks) where
-    pub behind_fourth : (a b c d : Text)
+    pub behind_fourth : (sa sb sc sd a b c d : Text)
         → (rooms.is_modelled old → (rooms.file old four ≡ Some d) × (length d ≤ 1073741824))
-        → Replies (says a b c d).answer ending
+        → sa ≡ a → sb ≡ b → sc ≡ c → sd ≡ d → Replies (says sa sb sc sd).answer ending
         → HasAnswered rooms disks names (from_fourth (rooms.file old four) a b c) old new ending
-    behind_fourth a b c d is replies =
+    behind_fourth sa sb sc sd a b c d is is_a is_b is_c is_d replies =
         answered rooms disks names [] [] (from_fourth (rooms.file old four) a b c) old new back
         only_now ending (says a b c d).answer
         (λ t. ap (λ (w : Outcome). w.answer) (sym (bytes_read 1073741824 four
         (rooms.file old four) d (λ y. says a b c y) (is t).0 (is t).1)))
-        replies
+        (replies_so sa sb sc sd a b c d ending is_a is_b is_c is_d replies)

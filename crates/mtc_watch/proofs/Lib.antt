@@ -1,2 +1,2 @@
 pub mod FourFiles
-pub mod Reached
+pub mod StepsLeft

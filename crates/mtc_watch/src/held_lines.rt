@@ -39,7 +39,7 @@ fn key_count(public: &[u8]) -> Option<u32>
 }
 
 // How far the steps bring a cosigner that holds nothing.
-fn reached<H: TreeHash>(steps: &[Step]) -> Reached
+fn steps_made<H: TreeHash>(steps: &[Step]) -> Reached
     ensures { record { held = result.held; next = result.signs }
         ≡ with_steps (first_progress H.hash) steps.now }
 {
@@ -159,7 +159,7 @@ fn put_progress<H: TreeHash>(alloc: Global, out: &mut Bytes, export: &Export) ->
         (with_steps (first_progress H.hash) export.now.steps)) }
 {
     let steps = export.steps.as_slice();
-    let reached = reached::<H>(steps);
+    let reached = steps_made::<H>(steps);
     put_checkpoint(alloc, out, &reached.held)?;
     put_signs(alloc, out, reached.signs)?;
     put_left(alloc, out, key_count(&export.public), reached.signs)?;

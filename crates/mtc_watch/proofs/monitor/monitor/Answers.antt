@@ -89,6 +89,7 @@ returns g c =
     g.R.Room g.R.Dsk.Disk _ _ _ _ c.in_ok-asked.ensures.settled c.in_ok-kept.kept
     c.in_ok-domains.domains c.in_ok-asked.asked c.in_ok-asked.ensures.bytes
     (behind_fourth f a.state.now a.watch.now a.request.now a.entries.now
-    g.R.Room g.R.Dsk.Disk _ _ _ c.in_ok-listed.ensures.settled g.met.R.Dsk.Disk.only_now
+    g.R.Room g.R.Dsk.Disk _ _ _ c.in_ok-listed.ensures.settled g.met.R.Dsk.Disk.only_now _ _ _ _
     c.in_ok-kept.kept c.in_ok-domains.domains c.in_ok-asked.asked c.in_ok-listed.listed
-    c.in_ok-listed.ensures.bytes c.kept_answer.ensures)))
+    c.in_ok-listed.ensures.bytes c.as_slice.ensures c.as_slice-2.ensures c.as_slice-3.ensures
+    c.as_slice-4.ensures c.kept_answer.ensures)))

@@ -1,6 +1,6 @@
 use Rattle.cosigner_core.specs.Progress.{first_progress}
-use Rattle.mtc_watch.proofs.Reached.{Reaches}
-use Rattle.mtc_watch.proofs.held_lines.reached.Given as goal
+use Rattle.mtc_watch.proofs.StepsLeft.{Reaches}
+use Rattle.mtc_watch.proofs.held_lines.steps_made.Given as goal
 
 -- The steps that are left bring the cosigner to where all steps bring it.
 abbrev pub invariant-loop-step : goal.invariant-loop-step
