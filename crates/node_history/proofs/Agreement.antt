@@ -1,25 +1,25 @@
 -- The rules of a history and those of the journals are the same.
-use Rattle.std.proofs.Common.{◌≡◌, inl, inr, ℕ, ◌==◌, Bool, true, false, List, [], ◌∷◌}
-use Rattle.std.proofs.Common.{◌++◌, Option, Some, None, IfSome, Result, Ok, Err, is_ok, refl, ap}
-use Rattle.std.proofs.Common.{sym, ◌∙◌, subst, option_and_then, arith}
+use Rattle.std.proofs.Common.{◌≡◌, inl, inr, ℕ, ◌==◌, true, false, List, [], ◌∷◌, ◌++◌, Some}
+use Rattle.std.proofs.Common.{IfSome, Result, Ok, Err, is_ok, refl, ap, sym, ◌∙◌, subst}
+use Rattle.std.proofs.Common.{option_and_then, arith}
 use Rattle.std.proofs.lemmas.Bool.{eqb-true}
-use Rattle.std.specs.Prelude.{if◌then◌else◌, IsOk}
+use Rattle.std.proofs.lemmas.Option.{IfSome_then}
+use Rattle.std.specs.Prelude.{IsOk}
 use Rattle.byte_formats.specs.Types.{HashFunction, Text}
 use Rattle.byte_formats.specs.Places.{At, at}
-use Rattle.byte_formats.proofs.Steps.{ok_is}
+use Rattle.byte_formats.proofs.Values.{then_some, when_some}
 use Rattle.tls_wire.specs.Reading.{number_at}
 use Rattle.tls_wire.specs.declared.cursor.Short.{Short}
 use Rattle.std.specs.Int.{w8}
-use Rattle.byte_formats.specs.Readings.{whole_of}
-use Rattle.journal_core.specs.Folds.{taken_from}
+use Rattle.journal_core.specs.Folds.{state_behind, taken_from}
 use Rattle.journal_core.specs.Format.{Represents}
 use Rattle.journal_core.proofs.Found.{read_standing}
-use Rattle.issuance_log.specs.Folds.{LogState, log_fold, log_of}
+use Rattle.issuance_log.specs.Folds.{LogState, log_of}
 use Rattle.issuance_log.specs.Records.{settings_at, settings_in, log_settings_with, tagged}
 use Rattle.issuance_log.specs.Settings.{Settings}
 use Rattle.issuance_log.proofs.Behind as logs
 use Rattle.cosigner_core.specs.Counts.{AreCounted}
-use Rattle.cosigner_core.specs.Folds.{cosigner_fold, cosigner_of}
+use Rattle.cosigner_core.specs.Folds.{cosigner_of}
 use Rattle.cosigner_core.specs.Progress.{progress_by, progress_in, steps_in}
 use Rattle.cosigner_core.specs.Records.{cosigner_in, first_by_tag}
 use Rattle.cosigner_core.specs.declared.settings.CosignerSettings.{CosignerSettings}
@@ -28,7 +28,7 @@ use Rattle.hss_core.specs.Hss.{one_level_public}
 use Rattle.lms_core.specs.Trees.{private_key}
 use Rattle.node_history.specs.Laws.{IsSoundParty}
 use Rattle.node_history.specs.Nodes.{HistoryState}
-use Rattle.node_history.specs.Rules.{AreRecords, IsReadAs, StartsWith, may_follow}
+use Rattle.node_history.specs.Rules.{AreRecords, IsReadAs, StartsWith, may_follow, party_fold}
 use Rattle.node_history.specs.declared.start.NodeStart.{NodeStart}
 use Rattle.node_history.specs.declared.start.NodeStart.TheVariants.{Log, Cosigner}
 use Rattle.node_history.proofs.Chains.{no_some}
@@ -39,40 +39,21 @@ unfolding taken_from progress_in steps_in progress_by
 alone h (Log settings) = refl
 alone h (Cosigner settings public) = refl
 
--- ---- a first record is not one of both kinds
-
-tested : {X : Type 0} (b : Bool) (o : Option X) (x : X) → (if b then o else None) ≡ Some x
-    → b ≡ true
-tested true o x is = refl
-tested false o x is = no_some x is
-
-log_tagged : (r : Result (ℕ × At) Short) (s : Settings)
-    → option_and_then log_settings_with (tagged 1 settings_at r) ≡ Some s
-    → (tag : ℕ × At) × ((r ≡ Ok tag) × (tag.0 ≡ 1))
-log_tagged (Err short) s is = no_some s is
-log_tagged (Ok tag) s is = (tag, (refl, eqb-true tag.0 1 (go (tag.0 == 1) is)))
-  where
-    go : (b : Bool) → option_and_then log_settings_with
-        (if b then whole_of (settings_at tag.1) else None) ≡ Some s → b ≡ true
-    go true is = refl
-    go false is = no_some s is
-
-cosigner_tagged : (r : Result (ℕ × At) Short) (x : CosignerSettings × Text)
-    → first_by_tag r ≡ Some x → (tag : ℕ × At) × ((r ≡ Ok tag) × (tag.0 ≡ 17))
-cosigner_tagged (Err short) x is = no_some x is
-cosigner_tagged (Ok tag) x is =
-    (tag, (refl, eqb-true tag.0 17 (tested (tag.0 == 17) _ x is)))
-
+-- a first record is not one of both kinds
 pub apart : (first : Text) (s : Settings) (x : CosignerSettings × Text) → settings_in first ≡ Some s
     → cosigner_in first ≡ Some x → ⊥
 unfolding settings_in cosigner_in
-apart first s x log cosigner =
-    let one = log_tagged (number_at w8 (at first 0)) s log in
-    let two = cosigner_tagged (number_at w8 (at first 0)) x cosigner in
-    let same = ok_is Short one.0 two.0 (sym one.1.0 ∙ two.1.0) in
-    let tags : one.0.0 ≡ two.0.0 = ap (λ (t : ℕ × At). t.0) same in
-    let a = one.1.1 in
-    let b = two.1.1 in absurd (omega arith)
+apart first s x = by_tag (number_at w8 (at first 0))
+  where
+    by_tag : (r : Result (ℕ × At) Short)
+        → option_and_then log_settings_with (tagged 1 settings_at r) ≡ Some s
+        → first_by_tag r ≡ Some x → ⊥
+    by_tag (Err short) log cosigner = no_some s log
+    by_tag (Ok tag) log cosigner =
+        let some = then_some log_settings_with (tagged 1 settings_at (Ok tag)) s log in
+        let one = when_some (tag.0 == 1) _ some.0 some.1 in
+        let two = when_some (tag.0 == 17) _ x cosigner in
+        absurd (omega (arith, eqb-true tag.0 1 one.0, eqb-true tag.0 17 two.0))
 
 -- ---- valid records
 
@@ -113,40 +94,49 @@ starts_so h first bodies (inr is) =
       (secret, (found.1, refl)),
     )
 
+-- ---- the rules of a party, by what its records make
+
+-- they make something exactly if they may follow
+follows : (h : HashFunction) (start : NodeStart) (first : Text) (bodies : List Text)
+    → StartsWith start first
+    → is_ok (state_behind (party_fold h start) (first ∷ bodies)) ≡ may_follow h start bodies
+follows h (Log settings) first bodies starts =
+    ap (λ (r : Result LogState ℕ). is_ok r) (logs.begins_so h first settings bodies starts)
+follows h (Cosigner settings public) first bodies starts =
+    cosigners.begins_so h first settings starts.0 bodies starts.1.0
+
+-- records that begin so make nothing else
+only : (h : HashFunction) (start : NodeStart) (first : Text) (bodies : List Text)
+    → StartsWith start first → AreRecords h (first ∷ bodies)
+    → IsOk (state_behind (party_fold h start) (first ∷ bodies))
+only h (Log settings) first bodies starts (inl is) = is
+only h (Log settings) first bodies starts (inr is) =
+    let other = first_of_cosigner h first bodies is in
+    absurd (apart first settings other.0 starts other.1)
+only h (Cosigner settings public) first bodies starts (inl is) =
+    let other = first_of_log h first bodies is in
+    absurd (apart first other.0 (settings, starts.0) other.1 starts.1.0)
+only h (Cosigner settings public) first bodies starts (inr is) = is
+
 pub back : (h : HashFunction) (start : NodeStart) (first : Text) (bodies : List Text)
     → StartsWith start first → may_follow h start bodies ≡ true → AreRecords h (first ∷ bodies)
 back h (Log settings) first bodies starts may =
-    inl (ap (λ (r : Result LogState ℕ). is_ok r) (logs.begins_so h first settings bodies starts)
-    ∙ may)
+    inl (follows h (Log settings) first bodies starts ∙ may)
 back h (Cosigner settings public) first bodies starts may =
-    inr (cosigners.begins_so h first settings starts.0 bodies starts.1.0 ∙ may)
+    inr (follows h (Cosigner settings public) first bodies starts ∙ may)
 
 pub agree : (h : HashFunction) (start : NodeStart) (first : Text) (bodies : List Text)
     → StartsWith start first → AreRecords h (first ∷ bodies) → may_follow h start bodies ≡ true
-agree h (Log settings) first bodies starts (inl is) =
-    sym (ap (λ (r : Result LogState ℕ). is_ok r)
-    (logs.begins_so h first settings bodies starts)) ∙ is
-agree h (Log settings) first bodies starts (inr is) =
-    let other = first_of_cosigner h first bodies is in
-    absurd (apart first settings other.0 starts other.1)
-agree h (Cosigner settings public) first bodies starts (inl is) =
-    let other = first_of_log h first bodies is in
-    absurd (apart first other.0 (settings, starts.0) other.1 starts.1.0)
-agree h (Cosigner settings public) first bodies starts (inr is) =
-    sym (cosigners.begins_so h first settings starts.0 bodies starts.1.0) ∙ is
+agree h start first bodies starts records =
+    sym (follows h start first bodies starts) ∙ only h start first bodies starts records
 
 pub read : (h : HashFunction) (start : NodeStart) (first : Text) (bodies : List Text)
     (bytes : Text) → StartsWith start first → may_follow h start bodies ≡ true
     → Represents bytes (first ∷ bodies) → IsReadAs h start bytes (first ∷ bodies)
-read h (Log settings) first bodies bytes starts may stands =
-    let made = made_so (log_of h (first ∷ bodies))
-    (ap (λ (r : Result LogState ℕ). is_ok r) (logs.begins_so h first settings bodies starts)
-    ∙ may) in
-    (made.0, read_standing (log_fold h) bytes (first ∷ bodies) made.0 stands made.1)
-read h (Cosigner settings public) first bodies bytes starts may stands =
-    let made = made_so (cosigner_of h (first ∷ bodies))
-    (cosigners.begins_so h first settings starts.0 bodies starts.1.0 ∙ may) in
-    (made.0, read_standing (cosigner_fold h) bytes (first ∷ bodies) made.0 stands made.1)
+read h start first bodies bytes starts may stands =
+    let made = made_so (state_behind (party_fold h start) (first ∷ bodies))
+    (follows h start first bodies starts ∙ may) in
+    (made.0, read_standing (party_fold h start) bytes (first ∷ bodies) made.0 stands made.1)
 
 -- ---- one-time keys
 
@@ -158,18 +148,11 @@ of_valid h start settings public bodies is may =
     = subst (λ (s : NodeStart). may_follow h s bodies ≡ true) is may in
     cosigners.once_each h settings bodies same
 
-of_pending : (h : HashFunction) (start : NodeStart) (settings : CosignerSettings) (public : Text)
-    (list : List Text) (p : Option Text) → start ≡ Cosigner settings public
-    → IfSome p (λ body. may_follow h start (list ++ body ∷ []) ≡ true)
-    → IfSome p (λ body. AreCounted (list ++ body ∷ []))
-of_pending h start settings public list None is may = tt
-of_pending h start settings public list (Some body) is may =
-    of_valid h start settings public (list ++ body ∷ []) is may
-
 pub once_used : (h : HashFunction) (s : HistoryState) (settings : CosignerSettings)
     (public : Text) → IsSoundParty (may_follow h) s → s.start ≡ Cosigner settings public
     → AreCounted s.settled × IfSome s.pending (λ body. AreCounted (s.settled ++ body ∷ []))
 once_used h s settings public sound is = (
   of_valid h s.start settings public s.settled is sound.settled,
-  of_pending h s.start settings public s.settled s.pending is sound.pending,
+  IfSome_then s.pending sound.pending (λ body.
+      of_valid h s.start settings public (s.settled ++ body ∷ []) is),
 )

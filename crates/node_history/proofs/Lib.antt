@@ -1,10 +1,7 @@
 pub mod Agreement
-pub mod Begun
 pub mod Chains
 pub mod Cosigners
 pub mod Entries
-pub mod GoesOn
-pub mod Handed
 pub mod Items
 pub mod Keys
 mod Replays

@@ -28,41 +28,22 @@ with_pending list (Some body) = list ++ body ∷ []
 
 -- a record begins
 abbrev pub begin : Text → HistoryState → HistoryState
-begin body s = record {
-  start = s.start;
-  settled = s.settled;
-  pending = Some body;
-  handed = s.handed;
-  may_hand = s.may_hand;
-}
+begin body s = record s { pending = Some body }
 
 -- the pending record becomes durable
 abbrev pub settle : HistoryState → HistoryState
-settle s = record {
-  start = s.start;
-  settled = with_pending s.settled s.pending;
-  pending = None;
-  handed = s.handed;
-  may_hand = true;
-}
+settle s =
+    record s { settled = with_pending s.settled s.pending; pending = None; may_hand = true }
 
 -- the last durable record is released
 abbrev pub hand : HistoryState → HistoryState
-hand s = record {
-  start = s.start;
-  settled = s.settled;
-  pending = s.pending;
-  handed = s.handed ++ length s.settled ∷ [];
-  may_hand = false;
-}
+hand s = record s { handed = s.handed ++ length s.settled ∷ []; may_hand = false }
 
 -- it stops: a pending record becomes durable or is gone
 abbrev pub stop : Bool → HistoryState → HistoryState
-stop kept s = record {
-  start = s.start;
+stop kept s = record s {
   settled = if kept then with_pending s.settled s.pending else s.settled;
   pending = None;
-  handed = s.handed;
   may_hand = false;
 }
 

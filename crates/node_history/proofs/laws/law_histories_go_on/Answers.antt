@@ -1,5 +1,5 @@
 use Rattle.node_history.specs.Rules.{may_follow}
-use Rattle.node_history.proofs.GoesOn.{begins_fresh, goes_on}
+use Rattle.node_history.proofs.Chains.{begins_fresh, goes_on}
 use Rattle.node_history.proofs.laws.law_histories_go_on.Goals as goal
 
 pub returns-clause-begins : goal.returns-clause-begins
