@@ -36,7 +36,7 @@ _mtc() {
         monitor) kinds=(STATE WATCH REQUEST ENTRIES) ;;
     esac
     case ${kinds[COMP_CWORD - 2]-} in
-        J | S | FILE | CERT | STORE | REQUEST | SECRET | SIGNATURES | LIST | ENTRIES | EXPORT) COMPREPLY=($(compgen -f -- "$word")) ;;
+        J | S | FILE | CERT | STORE | REQUEST | SECRET | SIGNATURES | LIST | ENTRIES | EXPORT | STATE | WATCH) COMPREPLY=($(compgen -f -- "$word")) ;;
         HEIGHT) COMPREPLY=($(compgen -W '5 10' -- "$word")) ;;
         WIDTH) COMPREPLY=($(compgen -W '1 2 4 8' -- "$word")) ;;
         *) COMPREPLY=() ;;

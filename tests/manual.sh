@@ -33,7 +33,7 @@ man_page() {
     printf '.\\" Made by tests/manual.sh from docs/COMMANDS.md.\n'
     printf '.TH MTC 1\n.SH NAME\nmtc \\- authority, cosigners and relying party for Merkle Tree Certificates\n'
     printf '.SH SYNOPSIS\n.B mtc\n.I COMMAND WORD\\fR..\n.SH DESCRIPTION\n'
-    awk '/^All words are positional/' "$page" | as_roff
+    awk '/^All arguments are positional/' "$page" | as_roff
     printf '.SH COMMANDS\n'
     table Command 'It does' | tr -d '`' | while IFS='|' read -r words does prints; do
         name=${words%% *}
@@ -67,7 +67,7 @@ completion() {
     done
     echo '    esac'
     echo '    case ${kinds[COMP_CWORD - 2]-} in'
-    echo '        J | S | FILE | CERT | STORE | REQUEST | SECRET | SIGNATURES | LIST | ENTRIES | EXPORT) COMPREPLY=($(compgen -f -- "$word")) ;;'
+    echo '        J | S | FILE | CERT | STORE | REQUEST | SECRET | SIGNATURES | LIST | ENTRIES | EXPORT | STATE | WATCH) COMPREPLY=($(compgen -f -- "$word")) ;;'
     echo "        HEIGHT) COMPREPLY=(\$(compgen -W '5 10' -- \"\$word\")) ;;"
     echo "        WIDTH) COMPREPLY=(\$(compgen -W '1 2 4 8' -- \"\$word\")) ;;"
     echo '        *) COMPREPLY=() ;;'
