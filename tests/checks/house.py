@@ -276,7 +276,7 @@ def counts():
     """How many words stand in pages by hand, and how many in those that have a limit of their own; what a script makes is left out."""
     made = re.compile(rf"<!-- ({'|'.join(MADE)}): begin.*?<!-- \1: end -->", re.S)
     found = {page.name: len(made.sub("", page.read_text()).split()) for page in by_hand()
-             if page.parent == DOCS or page.name == "README.md"}
+             if page.parent == DOCS or page == ROOT / "README.md"}
     return {name: count for name, count in {"by_hand": sum(found.values()), **found}.items() if name in COUNTED}
 
 
