@@ -28,6 +28,7 @@ printf '[log]\nid = "32473.1"\n' | tee store >other
 printf '[[%s]]\n%s\n%s\n' cosigner 'id = "32473.2"' 'key = "AAAAAQAAAAUAAAADMDAwMDAwMDAwMDAwMDAwMIB1NLdgPEPM0E/kvwFyxip3db1CJTKwvsyumrhWwUuV"' \
     rule 'cosigners = ["32473.2"]' 'count = 1' >>other
 : >empty
+echo a.example >names
 
 wrong=0
 count=0
@@ -217,6 +218,27 @@ quarrel e|2|-|mtc: quarrel: e: BadKey
 quarrel r|2|-|mtc: quarrel: r: Short 111
 quarrel k|7|-|mtc: quarrel: k: Absent
 quarrel|1|-|mtc: quarrel: WrongCount 0 1
+root y|0|0eedf9c50912344e|
+root empty|0|720462d30f425884|
+root e|2|-|mtc: root: e: Short 1155
+root k|7|-|mtc: root: k: Absent
+root|1|-|mtc: root: WrongCount 0 1
+held x|0|879957f0f963025d|
+held empty|0|72bc30bd85d75d05|
+held e|2|-|mtc: held: e: BadKey
+held r|2|-|mtc: held: r: Short 111
+held k|7|-|mtc: held: k: Absent
+monitor-init 32473.1 >v|0|51c9cb3f6f35b380|
+monitor-init 01|1|-|mtc: monitor-init: BadId 1
+monitor v names a z >A|0|dece5e135f727f69|
+monitor v empty a z|0|812d01c9af8c3473|
+monitor A names b y|4|-|mtc: monitor: ItemCount 3 1
+monitor v names a y|4|-|mtc: monitor: ItemCount 3 2
+monitor A names a z|4|-|mtc: monitor: NotNewer 2
+monitor v names b y|4|-|mtc: monitor: BadProof
+monitor e names a z|2|-|mtc: monitor: e: BadLine 0
+monitor v secret a z|2|-|mtc: monitor: secret: BadLine 0
+monitor v k a z|7|-|mtc: monitor: k: Absent
 drill 7|0|bdada2c469064269|
 drill 7|0|bdada2c469064269|
 drill|1|-|mtc: drill: WrongCount 0 1
