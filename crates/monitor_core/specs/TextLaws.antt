@@ -19,8 +19,8 @@ IsIndexed (Unread index) = index < 2 ^ 64
 abbrev pub AreWholeLines : Text → Type 0
 AreWholeLines text = (text ≡ []) ⊎ ((front : Text) × (text ≡ front ++ (0x0A ∷ [])))
 
--- The text of what was found is read as the state that was found; a text that is read is whole lines
--- and the line of what was read; and states with one line are one state.
+-- The text of what was found is read as the state that was found; a text that is read is whole
+-- lines and the line of what was read; and states with one line are one state.
 pub record StatesAreReadAsWritten : Type 0 where
   pub again : (found : Findings) → IsKept found.state → AllByRecursion IsIndexed found.lines
       → state_in (found_text found) ≡ Ok found.state

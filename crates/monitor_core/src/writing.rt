@@ -177,7 +177,7 @@ pub fn write_state(alloc: Global, state: &State) -> Result<Bytes, Memory>
 
 /// The text of what was found: a line for each line of the report, `match` with the index and the
 /// name, `match-hex` with the name in hexadecimal where a byte isn't from 21 to 7E, or `unread`
-/// with the index; and last the line of the state. It is read as that state again, where the size is
+/// with the index; and last the line of the state. It is read as that state again, if the size is
 /// below 2^63.
 #[tactic(auto, unfolding(crate::specs::Written::found_text))]
 pub fn write_found(alloc: Global, found: &Found) -> Result<Bytes, Memory>

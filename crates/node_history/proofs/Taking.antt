@@ -214,7 +214,7 @@ module _ (h : HashFunction) where
         }) records;
   }
 
-  -- each node's history goes on
+  -- each party's history continues
   module _ (list : List Text) (pending : Option Text) (out : List Text)
       (r : HasHistory h list pending out) where
     abbrev Each : List Text → Option Text → List Text → Type 0
