@@ -155,7 +155,7 @@ now_of g only None c is = is
 now_of g only (Some d) c is = only d c is
 
 -- one record more is another list
-one_longer : (list : List (List ℕ)) (body : List ℕ) → list ≡ list ++ body ∷ [] → ⊥
+pub one_longer : (list : List (List ℕ)) (body : List ℕ) → list ≡ list ++ body ∷ [] → ⊥
 one_longer list body is = omega (arith, ap length is, length-append list (body ∷ []))
 
 -- ---- an event of a journal that isn't opened

@@ -131,45 +131,45 @@ module _ {R S D O E : Type 0} (h : HashFunction) (rooms : Rooms R S D) (disks : 
     -- a run that came to its end and left nothing new has added nothing
     kept_left : (d : Journaled) → KnowsOf d → Done (AreRecords h) d Before Now
         → KeepsBoth (HasTilesOf h) asked.Valid rooms disks old turn.room name → Left d
-    kept_left untouched knows done kept = kept.beside.images.now_is
-    kept_left (reads list) knows done kept =
+    kept_left untouched known done kept = kept.beside.images.now_is
+    kept_left (reads list) known done kept =
         λ all c at. all c (kept.beside.images.now_is c at)
-    kept_left (appended list body) knows done kept =
-        let is = knows.finds in
+    kept_left (appended list body) known done kept =
+        let is = known.finds in
         absurd (one_longer list body (one_list is.bytes list (list ++ body ∷ []) is.stands
         (done.1 is.bytes (contents_image disks (rooms.device turn.room name) is.bytes image
         (kept.contents ∙ told h rooms disks outs errs image only contents bytes name old turn
         is_modelled run (AreRecords h) keeps is.bytes is.there)))))
-    kept_left (started body) knows done kept = kept.beside.images.now_is
+    kept_left (started body) known done kept = kept.beside.images.now_is
 
     half_left : (d : Journaled) → KnowsOf d
         → NoNew Before Now ⊎ HalfDone (AreRecords h) d Before Now
         → StoresBoth (HasTilesOf h) asked.Valid d Now TilesBefore TilesNow
         → HalfDone (AreRecords h) d Before Now
-    half_left untouched knows is works = elim is [ inl kept ↦ kept | inr kept ↦ kept ]
-    half_left (reads list) knows is works = (
+    half_left untouched known is began = elim is [ inl kept ↦ kept | inr kept ↦ kept ]
+    half_left (reads list) known is began = (
       found h rooms disks outs errs image only contents bytes name old turn is_modelled run
-          (AreRecords h) keeps list knows.finds,
-      works.stands,
+          (AreRecords h) keeps list known.finds,
+      began.stands,
     )
-    half_left (appended list body) knows is works = (
+    half_left (appended list body) known is began = (
       may_append h rooms disks outs errs image only contents bytes name old turn is_modelled run
-          (AreRecords h) keeps list body knows.finds works.valid,
-      works.stands,
+          (AreRecords h) keeps list body known.finds began.valid,
+      began.stands,
     )
-    half_left (started body) knows is works =
+    half_left (started body) known is began =
         empty_before h rooms disks outs errs image only contents bytes name old turn is_modelled run
-        (AreRecords h) keeps body knows.is_new
+        (AreRecords h) keeps body known.is_new
 
     both_left : (broken : Bool) (d : Journaled) → KnowsOf d
         → Happens (AreRecords h) (event_with broken heard d) Before Now → Both d → All broken d
-    both_left false d knows is both = elim both [
-      | inl kept ↦ (is, (kept_left d knows is kept, tt))
-      | inr works ↦ (is, (works.left, tt))
+    both_left false d known is both = elim both [
+      | inl kept ↦ (is, (kept_left d known is kept, tt))
+      | inr began ↦ (is, (began.left, tt))
     ]
-    both_left true d knows is both = elim both [
+    both_left true d known is both = elim both [
       | inl kept ↦ inl (kept.journal.images.now_is, (kept.beside.images.now_is, tt))
-      | inr works ↦ inr (half_left d knows is works, (works.left, tt))
+      | inr began ↦ inr (half_left d known is began, (began.left, tt))
     ]
 
     -- ---- any other journal, or none

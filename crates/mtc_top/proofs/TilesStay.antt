@@ -184,13 +184,13 @@ module _ {R S D O E : Type 0} (h : HashFunction) (rooms : Rooms R S D) (disks : 
       (link_so name old link is.0, journal_course name links _ new is.1)
 
   pub no_tile_bad : NoTileIsBad h rooms disks outs errs
-  no_tile_bad name first old new links is_modelled holds course start command turn starts on ran
+  no_tile_bad name first old new links is_modelled holds course start command turn starts on run
       spoken two =
       let begun : IsBegun h rooms disks outs errs name start first old links
       = record { is_modelled = is_modelled; others = []; held = holds; starts = starts } in
       let journal = journal_course name links old new course in
       let is = misread_inputs h rooms disks outs errs image only contents bytes name start first old
-      new links begun journal command turn on ran spoken two in
+      new links begun journal command turn on run spoken two in
       let modelled = modelled_then h rooms disks outs errs image only contents bytes name start
       first old new links begun journal in
       elim is.input [
