@@ -4,6 +4,8 @@
 #![tactic(auto)]
 
 #[cfg(test)]
+mod all_keys;
+#[cfg(test)]
 mod audits;
 #[cfg(test)]
 mod certificates;

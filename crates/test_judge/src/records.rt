@@ -79,8 +79,8 @@ fn put_body(alloc: Global, bytes: &mut Bytes, word: &str) -> Option<()> {
     put_proof(alloc, bytes, hashes)
 }
 
-// Appends a record with this body to the bytes.
-fn put_record(bytes: &mut Bytes, body: &[u8]) -> Result<(), Memory> {
+/// Appends a record with this body to the bytes.
+pub fn put_record(bytes: &mut Bytes, body: &[u8]) -> Result<(), Memory> {
     bytes.append(&[0, 0])?;
     put_text(bytes, body)
 }
