@@ -11,15 +11,15 @@ use Rattle.byte_formats.proofs.Values.{then_some, when_some}
 use Rattle.tls_wire.specs.Reading.{number_at}
 use Rattle.tls_wire.specs.declared.cursor.Short.{Short}
 use Rattle.std.specs.Int.{w8}
-use Rattle.journal_core.specs.Folds.{state_behind, taken_from}
+use Rattle.journal_core.specs.Folds.{Fold, read_by, state_behind, taken_from}
 use Rattle.journal_core.specs.Format.{Represents}
 use Rattle.journal_core.proofs.Found.{read_standing}
-use Rattle.issuance_log.specs.Folds.{LogState, log_of}
+use Rattle.issuance_log.specs.Folds.{LogState, log_fold, log_of}
 use Rattle.issuance_log.specs.Records.{settings_at, settings_in, log_settings_with, tagged}
 use Rattle.issuance_log.specs.Settings.{Settings}
 use Rattle.issuance_log.proofs.Behind as logs
 use Rattle.cosigner_core.specs.Counts.{AreCounted}
-use Rattle.cosigner_core.specs.Folds.{cosigner_of}
+use Rattle.cosigner_core.specs.Folds.{cosigner_fold, cosigner_of}
 use Rattle.cosigner_core.specs.Progress.{progress_by, progress_in, steps_in}
 use Rattle.cosigner_core.specs.Records.{cosigner_in, first_by_tag}
 use Rattle.cosigner_core.specs.declared.settings.CosignerSettings.{CosignerSettings}
@@ -28,7 +28,7 @@ use Rattle.hss_core.specs.Hss.{one_level_public}
 use Rattle.lms_core.specs.Trees.{private_key}
 use Rattle.node_history.specs.Laws.{IsSoundParty}
 use Rattle.node_history.specs.Nodes.{HistoryState}
-use Rattle.node_history.specs.Rules.{AreRecords, IsReadAs, StartsWith, may_follow, party_fold}
+use Rattle.node_history.specs.Rules.{AreRecords, IsReadAs, StartsWith, may_follow}
 use Rattle.node_history.specs.declared.start.NodeStart.{NodeStart}
 use Rattle.node_history.specs.declared.start.NodeStart.TheVariants.{Log, Cosigner}
 use Rattle.node_history.proofs.Chains.{no_some}
@@ -94,49 +94,51 @@ starts_so h first bodies (inr is) =
       (secret, (found.1, refl)),
     )
 
--- ---- the rules of a party, by what its records make
+-- ---- records make something exactly if they may follow
 
--- they make something exactly if they may follow
-follows : (h : HashFunction) (start : NodeStart) (first : Text) (bodies : List Text)
-    → StartsWith start first
-    → is_ok (state_behind (party_fold h start) (first ∷ bodies)) ≡ may_follow h start bodies
-follows h (Log settings) first bodies starts =
+log_follows : (h : HashFunction) (settings : Settings) (first : Text) (bodies : List Text)
+    → settings_in first ≡ Some settings
+    → is_ok (log_of h (first ∷ bodies)) ≡ may_follow h (Log settings) bodies
+log_follows h settings first bodies starts =
     ap (λ (r : Result LogState ℕ). is_ok r) (logs.begins_so h first settings bodies starts)
-follows h (Cosigner settings public) first bodies starts =
-    cosigners.begins_so h first settings starts.0 bodies starts.1.0
-
--- records that begin so make nothing else
-only : (h : HashFunction) (start : NodeStart) (first : Text) (bodies : List Text)
-    → StartsWith start first → AreRecords h (first ∷ bodies)
-    → IsOk (state_behind (party_fold h start) (first ∷ bodies))
-only h (Log settings) first bodies starts (inl is) = is
-only h (Log settings) first bodies starts (inr is) =
-    let other = first_of_cosigner h first bodies is in
-    absurd (apart first settings other.0 starts other.1)
-only h (Cosigner settings public) first bodies starts (inl is) =
-    let other = first_of_log h first bodies is in
-    absurd (apart first other.0 (settings, starts.0) other.1 starts.1.0)
-only h (Cosigner settings public) first bodies starts (inr is) = is
 
 pub back : (h : HashFunction) (start : NodeStart) (first : Text) (bodies : List Text)
     → StartsWith start first → may_follow h start bodies ≡ true → AreRecords h (first ∷ bodies)
 back h (Log settings) first bodies starts may =
-    inl (follows h (Log settings) first bodies starts ∙ may)
+    inl (log_follows h settings first bodies starts ∙ may)
 back h (Cosigner settings public) first bodies starts may =
-    inr (follows h (Cosigner settings public) first bodies starts ∙ may)
+    inr (cosigners.begins_so h first settings starts.0 bodies starts.1.0 ∙ may)
 
 pub agree : (h : HashFunction) (start : NodeStart) (first : Text) (bodies : List Text)
     → StartsWith start first → AreRecords h (first ∷ bodies) → may_follow h start bodies ≡ true
-agree h start first bodies starts records =
-    sym (follows h start first bodies starts) ∙ only h start first bodies starts records
+agree h (Log settings) first bodies starts (inl is) =
+    sym (log_follows h settings first bodies starts) ∙ is
+agree h (Log settings) first bodies starts (inr is) =
+    let other = first_of_cosigner h first bodies is in
+    absurd (apart first settings other.0 starts other.1)
+agree h (Cosigner settings public) first bodies starts (inl is) =
+    let other = first_of_log h first bodies is in
+    absurd (apart first other.0 (settings, starts.0) other.1 starts.1.0)
+agree h (Cosigner settings public) first bodies starts (inr is) =
+    sym (cosigners.begins_so h first settings starts.0 bodies starts.1.0) ∙ is
+
+-- a file that represents records is read with them, whatever they make
+read_so : {S E : Type 0} (fold : Fold S E) (list : List Text) (bytes : Text)
+    → Represents bytes list → IsOk (state_behind fold list)
+    → (s : S) × (read_by fold bytes ≡ Ok (record { records = list; state = s }))
+read_so fold list bytes stands is =
+    let made = made_so (state_behind fold list) is in
+    (made.0, read_standing fold bytes list made.0 stands made.1)
 
 pub read : (h : HashFunction) (start : NodeStart) (first : Text) (bodies : List Text)
     (bytes : Text) → StartsWith start first → may_follow h start bodies ≡ true
     → Represents bytes (first ∷ bodies) → IsReadAs h start bytes (first ∷ bodies)
-read h start first bodies bytes starts may stands =
-    let made = made_so (state_behind (party_fold h start) (first ∷ bodies))
-    (follows h start first bodies starts ∙ may) in
-    (made.0, read_standing (party_fold h start) bytes (first ∷ bodies) made.0 stands made.1)
+read h (Log settings) first bodies bytes starts may stands =
+    read_so (log_fold h) (first ∷ bodies) bytes stands
+    (log_follows h settings first bodies starts ∙ may)
+read h (Cosigner settings public) first bodies bytes starts may stands =
+    read_so (cosigner_fold h) (first ∷ bodies) bytes stands
+    (cosigners.begins_so h first settings starts.0 bodies starts.1.0 ∙ may)
 
 -- ---- one-time keys
 

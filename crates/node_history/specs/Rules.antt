@@ -1,17 +1,16 @@
 -- The rules of the records of logs and cosigners, by what begins them.
 use Rattle.std.specs.Prelude.{◌≡◌, ◌⊎◌, ◌^◌, Bool, List, Some, Ok, IsOk}
 use Rattle.byte_formats.specs.Types.{Text, HashFunction}
-use Rattle.cosigner_core.specs.Folds.{CosignerState, cosigner_fold, cosigner_of}
+use Rattle.cosigner_core.specs.Folds.{CosignerState, cosigner_of}
+use Rattle.cosigner_core.specs.Openings.{cosigner_read}
 use Rattle.cosigner_core.specs.Progress.{may_follow_cosigner}
 use Rattle.cosigner_core.specs.Records.{cosigner_in}
 use Rattle.hss_core.specs.Hss.{one_level_public}
-use Rattle.issuance_log.specs.Folds.{LogState, log_fold, log_of, may_follow_log}
+use Rattle.issuance_log.specs.Folds.{LogState, log_of, may_follow_log}
+use Rattle.issuance_log.specs.Openings.{log_read}
 use Rattle.issuance_log.specs.Records.{settings_in}
-use Rattle.issuance_log.specs.declared.error.LogOpenError.{LogOpenError}
-use Rattle.journal_core.specs.Folds.{Fold, read_by}
 use Rattle.lms_core.specs.Heights.{height}
 use Rattle.lms_core.specs.Trees.{private_key}
-use Rattle.state_journal.specs.declared.error.StateOpenError.{StateOpenError}
 use Rattle.node_history.specs.declared.start.NodeStart.{NodeStart}
 use Rattle.node_history.specs.declared.start.NodeStart.TheVariants.{Log, Cosigner}
 
@@ -33,22 +32,9 @@ StartsWith (Cosigner settings public) first = (secret : Text)
 abbrev pub AreRecords : HashFunction → List Text → Type 0
 AreRecords h list = IsOk (log_of h list) ⊎ IsOk (cosigner_of h list)
 
--- What the records of a party make, and why they make nothing.
-abbrev pub PartyState : NodeStart → Type 0
-PartyState (Log settings) = LogState
-PartyState (Cosigner settings public) = CosignerState
-
-abbrev pub PartyFault : NodeStart → Type 0
-PartyFault (Log settings) = LogOpenError
-PartyFault (Cosigner settings public) = StateOpenError
-
--- A party as a kind of journal.
-abbrev pub party_fold : HashFunction → (start : NodeStart)
-    → Fold (PartyState start) (PartyFault start)
-party_fold h (Log settings) = log_fold h
-party_fold h (Cosigner settings public) = cosigner_fold h
-
 -- A file with these bytes is opened as the log or the cosigner that has these records.
 abbrev pub IsReadAs : HashFunction → NodeStart → Text → List Text → Type 0
-IsReadAs h start bytes list = (s : PartyState start)
-    × (read_by (party_fold h start) bytes ≡ Ok (record { records = list; state = s }))
+IsReadAs h (Log settings) bytes list =
+    (s : LogState) × (log_read h bytes ≡ Ok (record { records = list; state = s }))
+IsReadAs h (Cosigner settings public) bytes list =
+    (s : CosignerState) × (cosigner_read h bytes ≡ Ok (record { records = list; state = s }))
