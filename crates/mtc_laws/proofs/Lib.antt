@@ -1,1 +1,1 @@
-pub mod Killed
+pub mod KilledRuns

@@ -1,4 +1,4 @@
-use Rattle.mtc_laws.proofs.Killed.{journals_die, logs_die}
+use Rattle.mtc_laws.proofs.KilledRuns.{journals_die, logs_die}
 use Rattle.mtc_laws.proofs.killed.law_killed_runs_have_died.Goals as goal
 
 pub returns-clause-journals : goal.returns-clause-journals

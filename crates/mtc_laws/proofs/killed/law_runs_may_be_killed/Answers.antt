@@ -1,4 +1,4 @@
-use Rattle.mtc_laws.proofs.Killed.{journals_may_break, logs_may_break}
+use Rattle.mtc_laws.proofs.KilledRuns.{journals_may_break, logs_may_break}
 use Rattle.mtc_laws.proofs.killed.law_runs_may_be_killed.Goals as goal
 
 pub returns-clause-journals : goal.returns-clause-journals
