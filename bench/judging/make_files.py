@@ -64,6 +64,7 @@ def full_journal(path, log):
             front = b"\x13" + struct.pack(">IQQ", index, index, index + 1)
             record(front + tree_hash([entry]) + hashes(path_of(index, log.entries)))
         journal.write(b"\0")
+    path.chmod(0o600)  # the program opens no cosigner's journal that others may read
 
 
 def main():
