@@ -1,0 +1,130 @@
+//! Which commands stop, and what is left.
+//!
+//! A line of a case is one of these:
+//!
+//! ```text
+//! run WORD ..     the command, which adds one record to its journal
+//! device NAME     the file whose device stops
+//! journal NAME    the command's journal
+//! tiled BYTES     the journal when the tiles were stored that it has at first
+//! old BYTES       its header and its records at first, without the commit byte that closes it
+//! record BYTES    the record, with its commit byte
+//! ask WORD ..     a command that opens what is left
+//! before BYTES    what its output begins with if the record isn't there, and
+//! before| TEXT    a line of that; none of these if there is no journal without the record
+//! after BYTES     what its output begins with if the record is there, and
+//! after| TEXT     a line of that
+//! count N ..      how many of sixteen crash states have the record, after each stop, and then
+//!                 after the run that doesn't stop
+//! ```
+
+/// A new journal: its record is written and synced, and so is the commit byte before it.
+pub const NEW_LOG: &str = "
+run init-log j 32473.1 2 64
+device j
+journal j
+old HEADER
+record LOG
+ask checkpoint j
+after| size 1
+after| root 709e80c88487a2411e1ee4dfb9f22a861492d20c4765150c0c794abd70f8147c
+count 0 0 0 8 16
+";
+
+/// A journal that is opened is synced first.
+pub const ISSUE: &str = "
+run issue j r
+device j
+journal j
+old HEADER LOG
+record ENTRY
+ask checkpoint j
+before| size 1
+before| root 709e80c88487a2411e1ee4dfb9f22a861492d20c4765150c0c794abd70f8147c
+after| size 2
+after| root 77566825cd25f263271e3fa5341db28ed2c87945ee98f731b2aa96b9e6b11cf6
+count 0 0 0 0 8 16
+";
+
+pub const LANDMARK: &str = "
+run landmark j
+device j
+journal j
+old HEADER LOG ENTRY
+record 0100000009030000000000000002
+ask landmarks j
+before| 0 0
+before| 0
+after| 1 1
+after| 2
+after| 0
+count 0 0 0 0 8 16
+";
+
+/// 512 entries, of which 256 fill a tile that is stored.
+pub const TILE: &str = "
+run tile j
+device j
+journal j
+tiled HEADER LONG 255*ENTRY
+old HEADER LONG 255*ENTRY TILED_256 256*ENTRY
+record TILED_512
+ask checkpoint j
+before| size 512
+before| root 6d0a2d1ba4e0f5fa3da1d5f3a971f52138c7c8fe6a522849b21d16b7bedf720b
+after| size 512
+after| root 6d0a2d1ba4e0f5fa3da1d5f3a971f52138c7c8fe6a522849b21d16b7bedf720b
+count 0 0 0 0 8 16
+";
+
+/// The same, where the file of the tiles stops: it is synced, written and synced.
+pub const TILES: &str = "
+run tile j
+device j.tiles
+journal j
+tiled HEADER LONG 255*ENTRY
+old HEADER LONG 255*ENTRY TILED_256 256*ENTRY
+record TILED_512
+ask checkpoint j
+before| size 512
+before| root 6d0a2d1ba4e0f5fa3da1d5f3a971f52138c7c8fe6a522849b21d16b7bedf720b
+after| size 512
+after| root 6d0a2d1ba4e0f5fa3da1d5f3a971f52138c7c8fe6a522849b21d16b7bedf720b
+count 0 0 0 16
+";
+
+pub const NEW_COSIGNER: &str = "
+run init-cosigner s 32473.2 32473.1 5 1 f
+device s
+journal s
+old HEADER
+record COSIGNER
+ask export s
+after EXPORT
+count 0 0 0 8 16
+";
+
+pub const ADVANCE: &str = "
+run advance s a
+device s
+journal s
+old HEADER COSIGNER
+record 01 ADVANCE
+ask export s
+before EXPORT
+after EXPORT ADVANCE
+count 0 0 0 0 8 16
+";
+
+/// The signature that comes next is by the key after those of the records.
+pub const COSIGN: &str = "
+run cosign s t
+device s
+journal s
+old HEADER COSIGNER 01 ADVANCE
+record 01 SIGN
+ask cosign s t
+before 0481fd590221f0 00000000 00000000
+after 0481fd590221f0 00000000 00000001
+count 0 0 0 0 8 16
+";

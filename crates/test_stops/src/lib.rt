@@ -1,0 +1,12 @@
+//! Commands whose device stops at each of its calls, over a file system in memory: what a crash may
+//! leave of the files is opened again, and has the old records or the new ones.
+#![tactic(auto)]
+
+#[cfg(test)]
+mod cases;
+#[cfg(test)]
+mod coded;
+#[cfg(test)]
+mod files;
+#[cfg(test)]
+mod stops;
