@@ -1,0 +1,135 @@
+//! A cosigner over one journal: it holds the root of a larger log, and signs a subtree of it.
+//!
+//! `example_cosigner JOURNAL SECRET LARGER SUBTREE`: where there is no journal of this name, one is
+//! begun with the secret, 48 bytes. The requests are those that `mtc consist` and `mtc subtree`
+//! write. It prints the size of the log that it holds, and the cosignature in hexadecimal.
+#![tactic(auto)]
+
+ghost use Rattle.std.specs.Prelude.{◌≡◌, IfOk};
+ghost use Rattle.mtc_library.specs.Cosigning.{cosigner_state, signature_by, signature_text};
+
+use anyhow::bail;
+use mtc_library::cosigning::{
+    AnchorId, Bytes, Cosigner, CosignerSettings, Disk, FileDisk, LmsType, OtsType,
+    ReservedSignature, Secret, Sha, SigBuf, SubtreeRequest, create, new_journal, open_journal,
+    read_advance, read_subtree,
+};
+use std::alloc::Global;
+use std::env;
+use std::fs::{self, File};
+use std::io::ErrorKind;
+use std::rt::Files;
+
+// No signature is longer.
+const LONGEST: u16 = 17_748;
+
+fn id_of(alloc: Global, text: &str) -> anyhow::Result<AnchorId> {
+    match AnchorId::from_text(alloc, text) {
+        Ok(id) => Ok(id),
+        Err(why) => bail!("the id {text}: {why:?}"),
+    }
+}
+
+// Begins the journal of a new cosigner, and gives its device.
+fn begun(alloc: Global, device: FileDisk, secret: &[u8]) -> anyhow::Result<FileDisk> {
+    let settings = CosignerSettings {
+        id: id_of(alloc, "32473.2")?,
+        log: id_of(alloc, "32473.1")?,
+        lms: LmsType::H5,
+        ots: OtsType::W8,
+    };
+    let Some(secret) = Secret::from_slice(secret) else {
+        bail!("a secret has 48 bytes");
+    };
+    match create(alloc, device, &settings, &secret) {
+        Ok(journal) => Ok(journal.into_disk()),
+        Err(refused) => bail!("the journal: {:?}", refused.why),
+    }
+}
+
+// The device of the journal of this name, for this process alone.
+fn device_of<R: Files<File = File>>(
+    files: &R,
+    alloc: Global,
+    journal: &str,
+    secret: &[u8],
+) -> anyhow::Result<FileDisk> {
+    match open_journal(files, journal) {
+        Ok(device) => Ok(device),
+        Err(why) if why.kind() == ErrorKind::NotFound => {
+            begun(alloc, new_journal(files, journal)?, secret)
+        }
+        Err(why) => bail!("the journal: {why}"),
+    }
+}
+
+// Signs a subtree, and answers the cosignature. The memory for it is taken before a one-time key is
+// used.
+fn cosignature<D: Disk>(
+    alloc: Global,
+    cosigner: &mut Cosigner<Sha, D>,
+    request: &SubtreeRequest<'_>,
+) -> anyhow::Result<Bytes>
+    ensures { IfOk result (λ text. text ≡ signature_text (record {
+      cosigner = (cosigner_state cosigner.old).id;
+      signature = signature_by (cosigner_state cosigner.old) request.now.start request.now.end
+          request.now.hash;
+    })) }
+{
+    let Ok(reserved) = ReservedSignature::new(alloc, LONGEST) else {
+        bail!("no memory");
+    };
+    let mut signature = SigBuf::new();
+    match cosigner.cosign(request, &mut signature) {
+        Ok(()) => Ok(reserved.fill(cosigner.id().as_bytes(), signature.as_slice())),
+        Err(why) => bail!("the subtree: {why:?}"),
+    }
+}
+
+// Holds the root of the larger log, and answers the size that is held.
+fn held<D: Disk>(cosigner: &mut Cosigner<Sha, D>, request: &[u8]) -> anyhow::Result<u64> {
+    match read_advance(request) {
+        Ok(request) => match cosigner.advance(&request) {
+            Ok(()) => Ok(cosigner.held().0),
+            Err(why) => bail!("the larger log: {why:?}"),
+        },
+        Err(why) => bail!("the larger log: {why:?}"),
+    }
+}
+
+// The device as the cosigner that its records make.
+fn cosigner_of(alloc: Global, device: FileDisk) -> anyhow::Result<Cosigner<Sha, FileDisk>> {
+    match Cosigner::open(alloc, device) {
+        Ok(cosigner) => Ok(cosigner),
+        Err(refused) => bail!("the journal: {:?}", refused.why),
+    }
+}
+
+// The signature that a request asks for.
+fn signed<D: Disk>(
+    alloc: Global,
+    cosigner: &mut Cosigner<Sha, D>,
+    request: &[u8],
+) -> anyhow::Result<Bytes> {
+    match read_subtree(request) {
+        Ok(request) => cosignature(alloc, cosigner, &request),
+        Err(why) => bail!("the subtree: {why:?}"),
+    }
+}
+
+fn main(rt: HostRuntime) -> anyhow::Result<()> {
+    let alloc = rt.alloc();
+    let words: Vec<String> = env::args(&rt)?.skip(1).collect(alloc)?;
+    let [journal, secret, larger, subtree] = words.as_slice() else {
+        bail!("example_cosigner JOURNAL SECRET LARGER SUBTREE");
+    };
+    let secret = fs::read(&rt, secret.as_str())?;
+    let larger = fs::read(&rt, larger.as_str())?;
+    let subtree = fs::read(&rt, subtree.as_str())?;
+    let device = device_of(&rt, alloc, journal.as_str(), secret.as_slice())?;
+    let mut cosigner = cosigner_of(alloc, device)?;
+    println!(rt; "held {}", held(&mut cosigner, larger.as_slice())?)?;
+    let text = signed(alloc, &mut cosigner, subtree.as_slice())?;
+    println!(rt; "{}", hex::encode(alloc, text.as_slice())?)?;
+    Ok(())
+}

@@ -1,0 +1,11 @@
+//! An auditor: a certificate that a store accepts is compared with the entries of a log and with
+//! the export of a cosigner.
+
+pub use crate::accepting::{JudgedCert, accept, read_steps};
+pub use crate::judging::{Accepted, By, Cert, CertError, ProofError, Refusal, Store, StoreError};
+pub use cosigner_core::{Export, ReadExportError, Step, StepList};
+pub use entry_list::{Entries, Item, Items, ItemsError, read_items};
+pub use mtc_io::{Bytes, Memory};
+pub use mtc_proof::Proof;
+pub use tree_core::{Sha, TreeHash};
+pub use world_core::{Audit, audit, walk};

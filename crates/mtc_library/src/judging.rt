@@ -1,0 +1,14 @@
+//! A relying party: a trust store is read, and certificates are judged by it.
+
+pub use cert_fields::{Cert, DnsNames, dns_names, parse};
+pub use cert_time::Validity;
+pub use der_core::{CertError, DerError};
+pub use mtc_io::{Bytes, Memory};
+pub use mtc_proof::ProofError;
+pub use policy_core::{
+    Accepted, By, Cosigners, Known, Places, Refusal, Revoked, Rule, Rules, Store, StoreError,
+    Subtrees, Trusted,
+};
+pub use relying_party::{judge, judge_cert};
+pub use tls_wire::AnchorId;
+pub use tree_core::{EvalError, Sha, Span, TreeHash};
