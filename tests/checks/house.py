@@ -5,7 +5,7 @@ import re
 
 from . import comments, ledger
 from .citations import CRATES
-from .pages import DOCS, PRIVATE_IN_COMMENTS, PRIVATE_WORDS, blocks_of, by_hand, private_words_in, shown
+from .pages import DOCS, PRIVATE_IN_COMMENTS, PRIVATE_WORDS, QUOTED, QUOTING, blocks_of, by_hand, private_words_in, shown
 from .sources import ROOT
 
 LIMITS = ROOT / "tests" / "limits.txt"
@@ -273,10 +273,15 @@ def check_vocabulary():
 
 
 def counts():
-    """How many words stand in pages by hand, and how many in those that have a limit of their own; what a script makes is left out."""
+    """How many words stand in pages by hand, and how many in those that have a limit of their own. What a script makes is left
+    out, and what is quoted of the sources and compared with them."""
     made = re.compile(rf"<!-- ({'|'.join(MADE)}): begin.*?<!-- \1: end -->", re.S)
-    found = {page.name: len(made.sub("", page.read_text()).split()) for page in by_hand()
-             if page.parent == DOCS or page == ROOT / "README.md"}
+    quoted = re.compile(rf"^```(?:{'|'.join(QUOTED)})$.*?^```$", re.S | re.M)
+    found = {}
+    for page in by_hand():
+        if page.parent == DOCS or page == ROOT / "README.md":
+            text = made.sub("", page.read_text())
+            found[page.name] = len((quoted.sub("", text) if page.name in QUOTING else text).split())
     return {name: count for name, count in {"by_hand": sum(found.values()), **found}.items() if name in COUNTED}
 
 

@@ -173,11 +173,18 @@ def squeezed(text):
     return " ".join(text.split())
 
 
+# What is quoted: these pages, and the languages of the blocks that stand in a file of the sources.
+QUOTING = ("RUN.md", "LIBRARY.md")
+QUOTED = ("antt", "rust")
+
+
 def wrong_quotations(page):
-    file, block, quotes = None, None, 0
+    file, block, is_quoted, quotes = None, None, False, 0
     for number, line in enumerate(page.read_text().split("\n"), 1):
         if line.startswith("```") and block is None:
-            block = []
+            block, is_quoted = [], line[3:] in QUOTED
+        elif line.startswith("```") and not is_quoted:
+            block = None
         elif line.startswith("```"):
             quotes += 1
             if not file or not file.exists():
@@ -195,8 +202,9 @@ def wrong_quotations(page):
 
 
 def check_quotations():
-    """what RUN quotes stands in the file that is named before it"""
-    yield from wrong_quotations(DOCS / "RUN.md")
+    """what RUN and LIBRARY quote stands in the file that is named before it"""
+    for name in QUOTING:
+        yield from wrong_quotations(DOCS / name)
 
 
 def spelled_in(page, what):
