@@ -3,7 +3,7 @@
 # entries and the export of one of them. Beside each stands what openssl takes to hash six blocks of SHA-256 an entry, which is
 # how many an audit hashes that stands. Then audits the certificate over lists that are none of its log's: of the shortest items,
 # four bytes each, and of the longest entries. It prints seconds of the processor, the least of five runs, and the most memory
-# held. Lists behind which two strings with one hash are looked for can't be had. Needs python3, GNU time and openssl. Not part of
+# held. Lists after which two strings with one hash are looked for can't be had. Needs python3, GNU time and openssl. Not part of
 # the gate.
 # Usage: bench/audit.sh [--write] [MOST]   with --write the figures go into bench/audit/figures.txt. Logs of more than MOST entries
 # are left out, and lists of more than 64 times MOST bytes
@@ -33,7 +33,7 @@ row() {
     printf '%s|%s|%s\n' "$what" "$of" "$(cat least)" | tee -a figures
 }
 
-# Backquotes stand for themselves: the page has them.
+# Backquotes are meant as such: the page has them.
 # shellcheck disable=SC2016
 { audited='`audit` of a certificate with 3 cosignatures'; shortest='`audit`, the shortest items'; longest='`audit`, the longest entries'; }
 { printf '[log]\nid = "32473.1"\n'; for n in 2 3 4; do

@@ -19,7 +19,7 @@ python3 -B "$root/bench/judging/make_files.py" "$program" "$folder"
 cd "$folder"
 "$program" init-cosigner s 32473.2 32473.1 10 4 secret >/dev/null
 
-# measured STATUS WORK OF WORD ..: runs a command that ends with this status, and tells what it took.
+# measured STATUS WORK OF WORD ..: runs a command that ends with this status, and says what it took.
 measured() {
     local wanted=$1 work=$2 of=$3 status=0 seconds held
     shift 3
@@ -28,7 +28,7 @@ measured() {
     read -r seconds held < <(tail -1 time)
     printf '%s|%s|%s|%d MB\n' "$work" "$of" "$seconds" "$((held * 1024 / 1000000))" | tee -a figures
 }
-# Backquotes stand for themselves: the page has them.
+# Backquotes are meant as such: the page has them.
 # shellcheck disable=SC2016
 {
     measured 0 '`verify` of a certificate of 1,024 entries' '3 cosignatures' verify c store 1767225600

@@ -1,11 +1,11 @@
 #!/usr/bin/env python3
-"""Runs the gate, and tells what each crate cost: the processor seconds of its proof, of its tests and of its must-fail edits.
+"""Runs the gate, and says what each crate cost: the processor seconds of its proof, of its tests and of its must-fail edits.
 
 Usage: bench/gate_costs.py [COMMAND WORD..]              runs rt ci, or this command, and prints the table
        bench/gate_costs.py --write rt ci --anew          puts it into bench/COSTS.md, and its sums into README
        bench/gate_costs.py --write rt ci                 the same, where the kit keeps nothing and knows no --anew
        bench/gate_costs.py --above NAME                  what a change of a crate costs, by the table of COSTS
-       bench/gate_costs.py --again                       makes what follows from that table's numbers anew
+       bench/gate_costs.py --again                       makes what follows from that table's numbers again
 
 What the command writes goes to standard error. --write refuses all but the whole gate from nothing: another command, one
 that failed, a run in which a crate has no seconds of a part that it has, and one whose table has less than nine tenths
@@ -13,7 +13,7 @@ of what the system counted. --again runs nothing and changes no number that was 
 above each crate, by crates.txt, and the sums below the table.
 
 Two runs are compared by the sum of their proofs, which is the same work on each machine. Every half second the script
-looks at the provers that the command has started; what a prover used in its last half second is in no row, and only in
+reads the provers that the command has started; what a prover used in its last half second is in no row, and only in
 the sum by the system's count.
 """
 import glob
@@ -146,7 +146,7 @@ def standing_on(crate):
 
 
 def table(rows):
-    """The lines of the table: behind what was measured, what a crate costs with all that stands on it."""
+    """The lines of the table: after what was measured, what a crate costs with all that stands on it."""
     spent = seconds_in(rows, "All, s")
     yield f"| {' | '.join(COLUMNS)} | {ABOVE} |"
     yield "|---" * (len(COLUMNS) + 1) + "|"
@@ -173,11 +173,11 @@ def chain_of(rows):
 def summary(rows, whole, clock):
     """The sentences below the table."""
     proofs, spent = seconds_in(rows, "Proof, s")["all"] / 60, seconds_in(rows, "All, s")["all"] / 60
-    chain, told = chain_of(rows)[0], f"{whole} processor minutes by the system's count, of which the table has {spent:.0f}, and {clock}."
+    chain, reported = chain_of(rows)[0], f"{whole} processor minutes by the system's count, of which the table has {spent:.0f}, and {clock}."
     if not proofs:
-        return told
+        return reported
     return (
-        f"{told} The proofs took {proofs:.0f} of them. The whole is {whole / proofs:.1f} times that, and {RATIO} is the most that it may be; "
+        f"{reported} The proofs took {proofs:.0f} of them. The whole is {whole / proofs:.1f} times that, and {RATIO} is the most that it may be; "
         f"{FINISHED} minutes are the most for the finished program. "
         f"Of the proofs of the program {chain:.0f} minutes can't run side by side, those of the longest chain of crates: "
         f"{chain / proofs:.2f} of all proofs."
@@ -212,9 +212,9 @@ def block_of(path):
     return text_of(path).split(BEGIN, 1)[1].split(END, 1)[0]
 
 
-def write(path, told):
+def write(path, reported):
     """Puts a text in its place in a page."""
-    page = text_of(path).replace(BEGIN + block_of(path) + END, f"{BEGIN}{told}\n{END}")
+    page = text_of(path).replace(BEGIN + block_of(path) + END, f"{BEGIN}{reported}\n{END}")
     with open(path, "w", encoding="utf-8") as it:
         it.write(page)
 
@@ -233,7 +233,7 @@ def above(crate):
 
 
 def again():
-    """Makes what follows from the numbers in COSTS anew, there and in README."""
+    """Makes what follows from the numbers in COSTS again, there and in README."""
     rows, block = written_rows(), block_of(COSTS)
     found = re.search(r"^(\d+) processor minutes by the system's count.*?(\d+ minutes by the clock on \d+ processors)\..*$", block, re.M)
     whole, clock = int(found[1]), found[2]
@@ -257,8 +257,8 @@ def run(command):
 
 def from_nothing():
     """The words of the whole gate from nothing: a kit that keeps what has passed has a word for it."""
-    told = subprocess.run(["rt", "help"], stdout=subprocess.PIPE, stderr=subprocess.STDOUT, text=True, check=False).stdout
-    return ["rt", "ci", "--anew"] if "--anew" in told else ["rt", "ci"]
+    reported = subprocess.run(["rt", "help"], stdout=subprocess.PIPE, stderr=subprocess.STDOUT, text=True, check=False).stdout
+    return ["rt", "ci", "--anew"] if "--anew" in reported else ["rt", "ci"]
 
 
 def main(command, writes):
@@ -266,13 +266,13 @@ def main(command, writes):
         sys.exit(f"only the run of {' '.join(from_nothing())} is written: it takes nothing that is kept, and leaves no crate out")
     status, costs, whole, clock = run(command)
     rows = list(measured_rows(costs))
-    told = "\n".join([*table(rows), "", summary(rows, whole, clock)])
-    print(told)
+    reported = "\n".join([*table(rows), "", summary(rows, whole, clock)])
+    print(reported)
     if writes:
         wrong = [f"the command ended with status {status}"] * (status != 0) + list(gaps(costs, whole))
         if wrong:
             sys.exit("\n".join(["nothing is written:", *wrong]))
-        write(COSTS, told)
+        write(COSTS, reported)
         write(f"{ROOT}/README.md", sentence(rows, whole, clock))
     return status
 

@@ -1,7 +1,7 @@
 #!/bin/bash
 # How fast `Sha` of tree_core hashes, on messages of 1 MiB and of 64 bytes: as ratios within one run against the
 # same loops in C over OpenSSL, where gcc and OpenSSL's headers are there, and else against `openssl speed`.
-# Three runs, one behind the other. Times are processor times of one thread.
+# Three runs, one after the other. Times are processor times of one thread.
 # Usage: bench/hashes.sh [--write]   with --write the ratios go into bench/hashes/figures.txt, if the peer is in C
 set -eu
 root=$(cd "$(dirname "$0")/.." && pwd)

@@ -1,7 +1,7 @@
 #!/bin/bash
 # How long a certificate is judged that three cosigners have signed, of a log of 1,024 entries, and
 # how long `cosign` takes on a real file, each against as many hashes of one block by the kit's sha2:
-# as the judgement takes, and as making a key of height 10 and width 4 takes, which `cosign` does anew.
+# as the judgement takes, and as making a key of height 10 and width 4 takes, which `cosign` does again.
 # Times are processor times, so that no wait for a disk is in them. Needs python3. Not part of the
 # gate.
 # Usage: bench/judging.sh [--write]   with --write the ratios go into bench/judging/figures.txt

@@ -3,7 +3,7 @@
 # most memory held: for the tree hash, and for the certificate of one entry in the whole tree. Of the opening alone it prints
 # the processor time, the least of five runs; beside it the time in which openssl reads and hashes the journal's bytes once,
 # how much `issue` takes beside an opening, and how often the journal is read, where strace is there. The journals are made by
-# a script of its own, since adding an entry by `issue` opens the log anew each time. Needs python3 and GNU time. Not part of
+# a script of its own, since adding an entry by `issue` opens the log again each time. Needs python3 and GNU time. Not part of
 # the gate.
 # Usage: bench/log.sh [--write]   with --write the figures go into bench/log/figures.txt
 set -u

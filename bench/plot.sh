@@ -8,7 +8,7 @@ folder=$(mktemp -d)
 trap 'rm -rf "$folder"' EXIT
 page=docs/SPEED.md
 
-# The figures of some scripts, each line behind its script's name.
+# The figures of some scripts, each line after its script's name.
 figures() {
     local name
     for name; do

@@ -61,7 +61,7 @@ least_of_five() {
 }
 
 # Writes what a run found into bench/NAME/figures.txt, from lines of fields between bars: keep_figures NAME FIELDS. The first
-# two fields say what was measured, and the day is put behind them all. What this run has no line for stays as it was.
+# two fields say what was measured, and the day is put after them all. What this run has no line for stays as it was.
 keep_figures() {
     local file=$root/bench/$1/figures.txt
     touch "$file"
@@ -69,8 +69,8 @@ keep_figures() {
         BEGIN { print "# " fields "|DAY. Written by bench/" name ".sh --write; docs/SPEED.md is made from it." }
         /^#/ { next }
         FNR == NR { new[$1 "|" $2] = $0; order[++count] = $1 "|" $2; next }
-        ($1 "|" $2) in new { print new[$1 "|" $2] "|" day; told[$1 "|" $2]; next }
+        ($1 "|" $2) in new { print new[$1 "|" $2] "|" day; printed[$1 "|" $2]; next }
         { print }
-        END { for (at = 1; at <= count; at++) if (!(order[at] in told)) print new[order[at]] "|" day }
+        END { for (at = 1; at <= count; at++) if (!(order[at] in printed)) print new[order[at]] "|" day }
     ' - "$file" >"$file.new" && mv "$file.new" "$file"
 }

@@ -3,9 +3,8 @@
 # does; making inclusion paths over the first 2^10, 2^16 and 2^20 of them, and over all but the last, where the subtrees at
 # the right edge aren't full; making consistency proofs over 65,536; evaluating and checking a path and a proof of these. Then
 # the same leaves in `Tiles` over a file: writing, reading back and adopting each tile (tile), paths of leaves whose tiles are
-# in frames (held), and of leaves all over the list, for most of which a tile is read (read). Each is told in nanoseconds and
-# in hashes of a pair of nodes, measured in the same run. The same paths over `Listed`, which makes each node anew, are told
-# as anew. Times are processor times of one thread. Beside them stands the same work by Go's package sumdb/tlog, where it is
+# in frames (held), and of leaves all over the list, for most of which a tile is read (read). Each is reported in nanoseconds and
+# in hashes of a pair of nodes, measured in the same run. The same paths over `Listed`, which rebuilds each node, stand in the rows of `anew-`. Times are processor times of one thread. Beside them stands the same work by Go's package sumdb/tlog, where it is
 # installed (Debian's golang-go and golang-golang-x-mod-dev): it too keeps the hash of each full subtree, and it reads tiles
 # that are in memory. Usage: bench/proofs.sh [--write]   with --write the figures go into bench/proofs/figures.txt
 set -eu

@@ -1,5 +1,5 @@
 #!/bin/bash
-# Trusts the subtrees of the landmarks of logs of up to 100,000 entries, one behind each hundredth part of them, and prints
+# Trusts the subtrees of the landmarks of logs of up to 100,000 entries, one after each hundredth part of them, and prints
 # seconds and the most memory held. Needs python3 and GNU time. Not part of the gate.
 # Usage: bench/trust.sh [--write]   with --write the figures go into bench/trust/figures.txt
 # The variable PROGRAM names another program than that of ./mtc.

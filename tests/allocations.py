@@ -22,7 +22,7 @@ LOG, COSIGNER = "32473.1", "32473.2"
 MOMENT = str(FIRST)
 REQUEST = f'{DATES}dns = ["{{}}.example", "*.b.example"]\ncommon_name = "b"\nkey = "{KEY}"\n'
 
-# The words of each command, over the files that `make_files` makes.
+# The arguments of each command, over the files that `make_files` makes.
 COMMANDS = [
     "frob", "member first.member", "member absent", "show cert", "verify cert store " + MOMENT,
     "verify light trusting " + MOMENT, "verify cert trusting " + MOMENT, "init-log new 32473.1 2 32",
@@ -103,13 +103,13 @@ class Refusals:
     def ended(self, words, number):
         """Whether that allocation came, and how the command ended over the same files as ever."""
         write_files(self.folder.path, self.files)
-        told, tells = os.pipe()
-        extra = {"LD_PRELOAD": str(self.library), "REFUSED": str(number), "TOLD": str(tells)}
-        ended = subprocess.run([self.folder.program, *words.split()], cwd=self.folder.path, pass_fds=[tells],
+        reported, reporting = os.pipe()
+        extra = {"LD_PRELOAD": str(self.library), "REFUSED": str(number), "TOLD": str(reporting)}
+        ended = subprocess.run([self.folder.program, *words.split()], cwd=self.folder.path, pass_fds=[reporting],
                                env={**os.environ, **extra}, capture_output=True)
-        os.close(tells)
-        came = os.read(told, 1) != b""
-        os.close(told)
+        os.close(reporting)
+        came = os.read(reported, 1) != b""
+        os.close(reported)
         return came, (ended.returncode, ended.stdout, ended.stderr.decode(), files_of(self.folder.path))
 
     def faults(self, words):

@@ -23,14 +23,14 @@ LINKED = ("mtc_top.specs.Courses", *map(LAWS.format, ("Course", "Room", "Tile"))
 COURSES = ("The laws of courses name", r"law_(?:courses|entries|journals|no|recovered|released|tiles)_\w+", LINKED)
 STATEMENTS = (RUNS, COURSES, PRINTS)
 
-# The contracts are generic: what they say of a room, a device, a stream and a hash function is what these traits ensure.
+# The contracts are generic: what they say of a file system, a device, a stream and a hash function is what these traits ensure.
 TRAITS = ("mtc_room/src/room.rt", "disk_core/src/disk.rt", "mtc_io/src/source.rt", "mtc_io/src/sink.rt", "tree_core/src/hashing.rt")
 
 # The promise as a whole is one law. Its level are the crates of what a reader has to take in for it: the list of all their definitions
 # on which it rests, with their types of the code, has at most so many. It ends at the words of the crates below, which are those of
 # these standards and formats; the definitions of its level on which such a word rests are in the list too.
 WHOLE = r"law_the_whole_\w+"
-LEVEL = ("file_events", "node_history", "mtc_top")
+LEVEL = ("file_events", "party_history", "mtc_top")
 MOST = 97
 STANDARDS = {
     "the words for bytes, readings and forms": ("byte_formats",),
@@ -221,8 +221,8 @@ def promise():
     """The definitions of the level of the promise, the types that they name and the words of the kit, and where their list ends."""
     ends = set()
     own, types, kit = reached(named_by(WHOLE), is_below, ends)
-    behind, _, _ = reached(ends)
-    own |= {one: body for one, body in behind.items() if not is_below(*one)}
+    following, _, _ = reached(ends)
+    own |= {one: body for one, body in following.items() if not is_below(*one)}
     return own, sorted(types), {name for words in kit.values() for name in words}, ends
 
 
@@ -255,16 +255,16 @@ def promise_rows():
     for standard in STANDARDS:
         mine = sorted((name, dotted) for dotted, name in ends if standard_of(dotted) == standard)
         if mine:
-            behind, _, _ = reached((dotted, name) for name, dotted in mine)
-            rows.append(f"| {standard} | {', '.join(f'`{name}`' for name, _ in mine)} | {len(behind)} |")
-    behind, _, _ = reached(rules())
-    rows.append(f"| the rules of rooms, devices, streams and hash functions (their traits) | {', '.join(f'`{name}`' for _, name in rules())} | {len(behind)} |")
+            following, _, _ = reached((dotted, name) for name, dotted in mine)
+            rows.append(f"| {standard} | {', '.join(f'`{name}`' for name, _ in mine)} | {len(following)} |")
+    following, _, _ = reached(rules())
+    rows.append(f"| the rules of file systems, devices, streams and hash functions (their traits) | {', '.join(f'`{name}`' for _, name in rules())} | {len(following)} |")
     below = {name for crate, name in types if crate not in LEVEL} - traits()
     rows.append(f"| types of the code, of the crates below | {written(below)} | |")
     rows.append(f"| the kit | {written(kit)} | |")
     ends |= set(rules())
-    behind, all_types, _ = reached(ends)
-    rows.append(f"| all but these types and the kit, each counted once | {len(ends)} words | {len(behind)}, and {len(all_types)} types of the code |")
+    following, all_types, _ = reached(ends)
+    rows.append(f"| all but these types and the kit, each counted once | {len(ends)} words | {len(following)}, and {len(all_types)} types of the code |")
     return rows + [""]
 
 
@@ -372,8 +372,8 @@ def code_lines():
 
 
 def summary_row(name, named, own):
-    behind = reached([*named, *rules()])[0]
-    return f"| {name} | {len(own):,} | {sum(map(len, own.values())):,} | {len(behind):,} | {sum(map(len, behind.values())):,} |"
+    following = reached([*named, *rules()])[0]
+    return f"| {name} | {len(own):,} | {sum(map(len, own.values())):,} | {len(following):,} | {sum(map(len, following.values())):,} |"
 
 
 def own_of(statement):

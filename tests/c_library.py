@@ -80,10 +80,10 @@ class Library:
         assert status == verdict.status
         return verdict
 
-    def piece(self, call, cert, room, *words):
-        """What a call hands out into so many bytes: its answer, the length, and the buffer."""
-        buffer, length = ctypes.create_string_buffer(b"\xaa" * (room + 1), room + 1), ctypes.c_uint64(7)
-        status = getattr(self.calls, call)(cert, ctypes.c_size_t(len(cert)), *words, buffer, ctypes.c_size_t(room),
+    def piece(self, call, cert, capacity, *words):
+        """What a call copies into so many bytes: its answer, the length, and the buffer."""
+        buffer, length = ctypes.create_string_buffer(b"\xaa" * (capacity + 1), capacity + 1), ctypes.c_uint64(7)
+        status = getattr(self.calls, call)(cert, ctypes.c_size_t(len(cert)), *words, buffer, ctypes.c_size_t(capacity),
                                            ctypes.byref(length))
         return status, length.value, buffer.raw
 
@@ -91,11 +91,11 @@ class Library:
 HEADER_SAYS = """#include "mtc.h"
 {}
 _Static_assert(sizeof(struct mtc_verdict) == {}, "its size");
-typedef uint32_t hand_out(const uint8_t *, size_t, uint8_t *, size_t, uint64_t *);
-typedef uint32_t hand_out_one(const uint8_t *, size_t, uint64_t, uint8_t *, size_t, uint64_t *);
+typedef uint32_t copy_out(const uint8_t *, size_t, uint8_t *, size_t, uint64_t *);
+typedef uint32_t copy_out_one(const uint8_t *, size_t, uint64_t, uint8_t *, size_t, uint64_t *);
 typedef uint32_t judge(const uint8_t *, size_t, const uint8_t *, size_t, int64_t, struct mtc_verdict *);
-hand_out *const pieces[] = {{mtc_public_key, mtc_entry_hash}};
-hand_out_one *const name = mtc_dns_name;
+copy_out *const pieces[] = {{mtc_public_key, mtc_entry_hash}};
+copy_out_one *const name = mtc_dns_name;
 judge *const judges = mtc_judge;
 """
 
@@ -116,7 +116,7 @@ def dns_names(read):
 
 
 def pieces_of(cert):
-    """The calls that hand out a part of a certificate, with the part, by the reader."""
+    """The calls that copy out a part of a certificate, with the part, by the reader."""
     read = certificate.read(cert)
     yield "mtc_public_key", (), read.key
     yield "mtc_entry_hash", (), hashlib.sha256(b"\0" + entry.of_certificate(read)).digest()
@@ -125,7 +125,7 @@ def pieces_of(cert):
 
 
 def wrong_pieces(library, cert):
-    """What is handed out of a certificate otherwise than the reader says."""
+    """What is copied out of a certificate otherwise than the reader says."""
     count = 0
     for call, words, part in pieces_of(cert):
         count += call == "mtc_dns_name"

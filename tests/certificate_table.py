@@ -1,7 +1,7 @@
 #!/usr/bin/env python3
-"""Makes the answers about certificates of crates/test_tables anew, by the readers of tests/reference; prints them.
+"""Makes the answers about certificates of crates/test_tables again, by the readers of tests/reference; prints them.
 
-With --compare it says whether crates/test_tables/stdout has them behind its answers about signatures. Each
+With --compare it says whether crates/test_tables/stdout has them after its answers about signatures. Each
 certificate that is asked for has a line for itself, and one for each of its bytes: what is answered where that byte
 has another value, in runs of values of one answer. `certificate` asks what is read, or the first fault with its
 offset; `judgement` what a relying party says. The readers are written from docs/FORMATS.md, docs/COMMANDS.md and the
@@ -29,7 +29,7 @@ def read_answer(text):
     lengths = [len(part) for part in (read.issuer, read.subject, read.key, read.extensions, read.proof)]
     names = sum(len(one.names) for one in read.extension_list)
     unknown = any(one.critical and one.identifier not in judging.KNOWN for one in read.extension_list)
-    return " ".join(map(str, ["Ok", read.serial, *read.moments, *lengths, names, int(unknown)]))
+    return " ".join(map(str, ["Ok", read.serial, *read.unix_times, *lengths, names, int(unknown)]))
 
 
 def named(fault):

@@ -33,7 +33,7 @@ echo a.example >names
 wrong=0
 count=0
 while IFS='|' read -r words status hash line; do
-    # Words are separated by blanks alone. A line may say to which file its output goes, or behind which.
+    # Words are separated by blanks alone. A line may say to which file its output goes, or after which.
     # shellcheck disable=SC2086
     "$program" ${words%%>*} >out 2>err </dev/null
     found="$?|$([ -s out ] && sha256sum out | cut -c1-16 || echo -)|$(cat err)"

@@ -72,11 +72,11 @@ def signed_bytes(entries, start, end):
 
 
 def signature_in(text):
-    """The signature in what `cosign` writes: behind the cosigner's id, and a length of two bytes."""
-    front = bytes([len(COSIGNER_ID)]) + COSIGNER_ID
-    length = int.from_bytes(text[len(front):len(front) + 2], "big")
-    signature = text[len(front) + 2:]
-    if not text.startswith(front) or len(signature) != length:
+    """The signature in what `cosign` writes: after the cosigner's id, and a length of two bytes."""
+    prefix = bytes([len(COSIGNER_ID)]) + COSIGNER_ID
+    length = int.from_bytes(text[len(prefix):len(prefix) + 2], "big")
+    signature = text[len(prefix) + 2:]
+    if not text.startswith(prefix) or len(signature) != length:
         sys.exit(f"no signature of {COSIGNER}: {text[:16].hex()}")
     return signature
 
@@ -93,10 +93,10 @@ def new_log(folder):
 
 
 def exported_key(export, printed, secret):
-    """The public key in an export, behind the two ids and its length."""
-    front = bytes([len(COSIGNER_ID)]) + COSIGNER_ID + bytes([len(LOG_ID)]) + LOG_ID + b"\0\74"
-    key = export[len(front):len(front) + 60]
-    if not export.startswith(front) or key != printed:
+    """The public key in an export, after the two ids and its length."""
+    prefix = bytes([len(COSIGNER_ID)]) + COSIGNER_ID + bytes([len(LOG_ID)]) + LOG_ID + b"\0\74"
+    key = export[len(prefix):len(prefix) + 60]
+    if not export.startswith(prefix) or key != printed:
         sys.exit(f"another key in an export: {export[:80].hex()}")
     # The first 16 bytes of the secret are the key's identifier, which is public.
     if any(secret[place:place + 8] in export for place in range(16, 41)):

@@ -73,11 +73,11 @@ def parts(text):
 
 def with_serial(cert, serial):
     """The certificate with another serial number."""
-    tbs, *behind = parts(cert)
+    tbs, *following = parts(cert)
     version, _, *fields = parts(tbs)
     number = element(0x02, serial.to_bytes(serial.bit_length() // 8 + 1, "big"))
     changed = element(0x30, b"".join([version, number, *fields]))
-    return element(0x30, b"".join([changed, *behind]))
+    return element(0x30, b"".join([changed, *following]))
 
 
 def with_proof(cert, proof):
@@ -128,8 +128,8 @@ class CosignedLog(Folder):
         names = f'dns = ["n{number}.example", "www.n{number}.example"]\n'
         text = f'{DATES}{names}key = "{base64.b64encode(key).decode()}"\n'
         self.write("request", text.encode())
-        told = self.run("issue", "j", "request")
-        self.expect(f"issue {number}", told, f"issued {number}\n".encode())
+        reported = self.run("issue", "j", "request")
+        self.expect(f"issue {number}", reported, f"issued {number}\n".encode())
 
     def cosigned(self, cosigner):
         """The public key of a new cosigner, and its signature as `cosign` writes it."""
@@ -154,11 +154,11 @@ class CosignedLog(Folder):
         rule = f"[[rule]]\ncosigners = {COSIGNERS}\ncount = {count}\n"
         return f'[log]\nid = "{LOG}"\n{tables}{rule}{more}'.encode()
 
-    def judged(self, cert, store, moment=FIRST):
+    def judged(self, cert, store, unix_time=FIRST):
         """The status of `verify`, and the line that it writes."""
         self.write("c", cert)
         self.write("store", store)
-        words = [self.program, "verify", "c", "store", str(moment)]
+        words = [self.program, "verify", "c", "store", str(unix_time)]
         ended = subprocess.run(words, cwd=self.path, capture_output=True)
         return f"{ended.returncode} {(ended.stdout + ended.stderr).decode()}".strip()
 
@@ -168,7 +168,7 @@ class CosignedLog(Folder):
 
 
 def check_lengths(log, index, whole):
-    """How long signatures and proof are; the proof is made anew from the entries."""
+    """How long signatures and proof are; the proof is made again from the entries."""
     for cosigner, signature in zip(COSIGNERS, log.signatures):
         log.expect(f"{cosigner} has signed", len(signature), COSIGNATURE)
     proof = proof_of(log.size, path_of(index, log.entries), b"".join(log.signatures))
@@ -193,13 +193,13 @@ def check_signatures(log, index, _whole):
 
 
 def check_certificates(log, index, whole):
-    """A certificate that is changed, at its moments, and by what is revoked."""
+    """A certificate that is changed, at its times, and by what is revoked."""
     accepted, path = f"0 accepted {index}", path_of(index, log.entries)
     longer = with_proof(whole, proof_of(log.size, [*path, path[0]], b"".join(log.signatures)))
     other, store = with_serial(whole, index + 1), log.store(2)
     revoked = "[[revoked]]\nstart = {}\nend = {}\n"
     this, before = revoked.format(index, index + 1), revoked.format(index - 1, index)
-    for name, cert, store, moment, wanted in (
+    for name, cert, store, unix_time, wanted in (
             ("serial 0", with_serial(whole, 0), store, FIRST, "2 mtc: verify: c: BadSerial"),
             ("the next serial", other, store, FIRST, "3 refused TooFewCosigners 1"),
             ("one hash more", longer, store, FIRST, "3 refused ProofShape WrongLength"),
@@ -211,7 +211,7 @@ def check_certificates(log, index, whole):
             ("revoked, and no proof", with_proof(whole, b""), log.store(2, this), FIRST,
              "3 refused Revoked"),
             ("the one before is revoked", whole, log.store(2, before), FIRST, accepted)):
-        log.expect(name, log.judged(cert, store, moment), wanted)
+        log.expect(name, log.judged(cert, store, unix_time), wanted)
 
 
 def check_most(log, index, _whole):

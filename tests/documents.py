@@ -5,7 +5,7 @@ Prints a line for each check, and below it what is wrong. Nothing is proved or b
 Usage: tests/documents.py [CHECK ..]      the checks of these names alone
        tests/documents.py command NAME    which of CONTRIBUTING's places lack this command
        tests/documents.py --write         writes docs/reference/, and what is made in other pages
-       tests/documents.py --order         the lines of crates.txt, each behind the crates that it stands on
+       tests/documents.py --order         the lines of crates.txt, each after the crates that it stands on
        tests/documents.py --list CHECK    what tests/limits.txt lets through
        tests/documents.py --limits        lowers the numbers of tests/limits.txt to what there is
 """
@@ -27,7 +27,8 @@ CHECKS = [
     citations.check_names, citations.check_promises, citations.check_meanings,
     citations.check_architecture, citations.check_commands, citations.check_refusals, places.check_places,
     citations.check_order, check_reference, house.check_lengths, house.check_errors,
-    house.check_columns, house.check_imports, house.check_heads, house.check_comments, house.check_vocabulary, house.check_counts,
+    house.check_columns, house.check_imports, house.check_heads, house.check_comments, house.check_vocabulary, house.check_private_names,
+    house.check_counts,
     house.check_edits, ledger.check_ledger, secrets.check_secrets, pages.check_paths,
 ]
 

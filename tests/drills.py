@@ -1,7 +1,7 @@
 #!/usr/bin/env python3
-"""Plays drills, and compares what they print with the draws of their numbers, which are counted here anew.
+"""Plays drills, and compares what they print with the draws of their numbers, which are counted here again.
 
-The number of signatures rests on the images too that stops leave, which the draws pick by the rule of `MemDisk::crash`. Each
+The number of signatures rests on the crash states too that stops leave, which the draws pick by the rule of `MemDisk::crash`. Each
 drill is played twice, and has to print the same bytes. Prints what is wrong, and the longest processor time and the most memory
 of a drill. Needs a built program, and GNU time; where that isn't there it says that this is left out, and ends with status 0.
 The gate plays eight.
@@ -24,7 +24,7 @@ LAST = 2**63 - 1
 
 class Draws:
     """The draws of a number, and what comes of its stops: how many there are, how many of the stopped calls do not answer Ok,
-    behind how many that add no signature the record is there, and how many signatures are made again beside one that is there."""
+    after how many that add no signature the record is there, and how many signatures are made again beside one that is there."""
 
     def __init__(self, number):
         self.number, self.stops, self.unfinished, self.recovered, self.doubled = number, 0, 0, 0, 0
@@ -35,8 +35,7 @@ class Draws:
 
     def call(self, signs):
         """A call that adds a record, which is a signature or isn't. Where it is stopped, the stop takes two draws: how many
-        calls of its device pass, and which image is left. An append makes four: it writes the record, syncs, writes one byte
-        that opens its gate, and syncs. So a draw of 4 below 5 lets it answer, and one of 3 leaves the gate to the image. By
+        calls of its device pass, and which crash state is left. An append makes four: it writes the record, syncs, writes the commit byte, and syncs. So a draw of 4 below 5 lets it answer, and one of 3 leaves the commit byte to the crash state. By
         the rule of `MemDisk::crash` an even number leaves nothing of that byte, and an odd one that byte or another, not 0."""
         if self.draw(8) == 0:
             self.stops += 1
@@ -49,7 +48,7 @@ class Draws:
 
 def drawn(number):
     """How many entries, landmarks, signatures and stops a drill has, how many stopped calls that do not answer, and how many
-    records of others than signings that are there behind a stop."""
+    records of others than signings that are there after a stop."""
     draws, entries, landmarks = Draws(number), 1, 0
     for _ in range(ROUNDS):
         issued = 1 + draws.draw(3)

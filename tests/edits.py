@@ -12,11 +12,11 @@ a proof that names what is no longer there, doesn't count, and neither does one 
 gets no line, and the script ends with status 1.
 
 A clause stands open in one of two ways. The search for its proof fails. Or what was written by hand doesn't fit any
-longer: the proof of the clause, or the invariant of a loop, which stands in a proof. Both are told apart below, since
+longer: the proof of the clause, or the invariant of a loop, which stands in a proof. Both are reported apart below, since
 the second says less: another one might fit. A search that gives up at a limit of its own has failed like one that has
 tried all, so the first doesn't show either that the clause is false.
 
-Edits of different functions are made in one copy, and one check tells of each: a function is proved by the contracts of
+Edits of different functions are made in one copy, and one check says of each: a function is proved by the contracts of
 those that it calls, so a wrong body elsewhere changes nothing for it. Edits of one function, and those that didn't
 count beside others, are tried one by one. All of it begins with what `rt check` has kept, and takes some 14 processor
 seconds an edit; where nothing is kept, the crate and all below are proved first.
@@ -308,7 +308,7 @@ def tried(copy, crate):
     return results
 
 
-def told(copy, crate):
+def reported(copy, crate):
     """Tries a crate's edits, prints what came of each, writes its line, and returns whether it could."""
     before, begun = seconds(), time.monotonic()
     results = tried(copy, crate)
@@ -345,7 +345,7 @@ def main(words):
         sys.exit(f"there are no edits of {', '.join(unknown)}")
     copy = Copy(jobs)
     try:
-        missed = [name for name in names if not told(copy, name)]
+        missed = [name for name in names if not reported(copy, name)]
     finally:
         copy.remove()
     sys.exit(f"no line is written of {', '.join(missed)}" if missed else 0)

@@ -28,9 +28,9 @@ NEW_LOG = ["init-log", "j", "32473.1", "2", "100000"]
 # What makes a file system, and how many bytes it needs.
 SYSTEMS = {"ext2": (["mkfs.ext2", "-q"], 32 << 20), "ext4": (["mkfs.ext4", "-q"], 32 << 20),
            "xfs": (["mkfs.xfs", "-q"], 400 << 20)}
-# The syncs of a command that adds a record: those of the folder and of its journal, that of the record, that of its gate. A
+# The syncs of a command that adds a record: those of the folder and of its journal, that of the record, that of its commit byte. A
 # `tile` that makes the file of tiles syncs this and the folder before the journal is opened, and makes two between, about the
-# writes of the tiles. `init-log` makes two at its opening, so its fourth is that of the gate too.
+# writes of the tiles. `init-log` makes two at its opening, so its fourth is that of the commit byte too.
 RECORD, GATE, TILES, FIRST = 3, 4, 6, 4
 PAGE = 4096
 # How many one-time keys a cosigner of height 5 has.
@@ -122,14 +122,14 @@ def unlike(what, found, wanted):
         yield f"{what}: {found!r} in place of {wanted!r}"
 
 
-def goes_on(program, disk, there):
+def continues(program, disk, there):
     """The log has so many entries. One more is acknowledged, and a power cut leaves all of them."""
     yield from unlike("the size", size(program, disk.path), there)
     request(disk.path, "last", 1)
     yield from unlike("issue", run(program, disk.path, "issue", "j", "last"), (0, f"issued {there}\n", ""))
     wanted = run(program, disk.path, "entries", "j", str(there + 1))
-    yield from unlike("the size behind a power cut", disk.cut(lambda copy: size(program, copy)), there + 1)
-    yield from unlike("the entries behind a power cut",
+    yield from unlike("the size after a power cut", disk.cut(lambda copy: size(program, copy)), there + 1)
+    yield from unlike("the entries after a power cut",
                       disk.cut(lambda copy: run(program, copy, "entries", "j", str(there + 1))) == wanted, True)
 
 
@@ -143,44 +143,44 @@ def new_log(program, disk):
 
 
 def check_gate(program, disk):
-    """The sync of a record's gate fails, of a record that reaches over several pages"""
+    """The sync of a record's commit byte fails, of a record that reaches over several pages"""
     yield from new_log(program, disk)
     request(disk.path, "long", 60)
     words = ["issue", "j", "long"]
     yield from unlike("the issue that is stopped", stopped(program, disk, GATE, words), (5, "", "mtc: issue: j: Failed\n"))
-    # The system's memory has the record, and the disk hasn't. The next gate lies in another page than that of the record.
-    yield from unlike("the size behind a power cut now", disk.cut(lambda copy: size(program, copy)), 2)
+    # The system's memory has the record, and the disk hasn't. The next commit byte lies in another page than that of the record.
+    yield from unlike("the size after a power cut now", disk.cut(lambda copy: size(program, copy)), 2)
     yield from unlike("the record is long", len((disk.path / "j").read_bytes()) > 8192, True)
-    yield from goes_on(program, disk, 3)
+    yield from continues(program, disk, 3)
 
 
 def check_record(program, disk):
-    """The sync of a record fails before its gate is opened"""
+    """The sync of a record fails before its commit byte is opened"""
     yield from new_log(program, disk)
     request(disk.path, "long", 60)
     words = ["issue", "j", "long"]
     yield from unlike("the issue that is stopped", stopped(program, disk, RECORD, words), (5, "", "mtc: issue: j: Failed\n"))
-    yield from goes_on(program, disk, 2)
+    yield from continues(program, disk, 2)
 
 
 def check_first(program, disk):
     """The last sync of `init-log` fails"""
     wanted = (5, "", "mtc: init-log: j: Failed\n")
     yield from unlike("the init-log that is stopped", stopped(program, disk, FIRST, NEW_LOG), wanted)
-    yield from goes_on(program, disk, 1)
+    yield from continues(program, disk, 1)
 
 
 def check_tiles(program, disk):
-    """The sync of a file of tiles fails behind their writes"""
+    """The sync of a file of tiles fails after their writes"""
     subprocess.run([sys.executable, ROOT / "bench/log/make_journal.py", "600", disk.path / "j"], check=True)
     (disk.path / "j.tiles").unlink(missing_ok=True)
     os.sync()
     wanted = (5, "", "mtc: tile: j.tiles: Failed\n")
     yield from unlike("the tile that is stopped", stopped(program, disk, TILES, ["tile", "j"]), wanted)
-    yield from unlike("the size behind a power cut now", disk.cut(lambda copy: size(program, copy)), 600)
+    yield from unlike("the size after a power cut now", disk.cut(lambda copy: size(program, copy)), 600)
     yield from unlike("tile", run(program, disk.path, "tile", "j"), (0, "tiled 512\n", ""))
-    yield from unlike("the size behind a power cut", disk.cut(lambda copy: size(program, copy)), 600)
-    yield from unlike("tile behind it", disk.cut(lambda copy: run(program, copy, "tile", "j")),
+    yield from unlike("the size after a power cut", disk.cut(lambda copy: size(program, copy)), 600)
+    yield from unlike("tile after it", disk.cut(lambda copy: run(program, copy, "tile", "j")),
                       (4, "", "mtc: tile: NothingNew\n"))
 
 
@@ -209,23 +209,23 @@ def new_cosigner(program, disk):
 
 
 def check_key(program, disk):
-    """The sync of the gate of a signature's record fails, and no one-time key is given twice"""
+    """The sync of the commit byte of a signature's record fails, and no one-time key is given twice"""
     yield from new_cosigner(program, disk)
-    journal, gate = disk.path / "s", 0
-    # On to a record whose gate lies in another page than the next one's, so that this one doesn't carry it to the disk.
+    journal, commit_byte = disk.path / "s", 0
+    # On to a record whose commit byte lies in another page than the next one's, so that this one doesn't carry it to the disk.
     for keys in range(1, KEYS):
         yield from unlike("the key of a signature", signed(program, disk.path), keys - 1)
-        before, gate = gate, journal.stat().st_size - 1
-        if keys > 1 and gate // PAGE != (2 * gate - before) // PAGE:
+        before, commit_byte = commit_byte, journal.stat().st_size - 1
+        if keys > 1 and commit_byte // PAGE != (2 * commit_byte - before) // PAGE:
             break
     os.sync()
     words = ["cosign", "s", "part"]
     yield from unlike("the cosign that is stopped", stopped(program, disk, GATE, words), (5, "", "mtc: cosign: s: Failed\n"))
     # The system's memory has the record, and the disk hasn't.
-    yield from unlike("the keys behind a power cut now", disk.cut(lambda copy: used(program, copy)), [*range(keys)])
+    yield from unlike("the keys after a power cut now", disk.cut(lambda copy: used(program, copy)), [*range(keys)])
     yield from unlike("the key of the next signature", signed(program, disk.path), keys + 1)
-    yield from unlike("the keys behind a power cut", disk.cut(lambda copy: used(program, copy)), [*range(keys + 2)])
-    yield from unlike("the next key behind a power cut", disk.cut(lambda copy: signed(program, copy)), keys + 2)
+    yield from unlike("the keys after a power cut", disk.cut(lambda copy: used(program, copy)), [*range(keys + 2)])
+    yield from unlike("the next key after a power cut", disk.cut(lambda copy: signed(program, copy)), keys + 2)
 
 
 def missing():

@@ -31,7 +31,7 @@ END
 # It notes the crate, and each crate of this repository that it names and that isn't proved yet. A crate with a file src/broken
 # isn't proved. Of one that is proved it prints the prover's line, but nothing where it was proved before. `rt run` makes the
 # program above. `rt try` notes its words. It answers as rt does, of a program that prints two lines, the bytes of the files that
-# it is given or that its words name from the root, and a line on standard error; or it fails. A try or a proof may go on for ever.
+# it is given or that its words name from the root, and a line on standard error; or it fails. A try or a proof may run for ever.
 cat >"$folder/bin/rt" <<'END'
 #!/bin/bash
 name=${PWD##*/} root=${PWD%/crates/*}
@@ -105,7 +105,7 @@ rm "$folder/crates/mtc_words/proved"
 run_mtc
 is_built && [ "$asked" -gt 0 ] || complain "a program isn't built again whose definitions were changed"
 grep -q "mtc_words is proved, after" "$folder/said" && [ "$(grep -c "was proved before, and is kept" "$folder/said")" -eq $((asked - 1)) ] ||
-    complain "a crate that was proved before is told as proved now, or the other way round"
+    complain "a crate that was proved before is reported as proved now, or the other way round"
 grep -q "proved now: 1 of $asked crates" "$folder/said" || complain "a crate that was proved before is counted as proved now"
 
 sed -i 's/^mtc_words: /&mtc_io /' "$folder/crates.txt"
@@ -142,7 +142,7 @@ fi
 reading=$(sed -n 's/^reading="\(.*\)"$/\1/p' "$root/mtc")
 [ -n "$reading" ] || complain "mtc names no command that only reads files"
 for command in $reading; do
-    grep "^| \`$command " "$root/docs/COMMANDS.md" | grep -qvE '\b(journal|secret)\b' || complain "$command isn't told as one that only reads files"
+    grep "^| \`$command " "$root/docs/COMMANDS.md" | grep -qvE '\b(journal|secret)\b' || complain "$command isn't reported as one that only reads files"
 done
 
 # What is run before the proofs shows with one crate as with all.
@@ -203,30 +203,30 @@ done
 touch "$folder/tries_fail"
 run_first member x
 [ -s "$folder/tried" ] && grep -q "gave no answer" "$folder/said" && ! grep -q "not proved yet" "$folder/said" ||
-    complain "a try that fails isn't told, or is shown as an answer"
+    complain "a try that fails isn't reported, or is shown as an answer"
 grep -q "run=none" "$folder/crates/mtc_main/out/build.log" || complain "the log lacks why a try has failed"
 
 touch "$folder/tries_hang"
 MTC_TRY_SECONDS=1 run_first member x
-grep -q "gave no answer" "$folder/said" && ! grep -q "not proved yet" "$folder/said" || complain "a try that goes on for ever isn't told"
-# Whether what was asked of rt goes on; one that ended, and that nobody has waited for, doesn't.
+grep -q "gave no answer" "$folder/said" && ! grep -q "not proved yet" "$folder/said" || complain "a try that runs for ever isn't reported"
+# Whether what was asked of rt still runs; one that ended, and that nobody has waited for, doesn't.
 is_hanging() {
     local pid
     for pid in $(cat "$folder/hanging"); do grep -qsE '^State:[[:space:]]+[^ZX[:space:]]' "/proc/$pid/status" && return; done
     return 1
 }
-is_hanging && complain "a try that goes on for ever is left behind"
+is_hanging && complain "a try that runs for ever is left running"
 
-# Runs mtc with the words behind the signal, and sends it that signal once a try or a proof goes on.
+# Runs mtc with the words after the signal, and sends it that signal once a try or a proof runs.
 run_ended() {
     rm -rf "$folder/crates/mtc_main/out" "$folder/hanging"
     (cd "$folder/examples" && PATH="$folder/bin:$PATH" exec env --default-signal=HUP ../mtc "${@:2}" >../printed 2>../said) &
     until [ -s "$folder/hanging" ]; do sleep 0.1; done
     kill -s "$1" "$!"
     wait "$!"
-    [ $? -eq 130 ] && [ ! -s "$folder/printed" ] || complain "$*: mtc that is told to end goes on"
+    [ $? -eq 130 ] && [ ! -s "$folder/printed" ] || complain "$*: mtc that is asked to end still runs"
     for _ in 1 2 3 4 5 6 7 8 9 10; do is_hanging && sleep 0.1; done
-    is_hanging && complain "$*: mtc that is told to end leaves behind what it has started"
+    is_hanging && complain "$*: mtc that is asked to end leaves what it has started"
 }
 
 cp "$root/crates.txt" "$folder/"

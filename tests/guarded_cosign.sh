@@ -37,7 +37,7 @@ same() {
     fi
 }
 
-# The program, behind these lines.
+# The program, after these lines.
 stand_in() {
     printf '#!/bin/bash\n%s\nexec "%s" "$@"\n' "$1" "$program" >stand_in
     chmod +x stand_in
@@ -93,7 +93,7 @@ guarded "7 0 mtc: cosign: none: Absent" cosign s kept/s none
 guarded "0 $(wc -c <signature1) " cosign s kept/s subtree
 same out signature1 "the second signature"
 
-# An old copy, and a gate that is closed again: the program takes both, and would sign with a key that has signed.
+# An old copy, and a commit byte that is closed again: the program takes both, and would sign with a key that has signed.
 cp s new
 cp kept/s newest
 cp old s
@@ -102,14 +102,14 @@ guarded "20 0 *has lost records*" advance s kept/s advance
 same s old "a journal that was put back gets no record"
 same kept/s newest "the kept export stays"
 cp new s
-gate=$((16 + 5 + $(od -An -tu4 --endian=big -j17 -N4 s)))
-same "$(od -An -tu1 -j$gate -N1 s | tr -d ' ')" 1 "the gate of record 1 is open"
-printf '\0' | dd of=s bs=1 seek=$gate conv=notrunc status=none
+commit_byte=$((16 + 5 + $(od -An -tu4 --endian=big -j17 -N4 s)))
+same "$(od -An -tu1 -j$commit_byte -N1 s | tr -d ' ')" 1 "the commit byte of record 1 is open"
+printf '\0' | dd of=s bs=1 seek=$commit_byte conv=notrunc status=none
 "$program" export s >export || echo "wrong: export: $?"
-same "$(head -c "$(wc -c <export)" newest | cmp - export; echo $?)" 0 "a closed gate is a shorter journal to the program"
+same "$(head -c "$(wc -c <export)" newest | cmp - export; echo $?)" 0 "a closed commit byte is a shorter journal to the program"
 cp s closed
 guarded "20 0 *has lost records*" cosign s kept/s subtree
-same s closed "a journal with a closed gate gets no record"
+same s closed "a journal with a closed commit byte gets no record"
 cp new s
 head -c -1 newest >kept/s
 printf x >>kept/s
@@ -118,13 +118,13 @@ cp newest kept/s
 guarded "0 $(wc -c <signature2) " cosign s kept/s subtree
 same out signature2 "the third signature, of the journal that was there"
 
-# It is put back between the look and the command: nothing is handed out.
+# It is put back between the look and the command: nothing is released.
 export MTC=./stand_in
 cp s new
 stand_in '[ "$1" != cosign ] || cat old >s'
 guarded "20 0 *has lost records*" cosign s kept/s subtree
 cp new s
-# What is kept is taken away or emptied meanwhile: nothing is handed out either.
+# What is kept is taken away or emptied meanwhile: nothing is released either.
 cp s new
 cp kept/s newest
 for line in '[ "$1" != cosign ] || rm kept/s' '[ "$1" != cosign ] || : >kept/s'; do
@@ -133,7 +133,7 @@ for line in '[ "$1" != cosign ] || rm kept/s' '[ "$1" != cosign ] || : >kept/s';
     cp new s
     cp newest kept/s
 done
-# The export behind the command fails: nothing is handed out, and the next run goes on with the next key.
+# The export after the command fails: nothing is released, and the next run continues with the next key.
 stand_in 'if [ "$1" = cosign ]; then touch fails; elif [ -e fails ]; then rm fails; exit 5; fi'
 guarded "5 0 " cosign s kept/s subtree
 export MTC=$program

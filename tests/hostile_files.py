@@ -85,9 +85,9 @@ def main(words):
     program, status = os.path.abspath(words[0] if words else ROOT / "crates/mtc_main/out/mtc_main"), 0
     with Pool() as pool:
         for kind, wanted, said in KINDS:
-            told = pool.starmap(compared, [(program, wanted, said, case) for case in kind()], 16)
-            wrong = [one for _, differences in told for one in differences]
-            counts = sorted(Counter(code for code, _ in told).items())
+            reported = pool.starmap(compared, [(program, wanted, said, case) for case in kind()], 16)
+            wrong = [one for _, differences in reported for one in differences]
+            counts = sorted(Counter(code for code, _ in reported).items())
             counted = ", ".join(f"{count} of status {code}" for code, count in counts)
             print(f"{'wrong' if wrong or counts[0][0] else 'ok'}: {kind.__doc__}: {counted}", *wrong[:5], sep="\n    ")
             status |= bool(wrong or counts[0][0])

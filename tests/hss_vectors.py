@@ -1,5 +1,5 @@
 #!/usr/bin/env python3
-"""Makes the answers about signatures of crates/test_tables anew, from RFC 8554 alone, and prints them.
+"""Makes the answers about signatures of crates/test_tables again, from RFC 8554 alone, and prints them.
 
 With --compare it says whether crates/test_tables/stdout begins with them. It reads the lines of
 crates/test_tables/stdin that ask for signatures, and uses nothing of the crates. So what it prints is what the

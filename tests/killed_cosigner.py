@@ -1,7 +1,7 @@
 #!/usr/bin/env python3
-"""Kills `cosign` at random moments over a real file, and checks what the cosigner's journal then has.
+"""Kills `cosign` at random times over a real file, and checks what the cosigner's journal then has.
 
-Behind each kill the journal opens, with the records that it had and one more at most. Where a byte of a signature went out,
+After each kill the journal opens, with the records that it had and one more at most. Where a byte of a signature went out,
 that one is there, and has the number of the one-time key that signed. No number stands twice.
 Usage: tests/killed_cosigner.py [KILLS]    100 if nothing is said; with less than 30 it may be that no byte goes out, and
        that is wrong too

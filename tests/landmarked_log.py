@@ -1,6 +1,6 @@
 #!/usr/bin/env python3
 """Sets landmarks in a log, and compares its lists and its certificates without signatures, what relying parties say of
-them, and what audits say, with what is made anew from the entries.
+them, and what audits say, with what is made again from the entries.
 
 Over real files.
 Usage: tests/landmarked_log.py
@@ -57,18 +57,18 @@ class LandmarkedLog(CosignedLog):
 
     def __init__(self, program):
         Folder.__init__(self, program)
-        self.size, self.wrong, told = SIZE, [], []
+        self.size, self.wrong, reported = SIZE, [], []
         self.run("init-log", "j", LOG, str(ACTIVE), str(SIZE))
         keys = p256_keys()
         for size in range(1, SIZE + 1):
             if size > 1:
                 self.issue(size - 1, next(keys))
             if size in SIZES:
-                told.append(self.run("landmark", "j").decode())
+                reported.append(self.run("landmark", "j").decode())
         self.text = self.run("entries", "j", str(SIZE), into="entries")
         self.entries = items(self.text)
         wanted = [f"landmark {number} {size}\n" for number, size in enumerate(SIZES, 1)]
-        self.expect("landmark", told, wanted)
+        self.expect("landmark", reported, wanted)
         self.run("landmarks", "j", into="list")
 
     def hash(self, span):
@@ -100,8 +100,8 @@ def check_lists(log):
     falling = [*reversed(SIZES)][:ACTIVE + 1]
     wanted = f"{len(SIZES)} {ACTIVE}\n" + "".join(f"{size}\n" for size in falling)
     log.expect("landmarks", (log.path / "list").read_text(), wanted)
-    told = log.run("trust-landmarks", "list", str(ACTIVE), "entries").decode()
-    log.expect("trust-landmarks", told, log.tables())
+    reported = log.run("trust-landmarks", "list", str(ACTIVE), "entries").decode()
+    log.expect("trust-landmarks", reported, log.tables())
     found = log.refusal("trust-landmarks", "list", str(ACTIVE - 1), "entries")
     log.expect("fewer active", found, (2, b"", "mtc: trust-landmarks: list: TooManyActive\n"))
     log.run("entries", "j", str(SIZES[-1] - 1), into="few")

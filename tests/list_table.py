@@ -1,8 +1,8 @@
 #!/usr/bin/env python3
-"""Makes the answers about lists of crates/test_tables anew, from RFC 9162 and docs/FORMATS.md, and prints them.
+"""Makes the answers about lists of crates/test_tables again, from RFC 9162 and docs/FORMATS.md, and prints them.
 
 With --compare it says whether crates/test_tables/stdout ends with them. A list has a line for each subtree in it:
-its hash, and the SHA-256 of the inclusion paths of its entries one behind the other. For each beginning of the list
+its hash, and the SHA-256 of the inclusion paths of its entries one after the other. For each beginning of the list
 and each subtree in that, a line has the length of its consistency proof, and the first digits of the proof's SHA-256.
 It uses nothing of the crates. It shows that the program makes these hashes and proofs, and not that proofs of other
 lists are refused: for that there are the tests of test_tree. It takes less than a second.
@@ -24,7 +24,7 @@ def subtrees(size):
 
 
 def digest(hashes):
-    """The SHA-256 of hashes one behind the other."""
+    """The SHA-256 of hashes one after the other."""
     return hashlib.sha256(b"".join(hashes)).hexdigest()
 
 

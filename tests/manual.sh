@@ -1,5 +1,5 @@
 #!/bin/bash
-# Makes the man page docs/mtc.1 and the completion for bash docs/mtc.bash anew from the tables of docs/COMMANDS.md, and
+# Makes the man page docs/mtc.1 and the completion for bash docs/mtc.bash again from the tables of docs/COMMANDS.md, and
 # compares them with those that stand there. Then tests that the program knows each command of the table with that number of
 # words, and no other command that the sources name.
 # Usage: tests/manual.sh [--write]

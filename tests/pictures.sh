@@ -1,5 +1,5 @@
 #!/bin/bash
-# Makes the picture of the crates' layers in docs/ARCHITECTURE.md anew from crates.txt, and compares it with the one that stands
+# Makes the picture of the crates' layers in docs/ARCHITECTURE.md again from crates.txt, and compares it with the one that stands
 # there: the crates below the program, with an arrow to each crate that one names and that stands below no other that it names.
 # Then compares docs/speed.svg with the table that it is drawn from, and the bytes that the tour shows with a certificate.
 # Usage: tests/pictures.sh [--write]

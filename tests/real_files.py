@@ -2,7 +2,7 @@
 """Runs the program on real files and streams, and checks what a proof can't see: locks, names, modes, streams that fail,
 the order of the system's calls, calls that fail, disks that are full, commands at once, and commands that are killed.
 
-Prints a line for each check, and below it what is wrong. A check for which this machine lacks something is told as left out.
+Prints a line for each check, and below it what is wrong. A check for which this machine lacks something is reported as left out.
 As root it runs the program as nobody, so that modes count. The checks stand in tests/files, by their subject.
 Usage: tests/real_files.py [KILLS [CHECK ..]]      a command is killed so many times, 100 if nothing is said; with
        less than 30 it may be that none is acknowledged, and that is wrong too

@@ -1,7 +1,7 @@
 #!/usr/bin/env python3
 """The pages of docs/reference/, made from the sources: definitions, clauses, crates, and what has to be trusted.
 
-Usage: tests/reference_pages.py            tells which pages are not what it makes
+Usage: tests/reference_pages.py            says which pages are not what it makes
        tests/reference_pages.py --write    writes them, as tests/documents.sh --write does
 """
 

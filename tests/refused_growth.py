@@ -34,51 +34,51 @@ OWN, CUT = "of the tables", "with a line that is cut"
 
 
 class Ended(NamedTuple):
-    """How a command ended, and what the files hold then that were told."""
+    """How a command ended, and what the files hold then that were reported."""
 
     status: int
     out: bytes
     err: bytes
-    is_starved: bool
+    has_failed_allocations: bool
     left: dict
 
 
 class Run(NamedTuple):
-    """A command: its line, the names of the files that are told, and these files as they were."""
+    """A command: its line, the names of the files that are reported, and these files as they were."""
 
     words: str
     line: bytes
-    told: list
+    reported: list
     files: dict
 
 
 def run_of(words, files):
-    """The run of a command over the files that it names, which are told then, and their files of tiles."""
-    told = [*dict.fromkeys(name for word in words.split()[1:] for name in (word, f"{word}.tiles"))]
-    named = {name: files[name] for name in told if name in files}
+    """The run of a command over the files that it names, which are reported then, and their files of tiles."""
+    reported = [*dict.fromkeys(name for word in words.split()[1:] for name in (word, f"{word}.tiles"))]
+    named = {name: files[name] for name in reported if name in files}
     placed = [f"{name}={text.hex() or '-'}" for name, text in named.items()]
-    line = " ".join(["run x 1000", *placed, *(f"?{name}" for name in told or ["x"]), ":", words])
-    return Run(words, line.encode() + b"\n", told or ["x"], named)
+    line = " ".join(["run x 1000", *placed, *(f"?{name}" for name in reported or ["x"]), ":", words])
+    return Run(words, line.encode() + b"\n", reported or ["x"], named)
 
 
 def ended_of(run, text):
     """How a command ended, by the line that the tables answer."""
-    names = b"".join(rb" %s(?:=([0-9a-f]*))?" % re.escape(name.encode()) for name in run.told)
+    names = b"".join(rb" %s(?:=([0-9a-f]*))?" % re.escape(name.encode()) for name in run.reported)
     found = re.fullmatch(rb"x (\d+)(.*?)( starved)?" + names + rb"\n", text, re.DOTALL)
     out, _, err = found[2].partition(b" ! ")
-    left = {name: bytes.fromhex(digits.decode()) for name, digits in zip(run.told, found.groups()[3:])
+    left = {name: bytes.fromhex(digits.decode()) for name, digits in zip(run.reported, found.groups()[3:])
             if digits is not None}
     return Ended(int(found[1]), out, err, bool(found[3]), left)
 
 
 def refused(library, run, number):
     """Whether an allocation of this number came, and how the command ended; none where the tables gave no answer."""
-    told, tells = os.pipe()
-    extra = {"LD_PRELOAD": str(library), "REFUSED": str(number), "TOLD": str(tells)}
-    made = subprocess.run([TABLES], input=run.line, pass_fds=[tells], env={**os.environ, **extra}, capture_output=True)
-    os.close(tells)
-    came = os.read(told, 1) != b""
-    os.close(told)
+    reported, reporting = os.pipe()
+    extra = {"LD_PRELOAD": str(library), "REFUSED": str(number), "TOLD": str(reporting)}
+    made = subprocess.run([TABLES], input=run.line, pass_fds=[reporting], env={**os.environ, **extra}, capture_output=True)
+    os.close(reporting)
+    came = os.read(reported, 1) != b""
+    os.close(reported)
     # The tables end with status 1 where they find no memory for themselves; nothing else ends them so.
     if made.returncode not in (0, 1) or made.returncode == 1 and made.stdout:
         return came, f"the tables ended with {made.returncode}: {made.stderr.decode()}"
@@ -95,25 +95,25 @@ def held(text):
 
 def fault_of(run, wanted, found):
     """What is wrong about how a command ended, or nothing."""
-    name, same = run.words.split()[0], found._replace(is_starved=False)
-    records, old, new = ({file: held(ended.get(file)) for file in run.told} for ended in (found.left, run.files, wanted.left))
-    if same == wanted._replace(is_starved=False):
+    name, same = run.words.split()[0], found._replace(has_failed_allocations=False)
+    records, old, new = ({file: held(ended.get(file)) for file in run.reported} for ended in (found.left, run.files, wanted.left))
+    if same == wanted._replace(has_failed_allocations=False):
         return None
     if found.status == 8:
-        told = not found.out and found.err in (b"mtc: Memory|", f"mtc: {name}: Memory|".encode())
-        kept = all(records[file] == old[file] or file.endswith(".tiles") and found.left[file] == b"" for file in run.told)
-        return None if told and kept else "status 8"
-    if not found.is_starved:
+        reported = not found.out and found.err in (b"mtc: Memory|", f"mtc: {name}: Memory|".encode())
+        kept = all(records[file] == old[file] or file.endswith(".tiles") and found.left[file] == b"" for file in run.reported)
+        return None if reported and kept else "status 8"
+    if not found.has_failed_allocations:
         return "another ending, though nothing found no memory"
     if found.status == wanted.status and found.out == wanted.out and found.left == wanted.left:
         return None if wanted.err.startswith(found.err) else "another line"
     if found.status == 6:
-        told = wanted.out.startswith(found.out.rstrip(b"|")) or found.out[:4] == b"hex:" and wanted.out.startswith(found.out)
-        return None if told and found.err == f"mtc: {name}: OutputFailed|".encode() and records == new else "status 6"
+        reported = wanted.out.startswith(found.out.rstrip(b"|")) or found.out[:4] == b"hex:" and wanted.out.startswith(found.out)
+        return None if reported and found.err == f"mtc: {name}: OutputFailed|".encode() and records == new else "status 6"
     if found.status == 5:
-        told = not found.out and re.fullmatch(rf"mtc: {name}: \S+: Failed\|".encode(), found.err)
-        kept = all(records[file] in (old[file], new[file]) or file.endswith(".tiles") or name in MAKING for file in run.told)
-        return None if told and kept else "status 5"
+        reported = not found.out and re.fullmatch(rf"mtc: {name}: \S+: Failed\|".encode(), found.err)
+        kept = all(records[file] in (old[file], new[file]) or file.endswith(".tiles") or name in MAKING for file in run.reported)
+        return None if reported and kept else "status 5"
     return "an ending of no kind"
 
 
@@ -162,9 +162,9 @@ def main(commands):
             counts, wrong = counts + count, wrong + faults
     if not commands and not all(counts[f"of status {status}"] for status in (5, 6, 8)):
         wrong.append("an ending never came")
-    told = ", ".join(f"{count} {kind}" for kind, count in sorted(counts.items()))
+    reported = ", ".join(f"{count} {kind}" for kind, count in sorted(counts.items()))
     print(*wrong[:20], f"{'wrong' if wrong else 'ok'}: {sum(counts.values())} allocations of {len(commands or COMMANDS)} commands "
-          f"over memory were refused in turn: {told}", sep="\n")
+          f"over memory were refused in turn: {reported}", sep="\n")
     return int(bool(wrong))
 
 

@@ -1,8 +1,8 @@
 #!/usr/bin/env python3
-"""Makes the answers about commands of crates/test_tables anew, by the readers of tests/reference, and prints them.
+"""Makes the answers about commands of crates/test_tables again, by the readers of tests/reference, and prints them.
 
 With --compare it says whether crates/test_tables/stdin asks for the runs of tests/hostile, and whether
-crates/test_tables/stdout has their answers behind those about certificates; with --ask it prints the lines that ask. A
+crates/test_tables/stdout has their answers after those about certificates; with --ask it prints the lines that ask. A
 line `run` is one run: a file that is refused, an output that fails, a file that can't be read. A line `each` sets each
 byte of a file to each of some values. The readers are written from docs/FORMATS.md, docs/COMMANDS.md and the standards,
 and use nothing of the crates. tests/hostile_files.py tries the same runs on real files. It takes half a minute.
@@ -19,25 +19,25 @@ from reference import commands, tables
 SET = ("certificate", "store", "export", "entries")
 
 
-def file_words(files, failing, told):
+def file_words(files, failing, reported):
     """The words of a line that name files."""
     named = (f"{name}={text.hex() or '-'}{'/0' if name == failing else ''}" for name, text in files.items())
-    return [*named, *(f"?{name}" for name in told)]
+    return [*named, *(f"?{name}" for name in reported)]
 
 
 def asked_lines():
     """The lines that ask for the runs of tests/hostile."""
     for row in rows.rows():
         output = str(row.takes) if row.call is None else f"{row.takes}/{row.call}"
-        front = ["run", row.label, output, *file_words(row.files, row.failing, row.told)]
-        yield " ".join([*front, ":", *row.words])
+        prefix = ["run", row.label, output, *file_words(row.files, row.failing, row.reported)]
+        yield " ".join([*prefix, ":", *row.words])
     for label in SET:
         words, files, name, values = single_bytes.scenes()[label]
         yield " ".join(["each", name, values.hex(), str(rows.ALL), *file_words(files, None, ()), ":", *words])
 
 
 def parted(word):
-    """What stands before a slash, and the number behind it."""
+    """What stands before a slash, and the number after it."""
     text, _, number = word.partition("/")
     return text, int(number) if number else None
 
@@ -49,8 +49,8 @@ def row_of(label, output, words):
         text, call = parted(rest)
         files[name], failing = tables.hexadecimal(text), failing if call is None else name
     count, call = parted(output)
-    told = tuple(word[1:] for word in words[:end] if word.startswith("?"))
-    return rows.Row(label, words[end + 1:], files, failing, int(count), call, told)
+    reported = tuple(word[1:] for word in words[:end] if word.startswith("?"))
+    return rows.Row(label, words[end + 1:], files, failing, int(count), call, reported)
 
 
 def text_of(row):
@@ -58,7 +58,7 @@ def text_of(row):
     (status, out, err), *left = rows.answer(row)
     parts = [sign + text.decode() for sign, text in (("", out), ("! ", err)) if text]
     return " ".join([str(status), *(part.replace("\n", "|") for part in parts),
-                     *(f"{name}={text.hex()}" for name, text in zip(row.told, left))])
+                     *(f"{name}={text.hex()}" for name, text in zip(row.reported, left))])
 
 
 def line_of(row, name, place, values):

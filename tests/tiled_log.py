@@ -1,7 +1,7 @@
 #!/usr/bin/env python3
 """Tiles logs of many sizes over real files, and compares what the commands then write with what they wrote before, and with
 the plain list of the log's entries: roots, paths and proofs, and each byte of the file of tiles. Then it spoils that file, and
-has it made anew, and kills `tile` at random moments.
+has it made again, and kills `tile` at random times.
 
 Prints a line for each size and each check, and below it what is wrong.
 Usage: tests/tiled_log.py [KILLS [SIZE ..]]      100 kills, and the sizes of SIZES, if nothing is said. The gate takes 257 alone;
@@ -122,9 +122,9 @@ def spoiled(folder, tiles, checkpoint):
         yield from unlike(f"{len(text)} bytes, bad tile {bad}", folder.run(["checkpoint", "j"]), wanted)
         kept = folder.bytes("j.tiles") == text and folder.bytes() == journal
         yield from unlike("both files stay", kept, True)
-    subprocess.run([sys.executable, ROOT / "tests/tiles_anew.py", folder.path / "j"], check=True, capture_output=True)
+    subprocess.run([sys.executable, ROOT / "tests/rebuild_tiles.py", folder.path / "j"], check=True, capture_output=True)
     folder.own(folder.path / "j.tiles")
-    yield from unlike("the file of tiles is the same anew", folder.bytes("j.tiles") == whole, True)
+    yield from unlike("the file of tiles is the same again", folder.bytes("j.tiles") == whole, True)
 
 
 def one_tile(folder):
@@ -135,8 +135,8 @@ def one_tile(folder):
 
 
 def check_kills(folder, kills):
-    """`tile` is killed at random moments: the log opens each time with its root, and is tiled then or by the next `tile`."""
-    span, told, kept = sorted(one_tile(folder) for _ in range(5))[2], 0, 0
+    """`tile` is killed at random times: the log opens each time with its root, and is tiled then or by the next `tile`."""
+    span, reported, kept = sorted(one_tile(folder) for _ in range(5))[2], 0, 0
     root = folder.run(["checkpoint", "j"])
     for number in range(kills):
         folder.long_log(1024)
@@ -144,18 +144,18 @@ def check_kills(folder, kills):
         time.sleep(random.uniform(0, span))
         process.kill()
         line = process.communicate()[0].decode()
-        yield from unlike(f"checkpoint behind kill {number}", folder.run(["checkpoint", "j"]), root)
+        yield from unlike(f"checkpoint after kill {number}", folder.run(["checkpoint", "j"]), root)
         again = folder.run(["tile", "j"])
         if again == (4, "", "mtc: tile: NothingNew\n"):
             kept += 1
         else:
-            yield from unlike(f"tile behind kill {number}", again, (0, "tiled 1024\n", ""))
+            yield from unlike(f"tile after kill {number}", again, (0, "tiled 1024\n", ""))
             yield from unlike(f"what was said before kill {number}", line, "")
-        told += line == "tiled 1024\n"
+        reported += line == "tiled 1024\n"
         yield from unlike(f"checkpoint over tiles {number}", folder.run(["checkpoint", "j"]), root)
         # So that some three of ten end, however long a `tile` takes by now.
         span = min(span * (0.8 if line else 1.1), 10)
-    folder.notes.append(f"{kills} times, {told} acknowledged, {kept - told} not acknowledged and there")
+    folder.notes.append(f"{kills} times, {reported} acknowledged, {kept - reported} not acknowledged and there")
 
 
 def main(words):

@@ -1,14 +1,14 @@
 #!/bin/bash
 # Runs the blocks of docs/TOUR.md in their order, in one shell, and compares each line that is printed with the block that
 # shows it. A block that names openssl is left out where there is no OpenSSL 3, and that is said. Then compares the certificate
-# that README shows, less what stands behind its arrows.
+# that README shows, less what stands after its arrows.
 # Usage: tests/tour.sh [PAGE]
 set -u
 root=$(cd "$(dirname "$0")/.." && pwd)
 page=${1:-$root/docs/TOUR.md}
 folder=$(mktemp -d)
 trap 'rm -rf "$folder"' EXIT
-# Else each command of the tour would try to build it anew.
+# Else each command of the tour would try to build it again.
 "$root/mtc" member "$root/examples/first.member" >/dev/null || exit 70
 mkdir "$folder/clone"
 for name in mtc examples; do
@@ -18,7 +18,7 @@ done
 has_openssl=0
 [[ "$(openssl version 2>/dev/null)" == "OpenSSL 3."* ]] && has_openssl=1
 
-# Makes the files commands, a script, and shown, what it must print. A line of both tells where each block begins.
+# Makes the files commands, a script, and shown, what it must print. A line of both says where each block begins.
 awk -v has_openssl="$has_openssl" -v commands="$folder/commands" -v shown="$folder/shown" '
     function take_block() {
         if (!has_openssl && block ~ /openssl|own\.request/) {

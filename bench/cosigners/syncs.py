@@ -1,6 +1,6 @@
 #!/usr/bin/env python3
 """Prints the least and the most seconds of some rounds of what `advance` or `cosign` asks of a disk beside reading, once
-the journal is locked and its folder is synced: a sync, a record and a sync, and the byte of its gate and a sync.
+the journal is locked and its folder is synced: a sync, a record and a sync, and its commit byte and a sync.
 The file lies in the folder that is named.
 Usage: bench/cosigners/syncs.py FOLDER
 """

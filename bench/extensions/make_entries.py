@@ -7,7 +7,7 @@ from make_certificate import KEY, VALIDITY, element, identifiers
 
 
 def vector(text):
-    """A text behind its length of two bytes."""
+    """A text after its length of two bytes."""
     return len(text).to_bytes(2, "big") + text
 
 

@@ -61,8 +61,8 @@ def full_journal(path, log):
         record(b"\x11\4" + IDS[0] + b"\4" + LOG_ID + struct.pack(">II", 6, 3) + secret)
         record(b"\x12" + struct.pack(">Q", SIZE) + tree_hash(log.entries) + hashes([]))
         for index, entry in enumerate(log.entries):
-            front = b"\x13" + struct.pack(">IQQ", index, index, index + 1)
-            record(front + tree_hash([entry]) + hashes(path_of(index, log.entries)))
+            prefix = b"\x13" + struct.pack(">IQQ", index, index, index + 1)
+            record(prefix + tree_hash([entry]) + hashes(path_of(index, log.entries)))
         journal.write(b"\0")
     path.chmod(0o600)  # the program opens no cosigner's journal that others may read
 

@@ -2,7 +2,7 @@
 KIND is header: a header of half the bytes, and short lines below it, at each of which the whole header is compared;
 tables: an array of inline tables, each of six bytes; numbers: an array of numbers of two bytes; or
 nested: 80 inline tables in each other, and a header and keys of 80 parts, each of which is a table: 6,559 in each other, as many
-as are read, and behind them a line that isn't TOML, so that all are let go at once. SIZE is not asked then."""
+as are read, and after them a line that isn't TOML, so that all are let go at once. SIZE is not asked then."""
 import sys
 
 

@@ -219,7 +219,7 @@ def check_refusals():
 
 
 def in_order():
-    """The crates, each behind those that it stands on; else in the order of crates.txt."""
+    """The crates, each after those that it stands on; else in the order of crates.txt."""
     found = []
 
     def put(name):
@@ -235,7 +235,7 @@ def in_order():
 
 
 def check_order():
-    """crates.txt has each crate behind those that it stands on"""
+    """crates.txt has each crate after those that it stands on"""
     before = set()
     for name, crate in CRATES.items():
         for need in crate.needs:

@@ -83,7 +83,7 @@ def parameters_of(lines):
 
 
 def groups_of(path):
-    """The definitions of a file of specs/, each with those behind it that have no comment of their own."""
+    """The definitions of a file of specs/, each with those after it that have no comment of their own."""
     lines = path.read_text().split("\n")
     groups, comment, title, over, depth, body = [], [], "", "", 0, None
     for number, line in enumerate(lines):

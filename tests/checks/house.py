@@ -7,6 +7,7 @@ from . import comments, ledger
 from .citations import CRATES
 from .pages import DOCS, PRIVATE_IN_COMMENTS, PRIVATE_WORDS, QUOTED, QUOTING, blocks_of, by_hand, private_words_in, shown
 from .sources import ROOT
+from .words import private_names
 
 LIMITS = ROOT / "tests" / "limits.txt"
 MOST_LINES = 500
@@ -63,7 +64,7 @@ def promised(source):
 
 
 def fault_of(crate, edit):
-    """Why an edit can't be made or shows nothing, or nothing. Its changes are made one behind the other, as `rt` makes
+    """Why an edit can't be made or shows nothing, or nothing. Its changes are made one after the other, as `rt` makes
     them."""
     texts = {}
     for file, old, new in ledger.changes_of(edit):
@@ -219,7 +220,7 @@ def without_comment():
 MADE = ("costs", "layers", "places", "ratios", "times", "trusted")
 COUNTED = ("by_hand", "BELIEFS.md", "PROMISES.md")
 LIMITED = {"lengths": long_parts, "columns": wide_lines, "imports": unused_names, "heads": bare_heads,
-           "comments": without_comment, "vocabulary": private_words}
+           "comments": without_comment, "vocabulary": private_words, "private_names": private_names}
 
 
 def by_crate(check):
@@ -270,6 +271,11 @@ def check_comments():
 def check_vocabulary():
     """pages and comments use the field's words"""
     yield from over_limit("vocabulary")
+
+
+def check_private_names():
+    """names, strings of tests, and scripts of tests/ and bench/ use the field's words"""
+    yield from over_limit("private_names")
 
 
 def counts():

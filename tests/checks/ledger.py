@@ -57,7 +57,7 @@ def without(text, spans):
 
 
 def behind_contract(bare, place, proofs):
-    """The place behind the clauses that stand here; the proofs among them are added to the list."""
+    """The place after the clauses that stand here; the proofs among them are added to the list."""
     while True:
         where = WHERE.match(bare, place)
         place = where.end() if where and where.end() > place else place
@@ -221,6 +221,6 @@ def changed_below():
 
 
 def remarks():
-    """What fails nothing, and has to be looked at before a release."""
+    """What fails nothing, and has to be read before a release."""
     names = changed_below()
     return [f"left out: edits: contracts below changed since the last try of {', '.join(names)}"] if names else []

@@ -101,7 +101,16 @@ PRIVATE_WORDS = {
     r"goes on|go on": "continues",
     r"besides": "in addition",
     r"somebody|nobody": "a named agent",
+    r"in front( of)?": "before",
+    r"(?<!-)anew": "again, or rebuilt",
+    r"hand(s|ed|ing)? (out|back|on|over)": "releases, returns, gives",
+    r"settle[sd]?": "durable",
+    r"starve[sd]?": "out of memory",
+    r"fleets?": "drill",
 }
+# Those of scripts and of strings of tests; nobody is a user there, and a room is the name of a trait.
+SCRIPT_WORDS = {word: plain for word, plain in PRIVATE_WORDS.items()
+                if word not in (r"rooms?", r"somebody|nobody", r"kept", r"besides", r"settle[sd]?")}
 # And those that only comments have to do without, since a page may say what a name of the code means.
 PRIVATE_IN_COMMENTS = {
     r"told|tells?": "is reported; the model knows",
@@ -110,9 +119,6 @@ PRIVATE_IN_COMMENTS = {
     r"(?<!of\s)courses?": "execution",
     r"images?": "crash state",
     r"gates?": "commit byte",
-    r"settled?": "durable",
-    r"handed out": "released, answered",
-    r"starved": "memory ran out",
 }
 
 

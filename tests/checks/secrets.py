@@ -26,7 +26,7 @@ def imports_of(crate, file):
 
 
 def home_of(name, home):
-    """The crate and the name of a type, behind what a crate hands on of others."""
+    """The crate and the name of a type, after what a crate hands on of others."""
     root = next((file for file in CRATES[home].files if file.path.stem in ("lib", "main")), None)
     further = imports_of(CRATES[home], root).get(name, home) if root else home
     return (home, name) if further == home else home_of(name, further)

@@ -50,7 +50,7 @@ def blanked(text):
 
 
 def behind_braces(text, place):
-    """The place behind the braces that open here."""
+    """The place after the braces that open here."""
     depth = 0
     for match in re.compile(r"[{}]").finditer(text, place):
         depth += 1 if match.group() == "{" else -1

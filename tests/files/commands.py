@@ -19,7 +19,7 @@ LOG_BEGINS, COSIGNER_BEGINS = 0x01, 0x11
 
 class Command:
     """A command on a journal: its words, which record it adds or begins a journal with, if any, and what it says again where
-    its record is there already. What it prints stands here where it is a line that its page tells."""
+    its record is there already. What it prints stands here where it is a line that its page says."""
 
     def __init__(self, words, says=None, adds=None, begins=None, again=None):
         self.words, self.says, self.adds, self.begins, self.again = words.split(), says, adds, begins, again
@@ -113,7 +113,7 @@ def numbers_of(export):
 
 def added(scene, command):
     """The tags of the records that the command's journal has now and hadn't at the beginning; None where it isn't the old
-    journal with records behind it."""
+    journal with records after it."""
     before, after = records(scene.kept.get(command.journal)), records(scene.bytes(command.journal))
     return [body[0] for body in after[len(before):]] if after[:len(before)] == before else None
 

@@ -44,7 +44,7 @@ def small_disk(folder):
 
 
 def fill(folder, pages):
-    """Takes all room of the file system but so many pages."""
+    """Takes all space of the file system but so many pages."""
     with open(folder / "filler", "wb", buffering=0) as filler:
         with contextlib.suppress(OSError):
             while filler.write(bytes(PAGE)) == PAGE:
@@ -62,19 +62,19 @@ def first_failure(folder, words, says):
 
 
 def full_log(folder, disk):
-    """A log is issued to until the disk is full; then room is made, and it goes on."""
+    """A log is issued to until the disk is full; then space is made, and it continues."""
     yield from unlike("init-log", folder.run(f"init-log d/j {LOG} 2 100000"), (0, "log 32473.1\n", ""))
     fill(disk, 1)
     number, found = first_failure(folder, "issue d/j r", "issued {}\n")
     yield from unlike(f"issue {number}", found, failed("issue", "d/j"))
     yield from unlike("the size", folder.size("d/j"), number)
     (disk / "filler").unlink()
-    yield from unlike("issue with room", folder.run("issue d/j r"), (0, f"issued {number}\n", ""))
+    yield from unlike("issue with space", folder.run("issue d/j r"), (0, f"issued {number}\n", ""))
     yield from unlike("one was issued before", isinstance(number, int) and number > 1, True)
 
 
 def full_cosigner(folder, disk):
-    """A cosigner signs until the disk is full; then room is made, and it goes on with the next one-time key."""
+    """A cosigner signs until the disk is full; then space is made, and it continues with the next one-time key."""
     yield from unlike("init-cosigner", folder.run(f"init-cosigner d/s {COSIGNER} {LOG} 5 4 secret")[0], 0)
     yield from unlike("advance", folder.run("advance d/s first"), (0, "advanced 256\n", ""))
     fill(disk, 0)
@@ -85,12 +85,12 @@ def full_cosigner(folder, disk):
     yield from unlike("export", folder.run("export d/s")[0], 0)
     (disk / "filler").unlink()
     status, out, _ = folder.run("cosign d/s part")
-    # The number of the key stands behind the id, the length of the signature and the count of levels.
-    yield from unlike("cosign with room", (status, out.encode("latin-1")[11:15]), (0, signed.to_bytes(4, "big")))
+    # The number of the key stands after the id, the length of the signature and the count of levels.
+    yield from unlike("cosign with space", (status, out.encode("latin-1")[11:15]), (0, signed.to_bytes(4, "big")))
 
 
 def full_at_first(folder, disk):
-    """A command that begins a journal on a full disk leaves an empty file; with room, and without that file, it does its work."""
+    """A command that begins a journal on a full disk leaves an empty file; with space, and without that file, it does its work."""
     fill(disk, 0)
     for command in BEGINNING:
         asks = {"init-log": "checkpoint", "init-cosigner": "export"}[command.name]
@@ -101,7 +101,7 @@ def full_at_first(folder, disk):
         yield from unlike("again", folder.run(words), (7, "", f"mtc: {command.name}: d/new: Exists\n"))
         (disk / "filler").unlink()
         (disk / "new").unlink()
-        yield from unlike("with room", folder.run(words)[0], 0)
+        yield from unlike("with space", folder.run(words)[0], 0)
         (disk / "new").unlink()
         for left in disk.iterdir():
             left.unlink()
@@ -109,18 +109,18 @@ def full_at_first(folder, disk):
 
 
 def full_tiles(folder, disk):
-    """`tile` on a full disk stores no tile and adds no record; with room it does its work."""
+    """`tile` on a full disk stores no tile and adds no record; with space it does its work."""
     shutil.copy(folder.path / "j", disk / "j")
     folder.own(disk / "j")
     fill(disk, 0)
     yield from unlike("tile", folder.run("tile d/j"), failed("tile", "d/j.tiles"))
     yield from unlike("the size", folder.size("d/j"), 257)
     (disk / "filler").unlink()
-    yield from unlike("tile with room", folder.run("tile d/j"), (0, "tiled 256\n", ""))
+    yield from unlike("tile with space", folder.run("tile d/j"), (0, "tiled 256\n", ""))
 
 
 def check_full(scene, _kills):
-    """On a full disk a command that adds a record or stores tiles is status 5, and all goes on once there is room"""
+    """On a full disk a command that adds a record or stores tiles is status 5, and all continues once there is space"""
     wants_mounts()
     disk = scene.path / "d"
     for part in (full_log, full_cosigner, full_at_first, full_tiles):

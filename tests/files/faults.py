@@ -23,7 +23,7 @@ def opening_faults(scene, command):
     """The faults at the opening of a command's journal, and the file that its line then names."""
     names = [command.journal]
     for kind, number, file in numbered(opening(scene, command)):
-        # The folder of a file is synced for it, right behind the file itself.
+        # The folder of a file is synced for it, right after the file itself.
         names.append(names[-1] if file == "." else file)
         if kind == "flock":
             yield from ((f"{fault}:when={number}", file) for fault in LOCKS)
@@ -38,7 +38,7 @@ def some(faults):
     return [fault for fault in faults if fault not in writes[2:-1]]
 
 
-def told(command, fault, file):
+def reported(command, fault, file):
     """How a command ends at a fault. EAGAIN is what the system answers where another process has the lock."""
     return (locked if "EAGAIN" in fault else failed)(command.name, file)
 
@@ -50,37 +50,37 @@ def check_faults(scene, _kills):
         reads = [(f"pread64:error=EIO:when={number}", command.journal) for number in (1, 2)]
         for fault, file in [*some(opening_faults(scene, command)), *reads]:
             scene.restore()
-            yield from unlike(f"{command.name} {fault}", at_fault(scene, command.words, fault), told(command, fault, file))
-            yield from unlike(f"files behind {command.name} {fault}", scene.changed(), [])
+            yield from unlike(f"{command.name} {fault}", at_fault(scene, command.words, fault), reported(command, fault, file))
+            yield from unlike(f"files after {command.name} {fault}", scene.changed(), [])
     for command in BEGINNING:
         for fault, file in opening_faults(scene, command):
             scene.restore()
-            yield from unlike(f"{command.name} {fault}", at_fault(scene, command.words, fault), told(command, fault, file))
-            yield from unlike(f"files behind {command.name} {fault}", (scene.changed(), scene.bytes("new")), (["new"], b""))
+            yield from unlike(f"{command.name} {fault}", at_fault(scene, command.words, fault), reported(command, fault, file))
+            yield from unlike(f"files after {command.name} {fault}", (scene.changed(), scene.bytes("new")), (["new"], b""))
 
 
 def appending_faults(scene, command):
-    """The faults within an append, the file that the line names, and whether the record is there behind it."""
+    """The faults within an append, the file that the line names, and whether the record is there after it."""
     calls = [*numbered(appending(command), opening(scene, command))]
-    # Only behind the write of the gate a record is there: it is the last but one of the calls.
+    # Only after the write of the commit byte a record is there: it is the last but one of the calls.
     for kind, number, file in calls:
         yield f"{kind}:error={ERRORS[kind]}:when={number}", file, (kind, number, file) == calls[-1]
 
 
 def check_append(scene, _kills):
-    """A write or a sync that fails within an append is status 5 with nothing printed: the old records, or behind the last sync one more"""
+    """A write or a sync that fails within an append is status 5 with nothing printed: the old records, or after the last sync one more"""
     wants_trace(scene)
     for command in ADDING:
         for fault, file, is_there in appending_faults(scene, command):
             scene.restore()
             what, before = f"{command.name} {fault}", scene.bytes(command.journal)
             yield from unlike(what, at_fault(scene, command.words, fault), failed(command.name, file))
-            yield from unlike(f"the records behind {what}", added(scene, command), [command.adds] if is_there else [])
-            yield from unlike(f"the next command behind {what}", asked(scene, command), (0, "", True))
-            yield from unlike(f"the old bytes behind {what}", scene.bytes(command.journal)[:len(before) - 1], before[:-1])
+            yield from unlike(f"the records after {what}", added(scene, command), [command.adds] if is_there else [])
+            yield from unlike(f"the next command after {what}", asked(scene, command), (0, "", True))
+            yield from unlike(f"the old bytes after {what}", scene.bytes(command.journal)[:len(before) - 1], before[:-1])
 
 
-# What a new file then is, by how many calls of its first append went well: the record's write and its sync, the gate's and its.
+# What a new file then is, by how many calls of its first append went well: the record's write and its sync, the commit byte's and its.
 NEW_FILES = ["NotJournal", "BadRecord 0", "BadRecord 0", None]
 
 
@@ -95,20 +95,20 @@ def check_first_append(scene, _kills):
             yield from unlike(what, at_fault(scene, command.words, fault), failed(command.name, file))
             status, _, err = scene.run([asks, "new"])
             wanted = (2, f"mtc: {asks}: new: {refusal}\n") if refusal else (0, "")
-            yield from unlike(f"{asks} behind {what}", (status, err), wanted)
-            yield from unlike(f"again behind {what}", scene.run(command.words), (7, "", command.line("new", "Exists")))
+            yield from unlike(f"{asks} after {what}", (status, err), wanted)
+            yield from unlike(f"again after {what}", scene.run(command.words), (7, "", command.line("new", "Exists")))
 
 
 def stopping(scene, command):
-    """The calls within an append at which a signal comes, and how many records are there behind each: none while the gate
+    """The calls within an append at which a signal comes, and how many records are there after each: none while the commit byte
     is closed, and one where its sync is asked for."""
-    *_, record, gate = [call for call in numbered(appending(command), opening(scene, command)) if call[0] == "fsync"]
+    *_, record, commit_byte = [call for call in numbered(appending(command), opening(scene, command)) if call[0] == "fsync"]
     yield record, 0
-    yield gate, 1
+    yield commit_byte, 1
 
 
 def check_signals(scene, _kills):
-    """A signal that ends a command within its append leaves the old records before the gate is written, and one more behind it"""
+    """A signal that ends a command within its append leaves the old records before the commit byte is written, and one more after it"""
     wants_trace(scene)
     for command in ADDING:
         for name in ("HUP", "INT", "TERM", "KILL"):
@@ -117,5 +117,5 @@ def check_signals(scene, _kills):
                 what = f"{command.name} {name} at {kind} {number}"
                 ending = at_fault(scene, command.words, f"{kind}:signal={name}:when={number}")
                 yield from unlike(what, ending, (-signal.Signals[f"SIG{name}"], "", ""))
-                yield from unlike(f"the records behind {what}", added(scene, command), [command.adds] * count)
-                yield from unlike(f"the next command behind {what}", asked(scene, command), (0, "", True))
+                yield from unlike(f"the records after {what}", added(scene, command), [command.adds] * count)
+                yield from unlike(f"the next command after {what}", asked(scene, command), (0, "", True))

@@ -1,4 +1,4 @@
-"""Commands that are killed at random moments, and one that may not make its file longer."""
+"""Commands that are killed at random times, and one that may not make its file longer."""
 
 import random
 import resource
@@ -17,10 +17,10 @@ def next_span(span, is_acknowledged):
     return min(span * (SHORTER if is_acknowledged else LONGER), MOST)
 
 
-def killed(folder, words, moment):
-    """What a command printed until it was killed at this moment."""
+def killed(folder, words, delay):
+    """What a command printed until it was killed after this delay."""
     process = folder.start(words)
-    time.sleep(moment)
+    time.sleep(delay)
     process.kill()
     return process.communicate()[0].decode("latin-1")
 
@@ -32,48 +32,48 @@ def seconds(folder, words):
 
 
 def check_kills(folder, kills):
-    """`issue` is killed at random moments: the journal opens each time, and each acknowledged entry is at its index"""
+    """`issue` is killed at random times: the journal opens each time, and each acknowledged entry is at its index"""
     folder.new_log()
     span = sorted(seconds(folder, ["issue", "j", "r"]) for _ in range(9))[4]
-    before, told, unsaid = folder.size(), [], 0
+    before, reported, unsaid = folder.size(), [], 0
     for number in range(kills):
         folder.request("k", f"k{number}.example")
         index = acknowledged(killed(folder, ["issue", "j", "k"], random.uniform(0, span)))
         size = folder.size()
         if index is not None:
-            told.append((index, f"k{number}.example"))
+            reported.append((index, f"k{number}.example"))
             yield from unlike(f"issue {number}", (index, size), (before, before + 1))
         elif size == before + 1:
             unsaid += 1
         else:
-            yield from unlike(f"the size behind issue {number}", size, before)
+            yield from unlike(f"the size after issue {number}", size, before)
         if not isinstance(size, int):
             return
         span, before = next_span(span, index is not None), size
-    yield from misplaced(folder.entries(before), told)
-    yield from unlike("entries", before, 10 + len(told) + unsaid)
-    yield from unlike("one was acknowledged", len(told) > 0, True)
-    folder.notes.append(f"{kills} times, {len(told)} acknowledged, {unsaid} not acknowledged and there")
+    yield from misplaced(folder.entries(before), reported)
+    yield from unlike("entries", before, 10 + len(reported) + unsaid)
+    yield from unlike("one was acknowledged", len(reported) > 0, True)
+    folder.notes.append(f"{kills} times, {len(reported)} acknowledged, {unsaid} not acknowledged and there")
 
 
 def check_kills_again(scene, kills):
-    """`landmark` and `advance` are killed at random moments: the journal opens, and the command given again tells whether its record is there"""
+    """`landmark` and `advance` are killed at random times: the journal opens, and the command given again says whether its record is there"""
     for command in ADDING:
         if not command.again or command.name == "tile":
             continue
-        span, told, unsaid = seconds(scene, command.words), 0, 0
+        span, reported, unsaid = seconds(scene, command.words), 0, 0
         for number in range(kills):
             scene.restore()
             out = killed(scene, command.words, random.uniform(0, span))
             tags = added(scene, command)
             yield from unlike(f"what {command.name} {number} printed", out, command.says if out else "")
-            yield from unlike(f"the records behind {command.name} {number}", tags, [command.adds] if out or tags else [])
-            yield from unlike(f"the next command behind {command.name} {number}", asked(scene, command), (0, "", True))
+            yield from unlike(f"the records after {command.name} {number}", tags, [command.adds] if out or tags else [])
+            yield from unlike(f"the next command after {command.name} {number}", asked(scene, command), (0, "", True))
             wanted = (4, "", command.again) if tags else (0, command.says, "")
             yield from unlike(f"{command.name} {number} again", scene.run(command.words), wanted)
-            told, unsaid, span = told + bool(out), unsaid + bool(tags and not out), next_span(span, bool(out))
-        yield from unlike(f"one {command.name} was acknowledged", told > 0, True)
-        scene.notes.append(f"{command.name}: {kills} times, {told} acknowledged, {unsaid} not acknowledged and there")
+            reported, unsaid, span = reported + bool(out), unsaid + bool(tags and not out), next_span(span, bool(out))
+        yield from unlike(f"one {command.name} was acknowledged", reported > 0, True)
+        scene.notes.append(f"{command.name}: {kills} times, {reported} acknowledged, {unsaid} not acknowledged and there")
 
 
 # What the first question to a new file may answer that its command was killed over: its status and its refusal's name.
@@ -88,26 +88,26 @@ def new_file(scene, asks):
 
 
 def check_first_kills(scene, kills):
-    """`init-log` and `init-cosigner` are killed at random moments: what is left is no file, one that is refused, or the whole journal"""
+    """`init-log` and `init-cosigner` are killed at random times: what is left is no file, one that is refused, or the whole journal"""
     for command in BEGINNING:
         asks = {"init-log": "checkpoint", "init-cosigner": "export"}[command.name]
         scene.restore()
-        span, told, found = seconds(scene, command.words), 0, {}
+        span, reported, found = seconds(scene, command.words), 0, {}
         for number in range(kills):
             scene.restore()
             out = killed(scene, command.words, random.uniform(0, span))
             is_there, ending = (scene.path / "new").exists(), new_file(scene, asks)
             found[ending] = found.get(ending, 0) + 1
             good = ending == (0, "") or (not out and ending in UNFINISHED and is_there == (ending[0] != 7))
-            yield from unlike(f"{asks} behind {command.name} {number}, {ending}, {out!r}", good, True)
+            yield from unlike(f"{asks} after {command.name} {number}, {ending}, {out!r}", good, True)
             if is_there:
                 yield from unlike(f"{command.name} {number} again", scene.run(command.words), (7, "", command.line("new", "Exists")))
                 scene.restore()
-            yield from unlike(f"{command.name} {number} anew", scene.run(command.words)[0], 0)
-            told, span = told + bool(out), next_span(span, bool(out))
-        yield from unlike(f"one {command.name} was acknowledged", told > 0, True)
+            yield from unlike(f"{command.name} {number} again", scene.run(command.words)[0], 0)
+            reported, span = reported + bool(out), next_span(span, bool(out))
+        yield from unlike(f"one {command.name} was acknowledged", reported > 0, True)
         told_of = ", ".join(f"{count} {name or 'whole'}" for (_, name), count in sorted(found.items()))
-        scene.notes.append(f"{command.name}: {kills} times, {told} acknowledged; left were {told_of}")
+        scene.notes.append(f"{command.name}: {kills} times, {reported} acknowledged; left were {told_of}")
 
 
 def at_most(length):
@@ -122,13 +122,13 @@ def check_file_limit(scene, _kills):
     """Under a limit on the length of files (`ulimit -f`) an append ends by the system's signal, and the old records stay"""
     for command in ADDING:
         length = len(scene.kept[command.journal])
-        # The write of the record has no room at all, or room for a part of it.
-        for room in (0, 10):
+        # The write of the record has no space at all, or space for a part of it.
+        for space in (0, 10):
             scene.restore()
             # The file of tiles is longer than none, and shorter than this journal.
-            ending = scene.run(command.words, preexec_fn=at_most(length + room))
-            what = f"{command.name} with {room} bytes more"
+            ending = scene.run(command.words, preexec_fn=at_most(length + space))
+            what = f"{command.name} with {space} bytes more"
             yield from unlike(what, ending, (-signal.SIGXFSZ, "", ""))
-            yield from unlike(f"the records behind {what}", added(scene, command), [])
-            yield from unlike(f"the next command behind {what}", asked(scene, command), (0, "", True))
+            yield from unlike(f"the records after {what}", added(scene, command), [])
+            yield from unlike(f"the next command after {what}", asked(scene, command), (0, "", True))
             yield from unlike(f"{command.name} again", scene.run(command.words)[0], 0)

@@ -61,7 +61,7 @@ def check_memory(folder, _kills):
 
 
 def padded(text, size):
-    """A text of TOML that has so many bytes with a comment behind it."""
+    """A text of TOML that has so many bytes with a comment after it."""
     return text + b"#" + b"x" * (size - len(text) - 1)
 
 
@@ -85,7 +85,7 @@ def check_inputs(scene, _kills):
         for words, file, wanted in longest(scene, size):
             too_long = 9, "", f"mtc: {words.split()[0]}: {file}: TooLong\n"
             yield from unlike(f"{words} of {size} bytes", scene.run(words), wanted if size == MOST else too_long)
-        yield from unlike(f"the log behind {size} bytes", scene.size(), 258)
+        yield from unlike(f"the log after {size} bytes", scene.size(), 258)
     yield from unlike("a device", scene.run("show /dev/zero"), (9, "", "mtc: show: /dev/zero: TooLong\n"))
 
 

@@ -23,7 +23,7 @@ def check_locks(scene, _kills):
                 with held(scene, file) as lock:
                     fcntl.flock(lock, how)
                     yield from unlike(f"{command.name} of {file}", scene.run(command.words), locked(command.name, file))
-            yield from unlike(f"files behind {command.name} of {file}", scene.changed(), [])
+            yield from unlike(f"files after {command.name} of {file}", scene.changed(), [])
     scene.restore()
     (scene.path / "j.tiles").unlink()
     with held(scene, "j") as lock:
@@ -79,7 +79,7 @@ def check_others(scene, _kills):
                 yield from unlike(f"{command.name} with mode {bits:o}", (status, err), (0, ""))
             else:
                 yield from unlike(f"{command.name} with mode {bits:o}", (status, out, err), failed(command.name, "s"))
-                yield from unlike(f"files behind {command.name}", scene.changed(), [])
+                yield from unlike(f"files after {command.name}", scene.changed(), [])
             (scene.path / command.journal).chmod(0o600)
 
 
@@ -89,9 +89,9 @@ def acknowledged(out):
     return int(index) if name == "issued" and index.isdigit() and out.endswith("\n") else None
 
 
-def misplaced(entries, told):
+def misplaced(entries, reported):
     """The names of acknowledged entries that don't stand at their indexes."""
-    for index, name in told:
+    for index, name in reported:
         if not (index < len(entries) and name in entries[index]):
             yield f"{name} was acknowledged as {index}, and isn't there"
 
@@ -99,9 +99,9 @@ def misplaced(entries, told):
 def check_at_once(folder, _kills):
     """Of `issue` given several times at once, each is acknowledged under its own index, or is `Locked`"""
     folder.new_log()
-    told, tries = [], 0
+    reported, tries = [], 0
     for number in range(ROUNDS):
-        running, before = [], len(told)
+        running, before = [], len(reported)
         for _ in range(AT_ONCE):
             tries += 1
             folder.request(f"r{tries}", f"n{tries}.example")
@@ -110,17 +110,17 @@ def check_at_once(folder, _kills):
             ending = ended(process)
             index = acknowledged(ending[1])
             if index is not None:
-                told.append((index, name))
+                reported.append((index, name))
             yield from unlike(name, ending, locked("issue", "j") if index is None else (0, f"issued {index}\n", ""))
-        yield from unlike(f"one was acknowledged in round {number}", len(told) > before, True)
+        yield from unlike(f"one was acknowledged in round {number}", len(reported) > before, True)
     size = folder.size()
-    yield from unlike("the size and the indexes", sorted(index for index, _ in told), [*range(1, size)])
-    yield from misplaced(folder.entries(size), told)
-    folder.notes.append(f"{tries} times, {len(told)} acknowledged")
+    yield from unlike("the size and the indexes", sorted(index for index, _ in reported), [*range(1, size)])
+    yield from misplaced(folder.entries(size), reported)
+    folder.notes.append(f"{tries} times, {len(reported)} acknowledged")
 
 
 def number_in(signature):
-    """The number of the one-time key, where so much of a signature went out: behind the id, a length and the levels."""
+    """The number of the one-time key, where so much of a signature went out: after the id, a length and the levels."""
     place = 1 + signature[0] + 2 + 4
     return int.from_bytes(signature[place:place + 4], "big") if len(signature) >= place + 4 else None
 
@@ -130,16 +130,16 @@ def check_keys_at_once(scene, _kills):
     # Of the keys of height 10 those of width 1 are made soonest.
     scene.said(f"init-cosigner tall {COSIGNER} {LOG} 10 1 secret")
     scene.said("advance tall first")
-    told = []
+    reported = []
     for number in range(ROUNDS):
-        before, running = len(told), [scene.start(["cosign", "tall", "part"]) for _ in range(AT_ONCE)]
+        before, running = len(reported), [scene.start(["cosign", "tall", "part"]) for _ in range(AT_ONCE)]
         for status, out, err in [ended(process) for process in running]:
             if (status, err) == (0, "") and out:
-                told.append(number_in(out.encode("latin-1")))
+                reported.append(number_in(out.encode("latin-1")))
             else:
                 yield from unlike("cosign", (status, out, err), locked("cosign", "tall"))
-        yield from unlike(f"one was acknowledged in round {number}", len(told) > before, True)
+        yield from unlike(f"one was acknowledged in round {number}", len(reported) > before, True)
     signed = [int.from_bytes(body[1:5], "big") for body in records(scene.bytes("tall")) if body[0] == SIGN]
-    yield from unlike("the one-time keys of the signatures", sorted(told), [*range(len(told))])
-    yield from unlike("those of the records", signed, sorted(told))
-    scene.notes.append(f"{ROUNDS * AT_ONCE} times, {len(told)} acknowledged")
+    yield from unlike("the one-time keys of the signatures", sorted(reported), [*range(len(reported))])
+    yield from unlike("those of the records", signed, sorted(reported))
+    scene.notes.append(f"{ROUNDS * AT_ONCE} times, {len(reported)} acknowledged")

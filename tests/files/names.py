@@ -169,7 +169,7 @@ def check_no_journal(scene, _kills):
 
 
 def without_room(scene):
-    """A log whose name leaves no room for that of its tiles answers no command until it is renamed."""
+    """A log whose name leaves no space for that of its tiles answers no command until it is renamed."""
     for length in (LONGEST_NEW + 1, LONGEST):
         log = "m" * length
         yield from unlike("init-log", scene.run("init-log made 32473.1 2 9"), (0, "log 32473.1\n", ""))
@@ -184,7 +184,7 @@ def without_room(scene):
 
 
 def check_long_names(scene, _kills):
-    """The name of a new journal leaves room for that of a file of tiles, and a longer one is `Failed` and makes no file"""
+    """The name of a new journal leaves space for that of a file of tiles, and a longer one is `Failed` and makes no file"""
     yield from without_room(scene)
     log, cosigner, moved, over = "l" * LONGEST_NEW, "c" * LONGEST_NEW, "d" * LONGEST, "o" * (LONGEST + 1)
     new = f"{COSIGNER} {LOG} 5 4 secret"

@@ -27,16 +27,16 @@ fsync 3</x/j>) = 0
 
 
 def untold(scene):
-    """Calls and spoilt lines that are in a trace, and that aren't told of it, or are told as others."""
+    """Calls and spoilt lines that are in a trace, and that aren't reported of it, or are reported as others."""
     for line in TOLD.splitlines():
         found = [call for call, _ in read_trace(scene, f"{line}\nfsync(3</x/j>) = 0\n")]
         wanted = {"renameat2(3": "renameat2 x", "copy_file_range": "copy_file_range j", "ftruncate": "ftruncate j"}
-        told = next((call for front, call in wanted.items() if line.startswith(front)), line)
-        yield from unlike(f"what is told of {line}", found, [told, "fsync j"])
+        reported = next((call for prefix, call in wanted.items() if line.startswith(prefix)), line)
+        yield from unlike(f"what is reported of {line}", found, [reported, "fsync j"])
     for line in CHANGING:
         scene.restore()
         status, calls = traced(scene, [], "sh", "-c", f"exec {line}")
-        yield from unlike(f"{line} changes something, and is told", (status, calls != []), (0, True))
+        yield from unlike(f"{line} changes something, and is reported", (status, calls != []), (0, True))
 
 
 def check_order(scene, _kills):
@@ -59,25 +59,25 @@ def check_order(scene, _kills):
 
 
 def placed(folder, words):
-    """The reads and writes of `j` behind its lock and before the first sync, each with its bytes' number and place, and
+    """The reads and writes of `j` after its lock and before the first sync, each with its bytes' number and place, and
     how many writes there are in all."""
     trace = new_trace(folder)
     calls = "trace=flock,fsync,pread64,pwrite64"
     _, _, err = folder.run(words, before=["strace", "-qq", "-o", trace, "-e", calls, "-P", folder.path / "j"])
     text = trace.read_text()
-    behind = re.search(r"^flock\(.*?\n(.*?)^fsync\(", text, re.M | re.S)
-    lines = re.findall(r"^(pread64|pwrite64)\(.*, (\d+), (\d+)\) += \2$", behind[1] if behind else "", re.M)
+    following = re.search(r"^flock\(.*?\n(.*?)^fsync\(", text, re.M | re.S)
+    lines = re.findall(r"^(pread64|pwrite64)\(.*, (\d+), (\d+)\) += \2$", following[1] if following else "", re.M)
     return [(call, int(size), int(place)) for call, size, place in lines], text.count("pwrite64("), err
 
 
 def check_tail(folder, _kills):
-    """The last bytes of a journal are written again as they are, behind its lock and before its sync, and no other file's"""
+    """The last bytes of a journal are written again as they are, after its lock and before its sync, and no other file's"""
     wants_trace(folder)
     folder.new_log()
     log, file = folder.bytes(), folder.path / "j"
     lengths = [len(log), PIECE - 1, PIECE, PIECE + 1, TAIL - 1, TAIL, TAIL + 1, TAIL + PIECE, 3 * TAIL + 7]
     for length in lengths:
-        # Bytes behind the closed gate mean nothing.
+        # Bytes after the closed commit byte mean nothing.
         file.write_bytes(log + random.randbytes(length - len(log)))
         before = folder.bytes()
         # Then the header is read, before the file of tiles is opened.

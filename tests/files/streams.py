@@ -45,7 +45,7 @@ def check_streams(scene, _kills):
                 scene.restore()
                 what, line = f"{command.name}, {how}", f"mtc: {command.name}: OutputFailed\n" if takes else ""
                 yield from unlike(what, scene.run(command.words, **options), (6, "", line))
-                yield from unlike(f"the records behind {what}", added(scene, command), tags)
+                yield from unlike(f"the records after {what}", added(scene, command), tags)
         for options in ({"stderr": full}, {"stderr": broken}, {"preexec_fn": closed(2)}):
             yield from unlike(f"frob {[*options]}", scene.run("frob", **options), (1, "", ""))
     os.close(broken)
@@ -105,10 +105,10 @@ def check_readers(scene, _kills):
         yield from unlike(f"{words} is longer than a pipe", len(whole) > PIPE, True)
         text, ending = left_by_its_reader(scene, words)
         yield from unlike(words, (text == whole[:100], ending), (True, (6, f"mtc: {name}: OutputFailed\n")))
-        yield from unlike(f"the journal behind {words}", scene.bytes(journal) == before, True)
+        yield from unlike(f"the journal after {words}", scene.bytes(journal) == before, True)
     records_of_export = scene.said("export often")[10 + 62:]
-    told = b"".join(len(body).to_bytes(4, "big") + body for body in records(scene.bytes("often"))[1:])
-    yield from unlike("the records of an export", records_of_export == told, True)
+    reported = b"".join(len(body).to_bytes(4, "big") + body for body in records(scene.bytes("often"))[1:])
+    yield from unlike("the records of an export", records_of_export == reported, True)
 
 
 class Judged(Scene):
@@ -133,14 +133,14 @@ READING = [
 ]
 # A file given as a pipe, in a shell. Where the program doesn't open it, the writer waits for ever: so many seconds are enough.
 AWAITED = 120
-WAYS = {"<(..)": "./mtc {front} <(cat {file}) {back}", "/dev/stdin": "cat {file} | ./mtc {front} /dev/stdin {back}",
-        "a FIFO": "mkfifo pipe && {{ cat {file} >pipe & }} && ./mtc {front} pipe {back}; status=$?; rm pipe; exit $status"}
+WAYS = {"<(..)": "./mtc {prefix} <(cat {file}) {back}", "/dev/stdin": "cat {file} | ./mtc {prefix} /dev/stdin {back}",
+        "a FIFO": "mkfifo pipe && {{ cat {file} >pipe & }} && ./mtc {prefix} pipe {back}; status=$?; rm pipe; exit $status"}
 
 
 def given_by_pipe(scene, words, place, way):
     """How a command ends whose input at this place of its words comes through a pipe."""
-    front, back = shlex.join(words[:place]), shlex.join(words[place + 1:])
-    line = WAYS[way].format(front=front, file=words[place], back=back)
+    prefix, back = shlex.join(words[:place]), shlex.join(words[place + 1:])
+    line = WAYS[way].format(prefix=prefix, file=words[place], back=back)
     return scene.run([], seconds=AWAITED, before=["bash", "-c", line])
 
 
@@ -157,11 +157,11 @@ def check_pipes(scene, _kills):
             for way in WAYS if word in scene.kept and word not in ("j", "s") and place else ():
                 scene.restore()
                 yield from unlike(f"{text}, {word} by {way}", given_by_pipe(scene, words, place, way), wanted)
-                yield from unlike(f"files behind {text}, {word} by {way}", scene.files() == files, True)
+                yield from unlike(f"files after {text}, {word} by {way}", scene.files() == files, True)
 
 
 def check_no_files(scene, _kills):
-    """A device or a FIFO in a journal's place is no journal: it isn't made anew, and no command goes on with it"""
+    """A device or a FIFO in a journal's place is no journal: it isn't made again, and no command continues with it"""
     os.mkfifo(scene.path / "pipe")
     scene.own(scene.path / "pipe")
     before = scene.names()

@@ -34,7 +34,7 @@ def new_trace(folder):
 
 def read_trace(folder, text):
     """The calls of a trace, each as `CALL FILE` and with its descriptor. The folder itself is `.`, and a stream `out` or `err`;
-    calls on end that write to one stream are told as one. A call on no descriptor, or a line that is no whole call, stands there
+    calls on end that write to one stream are reported as one. A call on no descriptor, or a line that is no whole call, stands there
     as the whole line, without a number: so nothing that is in a trace is passed over."""
     found = []
     for line in text.splitlines():
@@ -94,7 +94,7 @@ def opening(scene, command):
 
 def appending(command):
     """The calls by which a command adds its record, if it has one: the tiles before it, the record and its sync, then its
-    gate and its sync."""
+    commit byte and its sync."""
     if not (command.adds or command.begins):
         return []
     tiles = [f"fsync {command.tiles}", f"pwrite64 {command.tiles}", f"fsync {command.tiles}"] if command.name == "tile" else []

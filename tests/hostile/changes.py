@@ -43,9 +43,9 @@ def variants(text):
     yield from changes(text)
     within = pieces(text)
     for at, piece in enumerate(within):
-        front, behind = within[:at], within[at + 1:]
-        yield from (encoded(text[0], b"".join([*front, other, *behind])) for other in variants(piece))
-        yield encoded(text[0], b"".join([*front, *behind, piece]))
+        prefix, following = within[:at], within[at + 1:]
+        yield from (encoded(text[0], b"".join([*prefix, other, *following])) for other in variants(piece))
+        yield encoded(text[0], b"".join([*prefix, *following, piece]))
 
 
 def toml(value):

@@ -44,7 +44,7 @@ def signers():
 
 
 def signed(signatures):
-    """The certificate `small` with these signatures, each behind an id."""
+    """The certificate `small` with these signatures, each after an id."""
     path = vector(b"".join(proof.read(certificate.read(asked()["small"]).proof).path))
     listed = b"".join(bytes([len(id)]) + id + vector(text) for id, text in signatures)
     return with_proof(asked()["small"], b"".join(one.to_bytes(8, "big") for one in SPAN) + path + vector(listed))

@@ -1,4 +1,4 @@
-"""Certificates and stores that are changed, with a moment, and what `verify` has to say of them."""
+"""Certificates and stores that are changed, with a time, and what `verify` has to say of them."""
 
 import base64
 import random
@@ -39,7 +39,7 @@ def certificates():
 
 
 def proofs():
-    """a proof is cut or longer, and the moment is another"""
+    """a proof is cut or longer, and the time is another"""
     text, known = asked()["signed"], text_of(root_of(subtree=[trusted()["signed"]]))
     whole = certificate.read(text).proof
     yield from ((with_proof(text, whole[:size]), known, FIRST) for size in range(len(whole)))
@@ -55,21 +55,21 @@ def algorithms():
         yield rebuilt(other, b"", signature), known, FIRST
 
 
-def moments():
-    """the first or the last moment of a certificate is another, which is tried about that moment"""
+def unix_times():
+    """the first or the last time of a certificate is another, which is tried about that time"""
     known = text_of(root_of(subtree=[trusted()["small"]]))
     signature = certificate.read(asked()["small"]).proof
     yield asked()["small"], known, FIRST
     for text, tag, is_last in product(TIMES, (times.UTC_TIME, times.GENERALIZED_TIME), (False, True)):
         one = encoded(tag, text)
         validity = encoded(SEQUENCE, EARLIEST + one if is_last else one + LATEST)
-        changed, moment = rebuilt(judging.MTC_PROOF, b"", signature, validity), times.moment(tag, text)
-        about = [FIRST] if moment is None else [moment - 1, moment, moment + 1]
+        changed, unix_time = rebuilt(judging.MTC_PROOF, b"", signature, validity), times.unix_time(tag, text)
+        about = [FIRST] if unix_time is None else [unix_time - 1, unix_time, unix_time + 1]
         yield from ((changed, known, now) for now in about if 0 <= now <= MOST_MOMENT)
 
 
 def reasons():
-    """each set of reasons against a certificate, of which the first is told"""
+    """each set of reasons against a certificate, of which the first is reported"""
     good = certificate.read(asked()["small"]).proof
     longer = good[:16] + vector(good[18:50] * 2) + bytes(2)
     algorithms, extensions = (judging.MTC_PROOF, WITH_PARAMETERS), (b"", CRITICAL)
@@ -82,16 +82,16 @@ def reasons():
 
 
 def two_changes():
-    """two fields of a certificate, or two values of a store, are another, and the first fault is told"""
+    """two fields of a certificate, or two values of a store, are another, and the first fault is reported"""
     random.seed(1)
     text, known = signed([(id, text) for id, _, text in signers()]), text_of(whole_root())
     yield text, known, FIRST
-    body, *behind = pieces(text)
+    body, *following = pieces(text)
     for _ in range(PAIRS):
         fields = pieces(body)
         for place in random.sample(range(len(fields)), 2):
             fields[place] = random.choice([*variants(fields[place])])
-        yield encoded(SEQUENCE, encoded(SEQUENCE, b"".join(fields)) + b"".join(behind)), known, FIRST
+        yield encoded(SEQUENCE, encoded(SEQUENCE, b"".join(fields)) + b"".join(following)), known, FIRST
     for one in random.sample([*other_tables(whole_root())], PAIRS):
         yield text, text_of(random.choice([*other_tables(one)])), FIRST
 
@@ -151,4 +151,4 @@ def said(run, text, store_file, now):
 
 
 KINDS = [(kind, wanted, said) for kind in (
-    certificates, algorithms, moments, proofs, signatures, stores, reasons, two_changes)]
+    certificates, algorithms, unix_times, proofs, signatures, stores, reasons, two_changes)]

@@ -20,7 +20,7 @@ class Row(NamedTuple):
     failing: str = None
     takes: int = ALL
     call: int = None
-    told: tuple = ()
+    reported: tuple = ()
 
 
 # The changes of single bytes of a certificate, each with its label.
@@ -73,14 +73,14 @@ def rows():
     yield Row("export:a-length-alone", audit_words(), {**audited, "x": b"\4"})
     asked_for = {"s": advanced(), "r": advance_request()}
     for label, text in requests(asked_for["r"]).items():
-        yield Row(f"request:{label}", ["advance", "s", "r"], {**asked_for, "r": text}, told=("s",))
+        yield Row(f"request:{label}", ["advance", "s", "r"], {**asked_for, "r": text}, reported=("s",))
     yield Row("show:good", ["show", "c"], files)
     yield Row("show:the-output-fails", ["show", "c"], files, takes=1, call=7)
     yield Row("verify:the-store-fails", verify_words(), files, failing="store")
 
 
 def answer(row):
-    """The status and the two texts of a run, and what the files hold then that are told."""
+    """The status and the two texts of a run, and what the files hold then that are reported."""
     name, files = row.words[0], dict(row.files)
     if row.failing:
         found = 5, b"", f"mtc: {name}: {row.failing}: Failed\n".encode()
@@ -89,7 +89,7 @@ def answer(row):
     taken = len(found[1]) if row.call is None else row.takes * row.call
     if taken < len(found[1]):
         found = 6, found[1][:taken], f"mtc: {name}: OutputFailed\n".encode()
-    return [found, *(files[file] for file in row.told)]
+    return [found, *(files[file] for file in row.reported)]
 
 
 def tables():
@@ -101,7 +101,7 @@ def said(run, row):
     """What the program says over real files."""
     files = {name: None if name == row.failing else text for name, text in row.files.items()}
     found = run(files, row.words, None if row.call is None else row.takes * row.call)
-    return [found, *map(run.left, row.told)]
+    return [found, *map(run.left, row.reported)]
 
 
 KINDS = [(tables, answer, said)]

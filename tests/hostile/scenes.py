@@ -72,8 +72,8 @@ def short(text):
 def export():
     """What the cosigner exports that has signed the certificate."""
     id, key, _ = signers()[0]
-    front = short(id) + short(store.anchor_id(LOG)) + vector(key)
-    return front + b"".join(u32(len(body)) + body for body in steps())
+    prefix = short(id) + short(store.anchor_id(LOG)) + vector(key)
+    return prefix + b"".join(u32(len(body)) + body for body in steps())
 
 
 def cosigned():

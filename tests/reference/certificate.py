@@ -27,7 +27,7 @@ class Certificate(NamedTuple):
     algorithm: bytes
     issuer: bytes
     validity: bytes
-    moments: list
+    unix_times: list
     subject: bytes
     key: bytes
     extensions: bytes
@@ -90,16 +90,16 @@ def name(body):
 
 
 def validity(body):
-    """The validity, and the two moments of it."""
+    """The validity, and the two times of it."""
     element = body.next(der.SEQUENCE)
-    fields, moments = element.fields(), []
+    fields, unix_times = element.fields(), []
     for _ in range(2):
         tag = times.GENERALIZED_TIME if fields.tag() == times.GENERALIZED_TIME else times.UTC_TIME
-        moments.append(times.moment(tag, fields.next(tag).contents))
-        if moments[-1] is None:
+        unix_times.append(times.unix_time(tag, fields.next(tag).contents))
+        if unix_times[-1] is None:
             raise Fault("BadTime")
     fields.close()
-    return element.whole, moments
+    return element.whole, unix_times
 
 
 def public_key(body):

@@ -58,7 +58,7 @@ def proof_lines(read):
 
 def show(words, files):
     read = checked(words, words[1], 2, certificate.read, files[words[1]])
-    first, last = (f"{datetime.fromtimestamp(moment, UTC):%Y-%m-%dT%H:%M:%SZ}" for moment in read.moments)
+    first, last = (f"{datetime.fromtimestamp(unix_time, UTC):%Y-%m-%dT%H:%M:%SZ}" for unix_time in read.unix_times)
     names = [name_line(name) for one in read.extension_list for name in one.names]
     return lines(f"serial {read.serial}", f"issuer {store.log_of(read.issuer) or 'other'}", f"not_before {first}",
                  f"not_after {last}", f"subject {'empty' if read.subject == EMPTY_NAME else read.subject.hex()}",

@@ -40,7 +40,7 @@ class State(NamedTuple):
 
 
 class Export(NamedTuple):
-    """The ids of a cosigner and of its log, its public key, its steps, and the state behind them."""
+    """The ids of a cosigner and of its log, its public key, its steps, and the state after them."""
 
     cosigner: bytes
     log: bytes
@@ -110,8 +110,8 @@ def is_part(state, asked):
     return merkle.is_consistent(asked.start, asked.end, asked.node, state.size, state.root, asked.proof)
 
 
-def behind(state, keys, found):
-    """The state behind a step, of a cosigner with so many one-time keys; none where the step breaks the rules."""
+def following(state, keys, found):
+    """The state after a step, of a cosigner with so many one-time keys; none where the step breaks the rules."""
     if isinstance(found, Advance):
         fits = state.size < found.size and leads_to(state, found)
         return State(found.size, found.root, state.signed) if fits else None
@@ -120,7 +120,7 @@ def behind(state, keys, found):
 
 
 def id_at(cursor):
-    """An anchor id behind its length."""
+    """An anchor id after its length."""
     id = cursor.vector(1)
     if not is_anchor_id(id):
         raise Fault("BadId")
@@ -128,7 +128,7 @@ def id_at(cursor):
 
 
 def key_at(cursor):
-    """The public key behind its length, and how many one-time keys it has."""
+    """The public key after its length, and how many one-time keys it has."""
     key = cursor.vector(2)
     if not is_hss_key(key) or number_at(key, 0) != 1 or LMS[number_at(key, 4)] not in HEIGHTS:
         raise Fault("BadKey")
@@ -136,10 +136,10 @@ def key_at(cursor):
 
 
 def record(body, state, keys, place):
-    """The step of a record, and the state behind it."""
+    """The step of a record, and the state after it."""
     try:
         found = step(body)
-        after = behind(state, keys, found)
+        after = following(state, keys, found)
     except Fault:
         after = None
     if after is None:

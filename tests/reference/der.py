@@ -62,7 +62,7 @@ def size_at(text, place, end):
 
 
 class Fields:
-    """Elements one behind the other, read from the left."""
+    """Elements one after the other, read from the left."""
 
     def __init__(self, text, place, end):
         self.text, self.place, self.end = text, place, end
@@ -87,7 +87,7 @@ class Fields:
         return Element(self.text, place, inside, self.place)
 
     def close(self):
-        """Nothing stands behind the last field: step 8."""
+        """Nothing stands after the last field: step 8."""
         if self.place < self.end:
             raise Fault("Trailing", self.place)
 
@@ -95,8 +95,8 @@ class Fields:
 def integer(element):
     """The number of an INTEGER (X.690, 8.3)."""
     contents = element.contents
-    front = int.from_bytes(contents[:2], "big") >> 7
-    if not contents or len(contents) > 1 and front in (0, 0x1FF):
+    prefix = int.from_bytes(contents[:2], "big") >> 7
+    if not contents or len(contents) > 1 and prefix in (0, 0x1FF):
         raise Fault("BadInteger", element.place)
     return int.from_bytes(contents, "big", signed=True)
 
@@ -119,11 +119,11 @@ def identifier(element):
 
 def bits(element):
     """How many bits at the end of a BIT STRING are unused, and its bytes (X.690, 8.6 and 11.2)."""
-    unused, behind = element.contents[:1], element.contents[1:]
-    last = behind[-1] if behind else 0xFF
+    unused, following = element.contents[:1], element.contents[1:]
+    last = following[-1] if following else 0xFF
     if not unused or unused[0] > 7 or last & (1 << unused[0]) - 1:
         raise Fault("BadBits", element.place)
-    return unused[0], behind
+    return unused[0], following
 
 
 def risen(element):

@@ -15,7 +15,7 @@ def of_certificate(read):
 
 
 def fields_of(text):
-    """Reads the fields behind the type of an entry of type 1, and answers the hash of its key."""
+    """Reads the fields after the type of an entry of type 1, and answers the hash of its key."""
     fields = Fields(text, 2, len(text))
     for read in (certificate.version, certificate.name, certificate.validity, certificate.name):
         read(fields)

@@ -57,9 +57,9 @@ def front_length(text):
 
 def level(key, message, signature):  # 4.6 and 5.4.2, algorithms 4b and 6a, for one whole signature
     w, p, ls = LMOTS[number_at(signature, 4)]
-    behind = 8 + 32 + 32 * p
-    height = LMS.get(number_at(signature, behind))
-    if signature[behind:behind + 4] != key[0:4] or signature[4:8] != key[4:8]:
+    following = 8 + 32 + 32 * p
+    height = LMS.get(number_at(signature, following))
+    if signature[following:following + 4] != key[0:4] or signature[4:8] != key[4:8]:
         return "TypeDiffers"
     q, identifier = number_at(signature, 0), key[8:24]
     if q >= 1 << height:
@@ -73,7 +73,7 @@ def level(key, message, signature):  # 4.6 and 5.4.2, algorithms 4b and 6a, for 
     place = (1 << height) + q
     value = hashed(identifier, u32(place), D_LEAF, candidate)
     for i in range(height):
-        beside = signature[behind + 4 + 32 * i:behind + 36 + 32 * i]
+        beside = signature[following + 4 + 32 * i:following + 36 + 32 * i]
         pair = (value, beside) if place % 2 == 0 else (beside, value)
         place //= 2
         value = hashed(identifier, u32(place), D_INTR, *pair)

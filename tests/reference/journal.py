@@ -32,7 +32,7 @@ def written(records):
 
 
 def appended(text, body):
-    """The journal behind an append: the commit byte that ended it is open, and what stood behind the record stays."""
+    """The journal after an append: the commit byte that ended it is open, and what stood after the record stays."""
     end = len(HEADER) + sum(5 + len(one) for one in bodies(text))
     record = bytes([OPEN]) + len(body).to_bytes(4, "big") + body + bytes([CLOSED])
     return text[:end] + record + text[end + len(record):]

@@ -30,9 +30,9 @@ def admitted(read, store, now):
         raise Refused("Algorithm")
     if read.issuer != store.name:
         raise Refused("UnknownLog")
-    if now < read.moments[0]:
+    if now < read.unix_times[0]:
         raise Refused("NotYet")
-    if read.moments[1] < now:
+    if read.unix_times[1] < now:
         raise Refused("Expired")
     if any(one.critical and one.identifier not in KNOWN for one in read.extension_list):
         raise Refused("UnknownCritical")
@@ -61,7 +61,7 @@ def decided(store, found, node):
 
 
 def judge(text, store, now):
-    """The index of the entry and its interval, of a certificate that is accepted at this moment."""
+    """The index of the entry and its interval, of a certificate that is accepted at this time."""
     read = within("Grammar", certificate.read, text)
     admitted(read, store, now)
     found = within("ProofGrammar", proof.read, read.proof)

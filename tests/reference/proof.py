@@ -23,7 +23,7 @@ class Cursor:
         self.text, self.place, self.end = text, place, end
 
     def bytes(self, count, begin=None):
-        """So many bytes; where they don't fit, the form that began at this offset is told."""
+        """So many bytes; where they don't fit, the form that began at this offset is reported."""
         if self.place + count > self.end:
             raise Fault("Short", self.place if begin is None else begin)
         self.place += count
@@ -33,7 +33,7 @@ class Cursor:
         return int.from_bytes(self.bytes(width, begin), "big")
 
     def vector(self, width):
-        """Bytes behind their length, of so many bytes."""
+        """Bytes after their length, of so many bytes."""
         begin = self.place
         return self.bytes(self.number(width, begin), begin)
 

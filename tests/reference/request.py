@@ -19,16 +19,16 @@ VERSION, COMMON_NAME = bytes.fromhex("a003020102"), bytes.fromhex("0603550403")
 
 
 class Request(NamedTuple):
-    """The two moments, the names, the common name or none, and the public key."""
+    """The two times, the names, the common name or none, and the public key."""
 
-    moments: list
+    unix_times: list
     names: list
     common_name: str
     key: bytes
 
 
-def moment(value):
-    """The moment of a text; none from another value."""
+def unix_time(value):
+    """The time of a text; none from another value."""
     form = "([0-9]{4})-([0-9]{2})-([0-9]{2})T([0-9]{2}):([0-9]{2}):([0-9]{2})Z"
     found = isinstance(value, str) and re.fullmatch(form, value)
     if not found or int(found[1]) < 1950:
@@ -71,7 +71,7 @@ def public_key(value):
 def read(text):
     """The request that these bytes are."""
     root = checked(parsed(text), *KEYS)
-    first, last = field(root, "not_before", "NotBefore", moment), field(root, "not_after", "NotAfter", moment)
+    first, last = field(root, "not_before", "NotBefore", unix_time), field(root, "not_after", "NotAfter", unix_time)
     names = field(root, "dns", "Dns", hosts)
     common = field(root, "common_name", "CommonName", common_name) if "common_name" in root else None
     key = field(root, "key", "PublicKey", public_key)
@@ -83,7 +83,7 @@ def read(text):
 
 
 def time(seconds):
-    """The element of a moment: a UTCTime up to 2049, and then a GeneralizedTime."""
+    """The element of a time: a UTCTime up to 2049, and then a GeneralizedTime."""
     date = datetime.fromtimestamp(seconds, UTC)
     text = f"{date.year:04}{date:%m%d%H%M%S}Z".encode()
     return encoded(times.UTC_TIME, text[2:]) if date.year < 2050 else encoded(times.GENERALIZED_TIME, text)
@@ -99,7 +99,7 @@ def entry(asked, log):
     critical = b"" if subject else encoded(der.BOOLEAN, b"\xFF")
     mark = encoded(der.IDENTIFIER, certificate.ALT_NAME) + critical
     extension = encoded(SEQUENCE, mark + encoded(der.OCTET_STRING, names))
-    validity = encoded(SEQUENCE, b"".join(map(time, asked.moments)))
+    validity = encoded(SEQUENCE, b"".join(map(time, asked.unix_times)))
     key_hash = encoded(der.OCTET_STRING, hashlib.sha256(asked.key).digest())
     extensions = encoded(certificate.EXTENSIONS, encoded(SEQUENCE, extension))
     return b"\0\1" + VERSION + log_name(log) + validity + encoded(SEQUENCE, subject) + key_hash + extensions

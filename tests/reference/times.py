@@ -6,8 +6,8 @@ from datetime import UTC, datetime
 UTC_TIME, GENERALIZED_TIME = 0x17, 0x18
 
 
-def moment(tag, contents):
-    """The moment of a UTCTime or a GeneralizedTime; none where its form isn't kept or there is no such time."""
+def unix_time(tag, contents):
+    """The time of a UTCTime or a GeneralizedTime; none where its form isn't kept or there is no such time."""
     digits = 12 if tag == UTC_TIME else 14
     if not re.fullmatch(rb"[0-9]{%d}Z" % digits, contents):
         return None

@@ -34,30 +34,30 @@ or_memory wanted (Append why) keeps = keeps
 or_memory wanted Memory keeps = tt
 
 -- after the tests a disk failed, or memory was refused
-pub kept_behind : (wanted : Option WriteError) (result : Result Text WriteError) → wanted ≡ None
+pub kept_after : (wanted : Option WriteError) (result : Result Text WriteError) → wanted ≡ None
     → IfErr result IsOfDisks → KeepsToRefusal wanted result
-kept_behind wanted (Ok bytes) none is = none
-kept_behind wanted (Err write_error.NoSuchEntry) none is = absurd is
-kept_behind wanted (Err write_error.NullEntry) none is = absurd is
-kept_behind wanted (Err write_error.BadSubtree) none is = absurd is
-kept_behind wanted (Err write_error.Outside) none is = absurd is
-kept_behind wanted (Err (write_error.Beyond size)) none is = absurd is
-kept_behind wanted (Err write_error.NotCovered) none is = absurd is
-kept_behind wanted (Err write_error.TooManySignatures) none is = absurd is
-kept_behind wanted (Err write_error.JournalFailed) none is = none
-kept_behind wanted (Err write_error.TilesFailed) none is = none
-kept_behind wanted (Err write_error.Memory) none is = none
+kept_after wanted (Ok bytes) none is = none
+kept_after wanted (Err write_error.NoSuchEntry) none is = absurd is
+kept_after wanted (Err write_error.NullEntry) none is = absurd is
+kept_after wanted (Err write_error.BadSubtree) none is = absurd is
+kept_after wanted (Err write_error.Outside) none is = absurd is
+kept_after wanted (Err (write_error.Beyond size)) none is = absurd is
+kept_after wanted (Err write_error.NotCovered) none is = absurd is
+kept_after wanted (Err write_error.TooManySignatures) none is = absurd is
+kept_after wanted (Err write_error.JournalFailed) none is = none
+kept_after wanted (Err write_error.TilesFailed) none is = none
+kept_after wanted (Err write_error.Memory) none is = none
 
-pub lightly_behind : (wanted : Option WriteError) (result : Result Text WriteError)
+pub lightly_after : (wanted : Option WriteError) (result : Result Text WriteError)
     → wanted ≡ None → IfErr result IsOfDisks → KeepsToLightRefusal wanted result
-lightly_behind wanted (Ok bytes) none is = none
-lightly_behind wanted (Err write_error.NoSuchEntry) none is = absurd is
-lightly_behind wanted (Err write_error.NullEntry) none is = absurd is
-lightly_behind wanted (Err write_error.BadSubtree) none is = absurd is
-lightly_behind wanted (Err write_error.Outside) none is = absurd is
-lightly_behind wanted (Err (write_error.Beyond size)) none is = absurd is
-lightly_behind wanted (Err write_error.NotCovered) none is = absurd is
-lightly_behind wanted (Err write_error.TooManySignatures) none is = absurd is
-lightly_behind wanted (Err write_error.JournalFailed) none is = none
-lightly_behind wanted (Err write_error.TilesFailed) none is = none
-lightly_behind wanted (Err write_error.Memory) none is = (λ one. cc, λ other. cc)
+lightly_after wanted (Ok bytes) none is = none
+lightly_after wanted (Err write_error.NoSuchEntry) none is = absurd is
+lightly_after wanted (Err write_error.NullEntry) none is = absurd is
+lightly_after wanted (Err write_error.BadSubtree) none is = absurd is
+lightly_after wanted (Err write_error.Outside) none is = absurd is
+lightly_after wanted (Err (write_error.Beyond size)) none is = absurd is
+lightly_after wanted (Err write_error.NotCovered) none is = absurd is
+lightly_after wanted (Err write_error.TooManySignatures) none is = absurd is
+lightly_after wanted (Err write_error.JournalFailed) none is = none
+lightly_after wanted (Err write_error.TilesFailed) none is = none
+lightly_after wanted (Err write_error.Memory) none is = (λ one. cc, λ other. cc)

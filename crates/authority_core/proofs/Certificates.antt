@@ -5,7 +5,7 @@ use Rattle.std.proofs.Common.{Err, refl, sym, ap, ◌∙◌, subst, arith}
 use Rattle.std.specs.List.{AllByRecursion, concat}
 use Rattle.std.proofs.lemmas.Grind.{common_steps}
 use Rattle.std.proofs.lemmas.List.{length-append}
-use Rattle.byte_formats.specs.Places.{IsBytes}
+use Rattle.byte_formats.specs.Offsets.{IsBytes}
 use Rattle.byte_formats.specs.Types.{Text, HashFunction}
 use Rattle.tls_wire.specs.Encoding.{AreHashes}
 use Rattle.cert_fields.specs.Certificate.{Parts}

@@ -10,7 +10,7 @@ use Rattle.tree_core.specs.Subtree.{is_subtree}
 use Rattle.tree_core.specs.Tree.{leaf_hash}
 use Rattle.tree_core.specs.declared.hashing.TreeHash.{Ghosts as Hashes}
 use Rattle.tree_core.specs.declared.spans.Span.{Span}
-use Rattle.disk_core.specs.Moments.{OnlyReads}
+use Rattle.disk_core.specs.Times.{OnlyReads}
 use Rattle.disk_core.specs.declared.disk.Disk.{Ghosts}
 use Rattle.mtc_proof.specs.Proofs.{IsProof, proof_text}
 use Rattle.issuance_log.specs.Folds.{LogState, LogView, view_in, with_item}

@@ -6,7 +6,7 @@ use Rattle.std.specs.Option.{option_and_then}
 use Rattle.byte_formats.specs.Types.{Text}
 use Rattle.byte_formats.specs.Readings.{◌>>=◌}
 use Rattle.cert_fields.specs.Keys.{is_public_key}
-use Rattle.cert_time.specs.Texts.{text_moment}
+use Rattle.cert_time.specs.Texts.{text_unix_time}
 use Rattle.toml.specs.Data.{Data, Items, no_items, item, Members, as_array, as_str, get_member}
 use Rattle.toml_fields.specs.Tree.{tree_of, has_only}
 use Rattle.toml_fields.specs.Fields.{required_field, optional_field}
@@ -42,7 +42,7 @@ if_passes test x = if test x then Some x else None
 
 -- A time, as a text.
 unfoldable pub time_data : Data → Option ℤ
-time_data d = option_and_then text_moment (as_str d)
+time_data d = option_and_then text_unix_time (as_str d)
 
 -- One host name.
 unfoldable pub host_data : Data → Option Text

@@ -7,7 +7,7 @@ use Rattle.std.proofs.Common.{eqb-true}
 use Rattle.std.specs.Prelude.{if◌then◌else◌, ◌==◌}
 use Rattle.std.proofs.lemmas.List.{length-append, nil_from_length}
 use Rattle.byte_formats.specs.Types.{Text}
-use Rattle.byte_formats.specs.Places.{At, IsBytes, begins_with}
+use Rattle.byte_formats.specs.Offsets.{At, IsBytes, begins_with}
 use Rattle.byte_formats.specs.Readings.{Reading, ◌>>=◌, both_at, lifted_at, mapped_at, tested_at}
 use Rattle.byte_formats.specs.Readings.{headed_at, optional_at, or_nothing_at, last_at, some_at}
 use Rattle.byte_formats.specs.Readings.{refused_at, blamed_at, whole_of}
@@ -24,8 +24,8 @@ begins_with-other byte (first ∷ rest) h = ne_eqb first byte h
 -- ---- steps
 
 -- After no bytes the position is the same.
-pub none_behind : (a : At) → a ≡ record { place = a.place + 0; rest = a.rest }
-none_behind a =
+pub none_following : (a : At) → a ≡ record { place = a.place + 0; rest = a.rest }
+none_following a =
     let same : a.place ≡ a.place + 0 = omega arith in
     let at_place : ℕ → At = λ n. record { place = n; rest = a.rest } in
     ap at_place same
@@ -221,7 +221,7 @@ module _ {X E : Type 0} {encode : X → Text} {Fits : X → Type 0} {Follows : T
         → optional_at byte read (record { place = place; rest = optional encode x ++ rest })
         ≡ Ok (x, record { place = place + length (optional encode x); rest = rest })
     optional_again None p rest f q = rw (begins_with-other byte rest q.1)
-        (ap (λ (a : At). Ok (None, a)) (none_behind (record { place = p; rest = rest })))
+        (ap (λ (a : At). Ok (None, a)) (none_following (record { place = p; rest = rest })))
     optional_again (Some x) p rest f q = rw (begins x rest f, form.again x p rest f q.0) refl
 
     -- A value where a byte stands, and none elsewhere.
@@ -300,7 +300,7 @@ module _ {E : Type 0} {Fits : Text → Type 0} {Follows : Text → Type 0} {read
         }) ≡ Ok (t, record { place = p + length t; rest = rest }) in
         elim f [
           | inl nil ↦ subst Goal (sym nil) (rw (begins_with-other byte rest q.1)
-              (ap (λ (a : At). Ok ([], a)) (none_behind (record { place = p; rest = rest }))))
+              (ap (λ (a : At). Ok ([], a)) (none_following (record { place = p; rest = rest }))))
           | inr fits ↦ rw (begins x rest fits) (form.again x p rest fits q.0)
         ];
   }
@@ -323,7 +323,7 @@ module _ {E : Type 0} {Fits : Text → Type 0} {Follows : Text → Type 0} {read
           | inl empty ↦
               let R : Text → Type 0 = λ t. Goal t [] in
               subst R (sym empty)
-              (ap (λ (a : At). Ok ([], a)) (none_behind (record { place = p; rest = [] })))
+              (ap (λ (a : At). Ok ([], a)) (none_following (record { place = p; rest = [] })))
           | inr fits ↦
               let long : length (x ++ []) ≢ 0 = omega (arith, some x fits, length-append x []) in
               rw (ne_eqb (length (x ++ [])) 0 long) (form.again x p [] fits nil)

@@ -6,11 +6,11 @@ use Rattle.std.specs.Prelude.{if◌then◌else◌, ◌==◌}
 use Rattle.std.specs.List.{flat_map, AllByRecursion}
 use Rattle.std.proofs.lemmas.List.{length-append, nil_from_length}
 use Rattle.byte_formats.specs.Types.{Text}
-use Rattle.byte_formats.specs.Places.{At, IsBytes}
+use Rattle.byte_formats.specs.Offsets.{At, IsBytes}
 use Rattle.byte_formats.specs.Readings.{Reading, ◌>>=◌}
 use Rattle.byte_formats.specs.Lists.{many_at, up_to_end, each_at}
 use Rattle.byte_formats.specs.Forms.{Stands, IsForm, Anything, Nothing, FitsEach}
-use Rattle.byte_formats.proofs.FormLaws.{none_behind}
+use Rattle.byte_formats.proofs.FormLaws.{none_following}
 use Rattle.byte_formats.proofs.Steps.{bind_ok, chosen, ok_is, Stands-then, Stands-none}
 
 -- ---- values that are read with the keys of those before them in view
@@ -33,15 +33,15 @@ module _ {X K E : Type 0} (key : X → K) {encode : X → Text} {Fits : List K �
   each_takes (suc n) seen a xs b h e =
       let P : List X × At → Type 0 = λ v. (Stands a (flat_map encode v.0) v.1
       × FitsEach key Fits seen v.0) × (length a.rest ≤ suc n → v.1.rest ≡ []) in
-      let behind : X × At → Result (List X × At) E = λ x. each_at key read n (seen
+      let following : X × At → Result (List X × At) E = λ x. each_at key read n (seen
       ++ key x.0 ∷ []) x.1 >>= λ (ys : List X × At). Ok (x.0 ∷ ys.0, ys.1) in
-      elim (chosen (length a.rest == 0) (Ok ([], a)) (read seen a >>= behind) (Ok (xs, b)) e) [
+      elim (chosen (length a.rest == 0) (Ok ([], a)) (read seen a >>= following) (Ok (xs, b)) e) [
         | inl c ↦ subst P (ok_is E ([], a) (xs, b) c.1) (
           (Stands-none a h, tt),
           λ le. nil_from_length a.rest (eqb-true (length a.rest) 0 c.0),
         )
         | inr c ↦
-            let s = bind_ok (read seen a) behind (xs, b) c.1 in
+            let s = bind_ok (read seen a) following (xs, b) c.1 in
             let t = bind_ok (each_at key read n (seen ++ key s.0.0 ∷ []) s.0.1) (λ (ys : List X
             × At). Ok (s.0.0 ∷ ys.0, ys.1)) (xs, b) s.2 in
             let one = (form seen).takes a s.0.0 s.0.1 h s.1 in
@@ -62,9 +62,9 @@ module _ {X K E : Type 0} (key : X → K) {encode : X → Text} {Fits : List K �
       ≡ Ok ([], record { place = p + 0; rest = [] })
   unfolding each_at
   none_again zero seen p =
-      ap (λ (a : At). Ok ([], a)) (none_behind (record { place = p; rest = [] }))
+      ap (λ (a : At). Ok ([], a)) (none_following (record { place = p; rest = [] }))
   none_again (suc n) seen p =
-      ap (λ (a : At). Ok ([], a)) (none_behind (record { place = p; rest = [] }))
+      ap (λ (a : At). Ok ([], a)) (none_following (record { place = p; rest = [] }))
 
   each_again : (n : ℕ) (seen : List K) (xs : List X) (place : ℕ) → FitsEach key Fits seen xs
       → length (flat_map encode xs) ≤ n
@@ -109,7 +109,7 @@ abbrev keyed : {X E : Type 0} → Reading X E → ℕ → List (Unit {0}) → Re
 keyed read = each_at no_key (λ (keys : List (Unit {0})). read)
 
 abbrev with_those : {X E : Type 0} → Reading (List X) E → X × At → Result (List X × At) E
-with_those {X} behind x = behind x.1 >>= λ (ys : List X × At). Ok (x.0 ∷ ys.0, ys.1)
+with_those {X} following x = following x.1 >>= λ (ys : List X × At). Ok (x.0 ∷ ys.0, ys.1)
 
 many_is : {X E : Type 0} (read : Reading X E) (n : ℕ) (seen : List (Unit {0})) (a : At)
     → many_at read n a ≡ keyed read n seen a

@@ -4,7 +4,7 @@ use Rattle.std.proofs.Common.{Err, refl, sym, ap, subst, ◌∙◌, arith}
 use Rattle.std.specs.Prelude.{if◌then◌else◌}
 use Rattle.std.specs.List.{flat_map, AllByRecursion}
 use Rattle.byte_formats.specs.Types.{Text}
-use Rattle.byte_formats.specs.Places.{At}
+use Rattle.byte_formats.specs.Offsets.{At}
 use Rattle.byte_formats.specs.Readings.{Reading, ◌>>=◌, both_at, lifted_at, mapped_at, tested_at}
 use Rattle.byte_formats.specs.Lists.{value_then}
 use Rattle.byte_formats.specs.Left.{first_at, left_at}

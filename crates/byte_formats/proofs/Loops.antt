@@ -5,7 +5,7 @@ use Rattle.std.proofs.Common.{◌≡◌, ◌≢◌, ℕ, zero, suc, ◌<◌, ◌
 use Rattle.std.proofs.Common.{length, Result, Ok, Err, refl, sym, ◌∙◌, arith, eq-eqb, ne_eqb}
 use Rattle.std.proofs.Common.{true≢false}
 use Rattle.std.specs.Prelude.{◌==◌}
-use Rattle.byte_formats.specs.Places.{At}
+use Rattle.byte_formats.specs.Offsets.{At}
 use Rattle.byte_formats.specs.Readings.{◌>>=◌, discarded}
 use Rattle.byte_formats.specs.Lists.{many_at, up_to_end, each_at}
 

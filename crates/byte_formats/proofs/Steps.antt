@@ -6,7 +6,7 @@ use Rattle.std.specs.Prelude.{if◌then◌else◌}
 use Rattle.std.proofs.lemmas.Bool.{cases_lt}
 use Rattle.std.proofs.lemmas.List.{take-append-drop, length-append, length-take, get_or-drop}
 use Rattle.std.proofs.lemmas.List.{get_or-take, get_or_past, get_or_append_left, get_or-append-add}
-use Rattle.byte_formats.specs.Places.{At, IsBytes, after, has_bytes}
+use Rattle.byte_formats.specs.Offsets.{At, IsBytes, after, has_bytes}
 use Rattle.byte_formats.specs.Readings.{◌>>=◌, is_read, lifted, blamed, discarded, found, some_or}
 use Rattle.byte_formats.specs.Forms.{Stands}
 

@@ -1,7 +1,7 @@
 -- Forms: an encoding of values, and the reading that reads exactly the encodings.
 use Rattle.std.specs.Prelude.{◌≡◌, ◌≢◌, ℕ, ◌+◌, List, [], ◌∷◌, ◌++◌, length, Option, Some, None, Ok}
 use Rattle.byte_formats.specs.Types.{Text}
-use Rattle.byte_formats.specs.Places.{At, IsBytes}
+use Rattle.byte_formats.specs.Offsets.{At, IsBytes}
 use Rattle.byte_formats.specs.Readings.{Reading}
 
 -- These bytes begin at a, and b is the position after them.

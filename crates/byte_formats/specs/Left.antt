@@ -1,6 +1,6 @@
 -- Values one after the other, up to the first that doesn't read.
 use Rattle.std.specs.Prelude.{ℕ, zero, suc, List, [], length}
-use Rattle.byte_formats.specs.Places.{At}
+use Rattle.byte_formats.specs.Offsets.{At}
 use Rattle.byte_formats.specs.Readings.{Reading}
 use Rattle.byte_formats.specs.Lists.{value_then}
 

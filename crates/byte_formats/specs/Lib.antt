@@ -1,5 +1,5 @@
 pub mod Types
-pub mod Places
+pub mod Offsets
 pub mod Readings
 pub mod Lists
 pub mod Left

@@ -1,7 +1,7 @@
 -- Readings of many values, one after the other, up to the end of what is left.
 use Rattle.std.specs.Prelude.{ℕ, zero, suc, ◌==◌, List, [], ◌∷◌, ◌++◌, length, Result, Ok, Err}
 use Rattle.std.specs.Prelude.{if◌then◌else◌}
-use Rattle.byte_formats.specs.Places.{At}
+use Rattle.byte_formats.specs.Offsets.{At}
 use Rattle.byte_formats.specs.Readings.{Reading, ◌>>=◌}
 
 -- Values up to the end. The number is at least that of the bytes that are left.
@@ -28,5 +28,5 @@ each_at key read (suc n) seen a =
 
 -- A value, and those after it.
 abbrev pub value_then : {X E : Type 0} → Result (X × At) E → (At → List X) → List X
-value_then (Ok x) behind = x.0 ∷ behind x.1
-value_then (Err fault) behind = []
+value_then (Ok x) following = x.0 ∷ following x.1
+value_then (Err fault) following = []

@@ -3,7 +3,7 @@
 use Rattle.std.specs.Prelude.{◌≡◌, ◌≢◌, ℕ, Bool, true, false, ◌==◌, [], length, Option, Some, None}
 use Rattle.std.specs.Prelude.{Result, Ok, Err, if◌then◌else◌}
 use Rattle.byte_formats.specs.Types.{Text}
-use Rattle.byte_formats.specs.Places.{At, begins_with}
+use Rattle.byte_formats.specs.Offsets.{At, begins_with}
 
 -- A reading of a value, or of a fault.
 abbrev pub Reading : Type 0 → Type 0 → Type 0

@@ -7,7 +7,7 @@ use Rattle.std.specs.Prelude.{◌==◌, nat_lt}
 use Rattle.std.proofs.lemmas.List.{length-append}
 use Rattle.std.proofs.lemmas.Slice.Eq.{bytes_eq-Decides}
 use Rattle.byte_formats.specs.Types.{Text}
-use Rattle.byte_formats.specs.Places.{IsBytes}
+use Rattle.byte_formats.specs.Offsets.{IsBytes}
 use Rattle.byte_formats.specs.Readings.{refused_at, Gives}
 use Rattle.byte_formats.specs.Forms.{IsForm, Anything, Nothing, IsEncoding, itself, both}
 use Rattle.byte_formats.specs.Forms.{FitsBoth}
@@ -25,7 +25,7 @@ use Rattle.der_core.proofs.FieldLaws.{all_takes, all_again, inside_form}
 use Rattle.cert_time.specs.Calendar.{Period}
 use Rattle.cert_fields.specs.Extensions.{extensions_at}
 use Rattle.cert_fields.specs.Certificate.{Parts, Body, nothing, version_at, serial_at, is_unique_id}
-use Rattle.cert_fields.specs.Certificate.{behind_serial_at, tbs_at, same_algorithm, signed_at}
+use Rattle.cert_fields.specs.Certificate.{after_serial_at, tbs_at, same_algorithm, signed_at}
 use Rattle.cert_fields.specs.Certificate.{to_parts, certificate_at, parts_of}
 use Rattle.cert_fields.specs.Encoding.{version, tbs_fields, certificate}
 use Rattle.cert_fields.specs.Grammar.{IsAlgorithm, IsPublicKey, IsName, IsValidity}
@@ -76,8 +76,8 @@ serial_form = tested_form (unsigned_form BadSerial) (λ n. nat_lt 0 n) BadSerial
 
 -- ---- the fields after the serial number
 
-abbrev moments_text : Text × Period → Text
-moments_text v = v.0
+abbrev unix_times_text : Text × Period → Text
+unix_times_text v = v.0
 
 no_unique_id : (bytes rest : Text) → IsExtensions bytes → rest ≡ []
     → is_unique_id (bytes ++ rest) ≡ false
@@ -93,14 +93,14 @@ last_field : IsForm itself IsExtensions Nothing (refused_at is_unique_id UniqueI
 last_field = refused_form (ended_form extensions_form (tt, tt)) is_unique_id UniqueId no_unique_id
 
 abbrev pub body_text : Body → Text
-body_text = both itself (both itself (both moments_text (both itself (both itself itself))))
+body_text = both itself (both itself (both unix_times_text (both itself (both itself itself))))
 
 abbrev pub IsBody : Body → Type 0
 IsBody = FitsBoth IsAlgorithm (FitsBoth IsName
     (FitsBoth IsValidity (FitsBoth IsName (FitsBoth IsPublicKey IsExtensions))))
 
-body_form : IsForm body_text IsBody Nothing behind_serial_at
-unfolding behind_serial_at
+body_form : IsForm body_text IsBody Nothing after_serial_at
+unfolding after_serial_at
 body_form =
     then_form algorithm_form (then_form name_form (then_form validity_form
     (then_form name_form (then_form spki_form last_field))))

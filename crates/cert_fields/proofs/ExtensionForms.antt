@@ -6,7 +6,7 @@ use Rattle.std.specs.Prelude.{if◌then◌else◌, not, is_some}
 use Rattle.std.specs.List.{flat_map}
 use Rattle.std.proofs.lemmas.List.{length-append}
 use Rattle.byte_formats.specs.Types.{Text}
-use Rattle.byte_formats.specs.Places.{At, IsBytes, begins_with}
+use Rattle.byte_formats.specs.Offsets.{At, IsBytes, begins_with}
 use Rattle.byte_formats.specs.Readings.{tested_at}
 use Rattle.byte_formats.specs.Readings.{is_read}
 use Rattle.byte_formats.specs.Readings.{Reading}
@@ -176,10 +176,10 @@ HasNames x = is_alt_name x ≡ true → IsGeneralNames x.octets
 octets_bytes : (x : ExtensionFields) → IsBytes (extension_contents x) → IsBytes x.octets
 unfolding element
 octets_bytes x h =
-    let behind = IsBytes-back (element 0x06 x.identifier) (mark x.critical
+    let following = IsBytes-back (element 0x06 x.identifier) (mark x.critical
     ++ element 0x04 x.octets) h in
     let last : IsBytes (4 ∷ (length_octets (length x.octets) ++ x.octets)) =
-    IsBytes-back (mark x.critical) (element 0x04 x.octets) behind in
+    IsBytes-back (mark x.critical) (element 0x04 x.octets) following in
     IsBytes-back (4 ∷ length_octets (length x.octets)) x.octets last
 
 names_to : (x : ExtensionFields) → IsBytes (extension_contents x) → has_its_form x ≡ true
@@ -208,10 +208,10 @@ contents_short : (seen : List Text) (x : ExtensionFields) → IsExtension seen x
 contents_short seen x f =
     let all = length-append (element 0x06 x.identifier) (mark x.critical
     ++ element 0x04 x.octets) in
-    let behind = length-append (mark x.critical) (element 0x04 x.octets) in
+    let following = length-append (mark x.critical) (element 0x04 x.octets) in
     let one = element-longer 0x06 x.identifier in
     let two = element-longer 0x04 x.octets in
-    (omega (arith, f.short, all, one), omega (arith, f.short, all, behind, two))
+    (omega (arith, f.short, all, one), omega (arith, f.short, all, following, two))
 
 pub extension_form : (seen : List Text)
     → IsForm extension (IsExtension seen) Anything (extension_at seen)

@@ -8,7 +8,7 @@ use Rattle.std.specs.Prelude.{if◌then◌else◌, ◌==◌, ℤ}
 use Rattle.std.specs.List.{flat_map, AllByRecursion}
 use Rattle.std.proofs.lemmas.List.{length-append}
 use Rattle.byte_formats.specs.Types.{Text}
-use Rattle.byte_formats.specs.Places.{At, IsBytes}
+use Rattle.byte_formats.specs.Offsets.{At, IsBytes}
 use Rattle.byte_formats.specs.Readings.{◌>>=◌, some_or, discarded}
 use Rattle.byte_formats.specs.Forms.{Stands, IsForm, Anything, Nothing, itself, both}
 use Rattle.byte_formats.specs.Forms.{FitsEach}
@@ -33,10 +33,10 @@ use Rattle.der_core.proofs.Elements.{wanted_takes, wanted_again, element-longer}
 use Rattle.der_core.proofs.Rules.{oid_contents, bits_contents}
 use Rattle.der_core.proofs.Fields.{tag_of, der_ok, any_form, next_some, risen_form, rising_form}
 use Rattle.der_core.proofs.FieldLaws.{decoded_form, whole_form, noted_form}
-use Rattle.cert_time.specs.Calendar.{IsMoment, Period}
-use Rattle.cert_time.specs.Times.{time_tag, time_contents, time_moment, short_element}
+use Rattle.cert_time.specs.Calendar.{IsUnixTime, Period}
+use Rattle.cert_time.specs.Times.{time_tag, time_contents, unix_time_in, short_element}
 use Rattle.cert_time.specs.Times.{validity_element}
-use Rattle.cert_time.proofs.BothWays.{time_moment-only, time_moment-time, time_shape}
+use Rattle.cert_time.proofs.BothWays.{unix_time_in-only, unix_time_in-time, time_shape}
 use Rattle.cert_fields.specs.Keys.{algorithm_at, spki_at, whole_bits_of, signature_at}
 use Rattle.cert_fields.specs.Names.{attribute_at, set_at, name_at}
 use Rattle.cert_fields.specs.Times.{tag_wanted, time_at, from_to, validity_at}
@@ -280,32 +280,32 @@ time_fits z =
       short = omega (arith, short);
     }
 
-pub time_form : IsForm time_text IsMoment Anything time_at
+pub time_form : IsForm time_text IsUnixTime Anything time_at
 unfolding time_at
 time_form = record {
   takes = λ a z b h e.
       let tag : ℕ = tag_wanted a.rest in
       let s = bind_ok (der (wanted_at tag a)) (λ (v : Item
-      × At). some_or BadTime (time_moment tag v.0.contents) >>= λ (m : ℤ). Ok (m, v.1)) (
+      × At). some_or BadTime (unix_time_in tag v.0.contents) >>= λ (m : ℤ). Ok (m, v.1)) (
         z,
         b,
       ) e in
-      let t = bind_ok (some_or BadTime (time_moment tag s.0.0.contents)) (λ (m : ℤ). Ok (m, s.0.1))
+      let t = bind_ok (some_or BadTime (unix_time_in tag s.0.0.contents)) (λ (m : ℤ). Ok (m, s.0.1))
       (z, b) s.2 in
-      let known = time_moment-only tag s.0.0.contents t.0
-      (some_or_ok BadTime (time_moment tag s.0.0.contents) t.0 t.1) in
+      let known = unix_time_in-only tag s.0.0.contents t.0
+      (some_or_ok BadTime (unix_time_in tag s.0.0.contents) t.0 t.1) in
       let read = wanted_takes tag a s.0.0 s.0.1 h (der_ok (wanted_at tag a) s.0 s.1) in
       let text : element s.0.0.tag s.0.0.contents ≡ time_text t.0 =
       ap (λ (n : ℕ). element n s.0.0.contents) (read.1 ∙ known.1)
       ∙ ap (element (time_tag t.0)) known.2 in
       let Q : Text → Type 0 = λ w. Stands a w s.0.1 in
-      let P : ℤ × At → Type 0 = λ v. Stands a (time_text v.0) v.1 × IsMoment v.0 in
+      let P : ℤ × At → Type 0 = λ v. Stands a (time_text v.0) v.1 × IsUnixTime v.0 in
       subst P (ok_is CertError (t.0, s.0.1) (z, b) t.2) (subst Q text read.0.stands, known.0);
   again = λ z p rest f q.
       rw (
         tag_is (time_tag z) (time_contents z) rest (time_tag-is z),
         wanted_again (time_tag z) (time_contents z) p rest (time_fits z),
-        time_moment-time z f,
+        unix_time_in-time z f,
       ) refl;
 }
 

@@ -19,7 +19,7 @@ use Rattle.der_core.proofs.Fields.{tag_of}
 use Rattle.cert_fields.specs.AltNames.{dns_name, names_left, names_inside, names_in}
 use Rattle.cert_fields.specs.Extensions.{ExtensionFields, is_among, is_alt_name, identifier_of}
 use Rattle.cert_fields.specs.Extensions.{extensions_left, list_in}
-use Rattle.cert_fields.specs.Extensions.{extensions_behind, extensions_in, is_unknown_critical}
+use Rattle.cert_fields.specs.Extensions.{extensions_after, extensions_in, is_unknown_critical}
 use Rattle.cert_fields.specs.Extensions.{has_unknown_critical, alt_name_octets, dns_names_in}
 use Rattle.cert_fields.specs.Identifiers.{subject_alt_name}
 use Rattle.cert_fields.specs.Grammar.{IsGeneralName, IsGeneralNames, IsExtension}
@@ -88,7 +88,7 @@ extensions_found xs f short =
           place + (length sequence - length cs);
       rest = cs;
     }) = rw (field, list) refl in
-    ap extensions_behind found
+    ap extensions_after found
     ∙ extensions_again [] xs (place + (length sequence - length cs)) f.each
 
 names_again : (ns : List (ℕ × Text)) (p : ℕ) → AllByRecursion FitsName ns

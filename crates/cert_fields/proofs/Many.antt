@@ -9,7 +9,7 @@ use Rattle.std.specs.List.{AllByRecursion}
 use Rattle.std.proofs.lemmas.Bool.{or_parts}
 use Rattle.std.proofs.lemmas.Slice.Eq.{bytes_eq-Decides}
 use Rattle.byte_formats.specs.Types.{Text}
-use Rattle.byte_formats.specs.Places.{At}
+use Rattle.byte_formats.specs.Offsets.{At}
 use Rattle.byte_formats.specs.Readings.{discarded}
 use Rattle.byte_formats.proofs.Loops.{WalksEach, each_from, each_more, each_fails, each_end}
 use Rattle.byte_formats.proofs.Steps.{guard_ok, pass_ok, ok_is}
@@ -118,8 +118,8 @@ record Stops (a : At) : Type 0 where
 -- An identifier that reads: only whether it was seen matters.
 record Begins (a : At) : Type 0 where
   identifier : Text
-  behind : At
-  head : head_at a ≡ Ok (identifier, behind)
+  following : At
+  head : head_at a ≡ Ok (identifier, following)
   reads : Reads identifier
   new : (seen : List Text) → is_among identifier seen ≡ false
       → extension_at seen a ≡ extension_at [] a
@@ -162,7 +162,7 @@ first_part a = element (wanted_at 0x30 a) refl
         let here : y.0.contents ≡ identifier = oid_same y.0.place y.0.contents identifier g in
         inr (record {
           identifier = identifier;
-          behind = x.1;
+          following = x.1;
           head = identifier_head a x y e f ∙ ap (λ (t : Text). Ok (t, x.1)) here;
           reads = oid_reads y.0.place y.0.contents identifier g;
           new = new_identifier a x y identifier e f g;
@@ -239,7 +239,7 @@ reaches_more total list count a x b step less r = go (first_part a)
     go (inr g) =
         let head = head_of [] a x b step in
         let same : g.identifier ≡ x.identifier =
-        ap (λ (v : Text × At). v.0) (ok_is DerError (g.identifier, g.behind) (
+        ap (λ (v : Text × At). v.0) (ok_is DerError (g.identifier, g.following) (
           x.identifier,
           b,
         ) (sym g.head ∙ head)) in
@@ -276,10 +276,10 @@ reaches_fails total list count a fault step some r = go (first_part a)
     all : are_repeated (identifiers (count + 1) list) ≡ are_repeated (r.seen ++ identifiers 1 a)
     all = ap are_repeated (r.passed 1)
 
-    told : (t : Bool) → are_repeated (identifiers (count + 1) list) ≡ t
+    reported : (t : Bool) → are_repeated (identifiers (count + 1) list) ≡ t
         → total ≡ Err (or_repeated t fault)
         → total ≡ Err (or_repeated (are_repeated (identifiers (count + 1) list)) fault)
-    told t e same = same ∙ ap (λ (b : Bool). Err (or_repeated b fault)) (sym e)
+    reported t e same = same ∙ ap (λ (b : Bool). Err (or_repeated b fault)) (sym e)
 
     fails : are_repeated r.seen ≡ false → extension_at r.seen a ≡ Err fault → total ≡ Err fault
     fails none here = each_fails identifier_of extension_at total r.seen a fault here some
@@ -298,28 +298,28 @@ reaches_fails total list count a fault step some r = go (first_part a)
         → (are_repeated r.seen ≡ false → total
         ≡ Err (or_repeated (are_repeated (identifiers (count + 1) list)) fault))
         → total ≡ Err (or_repeated (are_repeated (identifiers (count + 1) list)) fault)
-    before true e otherwise = told true (all
+    before true e otherwise = reported true (all
         ∙ repeated_prefix r.seen (identifiers 1 a) e) (r.repeated e)
     before false e otherwise = otherwise e
 
     begun : (g : Begins a) (t : Bool) → are_repeated (r.seen ++ g.identifier ∷ []) ≡ t
         → total ≡ Err (or_repeated (are_repeated (identifiers (count + 1) list)) fault)
     begun g true e =
-        told true (all ∙ (ap (λ (ids : List Text). are_repeated (r.seen ++ ids))
-        (first_next head_at 0 a g.identifier g.behind g.head)
+        reported true (all ∙ (ap (λ (ids : List Text). are_repeated (r.seen ++ ids))
+        (first_next head_at 0 a g.identifier g.following g.head)
         ∙ e)) (repeats_here total list count a r g some e)
     begun g false e =
         let (none, away) = or_parts (are_repeated r.seen) (is_among g.identifier r.seen)
         (sym (repeated_push r.seen g.identifier) ∙ e) in
-        told false (all ∙ (ap (λ (ids : List Text). are_repeated (r.seen ++ ids))
-        (first_next head_at 0 a g.identifier g.behind g.head) ∙ e))
+        reported false (all ∙ (ap (λ (ids : List Text). are_repeated (r.seen ++ ids))
+        (first_next head_at 0 a g.identifier g.following g.head) ∙ e))
         (fails none (g.new r.seen away ∙ step))
 
     go : Stops a ⊎ Begins a → total ≡ Err
         (or_repeated (are_repeated (identifiers (count + 1) list)) fault)
     go (inl s) =
         before (are_repeated r.seen) refl
-        (λ none. told false (all ∙ stopped s (head_at a) refl none) (fails none (s.same r.seen
+        (λ none. reported false (all ∙ stopped s (head_at a) refl none) (fails none (s.same r.seen
         ∙ (sym (s.same []) ∙ step))))
     go (inr g) = begun g (are_repeated (r.seen ++ g.identifier ∷ [])) refl
 

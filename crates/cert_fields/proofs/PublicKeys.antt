@@ -1,7 +1,7 @@
 -- Public keys by their grammar.
 use Rattle.std.proofs.Common.{◌≡◌, true, sym, ap, subst}
 use Rattle.byte_formats.specs.Types.{Text}
-use Rattle.byte_formats.specs.Places.{IsBytes}
+use Rattle.byte_formats.specs.Offsets.{IsBytes}
 use Rattle.byte_formats.specs.Readings.{is_read}
 use Rattle.byte_formats.proofs.Steps.{read_ok}
 use Rattle.der_core.specs.Fields.{all_of}

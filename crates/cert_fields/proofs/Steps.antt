@@ -2,7 +2,7 @@
 use Rattle.std.proofs.Common.{◌≡◌, ℕ, Bool, true, Result, Ok, Err, refl, subst}
 use Rattle.std.specs.Prelude.{if◌then◌else◌}
 use Rattle.byte_formats.specs.Types.{Text}
-use Rattle.byte_formats.specs.Places.{At}
+use Rattle.byte_formats.specs.Offsets.{At}
 use Rattle.byte_formats.specs.Readings.{◌>>=◌, both_at, mapped_at, tested_at, Reading}
 use Rattle.byte_formats.proofs.Steps.{bind_ok, pass_ok, ok_is}
 use Rattle.der_core.specs.Items.{Item, inside}

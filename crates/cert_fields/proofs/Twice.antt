@@ -75,16 +75,16 @@ among_first x xs (y ∷ ys) =
     ∙ ap (λ (b : Bool). (b || is_among x ys) || (is_among y xs || any_among xs ys)) (bytes_flip x y)
 
 -- The prefix is free of repetitions, and shares nothing with the rest: the rest decides.
-pub repeated_behind : (xs ys : List Text) → are_repeated xs ≡ false → any_among xs ys ≡ false
+pub repeated_after : (xs ys : List Text) → are_repeated xs ≡ false → any_among xs ys ≡ false
     → are_repeated (xs ++ ys) ≡ are_repeated ys
-repeated_behind [] ys none apart = refl
-repeated_behind (x ∷ xs) ys none apart =
+repeated_after [] ys none apart = refl
+repeated_after (x ∷ xs) ys none apart =
     let (new, others) = or_parts (is_among x xs) (are_repeated xs) none in
     let (away, more) = or_parts (is_among x ys) (any_among xs ys) (sym (among_first x xs ys)
     ∙ apart) in
     let all : is_among x (xs ++ ys) ≡ false = among_both x xs ys
     ∙ or_from (is_among x xs) (is_among x ys) new away in
-    rw all (repeated_behind xs ys others more)
+    rw all (repeated_after xs ys others more)
 
 -- A repetition in the prefix.
 pub repeated_prefix : (xs ys : List Text) → are_repeated xs ≡ true → are_repeated (xs ++ ys) ≡ true
@@ -120,7 +120,7 @@ repeated_push xs y = go (are_repeated xs) (is_among y xs) refl refl
         → are_repeated (xs ++ y ∷ []) ≡ (p || q)
     go true q twice there = repeated_prefix xs (y ∷ []) twice
     go false true once there = repeated_across xs (y ∷ []) (rw there refl)
-    go false false once away = repeated_behind xs (y ∷ []) once
+    go false false once away = repeated_after xs (y ∷ []) once
         (or_from (is_among y xs) false away refl)
 
 -- ---- a list in order

@@ -8,7 +8,7 @@ use Rattle.std.specs.List.{list_any}
 use denote.Ref.{Bor}
 use Rattle.byte_formats.specs.Types.{Text}
 use Rattle.cert_fields.specs.Views.{texts}
-use Rattle.byte_formats.specs.Places.{At}
+use Rattle.byte_formats.specs.Offsets.{At}
 use Rattle.byte_formats.specs.Readings.{both_at, mapped_at, tested_at, Reading}
 use Rattle.byte_formats.proofs.Steps.{guard_ok, pass_ok, ok_is}
 use Rattle.der_core.specs.Items.{Item, inside}

@@ -3,7 +3,7 @@ use Rattle.std.specs.Prelude.{ℕ, nat_lt, ◌==◌, ◌&&◌, ◌||◌, Bool, t
 use Rattle.std.specs.Prelude.{Err, if◌then◌else◌}
 use Rattle.std.specs.List.{list_all}
 use Rattle.byte_formats.specs.Types.{Text}
-use Rattle.byte_formats.specs.Places.{At, at}
+use Rattle.byte_formats.specs.Offsets.{At, at}
 use Rattle.byte_formats.specs.Readings.{◌>>=◌, some_at, is_read, Reading}
 use Rattle.byte_formats.specs.Lists.{up_to_end}
 use Rattle.byte_formats.specs.Left.{left_at}

@@ -3,7 +3,7 @@
 use Rattle.std.specs.Prelude.{ℕ, nat_lt, ◌==◌, ◌||◌, Bool, Result}
 use Rattle.std.specs.Str.{bytes_eq}
 use Rattle.byte_formats.specs.Types.{Text}
-use Rattle.byte_formats.specs.Places.{begins_with}
+use Rattle.byte_formats.specs.Offsets.{begins_with}
 use Rattle.byte_formats.specs.Readings.{both_at, mapped_at, tested_at, headed_at, refused_at}
 use Rattle.byte_formats.specs.Readings.{Reading}
 use Rattle.der_core.specs.Fields.{inside_at, element_with_at, unsigned_at, all_of}
@@ -32,7 +32,7 @@ pub record Parts : Type 0 where
 abbrev pub nothing : ℕ → Unit {0}
 nothing n = tt
 
--- Version: 2 represents version 3 (4.1.2.1). It isn't the default, so it is written.
+-- Version: 2 is version 3 (4.1.2.1). It isn't the default, so it is written.
 unfoldable pub version_at : Reading (Unit {0}) CertError
 version_at =
     mapped_at nothing (headed_at 0xA0 BadVersion
@@ -53,14 +53,14 @@ is_unique_id rest =
 abbrev pub Body : Type 0
 Body = Text × (Text × ((Text × Period) × (Text × (Text × Text))))
 
-unfoldable pub behind_serial_at : Reading Body CertError
-behind_serial_at =
+unfoldable pub after_serial_at : Reading Body CertError
+after_serial_at =
     both_at algorithm_at (both_at name_at (both_at validity_at (both_at name_at
     (both_at spki_at (refused_at is_unique_id UniqueId extensions_at)))))
 
 -- TBSCertificate: what is signed.
 unfoldable pub tbs_at : Reading (Unit {0} × (ℕ × Body)) CertError
-tbs_at = inside_at 0x30 (both_at version_at (both_at serial_at behind_serial_at))
+tbs_at = inside_at 0x30 (both_at version_at (both_at serial_at after_serial_at))
 
 -- The algorithm in what is signed is the one beside it.
 abbrev pub same_algorithm : (Unit {0} × (ℕ × Body)) × Text → Bool

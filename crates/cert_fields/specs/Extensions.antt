@@ -4,7 +4,7 @@ use Rattle.std.specs.Prelude.{length, is_some, Result, Ok, Err, if◌then◌else
 use Rattle.std.specs.List.{list_any}
 use Rattle.std.specs.Str.{bytes_eq}
 use Rattle.byte_formats.specs.Types.{Text}
-use Rattle.byte_formats.specs.Places.{At, at}
+use Rattle.byte_formats.specs.Offsets.{At, at}
 use Rattle.byte_formats.specs.Readings.{◌>>=◌, both_at, mapped_at, tested_at, optional_at}
 use Rattle.byte_formats.specs.Readings.{or_nothing_at, some_at, Reading}
 use Rattle.byte_formats.specs.Lists.{each_at}
@@ -109,13 +109,13 @@ list_in bytes =
     wanted_at 0x30 (inside field.0) >>= λ list. Ok (inside list.0)
 
 -- The extensions from a position on that was found; none where none was.
-abbrev pub extensions_behind : Result At DerError → List ExtensionFields
-extensions_behind (Ok a) = extensions_left a
-extensions_behind (Err fault) = []
+abbrev pub extensions_after : Result At DerError → List ExtensionFields
+extensions_after (Ok a) = extensions_left a
+extensions_after (Err fault) = []
 
 -- The extensions in the bytes of the field: those that read, from the left.
 abbrev pub extensions_in : Text → List ExtensionFields
-extensions_in bytes = extensions_behind (list_in bytes)
+extensions_in bytes = extensions_after (list_in bytes)
 
 -- A critical extension that isn't known.
 abbrev pub is_unknown_critical : ExtensionFields → Bool

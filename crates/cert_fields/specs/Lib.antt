@@ -5,7 +5,7 @@ pub mod Times
 pub mod AltNames
 pub mod Extensions
 pub mod Certificate
-pub mod Places
+pub mod FieldOffsets
 pub mod Views
 pub mod Encoding
 pub mod Given

@@ -3,7 +3,7 @@
 ghost use Rattle.std.specs.Prelude.{◌≡◌, ◌==◌, Ok, IfOk};
 ghost use Rattle.byte_formats.specs.Readings.{Reads, Moves, Gives, both_at, mapped_at};
 ghost use Rattle.byte_formats.specs.Readings.{refused_at, tested_at};
-ghost use Rattle.cert_fields.specs.Certificate.{Parts, version_at, serial_at, behind_serial_at};
+ghost use Rattle.cert_fields.specs.Certificate.{Parts, version_at, serial_at, after_serial_at};
 ghost use Rattle.cert_fields.specs.Certificate.{tbs_at, signed_at, certificate_at, parts_of};
 ghost use Rattle.cert_fields.specs.Certificate.{is_unique_id, nothing};
 ghost use Rattle.cert_fields.specs.Encoding.{certificate};
@@ -89,14 +89,14 @@ fn has_unique_id(reader: &Reader) -> bool
 }
 
 // The fields from the algorithm to the extensions.
-#[tactic(auto, unfolding(crate::specs::Certificate::behind_serial_at))]
-fn behind_serial<'a>(reader: &mut Reader<'a>) -> Result<Fields<'a>, CertError>
-    ensures { Moves body behind_serial_at reader.old result reader.new }
+#[tactic(auto, unfolding(crate::specs::Certificate::after_serial_at))]
+fn after_serial<'a>(reader: &mut Reader<'a>) -> Result<Fields<'a>, CertError>
+    ensures { Moves body after_serial_at reader.old result reader.new }
 {
     let algorithm = algorithm(reader)?;
     let issuer = read_name(reader)?;
     let (validity_der, validity) = read_validity(reader)?;
-    let (subject, spki, extensions) = behind_validity(reader)?;
+    let (subject, spki, extensions) = after_validity(reader)?;
     Ok(Fields {
         algorithm,
         issuer,
@@ -109,7 +109,7 @@ fn behind_serial<'a>(reader: &mut Reader<'a>) -> Result<Fields<'a>, CertError>
 }
 
 // The subject, the public key and the extensions.
-fn behind_validity<'a>(reader: &mut Reader<'a>) -> Result<(&'a [u8], &'a [u8], &'a [u8]), CertError>
+fn after_validity<'a>(reader: &mut Reader<'a>) -> Result<(&'a [u8], &'a [u8], &'a [u8]), CertError>
     ensures { Moves (λ x. (x.0.now, (x.1.now, x.2.now))) (both_at name_at (both_at spki_at
         (refused_at is_unique_id UniqueId extensions_at))) reader.old result reader.new }
 {
@@ -131,7 +131,7 @@ fn tbs<'a>(reader: &mut Reader<'a>) -> Result<(u64, Fields<'a>), CertError>
     let mut inner = Reader::inside(&outer);
     read_version(&mut inner)?;
     let serial = serial(&mut inner)?;
-    let fields = behind_serial(&mut inner)?;
+    let fields = after_serial(&mut inner)?;
     inner.end()?;
     Ok((serial, fields))
 }

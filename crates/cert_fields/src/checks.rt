@@ -1,7 +1,7 @@
 //! One field in a longer input. The offsets of refusals count in the whole input.
 
 ghost use Rattle.std.specs.Prelude.{◌≡◌, ◌↔◌, ◌≤◌, length, IfOk, IsTrue};
-ghost use Rattle.byte_formats.specs.Places.{at};
+ghost use Rattle.byte_formats.specs.Offsets.{at};
 ghost use Rattle.byte_formats.specs.Readings.{Gives};
 ghost use Rattle.cert_time.specs.Periods.{period};
 ghost use Rattle.cert_fields.specs.Certificate.{version_at};
@@ -10,7 +10,7 @@ ghost use Rattle.cert_fields.specs.Keys.{algorithm_at, spki_at, is_public_key};
 ghost use Rattle.cert_fields.specs.Names.{name_at};
 ghost use Rattle.cert_fields.specs.Times.{validity_at};
 ghost use Rattle.cert_fields.specs.Extensions.{extensions_at};
-ghost use Rattle.cert_fields.specs.Places.{place_behind, moments_behind};
+ghost use Rattle.cert_fields.specs.FieldOffsets.{offset_after, unix_times_after};
 
 use crate::certificate::read_version;
 use crate::extensions::read_extensions;
@@ -25,7 +25,7 @@ use der_core::{CertError, Reader};
 /// than 3, which is written as 2, are `BadVersion`.
 pub fn check_version(input: &[u8], place: usize) -> Result<usize, CertError>
     requires { place ≤ length input.now }
-    ensures exact { Gives (λ p. p) result (place_behind (version_at (at input.now place))) }
+    ensures exact { Gives (λ p. p) result (offset_after (version_at (at input.now place))) }
     ensures within { IfOk result (λ p. (place ≤ p) × (p ≤ length input.now)) }
 {
     let mut reader = Reader::at(input, place);
@@ -37,7 +37,7 @@ pub fn check_version(input: &[u8], place: usize) -> Result<usize, CertError>
 /// addition to the faults of its elements, a set that is empty is `BadName`.
 pub fn check_name(input: &[u8], place: usize) -> Result<usize, CertError>
     requires { place ≤ length input.now }
-    ensures exact { Gives (λ p. p) result (place_behind (name_at (at input.now place))) }
+    ensures exact { Gives (λ p. p) result (offset_after (name_at (at input.now place))) }
     ensures within { IfOk result (λ p. (place ≤ p) × (p ≤ length input.now)) }
 {
     let mut reader = Reader::at(input, place);
@@ -50,19 +50,19 @@ pub fn check_name(input: &[u8], place: usize) -> Result<usize, CertError>
 pub fn check_validity(input: &[u8], place: usize) -> Result<(Validity, usize), CertError>
     requires { place ≤ length input.now }
     ensures exact { Gives (λ v. (period v.0, v.1)) result
-        (moments_behind (validity_at (at input.now place))) }
+        (unix_times_after (validity_at (at input.now place))) }
     ensures within { IfOk result (λ v. (place ≤ v.1) × (v.1 ≤ length input.now)) }
 {
     let mut reader = Reader::at(input, place);
-    let (_, moments) = read_validity(&mut reader)?;
-    Ok((moments, reader.place()))
+    let (_, unix_times) = read_validity(&mut reader)?;
+    Ok((unix_times, reader.place()))
 }
 
 /// Reads a SubjectPublicKeyInfo (RFC 5280, section 4.1.2.7) at this offset and answers the offset
 /// after it.
 pub fn check_spki(input: &[u8], place: usize) -> Result<usize, CertError>
     requires { place ≤ length input.now }
-    ensures exact { Gives (λ p. p) result (place_behind (spki_at (at input.now place))) }
+    ensures exact { Gives (λ p. p) result (offset_after (spki_at (at input.now place))) }
     ensures within { IfOk result (λ p. (place ≤ p) × (p ≤ length input.now)) }
 {
     let mut reader = Reader::at(input, place);
@@ -83,7 +83,7 @@ pub fn is_public_key(bytes: &[u8]) -> bool
 /// after it.
 pub fn check_algorithm(input: &[u8], place: usize) -> Result<usize, CertError>
     requires { place ≤ length input.now }
-    ensures exact { Gives (λ p. p) result (place_behind (algorithm_at (at input.now place))) }
+    ensures exact { Gives (λ p. p) result (offset_after (algorithm_at (at input.now place))) }
     ensures within { IfOk result (λ p. (place ≤ p) × (p ≤ length input.now)) }
 {
     let mut reader = Reader::at(input, place);
@@ -98,7 +98,7 @@ pub fn check_algorithm(input: &[u8], place: usize) -> Result<usize, CertError>
 /// a BOOLEAN of FALSE or a subjectAltName out of its form is `BadExtension`.
 pub fn check_extensions(input: &[u8], place: usize) -> Result<usize, CertError>
     requires { place ≤ length input.now }
-    ensures exact { Gives (λ p. p) result (place_behind (extensions_at (at input.now place))) }
+    ensures exact { Gives (λ p. p) result (offset_after (extensions_at (at input.now place))) }
     ensures within { IfOk result (λ p. (place ≤ p) × (p ≤ length input.now)) }
 {
     let mut reader = Reader::at(input, place);

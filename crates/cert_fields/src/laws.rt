@@ -4,7 +4,7 @@ ghost use Rattle.std.specs.Prelude.{◌≡◌, ℕ, ◌^◌, ◌<◌, ◌⊎◌,
 ghost use Rattle.std.specs.Prelude.{length, Ok, Contains};
 ghost use Rattle.std.specs.List.{list_any};
 ghost use Rattle.byte_formats.specs.Types.{Text};
-ghost use Rattle.byte_formats.specs.Places.{IsBytes};
+ghost use Rattle.byte_formats.specs.Offsets.{IsBytes};
 ghost use Rattle.byte_formats.specs.Forms.{IsForm, Anything, OtherThan, itself};
 ghost use Rattle.der_core.specs.Elements.{element};
 ghost use Rattle.cert_fields.specs.Keys.{algorithm_at, spki_at, signature_at};

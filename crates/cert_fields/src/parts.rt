@@ -4,7 +4,7 @@ use cert_time::Validity;
 use mtc_io::Bytes;
 
 /// The parts of a certificate whose signature is a Merkle tree proof. Issuer, subject, public key
-/// and extensions are whole elements; no bytes represent absent extensions.
+/// and extensions are whole elements; extensions are no bytes if they are absent.
 #[derive(Debug, Drop)]
 pub struct CertParts {
     pub serial: u64,

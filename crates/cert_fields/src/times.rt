@@ -2,7 +2,7 @@
 
 ghost use Rattle.std.specs.Prelude.{IfOk};
 ghost use Rattle.byte_formats.specs.Readings.{Reads, Moves};
-ghost use Rattle.cert_time.specs.Calendar.{IsMoment};
+ghost use Rattle.cert_time.specs.Calendar.{IsUnixTime};
 ghost use Rattle.cert_time.specs.Periods.{period};
 ghost use Rattle.cert_fields.specs.Times.{time_at, validity_at};
 
@@ -14,7 +14,7 @@ use der_core::{CertError, Reader};
 #[tactic(auto, unfolding(crate::specs::Times::time_at))]
 fn time(reader: &mut Reader) -> Result<i64, CertError>
     ensures exact { Moves (λ z. z) time_at reader.old result reader.new }
-    ensures range { IfOk result IsMoment }
+    ensures range { IfOk result IsUnixTime }
 {
     let tag = if reader.begins_with(GENERALIZED_TIME) {
         GENERALIZED_TIME
@@ -23,7 +23,7 @@ fn time(reader: &mut Reader) -> Result<i64, CertError>
     };
     let element = reader.wanted(tag)?;
     match read_time(tag, element.contents) {
-        Some(moment) => Ok(moment),
+        Some(unix_time) => Ok(unix_time),
         None => Err(CertError::BadTime),
     }
 }

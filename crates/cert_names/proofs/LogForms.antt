@@ -7,7 +7,7 @@ use Rattle.std.specs.Borrow.{Bor}
 use Rattle.std.proofs.lemmas.List.{length-append}
 use Rattle.std.proofs.lemmas.Slice.Eq.{bytes_eq-Decides}
 use Rattle.byte_formats.specs.Types.{Text}
-use Rattle.byte_formats.specs.Places.{IsBytes}
+use Rattle.byte_formats.specs.Offsets.{IsBytes}
 use Rattle.byte_formats.specs.Readings.{is_read, Reading}
 use Rattle.byte_formats.specs.Forms.{IsForm, Anything, FitsBoth}
 use Rattle.byte_formats.proofs.FormLaws.{fits_form, ended_form, then_form, mapped_form, tested_form}

@@ -69,11 +69,11 @@ fn has_labels(text: &[u8]) -> bool
 {
     let mut rest = text;
     let mut first = true;
-    while let Some((label, behind)) = cut(rest) {
+    while let Some((label, following)) = cut(rest) {
         if !is_label_in(first, label) {
             return false;
         }
-        rest = behind;
+        rest = following;
         first = false;
     }
     is_label_in(first, rest)

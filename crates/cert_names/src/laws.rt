@@ -2,7 +2,7 @@
 
 ghost use Rattle.std.specs.Prelude.{◌≡◌, true, Some};
 ghost use Rattle.byte_formats.specs.Types.{Text};
-ghost use Rattle.byte_formats.specs.Places.{IsBytes};
+ghost use Rattle.byte_formats.specs.Offsets.{IsBytes};
 ghost use Rattle.tls_wire.specs.Arcs.{IsAnchorId};
 ghost use Rattle.tls_wire.specs.Anchors.{text_of};
 ghost use Rattle.cert_names.specs.Hosts.{AreJoined, is_host_name};

@@ -7,27 +7,27 @@ use Rattle.std.proofs.lemmas.Bool.Decides.{nat_tests}
 use Rattle.byte_formats.specs.Types.{Text}
 use Rattle.jiff_core.proofs.CalendarLemmas.{days_in_month_bounds}
 use Rattle.cert_time.specs.declared.civil.CivilTime.{CivilTime}
-use Rattle.cert_time.specs.Calendar.{exists, moment, moment_from, IsMoment, civil_of}
+use Rattle.cert_time.specs.Calendar.{exists, unix_time, unix_time_from, IsUnixTime, civil_of}
 use Rattle.cert_time.specs.Forms.{HasDigits, fits_form}
-use Rattle.cert_time.specs.Texts.{text_form, text_parts, text_with, text_moment, moment_text}
-use Rattle.cert_time.specs.Times.{utc_form, utc_parts, utc_with, utc_moment, general_form}
-use Rattle.cert_time.specs.Times.{general_parts, general_with, general_moment, time_moment}
+use Rattle.cert_time.specs.Texts.{text_form, text_parts, text_with, text_unix_time, unix_time_text}
+use Rattle.cert_time.specs.Times.{utc_form, utc_parts, utc_with, utc_unix_time, general_form}
+use Rattle.cert_time.specs.Times.{general_parts, general_with, general_unix_time, unix_time_in}
 use Rattle.cert_time.specs.Times.{time_tag, time_contents, tag_with, contents_with}
-use Rattle.cert_time.proofs.Moments.{Exists, exists-from, exists-to, Names, civil_of-names}
-use Rattle.cert_time.proofs.Moments.{names-civil_of, IsMoment-names}
+use Rattle.cert_time.proofs.UnixTimes.{Exists, exists-from, exists-to, Names, civil_of-names}
+use Rattle.cert_time.proofs.UnixTimes.{names-civil_of, IsUnixTime-names}
 use Rattle.cert_time.proofs.Encoding.{text_back, text_fits, text_read, utc_back, utc_fits, utc_read}
 use Rattle.cert_time.proofs.Encoding.{utc_year, general_back, general_fits, general_read}
 
 -- the time of a text in a form
 abbrev read_by : Bool → ℕ → CivilTime → Option ℤ
-read_by fits first_year c = cond fits (moment_from first_year c) None
+read_by fits first_year c = cond fits (unix_time_from first_year c) None
 
 some_of : (b : Bool) (w z : ℤ) → cond b (Some w) None ≡ Some z → (b ≡ true) × (w ≡ z)
 some_of true w z h = (refl, cc)
 some_of false w z h = cc
 
 fits_of : (b : Bool) (first_year : ℕ) (c : CivilTime) (z : ℤ) → read_by b first_year c ≡ Some z
-    → (b ≡ true) × (moment_from first_year c ≡ Some z)
+    → (b ≡ true) × (unix_time_from first_year c ≡ Some z)
 fits_of true first_year c z h = (refl, h)
 fits_of false first_year c z h = cc
 
@@ -41,7 +41,7 @@ is_read : (b : Bool) (first_year : ℕ) (c : CivilTime) (z : ℤ) → 1950 ≤ f
     → read_by b first_year c ≡ Some z → IsRead b first_year c z
 is_read b first_year c z low h =
     let in_form = fits_of b first_year c z h in
-    let is = some_of (nat_le first_year c.year && exists c) (moment c) z in_form.1 in
+    let is = some_of (nat_le first_year c.year && exists c) (unix_time c) z in_form.1 in
     let tests = and_parts (nat_le first_year c.year) (exists c) is.0 in
     let year : first_year ≤ c.year = leb-true first_year c.year tests.0 in
     record {
@@ -73,12 +73,12 @@ has_digits c h =
     }
 
 -- from 1950 on such a time is in range
-pub moment_from-range : (first_year : ℕ) (c : CivilTime) → 1950 ≤ first_year
-    → IfSome (moment_from first_year c) IsMoment
-moment_from-range first_year c low =
-    range_of (moment_from first_year c)
-    (λ z e. IsMoment-names z c (is_read true first_year c z low e).names) where
-      range_of : (o : Option ℤ) → ((z : ℤ) → o ≡ Some z → IsMoment z) → IfSome o IsMoment
+pub unix_time_from-range : (first_year : ℕ) (c : CivilTime) → 1950 ≤ first_year
+    → IfSome (unix_time_from first_year c) IsUnixTime
+unix_time_from-range first_year c low =
+    range_of (unix_time_from first_year c)
+    (λ z e. IsUnixTime-names z c (is_read true first_year c z low e).names) where
+      range_of : (o : Option ℤ) → ((z : ℤ) → o ≡ Some z → IsUnixTime z) → IfSome o IsUnixTime
       range_of None h = tt
       range_of (Some z) h = h z refl
 
@@ -87,42 +87,43 @@ along z c p e n = let P : CivilTime → Type 0 = λ q. Names z q in subst P (sym
 
 -- 1. Texts
 
-pub text_moment-moment_text : (z : ℤ) → IsMoment z → text_moment (moment_text z) ≡ Some z
-unfolding text_moment moment_text
-text_moment-moment_text z h =
+pub text_unix_time-unix_time_text : (z : ℤ) → IsUnixTime z
+    → text_unix_time (unix_time_text z) ≡ Some z
+unfolding text_unix_time unix_time_text
+text_unix_time-unix_time_text z h =
     let c = civil_of z in
     let n = civil_of-names z h in
     let digits = has_digits c n.exists in
     let names = along z c (text_parts (text_with c)) (text_read c digits) n in
     reads _ 1950 (text_parts (text_with c)) z (text_fits c digits) names.year names
 
-pub text_moment-only : (t : Text) (z : ℤ) → text_moment t ≡ Some z → IsMoment z
-    × (t ≡ moment_text z)
-unfolding text_moment moment_text
-text_moment-only t z h =
+pub text_unix_time-only : (t : Text) (z : ℤ) → text_unix_time t ≡ Some z → IsUnixTime z
+    × (t ≡ unix_time_text z)
+unfolding text_unix_time unix_time_text
+text_unix_time-only t z h =
     let r = is_read (fits_form text_form t) 1950 (text_parts t) z (omega arith) h in
-    let m = IsMoment-names z (text_parts t) r.names in
+    let m = IsUnixTime-names z (text_parts t) r.names in
     (m, sym (text_back t r.fits) ∙ ap text_with (names-civil_of z (text_parts t) m r.names))
 
 -- 2. Times of certificates
 
-utc_case : (z : ℤ) (contents : Text) → utc_moment contents ≡ Some z → IsMoment z
+utc_case : (z : ℤ) (contents : Text) → utc_unix_time contents ≡ Some z → IsUnixTime z
     × ((civil_of z).year < 2050) × (contents ≡ utc_with (civil_of z))
-unfolding utc_moment
+unfolding utc_unix_time
 utc_case z t h =
     let r = is_read (fits_form utc_form t) 1950 (utc_parts t) z (omega arith) h in
-    let m = IsMoment-names z (utc_parts t) r.names in
+    let m = IsUnixTime-names z (utc_parts t) r.names in
     let e = names-civil_of z (utc_parts t) m r.names in
     let year : (utc_parts t).year ≡ (civil_of z).year = ap (λ (c : CivilTime). c.year) e in
     let low = utc_year t r.fits in
     (m, omega (arith, year), sym (utc_back t r.fits) ∙ ap utc_with e)
 
-general_case : (z : ℤ) (contents : Text) → general_moment contents ≡ Some z → IsMoment z
+general_case : (z : ℤ) (contents : Text) → general_unix_time contents ≡ Some z → IsUnixTime z
     × (2050 ≤ (civil_of z).year) × (contents ≡ general_with (civil_of z))
-unfolding general_moment
+unfolding general_unix_time
 general_case z t h =
     let r = is_read (fits_form general_form t) 2050 (general_parts t) z (omega arith) h in
-    let m = IsMoment-names z (general_parts t) r.names in
+    let m = IsUnixTime-names z (general_parts t) r.names in
     let e = names-civil_of z (general_parts t) m r.names in
     let year : (general_parts t).year ≡ (civil_of z).year = ap (λ (c : CivilTime). c.year) e in
     let high = r.first in
@@ -141,20 +142,21 @@ below c h = let test : nat_lt c.year 2050 ≡ true = grind (arith, nat_tests) in
 from : (c : CivilTime) → 2050 ≤ c.year → (tag_with c ≡ 24) × (contents_with c ≡ general_with c)
 from c h = let test : nat_lt c.year 2050 ≡ false = grind (arith, nat_tests) in (rw test, rw test)
 
-pub time_moment-only : (tag : ℕ) (contents : Text) (z : ℤ) → time_moment tag contents ≡ Some z
-    → IsMoment z × (tag ≡ time_tag z) × (contents ≡ time_contents z)
-unfolding time_moment time_tag time_contents
-time_moment-only tag contents z h =
-    elim (by_tag (tag == 23) (tag == 24) (utc_moment contents) (general_moment contents) z h) [
+pub unix_time_in-only : (tag : ℕ) (contents : Text) (z : ℤ) → unix_time_in tag contents ≡ Some z
+    → IsUnixTime z × (tag ≡ time_tag z) × (contents ≡ time_contents z)
+unfolding unix_time_in time_tag time_contents
+unix_time_in-only tag contents z h =
+    elim
+    (by_tag (tag == 23) (tag == 24) (utc_unix_time contents) (general_unix_time contents) z h) [
       | inl u ↦ let r = utc_case z contents u.1 in let w =
           below (civil_of z) r.1 in (r.0, eqb-true tag 23 u.0 ∙ sym w.0, r.2 ∙ sym w.1)
       | inr g ↦ let r = general_case z contents g.1 in let w =
           from (civil_of z) r.1 in (r.0, eqb-true tag 24 g.0 ∙ sym w.0, r.2 ∙ sym w.1)
     ]
 
-utc_is : (z : ℤ) → IsMoment z → (civil_of z).year < 2050
-    → utc_moment (utc_with (civil_of z)) ≡ Some z
-unfolding utc_moment
+utc_is : (z : ℤ) → IsUnixTime z → (civil_of z).year < 2050
+    → utc_unix_time (utc_with (civil_of z)) ≡ Some z
+unfolding utc_unix_time
 utc_is z h low =
     let c = civil_of z in
     let n = civil_of-names z h in
@@ -162,9 +164,9 @@ utc_is z h low =
     let names = along z c (utc_parts (utc_with c)) (utc_read c digits n.year low) n in
     reads _ 1950 (utc_parts (utc_with c)) z (utc_fits c digits) names.year names
 
-general_is : (z : ℤ) → IsMoment z → 2050 ≤ (civil_of z).year
-    → general_moment (general_with (civil_of z)) ≡ Some z
-unfolding general_moment
+general_is : (z : ℤ) → IsUnixTime z → 2050 ≤ (civil_of z).year
+    → general_unix_time (general_with (civil_of z)) ≡ Some z
+unfolding general_unix_time
 general_is z h high =
     let c = civil_of z in
     let n = civil_of-names z h in
@@ -178,29 +180,32 @@ general_is z h high =
       high,
     )) names
 
-by_year : (z : ℤ) → IsMoment z → (b : Bool) → nat_lt (civil_of z).year 2050 ≡ b
-    → time_moment (cond b 23 24) (cond b (utc_with (civil_of z)) (general_with (civil_of z)))
+by_year : (z : ℤ) → IsUnixTime z → (b : Bool) → nat_lt (civil_of z).year 2050 ≡ b
+    → unix_time_in (cond b 23 24) (cond b (utc_with (civil_of z)) (general_with (civil_of z)))
     ≡ Some z
-unfolding time_moment
+unfolding unix_time_in
 by_year z h true e = utc_is z h (grind (arith, nat_tests))
 by_year z h false e = general_is z h (grind (arith, nat_tests))
 
-pub time_moment-time : (z : ℤ) → IsMoment z → time_moment (time_tag z) (time_contents z) ≡ Some z
+pub unix_time_in-time : (z : ℤ) → IsUnixTime z
+    → unix_time_in (time_tag z) (time_contents z) ≡ Some z
 unfolding time_tag time_contents
-time_moment-time z h = by_year z h (nat_lt (civil_of z).year 2050) refl
+unix_time_in-time z h = by_year z h (nat_lt (civil_of z).year 2050) refl
 
 -- both ways at once
 
-pub text_law : (text : Text) (z : ℤ) → (text_moment text ≡ Some z → IsMoment z
-    × (text ≡ moment_text z)) × (IsMoment z × (text ≡ moment_text z) → text_moment text ≡ Some z)
-text_law text z = (text_moment-only text z, λ p. rw p.1 (text_moment-moment_text z p.0))
+pub text_law : (text : Text) (z : ℤ) → (text_unix_time text ≡ Some z → IsUnixTime z
+    × (text ≡ unix_time_text z))
+    × (IsUnixTime z × (text ≡ unix_time_text z) → text_unix_time text ≡ Some z)
+text_law text z = (text_unix_time-only text z, λ p. rw p.1 (text_unix_time-unix_time_text z p.0))
 
-pub time_law : (tag : ℕ) (contents : Text) (z : ℤ) → (time_moment tag contents ≡ Some z → IsMoment z
-    × (tag ≡ time_tag z) × (contents ≡ time_contents z)) × (IsMoment z × (tag ≡ time_tag z)
-    × (contents ≡ time_contents z) → time_moment tag contents ≡ Some z)
+pub time_law : (tag : ℕ) (contents : Text) (z : ℤ)
+    → (unix_time_in tag contents ≡ Some z → IsUnixTime z
+    × (tag ≡ time_tag z) × (contents ≡ time_contents z)) × (IsUnixTime z × (tag ≡ time_tag z)
+    × (contents ≡ time_contents z) → unix_time_in tag contents ≡ Some z)
 time_law tag contents z = (
-  time_moment-only tag contents z,
-  λ p. rw (p.1, p.2) (time_moment-time z p.0),
+  unix_time_in-only tag contents z,
+  λ p. rw (p.1, p.2) (unix_time_in-time z p.0),
 )
 
 abbrev IsShape : ℕ → Text → Type 0

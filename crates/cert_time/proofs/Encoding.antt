@@ -12,7 +12,7 @@ use Rattle.cert_time.specs.Texts.{text_form, text_parts, text_with}
 use Rattle.cert_time.specs.Times.{utc_form, utc_parts, utc_with, general_form, general_parts}
 use Rattle.cert_time.specs.Times.{general_with, full_year}
 use Rattle.cert_time.proofs.Forms.{fits_form-length}
-use Rattle.cert_time.proofs.Moments.{same_civil}
+use Rattle.cert_time.proofs.UnixTimes.{same_civil}
 
 -- each byte of a text fits the same offset of the form
 EachFits : Text → Text → Type 0

@@ -1,5 +1,5 @@
 pub mod BothWays
 pub mod Dates
 pub mod Forms
-pub mod Moments
+pub mod UnixTimes
 pub mod Encoding

@@ -17,18 +17,19 @@ exists c =
 
 -- The seconds from 1970-01-01T00:00:00Z to a date and a time of day: the whole days between, and
 -- the seconds of the day.
-abbrev pub moment : CivilTime → ℤ
-moment c =
+abbrev pub unix_time : CivilTime → ℤ
+unix_time c =
     days_from_civil (pos c.year) c.month c.day *ℤ pos 86400
     +ℤ pos (3600 * c.hour + 60 * c.minute + c.second)
 
 -- The time that a date and a time of day name, which exist, in this year or a later one.
-abbrev pub moment_from : ℕ → CivilTime → Option ℤ
-moment_from first_year c = if nat_le first_year c.year && exists c then Some (moment c) else None
+abbrev pub unix_time_from : ℕ → CivilTime → Option ℤ
+unix_time_from first_year c =
+    if nat_le first_year c.year && exists c then Some (unix_time c) else None
 
 -- The times from 1950-01-01T00:00:00Z to 9999-12-31T23:59:59Z.
-abbrev pub IsMoment : ℤ → Type 0
-IsMoment z = (negsuc 631151999 ≤ℤ z) × (z ≤ℤ pos 253402300799)
+abbrev pub IsUnixTime : ℤ → Type 0
+IsUnixTime z = (negsuc 631151999 ≤ℤ z) × (z ≤ℤ pos 253402300799)
 
 -- The two times of a validity, in seconds since 1970: any two numbers.
 pub record Period : Type 0 where
@@ -37,8 +38,8 @@ pub record Period : Type 0 where
 
 -- Both are times that a certificate can state, in either order.
 pub record IsPeriod (p : Period) : Type 0 where
-  pub not_before : IsMoment p.not_before
-  pub not_after : IsMoment p.not_after
+  pub not_before : IsUnixTime p.not_before
+  pub not_after : IsUnixTime p.not_after
 
 -- A date.
 pub record Date : Type 0 where

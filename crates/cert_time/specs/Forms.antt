@@ -5,8 +5,7 @@ use Rattle.std.specs.Char.{is_ascii_digit}
 use Rattle.byte_formats.specs.Types.{Text}
 use Rattle.cert_time.specs.declared.civil.CivilTime.{CivilTime}
 
--- A byte at an offset of a form, where 0 in the form represents any digit, and anything else
--- itself.
+-- A byte at an offset of a form, where 0 in the form is any digit, and anything else is itself.
 abbrev pub fits_byte : ℕ → ℕ → Bool
 fits_byte form byte = if form == 0x30 then is_ascii_digit byte else byte == form
 

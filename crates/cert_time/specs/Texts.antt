@@ -2,7 +2,7 @@
 use Rattle.std.specs.Prelude.{if◌then◌else◌, ℤ, ◌++◌, codes, Option, None}
 use Rattle.byte_formats.specs.Types.{Text}
 use Rattle.cert_time.specs.declared.civil.CivilTime.{CivilTime}
-use Rattle.cert_time.specs.Calendar.{moment_from, civil_of}
+use Rattle.cert_time.specs.Calendar.{unix_time_from, civil_of}
 use Rattle.cert_time.specs.Forms.{fits_form, two_digits_at, four_digits_at, two_digits, four_digits}
 
 -- The form of a text.
@@ -30,9 +30,9 @@ text_with c =
 
 -- The time that a text names: it has the form, and the date and the time of day exist, in 1950 or
 -- later.
-unfoldable pub text_moment : Text → Option ℤ
-text_moment t = if fits_form text_form t then moment_from 1950 (text_parts t) else None
+unfoldable pub text_unix_time : Text → Option ℤ
+text_unix_time t = if fits_form text_form t then unix_time_from 1950 (text_parts t) else None
 
 -- The text of a time.
-unfoldable pub moment_text : ℤ → Text
-moment_text z = text_with (civil_of z)
+unfoldable pub unix_time_text : ℤ → Text
+unix_time_text z = text_with (civil_of z)

@@ -4,7 +4,7 @@ use Rattle.std.specs.Prelude.{ℕ, ◌+◌, ◌/◌, ◌%◌, ◌==◌, nat_lt, 
 use Rattle.std.specs.Prelude.{codes, Option, None}
 use Rattle.byte_formats.specs.Types.{Text}
 use Rattle.cert_time.specs.declared.civil.CivilTime.{CivilTime}
-use Rattle.cert_time.specs.Calendar.{Period, moment_from, civil_of}
+use Rattle.cert_time.specs.Calendar.{Period, unix_time_from, civil_of}
 use Rattle.cert_time.specs.Forms.{fits_form, two_digits_at, four_digits_at, two_digits}
 
 -- MMDDHHMMSS at an offset, in a year.
@@ -47,16 +47,17 @@ general_with c = two_digits (c.year / 100) ++ utc_with c
 
 -- The time that the contents of an element name: UTCTime has tag 0x17, and GeneralizedTime tag
 -- 0x18.
-unfoldable pub utc_moment : Text → Option ℤ
-utc_moment t = if fits_form utc_form t then moment_from 1950 (utc_parts t) else None
+unfoldable pub utc_unix_time : Text → Option ℤ
+utc_unix_time t = if fits_form utc_form t then unix_time_from 1950 (utc_parts t) else None
 
-unfoldable pub general_moment : Text → Option ℤ
-general_moment t = if fits_form general_form t then moment_from 2050 (general_parts t) else None
+unfoldable pub general_unix_time : Text → Option ℤ
+general_unix_time t =
+    if fits_form general_form t then unix_time_from 2050 (general_parts t) else None
 
-unfoldable pub time_moment : ℕ → Text → Option ℤ
-time_moment tag contents =
-    if tag == 0x17 then utc_moment contents
-    else (if tag == 0x18 then general_moment contents else None)
+unfoldable pub unix_time_in : ℕ → Text → Option ℤ
+unix_time_in tag contents =
+    if tag == 0x17 then utc_unix_time contents
+    else (if tag == 0x18 then general_unix_time contents else None)
 
 -- The time of a date and a time of day: UTCTime up to 2049, and GeneralizedTime from 2050 on.
 abbrev pub tag_with : CivilTime → ℕ

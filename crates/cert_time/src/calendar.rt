@@ -1,7 +1,7 @@
 //! Dates to times and back, by the calendar of `jiff_core`.
 
 ghost use Rattle.std.specs.Prelude.{◌≡◌, ◌≤◌, IfSome};
-ghost use Rattle.cert_time.specs.Calendar.{IsMoment, civil_of, moment_from};
+ghost use Rattle.cert_time.specs.Calendar.{IsUnixTime, civil_of, unix_time_from};
 ghost use Rattle.cert_time.specs.Forms.{HasDigits};
 
 use crate::civil::CivilTime;
@@ -9,9 +9,9 @@ use jiff_core::civil::{Date, DateTime, Time};
 
 /// The time that a date and a time of day name, which exist, in `first_year` or a later year up to
 /// 9999.
-pub fn moment_of(civil: CivilTime, first_year: u32) -> Option<i64>
-    ensures value { result ≡ moment_from first_year civil }
-    ensures range { 1950 ≤ first_year → IfSome result IsMoment }
+pub fn unix_time_of(civil: CivilTime, first_year: u32) -> Option<i64>
+    ensures value { result ≡ unix_time_from first_year civil }
+    ensures range { 1950 ≤ first_year → IfSome result IsUnixTime }
 {
     if civil.year < first_year || civil.year > 9999 || civil.month > 12 || civil.day > 31 {
         return None;
@@ -33,7 +33,7 @@ pub fn moment_of(civil: CivilTime, first_year: u32) -> Option<i64>
 
 /// The date and the time of day of a time.
 pub fn civil_at(seconds: i64) -> CivilTime
-    requires { IsMoment seconds }
+    requires { IsUnixTime seconds }
     ensures value { result ≡ civil_of seconds }
     ensures digits { HasDigits result }
 {

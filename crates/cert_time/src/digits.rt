@@ -15,7 +15,7 @@ fn fits_at(form: u8, byte: u8) -> bool
     }
 }
 
-/// Whether a text has a form, in which `0` represents any digit and each other byte itself.
+/// Whether a text has a form, in which `0` is any digit, and each other byte is itself.
 #[tactic(auto, using(crate::proofs::Forms::lengths))]
 pub fn fits(form: &[u8], text: &[u8]) -> bool
     ensures value { result ≡ fits_form form.now text.now }

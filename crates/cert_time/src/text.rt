@@ -1,10 +1,10 @@
 //! Times as texts.
 
 ghost use Rattle.std.specs.Prelude.{◌≡◌, IfSome};
-ghost use Rattle.cert_time.specs.Calendar.{IsMoment};
-ghost use Rattle.cert_time.specs.Texts.{text_moment, moment_text};
+ghost use Rattle.cert_time.specs.Calendar.{IsUnixTime};
+ghost use Rattle.cert_time.specs.Texts.{text_unix_time, unix_time_text};
 
-use crate::calendar::{civil_at, moment_of};
+use crate::calendar::{civil_at, unix_time_of};
 use crate::civil::CivilTime;
 use crate::digits::{fits, read_four, read_two};
 use crate::time::generalized;
@@ -13,10 +13,10 @@ use crate::time::generalized;
 ///
 /// `None` exactly if the text doesn't have this form, its year is before 1950, or no such date or
 /// time of day exists.
-#[tactic(auto, unfolding(crate::specs::Texts::text_moment))]
+#[tactic(auto, unfolding(crate::specs::Texts::text_unix_time))]
 pub fn text_to_seconds(text: &str) -> Option<i64>
-    ensures value { result ≡ text_moment text.now }
-    ensures range { IfSome result IsMoment }
+    ensures value { result ≡ text_unix_time text.now }
+    ensures range { IfSome result IsUnixTime }
 {
     let text = text.as_bytes();
     if !fits(b"0000-00-00T00:00:00Z", text) {
@@ -30,14 +30,14 @@ pub fn text_to_seconds(text: &str) -> Option<i64>
         minute: read_two(text, 14),
         second: read_two(text, 17),
     };
-    moment_of(civil, 1950)
+    unix_time_of(civil, 1950)
 }
 
 /// The text `YYYY-MM-DDTHH:MM:SSZ` of a time from 1950 to 9999.
-#[tactic(auto, unfolding(crate::specs::Texts::moment_text))]
+#[tactic(auto, unfolding(crate::specs::Texts::unix_time_text))]
 pub fn seconds_to_text(seconds: i64) -> [u8; 20]
-    requires { IsMoment seconds }
-    ensures { result ≡ moment_text seconds }
+    requires { IsUnixTime seconds }
+    ensures { result ≡ unix_time_text seconds }
 {
     let [y0, y1, y2, y3, m0, m1, d0, d1, h0, h1, n0, n1, s0, s1, zulu] = generalized(civil_at(
         seconds,

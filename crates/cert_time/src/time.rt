@@ -1,12 +1,13 @@
 //! The times of a certificate: UTCTime and GeneralizedTime.
 
 ghost use Rattle.std.specs.Prelude.{◌≡◌, ◌+◌, ◌<◌, ◌++◌, length, nat_lt, OnOk, OnErr, IfSome};
-ghost use Rattle.cert_time.specs.Calendar.{IsMoment};
+ghost use Rattle.cert_time.specs.Calendar.{IsUnixTime};
 ghost use Rattle.cert_time.specs.Forms.{HasDigits};
-ghost use Rattle.cert_time.specs.Times.{contents_with, full_year, general_moment, general_with};
-ghost use Rattle.cert_time.specs.Times.{civil_in, short_element, tag_with, time_moment, utc_moment};
+ghost use Rattle.cert_time.specs.Times.{contents_with, full_year, general_unix_time, general_with};
+ghost use Rattle.cert_time.specs.Times.{civil_in, short_element, tag_with, unix_time_in};
+ghost use Rattle.cert_time.specs.Times.{utc_unix_time};
 
-use crate::calendar::moment_of;
+use crate::calendar::unix_time_of;
 use crate::civil::CivilTime;
 use crate::digits::{fits, read_four, read_two, write_two};
 use mtc_io::{Bytes, Memory};
@@ -24,10 +25,10 @@ pub const GENERALIZED_TIME: u8 = 0x18;
 /// GeneralizedTime (tag 18) is `YYYYMMDDHHMMSSZ` with a year from 2050 to 9999 (RFC 5280, section
 /// 4.1.2.5). `None` exactly if the tag is another one, the contents don't have the form of their
 /// tag, or no such date or time of day exists.
-#[tactic(auto, unfolding(crate::specs::Times::time_moment))]
+#[tactic(auto, unfolding(crate::specs::Times::unix_time_in))]
 pub fn read_time(tag: u8, contents: &[u8]) -> Option<i64>
-    ensures value { result ≡ time_moment tag contents.now }
-    ensures range { IfSome result IsMoment }
+    ensures value { result ≡ unix_time_in tag contents.now }
+    ensures range { IfSome result IsUnixTime }
 {
     match tag {
         UTC_TIME => read_utc(contents),
@@ -36,26 +37,26 @@ pub fn read_time(tag: u8, contents: &[u8]) -> Option<i64>
     }
 }
 
-#[tactic(auto, unfolding(crate::specs::Times::utc_moment))]
+#[tactic(auto, unfolding(crate::specs::Times::utc_unix_time))]
 fn read_utc(contents: &[u8]) -> Option<i64>
-    ensures value { result ≡ utc_moment contents.now }
-    ensures range { IfSome result IsMoment }
+    ensures value { result ≡ utc_unix_time contents.now }
+    ensures range { IfSome result IsUnixTime }
 {
     if !fits(b"000000000000Z", contents) {
         return None;
     }
-    moment_of(parts_of(year_of(read_two(contents, 0)), 2, contents), 1950)
+    unix_time_of(parts_of(year_of(read_two(contents, 0)), 2, contents), 1950)
 }
 
-#[tactic(auto, unfolding(crate::specs::Times::general_moment))]
+#[tactic(auto, unfolding(crate::specs::Times::general_unix_time))]
 fn read_generalized(contents: &[u8]) -> Option<i64>
-    ensures value { result ≡ general_moment contents.now }
-    ensures range { IfSome result IsMoment }
+    ensures value { result ≡ general_unix_time contents.now }
+    ensures range { IfSome result IsUnixTime }
 {
     if !fits(b"00000000000000Z", contents) {
         return None;
     }
-    moment_of(parts_of(read_four(contents, 0), 4, contents), 2050)
+    unix_time_of(parts_of(read_four(contents, 0), 4, contents), 2050)
 }
 
 // The year of the last two digits in a UTCTime.

@@ -23,7 +23,7 @@ use Rattle.collide.specs.declared.comparing.Halt.{Halt}
 use Rattle.collide.specs.declared.comparing.Halt.TheVariants.{Found, Memory}
 use Rattle.collide.specs.declared.comparing.Roots.{Roots}
 use Rattle.tree_proofs.specs.Halves.{AreHalves}
-use Rattle.collide.specs.Inputs.{eval_inputs_from_root, eval_inputs_of, input_before, input_behind}
+use Rattle.collide.specs.Inputs.{eval_inputs_from_root, eval_inputs_of, input_before, input_after}
 use Rattle.collide.specs.Inputs.{inputs_of, leaf_input, pair_input}
 
 -- The path of one entry.
@@ -113,15 +113,15 @@ inputs_left h m n k leaf z q split left =
 
 inputs_right : (h : HashFunction) (m n k a b : ℕ) (leaf z : Hash) (q : List Hash)
     → k ≡ split_of n → m ≡ k + a → n ≡ k + b → eval_inputs_from_root h m n leaf (z ∷ q)
-    ≡ input_behind z (eval_from_root h a b leaf q) ++ eval_inputs_from_root h a b leaf q
+    ≡ input_after z (eval_from_root h a b leaf q) ++ eval_inputs_from_root h a b leaf q
 unfolding eval_inputs_from_root
 inputs_right h m n k a b leaf z q split m_is n_is =
     let place : m - split_of n ≡ a = omega arith in
     let size : n - split_of n ≡ b = omega arith in
     cond-false _ _ _ (le-ltb m (split_of n) (omega arith))
-    ∙ ap (λ i. input_behind z (eval_from_root h i (n - split_of n) leaf q)
+    ∙ ap (λ i. input_after z (eval_from_root h i (n - split_of n) leaf q)
     ++ eval_inputs_from_root h i (n - split_of n) leaf q) place
-    ∙ ap (λ i. input_behind z (eval_from_root h a i leaf q) ++ eval_inputs_from_root h a i leaf q)
+    ∙ ap (λ i. input_after z (eval_from_root h a i leaf q) ++ eval_inputs_from_root h a i leaf q)
     size
 
 -- those of the part, and the one of the pair above it
@@ -168,12 +168,12 @@ unfolding eval_of eval_inputs_of
 eval_texts-right h m n k a b entry z v path rest is split m_is n_is gives =
     has_below (leaf_input entry) (pair_input z v) _
     (eval_inputs_from_root h a b (leaf_hash h entry) (reverse rest)) _
-    (input_behind z (eval_from_root h a b (leaf_hash h entry) (reverse rest)))
+    (input_after z (eval_from_root h a b (leaf_hash h entry) (reverse rest)))
     (ap (λ q. leaf_input entry ∷ eval_inputs_from_root h m n (leaf_hash h entry) q)
     (ap reverse is ∙ reverse-append rest (z ∷ []))
     ∙ ap (λ texts. leaf_input entry ∷ texts)
     (inputs_right h m n k a b (leaf_hash h entry) z (reverse rest) split m_is n_is))
-    refl (ap (input_behind z) gives)
+    refl (ap (input_after z) gives)
 
 -- What a comparison of the part shows of the list.
 

@@ -21,7 +21,7 @@ use Rattle.collide.proofs.Opening.{subtree_left, subtree_right, subtree_over}
 use Rattle.collide.specs.Comparison.{Compares}
 use Rattle.collide.specs.declared.comparing.Halt.{Halt}
 use Rattle.collide.specs.declared.comparing.Roots.{Roots}
-use Rattle.collide.specs.Behind.{IsBehind}
+use Rattle.collide.specs.After.{IsFollowing}
 use Rattle.tree_proofs.specs.Halves.{AreHalves}
 use Rattle.collide.specs.Inputs.{inputs_of}
 use Rattle.collide.specs.Inputs.{open_inputs_of, pair_input}
@@ -146,14 +146,14 @@ step_over h xs l r s e n k b c known node z proof rest halves is n_is k_is c_is 
           ∙ ap (λ o. o.subtree) part.is;
     }
 
-pub behind_order : {k s e from to : ℕ} {known still : Bool} → IsBehind k s e known from to still
+pub after_order : {k s e from to : ℕ} {known still : Bool} → IsFollowing k s e known from to still
     → s < e → k < e → from < to
-behind_order {k} {s} {e} {from} {to} behind order past =
-    let last = behind.last in
+after_order {k} {s} {e} {from} {to} following order past =
+    let last = following.last in
     ⊎_elim
-    (λ (before : s < k). let over = behind.over before in let none : from ≡ 0 = over.0 in omega
+    (λ (before : s < k). let over = following.over before in let none : from ≡ 0 = over.0 in omega
     arith)
-    (λ (le : k ≤ s). let right = behind.behind le in let first : s ≡ k + from = right.0 in
+    (λ (le : k ≤ s). let right = following.following le in let first : s ≡ k + from = right.0 in
     omega arith)
     (cases_lt s k)
 
@@ -166,25 +166,26 @@ StepsRight h xs l r s e n known node z proof rest given from to c still =
     (open_inputs_of h from to c still node rest) (open_inputs_of h s e n known node proof)
 
 -- whether the interval lies after the split or holds all before it
-pub step_behind : (h : HashFunction) (xs l r : List Text) (s e n k c from to : ℕ)
+pub step_following : (h : HashFunction) (xs l r : List Text) (s e n k c from to : ℕ)
     (known still : Bool)
     (node z : Hash) (proof rest : List Hash) → AreHalves xs l r → proof ≡ rest ++ z ∷ []
     → n ≡ length xs → k ≡ length l → c ≡ length r → e ≤ n → k < e
-    → (0 < s) ⊎ (e < n) → IsBehind k s e known from to still
+    → (0 < s) ⊎ (e < n) → IsFollowing k s e known from to still
     → (given : Opened) → open_of h s e n known node proof ≡ Some given
     → StepsRight h xs l r s e n known node z proof rest given from to c still
-step_behind h xs l r s e n k c from to known still node z proof rest halves is n_is k_is c_is within
-    past other behind given gives =
-    let last = behind.last in
+step_following h xs l r s e n k c from to known still node z proof rest halves is n_is k_is c_is
+    within
+    past other following given gives =
+    let last = following.last in
     ⊎_elim
     (λ (before : s < k).
-    let over = behind.over before in
+    let over = following.over before in
     subst (λ i. StepsRight h xs l r s e n known node z proof rest given i to c still) (sym over.0)
     (subst (StepsRight h xs l r s e n known node z proof rest given 0 to c) (sym over.1)
     (step_over h xs l r s e n k to c known node z proof rest halves is n_is k_is c_is before last
     (omega arith) within other given gives)))
     (λ (le : k ≤ s).
-    let right = behind.behind le in
+    let right = following.following le in
     subst (StepsRight h xs l r s e n known node z proof rest given from to c) (sym right.1)
     (step_right h xs l r s e n k from to c known node z proof rest halves is n_is k_is c_is right.0
     last (omega arith) given gives))

@@ -42,9 +42,9 @@ input_before z None = []
 input_before z (Some node) = pair_input node z ∷ []
 
 -- The same with the sibling on the left.
-abbrev pub input_behind : Hash → Option Hash → List Text
-input_behind z None = []
-input_behind z (Some node) = pair_input z node ∷ []
+abbrev pub input_after : Hash → Option Hash → List Text
+input_after z None = []
+input_after z (Some node) = pair_input z node ∷ []
 
 -- The strings of the pairs in the evaluation of a path from the root down, at index m of n leaves.
 unfoldable pub eval_inputs_from_root : HashFunction → ℕ → ℕ → Hash → List Hash → List Text
@@ -53,7 +53,7 @@ eval_inputs_from_root h m n leaf (z ∷ q) =
     let k = split_of n in
     if nat_lt m k
     then input_before z (eval_from_root h m k leaf q) ++ eval_inputs_from_root h m k leaf q
-    else input_behind z (eval_from_root h (m - k) (n - k) leaf q)
+    else input_after z (eval_from_root h (m - k) (n - k) leaf q)
     ++ eval_inputs_from_root h (m - k) (n - k) leaf q
 
 -- The strings in the evaluation of an entry's inclusion path, with that of the leaf.

@@ -1,5 +1,5 @@
 pub mod Inputs
 pub mod Extraction
-pub mod Behind
+pub mod After
 pub mod Comparison
 pub mod Laws

@@ -8,7 +8,7 @@ ghost use Rattle.tree_proofs.specs.Open.{open_of};
 ghost use Rattle.tree_proofs.specs.declared.outcome.Opened.{Opened};
 ghost use Rattle.collide.specs.Comparison.{AreRoots, Compares};
 ghost use Rattle.collide.specs.Extraction.{Extracts};
-ghost use Rattle.collide.specs.Behind.{IsBehind};
+ghost use Rattle.collide.specs.After.{IsFollowing};
 ghost use Rattle.collide.specs.Inputs.{inputs_of, open_inputs_of};
 
 use crate::Finding;
@@ -20,9 +20,9 @@ use tree_proofs::{EntryList, halves, list_hash, opened, part_between};
 
 // What an interval that ends after a split is there, counted from the split, and whether its hash
 // is still known.
-fn behind(middle: u64, start: u64, end: u64, known: bool) -> (u64, u64, bool)
+fn following(middle: u64, start: u64, end: u64, known: bool) -> (u64, u64, bool)
     requires { middle < end }
-    ensures { IsBehind middle start end known result.0 result.1 result.2 }
+    ensures { IsFollowing middle start end known result.0 result.1 result.2 }
 {
     if middle <= start {
         (start - middle, end - middle, known)
@@ -108,7 +108,7 @@ fn compare_proof<H: TreeHash, L: EntryList>(
         first: list_hash::<H, L>(&left),
         second: *sibling,
     };
-    let (from, to, still) = behind(middle, start, end, known);
+    let (from, to, still) = following(middle, start, end, known);
     let below = compare_proof::<H, L>(alloc, &right, from, to, still, node, rest)?;
     compare_pairs::<H>(alloc, &beside, &below)
 }

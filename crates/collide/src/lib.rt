@@ -5,8 +5,8 @@
 //! does not have at that index, shows two different strings with one hash. [`in_list`]
 //! distinguishes the two cases; [`in_consistency`] does it for the consistency proof of a subtree
 //! that checks for a list's length and tree hash, and [`two_lists`] for two lists with one tree
-//! hash. Each entry is hashed once, or twice in [`in_consistency`], and beside the two strings only
-//! one hash of each level is retained.
+//! hash. Each entry is hashed once, or twice in [`in_consistency`], and apart from the two strings
+//! only one hash of each level is retained.
 //!
 //! ```rust
 //! use collide::{Finding, in_list};

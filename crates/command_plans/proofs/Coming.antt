@@ -1,7 +1,7 @@
 -- Every outcome of a plan is one of six.
 use Rattle.std.proofs.Common.{◌≡◌, inl, inr}
 use Rattle.mtc_command.specs.Steps.{Files}
-use Rattle.command_plans.specs.Comes.{Comes, absent, does, exists, misread, no_node, too_long}
+use Rattle.command_plans.specs.Comes.{Comes, absent, does, exists, misread, no_party, too_long}
 use Rattle.command_plans.specs.Facts.{OutcomesCome}
 use Rattle.command_plans.specs.Found.{AreRead}
 use Rattle.command_plans.specs.Kinds.{Kinds}
@@ -18,7 +18,7 @@ module _ {k : Kinds} (plan : Plan k) (files : Files) where
   step_comes reads are (misreads read reason) is = misread reads are read reason is
   step_comes reads are (works say) is =
       open_comes (Comes plan files) files plan.journals _ (λ file named. absent file (inr named))
-      exists no_node (does reads are say is)
+      exists no_party (does reads are say is)
 
 pub outcomes_come : (k : Kinds) → OutcomesCome k
 outcomes_come k plan files =

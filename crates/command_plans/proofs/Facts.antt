@@ -1,7 +1,7 @@
 -- What is so of every command, whatever its plan.
 use Rattle.std.proofs.Common.{◌≡◌, ◌≢◌, ◌⊎◌, inl, inr, ℕ, List, [], ◌∷◌, Option, None, Some, codes}
 use Rattle.std.proofs.Common.{refl, sym, ap, subst, arith}
-use Rattle.byte_formats.specs.Places.{IsBytes}
+use Rattle.byte_formats.specs.Offsets.{IsBytes}
 use Rattle.journal_core.specs.Folds.{Found}
 use Rattle.journal_core.proofs.Standing.{found_stands}
 use Rattle.mtc_command.specs.Answers.{Reply, IsEarly, refused, said, said_code, status_of}
@@ -14,7 +14,7 @@ use Rattle.mtc_command.specs.declared.answer.Said.{Said}
 use Rattle.mtc_command.specs.declared.answer.Said.TheVariants.{Against, Collided, Done}
 use Rattle.mtc_command.specs.declared.answer.Stopped.{Stopped}
 use Rattle.mtc_command.specs.declared.answer.Stopped.TheVariants.{BadForm, Beyond, Missing}
-use Rattle.command_plans.specs.Comes.{Comes, absent, does, exists, misread, no_node, too_long}
+use Rattle.command_plans.specs.Comes.{Comes, absent, does, exists, misread, no_party, too_long}
 use Rattle.command_plans.specs.Facts.{AreSoundly, FoundIsValid, HasPassed, HasRecords}
 use Rattle.command_plans.specs.Facts.{HeardHasPassed, IsAbout, IsSoundly, MisreadIsAbout}
 use Rattle.command_plans.specs.Facts.{NoCommandIsBadWords, UnopenedIsEarly}
@@ -69,7 +69,7 @@ module _ {k : Kinds} (plan : Plan k) (files : Files) (reply : Reply) where
       let code = refused_code reply Missing _ _ meets in omega (arith, code, one)
   never_one o (misread read are input reason is) meets one =
       let code = refused_code reply BadForm _ _ meets in omega (arith, code, one)
-  never_one o (no_node file reason not) meets one =
+  never_one o (no_party file reason not) meets one =
       let code = refused_code reply BadForm _ _ meets in omega (arith, code, one)
   never_one o (does read are say is founds found) meets one =
       let code = meets_judged (say founds).answer reply meets in omega (arith, code, one)
@@ -88,7 +88,7 @@ module _ {k : Kinds} (plan : Plan k) (files : Files) (reply : Reply) where
     is = meets;
     about = inl (input_named plan.inputs input.file input.is_input);
   }
-  about o (no_node file reason not) meets two =
+  about o (no_party file reason not) meets two =
       record { file = file; reason = reason; is = meets; about = inr not }
   about o (does read are say is founds found) meets two =
       let code = meets_judged (say founds).answer reply meets in
@@ -156,7 +156,7 @@ module _ {k : Kinds} (plan : Plan k) (files : Files) (reply : Reply) where
       all_early reply (seven_early _ (refused_code reply Missing _ _ meets)) _ []
   early o (misread read are input reason is) meets =
       all_early reply (two_early _ (refused_code reply BadForm _ _ meets)) _ []
-  early o (no_node file reason not) meets =
+  early o (no_party file reason not) meets =
       all_early reply (two_early _ (refused_code reply BadForm _ _ meets)) _ []
   early o (does read are say is founds found) meets =
       all_touched reply plan.journals founds (say founds).does
@@ -204,7 +204,7 @@ module _ (k : Kinds) (files : Files)
   valid plan o (too_long file long) = inl refl
   valid plan o (exists file bytes named there) = inl refl
   valid plan o (misread read are_read input reason is) = inl refl
-  valid plan o (no_node file reason not) = inl refl
+  valid plan o (no_party file reason not) = inl refl
   valid plan o (does read are_read say is founds found) =
       inr (each_soundly plan.journals founds (say founds).does found)
 
@@ -244,7 +244,7 @@ plan_new plan files o (absent file named none) = none_new files _
 plan_new plan files o (too_long file long) = none_new files _
 plan_new plan files o (exists file bytes named there) = none_new files _
 plan_new plan files o (misread read are input reason is) = none_new files _
-plan_new plan files o (no_node file reason not) = none_new files _
+plan_new plan files o (no_party file reason not) = none_new files _
 plan_new plan files o (does read are say is founds found) =
     each_new files plan.journals founds (say founds).does found
 
@@ -269,7 +269,7 @@ module _ {k : Kinds} (plan : Plan k) (files : Files) (status : Said) (text : Lis
       absurd (not_refused status text Missing (Some file) (codes "Exists") meets)
   passed o (misread read are input reason so) is meets =
       absurd (not_refused status text BadForm (Some input.file.name) reason meets)
-  passed o (no_node file reason not) is meets =
+  passed o (no_party file reason not) is meets =
       absurd (not_refused status text BadForm (Some file) reason meets)
   passed o (does read are say so founds found) is meets = record {
     read = read;

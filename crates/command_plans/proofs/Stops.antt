@@ -1,7 +1,7 @@
 -- A command that stops before its work has done what the outcome wants.
 use Rattle.std.proofs.Common.{◌≡◌, inl, inr, ℕ, Bool, true, List, [], ◌∷◌}
 use Rattle.std.proofs.Common.{IsSome, subst, sym, ◌∙◌, ap, refl}
-use Rattle.disk_core.specs.Moments.{OnlyReads}
+use Rattle.disk_core.specs.Times.{OnlyReads}
 use Rattle.disk_core.specs.declared.disk.Disk.{Ghosts}
 use Rattle.mtc_room.specs.declared.room.Room.{Ghosts as Rooms}
 use Rattle.mtc_command.specs.Answers.{Ending, IfReply, no_memory}

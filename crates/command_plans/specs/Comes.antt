@@ -28,7 +28,7 @@ pub data Comes {k : Kinds} (plan : Plan k) (files : Files) : Outcome → Type 0 
       → (read : Read plan.inputs) (reason : Text) → plan.steps reads ≡ misreads read reason
       → Comes plan files (stops_at BadForm read.file.name reason)
   -- A journal that it opens is none of its kind, or the file beside it lacks something.
-  no_node : (file reason : Text) → AnyIsRefused k files plan.journals file reason
+  no_party : (file reason : Text) → AnyIsRefused k files plan.journals file reason
       → Comes plan files (stops_at BadForm file reason)
   -- All its files are read and in their forms, its journals are found, and it does its work.
   does : (reads : ReadAll plan.inputs) → AreRead files plan.inputs plan.inputs reads

@@ -1,9 +1,9 @@
 -- What is so of every command, whatever its plan: what a status says, what was found of what it
 -- opens, and which tests a command has passed that did its work or judged.
 use Rattle.std.specs.Prelude.{◌≡◌, ◌≢◌, ◌⊎◌, List, [], ◌∷◌, None, Ok, Some}
-use Rattle.byte_formats.specs.Places.{IsBytes}
+use Rattle.byte_formats.specs.Offsets.{IsBytes}
 use Rattle.byte_formats.specs.Types.{Text}
-use Rattle.journal_core.specs.Folds.{state_behind}
+use Rattle.journal_core.specs.Folds.{state_after}
 use Rattle.journal_core.specs.Format.{Represents}
 use Rattle.mtc_command.specs.Answers.{Reply, IsEarly, refused, said, status_of}
 use Rattle.mtc_command.specs.Endings.{IsNamed}
@@ -66,7 +66,7 @@ module _ (k : Kinds) where
     pub there : files name ≡ Some bytes
     pub stands : Represents bytes list
     pub state : k.State kind
-    pub is : state_behind (k.fold kind) list ≡ Ok state
+    pub is : state_after (k.fold kind) list ≡ Ok state
 
   -- A journal that is opened has the records that were found; one that is made had no file.
   abbrev pub IsSoundly : Files → Journal k → Journaled → Type 0

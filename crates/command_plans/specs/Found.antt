@@ -44,7 +44,7 @@ module _ (k : Kinds) (files : Files) where
 
   -- It is none, and this file is refused for this reason: itself, since its bytes are no party's of
   -- the kind, or the file beside it for what that lacks.
-  pub record IsNoNode (kind : k.Kind) (name file reason : Text) : Type 0 where
+  pub record IsNoParty (kind : k.Kind) (name file reason : Text) : Type 0 where
     pub bytes : Text
     pub there : files name ≡ Some bytes
     pub why : k.Fault kind
@@ -62,7 +62,7 @@ module _ (k : Kinds) (files : Files) where
 
   abbrev pub IsRefused : k.Kind → Text → Text → Text → Type 0
   IsRefused kind name file reason =
-      IsNoNode kind name file reason ⊎ IsLacking kind name file reason
+      IsNoParty kind name file reason ⊎ IsLacking kind name file reason
 
   -- This holds of a journal of these that is opened.
   abbrev pub AnyIsRefused : List (Journal k) → Text → Text → Type 0

@@ -1,14 +1,14 @@
 -- Which lists of records are a party's of the kind that a command works on.
 use Rattle.std.specs.Prelude.{Bool, true, false, List, [], ◌∷◌, IsOk}
 use Rattle.byte_formats.specs.Types.{Text}
-use Rattle.journal_core.specs.Folds.{state_behind}
+use Rattle.journal_core.specs.Folds.{state_after}
 use Rattle.command_plans.specs.Kinds.{Kinds}
 use Rattle.command_plans.specs.Plans.{Journal, makes, opens}
 
 module _ (k : Kinds) where
   -- These records make a party of this kind.
   abbrev pub AreOfKind : k.Kind → List Text → Type 0
-  AreOfKind kind list = IsOk (state_behind (k.fold kind) list)
+  AreOfKind kind list = IsOk (state_after (k.fold kind) list)
 
   -- They make one of the kind of the first of these journals.
   abbrev pub AreOfFirst : List (Journal k) → List Text → Type 0

@@ -21,7 +21,7 @@ pub fn law_outcomes_come<K: JournalKinds>()
 /// about a file that the command reads, a journal that it opens and that is none of its kind, or a
 /// file beside one that lacks something. If a journal isn't opened, the status is one that may come
 /// before.
-pub fn law_statuses_tell<K: JournalKinds>()
+pub fn law_statuses_mean<K: JournalKinds>()
     ensures words { NoCommandIsBadWords K.kinds }
     ensures misread { MisreadIsAbout K.kinds }
     ensures early { UnopenedIsEarly K.kinds }

@@ -53,7 +53,7 @@ none_of_journal (Append why) kind = absurd kind
 pub refused : {H D : Type 0} {hashes : Hashes H} {g : Ghosts D} (it : KeylessCosigner H D hashes g)
     (body : Text) (next : CosignerState) (result : Result (Unit {0}) CosignError)
     (why : CosignError) → IsErrAnd result (λ e. e ≡ why) → IsOfRequest why
-    → ((c : Text) → g.left_since (disk_of it.journal) (g.moment (disk_of it.journal)) c
+    → ((c : Text) → g.left_since (disk_of it.journal) (g.clock_at (disk_of it.journal)) c
     → g.may_leave (disk_of it.journal) c)
     → OwnerAppends g of_cosigner_journal body next (keyless_owner it) (keyless_owner it) result
 refused {g = g} it body next result why is kind only_now =

@@ -8,7 +8,7 @@ use Rattle.byte_formats.specs.Readings.{some_or}
 use Rattle.byte_formats.proofs.Steps.{bind_ok, ok_is, some_or_ok}
 use Rattle.tree_proofs.specs.Checkpoints.{has_subtree, is_prefix_of}
 use Rattle.hss_core.specs.Counted.{Counted}
-use Rattle.journal_core.specs.Folds.{state_behind, taken_from}
+use Rattle.journal_core.specs.Folds.{state_after, taken_from}
 use Rattle.lms_core.specs.Heights.{height}
 use Rattle.cosigner_core.specs.Counts.{CountsUp, index_before, indices_in, indices_of}
 use Rattle.cosigner_core.specs.Folds.{CosignerState, after_step, begun_cosigner, cosigner_fold}
@@ -100,7 +100,7 @@ counts_begun h first s t indices is counts = go (cosigner_in first) is
 
 pub counts_up : (h : HashFunction) (list : List Text) (s : CosignerState)
     → cosigner_of h list ≡ Ok s → CountsUp list s
-unfolding state_behind indices_of
+unfolding state_after indices_of
 counts_up h [] s is = cc
 counts_up h (first ∷ bodies) s is =
     let step = bind_ok (some_or 0 (begun_cosigner h first))

@@ -6,7 +6,7 @@ use Rattle.std.proofs.lemmas.Bool.{eqb-true}
 use Rattle.std.proofs.lemmas.List.{length-append}
 use Rattle.std.specs.Int.{w8, w32, w64}
 use Rattle.byte_formats.specs.Types.{Hash, HashFunction, Text}
-use Rattle.byte_formats.specs.Places.{At, at, IsBytes}
+use Rattle.byte_formats.specs.Offsets.{At, at, IsBytes}
 use Rattle.byte_formats.specs.Forms.{Anything, FitsBoth, IsForm, both, itself}
 use Rattle.byte_formats.specs.Readings.{whole_of}
 use Rattle.byte_formats.proofs.FormLaws.{lifted_form, then_form, whole_again, whole_takes}

@@ -8,10 +8,10 @@ use Rattle.std.specs.List.{AllByRecursion}
 use Rattle.std.proofs.lemmas.Bool.{le-leb}
 use Rattle.std.proofs.lemmas.List.{length-append, length-take-le}
 use Rattle.byte_formats.specs.Types.{HashFunction, Text}
-use Rattle.byte_formats.specs.Places.{At, IsBytes, at}
+use Rattle.byte_formats.specs.Offsets.{At, IsBytes, at}
 use Rattle.byte_formats.specs.Readings.{some_or}
 use Rattle.byte_formats.proofs.Steps.{IsBytes-drop, IsBytes-take, bind_ok, ok_is, some_or_ok}
-use Rattle.journal_core.specs.Folds.{state_behind, taken_from}
+use Rattle.journal_core.specs.Folds.{state_after, taken_from}
 use Rattle.journal_core.specs.Format.{AreRecordsAt, IsRecordAt, Represents}
 use Rattle.lmots_core.specs.Strings.{u32_at}
 use Rattle.lms_core.specs.Heights.{height}
@@ -38,7 +38,7 @@ use Rattle.cosigner_core.specs.Records.{cosigner_in, step_in}
 use Rattle.cosigner_core.specs.declared.progress.Progress.{Progress}
 use Rattle.cosigner_core.specs.declared.settings.CosignerSettings.{CosignerSettings}
 use Rattle.cosigner_core.specs.declared.step.Step.{Step}
-use Rattle.cosigner_core.proofs.Behind.{brings}
+use Rattle.cosigner_core.proofs.After.{brings}
 use Rattle.cosigner_core.proofs.FirstRecords.{cosigner_takes, then_some}
 use Rattle.cosigner_core.proofs.Tagged.{some_value, when_some}
 
@@ -262,7 +262,7 @@ pub export_again : (h : HashFunction) (bytes : Text) (list : List Text) (s : Cos
     → (steps : List Step) × (steps_in (drop 1 list) ≡ Some steps)
     × (export_in h (export_text s list) ≡ Ok (Some (export_of s steps)))
     × (export_progress h (export_of s steps) ≡ Some (progress_of s))
-unfolding state_behind begun_cosigner
+unfolding state_after begun_cosigner
 export_again h bytes [] s are stands is =
     let wrong : Err 0 ≡ Ok s = is in absurd cc
 export_again h bytes (first ∷ bodies) s are stands is =

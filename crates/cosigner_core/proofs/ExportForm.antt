@@ -9,7 +9,7 @@ use Rattle.std.proofs.lemmas.Bool.{eqb-true}
 use Rattle.std.proofs.lemmas.List.{length-append, nil_from_length}
 use Rattle.byte_formats.specs.Types.{HashFunction, Text}
 use Rattle.byte_formats.specs.Forms.{Stands}
-use Rattle.byte_formats.specs.Places.{At, IsBytes, at}
+use Rattle.byte_formats.specs.Offsets.{At, IsBytes, at}
 use Rattle.byte_formats.specs.Readings.{◌>>=◌, blamed, both_at, lifted, some_or}
 use Rattle.byte_formats.proofs.Steps.{IsBytes-back, IsBytes-prefix, Stands-none, Stands-then}
 use Rattle.byte_formats.proofs.Steps.{bind_ok}

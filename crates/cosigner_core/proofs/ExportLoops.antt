@@ -5,7 +5,7 @@ use Rattle.std.proofs.Common.{Result, Ok, Err, refl, sym, ap, ◌∙◌, subst, 
 use Rattle.std.proofs.Common.{arith, ne_eqb, eq-eqb}
 use Rattle.std.proofs.lemmas.List.{length-append}
 use Rattle.byte_formats.specs.Types.{HashFunction}
-use Rattle.byte_formats.specs.Places.{At}
+use Rattle.byte_formats.specs.Offsets.{At}
 use Rattle.byte_formats.specs.Readings.{◌>>=◌}
 use Rattle.cosigner_core.specs.ExportReading.{all_exported_at, exported_at, steps_left}
 use Rattle.cosigner_core.specs.Progress.{first_progress, with_step}
@@ -14,16 +14,16 @@ use Rattle.cosigner_core.specs.declared.progress.Progress.{Progress}
 use Rattle.cosigner_core.specs.declared.step.Step.{Step}
 
 -- What is left gives these steps more.
-abbrev behind : List Step → Result (List Step × At) ReadExportError
+abbrev following : List Step → Result (List Step × At) ReadExportError
     → Result (List Step) ReadExportError
-behind seen r = r >>= λ (xs : List Step × At). Ok (seen ++ xs.0)
+following seen r = r >>= λ (xs : List Step × At). Ok (seen ++ xs.0)
 
 -- These steps were read, and reading on from here gives what the whole gives.
 pub record StepsLeft (h : HashFunction) (keys : ℕ) (total : Result (List Step) ReadExportError)
     (seen : List Step) (p : Progress) (a : At) : Type 0 where
   pub fuel : ℕ
   pub enough : length a.rest ≤ fuel
-  pub rest : behind seen (all_exported_at h keys fuel (length seen + 1) p a) ≡ total
+  pub rest : following seen (all_exported_at h keys fuel (length seen + 1) p a) ≡ total
 
 pub steps_from : (h : HashFunction) (keys : ℕ) (a : At) (seen : List Step) (p : Progress)
     → seen ≡ [] → p ≡ first_progress h → StepsLeft h keys (steps_left h keys a) seen p a
@@ -38,31 +38,31 @@ steps_from h keys a seen p none first =
       rest = refl;
     }))
 
-behind_one : (seen : List Step) (x : Step) (r : Result (List Step × At) ReadExportError)
-    → behind seen (r >>= λ (xs : List Step × At). Ok (x ∷ xs.0, xs.1))
-    ≡ behind (seen ++ x ∷ []) r
-behind_one seen x (Ok xs) = ap (λ (l : List Step). Ok l) (sym (append_assoc seen (x ∷ []) xs.0))
-behind_one seen x (Err e) = refl
+following_one : (seen : List Step) (x : Step) (r : Result (List Step × At) ReadExportError)
+    → following seen (r >>= λ (xs : List Step × At). Ok (x ∷ xs.0, xs.1))
+    ≡ following (seen ++ x ∷ []) r
+following_one seen x (Ok xs) = ap (λ (l : List Step). Ok l) (sym (append_assoc seen (x ∷ []) xs.0))
+following_one seen x (Err e) = refl
 
 step_more : (h : HashFunction) (keys n k : ℕ) (p : Progress) (seen : List Step) (a : At)
     (x : Step) (b : At) → exported_at h keys k p a ≡ Ok (x, b) → length a.rest ≢ 0
-    → behind seen (all_exported_at h keys (suc n) k p a)
-    ≡ behind (seen ++ x ∷ []) (all_exported_at h keys n (k + 1) (with_step p x) b)
+    → following seen (all_exported_at h keys (suc n) k p a)
+    ≡ following (seen ++ x ∷ []) (all_exported_at h keys n (k + 1) (with_step p x) b)
 unfolding all_exported_at
 step_more h keys n k p seen a x b step some =
     rw (
       ne_eqb (length a.rest) 0 some,
       step,
-    ) (behind_one seen x (all_exported_at h keys n (k + 1) (with_step p x) b))
+    ) (following_one seen x (all_exported_at h keys n (k + 1) (with_step p x) b))
 
 step_fails : (h : HashFunction) (keys n k : ℕ) (p : Progress) (seen : List Step) (a : At)
     (e : ReadExportError) → exported_at h keys k p a ≡ Err e → length a.rest ≢ 0
-    → behind seen (all_exported_at h keys (suc n) k p a) ≡ Err e
+    → following seen (all_exported_at h keys (suc n) k p a) ≡ Err e
 unfolding all_exported_at
 step_fails h keys n k p seen a e step some = rw (ne_eqb (length a.rest) 0 some, step) refl
 
 step_ends : (h : HashFunction) (keys n k : ℕ) (p : Progress) (seen : List Step) (a : At)
-    → length a.rest ≡ 0 → behind seen (all_exported_at h keys n k p a) ≡ Ok seen
+    → length a.rest ≡ 0 → following seen (all_exported_at h keys n k p a) ≡ Ok seen
 unfolding all_exported_at
 step_ends h keys zero k p seen a none = ap (λ (l : List Step). Ok l) (append-nil seen)
 step_ends h keys (suc n) k p seen a none =
@@ -84,14 +84,14 @@ steps_more h keys total seen next p q a number x b count step less grown moved w
     far = let long = length-append seen (x ∷ []) in omega arith
 
     go : (f : ℕ) → length a.rest ≤ f
-        → behind seen (all_exported_at h keys f (length seen + 1) p a) ≡ total
+        → following seen (all_exported_at h keys f (length seen + 1) p a) ≡ total
         → StepsLeft h keys total next q b
     go zero le e = absurd (omega arith)
     go (suc f) le e =
         let some : length a.rest ≢ 0 = omega arith in
-        let made : behind (seen ++ x ∷ [])
+        let made : following (seen ++ x ∷ [])
         (all_exported_at h keys f (length (seen ++ x ∷ []) + 1) (with_step p x) b) ≡ total =
-        ap (λ (k : ℕ). behind (seen ++ x ∷ []) (all_exported_at h keys f k (with_step p x) b))
+        ap (λ (k : ℕ). following (seen ++ x ∷ []) (all_exported_at h keys f k (with_step p x) b))
         (sym far)
         ∙ sym (step_more h keys f (length seen + 1) p seen a x b here some) ∙ e in
         subst (λ (s : List Step). StepsLeft h keys total s q b) (sym grown)
@@ -109,7 +109,7 @@ steps_fail h keys total seen p a number e count step some w = go w.fuel w.enough
     here = ap (λ (k : ℕ). exported_at h keys k p a) (sym count) ∙ step
 
     go : (f : ℕ) → length a.rest ≤ f
-        → behind seen (all_exported_at h keys f (length seen + 1) p a) ≡ total → total ≡ Err e
+        → following seen (all_exported_at h keys f (length seen + 1) p a) ≡ total → total ≡ Err e
     go zero le so_far = absurd (omega arith)
     go (suc f) le so_far =
         let other : length a.rest ≢ 0 = omega arith in

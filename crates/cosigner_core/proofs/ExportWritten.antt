@@ -8,7 +8,7 @@ use Rattle.std.specs.List.{AllByRecursion, concat}
 use Rattle.std.proofs.lemmas.Bool.{and_parts, eqb-true}
 use Rattle.std.proofs.lemmas.List.{length-append}
 use Rattle.byte_formats.specs.Types.{Hash, HashFunction, Text}
-use Rattle.byte_formats.specs.Places.{At}
+use Rattle.byte_formats.specs.Offsets.{At}
 use Rattle.hss_core.specs.Hss.{hss_key_types, with_levels}
 use Rattle.lmots_core.specs.Strings.{u32_at}
 use Rattle.lms_core.specs.Refusals.{key_types}
@@ -114,15 +114,15 @@ unfolding all_exported_at
 one_more h keys most k place p x xs fits allowed rest = record {
   end = rest.end;
   read =
-      let behind : Text = records_text (map step_record xs) in
-      let one = exported_again h keys k place p (step_record x) behind x (step_short x fits)
+      let following : Text = records_text (map step_record xs) in
+      let one = exported_again h keys k place p (step_record x) following x (step_short x fits)
       (step_again x fits) allowed in
-      let long : length (vector w32 (step_record x) ++ behind) ≢ 0 = omega (
+      let long : length (vector w32 (step_record x) ++ following) ≢ 0 = omega (
         arith,
-        length-append (vector w32 (step_record x)) behind,
+        length-append (vector w32 (step_record x)) following,
         length-append (to_be_bytes w32 (length (step_record x))) (step_record x),
       ) in
-      rw (ne_eqb (length (vector w32 (step_record x) ++ behind)) 0 long, one, rest.read) refl;
+      rw (ne_eqb (length (vector w32 (step_record x) ++ following)) 0 long, one, rest.read) refl;
 }
 
 steps_written : (h : HashFunction) (keys most k place : ℕ) (p q : Progress) (steps : List Step)

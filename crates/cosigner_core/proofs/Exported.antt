@@ -4,12 +4,12 @@ use Rattle.std.proofs.Common.{None, IfSome, option_map, Ok, Err, refl, ap, subst
 use Rattle.std.specs.Io.KnownBytes.{Appends}
 use Rattle.std.proofs.KnownBytes.{Appends-trans}
 use Rattle.byte_formats.specs.Types.{HashFunction, Text}
-use Rattle.byte_formats.specs.Places.{IsBytes}
+use Rattle.byte_formats.specs.Offsets.{IsBytes}
 use Rattle.journal_core.specs.Copies.{sized, sized_text}
 use Rattle.journal_core.specs.Ends.{StandBetween, durable_of}
-use Rattle.journal_core.specs.Folds.{state_behind}
-use Rattle.journal_core.specs.Format.{AreRecordsAt, end_behind}
-use Rattle.journal_core.proofs.Copies.{behind_first, first_are_bytes, prefix_behind}
+use Rattle.journal_core.specs.Folds.{state_after}
+use Rattle.journal_core.specs.Format.{AreRecordsAt, end_following}
+use Rattle.journal_core.proofs.Copies.{following_first, first_are_bytes, prefix_following}
 use Rattle.journal_core.proofs.Copies.{prefix_of_prefix}
 use Rattle.mtc_io.specs.Streams.{AppendsPrefix}
 use Rattle.hss_core.specs.Hss.{one_level_public}
@@ -29,17 +29,17 @@ same_text (body ∷ bodies) = ap (λ (rest : Text). sized body ++ rest) (same_te
 -- this is the end after the first record of such a cosigner, or that of its journal
 abbrev pub IsFirstEnd : CosignerState → ℕ → ℕ → Type 0
 IsFirstEnd s from end = (first : Text) → length first ≡ 59 + length s.id + length s.log
-    → from ≡ min (end_behind (first ∷ [])) end
+    → from ≡ min (end_following (first ∷ [])) end
 
 module _ (h : HashFunction) (s : CosignerState) (from end : ℕ) (is : IsFirstEnd s from end) where
   -- the records that are exported
   second : (bytes : Text) (list : List Text) → IsBytes bytes → AreRecordsAt bytes 16 list
-      → end ≡ end_behind list → cosigner_of h list ≡ Ok s
+      → end ≡ end_following list → cosigner_of h list ≡ Ok s
       → StandBetween bytes from end (drop 1 list)
-  unfolding state_behind
+  unfolding state_after
   second bytes [] are_bytes there last made = let wrong : Err 0 ≡ Ok s = made in absurd cc
   second bytes (first ∷ bodies) are_bytes there last made =
-      behind_first bytes first bodies from end there last (is first
+      following_first bytes first bodies from end there last (is first
       (first-long h first bodies s (first_are_bytes bytes first bodies are_bytes there) made))
 
 module _ (h : HashFunction) (s : CosignerState) (from end : ℕ) (is : IsFirstEnd s from end)
@@ -64,8 +64,8 @@ module _ (h : HashFunction) (s : CosignerState) (from end : ℕ) (is : IsFirstEn
       go (Some bytes) keeps are copied =
           let k = keeps bytes refl in
           let list = durable_of end bytes in
-          let there = second h s from end is bytes list (are bytes refl) k.settled.there
-          k.settled.last k.made in
+          let there = second h s from end is bytes list (are bytes refl) k.is_durable.there
+          k.is_durable.last k.made in
           then list (subst P (same_text (drop 1 list)) (copied (drop 1 list) there))
 
   pub export_whole : IfSome contents
@@ -81,7 +81,7 @@ module _ (h : HashFunction) (s : CosignerState) (from end : ℕ) (is : IsFirstEn
       (λ list. AppendsPrefix a c (export_text s list))
   export_prefix rest = exported (AppendsPrefix b c)
       (λ list. AppendsPrefix a c (export_text s list))
-      (λ list is. prefix_behind a b c (prefix_of s) (records_text (drop 1 list)) prefix is) rest
+      (λ list is. prefix_following a b c (prefix_of s) (records_text (drop 1 list)) prefix is) rest
 
 -- A prefix of what stands before the records.
 pub export_begun : (s : CosignerState) (contents : Option (List Text)) (a b : Option (List ℕ))

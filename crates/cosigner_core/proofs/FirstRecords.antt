@@ -7,7 +7,7 @@ use Rattle.std.specs.Int.{w8, w32}
 use Rattle.std.proofs.lemmas.Bool.{eqb-true}
 use Rattle.byte_formats.proofs.FormLaws.{whole_takes}
 use Rattle.byte_formats.specs.Types.{Text}
-use Rattle.byte_formats.specs.Places.{At, at, IsBytes}
+use Rattle.byte_formats.specs.Offsets.{At, at, IsBytes}
 use Rattle.byte_formats.specs.Forms.{both, itself}
 use Rattle.byte_formats.proofs.Steps.{IsBytes-back, IsBytes-prefix}
 use Rattle.byte_formats.specs.Readings.{whole_of}

@@ -5,7 +5,7 @@ use Rattle.std.specs.Prelude.{if◌then◌else◌, ◌==◌}
 use Rattle.std.specs.Int.{w8, w64}
 use Rattle.std.proofs.lemmas.List.{nil_from_length}
 use Rattle.byte_formats.specs.Types.{Hash, Text}
-use Rattle.byte_formats.specs.Places.{At, IsBytes, at, has_bytes}
+use Rattle.byte_formats.specs.Offsets.{At, IsBytes, at, has_bytes}
 use Rattle.byte_formats.specs.Readings.{Reading, both_at}
 use Rattle.byte_formats.specs.Forms.{Anything, FitsBoth, IsForm, both, itself}
 use Rattle.byte_formats.proofs.Steps.{bind_ok, has_bytes-some, ok_is, pass_ok, some-has_bytes}

@@ -3,7 +3,7 @@ use Rattle.std.proofs.Common.{◌≡◌, ℕ, ◌≤◌, length, take, nat_lt, O
 use Rattle.std.proofs.Common.{◌<◌, ◌^◌, ◌+◌, arith}
 use Rattle.std.proofs.lemmas.Bool.{ltb-false}
 use Rattle.std.proofs.lemmas.List.{length-take-le}
-use Rattle.byte_formats.specs.Places.{At, after}
+use Rattle.byte_formats.specs.Offsets.{At, after}
 use Rattle.byte_formats.specs.Types.{Text}
 use Rattle.byte_formats.proofs.Steps.{guard_ok, ok_is}
 use Rattle.lmots_core.specs.Parameters.{signature_length}

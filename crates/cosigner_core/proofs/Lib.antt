@@ -1,6 +1,6 @@
 pub mod Adds
 pub mod Allowed
-pub mod Behind
+pub mod After
 pub mod Counts
 pub mod ExportAgain
 pub mod ExportForm

@@ -2,10 +2,10 @@
 use Rattle.std.proofs.Common.{◌≡◌, ℕ, ◌+◌, List, [], ◌∷◌, length, Option, Some, None, Ok}
 use Rattle.std.proofs.Common.{option_map, option_and_then, refl, sym, ap, ◌∙◌, arith}
 use Rattle.byte_formats.specs.Types.{HashFunction, Text}
-use Rattle.byte_formats.specs.Places.{IsBytes}
+use Rattle.byte_formats.specs.Offsets.{IsBytes}
 use Rattle.byte_formats.specs.Readings.{some_or}
 use Rattle.byte_formats.proofs.Steps.{bind_ok, ok_is, some_or_ok}
-use Rattle.journal_core.specs.Folds.{state_behind, taken_from}
+use Rattle.journal_core.specs.Folds.{state_after, taken_from}
 use Rattle.cosigner_core.specs.Folds.{CosignerState, after_step, begun_cosigner, cosigner_fold}
 use Rattle.cosigner_core.specs.Folds.{cosigner_of}
 use Rattle.cosigner_core.specs.Folds.{key_count, new_cosigner, next_state, progress_of}
@@ -72,7 +72,7 @@ begun_long h first s bytes is = go (cosigner_in first) refl is
 pub first-long : (h : HashFunction) (first : Text) (bodies : List Text) (s : CosignerState)
     → IsBytes first → cosigner_of h (first ∷ bodies) ≡ Ok s
     → length first ≡ 59 + length s.id + length s.log
-unfolding state_behind
+unfolding state_after
 first-long h first bodies s bytes is =
     let step = bind_ok (some_or 0 (begun_cosigner h first))
     (λ (u : CosignerState). taken_from (cosigner_fold h) 1 u bodies) s is in

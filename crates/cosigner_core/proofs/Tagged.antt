@@ -4,7 +4,7 @@ use Rattle.std.proofs.Common.{Option, Some, None, Ok, refl}
 use Rattle.std.proofs.Common.{if◌then◌else◌}
 use Rattle.std.specs.Int.{w8}
 use Rattle.byte_formats.specs.Types.{Text}
-use Rattle.byte_formats.specs.Places.{At, at, IsBytes}
+use Rattle.byte_formats.specs.Offsets.{At, at, IsBytes}
 use Rattle.tls_wire.specs.Reading.{number_at}
 use Rattle.tls_wire.specs.Encoding.{number}
 use Rattle.tls_wire.proofs.Numbers.{number_form, wide8}

@@ -9,7 +9,7 @@ use Rattle.cosigner_core.specs.Folds.{CosignerState, cosigner_of}
 -- They stand in the bytes up to that end, and make this cosigner.
 pub record IsDurableAs (h : HashFunction) (s : CosignerState) (end : ℕ)
     (bytes : Text) : Type 0 where
-  pub settled : AreDurable end bytes
+  pub is_durable : AreDurable end bytes
   pub made : cosigner_of h (durable_of end bytes) ≡ Ok s
 
 -- it has one proof at most

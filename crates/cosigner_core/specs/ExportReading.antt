@@ -5,7 +5,7 @@ use Rattle.std.specs.Prelude.{if◌then◌else◌, map, ◌++◌}
 use Rattle.std.specs.Int.{w8, w16, w32}
 use Rattle.std.specs.List.{AllByRecursion}
 use Rattle.byte_formats.specs.Types.{HashFunction, Text}
-use Rattle.byte_formats.specs.Places.{At, at}
+use Rattle.byte_formats.specs.Offsets.{At, at}
 use Rattle.byte_formats.specs.Readings.{Reading, ◌>>=◌, blamed, both_at, lifted_at, some_or}
 use Rattle.hss_core.specs.Hss.{hss_key_types, one_level_public}
 use Rattle.lmots_core.specs.declared.parameters.OtsType.{OtsType}

@@ -5,7 +5,7 @@ use Rattle.std.specs.Prelude.{Result, if◌then◌else◌}
 use Rattle.byte_formats.specs.Types.{Hash, HashFunction, Text}
 use Rattle.tree_proofs.specs.Checkpoints.{empty_checkpoint}
 use Rattle.tree_proofs.specs.declared.checkpoint.Checkpoint.{Checkpoint}
-use Rattle.journal_core.specs.Folds.{Fold, state_behind}
+use Rattle.journal_core.specs.Folds.{Fold, state_after}
 use Rattle.state_journal.specs.declared.error.StateOpenError.{StateOpenError}
 use Rattle.state_journal.specs.declared.error.StateOpenError.TheVariants.{BadRecord, Open}
 use Rattle.hss_core.specs.Counted.{Counted}
@@ -91,4 +91,4 @@ cosigner_fold h =
 -- The cosigner of a journal with these records, or the number of the first record that breaks the
 -- rules. Without a record the first one is missing.
 abbrev pub cosigner_of : HashFunction → List Text → Result CosignerState ℕ
-cosigner_of h list = state_behind (cosigner_fold h) list
+cosigner_of h list = state_after (cosigner_fold h) list

@@ -2,7 +2,7 @@
 use Rattle.std.specs.Prelude.{ℕ, ◌==◌, List, length, Result, Ok, Err, if◌then◌else◌}
 use Rattle.std.specs.Int.{w8, w64}
 use Rattle.byte_formats.specs.Types.{Hash, Text}
-use Rattle.byte_formats.specs.Places.{at, has_bytes}
+use Rattle.byte_formats.specs.Offsets.{at, has_bytes}
 use Rattle.byte_formats.specs.Readings.{Reading, both_at, lifted_at, mapped_at, tested_at, ◌>>=◌}
 use Rattle.tls_wire.specs.declared.cursor.HashesError.{HashesError}
 use Rattle.tls_wire.specs.declared.cursor.HashesError.TheVariants.{HashLength as NoMultiple}

@@ -4,7 +4,7 @@ use Rattle.std.specs.Prelude.{◌≡◌, ℕ, ◌^◌, ◌<◌, ◌==◌, List, 
 use Rattle.std.specs.Prelude.{option_map, option_and_then, Result, Ok, Err, if◌then◌else◌}
 use Rattle.std.specs.Int.{w8, w32, w64}
 use Rattle.byte_formats.specs.Types.{Hash, Text}
-use Rattle.byte_formats.specs.Places.{At, at}
+use Rattle.byte_formats.specs.Offsets.{At, at}
 use Rattle.byte_formats.specs.Readings.{Reading, both_at, lifted_at, whole_of}
 use Rattle.lmots_core.specs.Parameters.{typecode, type_of_code}
 use Rattle.lmots_core.specs.declared.parameters.OtsType.{OtsType}

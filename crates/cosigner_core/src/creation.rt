@@ -2,7 +2,7 @@
 
 ghost use Rattle.std.specs.Prelude.{◌≡◌, ◌≢◌, [], ◌∷◌, Ok, IfSome, IfOk, IfErr};
 ghost use Rattle.byte_formats.specs.Types.{HashFunction};
-ghost use Rattle.disk_core.specs.Moments.{OnlyReads};
+ghost use Rattle.disk_core.specs.Times.{OnlyReads};
 ghost use Rattle.journal_core.specs.Packed.{first_body};
 ghost use Rattle.journal_core.specs.Starts.{HasStarted, IsNotStarted};
 ghost use Rattle.lms_core.specs.Heights.{IsSigningHeight};

@@ -98,7 +98,7 @@ fn read_record<'a, H: TreeHash>(
 ) -> Result<(StepRef<'a>, Progress), ReadExportError>
     ensures exact { Moves (λ x. step_said x.0) (exported_at H.hash keys number progress.now)
         cursor.old result cursor.new }
-    ensures behind { IfOk result (λ x. x.1 ≡ with_step progress.now (step_said x.0)) }
+    ensures following { IfOk result (λ x. x.1 ≡ with_step progress.now (step_said x.0)) }
     ensures forward { OnOk result (length cursor.new.rest < length cursor.old.rest) }
 {
     let body = vec32(cursor)?;
@@ -107,7 +107,7 @@ fn read_record<'a, H: TreeHash>(
         Err(_) => return Err(ReadExportError::BadRecord(number)),
     };
     match progress.after::<H>(keys, &step) {
-        Some(behind) => Ok((step, behind)),
+        Some(following) => Ok((step, following)),
         None => Err(ReadExportError::BadRecord(number)),
     }
 }
@@ -157,9 +157,9 @@ fn read_steps<H: TreeHash>(
     let mut steps = Vec::new(alloc);
     while cursor.left() > 0 {
         let number = steps.len() as u64 + 1;
-        let (step, behind) = read_record::<H>(&mut cursor, keys, number, &progress)?;
+        let (step, following) = read_record::<H>(&mut cursor, keys, number, &progress)?;
         push(alloc, &mut steps, &step)?;
-        progress = behind;
+        progress = following;
     }
     Ok(StepList::from_vec(steps))
 }

@@ -13,7 +13,7 @@ use tree_core::TreeHash;
 
 // The progress after one record more of a cosigner with so many one-time keys, if it may stand
 // there.
-fn behind<H: TreeHash>(progress: &Progress, keys: u32, body: &[u8]) -> Option<Progress>
+fn next_progress<H: TreeHash>(progress: &Progress, keys: u32, body: &[u8]) -> Option<Progress>
     ensures { result ≡ option_and_then (progress_after H.hash keys progress.now)
         (step_in body.now) }
 {
@@ -32,10 +32,10 @@ pub fn may_follow<H: TreeHash>(settings: &CosignerSettings, bodies: &[Bytes], bo
     let keys = settings.lms.leaves();
     let mut progress = Progress::empty::<H>();
     for earlier in bodies {
-        let Some(next) = behind::<H>(&progress, keys, earlier.as_slice()) else {
+        let Some(next) = next_progress::<H>(&progress, keys, earlier.as_slice()) else {
             return false;
         };
         progress = next;
     }
-    behind::<H>(&progress, keys, body).is_some()
+    next_progress::<H>(&progress, keys, body).is_some()
 }

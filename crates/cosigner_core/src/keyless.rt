@@ -5,7 +5,7 @@ ghost use Rattle.std.specs.Prelude.{IfErr, OnOk, OnErr};
 ghost use Rattle.std.proofs.Props.{props};
 ghost use Rattle.std.specs.Io.KnownBytes.{Appends};
 ghost use Rattle.mtc_io.specs.Streams.{AppendsPrefix};
-ghost use Rattle.disk_core.specs.Moments.{OnlyReads};
+ghost use Rattle.disk_core.specs.Times.{OnlyReads};
 ghost use Rattle.journal_core.specs.Copies.{HasCopyCause};
 ghost use Rattle.journal_core.specs.Owners.{OwnerAppends};
 ghost use Rattle.journal_core.specs.Words.{disk_of, end_of};
@@ -27,7 +27,7 @@ use crate::requests::{AdvanceRequest, SubtreeRequest};
 use crate::step_record::StepRecord;
 use disk_core::Disk;
 use hss_core::{Key, PUBLIC_KEY_LEN};
-use journal_core::{CopyError, Journal, Refused, copy_behind};
+use journal_core::{CopyError, Journal, Refused, copy_after};
 use mtc_io::{Failed, Memory, Sink};
 use mtc_proof::InputBuf;
 use state_journal::{append_to, open_state};
@@ -41,7 +41,7 @@ use tree_core::TreeHash;
 pub struct KeylessCosigner<H: TreeHash, D: Disk> {
     journal: Journal<D>,
     machine: Machine<H>,
-    ghost settled: { (b : List ℕ) → D.Disk.contents (disk_of journal) ≡ Some b → IsDurableAs
+    ghost is_durable: { (b : List ℕ) → D.Disk.contents (disk_of journal) ≡ Some b → IsDurableAs
         H.TreeHash.hash machine.contents (end_of journal) b } by { Prim.hlevel (
           props,
           IsDurableAs-prop,
@@ -187,8 +187,8 @@ impl<H: TreeHash, D: Disk> KeylessCosigner<H, D> {
         }
         let from = self
             .journal
-            .end_behind_first(first_size(&self.machine.contents));
-        copy_behind(&mut self.journal, from, out)
+            .end_after_first(first_size(&self.machine.contents));
+        copy_after(&mut self.journal, from, out)
     }
 
     /// The key, rebuilt from the secret: the one-time keys that have signed by the records are

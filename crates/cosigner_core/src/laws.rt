@@ -4,7 +4,7 @@ ghost use Rattle.std.specs.Prelude.{◌≡◌, ◌^◌, true, List, ◌∷◌, d
 ghost use Rattle.lms_core.specs.Heights.{height};
 ghost use Rattle.byte_formats.specs.Types.{HashFunction, Text};
 ghost use Rattle.byte_formats.specs.Forms.{Anything, IsForm};
-ghost use Rattle.byte_formats.specs.Places.{IsBytes};
+ghost use Rattle.byte_formats.specs.Offsets.{IsBytes};
 ghost use Rattle.journal_core.specs.Format.{Represents};
 ghost use Rattle.cosigner_core.specs.Counts.{AreCounted, CountsUp};
 ghost use Rattle.cosigner_core.specs.ExportReading.{IsExport, export_in, export_of};
@@ -102,7 +102,7 @@ pub fn law_exports_never_show_the_secret()
 /// follow it. The secret has no part in it, but for the key. No two of these have the number of one
 /// one-time key: the i-th number among them is i.
 pub fn law_cosigners_begin_with_their_settings()
-    ensures behind { (h : HashFunction) (first : Text) (s : CosignerSettings) (secret : Text)
+    ensures following { (h : HashFunction) (first : Text) (s : CosignerSettings) (secret : Text)
         (bodies : List Text) → cosigner_in first ≡ Some (s, secret)
         → is_ok (cosigner_of h (first ∷ bodies))
         ≡ may_follow_cosigner h (2 ^ height s.lms) bodies }

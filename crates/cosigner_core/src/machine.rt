@@ -69,7 +69,7 @@ impl<H: TreeHash> StateMachine for Machine<H> {
         }
     }
 
-    fn hand_back(_seed: ()) {}
+    fn return_rest(_seed: ()) {}
 
     fn into_rest(self) {}
 }

@@ -15,8 +15,8 @@ HasHashes (Sign index start end hash proof) = AllByRecursion (λ hash. length ha
 
 -- If a list begins with what a cosigner holds after all of its steps, each Sign among them is of
 -- the list, or the list and the proofs of the steps show two strings with one hash.
-abbrev pub OneListBehind : HashFunction → Type 0
-OneListBehind h = (entries : List Text) (steps : List Step) (step : Step) → AreSteps h steps
+abbrev pub OneListAfter : HashFunction → Type 0
+OneListAfter h = (entries : List Text) (steps : List Step) (step : Step) → AreSteps h steps
     → AllByRecursion HasHashes steps → HasPrefix h entries (held_by h steps) → Contains steps step
     → IsOfList h entries step
     ⊎ HasCollision h (prefix_inputs h entries steps) (proof_inputs h steps)

@@ -2,20 +2,20 @@
 
 ghost use Rattle.std.specs.Prelude.{◌≡◌, ℕ, IfSome, List, Ok, Option, Some};
 ghost use Rattle.std.specs.List.{AllByRecursion};
-ghost use Rattle.byte_formats.specs.Places.{IsBytes};
+ghost use Rattle.byte_formats.specs.Offsets.{IsBytes};
 ghost use Rattle.byte_formats.specs.Types.{HashFunction, Text};
 ghost use Rattle.cosigner_core.specs.ExportReading.{IsExport, export_in};
 ghost use Rattle.cosigner_core.specs.Progress.{first_progress, progress_by};
 ghost use Rattle.cosigner_core.specs.declared.lists.Export.{Export};
 ghost use Rattle.cosigner_core.specs.declared.progress.Progress.{Progress};
 ghost use Rattle.cosigner_core.specs.declared.step.Step.{Step};
-ghost use Rattle.cosigner_steps.specs.Laws.{HasHashes, OneListBehind};
+ghost use Rattle.cosigner_steps.specs.Laws.{HasHashes, OneListAfter};
 ghost use Rattle.cosigner_steps.specs.Steps.{AreSteps, held_by};
 
 use tree_core::TreeHash;
 
 /// The steps of what is read as an export, or is one by its rules, are allowed, and their proofs
-/// have 32-byte hashes, as [`law_one_list_is_behind`] asks.
+/// have 32-byte hashes, as [`law_exports_prove_one_list`] asks.
 pub fn law_exports_have_allowed_steps()
     ensures read { (h : HashFunction) (bytes : Text) (kept : Option Export) → IsBytes bytes
         → export_in h bytes ≡ Ok kept → IfSome kept (λ e. AreSteps h e.steps) }
@@ -35,6 +35,6 @@ pub fn law_steps_lead_to_what_is_held()
 /// its interval. Or else there are two different strings with one hash: the first is hashed in the
 /// tree hash of so many of the list's first entries as a checkpoint of the steps has, the second in
 /// the opening of their proofs.
-pub fn law_one_list_is_behind<H: TreeHash>()
-    ensures { OneListBehind H.hash }
+pub fn law_exports_prove_one_list<H: TreeHash>()
+    ensures { OneListAfter H.hash }
 {}

@@ -9,13 +9,13 @@ use Rattle.std.proofs.lemmas.Nat.{div-mul-add, mod-mul-add}
 use Rattle.std.proofs.lemmas.List.{take_at, drop_at, take-append-drop, length-append}
 use Rattle.std.proofs.lemmas.List.{length-take-le}
 use Rattle.byte_formats.specs.Types.{Text}
-use Rattle.byte_formats.specs.Places.{At, IsBytes, begins_with}
+use Rattle.byte_formats.specs.Offsets.{At, IsBytes, begins_with}
 use Rattle.byte_formats.specs.Readings.{◌>>=◌}
 use Rattle.byte_formats.proofs.Steps.{bind_ok, chosen, guard_ok, pass_ok, ok_is, IsBytes-rest}
 use Rattle.byte_formats.proofs.Steps.{IsBytes-prefix, IsBytes-back}
 use Rattle.der_core.specs.Elements.{length_octets, element, IsTag, FitsElement}
 use Rattle.der_core.specs.Items.{Item}
-use Rattle.der_core.specs.Reading.{tag_at, one_at, two_at, three_at, length_at, behind_tag}
+use Rattle.der_core.specs.Reading.{tag_at, one_at, two_at, three_at, length_at, after_tag}
 use Rattle.der_core.specs.Reading.{element_at, wanted_at}
 use Rattle.der_core.specs.Forms.{IsRead, element_item}
 use Rattle.der_core.specs.declared.fault.DerError.{DerError}
@@ -185,16 +185,16 @@ made place tag s s' w w' c c' r r' p q u v = cc
 -- An element after its tag, whatever encodes its length.
 cut_out : (place tag k : ℕ) (octets contents rest : Text) → length contents ≡ k
     → length_at place (octets ++ (contents ++ rest)) ≡ Ok (k, contents ++ rest)
-    → behind_tag (record { place = place; rest = tag ∷ (octets ++ contents) ++ rest }) tag (octets
+    → after_tag (record { place = place; rest = tag ∷ (octets ++ contents) ++ rest }) tag (octets
     ++ (contents ++ rest))
     ≡ element_read place tag (length (tag ∷ (octets ++ contents))) (tag ∷ (octets ++ contents))
     contents rest
-unfolding behind_tag
+unfolding after_tag
 cut_out place tag k octets contents rest count len =
     let text : Text = tag ∷ (octets ++ contents) in
     let all : Text = text ++ rest in
     let parts = length-append text rest in
-    let behind = length-append contents rest in
+    let following = length-append contents rest in
     let long : nat_lt (length (contents ++ rest)) k ≡ false = le-ltb _ _ (omega arith) in
     let size : length all - (length (contents ++ rest) - k) ≡ length text = omega arith in
     rw (len, long)
@@ -203,8 +203,8 @@ cut_out place tag k octets contents rest count len =
     (take_at contents rest k count)
     (ap (λ (n : ℕ). drop n all) size ∙ drop_at text rest (length text) refl))
 
-behind_again : (place tag : ℕ) (contents rest : Text) → length contents < 2 ^ 24
-    → behind_tag (record { place = place; rest = element tag contents ++ rest }) tag
+after_again : (place tag : ℕ) (contents rest : Text) → length contents < 2 ^ 24
+    → after_tag (record { place = place; rest = element tag contents ++ rest }) tag
     (length_octets (length contents) ++ (contents ++ rest))
     ≡ Ok (
       element_item tag contents place,
@@ -215,7 +215,7 @@ behind_again : (place tag : ℕ) (contents rest : Text) → length contents < 2 
       },
     )
 unfolding element
-behind_again place tag contents rest short =
+after_again place tag contents rest short =
     cut_out place tag (length contents) (length_octets (length contents)) contents rest refl
     (length_again place (length contents) (contents ++ rest) short)
 
@@ -236,7 +236,7 @@ is_read a tag contents rest e b h fits parts same =
     let others : IsBytes (contents ++ rest) =
     IsBytes-back (length_octets (length contents)) (contents ++ rest)
     (IsBytes-rest tag _ (subst IsBytes (parts ∙ element_parts tag contents rest) h)) in
-    let behind : IsBytes rest = IsBytes-back contents rest others in
+    let following : IsBytes rest = IsBytes-back contents rest others in
     subst P (ok_is DerError (
       element_item tag contents a.place,
       record {
@@ -246,7 +246,7 @@ is_read a tag contents rest e b h fits parts same =
       },
     ) (e, b) same) (
       record {
-        stands = record { parts = parts; place = refl; bytes = behind };
+        stands = record { parts = parts; place = refl; bytes = following };
         fits = fits;
         whole =
             refl;
@@ -257,11 +257,11 @@ is_read a tag contents rest e b h fits parts same =
     )
 
 -- The bytes of an element after its tag, cut out of what is left.
-behind_takes : (a : At) (tag : ℕ) (rest : Text) (e : Item) (b : At) → a.rest ≡ tag ∷ rest
-    → IsBytes a.rest → IsTag tag → behind_tag a tag rest ≡ Ok (e, b)
+after_takes : (a : At) (tag : ℕ) (rest : Text) (e : Item) (b : At) → a.rest ≡ tag ∷ rest
+    → IsBytes a.rest → IsTag tag → after_tag a tag rest ≡ Ok (e, b)
     → IsRead a e b × (e.tag ≡ tag)
-unfolding behind_tag
-behind_takes a tag rest e b cut h is_tag read =
+unfolding after_tag
+after_takes a tag rest e b cut h is_tag read =
     let s = bind_ok (length_at a.place rest)
     (λ (n : ℕ × Text). if nat_lt (length n.1) n.0 then Err (Truncated a.place)
     else element_read a.place tag (length a.rest - (length n.1 - n.0))
@@ -278,32 +278,33 @@ behind_takes a tag rest e b cut h is_tag read =
     (drop (length a.rest - (length others - n)) a.rest)) (e, b) s.2 in
     let le : n ≤ length others = ltb-false (length others) n g.0 in
     let contents : Text = take n others in
-    let behind : Text = drop n others in
+    let following : Text = drop n others in
     let count : length contents ≡ n = length-take-le n others le in
     let encoded : length_octets n ++ others ≡ length_octets (length contents)
-    ++ (contents ++ behind) = rw (count, take-append-drop n others) refl in
-    let rest_is : rest ≡ length_octets (length contents) ++ (contents ++ behind) = len.parts
+    ++ (contents ++ following) = rw (count, take-append-drop n others) refl in
+    let rest_is : rest ≡ length_octets (length contents) ++ (contents ++ following) = len.parts
     ∙ encoded in
-    let parts : a.rest ≡ element tag contents ++ behind = cut ∙ (ap (λ (t : Text). tag ∷ t) rest_is
-    ∙ sym (element_parts tag contents behind)) in
+    let parts : a.rest ≡ element tag contents ++ following =
+    cut ∙ (ap (λ (t : Text). tag ∷ t) rest_is
+    ∙ sym (element_parts tag contents following)) in
     let short : length contents < 2 ^ 24 = omega (arith, len.short) in
-    let moved : behind_tag a tag rest ≡ behind_tag (record {
+    let moved : after_tag a tag rest ≡ after_tag (record {
       place = a.place;
       rest =
-          element tag contents ++ behind;
+          element tag contents ++ following;
     }) tag (length_octets (length contents)
-    ++ (contents ++ behind)) =
-    ap (λ (t : Text). behind_tag (record { place = a.place; rest = t }) tag rest) parts
-    ∙ ap (λ (t : Text). behind_tag (record {
+    ++ (contents ++ following)) =
+    ap (λ (t : Text). after_tag (record { place = a.place; rest = t }) tag rest) parts
+    ∙ ap (λ (t : Text). after_tag (record {
       place = a.place;
       rest =
-          element tag contents ++ behind;
+          element tag contents ++ following;
     }) tag t) rest_is in
-    is_read a tag contents behind e b h (record {
+    is_read a tag contents following e b h (record {
       is_tag = is_tag;
       short =
           short;
-    }) parts (sym (behind_again a.place tag contents behind short) ∙ (sym moved ∙ read))
+    }) parts (sym (after_again a.place tag contents following short) ∙ (sym moved ∙ read))
 
 tag_takes : (place : ℕ) (bytes : Text) (tag : ℕ) (rest : Text) → IsBytes bytes
     → tag_at place bytes ≡ Ok (tag, rest) → (bytes ≡ tag ∷ rest) × IsTag tag
@@ -321,19 +322,19 @@ pub element_takes : (a : At) (e : Item) (b : At) → IsBytes a.rest → element_
     → IsRead a e b
 unfolding element_at
 element_takes a e b h read =
-    let s = bind_ok (tag_at a.place a.rest) (λ (t : ℕ × Text). behind_tag a t.0 t.1) (e, b) read in
+    let s = bind_ok (tag_at a.place a.rest) (λ (t : ℕ × Text). after_tag a t.0 t.1) (e, b) read in
     let t = tag_takes a.place a.rest s.0.0 s.0.1 h s.1 in
-    (behind_takes a s.0.0 s.0.1 e b t.0 h t.1 s.2).0
+    (after_takes a s.0.0 s.0.1 e b t.0 h t.1 s.2).0
 
 pub wanted_takes : (wanted : ℕ) (a : At) (e : Item) (b : At) → IsBytes a.rest
     → wanted_at wanted a ≡ Ok (e, b) → IsRead a e b × (e.tag ≡ wanted)
 unfolding wanted_at
 wanted_takes wanted a e b h read =
     let s = bind_ok (tag_at a.place a.rest) (λ (t : ℕ × Text). if t.0 == wanted
-    then behind_tag a t.0 t.1 else Err (WrongTag a.place)) (e, b) read in
+    then after_tag a t.0 t.1 else Err (WrongTag a.place)) (e, b) read in
     let t = tag_takes a.place a.rest s.0.0 s.0.1 h s.1 in
-    let g = pass_ok (s.0.0 == wanted) (behind_tag a s.0.0 s.0.1) (WrongTag a.place) (e, b) s.2 in
-    let found = behind_takes a s.0.0 s.0.1 e b t.0 h t.1 g.1 in
+    let g = pass_ok (s.0.0 == wanted) (after_tag a s.0.0 s.0.1) (WrongTag a.place) (e, b) s.2 in
+    let found = after_takes a s.0.0 s.0.1 e b t.0 h t.1 g.1 in
     (found.0, found.1 ∙ eqb-true s.0.0 wanted g.0)
 
 pub element_again : (tag : ℕ) (contents : Text) (place : ℕ) (rest : Text) → FitsElement tag contents
@@ -349,12 +350,12 @@ pub element_again : (tag : ℕ) (contents : Text) (place : ℕ) (rest : Text) �
 unfolding element_at
 element_again tag contents place rest fits =
     let a : At = record { place = place; rest = element tag contents ++ rest } in
-    let behind : Text = length_octets (length contents) ++ (contents ++ rest) in
-    let tagged : tag_at place (element tag contents ++ rest) ≡ Ok (tag, behind) =
+    let following : Text = length_octets (length contents) ++ (contents ++ rest) in
+    let tagged : tag_at place (element tag contents ++ rest) ≡ Ok (tag, following) =
     ap (tag_at place) (element_parts tag contents rest)
-    ∙ tag_again place tag behind fits.is_tag in
-    ap (λ (r : Result (ℕ × Text) DerError). r >>= λ t. behind_tag a t.0 t.1) tagged
-    ∙ behind_again place tag contents rest fits.short
+    ∙ tag_again place tag following fits.is_tag in
+    ap (λ (r : Result (ℕ × Text) DerError). r >>= λ t. after_tag a t.0 t.1) tagged
+    ∙ after_again place tag contents rest fits.short
 
 pub wanted_again : (tag : ℕ) (contents : Text) (place : ℕ) (rest : Text) → FitsElement tag contents
     → wanted_at tag (record { place = place; rest = element tag contents ++ rest })
@@ -369,14 +370,14 @@ pub wanted_again : (tag : ℕ) (contents : Text) (place : ℕ) (rest : Text) →
 unfolding wanted_at
 wanted_again tag contents place rest fits =
     let a : At = record { place = place; rest = element tag contents ++ rest } in
-    let behind : Text = length_octets (length contents) ++ (contents ++ rest) in
-    let tagged : tag_at place (element tag contents ++ rest) ≡ Ok (tag, behind) =
+    let following : Text = length_octets (length contents) ++ (contents ++ rest) in
+    let tagged : tag_at place (element tag contents ++ rest) ≡ Ok (tag, following) =
     ap (tag_at place) (element_parts tag contents rest)
-    ∙ tag_again place tag behind fits.is_tag in
+    ∙ tag_again place tag following fits.is_tag in
     let Wanted : Result (ℕ × Text) DerError → Result (Item × At) DerError =
-    λ r. r >>= λ t. if t.0 == tag then behind_tag a t.0 t.1 else Err (WrongTag place) in
+    λ r. r >>= λ t. if t.0 == tag then after_tag a t.0 t.1 else Err (WrongTag place) in
     let same : (tag == tag) ≡ true = eq-eqb tag tag refl in
-    ap Wanted tagged ∙ (rw same refl ∙ behind_again place tag contents rest fits.short)
+    ap Wanted tagged ∙ (rw same refl ∙ after_again place tag contents rest fits.short)
 
 -- An element has more bytes than its contents, and at most five more.
 pub element-longer : (tag : ℕ) (contents : Text) → length contents < length (element tag contents)

@@ -3,7 +3,7 @@
 use Rattle.std.proofs.Common.{◌≡◌, ℕ, ◌+◌, ◌-◌, ◌^◌, ◌<◌, [], ◌++◌, length, Result, Ok}
 use Rattle.std.proofs.Common.{refl, sym, subst}
 use Rattle.byte_formats.specs.Types.{Text}
-use Rattle.byte_formats.specs.Places.{At, IsBytes, at}
+use Rattle.byte_formats.specs.Offsets.{At, IsBytes, at}
 use Rattle.byte_formats.specs.Readings.{Reading, ◌>>=◌, discarded}
 use Rattle.byte_formats.specs.Forms.{Stands, IsForm, Anything, Nothing, IsEncoding, itself}
 use Rattle.byte_formats.proofs.Steps.{bind_ok, discarded_ok, ok_is}

@@ -8,7 +8,7 @@ use Rattle.std.specs.Ordering.{nat_cmp, is_gt}
 use Rattle.std.specs.Cmp.Lexicographic.{slice_cmp}
 use Rattle.std.proofs.lemmas.List.{nil_from_length}
 use Rattle.byte_formats.specs.Types.{Text}
-use Rattle.byte_formats.specs.Places.{At, IsBytes}
+use Rattle.byte_formats.specs.Offsets.{At, IsBytes}
 use Rattle.byte_formats.specs.Readings.{◌>>=◌, some_or}
 use Rattle.byte_formats.specs.Forms.{Stands, IsForm, Anything, Nothing, IsEncoding, itself}
 use Rattle.byte_formats.specs.Forms.{FitsEach}

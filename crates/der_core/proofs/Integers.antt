@@ -10,7 +10,7 @@ use Rattle.std.specs.Int.{w64, to_be_bytes, from_be_bytes}
 use Rattle.std.proofs.lemmas.Nat.{mul-add-lt, from_be_bytes-to_be_bytes_8}
 use Rattle.std.proofs.Math.Nat.{pow-le-pow_right, div-lt_iff_lt-mul, pow-zero}
 use Rattle.byte_formats.specs.Types.{Text}
-use Rattle.byte_formats.specs.Places.{IsBytes}
+use Rattle.byte_formats.specs.Offsets.{IsBytes}
 use Rattle.byte_formats.specs.Numbers.{value, digits}
 use Rattle.byte_formats.proofs.Steps.{guard_ok, ok_is, chosen, IsBytes-rest}
 use Rattle.byte_formats.proofs.Digits.{value-lt, value-digits, digits-value, power_pos}

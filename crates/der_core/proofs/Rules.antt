@@ -8,7 +8,7 @@ use Rattle.std.specs.List.{AllByRecursion}
 use Rattle.std.proofs.lemmas.Bool.{cases_lt}
 use Rattle.std.proofs.lemmas.Bool.{and_parts}
 use Rattle.byte_formats.specs.Types.{Text}
-use Rattle.byte_formats.specs.Places.{IsBytes}
+use Rattle.byte_formats.specs.Offsets.{IsBytes}
 use Rattle.byte_formats.specs.Forms.{itself}
 use Rattle.byte_formats.proofs.Steps.{guard_ok, pass_ok, chosen, ok_is}
 use Rattle.der_core.specs.declared.fault.DerError.{DerError}

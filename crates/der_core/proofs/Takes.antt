@@ -4,12 +4,12 @@ use Rattle.std.proofs.Common.{Result, Ok, Err, subst, arith, inl, inr}
 use Rattle.std.specs.Prelude.{if◌then◌else◌, ◌==◌, nat_lt}
 use Rattle.std.proofs.lemmas.List.{length-drop}
 use Rattle.byte_formats.specs.Types.{Text}
-use Rattle.byte_formats.specs.Places.{At, after}
+use Rattle.byte_formats.specs.Offsets.{At, after}
 use Rattle.byte_formats.specs.Readings.{Reading, ◌>>=◌}
 use Rattle.byte_formats.proofs.Left.{Takes}
 use Rattle.byte_formats.proofs.Steps.{bind_ok, chosen, guard_ok, lifted_ok, ok_is, pass_ok}
 use Rattle.der_core.specs.Items.{Item, inside}
-use Rattle.der_core.specs.Reading.{tag_at, one_at, two_at, three_at, length_at, behind_tag}
+use Rattle.der_core.specs.Reading.{tag_at, one_at, two_at, three_at, length_at, after_tag}
 use Rattle.der_core.specs.Reading.{element_at, wanted_at, end_at}
 use Rattle.der_core.specs.Fields.{der, inside_at}
 use Rattle.der_core.specs.declared.fault.DerError.{DerError}
@@ -74,10 +74,10 @@ length_shorter place (first ∷ bytes) v e =
 abbrev IsForward : At → Item × At → Type 0
 IsForward a x = length x.1.rest + 1 ≤ length a.rest
 
-behind_forward : (a : At) (tag : ℕ) (rest : Text) (x : Item × At) → length rest < length a.rest
-    → behind_tag a tag rest ≡ Ok x → IsForward a x
-unfolding behind_tag
-behind_forward a tag rest x less e =
+after_forward : (a : At) (tag : ℕ) (rest : Text) (x : Item × At) → length rest < length a.rest
+    → after_tag a tag rest ≡ Ok x → IsForward a x
+unfolding after_tag
+after_forward a tag rest x less e =
     let item : ℕ × Text → Item = λ n. record {
       tag = tag;
       place = a.place;
@@ -116,8 +116,8 @@ pub takes_element : Takes 1 element_at
 unfolding element_at
 takes_element = record {
   less = λ a x b e.
-      let s = bind_ok (tag_at a.place a.rest) (λ (t : ℕ × Text). behind_tag a t.0 t.1) (x, b) e in
-      behind_forward a s.0.0 s.0.1 (x, b) (tag_shorter a.place a.rest s.0 s.1) s.2;
+      let s = bind_ok (tag_at a.place a.rest) (λ (t : ℕ × Text). after_tag a t.0 t.1) (x, b) e in
+      after_forward a s.0.0 s.0.1 (x, b) (tag_shorter a.place a.rest s.0 s.1) s.2;
 }
 
 pub takes_wanted : (tag : ℕ) → Takes 1 (wanted_at tag)
@@ -125,9 +125,9 @@ unfolding wanted_at
 takes_wanted tag = record {
   less = λ a x b e.
       let s = bind_ok (tag_at a.place a.rest) (λ (t : ℕ × Text). if t.0 == tag
-      then behind_tag a t.0 t.1 else Err (WrongTag a.place)) (x, b) e in
-      let g = pass_ok (s.0.0 == tag) (behind_tag a s.0.0 s.0.1) (WrongTag a.place) (x, b) s.2 in
-      behind_forward a s.0.0 s.0.1 (x, b) (tag_shorter a.place a.rest s.0 s.1) g.1;
+      then after_tag a t.0 t.1 else Err (WrongTag a.place)) (x, b) e in
+      let g = pass_ok (s.0.0 == tag) (after_tag a s.0.0 s.0.1) (WrongTag a.place) (x, b) s.2 in
+      after_forward a s.0.0 s.0.1 (x, b) (tag_shorter a.place a.rest s.0 s.1) g.1;
 }
 
 -- What is read inside an element takes its bytes.

@@ -1,7 +1,7 @@
 -- Readings of the fields of a certificate, made of readings of elements.
 use Rattle.std.specs.Prelude.{ℕ, Result, Ok}
 use Rattle.byte_formats.specs.Types.{Text}
-use Rattle.byte_formats.specs.Places.{at}
+use Rattle.byte_formats.specs.Offsets.{at}
 use Rattle.byte_formats.specs.Readings.{Reading, ◌>>=◌, lifted, discarded, some_or}
 use Rattle.der_core.specs.Items.{inside}
 use Rattle.der_core.specs.Reading.{element_at, wanted_at, end_at}

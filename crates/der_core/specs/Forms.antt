@@ -6,7 +6,7 @@ use Rattle.std.specs.List.{AllByRecursion}
 use Rattle.std.specs.Ordering.{nat_cmp, is_gt}
 use Rattle.std.specs.Cmp.Lexicographic.{slice_cmp}
 use Rattle.byte_formats.specs.Types.{Text}
-use Rattle.byte_formats.specs.Places.{At, IsBytes}
+use Rattle.byte_formats.specs.Offsets.{At, IsBytes}
 use Rattle.byte_formats.specs.Forms.{Stands, itself}
 use Rattle.der_core.specs.Elements.{element, FitsElement}
 use Rattle.der_core.specs.Items.{Item}

@@ -1,7 +1,7 @@
 -- Elements as contracts see them.
 use Rattle.std.specs.Prelude.{ℕ, ◌+◌, ◌-◌, length}
 use Rattle.byte_formats.specs.Types.{Text}
-use Rattle.byte_formats.specs.Places.{At}
+use Rattle.byte_formats.specs.Offsets.{At}
 use Rattle.der_core.specs.declared.element.Element.{Element}
 
 -- An element without where it lies in memory: its tag, its offset in the input, all of its bytes,

@@ -2,7 +2,7 @@
 use Rattle.std.specs.Prelude.{ℕ, ◌+◌, ◌-◌, ◌*◌, ◌%◌, nat_lt, ◌==◌, [], ◌∷◌, length, take, Result}
 use Rattle.std.specs.Prelude.{Ok, Err, if◌then◌else◌}
 use Rattle.byte_formats.specs.Types.{Text}
-use Rattle.byte_formats.specs.Places.{At, after}
+use Rattle.byte_formats.specs.Offsets.{At, after}
 use Rattle.byte_formats.specs.Readings.{Reading, ◌>>=◌}
 use Rattle.der_core.specs.Items.{Item}
 use Rattle.der_core.specs.declared.fault.DerError.{DerError}
@@ -43,8 +43,8 @@ length_at place (first ∷ rest) =
     else Err (LongForm place))))
 
 -- After the tag come the length, and so many bytes. An element that ends past what is left is cut.
-unfoldable pub behind_tag : At → ℕ → Text → Result (Item × At) DerError
-behind_tag a tag rest = do
+unfoldable pub after_tag : At → ℕ → Text → Result (Item × At) DerError
+after_tag a tag rest = do
   n ← length_at a.place rest
   if nat_lt (length n.1) n.0 then Err (Truncated a.place)
       else (let size : ℕ = length a.rest - (length n.1 - n.0) in
@@ -55,13 +55,13 @@ behind_tag a tag rest = do
 
 -- An element with any tag.
 unfoldable pub element_at : Reading Item DerError
-element_at a = tag_at a.place a.rest >>= λ t. behind_tag a t.0 t.1
+element_at a = tag_at a.place a.rest >>= λ t. after_tag a t.0 t.1
 
 -- An element with this tag.
 unfoldable pub wanted_at : ℕ → Reading Item DerError
 wanted_at wanted a =
     tag_at a.place a.rest >>= λ t.
-    if t.0 == wanted then behind_tag a t.0 t.1 else Err (WrongTag a.place)
+    if t.0 == wanted then after_tag a t.0 t.1 else Err (WrongTag a.place)
 
 -- Nothing may follow the last field.
 abbrev pub end_at : At → Result (Unit {0}) DerError

@@ -3,7 +3,7 @@
 ghost use Rattle.std.specs.Prelude.{◌≡◌, ℕ, ◌+◌, ◌^◌, ◌<◌, [], ◌++◌, length, Some, Ok};
 ghost use Rattle.std.specs.List.{flat_map};
 ghost use Rattle.byte_formats.specs.Types.{Text};
-ghost use Rattle.byte_formats.specs.Places.{At, IsBytes};
+ghost use Rattle.byte_formats.specs.Offsets.{At, IsBytes};
 ghost use Rattle.byte_formats.specs.Forms.{IsForm, Nothing, FitsEach, itself};
 ghost use Rattle.der_core.specs.Elements.{element, FitsElement};
 ghost use Rattle.der_core.specs.Items.{Item};

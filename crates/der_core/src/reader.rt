@@ -1,10 +1,10 @@
 //! Reading elements, one after the other.
 
 ghost use Rattle.std.specs.Prelude.{◌≡◌, ◌+◌, ◌^◌, ◌<◌, ◌≤◌, ◌==◌, length, OnOk, IfOk};
-ghost use Rattle.byte_formats.specs.Places.{At, at, begins_with};
+ghost use Rattle.byte_formats.specs.Offsets.{At, at, begins_with};
 ghost use Rattle.byte_formats.specs.Readings.{Reads, Gives, found};
 ghost use Rattle.der_core.specs.Items.{item, inside};
-ghost use Rattle.der_core.specs.Reading.{length_at, one_at, two_at, three_at, behind_tag};
+ghost use Rattle.der_core.specs.Reading.{length_at, one_at, two_at, three_at, after_tag};
 ghost use Rattle.der_core.specs.Reading.{element_at, wanted_at, end_at};
 
 use crate::element::Element;
@@ -21,7 +21,7 @@ pub struct Reader<'a> {
 
 impl<'a> Model for Reader<'a> {
     ghost use Rattle.std.specs.Prelude.{◌+◌, ◌^◌, ◌<◌, length};
-    ghost use Rattle.byte_formats.specs.Places.{At};
+    ghost use Rattle.byte_formats.specs.Offsets.{At};
 
     ghost Value = { At };
 
@@ -106,7 +106,7 @@ impl<'a> Reader<'a> {
         match self.rest {
             [] => Err(DerError::WrongTag(self.place)),
             [tag, ..] if *tag % 32 == 31 => Err(DerError::HighTag(self.place)),
-            [tag, rest @ ..] => self.behind_tag(*tag, rest),
+            [tag, rest @ ..] => self.after_tag(*tag, rest),
         }
     }
 
@@ -119,29 +119,29 @@ impl<'a> Reader<'a> {
         match self.rest {
             [] => Err(DerError::WrongTag(self.place)),
             [tag, ..] if *tag % 32 == 31 => Err(DerError::HighTag(self.place)),
-            [tag, rest @ ..] if *tag == wanted => self.behind_tag(*tag, rest),
+            [tag, rest @ ..] if *tag == wanted => self.after_tag(*tag, rest),
             _ => Err(DerError::WrongTag(self.place)),
         }
     }
 
     // The element whose length and contents are in these bytes after its tag.
-    #[tactic(auto, unfolding(crate::specs::Reading::behind_tag))]
-    fn behind_tag(&mut self, tag: u8, rest: &'a [u8]) -> Result<Element<'a>, DerError>
+    #[tactic(auto, unfolding(crate::specs::Reading::after_tag))]
+    fn after_tag(&mut self, tag: u8, rest: &'a [u8]) -> Result<Element<'a>, DerError>
         requires { length rest.now < length self.old.rest }
-        ensures exact { Reads item (λ a. behind_tag a tag rest.now) self.old result self.new }
+        ensures exact { Reads item (λ a. after_tag a tag rest.now) self.old result self.new }
         ensures forward { OnOk result (length self.new.rest < length self.old.rest) }
     {
-        let (count, behind) = length(self.place, rest)?;
-        if behind.len() < count {
+        let (count, following) = length(self.place, rest)?;
+        if following.len() < count {
             return Err(DerError::Truncated(self.place));
         }
-        let size = self.rest.len() - (behind.len() - count);
+        let size = self.rest.len() - (following.len() - count);
         let (whole, others) = self.rest.split_at(size);
         let element = Element {
             tag,
             place: self.place,
             whole,
-            contents: &behind[..count],
+            contents: &following[..count],
         };
         self.place += size;
         self.rest = others;

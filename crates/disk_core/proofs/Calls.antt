@@ -8,18 +8,18 @@ use Rattle.std.proofs.lemmas.List.{length-append, take_all, take_more}
 use Rattle.byte_formats.specs.Types.{Text}
 use Rattle.disk_core.specs.Calls.{are_changes, calls_in, only_read}
 use Rattle.disk_core.specs.Fuse.{is_change}
-use Rattle.disk_core.specs.Replay.{State, run, settled, state_now, step}
+use Rattle.disk_core.specs.Replay.{State, run, synced, state_now, step}
 use Rattle.disk_core.specs.declared.memory.call.Change.{Change}
 use Rattle.disk_core.specs.declared.memory.call.Made.{Made}
 use Rattle.disk_core.proofs.Replay.{run-append}
 
 -- one call more that reads
-pub look_more : (changes : List Change) (only_reads : ℕ)
+pub more_only_read : (changes : List Change) (only_reads : ℕ)
     → calls_in changes (only_reads + 1) ≡ calls_in changes only_reads ++ only_read ∷ []
-look_more [] only_reads = replicate_next only_reads only_read
-look_more (change ∷ changes) only_reads =
+more_only_read [] only_reads = replicate_next only_reads only_read
+more_only_read (change ∷ changes) only_reads =
     ap (λ (rest : List Made). replicate change.only_reads only_read ++ change.made ∷ rest)
-    (look_more changes only_reads)
+    (more_only_read changes only_reads)
     ∙ sym (append_assoc (replicate change.only_reads only_read)
     (change.made ∷ calls_in changes only_reads)
     (only_read ∷ []))
@@ -83,7 +83,7 @@ changes_make s (change ∷ changes) only_reads =
 
 -- the state after so many of the changes
 abbrev pub state_in : Text → List Change → ℕ → State
-state_in first changes count = run (settled first) (kept_calls (take count changes))
+state_in first changes count = run (synced first) (kept_calls (take count changes))
 
 kept-append : (changes : List Change) (change : Change)
     → kept_calls (changes ++ change ∷ []) ≡ kept_calls changes ++ change.made ∷ []
@@ -96,10 +96,10 @@ pub state_in_more : (first : Text) (changes : List Change) (index : ℕ) (change
     → index < length changes → change ≡ get_or changes index change
     → state_in first changes (index + 1) ≡ step (state_in first changes index) change.made
 state_in_more first changes index change within is =
-    ap (λ (kept : List Change). run (settled first) (kept_calls kept))
+    ap (λ (kept : List Change). run (synced first) (kept_calls kept))
     (take_more changes index change within)
-    ∙ ap (run (settled first)) (kept-append (take index changes) (get_or changes index change))
-    ∙ run-append (settled first) (kept_calls (take index changes))
+    ∙ ap (run (synced first)) (kept-append (take index changes) (get_or changes index change))
+    ∙ run-append (synced first) (kept_calls (take index changes))
     (get_or changes index change).made
     ∙ ap (λ (c : Change). step (state_in first changes index) c.made) (sym is)
 
@@ -108,6 +108,6 @@ pub state_in_all : (first : Text) (changes : List Change) (count only_reads : �
     → length changes ≤ count
     → state_in first changes count ≡ state_now first (calls_in changes only_reads)
 state_in_all first changes count only_reads all =
-    ap (λ (kept : List Change). run (settled first) (kept_calls kept))
+    ap (λ (kept : List Change). run (synced first) (kept_calls kept))
     (take_all count changes all)
-    ∙ sym (changes_make (settled first) changes only_reads)
+    ∙ sym (changes_make (synced first) changes only_reads)

@@ -1,5 +1,5 @@
 pub mod Calls
-pub mod Moments
+pub mod Times
 pub mod Replay
 pub mod Torn
 pub mod Turns

@@ -6,7 +6,7 @@ use Rattle.std.proofs.lemmas.List.{take_all, take-append-le, length_push}
 use Rattle.std.proofs.lemmas.Bool.{cases_lt}
 use Rattle.disk_core.specs.Disk.{overwritten, Torn, Follows, NoNew, Only, Elapses}
 use Rattle.disk_core.specs.Writes.{torn_none}
-use Rattle.disk_core.specs.Replay.{State, settled, step, run, state_now, state_at, IsImage}
+use Rattle.disk_core.specs.Replay.{State, synced, step, run, state_now, state_at, IsCrashState}
 use Rattle.disk_core.specs.Replay.{LeftSince, after_call, noted, WritesBytes, AllWriteBytes}
 use Rattle.disk_core.specs.Replay.{HoldsBytes}
 use Rattle.disk_core.specs.declared.memory.call.Call.{Call}
@@ -22,45 +22,45 @@ run-append s (first ∷ calls) made = run-append (step s first) calls made
 pub state_pushed : (first : List ℕ) (calls next : List Made) (made : Made)
     → next ≡ calls ++ made ∷ []
     → state_now first next ≡ step (state_now first calls) made
-state_pushed first calls next made is = rw is (run-append (settled first) calls made)
+state_pushed first calls next made is = rw is (run-append (synced first) calls made)
 
 -- the times after one call more
 pub time_pushed : (first : List ℕ) (calls next : List Made) (made : Made)
     → next ≡ calls ++ made ∷ []
     → Elapses (length calls) (length next) (LeftSince first calls) (LeftSince first next)
-    (IsImage (state_now first next))
+    (IsCrashState (state_now first next))
 time_pushed first calls next made is =
     let longer : length next ≡ length calls + 1 = rw is (length_push calls made) in
     let prefix : (count : ℕ) → count ≤ length calls
     → state_at first next count ≡ state_at first calls count
     = λ count le. subst (λ (n : List Made). state_at first n count
     ≡ state_at first calls count) (sym is)
-    (ap (λ (kept : List Made). run (settled first) kept)
+    (ap (λ (kept : List Made). run (synced first) kept)
     (take-append-le count calls (made ∷ []) le)) in
     record {
       later = omega arith;
       nothing_else = λ t c le since. elim (cases_lt (length calls) since.0) [
-        | inl past ↦ inr (subst (λ (kept : List Made). IsImage (run (settled first) kept) c)
+        | inl past ↦ inr (subst (λ (kept : List Made). IsCrashState (run (synced first) kept) c)
             (take_all since.0 next (let l = since.2 in omega arith)) since.3)
         | inr within ↦ inl (
           since.0,
           since.1,
           within,
-          subst (λ (s : State). IsImage s c) (prefix since.0 within) since.3,
+          subst (λ (s : State). IsCrashState s c) (prefix since.0 within) since.3,
         )
       ];
       keeps = λ t c le since. (
         since.0,
         since.1,
         (let l = since.2 in omega arith),
-        subst (λ (s : State). IsImage s c) (sym (prefix since.0 since.2)) since.3,
+        subst (λ (s : State). IsCrashState s c) (sym (prefix since.0 since.2)) since.3,
       );
     }
 
 -- no call more
 pub time_same : (first : List ℕ) (calls next : List Made) → next ≡ calls
     → Elapses (length calls) (length next) (LeftSince first calls) (LeftSince first next)
-    (IsImage (state_now first next))
+    (IsCrashState (state_now first next))
 time_same first calls next is = rw is (record {
   later = omega arith;
   nothing_else =
@@ -71,30 +71,31 @@ time_same first calls next is = rw is (record {
 -- After a call that leaves the state alone a crash leaves nothing new.
 pub quiet_pushed : (first : List ℕ) (calls next : List Made) (made : Made)
     → ((s : State) → step s made ≡ s) → next ≡ calls ++ made ∷ []
-    → NoNew (IsImage (state_now first calls)) (IsImage (state_now first next))
+    → NoNew (IsCrashState (state_now first calls)) (IsCrashState (state_now first next))
 quiet_pushed first calls next made quiet is =
-    λ c now. subst (λ (s : State). IsImage s c) (state_pushed first calls next made is
+    λ c now. subst (λ (s : State). IsCrashState s c) (state_pushed first calls next made is
     ∙ quiet (state_now first calls)) now
 
 -- After a write, done or refused, each crash state is one from before, torn.
 pub torn_pushed : (first : List ℕ) (calls next : List Made) (place : ℕ) (piece : List ℕ) (ok : Bool)
     → next ≡ calls ++ record { call = Write place piece; ok = ok } ∷ []
-    → Follows (Torn place piece) (IsImage (state_now first calls))
-    (IsImage (state_now first next))
+    → Follows (Torn place piece) (IsCrashState (state_now first calls))
+    (IsCrashState (state_now first next))
 torn_pushed first calls next place piece ok is =
     λ c now.
     let made : Made = record { call = Write place piece; ok = ok } in
-    let (are, d, was, torn) = subst (λ (s : State). IsImage s c)
+    let (are, d, was, torn) = subst (λ (s : State). IsCrashState s c)
     (state_pushed first calls next made is) now in
     (d, was, torn)
 
 pub torn_same : (first : List ℕ) (calls next : List Made) (place : ℕ) (piece : List ℕ)
     → next ≡ calls
-    → Follows (Torn place piece) (IsImage (state_now first calls)) (IsImage (state_now first next))
+    → Follows (Torn place piece) (IsCrashState (state_now first calls))
+    (IsCrashState (state_now first next))
 torn_same first calls next place piece is =
     λ c now. (
       c,
-      subst (λ (kept : List Made). IsImage (state_now first kept) c) is now,
+      subst (λ (kept : List Made). IsCrashState (state_now first kept) c) is now,
       torn_none place piece c,
     )
 
@@ -104,9 +105,9 @@ pub sync_pushed : (first : List ℕ) (calls next : List Made) → next ≡ calls
       Sync;
   ok = true;
 } ∷ []
-    → Only (state_now first calls).seen (IsImage (state_now first next))
+    → Only (state_now first calls).seen (IsCrashState (state_now first next))
 sync_pushed first calls next is =
-    λ c now. subst (λ (s : State). IsImage s c) (state_pushed first calls next (record {
+    λ c now. subst (λ (s : State). IsCrashState s c) (state_pushed first calls next (record {
       call =
           Sync;
       ok = true;
@@ -162,5 +163,5 @@ quiet_writes Len ok quiet = tt
 quiet_writes (Read place size) ok quiet = tt
 quiet_writes (Write place piece) ok quiet =
     absurd (is_some_write (place, piece)
-    (ap (λ (s : State). s.writes) (quiet (settled []))))
+    (ap (λ (s : State). s.writes) (quiet (synced []))))
 quiet_writes Sync ok quiet = tt

@@ -1,4 +1,4 @@
--- A torn write in the words of single bytes.
+-- A torn write, byte by byte.
 use Rattle.std.proofs.Common.{◌≡◌, ◌⊎◌, inl, inr, ℕ, ◌+◌, ◌-◌, ◌<◌, ◌≤◌, ◌++◌, min, List, [], ◌∷◌}
 use Rattle.std.proofs.Common.{length, map, take, drop, slice_index, refl, ap, sym, ◌∙◌}
 use Rattle.std.proofs.Common.{subst, arith}
@@ -7,27 +7,28 @@ use Rattle.std.proofs.lemmas.Bool.{cases_lt, cases_eq}
 use Rattle.std.proofs.lemmas.List.{length-take, length-drop, get_or-take, get_or-drop, get_or_past}
 use Rattle.std.proofs.lemmas.List.{ext_get_or, drop-drop, take-append-drop, append_assoc}
 use Rattle.std.proofs.lemmas.List.FromFn.{length-map-range_with_len, get_or-map-range_with_len}
-use Rattle.byte_formats.specs.Places.{IsBytes}
+use Rattle.byte_formats.specs.Offsets.{IsBytes}
 use Rattle.disk_core.specs.Disk.{overwritten, part, Torn, Follows}
-use Rattle.disk_core.specs.Moments.{LeavesOnly}
-use Rattle.disk_core.specs.Replay.{IsImageOf}
+use Rattle.disk_core.specs.Times.{LeavesOnly}
+use Rattle.disk_core.specs.Replay.{IsCrashStateOf}
 use Rattle.disk_core.specs.Torn.{LeavesByte, AllLeaveByte, KeepsOthers, Extends, EachHas}
-use Rattle.disk_core.specs.Writes.{over_prefix, over_within, over_behind}
+use Rattle.disk_core.specs.Writes.{over_prefix, over_within, over_after}
 use Rattle.disk_core.specs.declared.disk.Disk.{Ghosts}
-use Rattle.disk_core.proofs.Moments.{weaker}
+use Rattle.disk_core.proofs.Times.{weaker}
 
 -- A write leaves a byte as it was exactly if it is the same after the write.
 leaves_same : (old : List ℕ) (i : ℕ) (write : ℕ × List ℕ) → i < length old
     → LeavesByte old i write
     → slice_index (overwritten write.0 write.1 old) i ≡ slice_index old i
 leaves_same old i write there (inl (inl prefix)) = over_prefix write.0 write.1 old i there prefix
-leaves_same old i write there (inl (inr behind)) = over_behind write.0 write.1 old i there behind
+leaves_same old i write there (inl (inr following)) =
+    over_after write.0 write.1 old i there following
 leaves_same old i write there (inr same) =
     elim (cases_lt i write.0) [
       | inl prefix ↦ over_prefix write.0 write.1 old i there prefix
       | inr from ↦ elim (cases_lt i (write.0 + length write.1)) [
         | inl within ↦ over_within write.0 write.1 old i there from within ∙ same
-        | inr behind ↦ over_behind write.0 write.1 old i there behind
+        | inr following ↦ over_after write.0 write.1 old i there following
       ]
     ]
 
@@ -39,7 +40,7 @@ same_leaves old i write there same =
       | inl prefix ↦ inl (inl prefix)
       | inr from ↦ elim (cases_lt i (write.0 + length write.1)) [
         | inl within ↦ inr (sym (over_within write.0 write.1 old i there from within) ∙ same)
-        | inr behind ↦ inl (inr behind)
+        | inr following ↦ inl (inr following)
       ]
     ]
 
@@ -86,7 +87,7 @@ torn_after place piece old new torn =
     get_or-take (length old - end) (drop end new) i 0 (omega arith)
     ∙ get_or-drop end new i 0
     ∙ torn.stays (end + i) (omega arith)
-    (over_behind place piece old (end + i) (omega arith) (omega arith))
+    (over_after place piece old (end + i) (omega arith) (omega arith))
     ∙ sym (get_or-drop end old i 0))
 
 -- What is there is written: nothing changes.
@@ -125,11 +126,11 @@ extends_torn place piece old new extends = record {
 }
 
 -- the same where a crash at any time leaves a crash state of such a write
-pub same_moments : {D : Type 0} (g : Ghosts D) (old new : D) (place : ℕ) (piece : List ℕ)
+pub same_clocks : {D : Type 0} (g : Ghosts D) (old new : D) (place : ℕ) (piece : List ℕ)
     → ((d : List ℕ) → g.may_leave old d → part place (length piece) d ≡ piece)
     → LeavesOnly g old new (λ c. (d : List ℕ) × g.may_leave old d × Torn place piece d c)
     → LeavesOnly g old new (λ c. (d : List ℕ) × g.may_leave old d × Extends d c)
-same_moments g old new place piece there run =
+same_clocks g old new place piece there run =
     weaker g old new _ _ (λ c (d, was, torn).
     (d, was, same_extends place piece d c (there d was) torn)) run
 
@@ -138,8 +139,8 @@ pub each_has_still : (place : ℕ) (piece : List ℕ) (old new : List ℕ → Ty
     → Follows (Torn place piece) old new → k < length piece
     → EachHas (place + k) (slice_index piece k) old
     → EachHas (place + k) (slice_index piece k) new
-each_has_still place piece old new k follows within has image now =
-    let (before, was, torn) = follows image now in
+each_has_still place piece old new k follows within has crash_state now =
+    let (before, was, torn) = follows crash_state now in
     let (there, is) = has before was in
     let longer = torn.no_shorter in
     let split : (place + k) - place ≡ k = omega arith in
@@ -150,12 +151,12 @@ each_has_still place piece old new k follows within has image now =
     (omega arith, torn.stays (place + k) there same ∙ is)
 
 -- every crash state has, as it was, what each write since the last sync leaves as it was
-pub image_keeps : (base : List ℕ) (writes : List (ℕ × List ℕ)) (image : List ℕ)
-    → IsImageOf base writes image → KeepsOthers writes base image
-image_keeps base [] image is = subst (λ (c : List ℕ). KeepsOthers [] base c) (sym is)
+pub crash_state_keeps : (base : List ℕ) (writes : List (ℕ × List ℕ)) (crash_state : List ℕ)
+    → IsCrashStateOf base writes crash_state → KeepsOthers writes base crash_state
+crash_state_keeps base [] crash_state is = subst (λ (c : List ℕ). KeepsOthers [] base c) (sym is)
     (record { no_shorter = omega arith; others = λ i there leaves. refl })
-image_keeps base (write ∷ writes) image (are, before, was, torn) =
-    let kept = image_keeps base writes before was in
+crash_state_keeps base (write ∷ writes) crash_state (are, before, was, torn) =
+    let kept = crash_state_keeps base writes before was in
     let longer = kept.no_shorter in
     record {
       no_shorter = let more = torn.no_shorter in omega arith;
@@ -183,7 +184,7 @@ one_leaves old i write =
           | inl same ↦ inl (inr same)
           | inr other ↦ inr (changed from within other)
         ]
-        | inr behind ↦ inl (inl (inr behind))
+        | inr following ↦ inl (inl (inr following))
       ]
     ]
   where
@@ -191,7 +192,7 @@ one_leaves old i write =
         → (slice_index write.1 (i - write.0) ≡ slice_index old i → ⊥)
         → LeavesByte old i write → ⊥
     changed from within other (inl (inl prefix)) = omega arith
-    changed from within other (inl (inr behind)) = omega arith
+    changed from within other (inl (inr following)) = omega arith
     changed from within other (inr same) = other same
 
 all_leave : (old : List ℕ) (i : ℕ) (writes : List (ℕ × List ℕ))
@@ -217,80 +218,82 @@ so (inr fails) a b p = absurd (fails p)
 
 -- The crash state before the newest write: as at the sync where all the older ones leave it so, and
 -- elsewhere as the crash state after the newest write.
-module _ (base image : List ℕ) (writes : List (ℕ × List ℕ)) where
+module _ (base crash_state : List ℕ) (writes : List (ℕ × List ℕ)) where
   abbrev byte_before : ℕ → ℕ
   byte_before i =
-      where_so (all_leave base i writes) (slice_index base i) (slice_index image i)
+      where_so (all_leave base i writes) (slice_index base i) (slice_index crash_state i)
 
-  abbrev image_before : List ℕ
-  image_before = map byte_before (range_with_len 0 (length base))
+  abbrev crash_state_before : List ℕ
+  crash_state_before = map byte_before (range_with_len 0 (length base))
 
-  before_length : length image_before ≡ length base
+  before_length : length crash_state_before ≡ length base
   before_length = length-map-range_with_len byte_before 0 (length base)
 
-  before_at : (i : ℕ) → i < length base → slice_index image_before i ≡ byte_before i
+  before_at : (i : ℕ) → i < length base → slice_index crash_state_before i ≡ byte_before i
   before_at i there =
       get_or-map-range_with_len byte_before 0 (length base) i i 0 there (omega arith)
 
-  before_is_one : IsBytes base → IsBytes image → (i : ℕ) → byte_before i < 256
-  before_is_one base_are image_are i = go (all_leave base i writes)
+  before_is_one : IsBytes base → IsBytes crash_state → (i : ℕ) → byte_before i < 256
+  before_is_one base_are crash_state_are i = go (all_leave base i writes)
     where
       go : (either : AllLeaveByte base i writes ⊎ (AllLeaveByte base i writes → ⊥))
-          → where_so either (slice_index base i) (slice_index image i) < 256
+          → where_so either (slice_index base i) (slice_index crash_state i) < 256
       go (inl all) = base_are i
-      go (inr changed) = image_are i
+      go (inr changed) = crash_state_are i
 
-  before_are : IsBytes base → IsBytes image → IsBytes image_before
-  before_are base_are image_are i =
+  before_are : IsBytes base → IsBytes crash_state → IsBytes crash_state_before
+  before_are base_are crash_state_are i =
       elim (cases_lt i (length base)) [
-        | inl there ↦ rw (before_at i there) (before_is_one base_are image_are i)
-        | inr past ↦ rw (get_or_past image_before i 0 (omega (arith, before_length))) (omega arith)
+        | inl there ↦ rw (before_at i there) (before_is_one base_are crash_state_are i)
+        | inr past ↦ rw (get_or_past crash_state_before i 0 (omega (arith, before_length)))
+            (omega arith)
       ]
 
-  before_keeps : length base ≤ length image → KeepsOthers writes base image_before
+  before_keeps : length base ≤ length crash_state → KeepsOthers writes base crash_state_before
   before_keeps longer = record {
     no_shorter = omega (arith, before_length);
     others = λ i there all. before_at i there
-        ∙ so (all_leave base i writes) (slice_index base i) (slice_index image i) all;
+        ∙ so (all_leave base i writes) (slice_index base i) (slice_index crash_state i) all;
   }
 
   -- the newest write leaves a byte of it as it is: so it is in the crash state after it
-  behind_it : (write : ℕ × List ℕ) → KeepsOthers (write ∷ writes) base image → (i : ℕ)
-      → i < length base → LeavesByte image_before i write
-      → slice_index image i ≡ slice_index image_before i
-  behind_it write keeps i there leaves = go (all_leave base i writes) (before_at i there) leaves
+  following_it : (write : ℕ × List ℕ) → KeepsOthers (write ∷ writes) base crash_state → (i : ℕ)
+      → i < length base → LeavesByte crash_state_before i write
+      → slice_index crash_state i ≡ slice_index crash_state_before i
+  following_it write keeps i there leaves = go (all_leave base i writes) (before_at i there) leaves
     where
       go : (either : AllLeaveByte base i writes ⊎ (AllLeaveByte base i writes → ⊥))
-          → slice_index image_before i
-          ≡ where_so either (slice_index base i) (slice_index image i)
-          → LeavesByte image_before i write → slice_index image i ≡ slice_index image_before i
+          → slice_index crash_state_before i
+          ≡ where_so either (slice_index base i) (slice_index crash_state i)
+          → LeavesByte crash_state_before i write
+          → slice_index crash_state i ≡ slice_index crash_state_before i
       go (inl all) is (inl outside) = keeps.others i there (inl outside, all) ∙ sym is
       go (inl all) is (inr same) = keeps.others i there (inr (same ∙ is), all) ∙ sym is
       go (inr changed) is leaves = sym is
 
-  before_torn : (write : ℕ × List ℕ) → KeepsOthers (write ∷ writes) base image
-      → Torn write.0 write.1 image_before image
+  before_torn : (write : ℕ × List ℕ) → KeepsOthers (write ∷ writes) base crash_state
+      → Torn write.0 write.1 crash_state_before crash_state
   before_torn write keeps =
       let longer = keeps.no_shorter in
       record {
         no_shorter = omega (arith, before_length);
         stays = λ i there same.
             let within : i < length base = omega (arith, before_length) in
-            behind_it write keeps i within (same_leaves image_before i write there same);
+            following_it write keeps i within (same_leaves crash_state_before i write there same);
       }
 
 -- what retains the other bytes is a crash state
-pub keeps_image : (base : List ℕ) (write : ℕ × List ℕ) (writes : List (ℕ × List ℕ))
-    (image : List ℕ)
-    → IsBytes base → IsBytes image → KeepsOthers (write ∷ writes) base image
-    → IsImageOf base (write ∷ writes) image
-keeps_image base write [] image base_are image_are keeps =
-    (image_are, base, refl, keeps_torn write.0 write.1 base image keeps)
-keeps_image base write (next ∷ writes) image base_are image_are keeps = (
-  image_are,
-  image_before base image (next ∷ writes),
-  keeps_image base next writes (image_before base image (next ∷ writes)) base_are
-      (before_are base image (next ∷ writes) base_are image_are)
-      (before_keeps base image (next ∷ writes) keeps.no_shorter),
-  before_torn base image (next ∷ writes) write keeps,
+pub keeps_crash_state : (base : List ℕ) (write : ℕ × List ℕ) (writes : List (ℕ × List ℕ))
+    (crash_state : List ℕ)
+    → IsBytes base → IsBytes crash_state → KeepsOthers (write ∷ writes) base crash_state
+    → IsCrashStateOf base (write ∷ writes) crash_state
+keeps_crash_state base write [] crash_state base_are crash_state_are keeps =
+    (crash_state_are, base, refl, keeps_torn write.0 write.1 base crash_state keeps)
+keeps_crash_state base write (next ∷ writes) crash_state base_are crash_state_are keeps = (
+  crash_state_are,
+  crash_state_before base crash_state (next ∷ writes),
+  keeps_crash_state base next writes (crash_state_before base crash_state (next ∷ writes)) base_are
+      (before_are base crash_state (next ∷ writes) base_are crash_state_are)
+      (before_keeps base crash_state (next ∷ writes) keeps.no_shorter),
+  before_torn base crash_state (next ∷ writes) write keeps,
 )

@@ -12,13 +12,13 @@ use Rattle.disk_core.specs.declared.memory.plan.Plan.{Plan}
 pub listed_made : (plan plan' : Plan) (past past' : History) (made : Made) (number : ℕ)
     → number ≡ length (made_calls past.calls) → Contains plan.failing.items number
     → made_calls past'.calls ≡ made_calls past.calls ++ made ∷ []
-    → plan'.starved ≡ plan.starved → plan'.faults ≡ with_count plan.faults 1
+    → plan'.failed_allocations ≡ plan.failed_allocations → plan'.faults ≡ with_count plan.faults 1
     → IsMade plan past made false plan' past'
-listed_made plan plan' past past' made number is listed calls starved faults = record {
+listed_made plan plan' past past' made number is listed calls failed_allocations faults = record {
   calls = calls;
   listed = λ _. refl;
   other = λ _. subst (Contains plan.failing.items) is listed;
-  starved = starved;
+  failed_allocations = failed_allocations;
   faults = faults;
 }
 
@@ -31,6 +31,6 @@ other_made plan past past' made number is other calls = record {
   calls = calls;
   listed = λ listed. absurd (other (subst (Contains plan.failing.items) (sym is) listed));
   other = λ wrong. absurd (true≢false wrong);
-  starved = refl;
+  failed_allocations = refl;
   faults = refl;
 }

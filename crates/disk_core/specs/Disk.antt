@@ -30,7 +30,7 @@ NoNew old new = (c : Text) → new c → old c
 
 -- a crash leaves these bytes and nothing else
 abbrev pub Only : Text → (Text → Type 0) → Type 0
-Only bytes images = (c : Text) → images c → c ≡ bytes
+Only bytes crash_states = (c : Text) → crash_states c → c ≡ bytes
 
 -- Time continues: a crash since a time might have left what it might have left before, or what it
 -- may leave now.

@@ -26,8 +26,8 @@ module _ {F : Type 0} where
   file_faults d = d.faults
 
   -- its clock
-  abbrev pub file_moment : FileDisk F → ℕ
-  file_moment d = d.clock
+  abbrev pub file_clock : FileDisk F → ℕ
+  file_clock d = d.clock
 
   -- a sync of it has failed
   abbrev pub is_file_lost : FileDisk F → Bool

@@ -4,7 +4,7 @@ pub mod File
 pub mod Fuse
 pub mod History
 pub mod Memory
-pub mod Moments
+pub mod Times
 pub mod Noted
 pub mod Plan
 pub mod Replay

@@ -25,8 +25,8 @@ abbrev pub bytes_of : MemDisk → Text
 bytes_of m = seen_of m.past
 
 -- what a crash now may leave
-abbrev pub images_of : MemDisk → Text → Type 0
-images_of m = left_of m.past
+abbrev pub crash_states_of : MemDisk → Text → Type 0
+crash_states_of m = left_of m.past
 
 -- the known length
 abbrev pub known_of : MemDisk → ℕ
@@ -45,8 +45,8 @@ abbrev pub faults_of : MemDisk → ℕ
 faults_of m = m.plan.faults
 
 -- the count of those that found no memory
-abbrev pub starved_of : MemDisk → ℕ
-starved_of m = m.plan.starved
+abbrev pub failed_allocations_of : MemDisk → ℕ
+failed_allocations_of m = m.plan.failed_allocations
 
 -- a disk over these bytes that has had no call
 pub record IsFresh (bytes : Text) (m : MemDisk) : Type 0 where
@@ -54,4 +54,4 @@ pub record IsFresh (bytes : Text) (m : MemDisk) : Type 0 where
   pub calls : calls_of m ≡ []
   pub known : known_of m ≡ 0
   pub faults : faults_of m ≡ 0
-  pub starved : starved_of m ≡ 0
+  pub failed_allocations : failed_allocations_of m ≡ 0

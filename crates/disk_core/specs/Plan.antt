@@ -17,16 +17,16 @@ pub record IsMade (plan : Plan) (past : History) (made : Made) (ok : Bool)
   pub calls : made_calls past'.calls ≡ made_calls past.calls ++ made ∷ []
   pub listed : Contains plan.failing.items (length (made_calls past.calls)) → ok ≡ false
   pub other : ok ≡ false → Contains plan.failing.items (length (made_calls past.calls))
-  pub starved : plan'.starved ≡ plan.starved
+  pub failed_allocations : plan'.failed_allocations ≡ plan.failed_allocations
   pub faults : plan'.faults ≡ (if ok then plan.faults else with_count plan.faults 1)
 
 -- The call finds no memory, or no number is left: it fails, takes none, and is counted once in each
 -- count.
-pub record IsStarved (plan : Plan) (past : History) (ok : Bool)
+pub record FailsAllocation (plan : Plan) (past : History) (ok : Bool)
     (plan' : Plan) (past' : History) : Type 0 where
   pub failed : ok ≡ false
   pub calls : made_calls past'.calls ≡ made_calls past.calls
-  pub starved : plan'.starved ≡ with_count plan.starved 1
+  pub failed_allocations : plan'.failed_allocations ≡ with_count plan.failed_allocations 1
   pub faults : plan'.faults ≡ with_count plan.faults 1
 
 -- a call, as the record and the counts show it: it is made, or it finds no memory
@@ -34,11 +34,11 @@ pub record NotedTurn (plan : Plan) (past : History) (made : Made) (ok : Bool)
     (plan' : Plan) (past' : History) : Type 0 where
   pub first : past'.first ≡ past.first
   pub failing : plan'.failing ≡ plan.failing
-  pub either : IsMade plan past made ok plan' past' ⊎ IsStarved plan past ok plan' past'
+  pub either : IsMade plan past made ok plan' past' ⊎ FailsAllocation plan past ok plan' past'
 
 -- A call that only reads takes no memory: it is counted as long as there is a number for it. The
 -- record of changes doesn't grow.
-pub record LookTurn (plan : Plan) (past : History) (ok : Bool)
+pub record ReadTurn (plan : Plan) (past : History) (ok : Bool)
     (plan' : Plan) (past' : History) : Type 0 where
   pub turn : NotedTurn plan past only_read ok plan' past'
   pub changes : past'.calls.changes.items ≡ past.calls.changes.items
@@ -47,8 +47,8 @@ pub record LookTurn (plan : Plan) (past : History) (ok : Bool)
 
 -- One call of a disk in memory.
 abbrev pub PlanTurn : Plan → History → Call → Bool → Plan → History → Type 0
-PlanTurn plan past Len ok plan' past' = LookTurn plan past ok plan' past'
-PlanTurn plan past (Read place size) ok plan' past' = LookTurn plan past ok plan' past'
+PlanTurn plan past Len ok plan' past' = ReadTurn plan past ok plan' past'
+PlanTurn plan past (Read place size) ok plan' past' = ReadTurn plan past ok plan' past'
 PlanTurn plan past (Write place piece) ok plan' past' =
     NotedTurn plan past (record { call = Write place piece; ok = ok }) ok plan' past'
 PlanTurn plan past Sync ok plan' past' =

@@ -2,7 +2,7 @@
 use Rattle.std.specs.Prelude.{◌≡◌, ℕ, ◌≤◌, Bool, if◌then◌else◌, List, [], ◌∷◌, ◌++◌, length, take}
 use Rattle.std.proofs.Props.{props}
 use Rattle.byte_formats.specs.Types.{Text}
-use Rattle.byte_formats.specs.Places.{IsBytes}
+use Rattle.byte_formats.specs.Offsets.{IsBytes}
 use Rattle.disk_core.specs.Disk.{overwritten, Torn}
 use Rattle.disk_core.specs.declared.memory.call.Call.{Call}
 use Rattle.disk_core.specs.declared.memory.call.Call.TheVariants.{Len, Read, Write, Sync}
@@ -16,8 +16,8 @@ pub record State : Type 0 where
   pub writes : List (ℕ × Text)
 
 -- all of it is on the disk
-abbrev pub settled : Text → State
-settled bytes = record { seen = bytes; base = bytes; writes = [] }
+abbrev pub synced : Text → State
+synced bytes = record { seen = bytes; base = bytes; writes = [] }
 
 -- A write that is refused is not seen, but a crash may leave of it what it may leave of any write.
 -- A sync makes what is seen durable, unless it is refused.
@@ -29,7 +29,7 @@ after_call s (Write place piece) ok =
       seen = if ok then overwritten place piece s.seen else s.seen;
       writes = (place, piece) ∷ s.writes;
     }
-after_call s Sync ok = if ok then settled s.seen else s
+after_call s Sync ok = if ok then synced s.seen else s
 
 -- one call more of a record
 abbrev pub step : State → Made → State
@@ -42,26 +42,26 @@ run s (made ∷ calls) = run (step s made) calls
 
 -- now
 abbrev pub state_now : Text → List Made → State
-state_now first calls = run (settled first) calls
+state_now first calls = run (synced first) calls
 
 -- after so many of the calls
 abbrev pub state_at : Text → List Made → ℕ → State
-state_at first calls count = run (settled first) (take count calls)
+state_at first calls count = run (synced first) (take count calls)
 
 -- what a crash may leave: what was there at the last sync, with each write since torn in some way
 -- that leaves bytes
-abbrev pub IsImageOf : Text → List (ℕ × Text) → Text → Type 0
-IsImageOf base [] c = c ≡ base
-IsImageOf base (write ∷ writes) c =
-    IsBytes c × (d : Text) × IsImageOf base writes d × Torn write.0 write.1 d c
+abbrev pub IsCrashStateOf : Text → List (ℕ × Text) → Text → Type 0
+IsCrashStateOf base [] c = c ≡ base
+IsCrashStateOf base (write ∷ writes) c =
+    IsBytes c × (d : Text) × IsCrashStateOf base writes d × Torn write.0 write.1 d c
 
-abbrev pub IsImage : State → Text → Type 0
-IsImage s c = IsImageOf s.base s.writes c
+abbrev pub IsCrashState : State → Text → Type 0
+IsCrashState s c = IsCrashStateOf s.base s.writes c
 
 -- what a crash may have left after so many of the calls or more
 abbrev pub LeftSince : Text → List Made → ℕ → Text → Type 0
 LeftSince first calls t c =
-    (count : ℕ) × (t ≤ count) × (count ≤ length calls) × IsImage (state_at first calls count) c
+    (count : ℕ) × (t ≤ count) × (count ≤ length calls) × IsCrashState (state_at first calls count) c
 
 -- a record with one call more, unless no memory was found for it
 abbrev pub noted : Bool → Call → Bool → List Made → List Made

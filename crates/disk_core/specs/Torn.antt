@@ -1,4 +1,4 @@
--- What a crash may leave of writes, in the words of single bytes.
+-- What a crash may leave of writes, byte by byte.
 use Rattle.std.specs.Prelude.{◌≡◌, ◌⊎◌, ℕ, ◌+◌, ◌-◌, ◌<◌, ◌≤◌, List, [], ◌∷◌, length, take}
 use Rattle.std.specs.Prelude.{slice_index}
 use Rattle.byte_formats.specs.Types.{Text}
@@ -30,4 +30,5 @@ Extends old new = take (length old) new ≡ old
 
 -- each crash state has this byte at that offset
 abbrev pub EachHas : ℕ → ℕ → (Text → Type 0) → Type 0
-EachHas i byte images = (c : Text) → images c → (i < length c) × (slice_index c i ≡ byte)
+EachHas i byte crash_states =
+    (c : Text) → crash_states c → (i < length c) × (slice_index c i ≡ byte)

@@ -8,7 +8,7 @@ use Rattle.std.proofs.lemmas.List.{get_or-drop, get_or_append_left, get_or-appen
 use Rattle.std.proofs.lemmas.List.{get_or-append_right}
 use Rattle.std.proofs.lemmas.Bool.{cases_lt}
 use Rattle.byte_formats.specs.Types.{Text}
-use Rattle.byte_formats.specs.Places.{IsBytes}
+use Rattle.byte_formats.specs.Offsets.{IsBytes}
 use Rattle.byte_formats.proofs.Steps.{IsBytes-take, IsBytes-drop}
 use Rattle.disk_core.specs.Disk.{overwritten, Torn}
 
@@ -46,15 +46,15 @@ over_within place piece old i there from within =
     ∙ get_or-append_right (take place old) piece place i 0 prefix from
 
 -- one after it
-pub over_behind : (place : ℕ) (piece old : Text) (i : ℕ) → i < length old
+pub over_after : (place : ℕ) (piece old : Text) (i : ℕ) → i < length old
     → place + length piece ≤ i
     → slice_index (overwritten place piece old) i ≡ slice_index old i
-over_behind place piece old i there behind =
+over_after place piece old i there following =
     let prefix : length (take place old ++ piece) ≡ place + length piece
     = simp (length-append, length-take) (omega arith) in
     let split : (place + length piece) + (i - (place + length piece)) ≡ i = omega arith in
     get_or-append_right (take place old ++ piece) (drop (place + length piece) old)
-    (place + length piece) i 0 prefix behind
+    (place + length piece) i 0 prefix following
     ∙ get_or-drop (place + length piece) old (i - (place + length piece)) 0
     ∙ ap (λ (n : ℕ). slice_index old n) split
 
@@ -77,7 +77,7 @@ torn_other place piece other old few same_there = record {
           over_within place other old i there from within
           ∙ same_there (i - place) (omega arith) (omega arith)
           (sym (over_within place piece old i there from (omega arith)) ∙ same ∙ sym at) ∙ at
-      | inr behind ↦ over_behind place other old i there behind
+      | inr following ↦ over_after place other old i there following
     ]
   ];
 }

@@ -4,7 +4,7 @@ ghost use Rattle.std.specs.Prelude.{◌≡◌, ℕ, ◌+◌, ◌^◌, ◌<◌, �
 ghost use Rattle.std.specs.Prelude.{is_ok, option_map, Some, IfSome, IfOk, OnOk, OnErr};
 ghost use Rattle.std.specs.Prelude.{MatchResult};
 ghost use Rattle.byte_formats.specs.Types.{Text};
-ghost use Rattle.byte_formats.specs.Places.{IsBytes};
+ghost use Rattle.byte_formats.specs.Offsets.{IsBytes};
 ghost use Rattle.mtc_io.specs.Counts.{Rose, HasCause};
 ghost use Rattle.disk_core.specs.Disk.{overwritten, part, Torn, Follows, NoNew, Only, Elapses};
 ghost use Rattle.disk_core.specs.declared.memory.call.Call.{Call};
@@ -27,7 +27,7 @@ pub trait Disk {
     ghost known: { Self → ℕ };
 
     /// The clock, a number that never falls.
-    ghost moment: { Self → ℕ };
+    ghost clock_at: { Self → ℕ };
 
     /// The crash states: the bytes that a crash now may leave.
     ghost may_leave: { Self → Text → Type 0 };
@@ -39,8 +39,8 @@ pub trait Disk {
     /// The count of its failures, which rises with each call that fails.
     ghost faults: { Self → ℕ };
 
-    /// What a type says beside the rest of one call: of the disk before it, what was asked, whether
-    /// it was answered Ok, and of the disk after it.
+    /// What a type says in addition to the rest of one call: of the disk before it, what was asked,
+    /// whether it was answered Ok, and of the disk after it.
     ghost turn: { Self → Call → Bool → Self → Type 0 } = { λ _ _ _ _. Unit {0} };
 
     /// The number of bytes.
@@ -50,9 +50,9 @@ pub trait Disk {
             (λ _. known self.new ≡ known self.old) }
         ensures contents { contents self.new ≡ contents self.old }
         ensures crash { NoNew (may_leave self.old) (may_leave self.new) }
-        ensures time { Elapses (moment self.old) (moment self.new) (left_since self.old)
+        ensures time { Elapses (clock_at self.old) (clock_at self.new) (left_since self.old)
             (left_since self.new) (may_leave self.new) }
-        ensures clock { OnOk result (Rose (moment self.old) (moment self.new)) }
+        ensures clock { OnOk result (Rose (clock_at self.old) (clock_at self.new)) }
         ensures cause { HasCause (faults self.old) (faults self.new) result }
         ensures turn { turn self.old Len (is_ok result) self.new };
 
@@ -64,9 +64,9 @@ pub trait Disk {
         ensures known { known self.new ≡ known self.old }
         ensures contents { contents self.new ≡ contents self.old }
         ensures crash { NoNew (may_leave self.old) (may_leave self.new) }
-        ensures time { Elapses (moment self.old) (moment self.new) (left_since self.old)
+        ensures time { Elapses (clock_at self.old) (clock_at self.new) (left_since self.old)
             (left_since self.new) (may_leave self.new) }
-        ensures clock { OnOk result (Rose (moment self.old) (moment self.new)) }
+        ensures clock { OnOk result (Rose (clock_at self.old) (clock_at self.new)) }
         ensures cause { HasCause (faults self.old) (faults self.new) result }
         ensures turn { turn self.old (Read place (length out.old)) (is_ok result) self.new };
 
@@ -83,9 +83,9 @@ pub trait Disk {
             (is_some (contents self.new) ≡ is_some (contents self.old)) }
         ensures crash { Follows (Torn place bytes.now) (may_leave self.old)
             (may_leave self.new) }
-        ensures time { Elapses (moment self.old) (moment self.new) (left_since self.old)
+        ensures time { Elapses (clock_at self.old) (clock_at self.new) (left_since self.old)
             (left_since self.new) (may_leave self.new) }
-        ensures clock { OnOk result (Rose (moment self.old) (moment self.new)) }
+        ensures clock { OnOk result (Rose (clock_at self.old) (clock_at self.new)) }
         ensures cause { HasCause (faults self.old) (faults self.new) result }
         ensures turn { turn self.old (Write place bytes.now) (is_ok result) self.new };
 
@@ -96,14 +96,14 @@ pub trait Disk {
         ensures known { known self.new ≡ known self.old }
         ensures contents { contents self.new ≡ contents self.old }
         ensures crash { NoNew (may_leave self.old) (may_leave self.new) }
-        ensures time { Elapses (moment self.old) (moment self.new) (left_since self.old)
+        ensures time { Elapses (clock_at self.old) (clock_at self.new) (left_since self.old)
             (left_since self.new) (may_leave self.new) }
-        ensures clock { OnOk result (Rose (moment self.old) (moment self.new)) }
+        ensures clock { OnOk result (Rose (clock_at self.old) (clock_at self.new)) }
         ensures cause { HasCause (faults self.old) (faults self.new) result }
         ensures turn { turn self.old Sync (is_ok result) self.new };
 
     /// What a read gives is one of the crash states.
-    ghost reads_image: { (d : Self) (b : Text) → contents d ≡ Some b → may_leave d b };
+    ghost reads_crash_state: { (d : Self) (b : Text) → contents d ≡ Some b → may_leave d b };
 
     /// What the model knows are bytes.
     ghost contents_bytes: { (d : Self) (b : Text) → contents d ≡ Some b → IsBytes b };
@@ -112,11 +112,11 @@ pub trait Disk {
     ghost known_there: { (d : Self) (b : Text) → contents d ≡ Some b → known d ≤ length b };
 
     /// This time is one of those since an earlier one.
-    ghost counts_now: { (d : Self) (t : ℕ) (c : Text) → t ≤ moment d → may_leave d c
+    ghost counts_now: { (d : Self) (t : ℕ) (c : Text) → t ≤ clock_at d → may_leave d c
         → left_since d t c };
 
     /// Since this time there is no other.
-    ghost only_now: { (d : Self) (c : Text) → left_since d (moment d) c → may_leave d c };
+    ghost only_now: { (d : Self) (c : Text) → left_since d (clock_at d) c → may_leave d c };
 
     /// What a crash leaves are bytes, at any time.
     ghost left_bytes: { (d : Self) (t : ℕ) (c : Text) → left_since d t c → IsBytes c };

@@ -1,9 +1,9 @@
 //! An open file as a disk.
 
 ghost use Rattle.std.specs.Prelude.{◌≡◌, ◌≤◌, None, false, if◌then◌else◌, is_err, IfOk, OnOk};
-ghost use Rattle.byte_formats.specs.Places.{IsBytes};
+ghost use Rattle.byte_formats.specs.Offsets.{IsBytes};
 ghost use Rattle.mtc_io.specs.Counts.{Rose, HasCause, with_count};
-ghost use Rattle.disk_core.specs.File.{open_file, file_faults, file_known, file_moment, FileTurn};
+ghost use Rattle.disk_core.specs.File.{open_file, file_faults, file_known, file_clock, FileTurn};
 ghost use Rattle.disk_core.specs.File.{is_file_lost};
 
 use crate::disk::Disk;
@@ -30,11 +30,12 @@ pub struct FileDisk<F = File> {
 
 impl<F: OpenFile + FileExt> FileDisk<F> {
     /// The file as it stands, with a known length of 0, no failure so far, not lost, and the clock
-    /// at its start.
-    pub fn new(file: F) -> FileDisk<F>
+    /// at its start. It takes no lock and syncs nothing: whoever else opens the file is not kept
+    /// out.
+    pub fn unlocked(file: F) -> FileDisk<F>
         ensures file { open_file result ≡ file }
         ensures known { file_known result ≡ 0 }
-        ensures moment { file_moment result ≡ 0 }
+        ensures clock_at { file_clock result ≡ 0 }
         ensures faults { file_faults result ≡ 0 }
         ensures kept { is_file_lost result ≡ false }
     {
@@ -92,7 +93,7 @@ impl<F: OpenFile + FileExt> Disk for FileDisk<F> {
 
     ghost known = { λ d. d.known };
 
-    ghost moment = { λ d. d.clock };
+    ghost clock_at = { λ d. d.clock };
 
     ghost may_leave = { λ _ c. IsBytes c };
 
@@ -130,7 +131,7 @@ impl<F: OpenFile + FileExt> Disk for FileDisk<F> {
         answer
     }
 
-    ghost reads_image = { λ _ _ is. Prim.cc };
+    ghost reads_crash_state = { λ _ _ is. Prim.cc };
 
     ghost contents_bytes = { λ _ _ is _. Prim.cc };
 

@@ -84,7 +84,7 @@ impl<D: Disk> Disk for Fuse<D> {
 
     ghost known = { λ f. D.Disk.known f.disk };
 
-    ghost moment = { λ f. D.Disk.moment f.disk };
+    ghost clock_at = { λ f. D.Disk.clock_at f.disk };
 
     ghost may_leave = { λ f. D.Disk.may_leave f.disk };
 
@@ -114,7 +114,7 @@ impl<D: Disk> Disk for Fuse<D> {
         self.disk.sync()
     }
 
-    ghost reads_image = { λ f b is. D.Disk.reads_image f.disk b is };
+    ghost reads_crash_state = { λ f b is. D.Disk.reads_crash_state f.disk b is };
 
     ghost contents_bytes = { λ f b is. D.Disk.contents_bytes f.disk b is };
 

@@ -2,10 +2,10 @@
 
 ghost use Rattle.std.specs.Prelude.{◌≡◌, ◌↔◌, ℕ, ◌+◌, ◌<◌, List, [], ◌∷◌, length, slice_index};
 ghost use Rattle.byte_formats.specs.Types.{Text};
-ghost use Rattle.byte_formats.specs.Places.{IsBytes};
+ghost use Rattle.byte_formats.specs.Offsets.{IsBytes};
 ghost use Rattle.disk_core.specs.Disk.{part, Torn, Follows};
-ghost use Rattle.disk_core.specs.Moments.{LeavesOnly};
-ghost use Rattle.disk_core.specs.Replay.{IsImageOf};
+ghost use Rattle.disk_core.specs.Times.{LeavesOnly};
+ghost use Rattle.disk_core.specs.Replay.{IsCrashStateOf};
 ghost use Rattle.disk_core.specs.Torn.{KeepsOthers, Extends, EachHas};
 
 use crate::disk::Disk;
@@ -23,26 +23,26 @@ pub fn law_a_torn_write_keeps_others()
 /// the bytes in which each byte below the end at the sync is as it was there, if all of these
 /// writes leave it so.
 pub fn law_torn_writes_keep_others()
-    ensures kept { (base : Text) (writes : List (ℕ × Text)) (image : Text)
-        → IsImageOf base writes image → KeepsOthers writes base image }
-    ensures all { (base : Text) (write : ℕ × Text) (writes : List (ℕ × Text)) (image : Text)
-        → IsBytes base → IsBytes image → KeepsOthers (write ∷ writes) base image
-        → IsImageOf base (write ∷ writes) image }
+    ensures kept { (base : Text) (writes : List (ℕ × Text)) (crash_state : Text)
+        → IsCrashStateOf base writes crash_state → KeepsOthers writes base crash_state }
+    ensures all { (base : Text) (write : ℕ × Text) (writes : List (ℕ × Text)) (crash_state : Text)
+        → IsBytes base → IsBytes crash_state → KeepsOthers (write ∷ writes) base crash_state
+        → IsCrashStateOf base (write ∷ writes) crash_state }
 {}
 
 /// The law of a write of what is there: its crash states are exactly the old one with anything
 /// after its end (`exact`). So if each crash state of a disk has the written bytes, a crash leaves
-/// only a crash state from before, with anything after its end: after the write (`images`), and at
-/// any time of it (`moments`). And if each crash state has a byte of it, so has each crash state
-/// after the write (`byte`).
+/// only a crash state from before, with anything after its end: after the write (`crash_states`),
+/// and at any time of it (`times`). And if each crash state has a byte of it, so has each crash
+/// state after the write (`byte`).
 pub fn law_bytes_written_again_stay<D: Disk>()
     ensures exact { (place : ℕ) (piece old new : Text) → part place (length piece) old ≡ piece
         → (Torn place piece old new ↔ Extends old new) }
-    ensures images { (place : ℕ) (piece : Text) (old new : D)
+    ensures crash_states { (place : ℕ) (piece : Text) (old new : D)
         → ((d : Text) → D.may_leave old d → part place (length piece) d ≡ piece)
         → Follows (Torn place piece) (D.may_leave old) (D.may_leave new)
         → Follows Extends (D.may_leave old) (D.may_leave new) }
-    ensures moments { (place : ℕ) (piece : Text) (old new : D)
+    ensures times { (place : ℕ) (piece : Text) (old new : D)
         → ((d : Text) → D.may_leave old d → part place (length piece) d ≡ piece)
         → LeavesOnly D.Disk old new (λ c. (d : Text) × D.may_leave old d × Torn place piece d c)
         → LeavesOnly D.Disk old new (λ c. (d : Text) × D.may_leave old d × Extends d c) }

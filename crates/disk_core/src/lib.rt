@@ -6,9 +6,9 @@
 //! a machine does. [`FileDisk`] is an open file, of which the model knows nothing: that the
 //! operating system follows the rules until a sync of it fails is taken on trust.
 //!
-//! A user takes three kinds of step: it reads ([`look_len`], [`look_at`]), it makes what is there
-//! durable ([`settle`]), or it writes and syncs ([`write_synced`]). What these ensure is all that a
-//! layer above needs.
+//! A user takes three kinds of step: it reads ([`read_len`], [`read_part`]), it makes what is there
+//! durable ([`make_durable`]), or it writes and syncs ([`write_synced`]). What these ensure is all
+//! that a layer above needs.
 #![tactic(auto)]
 
 mod disk;
@@ -23,4 +23,4 @@ pub use disk::Disk;
 pub use file::FileDisk;
 pub use fuse::Fuse;
 pub use memory::{Call, Change, Made, MemDisk};
-pub use steps::{look_at, look_len, settle, write_synced};
+pub use steps::{make_durable, read_len, read_part, write_synced};

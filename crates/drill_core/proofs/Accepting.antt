@@ -18,7 +18,7 @@ use Rattle.authority_core.specs.Acceptance.{IsSetUpFor, StoresAccept}
 use Rattle.authority_core.specs.Certificates.{proof_for}
 use Rattle.authority_core.specs.Issuing.{entry_for, tbs_for}
 use Rattle.authority_core.specs.Requests.{CanBeIssued, RequestParts}
-use Rattle.drill_nodes.specs.Ids.{drill_log_id}
+use Rattle.drill_parties.specs.Ids.{drill_log_id}
 use Rattle.drill_core.specs.Entries.{request_for}
 use Rattle.drill_core.specs.LightStores.{IsDueEntry}
 use Rattle.drill_core.specs.Stores.{IsDrillEntry, StoresAcceptNow}

@@ -22,10 +22,10 @@ use Rattle.world_core.specs.Audit.{AuditCase, IsAudit}
 use Rattle.world_core.specs.declared.answer.Audit.{Audit}
 use Rattle.world_core.specs.declared.answer.Audit.TheVariants.{Foreign, Pair, Stands, Unrecorded}
 use Rattle.drill_core.specs.Audits.{StandsBy, StandsByExport, StandsWith}
-use Rattle.drill_nodes.specs.CosignerNodes.{IsCosignerDisk}
+use Rattle.drill_parties.specs.CosignerParties.{IsCosignerDisk}
 use Rattle.drill_core.specs.Listed.{log_items}
-use Rattle.drill_nodes.specs.Disks.{records_on}
-use Rattle.drill_nodes.proofs.Exported.{steps_again}
+use Rattle.drill_parties.specs.Disks.{records_on}
+use Rattle.drill_parties.proofs.Exported.{steps_again}
 
 -- where an audit may answer that the entry stands, it answers nothing else
 pub stands_only : (h : HashFunction) (x : AuditCase) (index : ℕ) (answer : Audit)
@@ -38,9 +38,9 @@ stands_only h x index Unrecorded may is =
     let wrong : true ≡ false = sym may.supported ∙ is.lacks in
     absurd cc
 stands_only h x index (Stands place) may is =
-    ap Stands (is.settles.1 ∙ sym may.settles.1)
+    ap Stands (is.decides.1 ∙ sym may.decides.1)
 stands_only h x index (Pair one other) may is =
-    let wrong : true ≡ false = sym may.settles.0 ∙ is.settles.0 in
+    let wrong : true ≡ false = sym may.decides.0 ∙ is.decides.0 in
     absurd cc
 
 abbrev the_case : Store → ItemLists → Export → Accepted → Parts → ProofParts → AuditCase
@@ -90,7 +90,7 @@ stands_so h store cert items kept a c p answer index judged read proof_read same
       read = read;
       proof_read = proof_read;
       stands = subst (λ (i : ℕ). IsAudit h (the_case store items kept a c p) (Stands i))
-          so.settles.1 so;
+          so.decides.1 so;
     }
 
 -- the same with the file of an export

@@ -9,13 +9,13 @@ use Rattle.tree_proofs.specs.Checkpoints.{empty_checkpoint}
 use Rattle.issuance_log.specs.Folds.{new_log}
 use Rattle.cosigner_core.specs.Folds.{CosignerState, new_cosigner}
 use Rattle.policy_core.specs.declared.cosigners.Known.{Known}
-use Rattle.drill_nodes.specs.CosignerNodes.{cosigner_settings, secret_of}
-use Rattle.drill_nodes.specs.CosignerViews.{cosigner_shown, cosigner_stops}
-use Rattle.drill_nodes.specs.Cosigners.{IsNewNode, Paired, keys_used, stops_by}
-use Rattle.drill_nodes.specs.Rounds.{begun}
-use Rattle.drill_nodes.specs.declared.cosigner_node.CosignerNode.{CosignerNode}
+use Rattle.drill_parties.specs.CosignerParties.{cosigner_settings, secret_of}
+use Rattle.drill_parties.specs.CosignerViews.{cosigner_shown, cosigner_stops}
+use Rattle.drill_parties.specs.Cosigners.{IsNewParty, Paired, keys_used, stops_by}
+use Rattle.drill_parties.specs.Rounds.{begun}
+use Rattle.drill_parties.specs.declared.cosigner_party.CosignerParty.{CosignerParty}
 use Rattle.drill_core.specs.Entries.{entries_to, keys_to, log_settings, log_with}
-use Rattle.drill_core.specs.Played.{IsCosignerWithin, IsNodeAfter}
+use Rattle.drill_core.specs.Played.{IsCosignerWithin, IsPartyAfter}
 use Rattle.drill_core.specs.Stores.{drill_known, known_as}
 
 new_within : (h : HashFunction) (number last : ℕ) (s : CosignerState)
@@ -30,21 +30,21 @@ unfolding entries_to keys_to
 log_first h = refl
 
 module _ {H : Type 0} {hashes : Hashes H} (h : HashFunction) (number : ℕ) where
-  pub node_first : (last : ℕ) (node : CosignerNode H hashes) → IsNewNode h number last node
-      → IsNodeAfter h number 0 (begun number) last node
-  node_first last node is = record {
-    within = new_within h number last (cosigner_shown node) is.state;
+  pub party_first : (last : ℕ) (party : CosignerParty H hashes) → IsNewParty h number last party
+      → IsPartyAfter h number 0 (begun number) last party
+  party_first last party is = record {
+    within = new_within h number last (cosigner_shown party) is.state;
     signs = tt;
   }
 
   -- no one-time key is used
-  pub no_keys : (arcs : List ℕ) (nodes : List (CosignerNode H hashes))
-      → Paired (IsNewNode h number) arcs nodes → keys_used nodes ≡ 0
+  pub no_keys : (arcs : List ℕ) (parties : List (CosignerParty H hashes))
+      → Paired (IsNewParty h number) arcs parties → keys_used parties ≡ 0
   no_keys [] [] are = refl
   no_keys [] (n ∷ ns) are = absurd are
   no_keys (a ∷ others) [] are = absurd are
   no_keys (a ∷ others) (n ∷ ns) are =
-      let whole = sum_by-cons (λ (x : CosignerNode H hashes). (cosigner_shown x).key.next) n ns
+      let whole = sum_by-cons (λ (x : CosignerParty H hashes). (cosigner_shown x).key.next) n ns
       in
       let here : (cosigner_shown n).key.next ≡ 0 =
       ap (λ (s : CosignerState). s.key.next) are.0.state in
@@ -52,8 +52,8 @@ module _ {H : Type 0} {hashes : Hashes H} (h : HashFunction) (number : ℕ) wher
       omega (arith, whole, here, rest)
 
   -- and no stop was made
-  pub no_stops : (arcs : List ℕ) (nodes : List (CosignerNode H hashes))
-      → Paired (IsNewNode h number) arcs nodes → stops_by nodes ≡ 0
+  pub no_stops : (arcs : List ℕ) (parties : List (CosignerParty H hashes))
+      → Paired (IsNewParty h number) arcs parties → stops_by parties ≡ 0
   no_stops [] [] are = refl
   no_stops [] (n ∷ ns) are = absurd are
   no_stops (a ∷ others) [] are = absurd are
@@ -64,13 +64,13 @@ module _ {H : Type 0} {hashes : Hashes H} (h : HashFunction) (number : ℕ) wher
       omega (arith, whole, here, rest)
 
   -- what is known of them
-  pub known_first : (arcs : List ℕ) (nodes : List (CosignerNode H hashes))
-      → Paired (IsNewNode h number) arcs nodes
-      → map (λ node. known_as (cosigner_shown node)) nodes ≡ map (drill_known number) arcs
+  pub known_first : (arcs : List ℕ) (parties : List (CosignerParty H hashes))
+      → Paired (IsNewParty h number) arcs parties
+      → map (λ party. known_as (cosigner_shown party)) parties ≡ map (drill_known number) arcs
   known_first [] [] are = refl
   known_first [] (n ∷ ns) are = absurd are
   known_first (a ∷ others) [] are = absurd are
   known_first (a ∷ others) (n ∷ ns) are =
-      ap (λ (s : CosignerState). known_as s ∷ map (λ node. known_as (cosigner_shown node)) ns)
+      ap (λ (s : CosignerState). known_as s ∷ map (λ party. known_as (cosigner_shown party)) ns)
       are.0.state
       ∙ ap (λ (list : List Known). drill_known number a ∷ list) (known_first others ns are.1)

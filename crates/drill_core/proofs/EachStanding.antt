@@ -1,7 +1,7 @@
 -- The audits of the certificates of a drill with the records of a cosigner.
 use Rattle.std.proofs.Common.{◌≡◌, ◌+◌, ◌≤◌, ℕ, suc, List, [], ◌∷◌, ◌++◌, length, arith, refl}
 use Rattle.std.proofs.Common.{subst}
-use Rattle.byte_formats.specs.Places.{IsBytes}
+use Rattle.byte_formats.specs.Offsets.{IsBytes}
 use Rattle.byte_formats.specs.Types.{HashFunction, Text}
 use Rattle.disk_core.specs.Memory.{bytes_of, calls_of}
 use Rattle.disk_core.specs.ReplayLaws.{contents_are}
@@ -10,24 +10,24 @@ use Rattle.tree_core.specs.Tree.{tree_hash}
 use Rattle.tree_core.specs.declared.hashing.TreeHash.{Ghosts as Hashes}
 use Rattle.std.specs.List.{AllByRecursion}
 use Rattle.cosigner_core.specs.Words.{cosigner_disk}
-use Rattle.drill_nodes.specs.CosignerViews.{cosigner_shown, records_shown}
-use Rattle.drill_nodes.specs.Cosigners.{Paired}
-use Rattle.drill_nodes.specs.Rounds.{Drill, behind_round, marks_behind}
-use Rattle.drill_nodes.specs.declared.cosigner_node.CosignerNode.{CosignerNode}
-use Rattle.drill_nodes.specs.declared.round.Round.{Round}
+use Rattle.drill_parties.specs.CosignerViews.{cosigner_shown, records_shown}
+use Rattle.drill_parties.specs.Cosigners.{Paired}
+use Rattle.drill_parties.specs.Rounds.{Drill, following_round, marks_after}
+use Rattle.drill_parties.specs.declared.cosigner_party.CosignerParty.{CosignerParty}
+use Rattle.drill_parties.specs.declared.round.Round.{Round}
 use Rattle.drill_core.specs.AuditViews.{AllStand}
 use Rattle.issuance_log.specs.Folds.{LogState}
 use Rattle.cosigner_core.specs.Folds.{CosignerState}
 use Rattle.drill_core.specs.Audits.{StandsWith}
-use Rattle.drill_nodes.specs.CosignerNodes.{HasMore, HasSign, IsCosignerDisk}
+use Rattle.drill_parties.specs.CosignerParties.{HasMore, HasSign, IsCosignerDisk}
 use Rattle.drill_core.specs.Entries.{entries_to, log_with}
-use Rattle.drill_core.specs.Fleets.{EachStands}
-use Rattle.drill_nodes.specs.Disks.{records_on}
-use Rattle.drill_core.specs.Played.{AreWritten, IsCosignerWithin, IsNodeAfter, IsWrittenOf}
+use Rattle.drill_core.specs.DrillOutputs.{EachStands}
+use Rattle.drill_parties.specs.Disks.{records_on}
+use Rattle.drill_core.specs.Played.{AreWritten, IsCosignerWithin, IsPartyAfter, IsWrittenOf}
 use Rattle.drill_core.specs.Played.{cosigner_arcs}
 use Rattle.drill_core.specs.Stores.{IsAcceptedByAll, drill_store}
 use Rattle.drill_core.specs.Played.{HaveSigns, NoneLarger}
-use Rattle.drill_nodes.proofs.CosignerStops.{sign_stays}
+use Rattle.drill_parties.proofs.CosignerStops.{sign_stays}
 use Rattle.drill_core.proofs.EntryCounts.{entries_length}
 use Rattle.drill_core.proofs.StandingAudits.{Counts, audit_stands, first_is_counted}
 use Rattle.drill_core.proofs.StandingAudits.{second_is_counted}
@@ -118,22 +118,23 @@ last_sign h (v ∷ vs) w list signs = last_sign h vs w list signs.1
 
 -- the audit of the certificate of a round with the records of each
 pub all_stand : {H : Type 0} {hashes : Hashes H} (h : HashFunction) (number count next : ℕ)
-    (d : Drill) (r : Round) (arcs : List ℕ) (nodes : List (CosignerNode H hashes)) (cert : Text)
+    (d : Drill) (r : Round) (arcs : List ℕ) (parties : List (CosignerParty H hashes)) (cert : Text)
     → AllByRecursion (Counts number) arcs
-    → Paired (IsNodeAfter h number (suc count) (behind_round d r next)) arcs nodes
-    → AllByRecursion (λ node. IsCosignerDisk h (cosigner_shown node) (cosigner_disk node.cosigner))
-    nodes
+    → Paired (IsPartyAfter h number (suc count) (following_round d r next)) arcs parties
+    → AllByRecursion
+    (λ party. IsCosignerDisk h (cosigner_shown party) (cosigner_disk party.cosigner))
+    parties
     → IsWrittenOf h (log_with h (d.size + length r.entries) []) r.index cert
     → IsAcceptedByAll h number r.index (d.size + length r.entries) cert
     → AllStand h (drill_store number) cert (log_with h (d.size + length r.entries)
-    (marks_behind d.marks r.landmark (d.size + length r.entries))) nodes
+    (marks_after d.marks r.landmark (d.size + length r.entries))) parties
 all_stand h number count next d r [] [] cert counts are disks written accepted = tt
 all_stand h number count next d r [] (n ∷ ns) cert counts are disks written accepted = absurd are
 all_stand h number count next d r (a ∷ others) [] cert counts are disks written accepted =
     absurd are
 all_stand h number count next d r (a ∷ others) (n ∷ ns) cert counts are disks written accepted =
     let size : ℕ = d.size + length r.entries in (
-      one_stands h number a (suc count) size (marks_behind d.marks r.landmark size)
+      one_stands h number a (suc count) size (marks_after d.marks r.landmark size)
           (cosigner_shown n) (cosigner_disk n.cosigner) size r.index cert disks.0 counts.0
           are.0.within (omega arith) written accepted
           (last_sign h d.written (r.index, size) (records_shown n) are.0.signs),

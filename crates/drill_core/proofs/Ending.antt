@@ -9,37 +9,37 @@ use Rattle.disk_core.specs.declared.memory.mem_disk.MemDisk.{MemDisk}
 use Rattle.tree_core.specs.declared.hashing.TreeHash.{Ghosts as Hashes}
 use Rattle.tree_proofs.specs.declared.checkpoint.Checkpoint.{Checkpoint}
 use Rattle.issuance_log.specs.Folds.{LogState}
-use Rattle.drill_nodes.specs.CosignerViews.{IsDiskOf, cosigner_shown, records_shown}
-use Rattle.drill_nodes.specs.Cosigners.{Paired, keys_used}
-use Rattle.drill_nodes.specs.Disks.{records_on, signs_on}
-use Rattle.drill_nodes.specs.Rounds.{Drill, drill_of}
-use Rattle.drill_nodes.specs.declared.cosigner_node.CosignerNode.{CosignerNode}
-use Rattle.drill_nodes.proofs.Pairs.{paired_join, paired_with}
-use Rattle.drill_nodes.proofs.Signs.{signs_used}
+use Rattle.drill_parties.specs.CosignerViews.{IsDiskOf, cosigner_shown, records_shown}
+use Rattle.drill_parties.specs.Cosigners.{Paired, keys_used}
+use Rattle.drill_parties.specs.Disks.{records_on, signs_on}
+use Rattle.drill_parties.specs.Rounds.{Drill, drill_of}
+use Rattle.drill_parties.specs.declared.cosigner_party.CosignerParty.{CosignerParty}
+use Rattle.drill_parties.proofs.Pairs.{paired_join, paired_with}
+use Rattle.drill_parties.proofs.Signs.{signs_used}
 use Rattle.drill_core.specs.Counts.{IsCounted}
-use Rattle.drill_core.specs.Fleets.{IsDrilled, IsFleet, IsHandedOut}
-use Rattle.drill_core.specs.Nodes.{IsLogDisk}
-use Rattle.drill_core.specs.Played.{AreWritten, HaveSigns, IsAfter, IsNodeAfter, NoneLarger}
+use Rattle.drill_core.specs.DrillOutputs.{IsDrilled, IsDrillOutput, IsOutputOf}
+use Rattle.drill_core.specs.Parties.{IsLogDisk}
+use Rattle.drill_core.specs.Played.{AreWritten, HaveSigns, IsAfter, IsPartyAfter, NoneLarger}
 use Rattle.drill_core.specs.Played.{cosigner_arcs}
-use Rattle.drill_core.specs.declared.made.Fleet.{Fleet}
-use Rattle.drill_core.specs.declared.nodes.FleetNodes.{FleetNodes}
+use Rattle.drill_core.specs.declared.made.DrillOutput.{DrillOutput}
+use Rattle.drill_core.specs.declared.parties.DrillParties.{DrillParties}
 use Rattle.drill_core.proofs.EachStanding.{arcs_count, each_stands}
 use Rattle.drill_core.proofs.EntryCounts.{entries_length}
 use Rattle.drill_core.proofs.StandingAudits.{Counts}
 
 module _ {H : Type 0} {hashes : Hashes H} (h : HashFunction) where
   -- as many Signs are on the disk as one-time keys are used
-  used_on : (node : CosignerNode H hashes) (disk : MemDisk) → IsDiskOf h node disk
-      → (cosigner_shown node).key.next ≡ signs_on disk
-  used_on node disk is = signs_used h (records_on disk) (cosigner_shown node) is.stands.valid
+  used_on : (party : CosignerParty H hashes) (disk : MemDisk) → IsDiskOf h party disk
+      → (cosigner_shown party).key.next ≡ signs_on disk
+  used_on party disk is = signs_used h (records_on disk) (cosigner_shown party) is.stands.valid
 
-  all_used : (nodes : List (CosignerNode H hashes)) (disks : List MemDisk)
-      → Paired (IsDiskOf h) nodes disks → keys_used nodes ≡ sum_by signs_on disks
+  all_used : (parties : List (CosignerParty H hashes)) (disks : List MemDisk)
+      → Paired (IsDiskOf h) parties disks → keys_used parties ≡ sum_by signs_on disks
   all_used [] [] are = refl
   all_used [] (d ∷ ds) are = absurd are
   all_used (n ∷ ns) [] are = absurd are
   all_used (n ∷ ns) (d ∷ ds) are =
-      let keys = sum_by-cons (λ (x : CosignerNode H hashes). (cosigner_shown x).key.next) n ns
+      let keys = sum_by-cons (λ (x : CosignerParty H hashes). (cosigner_shown x).key.next) n ns
       in
       let signs = sum_by-cons signs_on d ds in
       let here = used_on n d are.0 in
@@ -47,29 +47,30 @@ module _ {H : Type 0} {hashes : Hashes H} (h : HashFunction) where
       omega (arith, keys, signs, here, rest)
 
   -- each has used one in each round
-  some_used : (number count : ℕ) (d : Drill) (arcs : List ℕ) (nodes : List (CosignerNode H hashes))
-      → Paired (IsNodeAfter h number count d) arcs nodes
-      → length arcs * count ≤ keys_used nodes
+  some_used : (number count : ℕ) (d : Drill) (arcs : List ℕ)
+      (parties : List (CosignerParty H hashes))
+      → Paired (IsPartyAfter h number count d) arcs parties
+      → length arcs * count ≤ keys_used parties
   some_used number count d [] [] are = omega arith
   some_used number count d [] (n ∷ ns) are = absurd are
   some_used number count d (a ∷ others) [] are = absurd are
   some_used number count d (a ∷ others) (n ∷ ns) are =
-      let keys = sum_by-cons (λ (x : CosignerNode H hashes). (cosigner_shown x).key.next) n ns
+      let keys = sum_by-cons (λ (x : CosignerParty H hashes). (cosigner_shown x).key.next) n ns
       in
       let here = are.0.within.signed in
       let rest = some_used number count d others ns are.1 in
       omega (arith, keys, here, rest)
 
   drilled : (number : ℕ) (d : Drill) (certs : List Text) → AreWritten h number certs d.written
-      → NoneLarger d.size d.written → (arc : ℕ) (node : CosignerNode H hashes) (disk : MemDisk)
-      → Counts number arc × IsNodeAfter h number 16 d arc node → IsDiskOf h node disk
+      → NoneLarger d.size d.written → (arc : ℕ) (party : CosignerParty H hashes) (disk : MemDisk)
+      → Counts number arc × IsPartyAfter h number 16 d arc party → IsDiskOf h party disk
       → IsDrilled h number d certs arc disk
-  drilled number d certs written few arc node disk is out =
+  drilled number d certs written few arc party disk is out =
       let within = is.1.within in
       let signed = within.signed in
-      let used = used_on node disk out in
+      let used = used_on party disk out in
       record {
-        state = cosigner_shown node;
+        state = cosigner_shown party;
         stands = out.stands;
         fails_none = out.fails_none;
         id = within.id;
@@ -78,21 +79,22 @@ module _ {H : Type 0} {hashes : Hashes H} (h : HashFunction) where
         root = ap (λ (c : Checkpoint). c.root) within.held;
         key = within.key;
         signed = omega (arith, signed, used);
-        audits = each_stands h number arc 16 d.size d.marks (cosigner_shown node) disk certs
+        audits = each_stands h number arc 16 d.size d.marks (cosigner_shown party) disk certs
             d.written out.stands is.0 within written few
             (subst (λ (list : List Text). HaveSigns h d.written list) (sym out.records)
             is.1.signs);
       }
 
 module _ {H : Type 0} {hashes : Hashes H} (h : HashFunction) (number : ℕ)
-    (nodes : FleetNodes H hashes) (f : Fleet) where
-  counted : IsAfter h number 16 (drill_of number) nodes → IsHandedOut h nodes f
+    (parties : DrillParties H hashes) (f : DrillOutput) where
+  counted : IsAfter h number 16 (drill_of number) parties → IsOutputOf h parties f
       → IsCounted number f.counts
   counted is out =
       let c = out.counts in
       let size = entries_length h (drill_of number).size in
-      let used = all_used h nodes.cosigners.nodes.items f.cosigners.items out.cosigners in
-      let some = some_used h number 16 (drill_of number) cosigner_arcs nodes.cosigners.nodes.items
+      let used = all_used h parties.cosigners.parties.items f.cosigners.items out.cosigners in
+      let some =
+      some_used h number 16 (drill_of number) cosigner_arcs parties.cosigners.parties.items
       is.cosigners in
       let few = is.keys in
       let signatures = c.signatures in
@@ -109,20 +111,22 @@ module _ {H : Type 0} {hashes : Hashes H} (h : HashFunction) (number : ℕ)
         light = c.light ∙ is.light;
       }
 
-  pub is_fleet : IsAfter h number 16 (drill_of number) nodes → IsHandedOut h nodes f
-      → IsFleet h number f
-  is_fleet is out =
+  pub is_drill_output : IsAfter h number 16 (drill_of number) parties → IsOutputOf h parties f
+      → IsDrillOutput h number f
+  is_drill_output is out =
       let d : Drill = drill_of number in
       let certs : AreWritten h number f.certs d.written =
       subst (λ (list : List Text). AreWritten h number list d.written) (sym out.certs) is.certs in
       record {
         log = subst (λ (s : LogState). IsLogDisk h s f.log) is.log out.log;
         fails_none = out.fails_none;
-        cosigners = paired_join (λ arc node. Counts number arc × IsNodeAfter h number 16 d arc node)
+        cosigners =
+            paired_join (λ arc party. Counts number arc × IsPartyAfter h number 16 d arc party)
             (IsDiskOf h) (IsDrilled h number d f.certs)
-            (drilled h number d f.certs certs is.sizes) cosigner_arcs nodes.cosigners.nodes.items
-            f.cosigners.items (paired_with (Counts number) (IsNodeAfter h number 16 d)
-            cosigner_arcs nodes.cosigners.nodes.items (arcs_count number) is.cosigners)
+            (drilled h number d f.certs certs is.sizes) cosigner_arcs
+            parties.cosigners.parties.items
+            f.cosigners.items (paired_with (Counts number) (IsPartyAfter h number 16 d)
+            cosigner_arcs parties.cosigners.parties.items (arcs_count number) is.cosigners)
             out.cosigners;
         certs = certs;
         counted = counted is out;

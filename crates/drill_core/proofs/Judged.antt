@@ -22,8 +22,8 @@ use Rattle.policy_core.specs.declared.cosigners.Known.{Known}
 use Rattle.policy_core.proofs.Sets.{signed_as_encoded}
 use Rattle.authority_core.specs.Acceptance.{IsSetUpFor}
 use Rattle.authority_core.specs.Certificates.{proof_for}
-use Rattle.drill_nodes.specs.Cosigners.{IsSignatureBy, Paired}
-use Rattle.drill_nodes.specs.Ids.{drill_log_id, id_of}
+use Rattle.drill_parties.specs.Cosigners.{IsSignatureBy, Paired}
+use Rattle.drill_parties.specs.Ids.{drill_log_id, id_of}
 use Rattle.drill_core.specs.Entries.{entries_to, log_with}
 use Rattle.drill_core.specs.Played.{IsCosignerWithin, cosigner_arcs}
 use Rattle.drill_core.specs.Stores.{IsAcceptedByAll, IsDrillEntry, StoresAcceptNow, drill_public}
@@ -41,7 +41,7 @@ is_valid number = record {
   cosigners = ((refl, (refl, tt)), ((refl, tt), (tt, tt)));
   rules = (
     record {
-      places = (omega arith, (omega arith, (omega arith, tt)));
+      indices = (omega arith, (omega arith, (omega arith, tt)));
       different = ((refl, (refl, tt)), ((refl, tt), (tt, tt)));
       some = omega arith;
       most = omega arith;

@@ -6,7 +6,7 @@ mod Ending
 mod EntryCounts
 mod FirstEntries
 mod Judged
-mod LeftBehind
+mod LeftAfter
 mod LightAccepted
 mod ListedItems
 mod OnlyRead

@@ -24,7 +24,7 @@ use Rattle.issuance_log.specs.Folds.{LogState}
 use Rattle.authority_core.specs.Acceptance.{AcceptsIn, IsOwnEntry, IsSetUpFor}
 use Rattle.authority_core.specs.Acceptance.{StoresAcceptLightly}
 use Rattle.authority_core.specs.Certificates.{proof_for}
-use Rattle.drill_nodes.specs.Ids.{drill_log_id}
+use Rattle.drill_parties.specs.Ids.{drill_log_id}
 use Rattle.drill_core.specs.LightStores.{AreOwn, HasCover, IsDueEntry, IsOwnSubtree}
 use Rattle.drill_core.specs.LightStores.{TrustsActive, light_store, with_hash}
 

@@ -18,12 +18,12 @@ use Rattle.issuance_log.specs.Folds.{LogState, log_of}
 use Rattle.issuance_log.specs.Words.{LogAsksTiles, LogStays, log_disk, log_end, view_of}
 use Rattle.issuance_log.specs.declared.log.Log.{Log}
 use Rattle.drill_core.specs.Calls.{HasCalledLog, log_called, record_of}
-use Rattle.drill_core.specs.Nodes.{IsLogDisk, log_seen}
-use Rattle.drill_nodes.specs.Disks.{records_on}
+use Rattle.drill_core.specs.Parties.{IsLogDisk, log_seen}
+use Rattle.drill_parties.specs.Disks.{records_on}
 use Rattle.drill_core.specs.declared.calls.LogCall.{LogCall}
 
 -- since this time a crash leaves nothing else
-pub mem_now : (m : MemDisk) (c : Text) → disks.left_since m (disks.moment m) c
+pub mem_now : (m : MemDisk) (c : Text) → disks.left_since m (disks.clock_at m) c
     → disks.may_leave m c
 mem_now m c is = since_now m.past.first (made_calls m.past.calls) c is
 
@@ -40,7 +40,7 @@ is_log_disk h s disk list all valid =
     let same : records_on disk ≡ list = records_of-stands (bytes_of disk) list holds in
     record {
       holds = subst (λ (l : List Text). Represents (bytes_of disk) l) (sym same) holds;
-      images = λ c there. subst (λ (l : List Text). Represents c l) (sym same) (all c there);
+      crash_states = λ c there. subst (λ (l : List Text). Represents c l) (sym same) (all c there);
       valid = ap (log_of h) same ∙ valid;
     }
 
@@ -58,7 +58,7 @@ module _ {H : Type 0} {hashes : Hashes H} where
       → LogStays old new → IsLogDisk h (log_seen old) (log_disk old)
       → IsLogDisk h (log_seen new) (log_disk new)
   still_stands h old new stays is = is_log_disk h (log_seen new) (log_disk new)
-      (records_on (log_disk old)) (λ c there. is.images c (stays.only_reads.crash c there))
+      (records_on (log_disk old)) (λ c there. is.crash_states c (stays.only_reads.crash c there))
       (is.valid ∙ ap Ok (sym (seen_stays old new stays)))
 
   -- a call was done that adds a record

@@ -3,7 +3,7 @@ use Rattle.std.proofs.Common.{◌≡◌, List, Option, Some, None, Ok, option_ma
 use Rattle.std.specs.Option.{IfSome}
 use Rattle.byte_formats.specs.Types.{Text}
 use Rattle.byte_formats.proofs.Steps.{ok_is}
-use Rattle.journal_core.specs.Folds.{Fold, Found, read_by, state_behind}
+use Rattle.journal_core.specs.Folds.{Fold, Found, read_by, state_after}
 use Rattle.journal_core.specs.Format.{Represents, records_of}
 use Rattle.journal_core.proofs.Found.{read_standing}
 
@@ -17,7 +17,7 @@ module _ {S E : Type 0} (fold : Fold S E) where
       → IfSome contents (λ b. IfSome list (λ found. read_by fold b
       ≡ Ok (record { records = found; state = state found })))
       → IfSome contents (λ b. (wanted : List Text) (t : S) → Represents b wanted
-      → state_behind fold wanted ≡ Ok t → (list ≡ Some wanted) × (option_map state list ≡ Some t))
+      → state_after fold wanted ≡ Ok t → (list ≡ Some wanted) × (option_map state list ≡ Some t))
   found_modelled (Some b) (Some found) state same read = λ wanted t stands is.
       let both = same_found (record { records = found; state = state found })
       (record { records = wanted; state = t })

@@ -69,9 +69,9 @@ among_more t [] ys is = absurd is
 among_more t (x ∷ xs) ys (inl here) = inl here
 among_more t (x ∷ xs) ys (inr there) = inr (among_more t xs ys there)
 
-among_behind : (t : Trusted) (xs ys : List Trusted) → IsAmong t ys → IsAmong t (xs ++ ys)
-among_behind t [] ys is = is
-among_behind t (x ∷ xs) ys is = inr (among_behind t xs ys is)
+among_after : (t : Trusted) (xs ys : List Trusted) → IsAmong t ys → IsAmong t (xs ++ ys)
+among_after t [] ys is = is
+among_after t (x ∷ xs) ys is = inr (among_after t xs ys is)
 
 cover_more : (h : HashFunction) (entries : List Text) (cover : Cover) (second : Option Span)
     (xs ys : List Trusted)
@@ -93,14 +93,14 @@ has_itself : (h : HashFunction) (entries : List Text) (first : Span) (second : O
     → HasCover h entries (record { first = first; second = second })
     (xs ++ cover_with h entries (record { first = first; second = second }))
 has_itself h entries first None xs = record {
-  first = among_behind (with_hash h entries first) xs (with_hash h entries first ∷ []) (inl refl);
+  first = among_after (with_hash h entries first) xs (with_hash h entries first ∷ []) (inl refl);
   second = tt;
 }
 has_itself h entries first (Some span) xs =
     let both = with_hash h entries first ∷ with_hash h entries span ∷ [] in
     record {
-      first = among_behind (with_hash h entries first) xs both (inl refl);
-      second = among_behind (with_hash h entries span) xs both (inr (inl refl));
+      first = among_after (with_hash h entries first) xs both (inl refl);
+      second = among_after (with_hash h entries span) xs both (inr (inl refl));
     }
 
 own_cover : (h : HashFunction) (entries : List Text) (from to : ℕ) (first : Span)

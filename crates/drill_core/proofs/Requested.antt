@@ -14,7 +14,7 @@ use Rattle.der_core.specs.Elements.{element}
 use Rattle.cert_fields.specs.Grammar.{IsAlgorithm, IsBits, IsPublicKey}
 use Rattle.cert_names.specs.Hosts.{is_host_name, is_label, labels_of}
 use Rattle.authority_core.specs.Requests.{CanBeIssued}
-use Rattle.drill_nodes.specs.Ids.{drill_log_id}
+use Rattle.drill_parties.specs.Ids.{drill_log_id}
 use Rattle.drill_core.specs.Entries.{drill_entry, entries_to, host_of, key_of, log_with}
 use Rattle.drill_core.specs.Entries.{request_for}
 use Rattle.drill_core.specs.Stores.{IsDrillEntry}

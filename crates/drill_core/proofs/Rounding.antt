@@ -15,26 +15,27 @@ use Rattle.issuance_log.specs.Folds.{LogState}
 use Rattle.cosigner_core.specs.Words.{cosigner_disk}
 use Rattle.policy_core.specs.Judgement.{judgement}
 use Rattle.policy_core.specs.declared.store.Store.{Store}
-use Rattle.drill_nodes.specs.CosignerNodes.{IsCosignerDisk}
-use Rattle.drill_nodes.specs.CosignerViews.{cosigner_shown, records_shown}
-use Rattle.drill_nodes.specs.Cosigners.{IsSignatureBy, Paired}
-use Rattle.drill_nodes.specs.Rounds.{Drill, behind_round, landmark_turns, marks_behind, stops_in}
-use Rattle.drill_nodes.specs.Rounds.{stops_of}
-use Rattle.drill_nodes.specs.declared.cosigner_node.CosignerNode.{CosignerNode}
-use Rattle.drill_nodes.specs.declared.round.Round.{Round}
-use Rattle.drill_nodes.specs.declared.turns.Stop.{Stop}
-use Rattle.drill_nodes.proofs.Pairs.{paired_join}
+use Rattle.drill_parties.specs.CosignerParties.{IsCosignerDisk}
+use Rattle.drill_parties.specs.CosignerViews.{cosigner_shown, records_shown}
+use Rattle.drill_parties.specs.Cosigners.{IsSignatureBy, Paired}
+use Rattle.drill_parties.specs.Rounds.{Drill, following_round, landmark_turns, marks_after}
+use Rattle.drill_parties.specs.Rounds.{stops_in}
+use Rattle.drill_parties.specs.Rounds.{stops_of}
+use Rattle.drill_parties.specs.declared.cosigner_party.CosignerParty.{CosignerParty}
+use Rattle.drill_parties.specs.declared.round.Round.{Round}
+use Rattle.drill_parties.specs.declared.turns.Stop.{Stop}
+use Rattle.drill_parties.proofs.Pairs.{paired_join}
 use Rattle.drill_core.specs.AuditViews.{AllStand}
 use Rattle.drill_core.specs.Entries.{entries_to, log_with}
 use Rattle.drill_core.specs.LightStores.{IsDue}
-use Rattle.drill_core.specs.LogNodes.{log_shown}
-use Rattle.drill_core.specs.Played.{AreWritten, HasPlayed, HasHeldAndSigned, IsAfter, IsNodeAfter}
+use Rattle.drill_core.specs.LogParties.{log_shown}
+use Rattle.drill_core.specs.Played.{AreWritten, HasPlayed, HasHeldAndSigned, IsAfter, IsPartyAfter}
 use Rattle.drill_core.specs.Played.{IsWrittenOf}
 use Rattle.drill_core.specs.Played.{checkpoint_after, cosigner_arcs, issued_to, with_landmark}
 use Rattle.drill_core.specs.Played.{log_root}
 use Rattle.drill_core.specs.Stores.{IsAcceptedByAll, IsDrillEntry, StoresAcceptNow, drill_store}
 use Rattle.drill_core.specs.Stores.{one_accepted}
-use Rattle.drill_core.specs.declared.nodes.FleetNodes.{FleetNodes}
+use Rattle.drill_core.specs.declared.parties.DrillParties.{DrillParties}
 use Rattle.drill_core.proofs.EachStanding.{all_stand, arcs_count, none_larger, signs_more}
 use Rattle.drill_core.proofs.EntryCounts.{entries_length, issued_is}
 use Rattle.drill_core.proofs.Judged.{SignsUnder, is_accepted, signs_under}
@@ -44,7 +45,7 @@ use Rattle.drill_core.proofs.Requested.{is_entry}
 
 marked_with : (h : HashFunction) (landmark : Option (Option Stop)) (size : ℕ) (marks : List ℕ)
     → with_landmark landmark (log_with h size marks)
-    ≡ log_with h size (marks_behind marks landmark size)
+    ≡ log_with h size (marks_after marks landmark size)
 marked_with h None size marks = refl
 marked_with h (Some turn) size marks =
     ap (λ (k : ℕ). log_with h size (marks ++ k ∷ [])) (entries_length h size)
@@ -97,7 +98,7 @@ few_stops_of r three advances_are signs_are =
     omega (arith, one, two, mark, signs, single, three, advances_are, signs_are)
 
 marks_more : (marks : List ℕ) (landmark : Option (Option Stop)) (size : ℕ)
-    → length (marks_behind marks landmark size) ≡ length marks + length (landmark_turns landmark)
+    → length (marks_after marks landmark size) ≡ length marks + length (landmark_turns landmark)
 marks_more marks None size = omega arith
 marks_more marks (Some turn) size = grind (arith, length-append)
 
@@ -118,11 +119,11 @@ newest_due h size marks log same some few =
 
 -- A round was played after so many others. Its index lies in the log.
 pub record IsNext {H : Type 0} {hashes : Hashes H} (h : HashFunction) (number count : ℕ) (d : Drill)
-    (r : Round) (old new : FleetNodes H hashes) : Type 0 where
+    (r : Round) (old new : DrillParties H hashes) : Type 0 where
   pub was : IsAfter h number count d old
   pub played : HasPlayed h r old new
-  pub disks : AllByRecursion (λ node. IsCosignerDisk h (cosigner_shown node)
-      (cosigner_disk node.cosigner)) new.cosigners.nodes.items
+  pub disks : AllByRecursion (λ party. IsCosignerDisk h (cosigner_shown party)
+      (cosigner_disk party.cosigner)) new.cosigners.parties.items
   pub some : 1 ≤ d.size
   pub first : 1 ≤ r.index
   pub below : r.index < d.size + length r.entries
@@ -132,17 +133,17 @@ pub record IsNext {H : Type 0} {hashes : Hashes H} (h : HashFunction) (number co
   pub signs : length r.signs ≡ 3
 
 module _ {H : Type 0} {hashes : Hashes H} (h : HashFunction) (number count next : ℕ) (d : Drill)
-    (r : Round) (old new : FleetNodes H hashes) (is : IsNext h number count d r old new) where
+    (r : Round) (old new : DrillParties H hashes) (is : IsNext h number count d r old new) where
   abbrev size : ℕ
   size = d.size + length r.entries
 
   abbrev e : Drill
-  e = behind_round d r next
+  e = following_round d r next
 
   abbrev log : LogState
   log = log_shown new.log
 
-  log_is : log ≡ log_with h size (marks_behind d.marks r.landmark size)
+  log_is : log ≡ log_with h size (marks_after d.marks r.landmark size)
   log_is =
       let one = one_before d.size is.some in
       let longer : size ≡ suc one.0 + length r.entries =
@@ -155,10 +156,10 @@ module _ {H : Type 0} {hashes : Hashes H} (h : HashFunction) (number count next 
       ∙ ap (with_landmark r.landmark) (issued_is h (length r.entries) one.0 size d.marks longer)
       ∙ marked_with h r.landmark size d.marks
 
-  node_next : (last : ℕ) (x y : CosignerNode H hashes) → IsNodeAfter h number count d last x
+  party_next : (last : ℕ) (x y : CosignerParty H hashes) → IsPartyAfter h number count d last x
       → HasHeldAndSigned (length log.entries) (log_root h log) x y
-      → IsNodeAfter h number (suc count) e last y
-  node_next last x y was turned =
+      → IsPartyAfter h number (suc count) e last y
+  party_next last x y was turned =
       let more = turned.more in
       let before = was.within.signed in
       record {
@@ -173,20 +174,21 @@ module _ {H : Type 0} {hashes : Hashes H} (h : HashFunction) (number count next 
           key = turned.key ∙ was.within.key;
           signed = omega (arith, more, before);
         };
-        signs = signs_more h d.written r.index size (marks_behind d.marks r.landmark size) log
+        signs = signs_more h d.written r.index size (marks_after d.marks r.landmark size) log
             (records_shown x) (records_shown y) log_is turned.recorded.more was.signs
             turned.recorded.sign;
       }
 
-  cosigners_next : Paired (IsNodeAfter h number (suc count) e) cosigner_arcs
-      new.cosigners.nodes.items
-  cosigners_next = paired_join (IsNodeAfter h number count d)
-      (HasHeldAndSigned (length log.entries) (log_root h log)) (IsNodeAfter h number (suc count) e)
-      node_next cosigner_arcs old.cosigners.nodes.items new.cosigners.nodes.items is.was.cosigners
+  cosigners_next : Paired (IsPartyAfter h number (suc count) e) cosigner_arcs
+      new.cosigners.parties.items
+  cosigners_next = paired_join (IsPartyAfter h number count d)
+      (HasHeldAndSigned (length log.entries) (log_root h log)) (IsPartyAfter h number (suc count) e)
+      party_next cosigner_arcs old.cosigners.parties.items new.cosigners.parties.items
+      is.was.cosigners
       is.played.each
 
-  signs_next : (last : ℕ) (x : CosignerNode H hashes) (part : SigParts)
-      → IsNodeAfter h number count d last x
+  signs_next : (last : ℕ) (x : CosignerParty H hashes) (part : SigParts)
+      → IsPartyAfter h number count d last x
       → IsSignatureBy (length log.entries) (log_root h log) (cosigner_shown x) part
       → SignsUnder number (length (entries_to h size)) (tree_hash h (entries_to h size)) last part
   signs_next last x part was by = signs_under number last count (length (entries_to h size))
@@ -195,26 +197,26 @@ module _ {H : Type 0} {hashes : Hashes H} (h : HashFunction) (number count next 
       (cosigner_shown x) part) log_is by)
 
   accepted_next : IsAcceptedByAll h number r.index size is.played.cert
-  accepted_next = is_accepted h number size r.index (marks_behind d.marks r.landmark size)
+  accepted_next = is_accepted h number size r.index (marks_after d.marks r.landmark size)
       is.played.signatures is.played.cert is.played.signed.parts
-      (paired_join (IsNodeAfter h number count d) (λ x part. IsSignatureBy (length log.entries)
+      (paired_join (IsPartyAfter h number count d) (λ x part. IsSignatureBy (length log.entries)
       (log_root h log) (cosigner_shown x) part) (SignsUnder number (length (entries_to h size))
-      (tree_hash h (entries_to h size))) signs_next cosigner_arcs old.cosigners.nodes.items
+      (tree_hash h (entries_to h size))) signs_next cosigner_arcs old.cosigners.parties.items
       is.played.signed.parts is.was.cosigners is.played.signed.signed) is.played.signed.put
       (subst (λ (l : LogState). StoresAcceptNow h l r.index is.played.signatures is.played.cert)
       log_is is.played.accepts) is.first is.below is.within
 
   written_next : IsWrittenOf h (log_with h size []) r.index is.played.cert
-  written_next = written_of h size r.index (marks_behind d.marks r.landmark size) log is.played.cert
+  written_next = written_of h size r.index (marks_after d.marks r.landmark size) log is.played.cert
       log_is (is.played.signatures, is.played.written)
 
-  stand_next : AllStand h old.store is.played.cert log new.cosigners.nodes.items
+  stand_next : AllStand h old.store is.played.cert log new.cosigners.parties.items
   stand_next =
-      subst (λ (s : Store). AllStand h s is.played.cert log new.cosigners.nodes.items)
+      subst (λ (s : Store). AllStand h s is.played.cert log new.cosigners.parties.items)
       (sym is.was.store)
       (subst (λ (l : LogState). AllStand h (drill_store number) is.played.cert l
-      new.cosigners.nodes.items) (sym log_is)
-      (all_stand h number count next d r cosigner_arcs new.cosigners.nodes.items
+      new.cosigners.parties.items) (sym log_is)
+      (all_stand h number count next d r cosigner_arcs new.cosigners.parties.items
       is.played.cert (arcs_count number) cosigners_next is.disks written_next accepted_next))
 
   -- the parties after it
@@ -232,7 +234,7 @@ module _ {H : Type 0} {hashes : Hashes H} (h : HashFunction) (number count next 
       let below = is.below in
       let first = is.first in
       let light_before = was.light in
-      let light = p.light (newest_due h size (marks_behind d.marks r.landmark size) log log_is
+      let light = p.light (newest_due h size (marks_after d.marks r.landmark size) log log_is
       (omega (arith, below, first)) is.within) in
       let marks = marks_more d.marks r.landmark size in
       let single = few_landmarks r.landmark in

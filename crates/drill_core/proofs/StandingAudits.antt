@@ -13,7 +13,7 @@ use Rattle.std.proofs.lemmas.Bool.{le-ltb}
 use Rattle.std.proofs.lemmas.List.{length-append, get_or_append_left}
 use Rattle.std.proofs.lemmas.Slice.Eq.{bytes_eq-Decides}
 use Rattle.byte_formats.specs.Types.{Hash, HashFunction, Text}
-use Rattle.byte_formats.specs.Places.{IsBytes}
+use Rattle.byte_formats.specs.Offsets.{IsBytes}
 use Rattle.byte_formats.specs.Readings.{◌>>=◌, lifted}
 use Rattle.byte_formats.proofs.Steps.{bind_ok, lifted_ok, ok_is}
 use Rattle.byte_formats.proofs.Values.{same_bytes}
@@ -51,39 +51,39 @@ use Rattle.cosigner_core.proofs.FirstRecords.{then_some}
 use Rattle.cosigner_steps.specs.Steps.{held_by}
 use Rattle.authority_core.specs.Certificates.{parts_with, proof_for}
 use Rattle.world_core.specs.Audit.{WasJudged, is_counted, is_counted_as, is_recorded}
-use Rattle.world_core.specs.Audit.{is_sign_of, foreign_in, of_checkpoint, some_place}
+use Rattle.world_core.specs.Audit.{is_sign_of, foreign_in, of_checkpoint, some_index}
 use Rattle.cosigner_steps.proofs.Holding.{held_at_last}
-use Rattle.world_core.proofs.Settled.{eval_inside, judged_path}
+use Rattle.world_core.proofs.Decided.{eval_inside, judged_path}
 use Rattle.drill_core.specs.Audits.{StandsWith}
-use Rattle.drill_nodes.specs.CosignerNodes.{HasSign, secret_of}
-use Rattle.drill_nodes.specs.Ids.{drill_log_id, id_of}
+use Rattle.drill_parties.specs.CosignerParties.{HasSign, secret_of}
+use Rattle.drill_parties.specs.Ids.{drill_log_id, id_of}
 use Rattle.drill_core.specs.Entries.{drill_entry, drill_key, entries_to, keys_to, log_with}
 use Rattle.drill_core.specs.Played.{IsWrittenOf}
 use Rattle.drill_core.specs.Stores.{IsAcceptedByAll, drill_public, drill_store, known_with}
 use Rattle.drill_core.proofs.EntryCounts.{entries_length}
-use Rattle.drill_nodes.proofs.SignPlaces.{found, said_there}
+use Rattle.drill_parties.proofs.SignIndices.{found, said_there}
 
 -- ---- the cosigner counts
 
 first_counts : (a b c : Text)
-    → some_place (is_counted_as 7 (id_of 2) a) 0
+    → some_index (is_counted_as 7 (id_of 2) a) 0
     (known_with 2 a ∷ known_with 3 b ∷ known_with 4 c ∷ []) ≡ true
 first_counts a b c = rw (same_bytes a) refl
 
 second_counts : (a b c : Text)
-    → some_place (is_counted_as 7 (id_of 3) b) 0
+    → some_index (is_counted_as 7 (id_of 3) b) 0
     (known_with 2 a ∷ known_with 3 b ∷ known_with 4 c ∷ []) ≡ true
 second_counts a b c = rw (same_bytes b) refl
 
 third_counts : (a b c : Text)
-    → some_place (is_counted_as 7 (id_of 4) c) 0
+    → some_index (is_counted_as 7 (id_of 4) c) 0
     (known_with 2 a ∷ known_with 3 b ∷ known_with 4 c ∷ []) ≡ true
 third_counts a b c = rw (same_bytes c) refl
 
 -- the cosigner with this id and this public key counts where all three do
 abbrev pub Counts : ℕ → ℕ → Type 0
 Counts number last =
-    some_place (is_counted_as 7 (id_of last) (drill_public last number)) 0
+    some_index (is_counted_as 7 (id_of last) (drill_public last number)) 0
     (drill_store number).cosigners ≡ true
 
 pub first_is_counted : (number : ℕ) → Counts number 2
@@ -163,20 +163,20 @@ keys_prefix (suc more) size index below =
 -- ---- the certificate
 
 -- a certificate that is accepted has a proof
-proof_of : (h : HashFunction) (bytes : Text) (store : Store) (moment : ℤ) (a : Accepted)
-    (c : Parts) → judgement h bytes store moment ≡ Ok a → parts_of bytes ≡ Ok c
-    → (p : ProofParts) × (proof_in c.proof ≡ Ok p) × (judged h store moment c ≡ Ok a)
+proof_of : (h : HashFunction) (bytes : Text) (store : Store) (unix_time : ℤ) (a : Accepted)
+    (c : Parts) → judgement h bytes store unix_time ≡ Ok a → parts_of bytes ≡ Ok c
+    → (p : ProofParts) × (proof_in c.proof ≡ Ok p) × (judged h store unix_time c ≡ Ok a)
 unfolding judgement judged
-proof_of h bytes store moment a c accepted read =
-    let s = bind_ok (lifted Grammar (parts_of bytes)) (judged h store moment) a accepted in
+proof_of h bytes store unix_time a c accepted read =
+    let s = bind_ok (lifted Grammar (parts_of bytes)) (judged h store unix_time) a accepted in
     let same : s.0 ≡ c =
     ok_is _ s.0 c (sym (lifted_ok Grammar (parts_of bytes) s.0 s.1) ∙ read) in
-    let here : judged h store moment c ≡ Ok a =
-    subst (λ (x : Parts). judged h store moment x ≡ Ok a) same s.2 in
+    let here : judged h store unix_time c ≡ Ok a =
+    subst (λ (x : Parts). judged h store unix_time x ≡ Ok a) same s.2 in
     let with_proof : ProofParts → Result Accepted Refusal =
     λ q. lifted ProofShape (evaluation h (leaf_hash h (entry_of h c)) c.serial q.start q.end
     q.path) >>= λ (hash : Hash). decided store c.serial q hash in
-    let t = bind_ok (admitted store moment c) (λ (done : Unit {0}).
+    let t = bind_ok (admitted store unix_time c) (λ (done : Unit {0}).
     lifted ProofGrammar (proof_in c.proof) >>= with_proof) a here in
     let u = bind_ok (lifted ProofGrammar (proof_in c.proof)) with_proof a t.2 in
     (u.0, lifted_ok ProofGrammar (proof_in c.proof) u.0 u.1, here)
@@ -210,9 +210,9 @@ counts_there : (number last : ℕ) (s : CosignerState) (steps : List Step) → C
     → s.id ≡ id_of last → s.key.key ≡ private_key H5 W4 (secret_of last number)
     → is_counted (drill_store number) 7 (export_of s steps) ≡ true
 counts_there number last s steps counts id key =
-    subst (λ (i : Text). some_place (is_counted_as 7 i (one_level_public s.key.key)) 0
+    subst (λ (i : Text). some_index (is_counted_as 7 i (one_level_public s.key.key)) 0
     (drill_store number).cosigners ≡ true) (sym id)
-    (subst (λ (k : PrivateKey). some_place (is_counted_as 7 (id_of last) (one_level_public k)) 0
+    (subst (λ (k : PrivateKey). some_index (is_counted_as 7 (id_of last) (one_level_public k)) 0
     (drill_store number).cosigners ≡ true) (sym key) counts)
 
 module _ (h : HashFunction) (number last size larger index : ℕ) (marks : List ℕ) (cert : Text)
@@ -237,7 +237,7 @@ module _ (h : HashFunction) (number last size larger index : ℕ) (marks : List 
       let read : parts_of cert ≡ Ok c = ap parts_of w.written ∙ parts_again c w.fits in
       let p = proof_of h cert store (pos 1767225600) a c accepted read in
       let judged_so : WasJudged h store c p.0 a =
-      record { certificate = w.fits; proof = p.1; moment = pos 1767225600; accepted = p.2 } in
+      record { certificate = w.fits; proof = p.1; unix_time = pos 1767225600; accepted = p.2 } in
       let inside = eval_inside h (leaf_hash h (entry_of h c)) index 0 size p.0.path a.hash
       (judged_path h store c p.0 a judged_so) in
       let more : larger ≡ (larger - size) + size = omega (arith, within) in
@@ -273,7 +273,7 @@ module _ (h : HashFunction) (number last size larger index : ℕ) (marks : List 
                 (ap (λ (x : Text). bytes_eq x drill_log_id) log_id ∙ same_bytes drill_log_id)
                 (counts_there number last s steps counts id key)
                 (has_recorded a list steps again.1 sign);
-            settles = (both_same _ _ _ _ entry own_key, refl);
+            decides = (both_same _ _ _ _ entry own_key, refl);
           };
         };
       }

@@ -5,17 +5,17 @@ use Rattle.byte_formats.specs.Types.{Text, HashFunction}
 use Rattle.journal_core.specs.Format.{Represents}
 use Rattle.issuance_log.specs.Folds.{LogState, log_of, view_in}
 use Rattle.drill_core.specs.Calls.{count_in, log_called, record_of}
-use Rattle.drill_core.specs.Nodes.{IsEither, IsLeft}
+use Rattle.drill_core.specs.Parties.{IsEither, IsLeft}
 use Rattle.drill_core.specs.declared.calls.LogCall.{LogCall}
 use Rattle.drill_core.specs.declared.calls.LogCall.TheVariants.{Issue, Mark}
 
 -- the log that is opened again is one of the two
-pub reopened : (h : HashFunction) (call : LogCall) (s t : LogState) (images : Text → Type 0)
-    (bytes : Text) → IsLeft h call s images → images bytes
+pub reopened : (h : HashFunction) (call : LogCall) (s t : LogState) (crash_states : Text → Type 0)
+    (bytes : Text) → IsLeft h call s crash_states → crash_states bytes
     → ((list : List Text) (u : LogState) → Represents bytes list → log_of h list ≡ Ok u → t ≡ u)
     → IsEither h call s t
-reopened h call s t images bytes left image opened =
-    elim (left.either bytes image) [
+reopened h call s t crash_states bytes left crash_state opened =
+    elim (left.either bytes crash_state) [
       | inl stands ↦ inl (opened left.list s stands left.old)
       | inr stands ↦ inr (opened (left.list ++ record_of h (view_in s) call ∷ [])
           (log_called h s call) stands left.new)

@@ -12,32 +12,33 @@ use Rattle.policy_core.specs.declared.store.Store.{Store}
 use Rattle.entry_list.specs.Items.{ItemLists}
 use Rattle.cosigner_core.specs.Folds.{CosignerState}
 use Rattle.cosigner_core.specs.Words.{cosigner_disk}
-use Rattle.drill_nodes.specs.CosignerNodes.{IsCosignerDisk}
-use Rattle.drill_nodes.specs.CosignerViews.{IsExportOf, IsStill, cosigner_shown, cosigner_stops}
-use Rattle.drill_nodes.specs.CosignerViews.{records_shown}
-use Rattle.drill_nodes.specs.Cosigners.{HasRecordedAll, IsAdvanced, IsSignatureBy, IsSigned, Paired}
-use Rattle.drill_nodes.specs.Cosigners.{held_first, keys_used, stops_by}
+use Rattle.drill_parties.specs.CosignerParties.{IsCosignerDisk}
+use Rattle.drill_parties.specs.CosignerViews.{IsExportOf, IsStill, cosigner_shown, cosigner_stops}
+use Rattle.drill_parties.specs.CosignerViews.{records_shown}
+use Rattle.drill_parties.specs.Cosigners.{HasRecordedAll, IsAdvanced, IsSignatureBy, IsSigned}
+use Rattle.drill_parties.specs.Cosigners.{Paired}
+use Rattle.drill_parties.specs.Cosigners.{held_first, keys_used, stops_by}
 use Rattle.std.proofs.lemmas.List.Sums.{sum_by-cons}
 use Rattle.tree_proofs.specs.declared.checkpoint.Checkpoint.{Checkpoint}
-use Rattle.drill_nodes.specs.declared.cosigner_node.CosignerNode.{CosignerNode}
-use Rattle.drill_nodes.proofs.CosignerStops.{more_twice}
+use Rattle.drill_parties.specs.declared.cosigner_party.CosignerParty.{CosignerParty}
+use Rattle.drill_parties.proofs.CosignerStops.{more_twice}
 use Rattle.drill_core.specs.Audits.{AllByExport, StandsByExport, StandsWith}
 use Rattle.drill_core.specs.AuditViews.{AllStand}
 use Rattle.drill_core.specs.Listed.{log_items}
-use Rattle.drill_core.specs.Played.{HasHeldAndSigned, IsCosignerWithin, IsNodeAfter}
-use Rattle.drill_nodes.specs.Rounds.{Drill}
+use Rattle.drill_core.specs.Played.{HasHeldAndSigned, IsCosignerWithin, IsPartyAfter}
+use Rattle.drill_parties.specs.Rounds.{Drill}
 use Rattle.drill_core.proofs.AuditCases.{by_export, with_export}
 
 module _ {H : Type 0} {hashes : Hashes H} where
   -- each stands on its disk
-  pub each_disk : (nodes : List (CosignerNode H hashes))
-      → AllByRecursion (λ node. IsCosignerDisk hashes.hash (cosigner_shown node)
-      (cosigner_disk node.cosigner)) nodes
+  pub each_disk : (parties : List (CosignerParty H hashes))
+      → AllByRecursion (λ party. IsCosignerDisk hashes.hash (cosigner_shown party)
+      (cosigner_disk party.cosigner)) parties
   each_disk [] = tt
   each_disk (n ∷ ns) = (n.stands, each_disk ns)
 
   -- a cosigner that holds a root and signs it
-  pub turned : (size : ℕ) (hash : Hash) (a b c : CosignerNode H hashes) → IsAdvanced size hash a b
+  pub turned : (size : ℕ) (hash : Hash) (a b c : CosignerParty H hashes) → IsAdvanced size hash a b
       → IsSigned size hash b c → HasHeldAndSigned size hash a c
   turned size hash a b c advanced signed =
       let more = signed.state.more in
@@ -57,7 +58,7 @@ module _ {H : Type 0} {hashes : Hashes H} where
       }
 
   -- a signature is of the cosigner from before it went on
-  pub signed_before : (size : ℕ) (hash : Hash) (a b : CosignerNode H hashes) (part : SigParts)
+  pub signed_before : (size : ℕ) (hash : Hash) (a b : CosignerParty H hashes) (part : SigParts)
       → IsAdvanced size hash a b → IsSignatureBy size hash (cosigner_shown b) part
       → IsSignatureBy size hash (cosigner_shown a) part
   signed_before size hash a b part advanced by =
@@ -66,7 +67,7 @@ module _ {H : Type 0} {hashes : Hashes H} where
       (λ is. record { cosigner = is.cosigner; verifies = is.verifies; short = is.short }) by
 
   -- a cosigner that was read since
-  pub signed_still : (size : ℕ) (hash : Hash) (a b c : CosignerNode H hashes)
+  pub signed_still : (size : ℕ) (hash : Hash) (a b c : CosignerParty H hashes)
       → IsSigned size hash a b → IsStill b c → IsSigned size hash a c
   signed_still size hash a b c signed still = record {
     state = record {
@@ -83,7 +84,7 @@ module _ {H : Type 0} {hashes : Hashes H} where
 
   -- audits of cosigners that were read since
   pub all_still : (h : HashFunction) (store : Store) (cert : Text) (log : LogState)
-      (old new : List (CosignerNode H hashes)) → Paired IsStill old new
+      (old new : List (CosignerParty H hashes)) → Paired IsStill old new
       → AllStand h store cert log new → AllStand h store cert log old
   all_still h store cert log [] [] are all = tt
   all_still h store cert log [] (n ∷ ns) are all = absurd are
@@ -96,21 +97,21 @@ module _ {H : Type 0} {hashes : Hashes H} where
   )
 
   -- what is added up of them
-  pub still_keys : (old new : List (CosignerNode H hashes)) → Paired IsStill old new
+  pub still_keys : (old new : List (CosignerParty H hashes)) → Paired IsStill old new
       → keys_used new ≡ keys_used old
   still_keys [] [] are = refl
   still_keys [] (n ∷ ns) are = absurd are
   still_keys (o ∷ os) [] are = absurd are
   still_keys (o ∷ os) (n ∷ ns) are =
-      let first = sum_by-cons (λ (x : CosignerNode H hashes). (cosigner_shown x).key.next) n ns
+      let first = sum_by-cons (λ (x : CosignerParty H hashes). (cosigner_shown x).key.next) n ns
       in
-      let second = sum_by-cons (λ (x : CosignerNode H hashes). (cosigner_shown x).key.next) o
+      let second = sum_by-cons (λ (x : CosignerParty H hashes). (cosigner_shown x).key.next) o
       os in
       let here = ap (λ (s : CosignerState). s.key.next) are.0.state in
       let rest = still_keys os ns are.1 in
       omega (arith, first, second, here, rest)
 
-  pub still_stops : (old new : List (CosignerNode H hashes)) → Paired IsStill old new
+  pub still_stops : (old new : List (CosignerParty H hashes)) → Paired IsStill old new
       → stops_by new ≡ stops_by old
   still_stops [] [] are = refl
   still_stops [] (n ∷ ns) are = absurd are
@@ -124,9 +125,9 @@ module _ {H : Type 0} {hashes : Hashes H} where
 
   -- audits with the exports are those with the records
   pub by_exports : (store : Store) (cert : Text) (log : LogState)
-      (nodes : List (CosignerNode H hashes)) (files : List Text)
-      → Paired (IsExportOf hashes.hash) nodes files
-      → AllStand hashes.hash store cert log nodes
+      (parties : List (CosignerParty H hashes)) (files : List Text)
+      → Paired (IsExportOf hashes.hash) parties files
+      → AllStand hashes.hash store cert log parties
       → AllByExport hashes.hash store cert (log_items log) files
   by_exports store cert log [] [] are all = tt
   by_exports store cert log [] (f ∷ fs) are all = absurd are
@@ -137,10 +138,10 @@ module _ {H : Type 0} {hashes : Hashes H} where
   )
 
   pub with_exports : (store : Store) (cert : Text) (log : LogState)
-      (nodes : List (CosignerNode H hashes)) (files : List Text)
-      → Paired (IsExportOf hashes.hash) nodes files
+      (parties : List (CosignerParty H hashes)) (files : List Text)
+      → Paired (IsExportOf hashes.hash) parties files
       → AllByExport hashes.hash store cert (log_items log) files
-      → AllStand hashes.hash store cert log nodes
+      → AllStand hashes.hash store cert log parties
   with_exports store cert log [] [] are all = tt
   with_exports store cert log [] (f ∷ fs) are all = absurd are
   with_exports store cert log (n ∷ ns) [] are all = absurd are
@@ -151,25 +152,25 @@ module _ {H : Type 0} {hashes : Hashes H} where
   )
 
   -- cosigners that hold no more than this hold less than more
-  pub hold_less : (few more : ℕ) (nodes : List (CosignerNode H hashes)) → few < more
-      → AllByRecursion (λ node. (cosigner_shown node).held.size ≤ few) nodes
-      → AllByRecursion (λ node. (cosigner_shown node).held.size < more) nodes
+  pub hold_less : (few more : ℕ) (parties : List (CosignerParty H hashes)) → few < more
+      → AllByRecursion (λ party. (cosigner_shown party).held.size ≤ few) parties
+      → AllByRecursion (λ party. (cosigner_shown party).held.size < more) parties
   hold_less few more [] less all = tt
   hold_less few more (n ∷ ns) less all =
       let here = all.0 in (omega (arith, here, less), hold_less few more ns less all.1)
 
   -- what the first of them holds is no more either
-  pub first_few : (most : ℕ) (nodes : List (CosignerNode H hashes)) (held : ℕ)
-      → held ≡ held_first nodes → 0 < length nodes
-      → AllByRecursion (λ node. (cosigner_shown node).held.size < most) nodes → held ≤ most
+  pub first_few : (most : ℕ) (parties : List (CosignerParty H hashes)) (held : ℕ)
+      → held ≡ held_first parties → 0 < length parties
+      → AllByRecursion (λ party. (cosigner_shown party).held.size < most) parties → held ≤ most
   first_few most [] held is some all = absurd (omega (arith, some))
   first_few most (n ∷ ns) held is some all = let here = all.0 in omega (arith, is, here)
 
   -- what the cosigners of a drill hold
   pub hold_that : (h : HashFunction) (number count : ℕ) (d : Drill) (arcs : List ℕ)
-      (nodes : List (CosignerNode H hashes)) (size : ℕ) → d.size ≤ size → 1 ≤ size
-      → Paired (IsNodeAfter h number count d) arcs nodes
-      → AllByRecursion (λ node. (cosigner_shown node).held.size ≤ size) nodes
+      (parties : List (CosignerParty H hashes)) (size : ℕ) → d.size ≤ size → 1 ≤ size
+      → Paired (IsPartyAfter h number count d) arcs parties
+      → AllByRecursion (λ party. (cosigner_shown party).held.size ≤ size) parties
   hold_that h number count d [] [] size less some are = tt
   hold_that h number count d [] (n ∷ ns) size less some are = absurd are
   hold_that h number count d (a ∷ others) [] size less some are = absurd are
@@ -179,8 +180,8 @@ module _ {H : Type 0} {hashes : Hashes H} where
   )
     where
       held_is : (h : HashFunction) (number count : ℕ) (d : Drill) (a : ℕ)
-          (n : CosignerNode H hashes) (size : ℕ) → d.size ≤ size → 1 ≤ size
-          → IsNodeAfter h number count d a n → (cosigner_shown n).held.size ≤ size
+          (n : CosignerParty H hashes) (size : ℕ) → d.size ≤ size → 1 ≤ size
+          → IsPartyAfter h number count d a n → (cosigner_shown n).held.size ≤ size
       held_is h number zero d a n size less some is =
           let held : (cosigner_shown n).held.size ≡ 0 =
           ap (λ (c : Checkpoint). c.size) is.within.held in

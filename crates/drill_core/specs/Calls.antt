@@ -52,7 +52,7 @@ module _ {H D T : Type 0} {hashes : Hashes H} {g : Ghosts D} {k : Ghosts T} wher
     pub valid : IfSome (log_records old) (λ list.
         log_of h (list ++ record_of h (view_of old) call ∷ [])
         ≡ Ok (log_called h (shown_with (view_of old) list) call))
-    pub images : log_broken old ≡ false → IfSome (log_records old) (λ list. (c : Text)
+    pub crash_states : log_broken old ≡ false → IfSome (log_records old) (λ list. (c : Text)
         → g.may_leave (log_disk new) c
         → RepresentsEither list (record_of h (view_of old) call) c)
     pub grown : done ≡ true → HasGrownBy (record_of h (view_of old) call)
@@ -75,4 +75,4 @@ module _ {H D T : Type 0} {hashes : Hashes H} {g : Ghosts D} {k : Ghosts T} wher
     pub found : IfSome (g.contents disk) (λ b. (list : List Text) (s : LogState) → Represents b list
         → log_of h list ≡ Ok s → (log_records it ≡ Some list) × (modelled_state it ≡ Some s))
     pub valid : IfSome (log_records it) (λ list. log_of h list ≡ Ok (shown_with (view_of it) list))
-    pub images : IfSome (log_records it) (AllRepresent g (log_disk it))
+    pub crash_states : IfSome (log_records it) (AllRepresent g (log_disk it))

@@ -1,6 +1,6 @@
 -- What a drill comes to, in numbers.
 use Rattle.std.specs.Prelude.{◌≡◌, ◌+◌, ◌≤◌, ℕ, length}
-use Rattle.drill_nodes.specs.Rounds.{drill_of}
+use Rattle.drill_parties.specs.Rounds.{drill_of}
 use Rattle.drill_core.specs.declared.made.Counts.{Counts}
 
 -- Entries, landmarks and stops are those that the number draws. Each of three cosigners signs in

@@ -6,7 +6,7 @@ use Rattle.authority_core.specs.Issuing.{entry_for}
 use Rattle.authority_core.specs.Requests.{RequestParts}
 use Rattle.issuance_log.specs.Folds.{LogState, null_entry}
 use Rattle.issuance_log.specs.Settings.{Settings}
-use Rattle.drill_nodes.specs.Ids.{drill_log_id}
+use Rattle.drill_parties.specs.Ids.{drill_log_id}
 
 -- the log has 4 active landmarks and 64 entries at most
 abbrev pub log_settings : Settings

@@ -1,7 +1,7 @@
 pub mod Entries
 pub mod Calls
-pub mod Nodes
-pub mod LogNodes
+pub mod Parties
+pub mod LogParties
 pub mod Stores
 pub mod Listed
 pub mod Audits
@@ -9,4 +9,4 @@ pub mod AuditViews
 pub mod LightStores
 pub mod Played
 pub mod Counts
-pub mod Fleets
+pub mod DrillOutputs

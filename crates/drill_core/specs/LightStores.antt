@@ -22,7 +22,7 @@ use Rattle.policy_core.specs.declared.store.Store.{Store}
 use Rattle.issuance_log.specs.Folds.{LogState}
 use Rattle.authority_core.specs.Acceptance.{IsOwnEntry}
 use Rattle.authority_core.specs.Certificates.{IsLightlyWritten}
-use Rattle.drill_nodes.specs.Ids.{drill_log_id}
+use Rattle.drill_parties.specs.Ids.{drill_log_id}
 use Rattle.drill_core.specs.Stores.{IsDrillEntry}
 
 -- a subtree with the tree hash of its entries

@@ -15,21 +15,22 @@ use Rattle.cosigner_core.specs.Folds.{CosignerState}
 use Rattle.policy_core.specs.Judgement.{judgement}
 use Rattle.authority_core.specs.Certificates.{IsWritten}
 use Rattle.authority_core.specs.Issues.{issued_log}
-use Rattle.drill_nodes.specs.CosignerNodes.{HasSign, secret_of}
-use Rattle.drill_nodes.specs.CosignerViews.{cosigner_shown, records_shown}
-use Rattle.drill_nodes.specs.Cosigners.{HasRecordedAll, HaveSigned, IsSigned, Paired, keys_used}
-use Rattle.drill_nodes.specs.Cosigners.{stops_by}
-use Rattle.drill_nodes.specs.Ids.{drill_log_id, id_of}
-use Rattle.drill_nodes.specs.Rounds.{Drill, after_rounds, begun, landmark_turns, stops_in, stops_of}
-use Rattle.drill_nodes.specs.declared.cosigner_node.CosignerNode.{CosignerNode}
-use Rattle.drill_nodes.specs.declared.round.Round.{Round}
-use Rattle.drill_nodes.specs.declared.turns.Stop.{Stop}
+use Rattle.drill_parties.specs.CosignerParties.{HasSign, secret_of}
+use Rattle.drill_parties.specs.CosignerViews.{cosigner_shown, records_shown}
+use Rattle.drill_parties.specs.Cosigners.{HasRecordedAll, HaveSigned, IsSigned, Paired, keys_used}
+use Rattle.drill_parties.specs.Cosigners.{stops_by}
+use Rattle.drill_parties.specs.Ids.{drill_log_id, id_of}
+use Rattle.drill_parties.specs.Rounds.{Drill, after_rounds, begun, landmark_turns, stops_in}
+use Rattle.drill_parties.specs.Rounds.{stops_of}
+use Rattle.drill_parties.specs.declared.cosigner_party.CosignerParty.{CosignerParty}
+use Rattle.drill_parties.specs.declared.round.Round.{Round}
+use Rattle.drill_parties.specs.declared.turns.Stop.{Stop}
 use Rattle.drill_core.specs.AuditViews.{AllStand}
 use Rattle.drill_core.specs.Entries.{entries_to, log_with, request_for}
 use Rattle.drill_core.specs.LightStores.{IsDue}
-use Rattle.drill_core.specs.LogNodes.{IsSameLog, log_shown, log_stops}
+use Rattle.drill_core.specs.LogParties.{IsSameLog, log_shown, log_stops}
 use Rattle.drill_core.specs.Stores.{IsAcceptedByAll, StoresAcceptNow, drill_store, one_accepted}
-use Rattle.drill_core.specs.declared.nodes.FleetNodes.{FleetNodes}
+use Rattle.drill_core.specs.declared.parties.DrillParties.{DrillParties}
 
 -- the log that has issued so many entries more
 unfoldable pub issued_to : HashFunction → ℕ → LogState → LogState
@@ -56,30 +57,30 @@ IsWrittenOf h s index bytes =
 
 module _ {H : Type 0} {hashes : Hashes H} where
   -- how many stops were made
-  abbrev pub all_stops : FleetNodes H hashes → ℕ
-  all_stops nodes = log_stops nodes.log + stops_by nodes.cosigners.nodes.items
+  abbrev pub all_stops : DrillParties H hashes → ℕ
+  all_stops parties = log_stops parties.log + stops_by parties.cosigners.parties.items
 
   -- What a round asks of the parties: three cosigners, which hold no more than the log has, and
   -- counts that are far enough below their limits for it.
-  pub record AreReady (nodes : FleetNodes H hashes) : Type 0 where
-    pub three : length nodes.cosigners.nodes.items ≡ 3
-    pub held : AllByRecursion (λ node. (cosigner_shown node).held.size
-        ≤ length (log_shown nodes.log).entries) nodes.cosigners.nodes.items
-    pub verified : nodes.verified ≤ 15
-    pub stands : nodes.stands ≤ 45
-    pub light : nodes.light ≤ 15
+  pub record AreReady (parties : DrillParties H hashes) : Type 0 where
+    pub three : length parties.cosigners.parties.items ≡ 3
+    pub held : AllByRecursion (λ party. (cosigner_shown party).held.size
+        ≤ length (log_shown parties.log).entries) parties.cosigners.parties.items
+    pub verified : parties.verified ≤ 15
+    pub stands : parties.stands ≤ 45
+    pub light : parties.light ≤ 15
 
   -- All cosigners have signed all of the log, and there is one certificate more, with their
   -- signatures. It was judged, and audited with the records of each.
-  pub record HasCertified (h : HashFunction) (index : ℕ) (old new : FleetNodes H hashes)
+  pub record HasCertified (h : HashFunction) (index : ℕ) (old new : DrillParties H hashes)
       : Type 0 where
     pub log : IsSameLog old.log new.log
     pub store : new.store ≡ old.store
     pub each : Paired (IsSigned (length (log_shown old.log).entries)
-        (log_root h (log_shown old.log))) old.cosigners.nodes.items new.cosigners.nodes.items
+        (log_root h (log_shown old.log))) old.cosigners.parties.items new.cosigners.parties.items
     pub signatures : Text
     pub signed : HaveSigned (length (log_shown old.log).entries) (log_root h (log_shown old.log))
-        old.cosigners.nodes.items [] signatures
+        old.cosigners.parties.items [] signatures
     pub cert : Text
     pub certs : new.certs.items ≡ old.certs.items ++ cert ∷ []
     pub written : IsWritten h (log_shown old.log) index 0 (length (log_shown old.log).entries)
@@ -87,12 +88,12 @@ module _ {H : Type 0} {hashes : Hashes H} where
     pub accepts : StoresAcceptNow h (log_shown old.log) index signatures cert
     pub verified : new.verified
         ≡ old.verified + one_accepted (judgement h cert old.store (pos 1767225600))
-    pub stands : AllStand h old.store cert (log_shown old.log) new.cosigners.nodes.items
+    pub stands : AllStand h old.store cert (log_shown old.log) new.cosigners.parties.items
         → new.stands ≡ old.stands + 3
     pub light : new.light ≡ old.light
 
   -- A cosigner after a round: it holds this root, and has signed it.
-  pub record HasHeldAndSigned (size : ℕ) (hash : Hash) (old new : CosignerNode H hashes)
+  pub record HasHeldAndSigned (size : ℕ) (hash : Hash) (old new : CosignerParty H hashes)
       : Type 0 where
     pub id : (cosigner_shown new).id ≡ (cosigner_shown old).id
     pub log_id : (cosigner_shown new).log ≡ (cosigner_shown old).log
@@ -102,16 +103,16 @@ module _ {H : Type 0} {hashes : Hashes H} where
     pub recorded : HasRecordedAll size hash (records_shown old) (records_shown new)
 
   -- A round was played.
-  pub record HasPlayed (h : HashFunction) (r : Round) (old new : FleetNodes H hashes)
+  pub record HasPlayed (h : HashFunction) (r : Round) (old new : DrillParties H hashes)
       : Type 0 where
     pub log : log_shown new.log
         ≡ with_landmark r.landmark (issued_to h (length r.entries) (log_shown old.log))
     pub store : new.store ≡ old.store
     pub each : Paired (HasHeldAndSigned (length (log_shown new.log).entries)
-        (log_root h (log_shown new.log))) old.cosigners.nodes.items new.cosigners.nodes.items
+        (log_root h (log_shown new.log))) old.cosigners.parties.items new.cosigners.parties.items
     pub signatures : Text
     pub signed : HaveSigned (length (log_shown new.log).entries) (log_root h (log_shown new.log))
-        old.cosigners.nodes.items [] signatures
+        old.cosigners.parties.items [] signatures
     pub cert : Text
     pub certs : new.certs.items ≡ old.certs.items ++ cert ∷ []
     pub written : IsWritten h (log_shown new.log) r.index 0 (length (log_shown new.log).entries)
@@ -119,12 +120,12 @@ module _ {H : Type 0} {hashes : Hashes H} where
     pub accepts : StoresAcceptNow h (log_shown new.log) r.index signatures cert
     pub verified : new.verified
         ≡ old.verified + one_accepted (judgement h cert old.store (pos 1767225600))
-    pub stands : AllStand h old.store cert (log_shown new.log) new.cosigners.nodes.items
+    pub stands : AllStand h old.store cert (log_shown new.log) new.cosigners.parties.items
         → new.stands ≡ old.stands + 3
     pub light : IsDue h (log_shown new.log)
         → new.light ≡ old.light + length (landmark_turns r.landmark)
-    pub keys : keys_used new.cosigners.nodes.items
-        ≤ keys_used old.cosigners.nodes.items + 3 + stops_in r.signs
+    pub keys : keys_used new.cosigners.parties.items
+        ≤ keys_used old.cosigners.parties.items + 3 + stops_in r.signs
     pub stops : all_stops new ≡ all_stops old + stops_of r
 
 -- ---- so many rounds of the drill with a number
@@ -169,33 +170,35 @@ cosigner_arcs = 2 ∷ 3 ∷ 4 ∷ []
 
 module _ {H : Type 0} {hashes : Hashes H} where
   -- A cosigner after so many rounds: it holds all of the log, and has signed it in each.
-  pub record IsNodeAfter (h : HashFunction) (number count : ℕ) (d : Drill) (last : ℕ)
-      (node : CosignerNode H hashes) : Type 0 where
+  pub record IsPartyAfter (h : HashFunction) (number count : ℕ) (d : Drill) (last : ℕ)
+      (party : CosignerParty H hashes) : Type 0 where
     pub within : IsCosignerWithin number last count (checkpoint_after h count d.size)
-        (cosigner_shown node)
-    pub signs : HaveSigns h d.written (records_shown node)
+        (cosigner_shown party)
+    pub signs : HaveSigns h d.written (records_shown party)
 
   -- The parties after so many rounds of the drill with a number, which stands so, and what was
   -- counted.
-  pub record IsAfter (h : HashFunction) (number count : ℕ) (d : Drill) (nodes : FleetNodes H hashes)
+  pub record IsAfter (h : HashFunction) (number count : ℕ) (d : Drill)
+      (parties : DrillParties H hashes)
       : Type 0 where
-    pub log : log_shown nodes.log ≡ log_with h d.size d.marks
-    pub cosigners : Paired (IsNodeAfter h number count d) cosigner_arcs nodes.cosigners.nodes.items
-    pub keys : keys_used nodes.cosigners.nodes.items ≤ 3 * count + d.stops
-    pub store : nodes.store ≡ drill_store number
-    pub certs : AreWritten h number nodes.certs.items d.written
+    pub log : log_shown parties.log ≡ log_with h d.size d.marks
+    pub cosigners : Paired (IsPartyAfter h number count d) cosigner_arcs
+        parties.cosigners.parties.items
+    pub keys : keys_used parties.cosigners.parties.items ≤ 3 * count + d.stops
+    pub store : parties.store ≡ drill_store number
+    pub certs : AreWritten h number parties.certs.items d.written
     pub sizes : NoneLarger d.size d.written
-    pub verified : nodes.verified ≡ count
-    pub stands : nodes.stands ≡ 3 * count
-    pub light : nodes.light ≡ length d.marks
+    pub verified : parties.verified ≡ count
+    pub stands : parties.stands ≡ 3 * count
+    pub light : parties.light ≡ length d.marks
     pub few_marks : length d.marks ≤ count
-    pub stops : all_stops nodes ≡ d.stops
+    pub stops : all_stops parties ≡ d.stops
     pub few_stops : d.stops ≤ 10 * count
 
   -- A drill with a number, after so many rounds: the number for the next draw, and the parties.
-  pub record IsStanding (h : HashFunction) (number count next : ℕ) (nodes : FleetNodes H hashes)
+  pub record IsStanding (h : HashFunction) (number count next : ℕ) (parties : DrillParties H hashes)
       : Type 0 where
     pub next_is : next ≡ (after_rounds count (begun number)).next
     pub some : 1 ≤ (after_rounds count (begun number)).size
     pub small : (after_rounds count (begun number)).size ≤ 1 + 3 * count
-    pub after : IsAfter h number count (after_rounds count (begun number)) nodes
+    pub after : IsAfter h number count (after_rounds count (begun number)) parties

@@ -24,8 +24,8 @@ use Rattle.authority_core.specs.Certificates.{proof_for}
 use Rattle.authority_core.specs.Issuing.{entry_for}
 use Rattle.authority_core.specs.Requests.{CanBeIssued}
 use Rattle.cosigner_core.specs.Folds.{CosignerState}
-use Rattle.drill_nodes.specs.CosignerNodes.{secret_of}
-use Rattle.drill_nodes.specs.Ids.{drill_log_id, id_of}
+use Rattle.drill_parties.specs.CosignerParties.{secret_of}
+use Rattle.drill_parties.specs.Ids.{drill_log_id, id_of}
 use Rattle.drill_core.specs.Entries.{entries_to, request_for}
 
 -- what is known of the cosigner 32473.N that has this public key

@@ -12,17 +12,17 @@ ghost use Rattle.cosigner_steps.specs.Steps.{AreSteps};
 ghost use Rattle.policy_core.specs.Judgement.{judgement};
 ghost use Rattle.world_core.specs.Audit.{WasJudged};
 ghost use Rattle.drill_core.specs.Audits.{AllByExport, StandsByExport};
-ghost use Rattle.drill_nodes.specs.CosignerViews.{IsStill};
-ghost use Rattle.drill_nodes.specs.Cosigners.{Paired};
+ghost use Rattle.drill_parties.specs.CosignerViews.{IsStill};
+ghost use Rattle.drill_parties.specs.Cosigners.{Paired};
 ghost use Rattle.drill_core.specs.AuditViews.{AllStand};
-ghost use Rattle.drill_core.specs.LogNodes.{IsSameLog, log_shown};
+ghost use Rattle.drill_core.specs.LogParties.{IsSameLog, log_shown};
 
 use crate::judged_cert::JudgedCert;
-use crate::log_node::LogNode;
+use crate::log_party::LogParty;
 use crate::requests::NOT_BEFORE;
 use cert_fields::parse;
 use cosigner_core::{Export, read_export};
-use drill_nodes::Cosigners;
+use drill_parties::Cosigners;
 use entry_list::{Items, read_items};
 use mtc_io::{Bytes, Memory};
 use mtc_proof::read_proof;
@@ -150,18 +150,18 @@ fn standing<H: TreeHash>(
 /// audits stand. They are as many as the cosigners exactly if all do.
 pub(crate) fn audited<H: TreeHash>(
     alloc: Global,
-    log: &mut LogNode<H>,
+    log: &mut LogParty<H>,
     cosigners: &mut Cosigners<H>,
     store: &Store,
     cert: &Bytes,
 ) -> Result<u64, Memory>
     ensures log { IsSameLog log.old log.new }
     ensures still { IfOk result (λ count.
-        Paired IsStill cosigners.old.nodes.items cosigners.new.nodes.items) }
-    ensures few { IfOk result (λ count. count ≤ length cosigners.old.nodes.items) }
+        Paired IsStill cosigners.old.parties.items cosigners.new.parties.items) }
+    ensures few { IfOk result (λ count. count ≤ length cosigners.old.parties.items) }
     ensures count { IfOk result (λ count.
-        AllStand H.hash store.now cert.now (log_shown log.old) cosigners.old.nodes.items
-        ↔ (count ≡ length cosigners.old.nodes.items)) }
+        AllStand H.hash store.now cert.now (log_shown log.old) cosigners.old.parties.items
+        ↔ (count ≡ length cosigners.old.parties.items)) }
 {
     let listed = log.listed(alloc)?;
     let exports = cosigners.exports(alloc)?;

@@ -1,15 +1,15 @@
 //! All rounds of a drill.
 
 ghost use Rattle.std.specs.Prelude.{◌+◌, ℕ, IfOk};
-ghost use Rattle.drill_nodes.specs.Rounds.{begun};
-ghost use Rattle.drill_core.specs.Fleets.{IsFleet};
+ghost use Rattle.drill_parties.specs.Rounds.{begun};
+ghost use Rattle.drill_core.specs.DrillOutputs.{IsDrillOutput};
 ghost use Rattle.drill_core.specs.Played.{AreReady, IsAfter, IsStanding};
 
-use crate::log_node::{LogNode, size_of};
-use crate::made::Fleet;
-use crate::nodes::FleetNodes;
+use crate::log_party::{LogParty, size_of};
+use crate::made::DrillOutput;
+use crate::parties::DrillParties;
 use crate::store::store_of;
-use drill_nodes::{Cosigners, Dice};
+use drill_parties::{Cosigners, Dice};
 use mtc_io::Memory;
 use std::alloc::Global;
 use tree_core::TreeHash;
@@ -18,14 +18,14 @@ use tree_core::TreeHash;
 const ROUNDS: u64 = 16;
 
 // New parties.
-fn begin<H: TreeHash>(alloc: Global, number: u64) -> Result<FleetNodes<H>, Memory>
+fn begin<H: TreeHash>(alloc: Global, number: u64) -> Result<DrillParties<H>, Memory>
     ensures { IfOk result (IsAfter H.hash number 0 (begun number)) }
 {
-    let log = LogNode::create(alloc)?;
+    let log = LogParty::create(alloc)?;
     let cosigners = Cosigners::create(alloc, number)?;
     let store = store_of(alloc, &cosigners)?;
     let certs = Vec::new(alloc);
-    Ok(FleetNodes {
+    Ok(DrillParties {
         log,
         cosigners,
         store,
@@ -40,27 +40,27 @@ fn begin<H: TreeHash>(alloc: Global, number: u64) -> Result<FleetNodes<H>, Memor
 fn go_on<H: TreeHash>(
     alloc: Global,
     dice: &mut Dice,
-    nodes: FleetNodes<H>,
-) -> Result<FleetNodes<H>, Memory>
-    requires { AreReady nodes }
+    parties: DrillParties<H>,
+) -> Result<DrillParties<H>, Memory>
+    requires { AreReady parties }
     ensures { IfOk result (λ it. (number count : ℕ)
-        → IsStanding H.hash number count dice.old.number nodes
+        → IsStanding H.hash number count dice.old.number parties
         → IsStanding H.hash number (count + 1) dice.new.number it) }
 {
-    nodes.log.log.law_sound();
-    let size = size_of(&nodes.log.log);
+    parties.log.log.law_sound();
+    let size = size_of(&parties.log.log);
     let round = dice.round(alloc, size)?;
-    nodes.play(alloc, &round)
+    parties.play(alloc, &round)
 }
 
 /// Plays the drill with this number. `Memory` is the one error.
-pub fn fleet<H: TreeHash>(alloc: Global, number: u64) -> Result<Fleet, Memory>
-    ensures { IfOk result (IsFleet H.hash number) }
+pub fn play_drill<H: TreeHash>(alloc: Global, number: u64) -> Result<DrillOutput, Memory>
+    ensures { IfOk result (IsDrillOutput H.hash number) }
 {
     let mut dice = Dice::new(number);
-    let mut nodes = begin::<H>(alloc, number)?;
+    let mut parties = begin::<H>(alloc, number)?;
     for _round in 0..ROUNDS {
-        nodes = go_on(alloc, &mut dice, nodes)?;
+        parties = go_on(alloc, &mut dice, parties)?;
     }
-    nodes.handed_out(alloc)
+    parties.into_output(alloc)
 }

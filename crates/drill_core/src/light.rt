@@ -5,9 +5,9 @@ ghost use Rattle.landmarks.specs.Landmarks.{active_of, landmarks_of};
 ghost use Rattle.issuance_log.specs.Words.{LogStays};
 ghost use Rattle.drill_core.specs.LightStores.{AreOfLandmarks, IsDue, IsLit, TrustsActive};
 ghost use Rattle.drill_core.specs.LightStores.{cover_with, with_hash};
-ghost use Rattle.drill_core.specs.Nodes.{log_seen};
+ghost use Rattle.drill_core.specs.Parties.{log_seen};
 
-use crate::log_node::size_of;
+use crate::log_party::size_of;
 use crate::requests::NOT_BEFORE;
 use crate::store::empty_store;
 use crate::tree::hash_of;

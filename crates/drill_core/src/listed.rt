@@ -5,10 +5,10 @@ ghost use Rattle.entry_list.specs.Items.{file_text, listed_text};
 ghost use Rattle.entry_list.specs.Reading.{items_in};
 ghost use Rattle.issuance_log.specs.Words.{LogStays};
 ghost use Rattle.drill_core.specs.Listed.{IsListedAt, log_items};
-ghost use Rattle.drill_core.specs.LogNodes.{IsSameLog, log_shown};
-ghost use Rattle.drill_core.specs.Nodes.{log_seen};
+ghost use Rattle.drill_core.specs.LogParties.{IsSameLog, log_shown};
+ghost use Rattle.drill_core.specs.Parties.{log_seen};
 
-use crate::log_node::{LogNode, size_of};
+use crate::log_party::{LogParty, size_of};
 use disk_core::MemDisk;
 use issuance_log::Log;
 use mtc_io::{Bytes, Memory};
@@ -70,7 +70,7 @@ fn item_file<H: TreeHash>(
     Ok(out)
 }
 
-impl<H: TreeHash> LogNode<H> {
+impl<H: TreeHash> LogParty<H> {
     /// The file of its items, which is read as these.
     pub(crate) fn listed(&mut self, alloc: Global) -> Result<Bytes, Memory>
         ensures same { IsSameLog self.old self.new }

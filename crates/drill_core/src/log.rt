@@ -2,22 +2,22 @@
 
 ghost use Rattle.std.specs.Prelude.{◌≡◌, ◌+◌, List, [], ◌∷◌, length, Ok, IfOk};
 ghost use Rattle.byte_formats.specs.Types.{Text};
-ghost use Rattle.disk_core.specs.Memory.{bytes_of, images_of};
+ghost use Rattle.disk_core.specs.Memory.{bytes_of, crash_states_of};
 ghost use Rattle.journal_core.specs.Format.{Represents};
 ghost use Rattle.issuance_log.specs.Folds.{LogState, log_of, new_log, with_mark};
 ghost use Rattle.authority_core.specs.Issues.{issued_log};
 ghost use Rattle.drill_core.specs.Calls.{IsLogWith, count_in, log_called};
 ghost use Rattle.drill_core.specs.Entries.{log_settings, request_for};
-ghost use Rattle.drill_core.specs.LogNodes.{log_shown, log_stops};
-ghost use Rattle.drill_core.specs.Nodes.{IsEither, IsLeft};
+ghost use Rattle.drill_core.specs.LogParties.{log_shown, log_stops};
+ghost use Rattle.drill_core.specs.Parties.{IsEither, IsLeft};
 ghost use Rattle.drill_core.specs.Played.{issued_to};
-ghost use Rattle.drill_nodes.specs.Rounds.{stops_in};
+ghost use Rattle.drill_parties.specs.Rounds.{stops_in};
 
 use crate::calls::{LogCall, call_log, open_log};
-use crate::log_node::{LogNode, size_of};
+use crate::log_party::{LogParty, size_of};
 use crate::requests::request_for;
 use disk_core::{Fuse, MemDisk};
-use drill_nodes::{LOG, Stop, Stops, Turn, Turns, id_of};
+use drill_parties::{LOG, Stop, Stops, Turn, Turns, id_of};
 use issuance_log::{Log, LogSettings, create};
 use mtc_io::Memory;
 use std::alloc::Global;
@@ -45,12 +45,12 @@ fn opened<H: TreeHash>(
     disk: MemDisk,
     tiles: MemDisk,
     stops: Stops,
-) -> Result<LogNode<H>, Memory>
+) -> Result<LogParty<H>, Memory>
     ensures state { IfOk result (λ it. (list : List Text) (s : LogState)
         → Represents (bytes_of disk) list → log_of H.hash list ≡ Ok s → log_shown it ≡ s) }
     ensures stops { IfOk result (λ it. log_stops it ≡ length stops.made.items) }
 {
-    Ok(LogNode {
+    Ok(LogParty {
         log: open_log(alloc, disk, tiles)?,
         stops,
     })
@@ -59,13 +59,13 @@ fn opened<H: TreeHash>(
 // The log with the device of its journal under a fuse, and the stops so far.
 fn fused<H: TreeHash>(
     alloc: Global,
-    node: LogNode<H>,
+    party: LogParty<H>,
     passes: u64,
 ) -> Result<(Log<H, Fuse<MemDisk>, MemDisk>, Stops), Memory>
-    ensures state { IfOk result (λ x. IsLogWith H.hash (log_shown node) x.0) }
-    ensures stops { IfOk result (λ x. length x.1.made.items ≡ log_stops node) }
+    ensures state { IfOk result (λ x. IsLogWith H.hash (log_shown party) x.0) }
+    ensures stops { IfOk result (λ x. length x.1.made.items ≡ log_stops party) }
 {
-    let (disk, tiles, stops) = node.into_disks();
+    let (disk, tiles, stops) = party.into_disks();
     let fuse = Fuse::new(disk, passes);
     let log = open_log(alloc, fuse, tiles)?;
     log.law_sound();
@@ -80,13 +80,13 @@ fn halted<H: TreeHash>(
     call: &LogCall,
 ) -> Result<(MemDisk, MemDisk, bool), Memory>
     ensures { IfOk result (λ left. (s : LogState) → IsLogWith H.hash s log
-        → IsLeft H.hash call.now s (images_of left.0)) }
+        → IsLeft H.hash call.now s (crash_states_of left.0)) }
 {
     let mut log = log;
     let done = call_log(alloc, &mut log, call)?;
     let (fuse, tiles) = log.into_disks();
     let left = fuse.into_inner();
-    if left.starved() > 0 {
+    if left.failed_allocations() > 0 {
         return Err(Memory);
     }
     Ok((left, tiles, done))
@@ -96,24 +96,24 @@ fn halted<H: TreeHash>(
 // device. No other function counts a stop.
 fn stopped<H: TreeHash>(
     alloc: Global,
-    node: LogNode<H>,
+    party: LogParty<H>,
     call: &LogCall,
     stop: Stop,
-) -> Result<LogNode<H>, Memory>
-    ensures state { IfOk result (λ it. IsEither H.hash call.now (log_shown node) (log_shown it)) }
-    ensures stops { IfOk result (λ it. log_stops it ≡ log_stops node + 1) }
+) -> Result<LogParty<H>, Memory>
+    ensures state { IfOk result (λ it. IsEither H.hash call.now (log_shown party) (log_shown it)) }
+    ensures stops { IfOk result (λ it. log_stops it ≡ log_stops party + 1) }
 {
-    let (log, mut stops) = fused(alloc, node, stop.passes)?;
+    let (log, mut stops) = fused(alloc, party, stop.passes)?;
     let (left, tiles, done) = halted(alloc, log, call)?;
-    let image = left.crash(stop.pick)?;
+    let crash_state = left.crash(stop.pick)?;
     let tiles = tiles.crash(stop.pick)?;
     stops.add(stop, done)?;
-    opened(alloc, image, tiles, stops)
+    opened(alloc, crash_state, tiles, stops)
 }
 
-impl<H: TreeHash> LogNode<H> {
+impl<H: TreeHash> LogParty<H> {
     /// A new log on an empty device, and another empty one for its tiles.
-    pub(crate) fn create(alloc: Global) -> Result<LogNode<H>, Memory>
+    pub(crate) fn create(alloc: Global) -> Result<LogParty<H>, Memory>
         ensures state { IfOk result (λ it. log_shown it ≡ new_log log_settings) }
         ensures stops { IfOk result (λ it. log_stops it ≡ 0) }
     {
@@ -140,7 +140,7 @@ impl<H: TreeHash> LogNode<H> {
 
     // The call, with a stop or without one. After a stop it is made again, unless its record was
     // recovered.
-    fn asked(self, alloc: Global, call: &LogCall, turn: Turn) -> Result<LogNode<H>, Memory>
+    fn asked(self, alloc: Global, call: &LogCall, turn: Turn) -> Result<LogParty<H>, Memory>
         ensures state { IfOk result (λ it.
             log_shown it ≡ log_called H.hash (log_shown self) call.now) }
         ensures stops { IfOk result (λ it. log_stops it ≡ log_stops self + stops_in (turn ∷ [])) }
@@ -149,17 +149,17 @@ impl<H: TreeHash> LogNode<H> {
             return self.done(alloc, call);
         };
         let before = self.count(call);
-        let mut node = stopped(alloc, self, call, stop)?;
-        if before < node.count(call) {
-            node.stops.recover();
-            Ok(node)
+        let mut party = stopped(alloc, self, call, stop)?;
+        if before < party.count(call) {
+            party.stops.recover();
+            Ok(party)
         } else {
-            node.done(alloc, call)
+            party.done(alloc, call)
         }
     }
 
     /// Issues the next entry.
-    pub(crate) fn issue(self, alloc: Global, turn: Turn) -> Result<LogNode<H>, Memory>
+    pub(crate) fn issue(self, alloc: Global, turn: Turn) -> Result<LogParty<H>, Memory>
         ensures state { IfOk result (λ it. log_shown it
             ≡ issued_log H.hash (log_shown self).settings
             (request_for (length (log_shown self).entries)) (log_shown self)) }
@@ -171,20 +171,20 @@ impl<H: TreeHash> LogNode<H> {
 
     /// Issues an entry for each turn.
     #[tactic(auto, unfolding(crate::specs::Played::issued_to))]
-    pub(crate) fn issue_all(self, alloc: Global, turns: &Turns) -> Result<LogNode<H>, Memory>
+    pub(crate) fn issue_all(self, alloc: Global, turns: &Turns) -> Result<LogParty<H>, Memory>
         ensures state { IfOk result (λ it. log_shown it
             ≡ issued_to H.hash (length turns.now) (log_shown self)) }
         ensures stops { IfOk result (λ it. log_stops it ≡ log_stops self + stops_in turns.now) }
     {
-        let mut node = self;
+        let mut party = self;
         for turn in turns.as_slice() {
-            node = node.issue(alloc, *turn)?;
+            party = party.issue(alloc, *turn)?;
         }
-        Ok(node)
+        Ok(party)
     }
 
     /// Sets a landmark.
-    pub(crate) fn mark(self, alloc: Global, turn: Turn) -> Result<LogNode<H>, Memory>
+    pub(crate) fn mark(self, alloc: Global, turn: Turn) -> Result<LogParty<H>, Memory>
         ensures state { IfOk result (λ it. log_shown it ≡ with_mark (log_shown self)) }
         ensures stops { IfOk result (λ it. log_stops it ≡ log_stops self + stops_in (turn ∷ [])) }
     {

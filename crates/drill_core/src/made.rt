@@ -57,7 +57,7 @@ pub struct Counts {
 /// was made did not answer Ok, and after how many stops in calls of the log and in advances the
 /// record of the call was there.
 #[derive(Debug, Drop)]
-pub struct Fleet {
+pub struct DrillOutput {
     pub log: MemDisk,
     pub cosigners: Vec<MemDisk>,
     pub certs: Certs,

@@ -4,12 +4,13 @@ ghost use Rattle.std.specs.Prelude.{◌≡◌, ◌<◌, ◌≤◌, ◌+◌, [], 
 ghost use Rattle.std.specs.List.{AllByRecursion};
 ghost use Rattle.authority_core.specs.Certificates.{IsWritten};
 ghost use Rattle.issuance_log.specs.Folds.{with_mark};
-ghost use Rattle.drill_nodes.specs.Cosigners.{HaveSigned, IsAdvanced, IsSigned, Paired, keys_used};
-ghost use Rattle.drill_nodes.specs.Cosigners.{stops_by};
-ghost use Rattle.drill_nodes.specs.CosignerViews.{cosigner_shown};
-ghost use Rattle.drill_nodes.specs.Rounds.{landmark_turns, stops_in};
+ghost use Rattle.drill_parties.specs.Cosigners.{HaveSigned, IsAdvanced, IsSigned, Paired};
+ghost use Rattle.drill_parties.specs.Cosigners.{keys_used};
+ghost use Rattle.drill_parties.specs.Cosigners.{stops_by};
+ghost use Rattle.drill_parties.specs.CosignerViews.{cosigner_shown};
+ghost use Rattle.drill_parties.specs.Rounds.{landmark_turns, stops_in};
 ghost use Rattle.drill_core.specs.LightStores.{IsDue};
-ghost use Rattle.drill_core.specs.LogNodes.{IsSameLog, log_shown, log_stops};
+ghost use Rattle.drill_core.specs.LogParties.{IsSameLog, log_shown, log_stops};
 ghost use Rattle.drill_core.specs.Played.{AreReady, HasCertified, HasPlayed, all_stops, issued_to};
 ghost use Rattle.drill_core.specs.Played.{with_landmark};
 ghost use Rattle.drill_core.specs.Played.{log_root};
@@ -17,12 +18,12 @@ ghost use Rattle.drill_core.specs.Stores.{StoresAcceptNow};
 
 use crate::audits::audited;
 use crate::light::one_light;
-use crate::log_node::{LogNode, size_of};
-use crate::nodes::FleetNodes;
+use crate::log_party::{LogParty, size_of};
+use crate::parties::DrillParties;
 use crate::store::one_accepted;
 use crate::tree::root_and_proof;
 use authority_core::{cert, law_entries_say_what_was_asked};
-use drill_nodes::{Cosigners, Round, Turn, Turns};
+use drill_parties::{Cosigners, Round, Turn, Turns};
 use mtc_io::{Bytes, Memory};
 use mtc_proof::check_signatures;
 use std::alloc::Global;
@@ -31,21 +32,21 @@ use tree_core::TreeHash;
 // Each cosigner holds the root of the log.
 fn hold_all<H: TreeHash>(
     alloc: Global,
-    log: &mut LogNode<H>,
+    log: &mut LogParty<H>,
     cosigners: &mut Cosigners<H>,
     turns: &Turns,
 ) -> Result<(), Memory>
-    requires some { 0 < length cosigners.old.nodes.items }
+    requires some { 0 < length cosigners.old.parties.items }
     requires larger { AllByRecursion
-        (λ node. (cosigner_shown node).held.size < length (log_shown log.old).entries)
-        cosigners.old.nodes.items }
-    requires turns { length turns.now ≡ length cosigners.old.nodes.items }
+        (λ party. (cosigner_shown party).held.size < length (log_shown log.old).entries)
+        cosigners.old.parties.items }
+    requires turns { length turns.now ≡ length cosigners.old.parties.items }
     ensures same { IsSameLog log.old log.new }
     ensures each { OnOk result (Paired (IsAdvanced (length (log_shown log.old).entries)
-        (log_root H.hash (log_shown log.old))) cosigners.old.nodes.items
-        cosigners.new.nodes.items) }
-    ensures stops { OnOk result (stops_by cosigners.new.nodes.items
-        ≡ stops_by cosigners.old.nodes.items + stops_in turns.now) }
+        (log_root H.hash (log_shown log.old))) cosigners.old.parties.items
+        cosigners.new.parties.items) }
+    ensures stops { OnOk result (stops_by cosigners.new.parties.items
+        ≡ stops_by cosigners.old.parties.items + stops_in turns.now) }
 {
     let held = cosigners.held();
     let size = size_of(&log.log);
@@ -56,23 +57,23 @@ fn hold_all<H: TreeHash>(
 /// The log issues an entry for each turn, and each cosigner holds its root.
 pub(crate) fn grown<H: TreeHash>(
     alloc: Global,
-    log: LogNode<H>,
+    log: LogParty<H>,
     mut cosigners: Cosigners<H>,
     entries: &Turns,
     turns: &Turns,
-) -> Result<(LogNode<H>, Cosigners<H>), Memory>
+) -> Result<(LogParty<H>, Cosigners<H>), Memory>
     requires more { 1 ≤ length entries.now }
-    requires some { 0 < length cosigners.nodes.items }
+    requires some { 0 < length cosigners.parties.items }
     requires held { AllByRecursion
-        (λ node. (cosigner_shown node).held.size ≤ length (log_shown log).entries)
-        cosigners.nodes.items }
-    requires turns { length turns.now ≡ length cosigners.nodes.items }
+        (λ party. (cosigner_shown party).held.size ≤ length (log_shown log).entries)
+        cosigners.parties.items }
+    requires turns { length turns.now ≡ length cosigners.parties.items }
     ensures log { IfOk result (λ x. log_shown x.0
         ≡ issued_to H.hash (length entries.now) (log_shown log)) }
     ensures each { IfOk result (λ x. Paired (IsAdvanced (length (log_shown x.0).entries)
-        (log_root H.hash (log_shown x.0))) cosigners.nodes.items x.1.nodes.items) }
-    ensures stops { IfOk result (λ x. log_stops x.0 + stops_by x.1.nodes.items ≡ log_stops log
-        + stops_by cosigners.nodes.items + stops_in entries.now + stops_in turns.now) }
+        (log_root H.hash (log_shown x.0))) cosigners.parties.items x.1.parties.items) }
+    ensures stops { IfOk result (λ x. log_stops x.0 + stops_by x.1.parties.items ≡ log_stops log
+        + stops_by cosigners.parties.items + stops_in entries.now + stops_in turns.now) }
 {
     let mut log = log.issue_all(alloc, entries)?;
     hold_all(alloc, &mut log, &mut cosigners, turns)?;
@@ -82,24 +83,24 @@ pub(crate) fn grown<H: TreeHash>(
 // Each cosigner signs all of the log, and appends its signature to the others.
 fn sign_all<H: TreeHash>(
     alloc: Global,
-    log: &mut LogNode<H>,
+    log: &mut LogParty<H>,
     cosigners: &mut Cosigners<H>,
     turns: &Turns,
     signatures: &mut Bytes,
 ) -> Result<(), Memory>
-    requires { length turns.now ≡ length cosigners.old.nodes.items }
+    requires { length turns.now ≡ length cosigners.old.parties.items }
     ensures same { IsSameLog log.old log.new }
     ensures each { OnOk result (Paired (IsSigned (length (log_shown log.old).entries)
-        (log_root H.hash (log_shown log.old))) cosigners.old.nodes.items
-        cosigners.new.nodes.items) }
+        (log_root H.hash (log_shown log.old))) cosigners.old.parties.items
+        cosigners.new.parties.items) }
     ensures signed { OnOk result (HaveSigned (length (log_shown log.old).entries)
-        (log_root H.hash (log_shown log.old)) cosigners.old.nodes.items signatures.old
+        (log_root H.hash (log_shown log.old)) cosigners.old.parties.items signatures.old
         signatures.new) }
-    ensures keys { OnOk result (keys_used cosigners.new.nodes.items
-        ≤ keys_used cosigners.old.nodes.items + length cosigners.old.nodes.items
+    ensures keys { OnOk result (keys_used cosigners.new.parties.items
+        ≤ keys_used cosigners.old.parties.items + length cosigners.old.parties.items
         + stops_in turns.now) }
-    ensures stops { OnOk result (stops_by cosigners.new.nodes.items
-        ≡ stops_by cosigners.old.nodes.items + stops_in turns.now) }
+    ensures stops { OnOk result (stops_by cosigners.new.parties.items
+        ≡ stops_by cosigners.old.parties.items + stops_in turns.now) }
 {
     let size = size_of(&log.log);
     let (hash, proof) = root_and_proof(&mut log.log, size)?;
@@ -109,7 +110,7 @@ fn sign_all<H: TreeHash>(
 // The certificate of an entry, in the subtree of all entries, with these signatures.
 fn certificate<H: TreeHash>(
     alloc: Global,
-    log: &mut LogNode<H>,
+    log: &mut LogParty<H>,
     index: u64,
     signatures: &Bytes,
 ) -> Result<Bytes, Memory>
@@ -131,7 +132,7 @@ fn certificate<H: TreeHash>(
 }
 
 // The certificate of the newest entry without signatures is judged: 1 where it is accepted.
-fn judged_light<H: TreeHash>(alloc: Global, log: &mut LogNode<H>) -> Result<u64, Memory>
+fn judged_light<H: TreeHash>(alloc: Global, log: &mut LogParty<H>) -> Result<u64, Memory>
     ensures same { IsSameLog log.old log.new }
     ensures few { IfOk result (λ count. count ≤ 1) }
     ensures accepted { IfOk result (λ count. IsDue H.hash (log_shown log.old) → count ≡ 1) }
@@ -142,9 +143,9 @@ fn judged_light<H: TreeHash>(alloc: Global, log: &mut LogNode<H>) -> Result<u64,
 /// A landmark is set in the log, and the certificate of the newest entry without signatures judged.
 pub(crate) fn marked<H: TreeHash>(
     alloc: Global,
-    log: LogNode<H>,
+    log: LogParty<H>,
     turn: Turn,
-) -> Result<(LogNode<H>, u64), Memory>
+) -> Result<(LogParty<H>, u64), Memory>
     ensures log { IfOk result (λ x. log_shown x.0 ≡ with_mark (log_shown log)) }
     ensures stops { IfOk result (λ x. log_stops x.0 ≡ log_stops log + stops_in (turn ∷ [])) }
     ensures few { IfOk result (λ x. x.1 ≤ 1) }
@@ -155,9 +156,9 @@ pub(crate) fn marked<H: TreeHash>(
     Ok((log, count))
 }
 
-impl<H: TreeHash> FleetNodes<H> {
+impl<H: TreeHash> DrillParties<H> {
     // The landmark of a round, if it has one.
-    fn mark_in(self, alloc: Global, landmark: Option<Turn>) -> Result<FleetNodes<H>, Memory>
+    fn mark_in(self, alloc: Global, landmark: Option<Turn>) -> Result<DrillParties<H>, Memory>
         requires { self.light ≤ 15 }
         ensures log { IfOk result
             (λ it. log_shown it.log ≡ with_landmark landmark (log_shown self.log)) }
@@ -180,13 +181,13 @@ impl<H: TreeHash> FleetNodes<H> {
     // Each cosigner signs all of the log, and the certificate of an entry is written with the
     // signatures, judged, and audited with what each cosigner has recorded.
     fn certify(&mut self, alloc: Global, index: u64, turns: &Turns) -> Result<(), Memory>
-        requires three { length self.old.cosigners.nodes.items ≡ 3 }
+        requires three { length self.old.cosigners.parties.items ≡ 3 }
         requires verified { self.old.verified ≤ 15 }
         requires stands { self.old.stands ≤ 45 }
         requires turns { length turns.now ≡ 3 }
         ensures certified { OnOk result (HasCertified H.hash index self.old self.new) }
-        ensures keys { OnOk result (keys_used self.new.cosigners.nodes.items
-            ≤ keys_used self.old.cosigners.nodes.items + 3 + stops_in turns.now) }
+        ensures keys { OnOk result (keys_used self.new.cosigners.parties.items
+            ≤ keys_used self.old.cosigners.parties.items + 3 + stops_in turns.now) }
         ensures stops { OnOk result
             (all_stops self.new ≡ all_stops self.old + stops_in turns.now) }
     {
@@ -214,7 +215,7 @@ impl<H: TreeHash> FleetNodes<H> {
     }
 
     /// Plays a round.
-    pub(crate) fn play(self, alloc: Global, round: &Round) -> Result<FleetNodes<H>, Memory>
+    pub(crate) fn play(self, alloc: Global, round: &Round) -> Result<DrillParties<H>, Memory>
         requires ready { AreReady self }
         requires some { 1 ≤ length round.now.entries }
         requires advances { length round.now.advances ≡ 3 }

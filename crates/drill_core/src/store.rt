@@ -2,39 +2,39 @@
 
 ghost use Rattle.std.specs.Prelude.{◌≡◌, ◌≤◌, [], ◌∷◌, length, map, pos, IfOk};
 ghost use Rattle.policy_core.specs.Judgement.{judgement};
-ghost use Rattle.drill_nodes.specs.CosignerViews.{cosigner_shown};
+ghost use Rattle.drill_parties.specs.CosignerViews.{cosigner_shown};
 ghost use Rattle.drill_core.specs.LightStores.{light_store};
 ghost use Rattle.drill_core.specs.Stores.{known_as, one_accepted, store_with};
 
 use crate::requests::NOT_BEFORE;
 use cert_names::log_name;
-use drill_nodes::{CosignerNode, Cosigners, LOG, id_of};
+use drill_parties::{CosignerParty, Cosigners, LOG, id_of};
 use mtc_io::{Bytes, Memory};
 use policy_core::{
-    By, Cosigners as KnownCosigners, Known, Places, Revoked, Rule, Rules, Store, Subtrees,
+    By, Cosigners as KnownCosigners, Indices, Known, Revoked, Rule, Rules, Store, Subtrees,
 };
 use relying_party::judge;
 use std::alloc::Global;
 use tree_core::TreeHash;
 
 // What is known of a cosigner.
-fn known<H: TreeHash>(alloc: Global, node: &CosignerNode<H>) -> Result<Known, Memory>
-    ensures { IfOk result (λ known. known ≡ known_as (cosigner_shown node.now)) }
+fn known<H: TreeHash>(alloc: Global, party: &CosignerParty<H>) -> Result<Known, Memory>
+    ensures { IfOk result (λ known. known ≡ known_as (cosigner_shown party.now)) }
 {
     Ok(Known {
-        id: node.id(alloc)?,
-        key: node.public(),
+        id: party.id(alloc)?,
+        key: party.public(),
     })
 }
 
 // What is known of several.
-fn all_known<H: TreeHash>(alloc: Global, nodes: &[CosignerNode<H>]) -> Result<Vec<Known>, Memory>
+fn all_known<H: TreeHash>(alloc: Global, parties: &[CosignerParty<H>]) -> Result<Vec<Known>, Memory>
     ensures { IfOk result
-        (λ list. list.items ≡ map (λ node. known_as (cosigner_shown node)) nodes.now) }
+        (λ list. list.items ≡ map (λ party. known_as (cosigner_shown party)) parties.now) }
 {
     let mut list = Vec::new(alloc);
-    for node in nodes {
-        list.push(known(alloc, node)?)?;
+    for party in parties {
+        list.push(known(alloc, party)?)?;
     }
     Ok(list)
 }
@@ -44,11 +44,11 @@ fn two_of_three(alloc: Global) -> Result<Rules, Memory>
     ensures { IfOk result (λ rules. rules
         ≡ record { count = 2; cosigners = 0 ∷ 1 ∷ 2 ∷ [] } ∷ []) }
 {
-    let places = Vec::from_slice(alloc, &[0, 1, 2])?;
+    let indices = Vec::from_slice(alloc, &[0, 1, 2])?;
     let mut rules = Vec::new(alloc);
     rules.push(Rule {
         count: 2,
-        cosigners: Places::from_vec(places),
+        cosigners: Indices::from_vec(indices),
     })?;
     Ok(Rules::from_vec(rules))
 }
@@ -73,9 +73,9 @@ pub(crate) fn store_of<H: TreeHash>(
     alloc: Global,
     cosigners: &Cosigners<H>,
 ) -> Result<Store, Memory>
-    requires { length cosigners.now.nodes.items ≡ 3 }
+    requires { length cosigners.now.parties.items ≡ 3 }
     ensures { IfOk result (λ store. store ≡ store_with
-        (map (λ node. known_as (cosigner_shown node)) cosigners.now.nodes.items)) }
+        (map (λ party. known_as (cosigner_shown party)) cosigners.now.parties.items)) }
 {
     let known = all_known(alloc, cosigners.as_slice())?;
     let rules = two_of_three(alloc)?;

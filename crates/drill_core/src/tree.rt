@@ -5,9 +5,9 @@ ghost use Rattle.tree_core.specs.Path.{part_of};
 ghost use Rattle.tree_core.specs.Subtree.{is_subtree};
 ghost use Rattle.tree_core.specs.Tree.{tree_hash};
 ghost use Rattle.issuance_log.specs.Words.{LogStays};
-ghost use Rattle.drill_core.specs.Nodes.{log_seen};
+ghost use Rattle.drill_core.specs.Parties.{log_seen};
 
-use crate::log_node::size_of;
+use crate::log_party::size_of;
 use disk_core::MemDisk;
 use issuance_log::Log;
 use mtc_io::{Failed, Memory};

@@ -4,7 +4,7 @@ use Rattle.std.proofs.Common.{append_assoc, refl, sym, ap, subst, ◌∙◌, ari
 use Rattle.std.proofs.lemmas.List.{drop-drop, get_or-map, length-map, map-append}
 use Rattle.std.proofs.Math.Seq.{drop-append_seam}
 use Rattle.std.specs.Int.{w16}
-use Rattle.byte_formats.specs.Places.{At, IsBytes, at}
+use Rattle.byte_formats.specs.Offsets.{At, IsBytes, at}
 use Rattle.byte_formats.specs.Readings.{◌>>=◌}
 use Rattle.byte_formats.specs.Types.{HashFunction, Text}
 use Rattle.byte_formats.proofs.Steps.{IsBytes-drop}
@@ -61,26 +61,26 @@ item_stands h n file a entry key b are here e =
     }
 
 -- One offset more is one item more.
-pub kept_more : (file : Text) (places next : List ℕ) (place : ℕ) → next ≡ places ++ place ∷ []
+pub kept_more : (file : Text) (offsets next : List ℕ) (place : ℕ) → next ≡ offsets ++ place ∷ []
     → lists_at file next
-    ≡ with_item (lists_at file places) (entry_from file place) (key_from file place)
-kept_more file places next place more =
+    ≡ with_item (lists_at file offsets) (entry_from file place) (key_from file place)
+kept_more file offsets next place more =
     ap (lists_at file) more
     ∙ rw (
-      map-append (entry_from file) places (place ∷ []),
-      map-append (key_from file) places (place ∷ []),
+      map-append (entry_from file) offsets (place ∷ []),
+      map-append (key_from file) offsets (place ∷ []),
     ) refl
 
 -- The item at an index.
-pub kept_belongs : (h : HashFunction) (file : Text) (places : List ℕ) (i place : ℕ)
-    → AreItems h (lists_at file places) → i < length (lists_at file places).entries
-    → place ≡ get_or places i place
+pub kept_belongs : (h : HashFunction) (file : Text) (offsets : List ℕ) (i place : ℕ)
+    → AreItems h (lists_at file offsets) → i < length (lists_at file offsets).entries
+    → place ≡ get_or offsets i place
     → is_key_of h (entry_from file place) (key_from file place) ≡ true
-kept_belongs h file places i place are below is =
-    let inside : i < length places = omega (arith, length-map places (entry_from file)) in
-    let one = get_or-map (entry_from file) places i place [] inside
+kept_belongs h file offsets i place are below is =
+    let inside : i < length offsets = omega (arith, length-map offsets (entry_from file)) in
+    let one = get_or-map (entry_from file) offsets i place [] inside
     ∙ ap (entry_from file) (sym is) in
-    let two = get_or-map (key_from file) places i place [] inside ∙ ap (key_from file) (sym is) in
+    let two = get_or-map (key_from file) offsets i place [] inside ∙ ap (key_from file) (sym is) in
     subst (λ (e : Text). is_key_of h e (key_from file place) ≡ true) one
-    (subst (λ (k : Text). is_key_of h (get_or (lists_at file places).entries i []) k ≡ true) two
+    (subst (λ (k : Text). is_key_of h (get_or (lists_at file offsets).entries i []) k ≡ true) two
     (are.each i below))

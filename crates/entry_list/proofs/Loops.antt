@@ -7,12 +7,12 @@ use Rattle.std.proofs.lemmas.Bool.{cases_lt}
 use Rattle.std.proofs.lemmas.List.{get_or-append_right, get_or_append_left}
 use Rattle.std.proofs.lemmas.List.{length-append, length-map, map-append}
 use Rattle.byte_formats.specs.Types.{HashFunction, Text}
-use Rattle.byte_formats.specs.Places.{At, at}
+use Rattle.byte_formats.specs.Offsets.{At, at}
 use Rattle.byte_formats.specs.Readings.{◌>>=◌, both_at}
 use Rattle.byte_formats.specs.Lists.{each_at}
 use Rattle.byte_formats.proofs.Steps.{bind_ok, ok_is, pass_ok}
 use Rattle.entry_list.specs.Items.{AreItems, ItemLists, is_key_of, lists_of}
-use Rattle.entry_list.specs.Reading.{listed_at, item_behind, all_listed_at, items_in, vector_item}
+use Rattle.entry_list.specs.Reading.{listed_at, item_after, all_listed_at, items_in, vector_item}
 use Rattle.entry_list.specs.declared.error.ItemsError.{ItemsError}
 use Rattle.entry_list.specs.declared.error.ItemsError.TheVariants.{BadItem}
 
@@ -79,9 +79,9 @@ more_items h items entry key are one = record {
 -- ---- the loop
 
 -- What is left gives these items more.
-abbrev behind : List (Text × Text) → Result (List (Text × Text) × At) ItemsError
+abbrev following : List (Text × Text) → Result (List (Text × Text) × At) ItemsError
     → Result ItemLists ItemsError
-behind seen r = r >>= λ (xs : List (Text × Text) × At). Ok (lists_of (seen ++ xs.0))
+following seen r = r >>= λ (xs : List (Text × Text) × At). Ok (lists_of (seen ++ xs.0))
 
 abbrev itself : Text × Text → Text × Text
 itself x = x
@@ -94,7 +94,7 @@ pub record ItemsLeft (h : HashFunction) (total : Result ItemLists ItemsError)
   pub right : AreItems h items
   pub fuel : ℕ
   pub enough : length a.rest ≤ fuel
-  pub rest : behind seen (each_at itself (item_behind h) fuel seen a) ≡ total
+  pub rest : following seen (each_at itself (item_after h) fuel seen a) ≡ total
 
 items_first : (h : HashFunction) (bytes : Text)
     → ItemsLeft h (items_in h bytes) (lists_of []) (at bytes 0)
@@ -115,33 +115,33 @@ items_from h bytes items a none first =
     subst P (sym none) (subst (λ (b : At). ItemsLeft h (items_in h bytes) (lists_of []) b)
     (sym first) (items_first h bytes))
 
-behind_one : (seen : List (Text × Text)) (x : Text × Text)
+following_one : (seen : List (Text × Text)) (x : Text × Text)
     (r : Result (List (Text × Text) × At) ItemsError)
-    → behind seen (r >>= λ (xs : List (Text × Text) × At). Ok (x ∷ xs.0, xs.1))
-    ≡ behind (seen ++ x ∷ []) r
-behind_one seen x (Ok xs) = ap (λ (l : List (Text × Text)). Ok (lists_of l))
+    → following seen (r >>= λ (xs : List (Text × Text) × At). Ok (x ∷ xs.0, xs.1))
+    ≡ following (seen ++ x ∷ []) r
+following_one seen x (Ok xs) = ap (λ (l : List (Text × Text)). Ok (lists_of l))
     (sym (append_assoc seen (x ∷ []) xs.0))
-behind_one seen x (Err e) = refl
+following_one seen x (Err e) = refl
 
 step_more : (h : HashFunction) (n : ℕ) (seen : List (Text × Text)) (a : At) (x : Text × Text)
     (b : At) → listed_at h (length seen) a ≡ Ok (x, b) → length a.rest ≢ 0
-    → behind seen (each_at itself (item_behind h) (suc n) seen a)
-    ≡ behind (seen ++ x ∷ []) (each_at itself (item_behind h) n (seen ++ x ∷ []) b)
+    → following seen (each_at itself (item_after h) (suc n) seen a)
+    ≡ following (seen ++ x ∷ []) (each_at itself (item_after h) n (seen ++ x ∷ []) b)
 unfolding each_at
 step_more h n seen a x b step some =
     rw (
       ne_eqb (length a.rest) 0 some,
       step,
-    ) (behind_one seen x (each_at itself (item_behind h) n (seen ++ x ∷ []) b))
+    ) (following_one seen x (each_at itself (item_after h) n (seen ++ x ∷ []) b))
 
 step_fails : (h : HashFunction) (n : ℕ) (seen : List (Text × Text)) (a : At) (e : ItemsError)
     → listed_at h (length seen) a ≡ Err e → length a.rest ≢ 0
-    → behind seen (each_at itself (item_behind h) (suc n) seen a) ≡ Err e
+    → following seen (each_at itself (item_after h) (suc n) seen a) ≡ Err e
 unfolding each_at
 step_fails h n seen a e step some = rw (ne_eqb (length a.rest) 0 some, step) refl
 
 step_ends : (h : HashFunction) (n : ℕ) (seen : List (Text × Text)) (a : At) → length a.rest ≡ 0
-    → behind seen (each_at itself (item_behind h) n seen a) ≡ Ok (lists_of seen)
+    → following seen (each_at itself (item_after h) n seen a) ≡ Ok (lists_of seen)
 unfolding each_at
 step_ends h zero seen a none = ap (λ (l : List (Text × Text)). Ok (lists_of l)) (append-nil seen)
 step_ends h (suc n) seen a none =
@@ -176,7 +176,7 @@ items_more h total items next a n entry key b count step less grown w =
           map-append (λ (x : Text × Text). x.1) seen ((entry, key) ∷ []),
         ) refl
 
-    go : (f : ℕ) → length a.rest ≤ f → behind w.seen (each_at itself (item_behind h) f w.seen a)
+    go : (f : ℕ) → length a.rest ≤ f → following w.seen (each_at itself (item_after h) f w.seen a)
         ≡ total
         → listed_at h (length w.seen) a ≡ Ok ((entry, key), b)
         → is_key_of h entry key ≡ true
@@ -203,7 +203,7 @@ items_fail h total items a n e count step some w =
     ap (λ (k : ℕ). listed_at h k a) (sym (count ∙ long)) ∙ step in
     go w.fuel w.enough w.rest here
   where
-    go : (f : ℕ) → length a.rest ≤ f → behind w.seen (each_at itself (item_behind h) f w.seen a)
+    go : (f : ℕ) → length a.rest ≤ f → following w.seen (each_at itself (item_after h) f w.seen a)
         ≡ total → listed_at h (length w.seen) a ≡ Err e → total ≡ Err e
     go zero le so_far here = absurd (omega arith)
     go (suc f) le so_far here =

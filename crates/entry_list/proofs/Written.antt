@@ -8,7 +8,7 @@ use Rattle.std.proofs.lemmas.List.{get_or-map, get_or-take, length-append, lengt
 use Rattle.std.proofs.lemmas.List.{length-take-le, take-map}
 use Rattle.std.proofs.Math.Seq.{take-length}
 use Rattle.byte_formats.specs.Types.{HashFunction, Text}
-use Rattle.byte_formats.specs.Places.{At, IsBytes, at}
+use Rattle.byte_formats.specs.Offsets.{At, IsBytes, at}
 use Rattle.byte_formats.specs.Readings.{◌>>=◌}
 use Rattle.byte_formats.specs.Forms.{Anything, FitsBoth, FitsEach, IsForm, Nothing, both}
 use Rattle.byte_formats.specs.Lists.{each_at}
@@ -21,7 +21,7 @@ use Rattle.tls_wire.proofs.Numbers.{wide16}
 use Rattle.tls_wire.proofs.Vectors.{vector_form}
 use Rattle.entry_list.specs.Items.{AreItems, FitsFile, ItemLists, file_text, first_items}
 use Rattle.entry_list.specs.Items.{is_key_of, listed_text, lists_of}
-use Rattle.entry_list.specs.Reading.{listed_at, item_behind, all_listed_at, items_in, short_item}
+use Rattle.entry_list.specs.Reading.{listed_at, item_after, all_listed_at, items_in, short_item}
 use Rattle.entry_list.specs.Reading.{vector_item}
 use Rattle.entry_list.specs.declared.error.ItemsError.{ItemsError}
 use Rattle.entry_list.specs.declared.error.ItemsError.TheVariants.{BadItem}
@@ -67,11 +67,11 @@ abbrev EachFits : HashFunction → List Pair → List Pair → Type 0
 EachFits h = FitsEach itself (λ seen. Fits h)
 
 items_form : (h : HashFunction) → IsForm (flat_map pair_text) (EachFits h []) Nothing
-    (λ a. each_at itself (item_behind h) (length a.rest) [] a)
+    (λ a. each_at itself (item_after h) (length a.rest) [] a)
 items_form h = each_form itself (λ seen. item_form h (length seen)) (λ seen x f. some_bytes x) []
 
 drains : (h : HashFunction) (a : At) (xs : List Pair) (b : At) → IsBytes a.rest
-    → each_at itself (item_behind h) (length a.rest) [] a ≡ Ok (xs, b) → b.rest ≡ []
+    → each_at itself (item_after h) (length a.rest) [] a ≡ Ok (xs, b) → b.rest ≡ []
 drains h = each_drains itself (λ seen. item_form h (length seen)) (λ seen x f. some_bytes x) []
 
 -- ---- two lists as one of pairs
@@ -116,8 +116,8 @@ text_from items (x ∷ xs) k each =
     → listed_text items (k + 1 + i) ≡ pair_text (get_or xs i none) = λ i below.
     let next : k + 1 + i ≡ k + suc i = omega arith in
     ap (listed_text items) next ∙ each (suc i) (omega arith) in
-    let behind : Text = concat (map (listed_text items) (range_with_len (k + 1) (length xs))) in
-    ap (λ (t : Text). t ++ behind) one
+    let following : Text = concat (map (listed_text items) (range_with_len (k + 1) (length xs))) in
+    ap (λ (t : Text). t ++ following) one
     ∙ ap (λ (t : Text). pair_text x ++ t) (text_from items xs (k + 1) others)
 
 text_is : (pairs : List Pair) (count : ℕ) → count ≤ length pairs
@@ -188,7 +188,7 @@ pub items_only : (h : HashFunction) (bytes : Text) (items : ItemLists) → IsByt
 unfolding items_in all_listed_at
 items_only h bytes items are e =
     let a : At = at bytes 0 in
-    let s = bind_ok (each_at itself (item_behind h) (length a.rest) [] a) (λ (x : List Pair
+    let s = bind_ok (each_at itself (item_after h) (length a.rest) [] a) (λ (x : List Pair
     × At). Ok (lists_of x.0)) items e in
     let pairs : List Pair = s.0.0 in
     let known =
@@ -232,7 +232,7 @@ again_pairs h pairs count are short le =
     let inside : i < length pairs = omega arith in
     subst (Fits h) (sym (get_or-take count pairs i none small))
     (fits_all h pairs are short i inside)) in
-    let whole = ap (λ (t : Text). each_at itself (item_behind h) (length t) [] (record {
+    let whole = ap (λ (t : Text). each_at itself (item_after h) (length t) [] (record {
       place = 0;
       rest = t;
     })) (text_is pairs count le) ∙ to_end_again (items_form h) refl first 0 fits in

@@ -2,7 +2,7 @@
 use Rattle.std.specs.Prelude.{ℕ, List, [], drop, map, Result, Ok, Err}
 use Rattle.std.specs.Int.{w16}
 use Rattle.byte_formats.specs.Types.{Text}
-use Rattle.byte_formats.specs.Places.{At, at}
+use Rattle.byte_formats.specs.Offsets.{At, at}
 use Rattle.byte_formats.specs.Readings.{◌>>=◌}
 use Rattle.tls_wire.specs.Reading.{vector_at}
 use Rattle.tls_wire.specs.declared.cursor.Short.{Short}
@@ -24,5 +24,5 @@ key_from file place =
 
 -- The entries and the keys of the items that begin at these offsets.
 abbrev pub lists_at : Text → List ℕ → ItemLists
-lists_at file places =
-    record { entries = map (entry_from file) places; keys = map (key_from file) places }
+lists_at file offsets =
+    record { entries = map (entry_from file) offsets; keys = map (key_from file) offsets }

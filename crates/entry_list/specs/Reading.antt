@@ -2,7 +2,7 @@
 use Rattle.std.specs.Prelude.{ℕ, List, [], length, Result, Ok}
 use Rattle.std.specs.Int.{w16}
 use Rattle.byte_formats.specs.Types.{HashFunction, Text}
-use Rattle.byte_formats.specs.Places.{at}
+use Rattle.byte_formats.specs.Offsets.{at}
 use Rattle.byte_formats.specs.Readings.{Reading, ◌>>=◌, both_at, lifted_at, tested_at}
 use Rattle.byte_formats.specs.Lists.{each_at}
 use Rattle.tls_wire.specs.Reading.{vector_at}
@@ -24,13 +24,13 @@ listed_at h number =
     tested_at (λ x. is_key_of h x.0 x.1) (BadItem number) (both_at vector_item vector_item)
 
 -- The next item, after these.
-abbrev pub item_behind : HashFunction → List (Text × Text) → Reading (Text × Text) ItemsError
-item_behind h seen = listed_at h (length seen)
+abbrev pub item_after : HashFunction → List (Text × Text) → Reading (Text × Text) ItemsError
+item_after h seen = listed_at h (length seen)
 
 -- Items after these, up to the end.
 unfoldable pub all_listed_at : HashFunction → List (Text × Text)
     → Reading (List (Text × Text)) ItemsError
-all_listed_at h seen a = each_at (λ x. x) (item_behind h) (length a.rest) seen a
+all_listed_at h seen a = each_at (λ x. x) (item_after h) (length a.rest) seen a
 
 -- The items of a file.
 unfoldable pub items_in : HashFunction → Text → Result ItemLists ItemsError

@@ -58,7 +58,7 @@ fn key_from(file: &[u8], place: u32) -> &[u8]
 #[derive(Drop)]
 pub struct Entries<'a> {
     file: &'a [u8],
-    places: &'a [u32],
+    offsets: &'a [u32],
 }
 
 impl<'a> Model for Entries<'a> {
@@ -68,32 +68,32 @@ impl<'a> Model for Entries<'a> {
 
     ghost Value = { List Text };
 
-    ghost view = { λ e. map (entry_from e.file.now) e.places.now };
+    ghost view = { λ e. map (entry_from e.file.now) e.offsets.now };
 }
 
 impl<'a> EntryList for Entries<'a> {
     ghost texts = { λ entries. entries };
 
     fn len(&self) -> usize {
-        self.places.len()
+        self.offsets.len()
     }
 
     fn entry(&self, index: usize) -> &[u8] {
-        entry_from(self.file, self.places[index])
+        entry_from(self.file, self.offsets[index])
     }
 
     fn prefix(&self, count: usize) -> Entries<'a> {
         Entries {
             file: self.file,
-            places: &self.places[..count],
+            offsets: &self.offsets[..count],
         }
     }
 
     fn after(&self, count: usize) -> Entries<'a> {
-        let (_, places) = self.places.split_at(count);
+        let (_, offsets) = self.offsets.split_at(count);
         Entries {
             file: self.file,
-            places,
+            offsets,
         }
     }
 }
@@ -104,7 +104,7 @@ impl<'a> EntryList for Entries<'a> {
 #[derive(Drop)]
 pub struct Items<'a, H: TreeHash> {
     file: &'a [u8],
-    places: Vec<u32>,
+    offsets: Vec<u32>,
     function: PhantomData<H>,
 }
 
@@ -114,19 +114,19 @@ impl<'a, H: TreeHash> Model for Items<'a, H> {
 
     ghost Value = { ItemLists };
 
-    ghost view = { λ i. lists_at i.file.now i.places.items };
+    ghost view = { λ i. lists_at i.file.now i.offsets.items };
 
-    ghost invariant = { λ i. AreItems H.TreeHash.hash (lists_at i.file.now i.places.items) };
+    ghost invariant = { λ i. AreItems H.TreeHash.hash (lists_at i.file.now i.offsets.items) };
 }
 
 impl<'a, H: TreeHash> Items<'a, H> {
-    pub(crate) fn of_places(file: &'a [u8], places: Vec<u32>) -> Items<'a, H>
-        requires { AreItems H.hash (lists_at file.now places.items) }
-        ensures { result ≡ lists_at file.now places.items }
+    pub(crate) fn of_offsets(file: &'a [u8], offsets: Vec<u32>) -> Items<'a, H>
+        requires { AreItems H.hash (lists_at file.now offsets.items) }
+        ensures { result ≡ lists_at file.now offsets.items }
     {
         Items {
             file,
-            places,
+            offsets,
             function: PhantomData,
         }
     }
@@ -136,7 +136,7 @@ impl<'a, H: TreeHash> Items<'a, H> {
         ensures count { result ≡ length self.now.entries }
         ensures known { AreItems H.hash self.now }
     {
-        self.places.len()
+        self.offsets.len()
     }
 
     /// The entries in their order.
@@ -145,7 +145,7 @@ impl<'a, H: TreeHash> Items<'a, H> {
     {
         Entries {
             file: self.file,
-            places: self.places.as_slice(),
+            offsets: self.offsets.as_slice(),
         }
     }
 
@@ -156,7 +156,7 @@ impl<'a, H: TreeHash> Items<'a, H> {
         ensures key { result.spki.now ≡ slice_index_or self.now.keys index [] }
         ensures own { is_key_of H.hash result.entry.now result.spki.now ≡ true }
     {
-        let place = self.places[index];
+        let place = self.offsets[index];
         Item {
             entry: entry_from(self.file, place),
             spki: key_from(self.file, place),

@@ -2,7 +2,7 @@
 
 ghost use Rattle.std.specs.Prelude.{◌≡◌, ℕ, ◌≤◌, length, Ok};
 ghost use Rattle.byte_formats.specs.Types.{HashFunction, Text};
-ghost use Rattle.byte_formats.specs.Places.{IsBytes};
+ghost use Rattle.byte_formats.specs.Offsets.{IsBytes};
 ghost use Rattle.entry_list.specs.Items.{AreItems, FitsFile, ItemLists, first_items, file_text};
 ghost use Rattle.entry_list.specs.Reading.{items_in};
 

@@ -41,13 +41,13 @@ fn read_item<'a, H: TreeHash>(cursor: &mut Cursor<'a>, number: u64) -> Result<It
 }
 
 // Adds the offset of an item. One that four bytes don't hold is refused.
-fn push(places: &mut Vec<u32>, place: usize) -> Result<(), NoMemory>
-    ensures { OnOk result (places.new.items ≡ places.old.items ++ place ∷ []) }
+fn push(offsets: &mut Vec<u32>, place: usize) -> Result<(), NoMemory>
+    ensures { OnOk result (offsets.new.items ≡ offsets.old.items ++ place ∷ []) }
 {
     let Ok(place) = u32::try_from(place) else {
         return Err(NoMemory);
     };
-    places.push(place)?;
+    offsets.push(place)?;
     Ok(())
 }
 
@@ -66,11 +66,11 @@ pub fn read_items<'a, H: TreeHash>(
     ensures { Answers NoCapacity (items_in H.hash bytes.now) result }
 {
     let mut cursor = Cursor::new(bytes);
-    let mut places = Vec::new(alloc);
+    let mut offsets = Vec::new(alloc);
     while cursor.left() > 0 {
         let place = cursor.place();
-        read_item::<H>(&mut cursor, places.len() as u64)?;
-        push(&mut places, place)?;
+        read_item::<H>(&mut cursor, offsets.len() as u64)?;
+        push(&mut offsets, place)?;
     }
-    Ok(Items::of_places(bytes, places))
+    Ok(Items::of_offsets(bytes, offsets))
 }

@@ -73,11 +73,11 @@ clocks_go_apart list body c c' t t' of_c of_c' differ = record {
       (may_add list body c of_c, λ d at. only_stands (list ++ body ∷ []) c' d of_c' at),
       record {
         keeps = λ all b there. inl there;
-        behind = λ all d at stands b there. inl there;
+        following = λ all d at stands b there. inl there;
       },
     );
   };
-  moment = record {
+  at_once = record {
     some = (c', refl);
     happens = inr (
       may_add list body c of_c,

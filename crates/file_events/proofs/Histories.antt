@@ -47,7 +47,7 @@ module _ (Valid : List Text → Type 0) (Reaches : History) (takes : TakesSteps 
   ended : (heard : Bool) (list : List Text) (body : Text) (out : List Text)
       → Reaches list (Some body) out
       → Reaches (list ++ body ∷ []) None (out ++ (if heard then body ∷ [] else []))
-  ended true list body out reaches = takes.hands list body out reaches
+  ended true list body out reaches = takes.releases list body out reaches
   ended false list body out reaches =
       subst (λ (o : List Text). Reaches (list ++ body ∷ []) None o) (sym (append-nil out))
       (takes.ends list body out reaches)
@@ -118,26 +118,26 @@ module _ (Valid : List Text → Type 0) (Reaches : History) (takes : TakesSteps 
     first_whole : ReachesAll Valid Reaches → (heard : Bool) (did : Journaled) (list : List Text)
         → records_after did ≡ Some list → Done Valid did before now
         → IsHistory Reaches (released_if heard did) now
-    first_whole settles heard untouched list held done = absurd (none_is list held)
-    first_whole settles heard (reads found) list held done = record {
+    first_whole makes_durable heard untouched list held done = absurd (none_is list held)
+    first_whole makes_durable heard (reads found) list held done = record {
       list = found;
       pending = None;
-      reaches = settles found done.0.valid;
+      reaches = makes_durable found done.0.valid;
       some = some;
       each = done.1;
     }
-    first_whole settles heard (appended found body) list held done = record {
+    first_whole makes_durable heard (appended found body) list held done = record {
       list = found ++ body ∷ [];
       pending = None;
       reaches = ended heard found body []
-          (takes.begins found body [] done.0.valid (settles found done.0.found.valid));
+          (takes.begins found body [] done.0.valid (makes_durable found done.0.found.valid));
       some = some;
       each = done.1;
     }
-    first_whole settles heard (started body) list held done = record {
+    first_whole makes_durable heard (started body) list held done = record {
       list = body ∷ [];
       pending = None;
-      reaches = settles (body ∷ []) done.1.0;
+      reaches = makes_durable (body ∷ []) done.1.0;
       some = some;
       each = done.1.1;
     }
@@ -157,10 +157,10 @@ module _ (Valid : List Text → Type 0) (Reaches : History) (takes : TakesSteps 
   first : ReachesAll Valid Reaches → (list : List Text) (before now : CrashStates) (event : Event)
       → EventHolds list event → Leads Valid event before now
       → IsHistory Reaches (released_by event) now
-  first settles list before now elsewhere held leads = absurd held
-  first settles list before now (ran heard did) held leads =
-      first_whole [] before now leads.some settles heard did list held leads.happens
-  first settles list before now (broke did) held leads = absurd held
+  first makes_durable list before now elsewhere held leads = absurd held
+  first makes_durable list before now (ran heard did) held leads =
+      first_whole [] before now leads.some makes_durable heard did list held leads.happens
+  first makes_durable list before now (broke did) held leads = absurd held
 
 module _ {W : Type 0} (states : W → CrashStates) (Valid : List Text → Type 0)
     (Reaches : History) where
@@ -180,7 +180,8 @@ module _ {W : Type 0} (states : W → CrashStates) (Valid : List Text → Type 0
   histories_go_on takes out old new events history is = after takes out events old new history is
 
   pub executions_are_histories : ExecutionsAreHistories states Valid Reaches
-  executions_are_histories takes settles list old new [] held is = absurd held
-  executions_are_histories takes settles list old new (event ∷ events) held is =
+  executions_are_histories takes makes_durable list old new [] held is = absurd held
+  executions_are_histories takes makes_durable list old new (event ∷ events) held is =
       after takes (released_by event) events is.0 new
-      (first Valid Reaches takes settles list (states old) (states is.0) event held is.1.0) is.1.1
+      (first Valid Reaches takes makes_durable list (states old) (states is.0) event held is.1.0)
+      is.1.1

@@ -4,7 +4,7 @@ use Rattle.std.proofs.Common.{map, option_map, slice_get}
 use Rattle.std.proofs.lemmas.Option.{slice_get-map}
 use Rattle.byte_formats.specs.Types.{Text}
 use Rattle.file_events.specs.Keys.{KeyUse, OneLevelUsesOnce, lower, numbers_in, one_level}
-use Rattle.file_events.specs.Keys.{uses_behind, with_number, with_use}
+use Rattle.file_events.specs.Keys.{uses_after, with_number, with_use}
 
 use_is : (number : Option ℕ) (numbers : List ℕ)
     → with_use (option_map (lower 0) number) (map (lower 0) numbers)
@@ -26,7 +26,7 @@ lower_is n m is = cc
 
 module _ (number_of : Text → Option ℕ) (first : Text) where
   uses_are : (prefix bodies : List Text)
-      → uses_behind (one_level number_of) (first ∷ prefix) bodies
+      → uses_after (one_level number_of) (first ∷ prefix) bodies
       ≡ map (lower 0) (numbers_in number_of bodies)
   uses_are prefix [] = refl
   uses_are prefix (body ∷ bodies) =
@@ -34,7 +34,7 @@ module _ (number_of : Text → Option ℕ) (first : Text) where
       ∙ use_is (number_of body) (numbers_in number_of bodies)
 
   number_at : (bodies : List Text) (i : ℕ) (key : KeyUse)
-      → slice_get (uses_behind (one_level number_of) [] (first ∷ bodies)) i ≡ Some key
+      → slice_get (uses_after (one_level number_of) [] (first ∷ bodies)) i ≡ Some key
       → (number : ℕ) × ((slice_get (numbers_in number_of bodies) i ≡ Some number)
       × (lower 0 number ≡ key))
   number_at bodies i key is =

@@ -53,17 +53,17 @@ module _ (p : Program) (o : FileOwner p) (lead : LinksLead p o) where
       → ((x : X) → Q x (o.run_event old run) → Told x) → P old run) where
     one_each : (old : p.R) (link : Link p.R p.O p.E) → p.rooms.is_modelled old → IsLink p o old link
         → ((x : X) → Q x (event_of p o old link) → Told x) → IfSome (run_of p link) (P old)
-    one_each old (turned run) modelled is told = each old run modelled is told
-    one_each old other modelled is told = tt
+    one_each old (turned run) modelled is reported = each old run modelled is reported
+    one_each old other modelled is reported = tt
 
     pub each_run : (links : List (Link p.R p.O p.E)) (old new : p.R) → p.rooms.is_modelled old
         → IsFileCourse p o old links new
         → ((x : X) → AnyEvent (Q x) (events_of p o old links) → Told x) → EachRun p P old links
-    each_run [] old new modelled is told = tt
-    each_run (link ∷ links) old new modelled is told = (
-      one_each old link modelled is.0 (λ x here. told x (inl here)),
+    each_run [] old new modelled is reported = tt
+    each_run (link ∷ links) old new modelled is reported = (
+      one_each old link modelled is.0 (λ x here. reported x (inl here)),
       each_run links (files_after p link) new (one_link old link modelled is.0).0 is.1
-          (λ x later. told x (inr later)),
+          (λ x later. reported x (inr later)),
     )
 
 pub courses_execute : (p : Program) (o : FileOwner p) → CoursesAreExecutions p o

@@ -22,9 +22,9 @@ use Rattle.file_events.proofs.Works.{log_with_tiles, mirror_breaks}
 
 pub released_event : (broken heard : Bool) (did wanted : Journaled) → broken ≡ false → heard ≡ true
     → did ≡ wanted → event_with broken heard did ≡ ran true wanted
-released_event broken heard did wanted whole told is =
+released_event broken heard did wanted whole reported is =
     ap (λ (b : Bool). event_with b heard did) whole
-    ∙ (ap (λ (b : Bool). ran b did) told ∙ ap (λ (j : Journaled). ran true j) is)
+    ∙ (ap (λ (b : Bool). ran b did) reported ∙ ap (λ (j : Journaled). ran true j) is)
 
 module _ (p : Program) (Valid : List Text → Type 0) (name : Text) where
   -- a stop in the middle of a run
@@ -35,9 +35,10 @@ module _ (p : Program) (Valid : List Text → Type 0) (name : Text) where
       → Leads Valid (broke (did_to p name old run)) (states_of p name old)
       (states_of p name room)
   cut_leads serves old run room modelled is cut modelled' =
-      let moment = (serves.leaves old run modelled is).moments (cut.image name) (cut.may name) in
+      let at_once =
+      (serves.leaves old run modelled is).times (cut.crash_state name) (cut.may name) in
       broke_of_less Valid (did_to p name old run) (states_of p name old)
-      (λ d. d ≡ cut.image name) (states_of p name room) moment (cut.only name)
+      (λ d. d ≡ cut.crash_state name) (states_of p name room) at_once (cut.only name)
       (serves.rooms.some room name modelled')
 
   pub journal_lead : ServesJournal p Valid name → LinksLead p (journal_file p Valid name)
@@ -63,7 +64,8 @@ module _ (p : Program) (Valid : List Text → Type 0) (name : Text) where
       (λ (x : Event). AnyEvent (λ (event : Event). event ≡ x) (events_of p o old links))
       (λ before run. p.HasRun before run × AnyEvent
       (λ (event : Event). event ≡ o.run_event before run) (events_of p o old links))
-      (λ before run modelled ran told. (ran, told (o.run_event before run) refl)) links old new
+      (λ before run modelled ran reported. (ran, reported (o.run_event before run) refl)) links old
+      new
       modelled is (λ x any. any)
 
   pub journal_breaks : JournalRunsMayBreak p Valid name

@@ -10,7 +10,7 @@ use Rattle.file_events.specs.Events.{CrashStates, Done, Event, HalfDone, Happens
 use Rattle.file_events.specs.Events.{Journaled, Leads, WasFound, appended, broke, elsewhere}
 use Rattle.file_events.specs.Events.{ran, reads, records_after, started, untouched}
 use Rattle.file_events.specs.Executions.{IsPrefix}
-use Rattle.file_events.specs.Laws.{IsDurablePrefix, IsReadBehind}
+use Rattle.file_events.specs.Laws.{IsDurablePrefix, IsReadAfter}
 
 -- ---- lists
 
@@ -64,45 +64,46 @@ module _ (Valid : List Text → Type 0) where
   module _ (prefix : List Text) (before : CrashStates)
       (durable : IsDurablePrefix Valid prefix before) where
     -- durable records are the first of those that are found
-    pub found_behind : (list : List Text) → WasFound Valid before list → IsPrefix prefix list
-    found_behind list found =
-        let behind = durable.each found.bytes found.state in
+    pub found_after : (list : List Text) → WasFound Valid before list → IsPrefix prefix list
+    found_after list found =
+        let following = durable.each found.bytes found.state in
         subst (λ (l : List Text). IsPrefix prefix l)
-        (one_list found.bytes behind.list list behind.stands found.stands) behind.begins
+        (one_list found.bytes following.list list following.stands found.stands) following.begins
 
     -- the file is no empty one
     pub not_empty : NoNew (λ c. c ≡ []) before → ⊥
     not_empty empty =
-        let behind = durable.each durable.some.0 durable.some.1 in
-        no_records durable.some.0 behind.list (empty durable.some.0 durable.some.1) behind.stands
+        let following = durable.each durable.some.0 durable.some.1 in
+        no_records durable.some.0 following.list (empty durable.some.0 durable.some.1)
+        following.stands
 
     half : (did : Journaled) (now : CrashStates) → HalfDone Valid did before now → (c : Text)
-        → now c → IsReadBehind Valid prefix c
+        → now c → IsReadAfter Valid prefix c
     half untouched now kept c at = durable.each c (kept c at)
     half (reads list) now done c at = record {
       list = list;
       stands = done.1 c at;
-      begins = found_behind list done.0;
+      begins = found_after list done.0;
       valid = done.0.valid;
     }
     half (appended list body) now done c at = elim (done.1 c at) [
       | inl old ↦ record {
         list = list;
         stands = old;
-        begins = found_behind list done.0.found;
+        begins = found_after list done.0.found;
         valid = done.0.found.valid;
       }
       | inr new ↦ record {
         list = list ++ body ∷ [];
         stands = new;
-        begins = prefix_more prefix list body (found_behind list done.0.found);
+        begins = prefix_more prefix list body (found_after list done.0.found);
         valid = done.0.valid;
       }
     ]
     half (started body) now empty c at = absurd (not_empty empty)
 
     happened : (event : Event) (now : CrashStates) → Happens Valid event before now → (c : Text)
-        → now c → IsReadBehind Valid prefix c
+        → now c → IsReadAfter Valid prefix c
     happened elsewhere now kept c at = durable.each c (kept c at)
     happened (ran heard did) now done c at = half did now (whole_is_half did before now done) c at
     happened (broke did) now either c at = elim either [
@@ -119,7 +120,7 @@ module _ (Valid : List Text → Type 0) where
   -- the records that a run held are durable after it
   held_by : (list : List Text) (did : Journaled) (before now : CrashStates)
       → records_after did ≡ Some list → Done Valid did before now → (c : Text) → now c
-      → IsReadBehind Valid list c
+      → IsReadAfter Valid list c
   held_by list untouched before now held done c at = absurd (none_is list held)
   held_by list (reads found) before now held done c at = record {
     list = found;

@@ -56,8 +56,8 @@ module _ {W : Type 0} (states : W → CrashStates) (Valid : List Text → Type 0
   pub recovered_valid : RecoveredIsValid states Valid
   recovered_valid first list old new events held is recovered =
       let durable = held_after first events old new held is in
-      let behind = durable.each recovered.0 recovered.1.0 in
-      let same = one_list recovered.0 behind.list list behind.stands recovered.1.1 in (
-        subst Valid same behind.valid,
-        subst (λ (l : List Text). IsPrefix first l) same behind.begins,
+      let following = durable.each recovered.0 recovered.1.0 in
+      let same = one_list recovered.0 following.list list following.stands recovered.1.1 in (
+        subst Valid same following.valid,
+        subst (λ (l : List Text). IsPrefix first l) same following.begins,
       )

@@ -9,7 +9,8 @@ use Rattle.file_events.specs.Executions.{IsExecution}
 use Rattle.file_events.specs.Laws.{IsDurablePrefix}
 use Rattle.file_events.specs.Tiles.{AllGo, Goes, LeadsLog, LeavesTiles, LogEvent, LogHappens}
 use Rattle.file_events.specs.Tiles.{LogLeads, NewTilesGo, PlainRecordsKeep, TilesGo, TilesWork}
-use Rattle.file_events.specs.Tiles.{looked, stored, broke as log_broke, elsewhere as log_elsewhere}
+use Rattle.file_events.specs.Tiles.{only_read, stored, broke as log_broke}
+use Rattle.file_events.specs.Tiles.{elsewhere as log_elsewhere}
 use Rattle.file_events.specs.Tiles.{ran as log_ran}
 use Rattle.file_events.proofs.Records.{not_empty, one_list, stay_durable, whole_is_half}
 
@@ -51,17 +52,17 @@ module _ (goes : List Text → Text → Type 0) (Plain : List Text → Text → 
 
     half_go : (did : Journaled) (how : TilesWork) → HalfDone Valid did journal journal'
         → LeavesTiles goes Plain how did tiles journal' tiles' → Goes goes journal' tiles'
-    half_go untouched looked kept same c others at stands t there =
+    half_go untouched only_read kept same c others at stands t there =
         kept_go kept same c others at stands t there
     half_go untouched stored kept same c others at stands t there =
         kept_go kept same c others at stands t there
-    half_go (reads list) looked done same c others at stands t there =
+    half_go (reads list) only_read done same c others at stands t there =
         subst (λ (l : List Text). goes l t) (one_list c list others (done.1 c at) stands)
         (found_go list done.0 t (same t there))
     half_go (reads list) stored done keeps c others at stands t there =
         subst (λ (l : List Text). goes l t) (one_list c list others (done.1 c at) stands)
         (keeps (found_go list done.0) t there)
-    half_go (appended list body) looked done left c others at stands t there =
+    half_go (appended list body) only_read done left c others at stands t there =
         let held = found_go list done.0.found t (left.1 t there) in
         elim (done.1 c at) [
           | inl old ↦ subst (λ (l : List Text). goes l t) (one_list c list others old stands) held
@@ -76,9 +77,9 @@ module _ (goes : List Text → Text → Type 0) (Plain : List Text → Text → 
               (stores.keeps held t there)
           | inr new ↦ subst (λ (l : List Text). goes l t)
               (one_list c (list ++ body ∷ []) others new stands)
-              (stores.behind held c at new t there)
+              (stores.following held c at new t there)
         ]
-    half_go (started body) looked empty same c others at stands t there =
+    half_go (started body) only_read empty same c others at stands t there =
         absurd (not_empty Valid prefix journal durable empty)
     half_go (started body) stored empty same c others at stands t there =
         absurd (not_empty Valid prefix journal durable empty)

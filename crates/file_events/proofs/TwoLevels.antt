@@ -4,7 +4,7 @@ use Rattle.std.proofs.Common.{Option, None, Some, refl, sym, ap, subst, ◌∙�
 use Rattle.std.proofs.lemmas.Nat.{div-add-mod'}
 use Rattle.byte_formats.specs.Types.{Text}
 use Rattle.file_events.specs.Keys.{CountUpFrom, KeyUse, TwoLevelsUseOnce, either_use, lower}
-use Rattle.file_events.specs.Keys.{numbers_in, two_levels, upper, uses_behind, with_number}
+use Rattle.file_events.specs.Keys.{numbers_in, two_levels, upper, uses_after, with_number}
 use Rattle.file_events.specs.Keys.{with_use}
 
 -- a key of these signatures and lower trees on
@@ -113,7 +113,7 @@ module _ (low : ℕ) (sign_of tree_of : Text → Option ℕ) (first : Text) wher
       → CountUpFrom signs (numbers_in sign_of bodies)
       → CountUpFrom trees (numbers_in tree_of bodies)
       → AreKeys (2 ^ low) signs trees
-      (uses_behind (two_levels low sign_of tree_of) (first ∷ prefix) bodies)
+      (uses_after (two_levels low sign_of tree_of) (first ∷ prefix) bodies)
   all_keys [] prefix signs trees count count' = record {
     start = λ i key is. absurd cc;
     once = λ i j key is is'. absurd cc;
@@ -121,7 +121,7 @@ module _ (low : ℕ) (sign_of tree_of : Text → Option ℕ) (first : Text) wher
   all_keys (body ∷ bodies) prefix signs trees count count' =
       one_more (2 ^ low) signs trees (sign_of body) (tree_of body) (numbers_in sign_of bodies)
       (numbers_in tree_of bodies)
-      (uses_behind (two_levels low sign_of tree_of) (first ∷ (prefix ++ body ∷ [])) bodies) count
+      (uses_after (two_levels low sign_of tree_of) (first ∷ (prefix ++ body ∷ [])) bodies) count
       count' (λ s t counted counted'. all_keys bodies (prefix ++ body ∷ []) s t counted counted')
 
 pub two_levels_once : TwoLevelsUseOnce

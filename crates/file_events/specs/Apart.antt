@@ -22,14 +22,14 @@ AnyRecords list = Unit {0}
 -- ---- file by file
 
 module _ (items steps : List Text) (batch body : Text) where
-  -- A mirror that has the batch agrees with any cosigner, and one that may not have it only with
+  -- A mirror that has the batch agrees with any cosigner, and one without it only with
   -- the steps from before.
-  abbrev pub agrees_behind : List Text → List Text → Type 0
-  agrees_behind list others = (others ≡ steps) ⊎ IsPrefix (items ++ batch ∷ []) list
+  abbrev pub agrees_after : List Text → List Text → Type 0
+  agrees_after list others = (others ≡ steps) ⊎ IsPrefix (items ++ batch ∷ []) list
 
   -- A step is computed from a mirror that has the batch, and no step is neutral.
-  abbrev pub computed_behind : List Text → List Text → Text → Type 0
-  computed_behind list others step = IsPrefix (items ++ batch ∷ []) list
+  abbrev pub computed_after : List Text → List Text → Text → Type 0
+  computed_after list others step = IsPrefix (items ++ batch ∷ []) list
 
   abbrev pub never_neutral : List Text → Text → Type 0
   never_neutral others step = ⊥
@@ -38,16 +38,16 @@ module _ (items steps : List Text) (batch body : Text) where
   -- step that it computed from it; and a file fails. The mirror may be left as it was, and the
   -- cosigner with its step: each is as it may be, and they don't agree.
   pub record FailsOneByOne (m m' s s' : Text) : Type 0 where
-    pub laws : KeepsAgreement agrees_behind computed_behind never_neutral AnyRecords AnyRecords
-    pub agree : Agree agrees_behind computed_behind never_neutral (two_states m m')
+    pub laws : KeepsAgreement agrees_after computed_after never_neutral AnyRecords AnyRecords
+    pub agree : Agree agrees_after computed_after never_neutral (two_states m m')
         (only_state s)
-    pub may : MayDo agrees_behind computed_behind never_neutral (reads (items ++ batch ∷ []))
+    pub may : MayDo agrees_after computed_after never_neutral (reads (items ++ batch ∷ []))
         (appended steps body)
     pub mirror : Happens AnyRecords (broke (reads (items ++ batch ∷ []))) (two_states m m')
         (two_states m m')
     pub cosigner : Happens AnyRecords (broke (appended steps body)) (only_state s)
         (only_state s')
-    pub apart : Agree agrees_behind computed_behind never_neutral (two_states m m')
+    pub apart : Agree agrees_after computed_after never_neutral (two_states m m')
         (only_state s') → ⊥
 
 -- So it is of all texts that represent these records.
@@ -60,8 +60,8 @@ OneByOneFails = (items steps : List Text) (batch body m m' s s' : Text) → Repr
 
 module _ (list : List Text) (body t t' : Text) where
   -- The old tiles go with the records that were there, and the new ones with all.
-  abbrev pub goes_behind : List Text → Text → Type 0
-  goes_behind records bytes = (bytes ≡ t') ⊎ ((bytes ≡ t) × (records ≡ list))
+  abbrev pub goes_after : List Text → Text → Type 0
+  goes_after records bytes = (bytes ≡ t') ⊎ ((bytes ≡ t) × (records ≡ list))
 
   abbrev pub never_plain : List Text → Text → Type 0
   never_plain records step = ⊥
@@ -69,12 +69,12 @@ module _ (list : List Text) (body t t' : Text) where
   -- A run stores tiles, and then adds the record. Each file by its own clock may be left so: the
   -- journal with its record, and the tiles from before. They don't go together.
   pub record GoesApart (c c' : Text) : Type 0 where
-    pub goes : Goes goes_behind (only_state c) (only_state t)
-    pub ran : (heard : Bool) → LogLeads goes_behind never_plain AnyRecords
+    pub goes : Goes goes_after (only_state c) (only_state t)
+    pub ran : (heard : Bool) → LogLeads goes_after never_plain AnyRecords
         (ran_log heard (appended list body) stored) (only_state c) (only_state t)
         (only_state c') (only_state t')
-    pub moment : Leads AnyRecords (broke (appended list body)) (only_state c) (only_state c')
-    pub apart : Goes goes_behind (only_state c') (only_state t) → ⊥
+    pub at_once : Leads AnyRecords (broke (appended list body)) (only_state c) (only_state c')
+    pub apart : Goes goes_after (only_state c') (only_state t) → ⊥
 
 -- So it is of all texts that represent these records, and of all bytes of tiles.
 abbrev pub ClocksGoApart : Type 0

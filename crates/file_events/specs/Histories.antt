@@ -28,7 +28,7 @@ pub record TakesSteps (Valid : List Text → Type 0) (Reaches : History) : Type 
       → Reaches list None out → Reaches list (Some body) out
   pub ends : (list : List Text) (body : Text) (out : List Text) → Reaches list (Some body) out
       → Reaches (list ++ body ∷ []) None out
-  pub hands : (list : List Text) (body : Text) (out : List Text) → Reaches list (Some body) out
+  pub releases : (list : List Text) (body : Text) (out : List Text) → Reaches list (Some body) out
       → Reaches (list ++ body ∷ []) None (out ++ body ∷ [])
 
 -- A crash state represents the durable records, or these and the pending one.

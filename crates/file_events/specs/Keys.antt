@@ -17,15 +17,15 @@ with_use (Some key) keys = key ∷ keys
 -- Which key a record uses, by the records before it and itself.
 module _ (use_of : List Text → Text → Option KeyUse) where
   -- The keys that these records use after others, in their order.
-  abbrev pub uses_behind : List Text → List Text → List KeyUse
-  uses_behind prefix [] = []
-  uses_behind prefix (body ∷ bodies) =
-      with_use (use_of prefix body) (uses_behind (prefix ++ body ∷ []) bodies)
+  abbrev pub uses_after : List Text → List Text → List KeyUse
+  uses_after prefix [] = []
+  uses_after prefix (body ∷ bodies) =
+      with_use (use_of prefix body) (uses_after (prefix ++ body ∷ []) bodies)
 
   -- No key stands twice among those of the records.
   abbrev pub UsesOnce : List Text → Type 0
-  UsesOnce list = (i j : ℕ) (key : KeyUse) → slice_get (uses_behind [] list) i ≡ Some key
-      → slice_get (uses_behind [] list) j ≡ Some key → i ≡ j
+  UsesOnce list = (i j : ℕ) (key : KeyUse) → slice_get (uses_after [] list) i ≡ Some key
+      → slice_get (uses_after [] list) j ≡ Some key → i ≡ j
 
 -- The keys of a cosigner with one tree, by the number that a record has as a signature: the first
 -- record of its journal has none.

@@ -9,7 +9,7 @@ use Rattle.file_events.specs.Keys.{KeyUse, UsesOnce}
 
 module _ (Valid : List Text → Type 0) where
   -- The text represents valid records, and these are the first of them.
-  pub record IsReadBehind (prefix : List Text) (c : Text) : Type 0 where
+  pub record IsReadAfter (prefix : List Text) (c : Text) : Type 0 where
     pub list : List Text
     pub stands : Represents c list
     pub begins : IsPrefix prefix list
@@ -18,7 +18,7 @@ module _ (Valid : List Text → Type 0) where
   -- The records are durable: each crash state is read, and begins with them; and there is one.
   pub record IsDurablePrefix (prefix : List Text) (states : CrashStates) : Type 0 where
     pub some : (c : Text) × states c
-    pub each : (c : Text) → states c → IsReadBehind prefix c
+    pub each : (c : Text) → states c → IsReadAfter prefix c
 
 module _ {W : Type 0} (states : W → CrashStates) (Valid : List Text → Type 0) where
   -- The events of a journal lead from one world to the other.

@@ -44,7 +44,7 @@ module _ (p : Program) (Valid : List Text → Type 0) (name : Text) where
     pub leads : Leads Valid
         (event_with (breaks_off run.status) (heard_of p run) (did_to p name old run))
         (states_of p name old) (states_of p name run.room)
-    pub moments : (c : Text) → states_between p name old run.room c
+    pub times : (c : Text) → states_between p name old run.room c
         → Leads Valid (broke (did_to p name old run)) (states_of p name old) (λ d. d ≡ c)
 
   abbrev pub journal_file : FileOwner p
@@ -156,7 +156,7 @@ module _ (p : Program) (agrees : List Text → List Text → Type 0)
     Cuts = λ old run room. ⊥;
   }
 
-  -- Runs of the program do with both what they may, and leave so what they have to leave of both at
+  -- Runs of the program do with both what they may, and leave what they have to leave of both at
   -- once.
   pub record ServesMirror : Type 0 where
     pub rooms : KeepsRooms p

@@ -11,7 +11,7 @@ use Rattle.file_events.specs.Laws.{IsDurablePrefix}
 
 -- What a run does with the tiles: it only reads them, or it stores more of them.
 pub data TilesWork : Type 0 where
-  looked : TilesWork
+  only_read : TilesWork
   stored : TilesWork
 
 -- An event of a log: of its journal and its tiles at once. As those of a journal, with what the run
@@ -39,7 +39,7 @@ module _ (goes : List Text → Text → Type 0) where
   pub record Stores (list : List Text) (body : Text) (tiles journal' tiles' : CrashStates)
       : Type 0 where
     pub keeps : AllGo list tiles → AllGo list tiles'
-    pub behind : AllGo list tiles → (c : Text) → journal' c → Represents c (list ++ body ∷ [])
+    pub following : AllGo list tiles → (c : Text) → journal' c → Represents c (list ++ body ∷ [])
         → AllGo (list ++ body ∷ []) tiles'
 
   module _ (Plain : List Text → Text → Type 0) where
@@ -47,11 +47,11 @@ module _ (goes : List Text → Text → Type 0) where
     -- are only read.
     abbrev pub LeavesTiles : TilesWork → Journaled → CrashStates → CrashStates → CrashStates
         → Type 0
-    LeavesTiles looked untouched tiles journal' tiles' = NoNew tiles tiles'
-    LeavesTiles looked (reads list) tiles journal' tiles' = NoNew tiles tiles'
-    LeavesTiles looked (appended list body) tiles journal' tiles' =
+    LeavesTiles only_read untouched tiles journal' tiles' = NoNew tiles tiles'
+    LeavesTiles only_read (reads list) tiles journal' tiles' = NoNew tiles tiles'
+    LeavesTiles only_read (appended list body) tiles journal' tiles' =
         Plain list body × NoNew tiles tiles'
-    LeavesTiles looked (started body) tiles journal' tiles' = NoNew tiles tiles'
+    LeavesTiles only_read (started body) tiles journal' tiles' = NoNew tiles tiles'
     LeavesTiles stored untouched tiles journal' tiles' = NoNew tiles tiles'
     LeavesTiles stored (reads list) tiles journal' tiles' = AllGo list tiles → AllGo list tiles'
     LeavesTiles stored (appended list body) tiles journal' tiles' =

@@ -11,8 +11,8 @@ use Rattle.mtc_room.specs.declared.room.Room.{Ghosts as Rooms}
 use Rattle.file_events.specs.Events.{CrashStates, Event, Journaled, broke, ran, untouched}
 use Rattle.file_events.specs.Executions.{IsExecution}
 
--- A run: its words, standard output and standard error before and after, its status, and the files
--- that it leaves.
+-- A run: its arguments, standard output and standard error before and after, its status, and the
+-- files that it leaves.
 pub record Turn (R O E : Type 0) : Type 0 where
   pub words : List Text
   pub out : O
@@ -33,7 +33,7 @@ module _ {D : Type 0} (disks : Disks D) where
 
   abbrev pub clock_of : Option D → ℕ
   clock_of None = 0
-  clock_of (Some d) = disks.moment d
+  clock_of (Some d) = disks.clock_at d
 
   abbrev pub states_since : Option D → ℕ → CrashStates
   states_since None t c = c ≡ []
@@ -140,12 +140,13 @@ module _ (p : Program) where
   EachRun P old [] = Unit {0}
   EachRun P old (link ∷ links) = IfSome (run_of link) (P old) × EachRun P (files_after link) links
 
-  -- A stop leaves of each file one text that it may leave, and no other from then on.
+  -- A stop leaves of each file one text that it may leave, and a crash right after it leaves the
+  -- same.
   pub record LeavesStopped (May : Text → CrashStates) (old new : p.R) : Type 0 where
     pub is_modelled : p.rooms.is_modelled old → p.rooms.is_modelled new
-    pub image : Text → Text
-    pub may : (name : Text) → May name (image name)
-    pub only : (name c : Text) → states_of name new c → c ≡ image name
+    pub crash_state : Text → Text
+    pub may : (name : Text) → May name (crash_state name)
+    pub only : (name c : Text) → states_of name new c → c ≡ crash_state name
 
   -- Files were written, but none of those of the owner.
   pub record LeavesOwn (Own : Text → Type 0) (old new : p.R) : Type 0 where

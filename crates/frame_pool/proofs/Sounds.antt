@@ -23,7 +23,7 @@ pub record AreNew (count : ℕ) (keys : List (Option TileKey)) (pins : List Bool
     (frames : List (List ℕ)) : Type 0 where
   pub keys_count : length keys ≡ count
   pub pins_count : length pins ≡ count
-  pub places : length order ≡ count
+  pub indices : length order ≡ count
   pub frames_count : length frames ≡ count
   pub empty : All (λ key. key ≡ None) keys
   pub free : All (λ pin. pin ≡ false) pins
@@ -32,10 +32,10 @@ pub record AreNew (count : ℕ) (keys : List (Option TileKey)) (pins : List Bool
 pub new-none : (keys : List (Option TileKey)) (pins : List Bool) (order : List ℕ)
     (frames : List (List ℕ)) → length keys ≡ 0 → length pins ≡ 0 → length order ≡ 0
     → length frames ≡ 0 → AreNew 0 keys pins order frames
-new-none keys pins order frames no_keys no_pins no_places no_frames = record {
+new-none keys pins order frames no_keys no_pins no_indices no_frames = record {
   keys_count = no_keys;
   pins_count = no_pins;
-  places = no_places;
+  indices = no_indices;
   frames_count = no_frames;
   empty = λ k d inside. let none : ⊥ = omega arith in absurd none;
   free = λ k d inside. let none : ⊥ = omega arith in absurd none;
@@ -53,12 +53,12 @@ new-more count keys pins order frames frame are =
     let four = length_push frames frame in
     let k_count = are.keys_count in
     let p_count = are.pins_count in
-    let o_count = are.places in
+    let o_count = are.indices in
     let f_count = are.frames_count in
     record {
       keys_count = omega arith;
       pins_count = omega arith;
-      places = omega arith;
+      indices = omega arith;
       frames_count = omega arith;
       empty = All-push (λ key. key ≡ None) keys None are.empty refl;
       free = All-push (λ pin. pin ≡ false) pins false are.free refl;
@@ -85,13 +85,13 @@ pub sound-new : (count : ℕ) (pool : PoolState) → 1 ≤ count → count ≤ 6
     → AreNew count pool.keys pool.pins pool.order pool.frames → IsSoundPool pool
 sound-new count pool some few are =
     let k_count = are.keys_count in
-    let o_count = are.places in
+    let o_count = are.indices in
     record {
       some = omega arith;
       few = omega arith;
       pins = are.pins_count ∙ sym k_count;
       frames = are.frames_count ∙ sym k_count;
-      places = o_count ∙ sym k_count;
+      indices = o_count ∙ sym k_count;
       order = λ slot inside.
           let here : slot < length pool.order = omega arith in
           (slot, here, are.counted slot slot here);
@@ -224,7 +224,7 @@ sound-claimed pool slot key sound unheld inside =
     let pins = length-set pool.pins slot false in
     let p_count = sound.pins in
     let f_count = sound.frames in
-    let o_count = sound.places in
+    let o_count = sound.indices in
     let has = sound.order slot inside in
     let moved = length-moved slot pool.order has in
     let held : get_or (set pool.keys slot (Some key)) slot None ≡ Some key =
@@ -237,7 +237,7 @@ sound-claimed pool slot key sound unheld inside =
       few = omega arith;
       pins = omega arith;
       frames = omega arith;
-      places = omega arith;
+      indices = omega arith;
       order = λ s within. contains-moved slot s pool.order has (sound.order s (omega arith));
       slots = all-moved (λ s. s < length (set pool.keys slot (Some key))) slot pool.order has
           (omega arith) (λ k d within. let old = sound.slots k d within in omega arith);

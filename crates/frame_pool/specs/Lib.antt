@@ -1,4 +1,4 @@
 pub mod Order
 pub mod Frames
 pub mod Sound
-pub mod Lending
+pub mod Borrowing

@@ -11,7 +11,7 @@ pub record IsSoundPool (pool : PoolState) : Type 0 where
   pub few : length pool.keys ≤ 65536
   pub pins : length pool.pins ≡ length pool.keys
   pub frames : length pool.frames ≡ length pool.keys
-  pub places : length pool.order ≡ length pool.keys
+  pub indices : length pool.order ≡ length pool.keys
   pub order : (slot : ℕ) → slot < length pool.keys → Contains pool.order slot
   pub slots : All (λ slot. slot < length pool.keys) pool.order
   pub distinct : (one other : ℕ) (key : TileKey) → one < length pool.keys

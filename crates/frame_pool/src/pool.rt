@@ -6,7 +6,7 @@ ghost use Rattle.std.specs.Borrow.{sem};
 ghost use Rattle.frame_pool.specs.Frames.{HasUnpinned, HoldsKey, IsNew, IsNextSlot, IsUnheld};
 ghost use Rattle.frame_pool.specs.Frames.{PoolState, frame_at, claimed, pinned_at, released};
 ghost use Rattle.frame_pool.specs.Frames.{with_pin};
-ghost use Rattle.frame_pool.specs.Lending.{LendsFrame};
+ghost use Rattle.frame_pool.specs.Borrowing.{BorrowsFrame};
 ghost use Rattle.frame_pool.specs.Sound.{IsSoundPool};
 ghost use Rattle.frame_pool.specs.declared.key.TileKey.{TileKey as Key};
 
@@ -164,7 +164,7 @@ impl Pool {
     /// The bytes of a frame, 8,192, borrowed. What the caller leaves in them is the frame's.
     pub fn frame_mut(&mut self, slot: Slot) -> &mut [u8]
         requires { slot.0 < length self.old.keys }
-        ensures* writes_back { sem 𝓛 (LendsFrame self.entry slot.0 result) }
+        ensures* writes_back { sem 𝓛 (BorrowsFrame self.entry slot.0 result) }
         ensures value { result.now ≡ frame_at self.old slot.0 }
         ensures size { length result.now ≡ 8192 }
     {

@@ -70,7 +70,7 @@ pub(crate) fn next_slot(keys: &[Option<TileKey>], pins: &[bool], order: &[u32]) 
 }
 
 // The index of a slot in the order.
-fn place_of(order: &[u32], slot: u32) -> Option<usize>
+fn index_of(order: &[u32], slot: u32) -> Option<usize>
     ensures { result ≡ position (λ at. at == slot) order.now }
 {
     order.iter().position(|at| *at == slot)
@@ -81,7 +81,7 @@ pub(crate) fn move_last(order: &mut Vec<u32>, slot: u32)
     requires { Contains order.old.items slot }
     ensures { order.new.items ≡ moved_last slot order.old.items }
 {
-    match place_of(order.as_slice(), slot) {
+    match index_of(order.as_slice(), slot) {
         None => unreachable!(),
         Some(place) => {
             order.remove(place);

@@ -47,7 +47,7 @@ found_lent stored opened fuse passes is before file found = record {
   device = λ all. same_lent stored opened fuse passes is (found.device all);
   only = subst (λ (f : Fuse MemDisk). ⊤ → before ≡ None → (c : Text) → fuses.may_leave f c
       → c ≡ []) (sym is) found.only;
-  time = subst (λ (f : Fuse MemDisk). ⊤ → before ≡ None → fuses.moment f ≡ 0) (sym is)
+  time = subst (λ (f : Fuse MemDisk). ⊤ → before ≡ None → fuses.clock_at f ≡ 0) (sym is)
       found.time;
   begins = subst (λ (f : Fuse MemDisk). fuses.faults f ≡ 0) (sym is)
       (omega (arith, found.begins));

@@ -74,7 +74,7 @@ impl FuseRoom {
     }
 
     // The fuse over a device that was opened under this name.
-    fn lend(&self, name: &str, disk: MemDisk) -> Fuse<MemDisk>
+    fn with_fuse(&self, name: &str, disk: MemDisk) -> Fuse<MemDisk>
         ensures { result ≡ fused disk (passes_under self.now name.now) }
     {
         let passes = if name.as_bytes() == self.name.as_slice() {
@@ -154,7 +154,7 @@ impl Room for FuseRoom {
             ≡ fused (inner_of f) (passes_under self.old name.now)) }
     {
         let disk = self.room.disk(name)?;
-        Ok(self.lend(name, disk))
+        Ok(self.with_fuse(name, disk))
     }
 
     fn fresh(&mut self, name: &str) -> Result<Fuse<MemDisk>, RoomError>
@@ -173,7 +173,7 @@ impl Room for FuseRoom {
             ≡ fused (inner_of f) (passes_under self.old name.now)) }
     {
         let disk = self.room.fresh(name)?;
-        Ok(self.lend(name, disk))
+        Ok(self.with_fuse(name, disk))
     }
 
     fn scratch(&mut self, name: &str) -> Result<Fuse<MemDisk>, Failed>
@@ -194,7 +194,7 @@ impl Room for FuseRoom {
             ≡ fused (inner_of f) (passes_under self.old name.now)) }
     {
         let disk = self.room.scratch(name)?;
-        Ok(self.lend(name, disk))
+        Ok(self.with_fuse(name, disk))
     }
 
     fn cause(&self) -> Cause {

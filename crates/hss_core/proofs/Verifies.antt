@@ -11,7 +11,7 @@ use Rattle.lms_core.specs.declared.heights.LmsType.{LmsType}
 use Rattle.lms_core.specs.declared.private_key.PrivateKey.{PrivateKey}
 use Rattle.lms_core.specs.Heights.{height, lms_signature_length}
 use Rattle.lms_core.specs.Trees.{lms_public, lms_signature, private_key}
-use Rattle.lms_core.proofs.Verifies.{check_refusal-lms_signature, front_types-lms_signature}
+use Rattle.lms_core.proofs.Verifies.{check_refusal-lms_signature, prefix_types-lms_signature}
 use Rattle.lms_core.proofs.Verifies.{key_types-lms_public, length-lms_public, length-lms_signature}
 use Rattle.hss_core.specs.Hss.{hss_key_types, one_level_public, hss_refusal, one_level_signature}
 use Rattle.hss_core.specs.Hss.{levels_refusal, parts_fit, OneLevelSignatureVerifies, Verifies}
@@ -32,7 +32,7 @@ unfolding parts_fit
 parts_fit-lms_signature k q message =
     let whole = eq-eqb (lms_signature_length k.lms k.ots) (length (lms_signature k q message))
     (sym (length-lms_signature k q message)) in
-    rw (front_types-lms_signature k q message, whole) refl
+    rw (prefix_types-lms_signature k q message, whole) refl
 
 -- what a tree signs verifies, with the number of levels before key and signature
 pub hss_refusal-one_level_signature : (k : PrivateKey) (q : ℕ) (message : Text) → length k.id ≡ 16

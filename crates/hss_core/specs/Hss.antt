@@ -13,7 +13,7 @@ use Rattle.lms_core.specs.declared.refusals.SigError.{SigError}
 use Rattle.lms_core.specs.declared.refusals.SigError.TheVariants.{BadKey, BadLength, TypeDiffers}
 use Rattle.lms_core.specs.Heights.{lms_signature_length}
 use Rattle.lms_core.specs.Trees.{lms_public, lms_signature, private_key}
-use Rattle.lms_core.specs.Refusals.{check_refusal, front_types, key_types}
+use Rattle.lms_core.specs.Refusals.{check_refusal, prefix_types, key_types}
 
 -- ---- keys and signatures of one level (6.1, 6.2)
 
@@ -46,20 +46,20 @@ length_of (Some (l, t)) = Some (lms_signature_length l t)
 
 -- The bytes of the LMS signature that the bytes begin with, where they begin with one.
 abbrev pub prefix_length : Text → Option ℕ
-prefix_length s = length_of (front_types s)
+prefix_length s = length_of (prefix_types s)
 
 -- The public key after a signature of n bytes, and what follows that key.
-abbrev pub key_behind : ℕ → Text → Text
-key_behind n s = take 56 (drop n s)
+abbrev pub key_following : ℕ → Text → Text
+key_following n s = take 56 (drop n s)
 
-abbrev pub behind_key : ℕ → Text → Text
-behind_key n s = drop (n + 56) s
+abbrev pub following_key : ℕ → Text → Text
+following_key n s = drop (n + 56) s
 
 -- The bytes are so many pairs of a signature and a public key, and one last signature.
 unfoldable pub parts_fit : ℕ → Text → Bool
 parts_fit zero s = option_map_or (λ n. n == length s) (prefix_length s) false
 parts_fit (suc pairs) s =
-    option_map_or (λ n. nat_le (n + 56) (length s) && parts_fit pairs (behind_key n s))
+    option_map_or (λ n. nat_le (n + 56) (length s) && parts_fit pairs (following_key n s))
     (prefix_length s) false
 
 -- ---- refusals (6.3)
@@ -72,8 +72,8 @@ first_refusal (Some refusal) second = Some refusal
 unfoldable pub levels_refusal : ℕ → Text → Text → Text → Option SigError
 levels_refusal zero key message s = check_refusal key message s
 levels_refusal (suc pairs) key message s =
-    option_map_or (λ n. first_refusal (check_refusal key (key_behind n s) (take n s))
-    (levels_refusal pairs (key_behind n s) message (behind_key n s)))
+    option_map_or (λ n. first_refusal (check_refusal key (key_following n s) (take n s))
+    (levels_refusal pairs (key_following n s) message (following_key n s)))
     (prefix_length s) (Some BadLength)
 
 -- The refusal under a key with these levels and top types.

@@ -30,8 +30,8 @@ pub fn parts_fit(count: u32, bytes: &[u8]) -> bool
         if rest.len() - length < PUBLIC_KEY_LEN {
             return false;
         }
-        let (_, behind) = rest.split_at(length + PUBLIC_KEY_LEN);
-        rest = behind;
+        let (_, following) = rest.split_at(length + PUBLIC_KEY_LEN);
+        rest = following;
     }
     match prefix_len(rest) {
         None => false,
@@ -52,14 +52,14 @@ pub fn check_levels(count: u32, key: &[u8], message: &[u8], bytes: &[u8]) -> Res
         let Some(length) = prefix_len(rest) else {
             return Err(SigError::BadLength);
         };
-        let (signature, behind) = rest.split_at(length);
-        let (next, behind) = behind.split_at(PUBLIC_KEY_LEN);
+        let (signature, following) = rest.split_at(length);
+        let (next, following) = following.split_at(PUBLIC_KEY_LEN);
         match check(key, next, signature) {
             Err(refusal) => return Err(refusal),
             Ok(()) => {}
         }
         key = next;
-        rest = behind;
+        rest = following;
     }
     check(key, message, rest)
 }

@@ -52,9 +52,9 @@ below a b few other = grind (arith, nat_tests)
 module _ {H D T : Type 0} {hashes : Hashes H} {g : Ghosts D} {k : Ghosts T}
     (log : Log H D T hashes g k) (sound : HasSoundNumbers (view_of log)) where
   -- after its records a record makes what it makes of any log that shows this
-  makes_behind : (body : Text) (next : LogState → LogState)
+  makes_after : (body : Text) (next : LogState → LogState)
       → MakesOfLog hashes.hash (view_of log) body next → LogWouldTake body next log
-  makes_behind body next makes = IfSome_then (log_records log) (log_keeps log) (λ list is.
+  makes_after body next makes = IfSome_then (log_records log) (log_keeps log) (λ list is.
       state_next (log_fold hashes.hash) list (shown_with (view_of log) list) body
       (next (shown_with (view_of log) list)) is.made
       (makes (shown_with (view_of log) list) (shown_view (view_of log) list is.all)))
@@ -66,7 +66,7 @@ module _ {H D T : Type 0} {hashes : Hashes H} {g : Ghosts D} {k : Ghosts T}
   added_unrefused entry key belongs none =
       let first = passed _ _ _ none in
       let second = passed _ _ _ first.1 in
-      makes_behind (entry_record entry key) (with_item entry key)
+      makes_after (entry_record entry key) (with_item entry key)
       (item_makes hashes.hash (view_of log) entry key (below _ _ sound.few first.0)
       (ltb-false most_item (length entry + length key) second.0) belongs)
 
@@ -75,7 +75,7 @@ module _ {H D T : Type 0} {hashes : Hashes H} {g : Ghosts D} {k : Ghosts T}
   unfolding mark_refusal
   marked_unrefused none =
       let first = passed _ _ _ none in
-      makes_behind (landmark_record (view_of log).size) with_mark
+      makes_after (landmark_record (view_of log).size) with_mark
       (mark_makes hashes.hash (view_of log) sound (below _ _ (last_in (view_of log) sound) first.0))
 
   pub tiled_unrefused : tile_refusal (view_of log) (log_broken log) (log_end log) ≡ None
@@ -86,6 +86,6 @@ module _ {H D T : Type 0} {hashes : Hashes H} {g : Ghosts D} {k : Ghosts T}
       let first = passed _ _ _ none in
       let size = full_size (view_of log) in
       let fits = size_fits (view_of log) sound in
-      makes_behind (tiles_record size) (with_tiles size)
+      makes_after (tiles_record size) (with_tiles size)
       (tiles_make hashes.hash (view_of log) size (omega arith) (omega arith)
       (leb-false size (view_of log).tiled first.0) (omega arith))

@@ -2,8 +2,8 @@
 use Rattle.std.proofs.Common.{◌≡◌, Err, option_map, ap, refl, sym, subst, ◌∙◌}
 use Rattle.std.specs.Prelude.{option_and_then}
 use Rattle.byte_formats.specs.Types.{Text}
-use Rattle.disk_core.proofs.Moments.{nothing_read}
-use Rattle.disk_core.specs.Moments.{OnlyReads}
+use Rattle.disk_core.proofs.Times.{nothing_read}
+use Rattle.disk_core.specs.Times.{OnlyReads}
 use Rattle.disk_core.specs.declared.disk.Disk.{Ghosts}
 use Rattle.journal_core.specs.Ends.{durable_of}
 use Rattle.tree_core.specs.declared.hashing.TreeHash.{Ghosts as Hashes}
@@ -19,7 +19,7 @@ use Rattle.issuance_log.proofs.Leaving.{appends_not}
 module _ {H D T : Type 0} {hashes : Hashes H} {g : Ghosts D} {k : Ghosts T} where
   -- If nodes alone were asked for, the journal's disk was only read.
   pub asks_stays : (old new : Log H D T hashes g k)
-      → ((c : Text) → g.left_since (log_disk old) (g.moment (log_disk old)) c
+      → ((c : Text) → g.left_since (log_disk old) (g.clock_at (log_disk old)) c
       → g.may_leave (log_disk old) c) → LogAsksTiles old new → LogStays old new
   asks_stays old new only_now is = record {
     only_reads = subst (λ (d : D). OnlyReads g (log_disk old) d) (sym is.disk)
@@ -66,7 +66,7 @@ module _ {H D T : Type 0} {hashes : Hashes H} {g : Ghosts D} {k : Ghosts T} wher
 pub not_touched : {H D T X : Type 0} {hashes : Hashes H} {g : Ghosts D} {k : Ghosts T}
     (log : Log H D T hashes g k) (body : Text) (seen : LogView → LogView)
     (next : LogState → LogState)
-    → ((c : Text) → g.left_since (log_disk log) (g.moment (log_disk log)) c
+    → ((c : Text) → g.left_since (log_disk log) (g.clock_at (log_disk log)) c
     → g.may_leave (log_disk log) c)
     → LogAppends {X = X} body seen next log log (Err Memory)
 not_touched log body seen next only_now =

@@ -9,9 +9,9 @@ use Rattle.issuance_log.specs.Folds.{view_in, with_item}
 use Rattle.issuance_log.specs.Marks.{last_mark, AreRising}
 use Rattle.issuance_log.specs.Sound.{HasSoundNumbers, IsItem, IsSound}
 
-last_behind : (mark other : ℕ) (marks : List ℕ)
+last_after : (mark other : ℕ) (marks : List ℕ)
     → last_mark (mark ∷ other ∷ marks) ≡ last_mark (other ∷ marks)
-last_behind mark other marks =
+last_after mark other marks =
     let place : length (mark ∷ other ∷ marks) - 1 ≡ suc (length (other ∷ marks) - 1) =
     omega arith in
     ap (λ (n : ℕ). get_or (mark ∷ other ∷ marks) n 0) place
@@ -35,14 +35,14 @@ rising_with from to (mark ∷ other ∷ marks) is above last =
     let rest = rises other to marks is.1.1 in (
       is.0,
       rising_with mark to (other ∷ marks) is.1 (omega (arith, is.1.0))
-          (subst (λ (n : ℕ). n < to) (last_behind mark other marks) last),
+          (subst (λ (n : ℕ). n < to) (last_after mark other marks) last),
     )
 
 last_within : (from to : ℕ) (marks : List ℕ) → AreRising from to marks → last_mark marks ≤ to
 last_within from to [] is = omega arith
 last_within from to (mark ∷ []) is = is.1
 last_within from to (mark ∷ other ∷ marks) is =
-    subst (λ (n : ℕ). n ≤ to) (sym (last_behind mark other marks))
+    subst (λ (n : ℕ). n ≤ to) (sym (last_after mark other marks))
     (last_within mark to (other ∷ marks) is.1)
 
 -- the last landmark is no larger than the log, whose size fits eight bytes

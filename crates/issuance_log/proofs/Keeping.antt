@@ -8,7 +8,7 @@ use Rattle.std.proofs.lemmas.List.{map-append}
 use Rattle.std.proofs.lemmas.Option.{same_Some}
 use Rattle.byte_formats.specs.Types.{Text, HashFunction}
 use Rattle.byte_formats.proofs.Values.{map_some, when_some}
-use Rattle.journal_core.specs.Format.{behind}
+use Rattle.journal_core.specs.Format.{following}
 use Rattle.journal_core.proofs.Folds.{state_begins, state_next}
 use Rattle.log_entry.specs.Matching.{matches}
 use Rattle.tree_core.specs.Tree.{leaf_hash}
@@ -17,17 +17,17 @@ use Rattle.issuance_log.specs.Folds.{next_log, next_view, null_entry, takes_entr
 use Rattle.issuance_log.specs.Folds.{takes_landmark, takes_tiles, view_in, with_item, with_mark}
 use Rattle.issuance_log.specs.Items.{AreKept, HasShortItem}
 use Rattle.issuance_log.specs.Marks.{last_mark}
-use Rattle.issuance_log.specs.Places.{places_behind}
+use Rattle.issuance_log.specs.ItemOffsets.{offsets_after}
 use Rattle.issuance_log.specs.Records.{item_in, mark_in, settings_in, tiled_in}
 use Rattle.issuance_log.specs.Settings.{Settings}
 use Rattle.issuance_log.specs.Shown.{recorded_items, shown_with}
 use Rattle.issuance_log.specs.Sound.{HasSoundNumbers, IsSound}
-use Rattle.issuance_log.proofs.Behind.{entries_of, next_items, when}
+use Rattle.issuance_log.proofs.After.{entries_of, next_items, when}
 use Rattle.issuance_log.proofs.Growth.{numbers_marked, numbers_tiled, sound_with}
 use Rattle.issuance_log.proofs.Shown.{all_shown, shown_size, shown_so}
 use Rattle.issuance_log.proofs.Shown.{shown_view}
 use Rattle.issuance_log.proofs.Encoded.{changed_log}
-use Rattle.issuance_log.proofs.Standing.{places_with}
+use Rattle.issuance_log.proofs.Standing.{offsets_with}
 use Rattle.issuance_log.proofs.Views.{views_follow}
 
 -- ---- sound with one record more
@@ -125,16 +125,17 @@ hashed_with (Some l) leaves' old new more was are is =
     subst (λ o. IfSome o (λ l. l ≡ new)) (sym are) (ap (λ x. x ++ more) was ∙ sym is)
 
 -- One record more, which the log takes, is retained.
-pub kept_next : (h : HashFunction) (v w : LogView) (places places' : List ℕ)
+pub kept_next : (h : HashFunction) (v w : LogView) (offsets offsets' : List ℕ)
     (leaves leaves' : Option (List (List ℕ))) (first : Text) (bodies : List Text) (body : Text)
-    → AreKept h v places leaves (first ∷ bodies) → next_view h v body ≡ Some w
+    → AreKept h v offsets leaves (first ∷ bodies) → next_view h v body ≡ Some w
     → HasShortItem (item_in body)
-    → places' ≡ places
-    ++ map (λ x. behind 16 (first ∷ bodies)) (option_to_list (item_in body))
+    → offsets' ≡ offsets
+    ++ map (λ x. following 16 (first ∷ bodies)) (option_to_list (item_in body))
     → leaves' ≡ option_map (λ l. l ++ map (λ x. leaf_hash h x.0) (option_to_list (item_in body)))
     leaves
-    → AreKept h w places' leaves' ((first ∷ bodies) ++ body ∷ [])
-kept_next h v w places places' leaves leaves' first bodies body is next short places_is leaves_is =
+    → AreKept h w offsets' leaves' ((first ∷ bodies) ++ body ∷ [])
+kept_next h v w offsets offsets' leaves leaves' first bodies body is next short offsets_is
+    leaves_is =
     let list : List Text = first ∷ bodies in
     let more : List Text = list ++ body ∷ [] in
     let s = shown_with v list in
@@ -149,10 +150,10 @@ kept_next h v w places places' leaves leaves' first bodies body is next short pl
     record {
       made = log_is ∙ ap Ok (sym shown);
       all = size;
-      places_are = places_is
+      offsets_are = offsets_is
           ∙ ap (λ (l : List ℕ). l
-          ++ map (λ x. behind 16 list) (option_to_list (item_in body))) is.places_are
-          ∙ sym (places_with first bodies body);
+          ++ map (λ x. following 16 list) (option_to_list (item_in body))) is.offsets_are
+          ∙ sym (offsets_with first bodies body);
       sound = subst (IsSound h) (sym shown) (sound_next h s t body is.sound short step.1);
       hashed = hashed_with leaves leaves' (map (leaf_hash h) s.entries) _
           (map (λ x. leaf_hash h x.0) (option_to_list (item_in body))) is.hashed leaves_is
@@ -164,21 +165,21 @@ kept_next h v w places places' leaves leaves' first bodies body is next short pl
     }
 
 -- This holds after any records.
-pub kept_more : (h : HashFunction) (v w : LogView) (places places' : List ℕ)
+pub kept_more : (h : HashFunction) (v w : LogView) (offsets offsets' : List ℕ)
     (leaves leaves' : Option (List (List ℕ))) (list : List Text) (body : Text)
-    → AreKept h v places leaves list → next_view h v body ≡ Some w
+    → AreKept h v offsets leaves list → next_view h v body ≡ Some w
     → HasShortItem (item_in body)
-    → places' ≡ places ++ map (λ x. behind 16 list) (option_to_list (item_in body))
+    → offsets' ≡ offsets ++ map (λ x. following 16 list) (option_to_list (item_in body))
     → leaves' ≡ option_map (λ l. l ++ map (λ x. leaf_hash h x.0) (option_to_list (item_in body)))
     leaves
-    → AreKept h w places' leaves' (list ++ body ∷ [])
-kept_more h v w places places' leaves leaves' [] body is next short places_is leaves_is =
+    → AreKept h w offsets' leaves' (list ++ body ∷ [])
+kept_more h v w offsets offsets' leaves leaves' [] body is next short offsets_is leaves_is =
     let some = is.sound.numbers.some in
     let size = shown_size v [] is.all in
     absurd (omega (arith, is.all))
-kept_more h v w places places' leaves leaves' (first ∷ bodies) body is next short places_is
+kept_more h v w offsets offsets' leaves leaves' (first ∷ bodies) body is next short offsets_is
     leaves_is =
-    kept_next h v w places places' leaves leaves' first bodies body is next short places_is
+    kept_next h v w offsets offsets' leaves leaves' first bodies body is next short offsets_is
     leaves_is
 
 -- ---- the first record
@@ -199,13 +200,13 @@ begun_so None v is = let wrong : None ≡ Some v = is in absurd cc
 begun_so (Some s) v is = (s, refl, same_Some (view_in (new_log s)) v is)
 
 -- The log that it begins is retained.
-pub kept_first : (h : HashFunction) (v : LogView) (body : Text) (places : List ℕ)
+pub kept_first : (h : HashFunction) (v : LogView) (body : Text) (offsets : List ℕ)
     (leaves leaves' : Option (List (List ℕ))) → option_map view_in (begun_log body) ≡ Some v
-    → HasSoundNumbers v → places ≡ 0 ∷ [] → IfSome leaves (λ l. l ≡ [])
+    → HasSoundNumbers v → offsets ≡ 0 ∷ [] → IfSome leaves (λ l. l ≡ [])
     → leaves' ≡ option_map (λ l. l ++ leaf_hash h null_entry ∷ []) leaves
-    → (1 ≡ v.size) × AreKept h v places leaves' (body ∷ [])
-unfolding begun_log places_behind
-kept_first h v body places leaves leaves' begun sound one none leaves_is =
+    → (1 ≡ v.size) × AreKept h v offsets leaves' (body ∷ [])
+unfolding begun_log offsets_after
+kept_first h v body offsets leaves leaves' begun sound one none leaves_is =
     let first = begun_so (settings_in body) v begun in
     let t = new_log first.0 in
     let log_is : log_of h (body ∷ []) ≡ Ok t =
@@ -218,7 +219,7 @@ kept_first h v body places leaves leaves' begun sound one none leaves_is =
       record {
         made = log_is ∙ ap Ok (sym shown);
         all = sym size ∙ all_shown h (body ∷ []) t log_is;
-        places_are = one;
+        offsets_are = one;
         sound = subst (IsSound h) (sym shown)
             (sound_new h first.0 (subst HasSoundNumbers (sym first.2) sound));
         hashed = hashed_with leaves leaves' [] _ (leaf_hash h null_entry ∷ []) none leaves_is

@@ -16,7 +16,7 @@ use Rattle.tree_core.specs.declared.hashing.TreeHash.{Ghosts as Hashes}
 use Rattle.issuance_log.specs.Changes.{IsTakenAs}
 use Rattle.issuance_log.specs.Counted.{log_keeps}
 use Rattle.issuance_log.specs.Folds.{LogState, LogView}
-use Rattle.issuance_log.specs.Items.{items_leaves, items_places}
+use Rattle.issuance_log.specs.Items.{items_leaves, items_offsets}
 use Rattle.issuance_log.specs.Shown.{shown_with}
 use Rattle.issuance_log.specs.Words.{LogAppends, LogModelMoves, log_disk, log_owner, log_records}
 use Rattle.issuance_log.specs.Words.{log_tiles_disk, modelled_by_both, modelled_state}
@@ -66,7 +66,7 @@ module _ {H D T : Type 0} {hashes : Hashes H} {g : Ghosts D} {k : Ghosts T}
   pub appends_not : {X : Type 0} (body : Text) (seen : LogView → LogView)
       (next : LogState → LogState) (result : Result X LogError) (why : LogError)
       → IsErrAnd result (λ e. e ≡ why) → of_log_journal why ≡ None
-      → ((c : Text) → g.left_since (log_disk old) (g.moment (log_disk old)) c
+      → ((c : Text) → g.left_since (log_disk old) (g.clock_at (log_disk old)) c
       → g.may_leave (log_disk old) c) → LogAppends {X = X} body seen next old ready result
   appends_not {X = X} body seen next result why is none only_now =
       subst (LogAppends {X = X} body seen next old ready) (err_is result why is) (record {
@@ -152,7 +152,7 @@ module _ {H D T : Type 0} {hashes : Hashes H} {g : Ghosts D} {k : Ghosts T}
   appends_ok answer did taken =
       let h = hashes.hash in
       let v = view_of old in
-      let places = items_places old.machine.items in
+      let offsets = items_offsets old.machine.items in
       let leaves = items_leaves old.machine.items in
       let view = did.leaves.state in
       record {
@@ -160,11 +160,11 @@ module _ {H D T : Type 0} {hashes : Hashes H} {g : Ghosts D} {k : Ghosts T}
             did;
         is_modelled = record {
           contents = ap (λ (u : LogView). option_map (shown_with u) (log_records new)) view
-              ∙ grown_modelled h v places leaves (log_records old) (log_records new) body seen
+              ∙ grown_modelled h v offsets leaves (log_records old) (log_records new) body seen
               next did.leaves.records taken (log_keeps old);
           leaves = ap (λ (u : LogView). leaves_by h u (k.contents (log_tiles_disk new))
               (log_records new)) view
-              ∙ grown_leaves h v places leaves (log_records old) (log_records new) body seen next
+              ∙ grown_leaves h v offsets leaves (log_records old) (log_records new) body seen next
               did.leaves.records taken (log_keeps old) (k.contents (log_tiles_disk old))
               (k.contents (log_tiles_disk new)) tiles;
         };

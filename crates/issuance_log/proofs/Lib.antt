@@ -1,10 +1,10 @@
 mod Adds
 mod Answering
 pub mod Asked
-pub mod Behind
+pub mod After
 mod Changes
 mod Growth
-mod Fronts
+mod Prefixes
 pub mod Ids
 mod Keeping
 pub mod Leaves

@@ -3,11 +3,11 @@ use Rattle.std.proofs.Common.{◌≡◌, ◌-◌, ℕ, Ok, arith, subst}
 use Rattle.byte_formats.specs.Types.{Text}
 use Rattle.disk_core.specs.declared.disk.Disk.{Ghosts}
 use Rattle.journal_core.specs.Ends.{durable_of}
-use Rattle.journal_core.specs.Folds.{state_behind}
+use Rattle.journal_core.specs.Folds.{state_after}
 use Rattle.journal_core.specs.Words.{end_of}
 use Rattle.tree_core.specs.declared.hashing.TreeHash.{Ghosts as Hashes}
 use Rattle.issuance_log.specs.Durable.{IsDurableLog}
-use Rattle.issuance_log.specs.Items.{AreBelow, items_leaves, items_places}
+use Rattle.issuance_log.specs.Items.{AreBelow, items_leaves, items_offsets}
 use Rattle.issuance_log.specs.Machine.{IsKeptWithin, machine_view}
 use Rattle.issuance_log.specs.Sound.{HasSoundNumbers}
 use Rattle.issuance_log.specs.Words.{view_of}
@@ -25,15 +25,15 @@ module _ {H T : Type 0} {hashes : Hashes H} {k : Ghosts T} where
       let begun = log.journal.begun in
       record {
         sound = sound;
-        below = subst (AreBelow (items_places log.machine.items)) (omega arith) log.below;
+        below = subst (AreBelow (items_offsets log.machine.items)) (omega arith) log.below;
         counted = log.counted;
         stored = λ none. log.stored;
       }
 
-  -- what is durable, in the words of the log
+  -- what is durable, as the layer above says it
   pub makes_of : (it : LogMachine H T hashes k) (end : ℕ) (b : Text)
-      → IsDurableLog hashes.hash (machine_view it) (items_places it.items) (items_leaves it.items)
-      end b → state_behind (view_fold hashes.hash) (durable_of end b) ≡ Ok (machine_view it)
+      → IsDurableLog hashes.hash (machine_view it) (items_offsets it.items) (items_leaves it.items)
+      end b → state_after (view_fold hashes.hash) (durable_of end b) ≡ Ok (machine_view it)
   makes_of it end b is =
       view_made hashes.hash (machine_view it) (durable_of end b) is.kept.made
       (shown_view (machine_view it) (durable_of end b) is.kept.all)

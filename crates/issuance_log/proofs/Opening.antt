@@ -2,8 +2,8 @@
 use Rattle.std.proofs.Common.{◌≡◌, ℕ, ◌<◌, ◌^◌, List, Option, Some, None, IfSome, option_map}
 use Rattle.std.proofs.Common.{Ok, Err, ap, subst, sym, ◌∙◌, refl}
 use Rattle.byte_formats.specs.Types.{Hash, HashFunction, Text}
-use Rattle.disk_core.proofs.Moments.{nothing_read, only_read_on}
-use Rattle.disk_core.specs.Moments.{OnlyReads}
+use Rattle.disk_core.proofs.Times.{nothing_read, only_read_on}
+use Rattle.disk_core.specs.Times.{OnlyReads}
 use Rattle.disk_core.specs.declared.disk.Disk.{Ghosts}
 use Rattle.journal_core.specs.Ends.{AreDurable, durable_of}
 use Rattle.journal_core.specs.Format.{Represents}
@@ -34,23 +34,23 @@ use Rattle.issuance_log.proofs.ReadViews.{log_refused, log_why}
 use Rattle.issuance_log.proofs.Views.{view_fold}
 
 -- what is durable, by items with the same offsets and leaves
-pub durable_as : (h : HashFunction) (v : LogView) (places places' : List ℕ)
-    (leaves leaves' : Option (List Hash)) (end : ℕ) (b : Text) → places' ≡ places
-    → leaves' ≡ leaves → AreDurable end b → AreKept h v places leaves (durable_of end b)
-    → IsDurableLog h v places' leaves' end b
-durable_as h v places places' leaves leaves' end b one two durable kept = record {
+pub durable_as : (h : HashFunction) (v : LogView) (offsets offsets' : List ℕ)
+    (leaves leaves' : Option (List Hash)) (end : ℕ) (b : Text) → offsets' ≡ offsets
+    → leaves' ≡ leaves → AreDurable end b → AreKept h v offsets leaves (durable_of end b)
+    → IsDurableLog h v offsets' leaves' end b
+durable_as h v offsets offsets' leaves leaves' end b one two durable kept = record {
   durable = durable;
   kept = subst (λ (l : List ℕ). AreKept h v l leaves' (durable_of end b)) (sym one)
-      (subst (λ (o : Option (List Hash)). AreKept h v places o (durable_of end b)) (sym two) kept);
+      (subst (λ (o : Option (List Hash)). AreKept h v offsets o (durable_of end b)) (sym two) kept);
 }
 
 -- ---- a log that is opened
 
-module _ (h : HashFunction) (v : LogView) (places : List ℕ) (f : Text → List Text) where
+module _ (h : HashFunction) (v : LogView) (offsets : List ℕ) (f : Text → List Text) where
   -- the file is read as the log that its records make
   pub found_so : (leaves : Option (List Hash)) (journal : Option Text)
       → IfSome journal (λ b. IfSome (option_map f journal) (Represents b))
-      → IfSome (option_map f journal) (AreKept h v places leaves)
+      → IfSome (option_map f journal) (AreKept h v offsets leaves)
       → IfSome journal (λ b. IfSome (option_map f journal) (λ list. log_read h b
       ≡ Ok (record { records = list; state = shown_with v list })))
   found_so leaves None stands kept = tt
@@ -60,7 +60,7 @@ module _ (h : HashFunction) (v : LogView) (places : List ℕ) (f : Text → List
   module _ (leaves : Text → List Hash) where
     -- its tiles are those of the last size
     pub tiles_so : (journal contents : Option Text)
-        → IfSome (option_map f journal) (AreKept h v places (option_map leaves contents))
+        → IfSome (option_map f journal) (AreKept h v offsets (option_map leaves contents))
         → IfSome contents (λ bytes. IfSome (option_map leaves contents) (λ l. (level place : ℕ)
         → IsNewTile 0 v.tiled level place → StandsIn h l bytes level place))
         → IfSome (option_map (shown_with v) (option_map f journal)) (λ s.
@@ -73,7 +73,7 @@ module _ (h : HashFunction) (v : LogView) (places : List ℕ) (f : Text → List
     -- or this one is the first that the file of tiles has not
     pub bad_so : (journal contents : Option Text) (size level place : ℕ) → size ≡ v.tiled
         → v.tiled < 2 ^ 32
-        → IfSome (option_map f journal) (AreKept h v places (option_map leaves contents))
+        → IfSome (option_map f journal) (AreKept h v offsets (option_map leaves contents))
         → IfSome journal (λ b. IfSome (option_map f journal) (λ list. log_read h b
         ≡ Ok (record { records = list; state = shown_with v list })))
         → IfSome contents (λ bytes. IfSome (option_map leaves contents) (λ l.
@@ -96,7 +96,7 @@ usable_none is = let wrong : ◌≡◌ {A = Option TileError} None (Some Failed)
 
 -- the tiles that a log begins with
 pub tiles_there : {T : Type 0} (k : Ghosts T) (disk : T)
-    → ((c : Text) → k.left_since disk (k.moment disk) c → k.may_leave disk c)
+    → ((c : Text) → k.left_since disk (k.clock_at disk) c → k.may_leave disk c)
     → TilesAreRead k (record { disk = disk; refusal = None })
     (record { disk = disk; refusal = None })
 tiles_there k disk only_now =

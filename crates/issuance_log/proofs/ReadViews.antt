@@ -5,7 +5,7 @@ use Rattle.std.specs.Prelude.{if◌then◌else◌}
 use Rattle.std.specs.Str.{bytes_eq}
 use Rattle.byte_formats.specs.Types.{HashFunction, Text}
 use Rattle.byte_formats.specs.Readings.{◌>>=◌, lifted}
-use Rattle.journal_core.specs.Folds.{AreRefused, Found, closing, read_by, state_behind, tested}
+use Rattle.journal_core.specs.Folds.{AreRefused, Found, closing, read_by, state_after, tested}
 use Rattle.journal_core.specs.Folds.{walked}
 use Rattle.journal_core.specs.Format.{header}
 use Rattle.journal_core.specs.Walk.{FileEnd, FileWalk, at_bad_length, at_commit_byte, at_cut}
@@ -26,38 +26,39 @@ log_why (state.BadRecord k) = BadRecord k
 log_why (state.Open why) = Open why
 
 -- both are read, or are refused for the same reason
-abbrev Tells : {X Y : Type 0} → Result X StateOpenError → Result Y LogOpenError → Type 0
-Tells (Ok x) (Ok y) = Unit {0}
-Tells (Ok x) (Err e) = ⊥
-Tells (Err why) (Ok y) = ⊥
-Tells (Err why) (Err e) = e ≡ log_why why
+abbrev FailAlike : {X Y : Type 0} → Result X StateOpenError → Result Y LogOpenError → Type 0
+FailAlike (Ok x) (Ok y) = Unit {0}
+FailAlike (Ok x) (Err e) = ⊥
+FailAlike (Err why) (Ok y) = ⊥
+FailAlike (Err why) (Err e) = e ≡ log_why why
 
 module _ (h : HashFunction) where
   -- the state after the records, and then how the file ends
-  tells_state : (end : FileEnd) (t : Result LogState ℕ)
-      → Tells (lifted state.BadRecord (shows t) >>= λ v. closing (view_fold h) end (Ok v))
+  alike_state : (end : FileEnd) (t : Result LogState ℕ)
+      → FailAlike (lifted state.BadRecord (shows t) >>= λ v. closing (view_fold h) end (Ok v))
       (lifted BadRecord t >>= λ s. closing (log_fold h) end (Ok s))
-  tells_state at_commit_byte (Ok s) = tt
-  tells_state (at_bad_length place) (Ok s) = refl
-  tells_state (at_cut place) (Ok s) = refl
-  tells_state end (Err k) = refl
+  alike_state at_commit_byte (Ok s) = tt
+  alike_state (at_bad_length place) (Ok s) = refl
+  alike_state (at_cut place) (Ok s) = refl
+  alike_state end (Err k) = refl
 
-  tells_tested : (list : List Text) (end : FileEnd)
-      → Tells (tested (view_fold h) list end) (tested (log_fold h) list end)
-  tells_tested [] at_commit_byte = refl
-  tells_tested [] (at_bad_length place) = refl
-  tells_tested [] (at_cut place) = refl
-  tells_tested (first ∷ bodies) end =
-      subst (λ r. Tells (lifted state.BadRecord r >>= λ v. closing (view_fold h) end (Ok v))
+  alike_tested : (list : List Text) (end : FileEnd)
+      → FailAlike (tested (view_fold h) list end) (tested (log_fold h) list end)
+  alike_tested [] at_commit_byte = refl
+  alike_tested [] (at_bad_length place) = refl
+  alike_tested [] (at_cut place) = refl
+  alike_tested (first ∷ bodies) end =
+      subst (λ r. FailAlike (lifted state.BadRecord r >>= λ v. closing (view_fold h) end (Ok v))
       (tested (log_fold h) (first ∷ bodies) end)) (sym (state_shows h (first ∷ bodies)))
-      (tells_state end (state_behind (log_fold h) (first ∷ bodies)))
+      (alike_state end (state_after (log_fold h) (first ∷ bodies)))
 
-  tells_walked : (walk : FileWalk) → Tells (walked (view_fold h) walk) (walked (log_fold h) walk)
-  tells_walked walk = each (tested (view_fold h) walk.records walk.end)
-      (tested (log_fold h) walk.records walk.end) (tells_tested walk.records walk.end)
+  alike_walked : (walk : FileWalk)
+      → FailAlike (walked (view_fold h) walk) (walked (log_fold h) walk)
+  alike_walked walk = each (tested (view_fold h) walk.records walk.end)
+      (tested (log_fold h) walk.records walk.end) (alike_tested walk.records walk.end)
     where
-      each : (r : Result LogView StateOpenError) (t : Result LogState LogOpenError) → Tells r t
-          → Tells {X = Found LogView} {Y = Found LogState}
+      each : (r : Result LogView StateOpenError) (t : Result LogState LogOpenError) → FailAlike r t
+          → FailAlike {X = Found LogView} {Y = Found LogState}
           (r >>= λ v. Ok (record { records = walk.records; state = v }))
           (t >>= λ s. Ok (record { records = walk.records; state = s }))
       each (Ok v) (Ok s) is = tt
@@ -65,14 +66,14 @@ module _ (h : HashFunction) where
       each (Err why) (Ok s) is = absurd is
       each (Err why) (Err e) is = is
 
-  tells_read : (bytes : Text) → Tells (read_by (view_fold h) bytes) (read_by (log_fold h) bytes)
+  alike_read : (bytes : Text) → FailAlike (read_by (view_fold h) bytes) (read_by (log_fold h) bytes)
   unfolding read_by
-  tells_read bytes = by_test (bytes_eq (take 16 bytes) header)
+  alike_read bytes = by_test (bytes_eq (take 16 bytes) header)
     where
-      by_test : (b : Bool) → Tells
+      by_test : (b : Bool) → FailAlike
           (if b then walked (view_fold h) (walk_of bytes) else Err (state.Open NotJournal))
           (if b then walked (log_fold h) (walk_of bytes) else Err (Open NotJournal))
-      by_test true = tells_walked (walk_of bytes)
+      by_test true = alike_walked (walk_of bytes)
       by_test false = refl
 
   -- A file that is refused by what it shows is refused as a log.
@@ -82,14 +83,14 @@ module _ (h : HashFunction) where
       if_some (λ bytes. read_by (view_fold h) bytes ≡ Err why)
       (λ bytes. read_by (log_fold h) bytes ≡ Err (log_why why)) contents
       (λ bytes is. at (read_by (log_fold h) bytes)
-      (subst (λ r. Tells r (read_by (log_fold h) bytes)) is (tells_read bytes))) refused
+      (subst (λ r. FailAlike r (read_by (log_fold h) bytes)) is (alike_read bytes))) refused
     where
-      at : (t : Result (Found LogState) LogOpenError) → Tells {X = Found LogView} (Err why) t
+      at : (t : Result (Found LogState) LogOpenError) → FailAlike {X = Found LogView} (Err why) t
           → t ≡ Err (log_why why)
       at (Ok found) same = absurd same
       at (Err e) same = ap Err same
 
   -- Records that make a log make what it shows.
   pub view_made : (v : LogView) (list : List Text) → log_of h list ≡ Ok (shown_with v list)
-      → view_in (shown_with v list) ≡ v → state_behind (view_fold h) list ≡ Ok v
+      → view_in (shown_with v list) ≡ v → state_after (view_fold h) list ≡ Ok v
   view_made v list made view = state_shows h list ∙ ap shows made ∙ ap Ok view

@@ -13,14 +13,14 @@ use Rattle.journal_core.specs.Words.{HasSize, HoldsBody}
 use Rattle.issuance_log.specs.Entries.{IsBodyAt, IsNoAnswer}
 use Rattle.issuance_log.specs.Folds.{LogState, LogView, null_entry}
 use Rattle.issuance_log.specs.Items.{AreKept}
-use Rattle.issuance_log.specs.Places.{IsPlaced, places_of}
+use Rattle.issuance_log.specs.ItemOffsets.{IsAtOffset, offsets_of}
 use Rattle.issuance_log.specs.Refusals.{GivesItem, item_at}
 use Rattle.issuance_log.specs.Shown.{recorded_items, shown_with}
 use Rattle.issuance_log.specs.declared.error.LogError.{LogError}
 use Rattle.issuance_log.specs.declared.error.LogError.TheVariants.{Full, TooLarge, NoSuchEntry}
 use Rattle.issuance_log.specs.declared.error.LogError.TheVariants.{NothingNew, Failed, Append}
 use Rattle.issuance_log.specs.declared.error.LogError.TheVariants.{Memory}
-use Rattle.issuance_log.proofs.Behind.{entries_of, keys_of}
+use Rattle.issuance_log.proofs.After.{entries_of, keys_of}
 use Rattle.issuance_log.proofs.Shown.{shown_size}
 use Rattle.issuance_log.proofs.Standing.{placed_of}
 
@@ -65,8 +65,8 @@ pub shown_of : (v : LogView) (P : LogState → Type 0) {K : List Text → Type 0
 shown_of v P None kept holds = tt
 shown_of v P (Some list) kept holds = holds list kept
 
-module _ (h : HashFunction) (v : LogView) (places : List ℕ) (leaves : Option (List Hash))
-    (o : Option (List Text)) (kept : IfSome o (AreKept h v places leaves)) where
+module _ (h : HashFunction) (v : LogView) (offsets : List ℕ) (leaves : Option (List Hash))
+    (o : Option (List Text)) (kept : IfSome o (AreKept h v offsets leaves)) where
   -- an index past the size
   pub gives_none : (index : ℕ) (entry key : Text) → v.size ≤ index
       → IfSome (option_map (shown_with v) o)
@@ -107,8 +107,8 @@ module _ (h : HashFunction) (v : LogView) (places : List ℕ) (leaves : Option (
 
   -- the item of the record at the offset
   item_read : (index place : ℕ) (list : List Text) (entry key : Text) → 1 ≤ index
-      → index < v.size → place ≡ slice_index_or places index 0 → AreKept h v places leaves list
-      → ((item : Text × Text) → IsPlaced list place item → item ≡ (entry, key))
+      → index < v.size → place ≡ slice_index_or offsets index 0 → AreKept h v offsets leaves list
+      → ((item : Text × Text) → IsAtOffset list place item → item ≡ (entry, key))
       → item_at (shown_with v list) index ≡ Ok (entry, key)
   item_read index place [] entry key some there is kept gives = absurd (omega (arith, kept.all))
   item_read index place (first ∷ bodies) entry key some there is kept gives =
@@ -116,10 +116,10 @@ module _ (h : HashFunction) (v : LogView) (places : List ℕ) (leaves : Option (
       let items = recorded_items list in
       let all = kept.all in
       let item = slice_index_or items index ([], []) in
-      let place_is : place ≡ slice_index_or (places_of list) index 0 =
-      is ∙ ap (λ (l : List ℕ). slice_index_or l index 0) kept.places_are in
+      let offset_is : place ≡ slice_index_or (offsets_of list) index 0 =
+      is ∙ ap (λ (l : List ℕ). slice_index_or l index 0) kept.offsets_are in
       let same : item ≡ (entry, key) = gives item
-      (subst (λ (n : ℕ). IsPlaced list n item) (sym place_is)
+      (subst (λ (n : ℕ). IsAtOffset list n item) (sym offset_is)
       (placed_of first bodies index some (omega arith))) in
       let entry_is : slice_index_or (take v.size (entries_of items)) index [] ≡ entry =
       get_or-take v.size (entries_of items) index [] there
@@ -135,19 +135,20 @@ module _ (h : HashFunction) (v : LogView) (places : List ℕ) (leaves : Option (
       ∙ ap (λ (x : Text). Ok (entry, x)) key_is
 
 -- what was read, by the answer
-pub gives_item : (h : HashFunction) (v : LogView) (places : List ℕ) (leaves : Option (List Hash))
-    (o : Option (List Text)) → IfSome o (AreKept h v places leaves) → (index place : ℕ)
-    (entry key : Text) → 1 ≤ index → index < v.size → place ≡ slice_index_or places index 0
+pub gives_item : (h : HashFunction) (v : LogView) (offsets : List ℕ) (leaves : Option (List Hash))
+    (o : Option (List Text)) → IfSome o (AreKept h v offsets leaves) → (index place : ℕ)
+    (entry key : Text) → 1 ≤ index → index < v.size → place ≡ slice_index_or offsets index 0
     → (result : Result (Unit {0}) LogError) → IfErr result IsNoAnswer
     → OnOk result (IfSome o (λ list. (item : Text × Text)
-    → IsPlaced list place item → item ≡ (entry, key)))
+    → IsAtOffset list place item → item ≡ (entry, key)))
     → IfSome (option_map (shown_with v) o) (λ s. GivesItem (item_at s index) result entry key)
-gives_item h v places leaves None kept index place entry key some there is result none gives = tt
-gives_item h v places leaves (Some list) kept index place entry key some there is (Ok done) none
+gives_item h v offsets leaves None kept index place entry key some there is result none gives = tt
+gives_item h v offsets leaves (Some list) kept index place entry key some there is (Ok done) none
     gives =
-    item_read h v places leaves (Some list) kept index place list entry key some there is kept gives
-gives_item h v places leaves (Some list) kept index place entry key some there is (Err why) none
-    gives = gives_nothing h v places leaves (Some list) kept index why entry key there none
+    item_read h v offsets leaves (Some list) kept index place list entry key some there is kept
+    gives
+gives_item h v offsets leaves (Some list) kept index place entry key some there is (Err why) none
+    gives = gives_nothing h v offsets leaves (Some list) kept index why entry key there none
 
 -- the body of the record at an offset, by its length and the bytes that were read
 pub body_read : (place size : ℕ) (o later : Option (List Text)) (out items : List ℕ) (len : ℕ)
@@ -161,9 +162,9 @@ body_read place size o later out items len same sized holds of_out of_items of_l
         → IfSome p (HoldsBody (place + 1 + 4) out)
         → IfSome p (IsBodyAt place (take len (out ++ drop (length out) items)))
     each None has body_is = tt
-    each (Some list) has body_is = λ prefix body back list_is place_is.
+    each (Some list) has body_is = λ prefix body back list_is offset_is.
         let size_is : size ≡ length body =
-        (has prefix body back list_is (ap (λ (n : ℕ). n + 1) place_is)).0 in
+        (has prefix body back list_is (ap (λ (n : ℕ). n + 1) offset_is)).0 in
         let read : out ≡ take (length out) body =
         body_is prefix body back 0 list_is (omega arith) (omega arith) in
         sym (take-append-le len out (drop (length out) items) (omega arith)

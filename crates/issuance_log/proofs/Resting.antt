@@ -2,8 +2,8 @@
 use Rattle.std.proofs.Common.{◌≡◌, ◌<◌, Option, Some, Result, Ok, Err, ap, false, true, subst, sym}
 use Rattle.std.proofs.Common.{◌∙◌, arith}
 use Rattle.std.specs.Prelude.{IfErr, IsOk, MatchResult, OnErr, OnOk, is_some}
-use Rattle.disk_core.proofs.Moments.{only_read_on}
-use Rattle.disk_core.specs.Moments.{OnlyReads}
+use Rattle.disk_core.proofs.Times.{only_read_on}
+use Rattle.disk_core.specs.Times.{OnlyReads}
 use Rattle.disk_core.specs.declared.disk.Disk.{Ghosts}
 use Rattle.mtc_io.specs.Counts.{Rose}
 use Rattle.state_journal.specs.Steps.{IsLeftBy, IsOutOfMemory}
@@ -16,20 +16,20 @@ use Rattle.tree_core.specs.declared.hashing.TreeHash.{Ghosts as Hashes}
 use Rattle.issuance_log.specs.Items.{items_tiles}
 use Rattle.issuance_log.specs.Machine.{HasStored, IsUsable, TilesAreLeft, TilesAreRead}
 use Rattle.issuance_log.specs.Machine.{machine_view}
-use Rattle.issuance_log.specs.Results.{WantsMemory}
+use Rattle.issuance_log.specs.Results.{IsMemoryRefused}
 use Rattle.issuance_log.specs.declared.error.RecordError.{RecordError}
 use Rattle.issuance_log.specs.declared.error.RecordError.TheVariants as record_error
 use Rattle.issuance_log.specs.declared.machine.LogMachine.{LogMachine}
 use Rattle.issuance_log.specs.declared.machine.TileRest.{TileRest}
 
 -- memory was refused, and it wasn't
-pub starved_is : {X : Type 0} (r : Result X RecordError) → r ≡ Err record_error.Memory
-    → WantsMemory r
-starved_is r is = subst WantsMemory (sym is) tt
+pub out_of_memory_is : {X : Type 0} (r : Result X RecordError) → r ≡ Err record_error.Memory
+    → IsMemoryRefused r
+out_of_memory_is r is = subst IsMemoryRefused (sym is) tt
 
-pub not_starved : {X : Type 0} (r : Result X Misfit) → IsOk r → IsOutOfMemory r → ⊥
-not_starved (Ok x) is starved = starved
-not_starved (Err why) is starved = let wrong : false ≡ true = is in absurd cc
+pub not_out_of_memory : {X : Type 0} (r : Result X Misfit) → IsOk r → IsOutOfMemory r → ⊥
+not_out_of_memory (Ok x) is out_of_memory = out_of_memory
+not_out_of_memory (Err why) is out_of_memory = let wrong : false ≡ true = is in absurd cc
 
 -- the same disk is returned
 abbrev rest_over : {T : Type 0} → Option TileError → T → TileRest T

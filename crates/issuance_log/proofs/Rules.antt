@@ -5,7 +5,7 @@ use Rattle.std.proofs.Common.{None, option_map, option_and_then, Result, Ok, Err
 use Rattle.std.specs.Int.{w8, w32}
 use Rattle.std.proofs.lemmas.Bool.{and_parts, eqb-true, leb-true, ltb-true}
 use Rattle.std.proofs.lemmas.Option.{same_Some}
-use Rattle.byte_formats.specs.Places.{at, IsBytes}
+use Rattle.byte_formats.specs.Offsets.{at, IsBytes}
 use Rattle.byte_formats.proofs.Steps.{IsBytes-prefix, IsBytes-back}
 use Rattle.byte_formats.proofs.Values.{map_some, when_some}
 use Rattle.tls_wire.specs.Anchors.{anchor_of}
@@ -146,9 +146,10 @@ first_is body s bytes is =
     id_bytes : (body : List ℕ) (v : List ℕ × (ℕ × ℕ)) → IsBytes body
         → body ≡ number w8 log_tag ++ settings_text v → IsBytes v.0
     id_bytes body v bytes is =
-        let behind = IsBytes-back (number w8 log_tag) (settings_text v) (subst IsBytes is bytes) in
+        let following =
+        IsBytes-back (number w8 log_tag) (settings_text v) (subst IsBytes is bytes) in
         IsBytes-back (number w8 (length v.0)) v.0 (IsBytes-prefix (vector w8 v.0) (number w32 v.1.0
-        ++ number w32 v.1.1) behind)
+        ++ number w32 v.1.1) following)
 
     allowed_tests : (active limit : ℕ) → are_allowed active limit ≡ true → AreAllowed active limit
     allowed_tests active limit is =

@@ -10,7 +10,8 @@ use Rattle.issuance_log.specs.Folds.{LogState, LogView, log_of, new_log, null_en
 use Rattle.issuance_log.specs.Folds.{with_item}
 use Rattle.issuance_log.specs.Records.{IsShort, entry_record, item_in}
 use Rattle.issuance_log.specs.Shown.{recorded_items, shown_with}
-use Rattle.issuance_log.proofs.Behind.{behind_items, entries_of, keys_of, later_items, only_begins}
+use Rattle.issuance_log.proofs.After.{following_items, entries_of, keys_of, later_items}
+use Rattle.issuance_log.proofs.After.{only_begins}
 use Rattle.issuance_log.proofs.Encoded.{item_again}
 
 -- what is shown, with these entries and keys
@@ -38,7 +39,7 @@ pub shown_so : (h : HashFunction) (list : List Text) (s : LogState) → log_of h
 shown_so h list s is =
     let begun = only_begins h list s is in
     let items : List (Text × Text) = recorded_items (begun.0 ∷ begun.1.0) in
-    let has = behind_items h 1 (new_log s.settings) s begun.1.0 begun.1.1.2 in
+    let has = following_items h 1 (new_log s.settings) s begun.1.0 begun.1.1.2 in
     let entries : s.entries ≡ entries_of items = has.entries in
     let keys : s.keys ≡ keys_of items = has.keys in
     let some = ap (λ (l : List Text). length l) entries ∙ length-map items (λ item. item.0) in
@@ -128,7 +129,7 @@ pub all_shown : (h : HashFunction) (list : List Text) (s : LogState) → log_of 
 all_shown h list s is =
     let begun = only_begins h list s is in
     let items : List (Text × Text) = recorded_items (begun.0 ∷ begun.1.0) in
-    let has = behind_items h 1 (new_log s.settings) s begun.1.0 begun.1.1.2 in
+    let has = following_items h 1 (new_log s.settings) s begun.1.0 begun.1.1.2 in
     let entries : s.entries ≡ entries_of items = has.entries in
     ap (λ (l : List Text). length l) entries ∙ length-map items (λ item. item.0)
     ∙ ap (λ l. length (recorded_items l)) (sym begun.1.1.0)

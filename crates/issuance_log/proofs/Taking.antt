@@ -38,23 +38,23 @@ size_next h v w body is = size_by h v w (item_in body) (mark_in body) (tiled_in 
 
 -- ---- what is retained of the items
 
-pub counted_next : (h : HashFunction) (v w : LogView) (body : Text) (places places' : List ℕ)
-    (place : ℕ) → next_view h v body ≡ Some w → length places ≡ v.size
-    → places' ≡ places ++ map (λ x. place) (option_to_list (item_in body))
-    → length places' ≡ w.size
-counted_next h v w body places places' place next counted are =
+pub counted_next : (h : HashFunction) (v w : LogView) (body : Text) (offsets offsets' : List ℕ)
+    (place : ℕ) → next_view h v body ≡ Some w → length offsets ≡ v.size
+    → offsets' ≡ offsets ++ map (λ x. place) (option_to_list (item_in body))
+    → length offsets' ≡ w.size
+counted_next h v w body offsets offsets' place next counted are =
     let count = length-map (option_to_list (item_in body)) (λ x. place) in
-    let sum = length-append places (map (λ x. place) (option_to_list (item_in body))) in
+    let sum = length-append offsets (map (λ x. place) (option_to_list (item_in body))) in
     let size = size_next h v w body next in
     ap (λ (l : List ℕ). length l) are ∙ sum ∙ omega arith
 
-pub below_next : (body : Text) (places places' : List ℕ) (place : ℕ)
-    → AreBelow places (place + 1)
-    → places' ≡ places ++ map (λ x. place) (option_to_list (item_in body))
-    → AreBelow places' (place + 5 + length body + 1)
-below_next body places places' place below are =
+pub below_next : (body : Text) (offsets offsets' : List ℕ) (place : ℕ)
+    → AreBelow offsets (place + 1)
+    → offsets' ≡ offsets ++ map (λ x. place) (option_to_list (item_in body))
+    → AreBelow offsets' (place + 5 + length body + 1)
+below_next body offsets offsets' place below are =
     subst (λ (l : List ℕ). AreBelow l (place + 5 + length body + 1)) (sym are)
-    (below_more places (map (λ x. place) (option_to_list (item_in body))) (place + 1)
+    (below_more offsets (map (λ x. place) (option_to_list (item_in body))) (place + 1)
     (place + 5 + length body + 1) below (omega arith)
     (below_item (item_in body) place (place + 5 + length body + 1) (omega arith)))
 

@@ -72,10 +72,10 @@ some_modelled f f' (Some b) (Some c) same = refl
 
 -- ---- one record more
 
-module _ (h : HashFunction) (v : LogView) (places : List ℕ) (leaves : Option (List (List ℕ)))
+module _ (h : HashFunction) (v : LogView) (offsets : List ℕ) (leaves : Option (List (List ℕ)))
     (old new : Option (List Text)) (body : Text) (seen : LogView → LogView)
     (make : LogState → LogState) (grown : new ≡ option_map (λ list. list ++ body ∷ []) old)
-    (taken : IsTakenAs h v body seen make) (kept : IfSome old (AreKept h v places leaves)) where
+    (taken : IsTakenAs h v body seen make) (kept : IfSome old (AreKept h v offsets leaves)) where
   pub grown_modelled : option_map (shown_with (seen v)) new
       ≡ option_map make (option_map (shown_with v) old)
   grown_modelled = modelled_with v (seen v) body make old new grown

@@ -4,9 +4,9 @@ use Rattle.std.proofs.Common.{length, Option, Some, None, IfSome, option_map, re
 use Rattle.std.proofs.lemmas.List.{length-append}
 use Rattle.byte_formats.specs.Types.{Text, HashFunction}
 use Rattle.byte_formats.proofs.Values.{each_some}
-use Rattle.disk_core.specs.Moments.{LeavesOnly}
+use Rattle.disk_core.specs.Times.{LeavesOnly}
 use Rattle.disk_core.specs.declared.disk.Disk.{Ghosts}
-use Rattle.disk_core.proofs.Moments.{started, weaker}
+use Rattle.disk_core.proofs.Times.{started, weaker}
 use Rattle.journal_core.specs.Format.{Represents, records_of}
 use Rattle.journal_core.specs.Durable.{IsDurable}
 use Rattle.journal_core.proofs.Records.{records_of-stands}
@@ -15,13 +15,13 @@ use Rattle.state_journal.proofs.Kept.{of_sound}
 use Rattle.tile_store.specs.Contents.{HoldsTiles}
 use Rattle.tile_store.specs.Layout.{tiles_end}
 use Rattle.tile_store.specs.Store.{tiles_stored}
-use Rattle.tile_store.specs.Writing.{IsImageBehind}
+use Rattle.tile_store.specs.Writing.{IsCrashStateAfter}
 use Rattle.tile_store.proofs.Prefixes.{prefix-less}
 use Rattle.tile_store.proofs.Kept.{tiles-kept}
 use Rattle.tree_core.specs.declared.hashing.TreeHash.{Ghosts as Hashes}
 use Rattle.issuance_log.specs.Counted.{log_keeps}
 use Rattle.issuance_log.specs.Folds.{LogView}
-use Rattle.issuance_log.specs.Items.{AreKept, items_leaves, items_places}
+use Rattle.issuance_log.specs.Items.{AreKept, items_leaves, items_offsets}
 use Rattle.issuance_log.specs.Sound.{HasSoundNumbers}
 use Rattle.issuance_log.specs.Words.{log_broken, log_disk, log_end, log_leaves, log_records}
 use Rattle.issuance_log.specs.Words.{log_tiles, log_tiles_disk, view_of}
@@ -36,28 +36,28 @@ ends_before size stored within = omega arith
 -- At any time of a store the tiles of an earlier size stay.
 module _ {T : Type 0} (k : Ghosts T) (old new : T) (h : HashFunction) (leaves : List (List ℕ))
     (size : ℕ) (held : (c : Text) → k.may_leave old c → HoldsTiles h leaves size c) where
-  pub still_held : ((c : Text) → k.left_since old (k.moment old) c → k.may_leave old c)
+  pub still_held : ((c : Text) → k.left_since old (k.clock_at old) c → k.may_leave old c)
       → LeavesOnly k old old (HoldsTiles h leaves size)
   still_held only_now = started k old (HoldsTiles h leaves size) only_now held
 
   pub stored_held : (stored : ℕ) → size < 2 ^ 32 → size ≤ stored
-      → LeavesOnly k old new (IsImageBehind k old (tiles_end stored))
+      → LeavesOnly k old new (IsCrashStateAfter k old (tiles_end stored))
       → LeavesOnly k old new (HoldsTiles h leaves size)
-  stored_held stored few within any_moment =
-      weaker k old new (IsImageBehind k old (tiles_end stored)) (HoldsTiles h leaves size)
+  stored_held stored few within any_time =
+      weaker k old new (IsCrashStateAfter k old (tiles_end stored)) (HoldsTiles h leaves size)
       (λ c is. tiles-kept h leaves size is.before c few
       (prefix-less (tiles_end size) (tiles_end stored) is.before c (ends_before size stored within)
-      is.keeps) (held is.before is.left)) any_moment
+      is.keeps) (held is.before is.left)) any_time
 
 -- the hashes of the entries are the nodes that are retained
-pub leaves_are : (h : HashFunction) (v : LogView) (places : List ℕ) (contents : Option Text)
+pub leaves_are : (h : HashFunction) (v : LogView) (offsets : List ℕ) (contents : Option Text)
     (nodes : Text → List (List ℕ)) (records : Option (List Text)) (P : List (List ℕ) → Type 0)
-    → IfSome records (AreKept h v places (option_map nodes contents))
+    → IfSome records (AreKept h v offsets (option_map nodes contents))
     → IfSome (option_map nodes contents) P
     → IfSome (leaves_by h v contents records) P
-leaves_are h v places None nodes records P kept is = tt
-leaves_are h v places (Some t) nodes None P kept is = tt
-leaves_are h v places (Some t) nodes (Some list) P kept is = subst P kept.hashed is
+leaves_are h v offsets None nodes records P kept is = tt
+leaves_are h v offsets (Some t) nodes None P kept is = tt
+leaves_are h v offsets (Some t) nodes (Some list) P kept is = subst P kept.hashed is
 
 -- a journal that is all on the disk has no record more
 longer_other : (list : List Text) (body : Text) → list ≡ list ++ body ∷ [] → {X : Type 0} → X
@@ -67,18 +67,18 @@ longer_other list body is =
     absurd (omega arith)
 
 pub no_record : {D : Type 0} (g : Ghosts D) (disk : D) (end : ℕ) (body : Text)
-    (settled : (b : Text) → g.contents disk ≡ Some b → IsDurable b (g.may_leave disk) end)
-    (only_now : (c : Text) → g.left_since disk (g.moment disk) c → g.may_leave disk c)
+    (is_durable : (b : Text) → g.contents disk ≡ Some b → IsDurable b (g.may_leave disk) end)
+    (only_now : (c : Text) → g.left_since disk (g.clock_at disk) c → g.may_leave disk c)
     (P : Text → Type 0)
     → IfSome (option_map records_of (g.contents disk)) (λ list. (c : Text)
-    → g.left_since disk (g.moment disk) c → Represents c (list ++ body ∷ [])
+    → g.left_since disk (g.clock_at disk) c → Represents c (list ++ body ∷ [])
     → P c)
-no_record g disk end body settled only_now P = at (g.contents disk) settled
+no_record g disk end body is_durable only_now P = at (g.contents disk) is_durable
   where
     at : (contents : Option Text)
         → ((b : Text) → contents ≡ Some b → IsDurable b (g.may_leave disk) end)
         → IfSome (option_map records_of contents) (λ list. (c : Text)
-        → g.left_since disk (g.moment disk) c → Represents c (list ++ body ∷ []) → P c)
+        → g.left_since disk (g.clock_at disk) c → Represents c (list ++ body ∷ []) → P c)
     at None is = tt
     at (Some b) is = λ c left stands.
         let here = is b refl in
@@ -100,7 +100,7 @@ module _ {H D T : Type 0} {hashes : Hashes H} {g : Ghosts D} {k : Ghosts T}
     (log : Log H D T hashes g k) where
   -- no tiles were written
   pub keeps_still : ((c : Text) → k.left_since (log_tiles_disk log)
-      (k.moment (log_tiles_disk log)) c → k.may_leave (log_tiles_disk log) c)
+      (k.clock_at (log_tiles_disk log)) c → k.may_leave (log_tiles_disk log) c)
       → (size : ℕ) → IfSome (log_leaves log) (λ leaves.
       ((c : Text) → k.may_leave (log_tiles_disk log) c → HoldsTiles hashes.hash leaves size c)
       → LeavesOnly k (log_tiles_disk log) (log_tiles_disk log)
@@ -108,48 +108,48 @@ module _ {H D T : Type 0} {hashes : Hashes H} {g : Ghosts D} {k : Ghosts T}
   keeps_still only_now size = each_some _ (log_leaves log) (λ leaves held.
       still_held k (log_tiles_disk log) (log_tiles_disk log) hashes.hash leaves size held only_now)
 
-  pub behind_none : (only_now : (c : Text) → g.left_since (log_disk log)
-      (g.moment (log_disk log)) c → g.may_leave (log_disk log) c) → (body : Text) (size : ℕ)
+  pub after_none : (only_now : (c : Text) → g.left_since (log_disk log)
+      (g.clock_at (log_disk log)) c → g.may_leave (log_disk log) c) → (body : Text) (size : ℕ)
       (disk : T) → log_broken log ≡ false → IfSome (log_leaves log) (λ leaves.
       IfSome (log_records log) (λ list. (c : Text)
-      → g.left_since (log_disk log) (g.moment (log_disk log)) c
+      → g.left_since (log_disk log) (g.clock_at (log_disk log)) c
       → Represents c (list ++ body ∷ []) → (d : Text) → k.may_leave disk d
       → HoldsTiles hashes.hash leaves size d))
-  behind_none only_now body size disk sound = each_some _ (log_leaves log) (λ leaves.
+  after_none only_now body size disk sound = each_some _ (log_leaves log) (λ leaves.
       of_sound log.journal (λ list. (c : Text)
-      → g.left_since (log_disk log) (g.moment (log_disk log)) c
+      → g.left_since (log_disk log) (g.clock_at (log_disk log)) c
       → Represents c (list ++ body ∷ []) → (d : Text) → k.may_leave disk d
       → HoldsTiles hashes.hash leaves size d) sound
-      (no_record g (log_disk log) (log_end log) body (log.journal.settled sound) only_now
+      (no_record g (log_disk log) (log_end log) body (log.journal.is_durable sound) only_now
       (λ c. (d : Text) → k.may_leave disk d → HoldsTiles hashes.hash leaves size d)))
 
   -- they were written after those of the last size
   pub keeps_stored : HasSoundNumbers (view_of log) → (disk later : T) → later ≡ disk
-      → LeavesOnly k (log_tiles_disk log) disk (IsImageBehind k (log_tiles_disk log)
+      → LeavesOnly k (log_tiles_disk log) disk (IsCrashStateAfter k (log_tiles_disk log)
       (tiles_end (tiles_stored (log_tiles log))))
       → IfSome (log_leaves log) (λ leaves.
       ((c : Text) → k.may_leave (log_tiles_disk log) c
       → HoldsTiles hashes.hash leaves (view_of log).tiled c)
       → LeavesOnly k (log_tiles_disk log) later
       (HoldsTiles hashes.hash leaves (view_of log).tiled))
-  keeps_stored sound disk later same any_moment = each_some _ (log_leaves log) (λ leaves held.
+  keeps_stored sound disk later same any_time = each_some _ (log_leaves log) (λ leaves held.
       let small = size_fits (view_of log) sound in
       let tiled = sound.tiled in
       subst (λ (d : T). LeavesOnly k (log_tiles_disk log) d
       (HoldsTiles hashes.hash leaves (view_of log).tiled)) (sym same)
       (stored_held k (log_tiles_disk log) disk hashes.hash leaves (view_of log).tiled held
-      (tiles_stored (log_tiles log)) (omega arith) log.stored any_moment))
+      (tiles_stored (log_tiles log)) (omega arith) log.stored any_time))
 
   -- and all of them are durable
-  pub behind_stored : (Left : Text → Type 0) (Stands : List Text → Text → Type 0)
+  pub after_stored : (Left : Text → Type 0) (Stands : List Text → Text → Type 0)
       (stored size : ℕ) (disk later : T) → later ≡ disk → stored ≡ size
       → IfSome (items_leaves log.machine.items) (λ leaves. (d : Text) → k.may_leave disk d
       → HoldsTiles hashes.hash leaves stored d)
       → IfSome (log_leaves log) (λ leaves. IfSome (log_records log) (λ list. (c : Text) → Left c
       → Stands list c → (d : Text) → k.may_leave later d
       → HoldsTiles hashes.hash leaves size d))
-  behind_stored Left Stands stored size disk later same is holds =
-      leaves_are hashes.hash (view_of log) (items_places log.machine.items)
+  after_stored Left Stands stored size disk later same is holds =
+      leaves_are hashes.hash (view_of log) (items_offsets log.machine.items)
       (k.contents (log_tiles_disk log)) _ (log_records log)
       (λ leaves. IfSome (log_records log) (λ list. (c : Text) → Left c
       → Stands list c → (d : Text) → k.may_leave later d → HoldsTiles hashes.hash leaves size d))

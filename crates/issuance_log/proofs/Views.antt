@@ -8,7 +8,7 @@ use Rattle.std.proofs.lemmas.Bool.{and_parts, eq-eqb, le-leb, lt-ltb, ltb-true}
 use Rattle.std.proofs.lemmas.List.{length_push}
 use Rattle.byte_formats.specs.Types.{Text, HashFunction}
 use Rattle.byte_formats.specs.Readings.{◌>>=◌, some_or}
-use Rattle.journal_core.specs.Folds.{Fold, state_behind, taken_from}
+use Rattle.journal_core.specs.Folds.{Fold, state_after, taken_from}
 use Rattle.log_entry.specs.Matching.{matches}
 use Rattle.state_journal.specs.declared.error.StateOpenError.{StateOpenError}
 use Rattle.state_journal.specs.declared.error.StateOpenError.TheVariants.{BadRecord, Open}
@@ -21,7 +21,7 @@ use Rattle.issuance_log.specs.Marks.{last_mark}
 use Rattle.issuance_log.specs.Records.{IsShort, entry_record, item_in, landmark_record, mark_in}
 use Rattle.issuance_log.specs.Records.{landmark_tag, tiled_in, tiles_record, tiles_tag}
 use Rattle.issuance_log.specs.Results.{HasTried}
-use Rattle.issuance_log.proofs.Behind.{last_follows, last_not}
+use Rattle.issuance_log.proofs.After.{last_follows, last_not}
 use Rattle.issuance_log.proofs.Encoded.{item_again, mark_alone, size_again, tiles_no_item}
 use Rattle.issuance_log.proofs.Encoded.{tiles_no_mark}
 
@@ -88,8 +88,8 @@ taken_shows h k s (body ∷ bodies) =
     ∙ each_shows h k bodies (next_log h s body) (λ u. taken_shows h (k + 1) u bodies)
 
 pub state_shows : (h : HashFunction) (list : List Text)
-    → state_behind (view_fold h) list ≡ shows (state_behind (log_fold h) list)
-unfolding state_behind
+    → state_after (view_fold h) list ≡ shows (state_after (log_fold h) list)
+unfolding state_after
 state_shows h [] = refl
 state_shows h (first ∷ bodies) =
     each_shows h 0 bodies (begun_log first) (λ s. taken_shows h 1 s bodies)

@@ -8,18 +8,18 @@ use Rattle.issuance_log.specs.Folds.{LogView}
 use Rattle.issuance_log.specs.Items.{AreKept, AreKept-prop}
 
 -- They stand in the bytes up to that end, and make what the log shows.
-pub record IsDurableLog (h : HashFunction) (v : LogView) (places : List ℕ)
+pub record IsDurableLog (h : HashFunction) (v : LogView) (offsets : List ℕ)
     (leaves : Option (List Hash)) (end : ℕ) (bytes : Text) : Type 0 where
   pub durable : AreDurable end bytes
-  pub kept : AreKept h v places leaves (durable_of end bytes)
+  pub kept : AreKept h v offsets leaves (durable_of end bytes)
 
 -- it has one proof at most
-pub IsDurableLog-prop : (h : HashFunction) (v : LogView) (places : List ℕ)
+pub IsDurableLog-prop : (h : HashFunction) (v : LogView) (offsets : List ℕ)
     (leaves : Option (List Hash)) (end : ℕ) (bytes : Text)
-    → IsProp (IsDurableLog h v places leaves end bytes)
-IsDurableLog-prop h v places leaves end bytes =
+    → IsProp (IsDurableLog h v offsets leaves end bytes)
+IsDurableLog-prop h v offsets leaves end bytes =
     hlevel (
       props,
       AreDurable-prop end bytes,
-      AreKept-prop h v places leaves (durable_of end bytes),
+      AreKept-prop h v offsets leaves (durable_of end bytes),
     )

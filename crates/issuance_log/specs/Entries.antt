@@ -1,7 +1,7 @@
 -- An entry that is read back from a journal.
 use Rattle.std.specs.Prelude.{◌≡◌, ℕ, List, ◌∷◌, ◌++◌, Result, Ok, Err}
 use Rattle.byte_formats.specs.Types.{Text}
-use Rattle.journal_core.specs.Format.{behind}
+use Rattle.journal_core.specs.Format.{following}
 use Rattle.mtc_io.specs.Counts.{Rose}
 use Rattle.issuance_log.specs.declared.error.LogError.{LogError}
 use Rattle.issuance_log.specs.declared.error.LogError.TheVariants.{Full, TooLarge, NoSuchEntry}
@@ -11,7 +11,7 @@ use Rattle.issuance_log.specs.declared.error.LogError.TheVariants.{Memory}
 -- The bytes are the body of the record at an offset, if these records have one there.
 abbrev pub IsBodyAt : ℕ → Text → List Text → Type 0
 IsBodyAt place read list = (prefix : List Text) (body : Text) (back : List Text)
-    → list ≡ prefix ++ body ∷ back → place ≡ behind 16 prefix → body ≡ read
+    → list ≡ prefix ++ body ∷ back → place ≡ following 16 prefix → body ≡ read
 
 -- Nothing is said of the item: memory was refused, or a disk failed.
 abbrev pub IsNoAnswer : LogError → Type 0

@@ -4,7 +4,7 @@ use Rattle.std.specs.Prelude.{ℕ, ◌+◌, ◌%◌, ◌==◌, ◌&&◌, nat_lt,
 use Rattle.std.specs.Prelude.{Option, Some, None, option_map, Result, is_ok}
 use Rattle.std.specs.Prelude.{if◌then◌else◌, Bool}
 use Rattle.byte_formats.specs.Types.{Text, HashFunction}
-use Rattle.journal_core.specs.Folds.{Fold, state_behind, taken_from}
+use Rattle.journal_core.specs.Folds.{Fold, state_after, taken_from}
 use Rattle.log_entry.specs.Matching.{matches}
 use Rattle.issuance_log.specs.Marks.{last_mark}
 use Rattle.issuance_log.specs.Records.{settings_in, item_in, mark_in, tiled_in}
@@ -127,13 +127,13 @@ log_fold h =
 -- The log of a journal with these records, or the number of the first record that breaks the rules.
 -- Without a record the first one is missing.
 abbrev pub log_of : HashFunction → List Text → Result LogState ℕ
-log_of h list = state_behind (log_fold h) list
+log_of h list = state_after (log_fold h) list
 
 -- The log that these records make after a first one with these settings, or the number of the first
 -- record that breaks the rules.
-abbrev pub log_behind : HashFunction → Settings → List Text → Result LogState ℕ
-log_behind h settings bodies = taken_from (log_fold h) 1 (new_log settings) bodies
+abbrev pub log_after : HashFunction → Settings → List Text → Result LogState ℕ
+log_after h settings bodies = taken_from (log_fold h) 1 (new_log settings) bodies
 
 -- They may follow a first record with these settings.
 abbrev pub may_follow_log : HashFunction → Settings → List Text → Bool
-may_follow_log h settings bodies = is_ok (log_behind h settings bodies)
+may_follow_log h settings bodies = is_ok (log_after h settings bodies)

@@ -11,7 +11,7 @@ use Rattle.tile_store.specs.declared.store.Tiles.{Tiles}
 use Rattle.tree_core.specs.Tree.{leaf_hash}
 use Rattle.tree_core.specs.declared.hashing.TreeHash.{Ghosts as Hashes}
 use Rattle.issuance_log.specs.Folds.{LogView, log_of}
-use Rattle.issuance_log.specs.Places.{places_of}
+use Rattle.issuance_log.specs.ItemOffsets.{offsets_of}
 use Rattle.issuance_log.specs.Records.{IsShort}
 use Rattle.issuance_log.specs.Shown.{recorded_items, shown_with}
 use Rattle.issuance_log.specs.Sound.{IsSound, IsSound-prop}
@@ -19,7 +19,7 @@ use Rattle.issuance_log.specs.declared.items.Items.{Items}
 
 -- After each of the offsets a commit byte and a length fit below an end.
 abbrev pub AreBelow : List ℕ → ℕ → Type 0
-AreBelow places end = (i : ℕ) → i < length places → slice_index_or places i 0 + 5 ≤ end
+AreBelow offsets end = (i : ℕ) → i < length offsets → slice_index_or offsets i 0 + 5 ≤ end
 
 -- The lengths of an item fit two bytes.
 abbrev pub HasShortItem : Option (Text × Text) → Type 0
@@ -32,18 +32,18 @@ AreHashed h v leaves list =
     IfSome leaves (λ hashes. hashes ≡ map (leaf_hash h) (shown_with v list).entries)
 
 -- These records make what the log shows, and each of its items is at its offset.
-pub record AreKept (h : HashFunction) (v : LogView) (places : List ℕ) (leaves : Option (List Hash))
+pub record AreKept (h : HashFunction) (v : LogView) (offsets : List ℕ) (leaves : Option (List Hash))
     (list : List Text) : Type 0 where
   pub made : log_of h list ≡ Ok (shown_with v list)
   pub all : v.size ≡ length (recorded_items list)
-  pub places_are : places ≡ places_of list
+  pub offsets_are : offsets ≡ offsets_of list
   pub sound : IsSound h (shown_with v list)
   pub hashed : AreHashed h v leaves list
 
 -- it has one proof at most
-pub AreKept-prop : (h : HashFunction) (v : LogView) (places : List ℕ) (leaves : Option (List Hash))
-    (list : List Text) → IsProp (AreKept h v places leaves list)
-AreKept-prop h v places leaves list = hlevel (props, IsSound-prop h (shown_with v list))
+pub AreKept-prop : (h : HashFunction) (v : LogView) (offsets : List ℕ) (leaves : Option (List Hash))
+    (list : List Text) → IsProp (AreKept h v offsets leaves list)
+AreKept-prop h v offsets leaves list = hlevel (props, IsSound-prop h (shown_with v list))
 
 module _ {H T : Type 0} {hashes : Hashes H} {k : Ghosts T} where
   -- The tiles of its nodes.
@@ -54,19 +54,19 @@ module _ {H T : Type 0} {hashes : Hashes H} {k : Ghosts T} where
   abbrev pub items_leaves : Items H T hashes k → Option (List Hash)
   items_leaves items = tiles_leaves items.nodes
 
-  abbrev pub items_places : Items H T hashes k → List ℕ
-  items_places items = items.places.items
+  abbrev pub items_offsets : Items H T hashes k → List ℕ
+  items_offsets items = items.offsets.items
 
   -- The item in a record at an offset follows the others; if it has none, they stay.
   pub record HaveTaken (h : HashFunction) (item : Option (Text × Text)) (place : ℕ)
       (old new : Items H T hashes k) : Type 0 where
-    pub places : items_places new
-        ≡ items_places old ++ map (λ x. place) (option_to_list item)
+    pub offsets : items_offsets new
+        ≡ items_offsets old ++ map (λ x. place) (option_to_list item)
     pub leaves : items_leaves new
         ≡ option_map (λ list. list ++ map (λ x. leaf_hash h x.0) (option_to_list item))
         (items_leaves old)
 
   -- one item more needs no memory
   pub record HasItemCapacity (items : Items H T hashes k) : Type 0 where
-    pub place : vec_len items.places < vec_capacity items.places
+    pub place : vec_len items.offsets < vec_capacity items.offsets
     pub leaf : 0 < tiles_spare items.nodes

@@ -9,7 +9,7 @@ pub mod Machine
 pub mod Marks
 pub mod Opened
 pub mod Openings
-pub mod Places
+pub mod ItemOffsets
 pub mod Records
 pub mod Refusals
 pub mod Results

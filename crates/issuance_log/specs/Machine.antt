@@ -3,7 +3,7 @@
 use Rattle.std.specs.Prelude.{◌≡◌, ◌≢◌, ℕ, ◌+◌, ◌≤◌, false, List, Option, Some, None}
 use Rattle.std.specs.Prelude.{is_some, length}
 use Rattle.byte_formats.specs.Types.{Text}
-use Rattle.disk_core.specs.Moments.{OnlyReads}
+use Rattle.disk_core.specs.Times.{OnlyReads}
 use Rattle.disk_core.specs.declared.disk.Disk.{Ghosts}
 use Rattle.frame_pool.specs.Frames.{HoldsKey}
 use Rattle.frame_pool.specs.declared.key.TileKey.{TileKey}
@@ -14,7 +14,7 @@ use Rattle.tile_store.specs.declared.error.TileError.TheVariants.{Failed}
 use Rattle.tree_core.specs.declared.hashing.TreeHash.{Ghosts as Hashes}
 use Rattle.issuance_log.specs.Folds.{LogNumbers, LogView, next_view}
 use Rattle.issuance_log.specs.Items.{AreBelow, AreKept, HasItemCapacity, items_leaves}
-use Rattle.issuance_log.specs.Items.{items_places, items_tiles}
+use Rattle.issuance_log.specs.Items.{items_offsets, items_tiles}
 use Rattle.issuance_log.specs.Records.{item_in, mark_in}
 use Rattle.issuance_log.specs.Results.{HasMarkCapacity}
 use Rattle.issuance_log.specs.Sound.{HasSoundNumbers}
@@ -64,7 +64,7 @@ module _ {H T : Type 0} {hashes : Hashes H} {k : Ghosts T} where
   -- These records make it, and its items are retained.
   abbrev pub KeepsRecords : LogMachine H T hashes k → List Text → Type 0
   KeepsRecords it list =
-      AreKept hashes.hash (machine_view it) (items_places it.items) (items_leaves it.items) list
+      AreKept hashes.hash (machine_view it) (items_offsets it.items) (items_leaves it.items) list
 
   -- The tiles of its last size are stored, unless tiles were refused.
   abbrev pub HasStored : LogMachine H T hashes k → Type 0
@@ -73,10 +73,10 @@ module _ {H T : Type 0} {hashes : Hashes H} {k : Ghosts T} where
 
   -- Over any disk, where the next record's commit byte stands here: its numbers are sound, the
   -- offset of each item is below that commit byte, and the tiles are stored.
-  pub record IsKeptWithin (it : LogMachine H T hashes k) (gate : ℕ) : Type 0 where
+  pub record IsKeptWithin (it : LogMachine H T hashes k) (commit_offset : ℕ) : Type 0 where
     pub sound : HasSoundNumbers (machine_view it)
-    pub below : AreBelow (items_places it.items) (gate + 1)
-    pub counted : length (items_places it.items) ≡ (machine_view it).size
+    pub below : AreBelow (items_offsets it.items) (commit_offset + 1)
+    pub counted : length (items_offsets it.items) ≡ (machine_view it).size
     pub stored : HasStored it
 
   -- the item or the landmark of a record needs no memory

@@ -11,10 +11,10 @@ LogFinds view wanted (Err Unfit) = wanted ≡ None
 LogFinds view wanted (Err Memory) = Unit {0}
 
 -- memory was refused
-abbrev pub WantsMemory : {X : Type 0} → Result X RecordError → Type 0
-WantsMemory (Ok x) = ⊥
-WantsMemory (Err Unfit) = ⊥
-WantsMemory (Err Memory) = Unit {0}
+abbrev pub IsMemoryRefused : {X : Type 0} → Result X RecordError → Type 0
+IsMemoryRefused (Ok x) = ⊥
+IsMemoryRefused (Err Unfit) = ⊥
+IsMemoryRefused (Err Memory) = Unit {0}
 
 -- there is capacity for a landmark, where a record has one
 abbrev pub HasMarkCapacity : LogNumbers → Option ℕ → Type 0

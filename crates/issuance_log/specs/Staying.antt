@@ -1,7 +1,7 @@
 -- A log that calls read, one after the other.
 use Rattle.std.proofs.Common.{refl, ◌∙◌}
 use Rattle.byte_formats.specs.Types.{Text}
-use Rattle.disk_core.proofs.Moments.{only_read_on, nothing_read}
+use Rattle.disk_core.proofs.Times.{only_read_on, nothing_read}
 use Rattle.disk_core.specs.declared.disk.Disk.{Ghosts}
 use Rattle.issuance_log.specs.Words.{LogAsksTiles, LogStays, log_disk, log_tiles_disk}
 use Rattle.issuance_log.specs.declared.log.Log.{Log}
@@ -10,7 +10,7 @@ use Rattle.tree_core.specs.declared.hashing.TreeHash.{Ghosts as Hashes}
 module _ {H D T : Type 0} {hashes : Hashes H} {g : Ghosts D} {k : Ghosts T} where
   -- without a call
   pub asks_alone : (log : Log H D T hashes g k)
-      → ((c : Text) → k.left_since (log_tiles_disk log) (k.moment (log_tiles_disk log)) c
+      → ((c : Text) → k.left_since (log_tiles_disk log) (k.clock_at (log_tiles_disk log)) c
       → k.may_leave (log_tiles_disk log) c) → LogAsksTiles log log
   asks_alone log only_now = record {
     disk = refl;
@@ -34,9 +34,9 @@ module _ {H D T : Type 0} {hashes : Hashes H} {g : Ghosts D} {k : Ghosts T} wher
   }
 
   pub stays_alone : (log : Log H D T hashes g k)
-      → ((c : Text) → g.left_since (log_disk log) (g.moment (log_disk log)) c
+      → ((c : Text) → g.left_since (log_disk log) (g.clock_at (log_disk log)) c
       → g.may_leave (log_disk log) c)
-      → ((c : Text) → k.left_since (log_tiles_disk log) (k.moment (log_tiles_disk log)) c
+      → ((c : Text) → k.left_since (log_tiles_disk log) (k.clock_at (log_tiles_disk log)) c
       → k.may_leave (log_tiles_disk log) c) → LogStays log log
   stays_alone log only_now tiles_now = record {
     only_reads = nothing_read g (log_disk log) only_now;

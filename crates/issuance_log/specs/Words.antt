@@ -2,7 +2,7 @@
 use Rattle.std.specs.Prelude.{◌≡◌, ℕ, Bool, false, List, [], ◌∷◌, ◌++◌, map, Option, Some, None}
 use Rattle.std.specs.Prelude.{option_map, option_and_then, IfSome, Result, Ok, Err}
 use Rattle.byte_formats.specs.Types.{Hash, Text}
-use Rattle.disk_core.specs.Moments.{LeavesOnly, OnlyReads}
+use Rattle.disk_core.specs.Times.{LeavesOnly, OnlyReads}
 use Rattle.disk_core.specs.declared.disk.Disk.{Ghosts}
 use Rattle.tile_store.specs.Contents.{HoldsTiles}
 use Rattle.tile_store.specs.Store.{tiles_disk}
@@ -147,8 +147,8 @@ module _ {H D T : Type 0} {hashes : Hashes H} {g : Ghosts D} {k : Ghosts T} wher
 
   -- Unless an append had failed before: if a crash at some time of the call may leave a journal
   -- with this record, after the call it leaves the tiles of this size on their disk.
-  abbrev pub TilesStandBehind : Text → ℕ → Log H D T hashes g k → Log H D T hashes g k → Type 0
-  TilesStandBehind body size old new = log_broken old ≡ false → IfSome (log_leaves old) (λ leaves.
+  abbrev pub TilesStandAfter : Text → ℕ → Log H D T hashes g k → Log H D T hashes g k → Type 0
+  TilesStandAfter body size old new = log_broken old ≡ false → IfSome (log_leaves old) (λ leaves.
       IfSome (log_records old) (λ list. (c : Text)
-      → g.left_since (log_disk new) (g.moment (log_disk old)) c → Represents c (list ++ body ∷ [])
+      → g.left_since (log_disk new) (g.clock_at (log_disk old)) c → Represents c (list ++ body ∷ [])
       → (d : Text) → k.may_leave (log_tiles_disk new) d → HoldsTiles hashes.hash leaves size d))

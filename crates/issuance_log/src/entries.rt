@@ -3,10 +3,10 @@
 ghost use Rattle.std.specs.Prelude.{◌≡◌, ◌+◌, ◌≤◌, [], length, Some, IfSome, IfOk, IfErr};
 ghost use Rattle.std.specs.Prelude.{OnOk, OnErr};
 ghost use Rattle.byte_formats.specs.Types.{Text};
-ghost use Rattle.disk_core.specs.Moments.{OnlyReads};
+ghost use Rattle.disk_core.specs.Times.{OnlyReads};
 ghost use Rattle.journal_core.specs.Words.{disk_of, end_of, is_broken, records};
 ghost use Rattle.issuance_log.specs.Entries.{IsBodyAt, IsNoAnswer, LogCounts};
-ghost use Rattle.issuance_log.specs.Places.{IsPlaced};
+ghost use Rattle.issuance_log.specs.ItemOffsets.{IsAtOffset};
 ghost use Rattle.issuance_log.specs.Records.{item_in, IsShort};
 
 use crate::error::LogError;
@@ -90,7 +90,7 @@ pub(crate) fn read_entry<D: Disk>(
     requires entry { entry.old ≡ [] }
     requires spki { spki.old ≡ [] }
     ensures item { OnOk result (IfSome (records journal.old) (λ list. (item : Text × Text)
-        → IsPlaced list place item → item ≡ (entry.new, spki.new))) }
+        → IsAtOffset list place item → item ≡ (entry.new, spki.new))) }
     ensures short { OnOk result (IsShort entry.new × IsShort spki.new) }
     ensures err { OnErr result ((entry.new ≡ []) × (spki.new ≡ [])) }
     ensures why { IfErr result IsNoAnswer }

@@ -4,7 +4,7 @@ ghost use Rattle.std.specs.Prelude.{◌≡◌, ℕ, ◌<◌, ◌≤◌, ◌+◌,
 ghost use Rattle.std.specs.Prelude.{length, slice_index_or, vec_len, option_map, IfSome, IfOk};
 ghost use Rattle.std.specs.Prelude.{IfErr, OnOk, OnErr};
 ghost use Rattle.byte_formats.specs.Types.{Text};
-ghost use Rattle.disk_core.specs.Moments.{LeavesOnly, OnlyReads};
+ghost use Rattle.disk_core.specs.Times.{LeavesOnly, OnlyReads};
 ghost use Rattle.frame_pool.specs.Frames.{HoldsKey};
 ghost use Rattle.frame_pool.specs.declared.key.TileKey.{TileKey as Key};
 ghost use Rattle.mtc_io.specs.Counts.{HasCause};
@@ -12,7 +12,7 @@ ghost use Rattle.tile_store.specs.Causes.{HasCauseOf};
 ghost use Rattle.tile_store.specs.Contents.{HoldsTiles};
 ghost use Rattle.tile_store.specs.Layout.{tiles_end};
 ghost use Rattle.tile_store.specs.Store.{tiles_count, tiles_disk, tiles_stored};
-ghost use Rattle.tile_store.specs.Writing.{IsImageBehind};
+ghost use Rattle.tile_store.specs.Writing.{IsCrashStateAfter};
 ghost use Rattle.tree_core.specs.Tree.{leaf_hash};
 ghost use Rattle.tree_proofs.specs.Modelled.{IsRootOf};
 
@@ -29,25 +29,25 @@ pub(crate) const NULL_ENTRY: [u8; 2] = [0, 0];
 /// The offset of each item in the journal, and the nodes of the tree over the entries.
 #[derive(Drop)]
 pub(crate) struct Items<H: TreeHash, T: Disk> {
-    places: Vec<u64>,
+    offsets: Vec<u64>,
     nodes: Tiles<H, T>,
-    ghost even: { tiles_count nodes ≡ vec_len places },
+    ghost even: { tiles_count nodes ≡ vec_len offsets },
 }
 
 impl<H: TreeHash, T: Disk> Items<H, T> {
     ghost use Rattle.issuance_log.specs.Items.{HasItemCapacity, items_leaves};
-    ghost use Rattle.issuance_log.specs.Items.{items_places, items_tiles};
+    ghost use Rattle.issuance_log.specs.Items.{items_offsets, items_tiles};
 
     /// No items, over a disk and a pool whose frames hold no tile. It takes no memory.
     pub(crate) fn new(alloc: Global, disk: T, pool: Pool) -> Items<H, T>
         requires { (slot : ℕ) (key : Key) → HoldsKey pool slot key → ⊥ }
-        ensures places { items_places result ≡ [] }
+        ensures offsets { items_offsets result ≡ [] }
         ensures disk { tiles_disk (items_tiles result) ≡ disk }
         ensures stored { tiles_stored (items_tiles result) ≡ 0 }
         ensures leaves { IfSome (items_leaves result) (λ leaves. leaves ≡ []) }
     {
         Items {
-            places: Vec::new(alloc),
+            offsets: Vec::new(alloc),
             nodes: Tiles::new(alloc, disk, pool),
         }
     }
@@ -56,26 +56,26 @@ impl<H: TreeHash, T: Disk> Items<H, T> {
     pub(crate) fn reserve(&mut self) -> Result<(), Memory>
         ensures capacity { OnOk result (HasItemCapacity self.new) }
         ensures full { OnErr result (HasItemCapacity self.old → ⊥) }
-        ensures places { items_places self.new ≡ items_places self.old }
+        ensures offsets { items_offsets self.new ≡ items_offsets self.old }
         ensures leaves { items_leaves self.new ≡ items_leaves self.old }
         ensures disk { tiles_disk (items_tiles self.new) ≡ tiles_disk (items_tiles self.old) }
         ensures stored { tiles_stored (items_tiles self.new) ≡ tiles_stored (items_tiles self.old) }
     {
-        self.places.reserve(1)?;
+        self.offsets.reserve(1)?;
         self.nodes.reserve(1)
     }
 
     /// Appends the offset of an item and the hash of its entry to the others, within the capacity.
     pub(crate) fn push(&mut self, place: u64, leaf: &[u8; 32])
         requires capacity { HasItemCapacity self.old }
-        requires few { length (items_places self.old) + 1 < 2 ^ 32 }
-        ensures places { items_places self.new ≡ items_places self.old ++ place ∷ [] }
+        requires few { length (items_offsets self.old) + 1 < 2 ^ 32 }
+        ensures offsets { items_offsets self.new ≡ items_offsets self.old ++ place ∷ [] }
         ensures leaves { items_leaves self.new
             ≡ option_map (λ list. list ++ leaf.now ∷ []) (items_leaves self.old) }
         ensures disk { tiles_disk (items_tiles self.new) ≡ tiles_disk (items_tiles self.old) }
         ensures stored { tiles_stored (items_tiles self.new) ≡ tiles_stored (items_tiles self.old) }
     {
-        match self.places.push(place) {
+        match self.offsets.push(place) {
             Ok(()) => {}
             Err(_full) => unreachable!(),
         }
@@ -88,12 +88,12 @@ impl<H: TreeHash, T: Disk> Items<H, T> {
     /// Appends the offset of an item and the hash of its entry to the others. If memory is refused
     /// they stay.
     pub(crate) fn add(&mut self, place: u64, entry: &[u8]) -> Result<(), Memory>
-        requires { length (items_places self.old) + 1 < 2 ^ 32 }
-        ensures places { OnOk result
-            (items_places self.new ≡ items_places self.old ++ place ∷ []) }
+        requires { length (items_offsets self.old) + 1 < 2 ^ 32 }
+        ensures offsets { OnOk result
+            (items_offsets self.new ≡ items_offsets self.old ++ place ∷ []) }
         ensures leaves { OnOk result (items_leaves self.new ≡ option_map
             (λ list. list ++ leaf_hash H.hash entry.now ∷ []) (items_leaves self.old)) }
-        ensures places_err { OnErr result (items_places self.new ≡ items_places self.old) }
+        ensures offsets_err { OnErr result (items_offsets self.new ≡ items_offsets self.old) }
         ensures leaves_err { OnErr result (items_leaves self.new ≡ items_leaves self.old) }
         ensures full { OnErr result (HasItemCapacity self.old → ⊥) }
         ensures disk { tiles_disk (items_tiles self.new) ≡ tiles_disk (items_tiles self.old) }
@@ -106,18 +106,18 @@ impl<H: TreeHash, T: Disk> Items<H, T> {
 
     /// The offset of an item.
     pub(crate) fn place(&self, index: u64) -> u64
-        requires { index < length (items_places self.now) }
-        ensures { result ≡ slice_index_or (items_places self.now) index 0 }
+        requires { index < length (items_offsets self.now) }
+        ensures { result ≡ slice_index_or (items_offsets self.now) index 0 }
     {
-        self.places[index as usize]
+        self.offsets[index as usize]
     }
 
     /// A node of the tree, as [`Tiles::tile_node`].
     pub(crate) fn node(&mut self, level: u32, place: u64) -> Result<[u8; 32], Failed>
-        requires { (place + 1) * 2 ^ level ≤ length (items_places self.old) }
+        requires { (place + 1) * 2 ^ level ≤ length (items_offsets self.old) }
         ensures value { IfOk result (IsRootOf H.hash (items_leaves self.old) (place * 2 ^ level)
             ((place + 1) * 2 ^ level)) }
-        ensures places { items_places self.new ≡ items_places self.old }
+        ensures offsets { items_offsets self.new ≡ items_offsets self.old }
         ensures leaves { items_leaves self.new ≡ items_leaves self.old }
         ensures stored { tiles_stored (items_tiles self.new) ≡ tiles_stored (items_tiles self.old) }
         ensures only_reads { OnlyReads T.Disk (tiles_disk (items_tiles self.old))
@@ -137,8 +137,8 @@ impl<H: TreeHash, T: Disk> Items<H, T> {
 
     /// Stores the tiles that the first `size` entries fill, as [`Tiles::store`].
     pub(crate) fn store(&mut self, size: u64) -> Result<(), Failed>
-        requires { size ≤ length (items_places self.old) }
-        ensures places { items_places self.new ≡ items_places self.old }
+        requires { size ≤ length (items_offsets self.old) }
+        ensures offsets { items_offsets self.new ≡ items_offsets self.old }
         ensures leaves { items_leaves self.new ≡ items_leaves self.old }
         ensures stored { OnOk result (tiles_stored (items_tiles self.new)
             ≡ max size (tiles_stored (items_tiles self.old))) }
@@ -151,8 +151,8 @@ impl<H: TreeHash, T: Disk> Items<H, T> {
         ensures holds { OnOk result (IfSome (items_leaves self.old) (λ leaves.
             (c : Text) → T.may_leave (tiles_disk (items_tiles self.new)) c
             → HoldsTiles H.hash leaves size c)) }
-        ensures any_moment { LeavesOnly T.Disk (tiles_disk (items_tiles self.old))
-            (tiles_disk (items_tiles self.new)) (IsImageBehind T.Disk
+        ensures any_time { LeavesOnly T.Disk (tiles_disk (items_tiles self.old))
+            (tiles_disk (items_tiles self.new)) (IsCrashStateAfter T.Disk
             (tiles_disk (items_tiles self.old))
             (tiles_end (tiles_stored (items_tiles self.old)))) }
         ensures cause { HasCause (T.faults (tiles_disk (items_tiles self.old)))
@@ -164,8 +164,8 @@ impl<H: TreeHash, T: Disk> Items<H, T> {
     /// Adopts the tiles that the first `size` entries fill, as [`Tiles::adopt`].
     pub(crate) fn adopt(&mut self, size: u64) -> Result<(), TileError>
         requires multiple { size % 256 ≡ 0 }
-        requires within { size ≤ length (items_places self.old) }
-        ensures places { items_places self.new ≡ items_places self.old }
+        requires within { size ≤ length (items_offsets self.old) }
+        ensures offsets { items_offsets self.new ≡ items_offsets self.old }
         ensures leaves { items_leaves self.new ≡ items_leaves self.old }
         ensures only_reads { OnlyReads T.Disk (tiles_disk (items_tiles self.old))
             (tiles_disk (items_tiles self.new)) }

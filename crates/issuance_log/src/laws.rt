@@ -3,10 +3,10 @@
 ghost use Rattle.std.specs.Prelude.{◌≡◌, ◌+◌, ◌<◌, ◌≤◌, ◌^◌, ℕ, List, [], ◌∷◌, ◌++◌, length};
 ghost use Rattle.std.specs.Prelude.{Some, Ok, option_map};
 ghost use Rattle.byte_formats.specs.Types.{Text, HashFunction};
-ghost use Rattle.byte_formats.specs.Places.{IsBytes};
+ghost use Rattle.byte_formats.specs.Offsets.{IsBytes};
 ghost use Rattle.journal_core.specs.Format.{Represents};
 ghost use Rattle.issuance_log.specs.Folds.{LogState, LogView, begun_log, next_log, next_view};
-ghost use Rattle.issuance_log.specs.Folds.{log_behind, log_of, view_in, with_item};
+ghost use Rattle.issuance_log.specs.Folds.{log_after, log_of, view_in, with_item};
 ghost use Rattle.issuance_log.specs.Openings.{FoundLog, log_read};
 ghost use Rattle.issuance_log.specs.Records.{IsShort, entry_record, item_in, landmark_record};
 ghost use Rattle.issuance_log.specs.Records.{mark_in, settings_in, tiled_in, tiles_record};
@@ -88,9 +88,9 @@ pub fn law_records_determine_the_items()
 /// Records make a log exactly if the first one has settings, and the others may follow it: then the
 /// log is the one that these make of the settings.
 pub fn law_logs_begin_with_their_settings()
-    ensures behind { (h : HashFunction) (first : Text) (s : Settings) (bodies : List Text)
-        → settings_in first ≡ Some s → log_of h (first ∷ bodies) ≡ log_behind h s bodies }
+    ensures following { (h : HashFunction) (first : Text) (s : Settings) (bodies : List Text)
+        → settings_in first ≡ Some s → log_of h (first ∷ bodies) ≡ log_after h s bodies }
     ensures only { (h : HashFunction) (list : List Text) (t : LogState) → log_of h list ≡ Ok t
         → (first : Text) × ((bodies : List Text) × ((list ≡ first ∷ bodies)
-        × (settings_in first ≡ Some t.settings) × (log_behind h t.settings bodies ≡ Ok t))) }
+        × (settings_in first ≡ Some t.settings) × (log_after h t.settings bodies ≡ Ok t))) }
 {}

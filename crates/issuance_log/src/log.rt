@@ -20,7 +20,7 @@ ghost use Rattle.issuance_log.specs.Faults.{open_refusal};
 ghost use Rattle.issuance_log.specs.Folds.{LogState, LogView, next_view, with_item, with_mark};
 ghost use Rattle.issuance_log.specs.Folds.{one_item_more, one_mark_more, tiled_to, view_in};
 ghost use Rattle.issuance_log.specs.Folds.{with_tiles};
-ghost use Rattle.issuance_log.specs.Items.{AreBelow, items_leaves, items_places, items_tiles};
+ghost use Rattle.issuance_log.specs.Items.{AreBelow, items_leaves, items_offsets, items_tiles};
 ghost use Rattle.issuance_log.specs.Machine.{HasRecordCapacity};
 ghost use Rattle.issuance_log.specs.Marks.{AreRising};
 ghost use Rattle.issuance_log.specs.Records.{entry_record, landmark_record, tiles_record, IsShort};
@@ -61,13 +61,13 @@ pub struct Log<H: TreeHash, D: Disk, T: Disk> {
     alloc: Global,
     journal: Journal<D>,
     machine: LogMachine<H, T>,
-    ghost counted: { length (items_places machine.items) ≡ machine.numbers.view.size },
+    ghost counted: { length (items_offsets machine.items) ≡ machine.numbers.view.size },
     ghost adopted: { is_some machine.refusal ≡ false },
     ghost stored: { machine.numbers.view.tiled ≤ tiles_stored (items_tiles machine.items) },
-    ghost below: { AreBelow (items_places machine.items)
+    ghost below: { AreBelow (items_offsets machine.items)
         (end_of journal) } by { Prim.hlevel props },
     ghost durable: { (b : List ℕ) → D.Disk.contents (disk_of journal) ≡ Some b → IsDurableLog
-        H.TreeHash.hash machine.numbers.view (items_places machine.items)
+        H.TreeHash.hash machine.numbers.view (items_offsets machine.items)
         (items_leaves machine.items) (end_of journal) b } by { Prim.hlevel (
           props,
           IsDurableLog-prop,
@@ -109,7 +109,7 @@ impl<H: TreeHash, D: Disk, T: Disk> Log<H, D, T> {
     ghost use Rattle.issuance_log.specs.Words.{log_broken, log_leaves, modelled_state};
     ghost use Rattle.issuance_log.specs.Words.{view_of, LogAppends, LogAsksTiles, LogStays};
     ghost use Rattle.issuance_log.specs.Words.{LogWouldTake};
-    ghost use Rattle.issuance_log.specs.Words.{KeepsTiles, TilesStandBehind};
+    ghost use Rattle.issuance_log.specs.Words.{KeepsTiles, TilesStandAfter};
 
     /// Opens the log in a journal, with its tiles on a second disk and a pool whose frames hold no
     /// tile. The records are read and tested one by one. At each that has a size of tiles these
@@ -226,7 +226,7 @@ impl<H: TreeHash, D: Disk, T: Disk> Log<H, D, T> {
         ensures answer { TilesKeepTo
             (tile_refusal (view_of self.old) (log_broken self.old) (log_end self.old)) result }
         ensures keeps { KeepsTiles (view_of self.old).tiled self.old self.new }
-        ensures behind { TilesStandBehind (tiles_record (full_size (view_of self.old)))
+        ensures following { TilesStandAfter (tiles_record (full_size (view_of self.old)))
             (full_size (view_of self.old)) self.old self.new }
         ensures known { OnOk result (T.known (log_tiles_disk self.new)
             ≡ max (tiles_end (full_size (view_of self.old))) (T.known (log_tiles_disk self.old))) }

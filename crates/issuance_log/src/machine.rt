@@ -2,17 +2,17 @@
 
 ghost use Rattle.std.specs.Prelude.{◌≡◌, ◌<◌, ◌+◌, [], true, false, Some, None, option_map};
 ghost use Rattle.std.specs.Prelude.{is_some, length, IfOk, IfErr, IsOk, OnOk, OnErr, MatchResult};
-ghost use Rattle.disk_core.specs.Moments.{OnlyReads};
+ghost use Rattle.disk_core.specs.Times.{OnlyReads};
 ghost use Rattle.mtc_io.specs.Counts.{Rose};
 ghost use Rattle.state_journal.specs.Steps.{BeginsMachine, IsLeftBy, IsOutOfMemory, TakesRecord};
 ghost use Rattle.tile_store.specs.Store.{tiles_disk, tiles_stored};
 ghost use Rattle.issuance_log.specs.Folds.{begun_log, begun_view, next_view, view_in, null_entry};
-ghost use Rattle.issuance_log.specs.Items.{HasShortItem, HaveTaken, items_leaves, items_places};
+ghost use Rattle.issuance_log.specs.Items.{HasShortItem, HaveTaken, items_leaves, items_offsets};
 ghost use Rattle.issuance_log.specs.Items.{items_tiles};
 ghost use Rattle.issuance_log.specs.Machine.{HasCapacityFor, HasNoTiles, TilesAreLeft};
 ghost use Rattle.issuance_log.specs.Machine.{TilesAreRead, rest_of_seed};
 ghost use Rattle.issuance_log.specs.Records.{item_in};
-ghost use Rattle.issuance_log.specs.Results.{WantsMemory, LogFinds, LogTakes};
+ghost use Rattle.issuance_log.specs.Results.{IsMemoryRefused, LogFinds, LogTakes};
 ghost use Rattle.issuance_log.specs.Sound.{HasSoundNumbers};
 
 use crate::error::RecordError;
@@ -68,7 +68,7 @@ fn begin_items<H: TreeHash, T: Disk>(
     items: &mut Items<H, T>,
     body: &[u8],
 ) -> Result<Numbers, RecordError>
-    requires { items_places items.old ≡ [] }
+    requires { items_offsets items.old ≡ [] }
     ensures found { LogFinds (λ n. n.view) (option_map view_in (begun_log body.now)) result }
     ensures sound { IfOk result (λ n. HasSoundNumbers n.view) }
     ensures untiled { IfOk result (λ n. n.view.tiled ≡ 0) }
@@ -102,7 +102,7 @@ fn take_record<H: TreeHash, T: Disk>(
     place: u64,
     body: &[u8],
 ) -> Result<(), RecordError>
-    requires { length (items_places items.old) ≡ numbers.old.view.size }
+    requires { length (items_offsets items.old) ≡ numbers.old.view.size }
     ensures view { LogTakes (next_view H.hash numbers.old.view body.now) numbers.old.view result
         numbers.new.view }
     ensures taken { OnOk result
@@ -110,7 +110,7 @@ fn take_record<H: TreeHash, T: Disk>(
     ensures short { HasShortItem (item_in body.now) }
     ensures disk { tiles_disk (items_tiles items.new) ≡ tiles_disk (items_tiles items.old) }
     ensures stored { tiles_stored (items_tiles items.new) ≡ tiles_stored (items_tiles items.old) }
-    ensures capacity { HasCapacityFor numbers.old items.old body.now → WantsMemory result → ⊥ }
+    ensures capacity { HasCapacityFor numbers.old items.old body.now → IsMemoryRefused result → ⊥ }
 {
     match read_item(body) {
         Ok((entry, key)) => {
@@ -194,10 +194,10 @@ impl<H: TreeHash, T: Disk> LogMachine<H, T> {
     // Adopts the tiles of the last size that are not stored yet, unless tiles were refused before.
     // A refusal is retained. Where their disk failed, the answer is that the record can't be taken.
     fn adopt_new(&mut self) -> Result<(), Misfit>
-        requires { length (items_places self.old.items) ≡ (machine_view self.old).size }
+        requires { length (items_offsets self.old.items) ≡ (machine_view self.old).size }
         ensures view { machine_view self.new ≡ machine_view self.old }
         ensures sound { HasSoundNumbers (machine_view self.new) }
-        ensures places { items_places self.new.items ≡ items_places self.old.items }
+        ensures offsets { items_offsets self.new.items ≡ items_offsets self.old.items }
         ensures leaves { items_leaves self.new.items ≡ items_leaves self.old.items }
         ensures stored { OnOk result (HasStored self.new) }
         ensures only_reads { OnlyReads T.Disk (tiles_disk (items_tiles self.old.items))
@@ -261,7 +261,7 @@ impl<H: TreeHash, T: Disk> StateMachine for LogMachine<H, T> {
 
     ghost Keeps = { λ it list. KeepsRecords it list };
 
-    ghost Within = { λ it gate. IsKeptWithin it gate };
+    ghost Within = { λ it commit_offset. IsKeptWithin it commit_offset };
 
     ghost HasCapacity = { λ it body. HasRecordCapacity it body };
 
@@ -287,7 +287,7 @@ impl<H: TreeHash, T: Disk> StateMachine for LogMachine<H, T> {
         self.take_next(place, body)
     }
 
-    fn hand_back(seed: TileSeed<T>) -> TileRest<T> {
+    fn return_rest(seed: TileSeed<T>) -> TileRest<T> {
         let TileSeed { disk, pool: _ } = seed;
         TileRest {
             disk,

@@ -9,7 +9,7 @@ ghost use Rattle.issuance_log.specs.Folds.{tiled_to, view_in};
 ghost use Rattle.issuance_log.specs.Marks.{last_mark, AreRising};
 ghost use Rattle.issuance_log.specs.Records.{item_in, mark_in, tiled_in};
 ghost use Rattle.issuance_log.specs.Refusals.{full_size};
-ghost use Rattle.issuance_log.specs.Results.{HasMarkCapacity, WantsMemory, LogFinds, LogTakes};
+ghost use Rattle.issuance_log.specs.Results.{HasMarkCapacity, IsMemoryRefused, LogFinds, LogTakes};
 ghost use Rattle.issuance_log.specs.Settings.{AreAllowed};
 ghost use Rattle.issuance_log.specs.Sound.{HasSoundNumbers};
 
@@ -132,7 +132,8 @@ impl Numbers {
         requires { item_in body.now ≡ None }
         ensures taken { LogTakes (next_view H.hash self.old.view body.now)
             self.old.view result self.new.view }
-        ensures capacity { HasMarkCapacity self.old (mark_in body.now) → WantsMemory result → ⊥ }
+        ensures capacity { HasMarkCapacity self.old (mark_in body.now)
+            → IsMemoryRefused result → ⊥ }
     {
         match size_in(LANDMARK, body) {
             Ok(size) => self.take_mark(size),
@@ -144,7 +145,7 @@ impl Numbers {
     fn take_mark(&mut self, size: u64) -> Result<(), RecordError>
         ensures taken { LogTakes (if takes_landmark self.old.view size
             then Some (one_mark_more self.old.view) else None) self.old.view result self.new.view }
-        ensures full { WantsMemory result → self.old.mark_spare ≡ 0 }
+        ensures full { IsMemoryRefused result → self.old.mark_spare ≡ 0 }
     {
         if size != self.size || size <= self.last_mark() {
             return Err(RecordError::Unfit);
@@ -159,7 +160,7 @@ impl Numbers {
         ensures taken { LogTakes (option_and_then (λ size. if takes_tiles self.old.view size
             then Some (tiled_to size self.old.view) else None) (tiled_in body.now))
             self.old.view result self.new.view }
-        ensures sure { WantsMemory result → ⊥ }
+        ensures sure { IsMemoryRefused result → ⊥ }
     {
         let size = size_in(TILES, body)?;
         if size % TILE != 0 || size <= self.tiled || size > self.size {

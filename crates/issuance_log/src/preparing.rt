@@ -4,7 +4,7 @@ ghost use Rattle.std.specs.Prelude.{◌≡◌, ℕ, ◌+◌, ◌<◌, ◌≤◌,
 ghost use Rattle.std.specs.Prelude.{OnOk};
 ghost use Rattle.tile_store.specs.Store.{tiles_disk, tiles_stored};
 ghost use Rattle.issuance_log.specs.Entries.{LogCounts};
-ghost use Rattle.issuance_log.specs.Items.{HasItemCapacity, items_leaves, items_places};
+ghost use Rattle.issuance_log.specs.Items.{HasItemCapacity, items_leaves, items_offsets};
 ghost use Rattle.issuance_log.specs.Items.{items_tiles};
 ghost use Rattle.issuance_log.specs.Marks.{last_mark};
 ghost use Rattle.issuance_log.specs.Records.{entry_record, landmark_record, tiles_record};
@@ -41,7 +41,7 @@ pub(crate) fn prepare_item<H: TreeHash, T: Disk>(
     ensures refused { IfErr result (λ why. (broken : Bool) (end : ℕ)
         → ItemKeepsTo (add_refusal numbers.now.view broken end entry.now spki.now) (Err why)) }
     ensures before { IfErr result (λ why. of_log_journal why ≡ None) }
-    ensures places { items_places items.new ≡ items_places items.old }
+    ensures offsets { items_offsets items.new ≡ items_offsets items.old }
     ensures leaves { items_leaves items.new ≡ items_leaves items.old }
     ensures disk { tiles_disk (items_tiles items.new) ≡ tiles_disk (items_tiles items.old) }
     ensures stored { tiles_stored (items_tiles items.new) ≡ tiles_stored (items_tiles items.old) }

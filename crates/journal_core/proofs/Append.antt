@@ -10,16 +10,16 @@ use Rattle.std.proofs.lemmas.Bool.{cases_eq}
 use Rattle.disk_core.specs.Disk.{overwritten, part, Torn}
 use Rattle.disk_core.specs.Writes.{torn_all}
 use Rattle.disk_core.proofs.Torn.{torn_after, torn_before}
-use Rattle.journal_core.specs.Format.{behind, IsClosedAt, Represents, RepresentsEither, tail_of}
+use Rattle.journal_core.specs.Format.{following, IsClosedAt, Represents, RepresentsEither, tail_of}
 use Rattle.journal_core.specs.Format.{new_file_of}
 use Rattle.journal_core.proofs.Records.{part_kept, byte_kept, records_kept, header_kept}
-use Rattle.journal_core.proofs.Records.{stands_kept, behind_later, behind-append, records-append}
+use Rattle.journal_core.proofs.Records.{stands_kept, after_later, following-append, records-append}
 
 -- The write after the closed commit byte leaves the list as it was, however it is torn.
-pub torn_behind : (end : ℕ) (piece : List ℕ) (records : List (List ℕ)) (old new : List ℕ)
-    → end ≡ behind 16 records + 1 → Torn end piece old new
+pub torn_following : (end : ℕ) (piece : List ℕ) (records : List (List ℕ)) (old new : List ℕ)
+    → end ≡ following 16 records + 1 → Torn end piece old new
     → Represents old records → Represents new records
-torn_behind end piece records old new end_is torn is =
+torn_following end piece records old new end_is torn is =
     let there = is.ends.there in
     let longer = torn.no_shorter in
     let whole : min end (length old) ≡ end = omega arith in
@@ -30,29 +30,29 @@ torn_behind end piece records old new end_is torn is =
 -- commit byte.
 pub record IsStaged (bytes : List ℕ) (records : List (List ℕ)) (body : List ℕ) : Type 0 where
   pub stands : Represents bytes records
-  pub tail : part (behind 16 records + 1) (5 + length body) bytes ≡ tail_of body
+  pub tail : part (following 16 records + 1) (5 + length body) bytes ≡ tail_of body
 
 pub length-tail : (body : List ℕ) → length (tail_of body) ≡ 5 + length body
 length-tail body = simp length-append (omega arith)
 
 -- after the first write
 pub staged : (end : ℕ) (records : List (List ℕ)) (body old new : List ℕ)
-    → end ≡ behind 16 records + 1 → Represents old records
+    → end ≡ following 16 records + 1 → Represents old records
     → new ≡ overwritten end (tail_of body) old → IsStaged new records body
 staged end records body old new end_is is new_is =
     let there = is.ends.there in
     let prefix : length (take end old) ≡ end = simp length-take (omega arith) in
     let back = drop (end + length (tail_of body)) old in
-    let behind_prefix : drop end (overwritten end (tail_of body) old) ≡ tail_of body ++ back
+    let after_prefix : drop end (overwritten end (tail_of body) old) ≡ tail_of body ++ back
     = rw (append_assoc (take end old) (tail_of body) back) (drop_at (take end old) (tail_of body
     ++ back) end prefix) in
     let found : part end (5 + length body) (overwritten end (tail_of body) old) ≡ tail_of body
-    = rw behind_prefix (take_at (tail_of body) back (5 + length body) (length-tail body)) in
+    = rw after_prefix (take_at (tail_of body) back (5 + length body) (length-tail body)) in
     record {
       stands = subst (λ (bytes : List ℕ). Represents bytes records) (sym new_is)
-          (torn_behind end (tail_of body) records old _ end_is
+          (torn_following end (tail_of body) records old _ end_is
           (torn_all end (tail_of body) old) is);
-      tail = subst (λ (bytes : List ℕ). part (behind 16 records + 1) (5 + length body) bytes
+      tail = subst (λ (bytes : List ℕ). part (following 16 records + 1) (5 + length body) bytes
           ≡ tail_of body) (sym new_is)
           (subst (λ (n : ℕ). part n (5 + length body) (overwritten end (tail_of body) old)
           ≡ tail_of body) end_is found);
@@ -101,12 +101,12 @@ opened_before commit_byte end tail bytes end_is there =
     = ap (take commit_byte) split
     ∙ take-append-le commit_byte (take end bytes) (tail ++ back) (omega arith)
     ∙ take-take commit_byte end bytes (omega arith) in
-    let behind_commit_byte : drop (commit_byte + 1) (overwritten end tail bytes) ≡ tail ++ back
+    let after_commit_byte : drop (commit_byte + 1) (overwritten end tail bytes) ≡ tail ++ back
     = ap (drop (commit_byte + 1)) split
     ∙ drop_at (take end bytes) (tail ++ back) (commit_byte + 1) (omega arith) in
     let whole : end + length tail ≡ commit_byte + length (1 ∷ tail) = omega arith in
     ap (λ (f : List ℕ). f ++ 1 ∷ [] ++ drop (commit_byte + 1) (overwritten end tail bytes)) before
-    ∙ ap (λ (r : List ℕ). take commit_byte bytes ++ 1 ∷ [] ++ r) behind_commit_byte
+    ∙ ap (λ (r : List ℕ). take commit_byte bytes ++ 1 ∷ [] ++ r) after_commit_byte
     ∙ append_assoc (take commit_byte bytes) (1 ∷ []) (tail ++ back)
     ∙ sym (append_assoc (take commit_byte bytes) (1 ∷ tail) back)
     ∙ ap (λ (n : ℕ). take commit_byte bytes ++ (1 ∷ tail) ++ drop n bytes) whole
@@ -114,63 +114,65 @@ opened_before commit_byte end tail bytes end_is there =
 module _ (bytes : List ℕ) (records : List (List ℕ)) (body : List ℕ)
     (is : IsStaged bytes records body) where
   -- what the staged record holds
-  staged_length : behind 16 records + (5 + length body) < length bytes
+  staged_length : following 16 records + (5 + length body) < length bytes
   staged_length =
-      let found : length (part (behind 16 records + 1) (5 + length body) bytes) ≡ 5 + length body =
+      let found : length (part (following 16 records + 1) (5 + length body) bytes)
+      ≡ 5 + length body =
       ap length is.tail ∙ length-tail body in
-      let there : length (part (behind 16 records + 1) (5 + length body) bytes)
-      ≤ length bytes - (behind 16 records + 1)
+      let there : length (part (following 16 records + 1) (5 + length body) bytes)
+      ≤ length bytes - (following 16 records + 1)
       = simp (length-take, length-drop) (omega arith) in
       omega arith
 
-  staged_size : part (behind 16 records + 1) 4 bytes ≡ to_be_bytes w32 (length body)
+  staged_size : part (following 16 records + 1) 4 bytes ≡ to_be_bytes w32 (length body)
   staged_size =
-      sym (take-take 4 (5 + length body) (drop (behind 16 records + 1) bytes) (omega arith))
+      sym (take-take 4 (5 + length body) (drop (following 16 records + 1) bytes) (omega arith))
       ∙ ap (take 4) is.tail
       ∙ ap (take 4) (append_assoc (to_be_bytes w32 (length body)) body (0 ∷ []))
       ∙ take_at (to_be_bytes w32 (length body)) (body ++ 0 ∷ []) 4 refl
 
-  pub staged_body : part (behind 16 records + 5) (length body) bytes ≡ body
+  pub staged_body : part (following 16 records + 5) (length body) bytes ≡ body
   staged_body =
-      let behind_commit_byte = drop (behind 16 records + 1) bytes in
-      let split : behind 16 records + 5 ≡ (behind 16 records + 1) + 4 = omega arith in
+      let after_commit_byte = drop (following 16 records + 1) bytes in
+      let split : following 16 records + 5 ≡ (following 16 records + 1) + 4 = omega arith in
       let size_and_body : length (to_be_bytes w32 (length body) ++ body) ≡ 4 + length body =
       length-append (to_be_bytes w32 (length body)) body in
       ap (λ (n : ℕ). take (length body) (drop n bytes)) split
-      ∙ ap (take (length body)) (sym (drop-drop 4 (behind 16 records + 1) bytes))
-      ∙ sym (drop-take 4 (length body) behind_commit_byte)
+      ∙ ap (take (length body)) (sym (drop-drop 4 (following 16 records + 1) bytes))
+      ∙ sym (drop-take 4 (length body) after_commit_byte)
       ∙ ap (drop 4)
-      (sym (take-take (4 + length body) (5 + length body) behind_commit_byte (omega arith))
+      (sym (take-take (4 + length body) (5 + length body) after_commit_byte (omega arith))
       ∙ ap (take (4 + length body)) is.tail
       ∙ take_at (to_be_bytes w32 (length body) ++ body) (0 ∷ []) (4 + length body) size_and_body)
       ∙ drop_at (to_be_bytes w32 (length body)) body 4 refl
 
-  staged_end : slice_index bytes (behind 16 records + 5 + length body) ≡ 0
+  staged_end : slice_index bytes (following 16 records + 5 + length body) ≡ 0
   staged_end =
-      let behind_commit_byte = drop (behind 16 records + 1) bytes in
-      let split : behind 16 records + 5 + length body
-      ≡ (behind 16 records + 1) + (4 + length body) = omega arith in
+      let after_commit_byte = drop (following 16 records + 1) bytes in
+      let split : following 16 records + 5 + length body
+      ≡ (following 16 records + 1) + (4 + length body) = omega arith in
       let size_and_body : length (to_be_bytes w32 (length body) ++ body) ≡ 4 + length body =
       length-append (to_be_bytes w32 (length body)) body in
       ap (λ (n : ℕ). get_or bytes n 0) split
-      ∙ sym (get_or-drop (behind 16 records + 1) bytes (4 + length body) 0)
-      ∙ sym (get_or-take (5 + length body) behind_commit_byte (4 + length body) 0 (omega arith))
+      ∙ sym (get_or-drop (following 16 records + 1) bytes (4 + length body) 0)
+      ∙ sym (get_or-take (5 + length body) after_commit_byte (4 + length body) 0 (omega arith))
       ∙ ap (λ (t : List ℕ). get_or t (4 + length body) 0) is.tail
       ∙ get_or_at (to_be_bytes w32 (length body) ++ body) 0 [] 0 (4 + length body) size_and_body
 
-  module _ (new : List ℕ) (torn : Torn (behind 16 records) (1 ∷ []) bytes new) where
-    prefix_same : take (behind 16 records) new ≡ take (behind 16 records) bytes
+  module _ (new : List ℕ) (torn : Torn (following 16 records) (1 ∷ []) bytes new) where
+    prefix_same : take (following 16 records) new ≡ take (following 16 records) bytes
     prefix_same =
         let there = is.stands.ends.there in
-        let whole : min (behind 16 records) (length bytes) ≡ behind 16 records = omega arith in
-        rw whole at (torn_before (behind 16 records) (1 ∷ []) bytes new torn)
+        let whole : min (following 16 records) (length bytes) ≡ following 16 records =
+        omega arith in
+        rw whole at (torn_before (following 16 records) (1 ∷ []) bytes new torn)
 
     -- the commit byte is still closed
-    pub commit_byte_shut : slice_index new (behind 16 records) ≡ 0 → Represents new records
+    pub commit_byte_shut : slice_index new (following 16 records) ≡ 0 → Represents new records
     commit_byte_shut shut = record {
-      begins = header_kept (behind 16 records) bytes new prefix_same (behind_later 16 records)
+      begins = header_kept (following 16 records) bytes new prefix_same (after_later 16 records)
           is.stands.begins;
-      holds = records_kept (behind 16 records) 16 records bytes new prefix_same
+      holds = records_kept (following 16 records) 16 records bytes new prefix_same
           (omega arith) is.stands.holds;
       ends = record {
         there = (let there = is.stands.ends.there in let longer =
@@ -181,17 +183,17 @@ module _ (bytes : List ℕ) (records : List (List ℕ)) (body : List ℕ)
 
     -- the commit byte is open
     pub commit_byte_open : 1 ≤ length body → length body ≤ 131072
-        → slice_index new (behind 16 records) ≢ 0
+        → slice_index new (following 16 records) ≢ 0
         → Represents new (records ++ body ∷ [])
     commit_byte_open some few opened =
-        let commit_byte = behind 16 records in
+        let commit_byte = following 16 records in
         let there : commit_byte + (5 + length body) < length bytes = staged_length in
         let longer = torn.no_shorter in
         let after : take (length bytes - (commit_byte + 1)) (drop (commit_byte + 1) new)
         ≡ drop (commit_byte + 1) bytes
         = torn_after commit_byte (1 ∷ []) bytes new torn in
         record {
-          begins = header_kept commit_byte bytes new prefix_same (behind_later 16 records)
+          begins = header_kept commit_byte bytes new prefix_same (after_later 16 records)
               is.stands.begins;
           holds = records-append new 16 records body
               (records_kept commit_byte 16 records bytes new prefix_same (omega arith)
@@ -207,7 +209,8 @@ module _ (bytes : List ℕ) (records : List (List ℕ)) (body : List ℕ)
                     part_after (commit_byte + 1) (commit_byte + 5) (length body) bytes new after
                     (omega arith) (omega arith) ∙ staged_body;
               });
-          ends = subst (λ (place : ℕ). IsClosedAt new place) (sym (behind-append 16 records body))
+          ends =
+              subst (λ (place : ℕ). IsClosedAt new place) (sym (following-append 16 records body))
               (record {
                 there = omega arith;
                 shut = byte_after (commit_byte + 1) (commit_byte + 5 + length body) bytes new after
@@ -218,17 +221,17 @@ module _ (bytes : List ℕ) (records : List (List ℕ)) (body : List ℕ)
     -- however the write of the commit byte is torn
     pub torn_commit_byte : 1 ≤ length body → length body ≤ 131072
         → RepresentsEither records body new
-    torn_commit_byte some few = elim (cases_eq (slice_index new (behind 16 records)) 0) [
+    torn_commit_byte some few = elim (cases_eq (slice_index new (following 16 records)) 0) [
       | inl shut ↦ inl (commit_byte_shut shut)
       | inr opened ↦ inr (commit_byte_open some few opened)
     ]
 
   -- after the second write
   pub opened : (new : List ℕ) → 1 ≤ length body → length body ≤ 131072
-      → new ≡ overwritten (behind 16 records) (1 ∷ []) bytes
+      → new ≡ overwritten (following 16 records) (1 ∷ []) bytes
       → Represents new (records ++ body ∷ [])
   opened new some few new_is =
-      let commit_byte = behind 16 records in
+      let commit_byte = following 16 records in
       let there = is.stands.ends.there in
       let prefix : length (take commit_byte bytes) ≡ commit_byte = simp length-take (omega arith) in
       let one : slice_index (overwritten commit_byte (1 ∷ []) bytes) commit_byte ≡ 1

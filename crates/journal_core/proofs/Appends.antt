@@ -1,10 +1,10 @@
--- What an append leaves, in the words of a layer above: every crash state represents the old
+-- What an append leaves, as the layer above says it: every crash state represents the old
 -- records and the new one, or the call left the journal's disk alone.
 use Rattle.std.proofs.Common.{◌≡◌, inl, ℕ, List, [], ◌∷◌, ◌++◌, Option, Some, None, IfSome}
 use Rattle.std.proofs.Common.{option_map, sym, ap, ◌∙◌, subst}
-use Rattle.disk_core.specs.Moments.{LeavesOnly}
+use Rattle.disk_core.specs.Times.{LeavesOnly}
 use Rattle.disk_core.specs.declared.disk.Disk.{Ghosts}
-use Rattle.disk_core.proofs.Moments.{started}
+use Rattle.disk_core.proofs.Times.{started}
 use Rattle.journal_core.specs.Format.{Represents, RepresentsEither, records_of}
 use Rattle.journal_core.specs.Durable.{IsDurable}
 use Rattle.journal_core.specs.Words.{AllRepresent}
@@ -28,18 +28,19 @@ all_kept {D} g disk (Some b) (Some list) body other news is all =
 
 -- a journal whose disk had no call
 module _ {D : Type 0} (g : Ghosts D) (disk : D) (end : ℕ) (body : List ℕ)
-    (settled : (b : List ℕ) → g.contents disk ≡ Some b → IsDurable b (g.may_leave disk) end) where
+    (is_durable : (b : List ℕ) → g.contents disk ≡ Some b
+    → IsDurable b (g.may_leave disk) end) where
   stands_now : (b : List ℕ) → g.contents disk ≡ Some b → (c : List ℕ) → g.may_leave disk c
       → RepresentsEither (records_of b) body c
   stands_now b contents c left =
-      let was = settled b contents in
+      let was = is_durable b contents in
       inl (subst (λ (bytes : List ℕ). Represents bytes (records_of b)) (sym (was.only c left))
       was.stands)
 
-  pub untouched_moment : ((c : List ℕ) → g.left_since disk (g.moment disk) c → g.may_leave disk c)
+  pub untouched_time : ((c : List ℕ) → g.left_since disk (g.clock_at disk) c → g.may_leave disk c)
       → IfSome (option_map records_of (g.contents disk)) (λ list. LeavesOnly g disk disk
       (RepresentsEither list body))
-  untouched_moment only_now = of_records (λ list. LeavesOnly g disk disk
+  untouched_time only_now = of_records (λ list. LeavesOnly g disk disk
       (RepresentsEither list body)) (g.contents disk)
       (λ b contents. started g disk _ only_now (stands_now b contents))
 

@@ -4,7 +4,7 @@ use Rattle.std.proofs.Common.{IfSome, option_map, refl, ap, sym, ◌∙◌, subs
 use Rattle.std.proofs.lemmas.List.{append-nil, drop_all}
 use Rattle.disk_core.specs.Disk.{overwritten, Only}
 use Rattle.disk_core.specs.declared.disk.Disk.{Ghosts}
-use Rattle.journal_core.specs.Format.{header, behind, Represents, record_bytes, new_file_of}
+use Rattle.journal_core.specs.Format.{header, following, Represents, record_bytes, new_file_of}
 use Rattle.journal_core.specs.Format.{records_of}
 use Rattle.journal_core.specs.Durable.{IsDurable}
 use Rattle.journal_core.specs.Words.{AllRepresent}
@@ -54,7 +54,8 @@ module _ {D : Type 0} (g : Ghosts D) (old new : D) (first piece : List ℕ)
       let same : records_of b ≡ first ∷ [] = records_of-stands b _ stands in
       record {
         stands = subst (λ (list : List (List ℕ)). Represents b list) (sym same) stands;
-        end_is = subst (λ (list : List (List ℕ)). length first + 22 ≡ behind 16 list + 1) (sym same)
+        end_is =
+            subst (λ (list : List (List ℕ)). length first + 22 ≡ following 16 list + 1) (sym same)
             (omega arith);
         only = at_contents (λ (bytes : List ℕ). Only bytes (g.may_leave new))
             (g.contents new) b contents durable;

@@ -8,13 +8,13 @@ use Rattle.std.proofs.KnownBytes.{Appends-trans, Appends-nil}
 use Rattle.std.proofs.Math.Seq.{take-add}
 use Rattle.std.proofs.lemmas.List.{drop-drop}
 use Rattle.byte_formats.specs.Types.{Text}
-use Rattle.byte_formats.specs.Places.{IsBytes}
+use Rattle.byte_formats.specs.Offsets.{IsBytes}
 use Rattle.byte_formats.proofs.Steps.{IsBytes-drop, IsBytes-take}
 use Rattle.disk_core.specs.Disk.{part}
 use Rattle.journal_core.specs.Copies.{sized, sized_text}
 use Rattle.journal_core.specs.Ends.{StandBetween}
-use Rattle.journal_core.specs.Format.{AreRecordsAt, IsRecordAt, behind, end_behind}
-use Rattle.journal_core.proofs.Records.{behind_later}
+use Rattle.journal_core.specs.Format.{AreRecordsAt, IsRecordAt, following, end_following}
+use Rattle.journal_core.proofs.Records.{after_later}
 use Rattle.mtc_io.specs.Streams.{AppendsPrefix}
 use Rattle.mtc_io.proofs.Streams.{prefix_more, prefix_whole}
 
@@ -41,9 +41,9 @@ pub prefix_of_prefix : (a b : Option (List ℕ)) (xs ys : List ℕ) → AppendsP
 prefix_of_prefix a b xs ys is = prefix_more a a b [] xs ys (Appends-nil a) is
 
 -- the prefix, and a prefix of what follows it
-pub prefix_behind : (a b c : Option (List ℕ)) (xs ys : List ℕ) → Appends a b xs
+pub prefix_following : (a b c : Option (List ℕ)) (xs ys : List ℕ) → Appends a b xs
     → AppendsPrefix b c ys → AppendsPrefix a c (xs ++ ys)
-prefix_behind a b c xs ys first second =
+prefix_following a b c xs ys first second =
     subst (λ (zs : List ℕ). AppendsPrefix a c (xs ++ zs)) (append-nil ys)
     (prefix_more a b c xs ys [] first second)
 
@@ -156,13 +156,13 @@ pub record IsCopied (bytes whole : Text) (commit_byte end : ℕ) (old now : Opti
   pub written : Text
   pub rest : List Text
   pub there : AreRecordsAt bytes commit_byte rest
-  pub last : end ≡ behind commit_byte rest + 1
+  pub last : end ≡ following commit_byte rest + 1
   pub appended : Appends old now written
   pub made : written ++ sized_text rest ≡ whole
 
 -- none was written yet
 pub copied_none : (bytes : Text) (bodies : List Text) (commit_byte end : ℕ) (a : Option Text)
-    → AreRecordsAt bytes commit_byte bodies → end ≡ behind commit_byte bodies + 1
+    → AreRecordsAt bytes commit_byte bodies → end ≡ following commit_byte bodies + 1
     → IsCopied bytes (sized_text bodies) commit_byte end a a
 copied_none bytes bodies commit_byte end a there last = record {
   written = [];
@@ -178,11 +178,11 @@ pub copied_all : (bytes whole : Text) (commit_byte end : ℕ) (a b : Option Text
     → end - commit_byte < 6 → IsCopied bytes whole commit_byte end a b → Appends a b whole
 copied_all bytes whole commit_byte end a b few is = go is.rest is.last is.made
   where
-    go : (rest : List Text) → end ≡ behind commit_byte rest + 1
+    go : (rest : List Text) → end ≡ following commit_byte rest + 1
         → is.written ++ sized_text rest ≡ whole → Appends a b whole
     go [] last made = subst (Appends a b) (sym (append-nil is.written) ∙ made) is.appended
     go (body ∷ rest) last made =
-        let later = behind_later (commit_byte + 5 + length body) rest in absurd (omega arith)
+        let later = after_later (commit_byte + 5 + length body) rest in absurd (omega arith)
 
 module _ (bytes whole : Text) (commit_byte end : ℕ) (a b c : Option Text)
     (some : 6 ≤ end - commit_byte) where
@@ -194,11 +194,11 @@ module _ (bytes whole : Text) (commit_byte end : ℕ) (a b c : Option Text)
   copied_prefix is more = go is.rest is.there is.last is.made
     where
       go : (rest : List Text) → AreRecordsAt bytes commit_byte rest
-          → end ≡ behind commit_byte rest + 1
+          → end ≡ following commit_byte rest + 1
           → is.written ++ sized_text rest ≡ whole → AppendsPrefix a c whole
       go [] there last made = absurd (omega arith)
       go (body ∷ rest) there last made =
-          let later = behind_later (commit_byte + 5 + length body) rest in
+          let later = after_later (commit_byte + 5 + length body) rest in
           subst (AppendsPrefix a c) made
           (prefix_more a b c is.written (sized body) (sized_text rest) is.appended
           (more body there.0 (omega arith)))
@@ -213,17 +213,17 @@ module _ (bytes whole : Text) (commit_byte end : ℕ) (a b c : Option Text)
   copied_more next is far more = go is.rest is.there is.last is.made
     where
       go : (rest : List Text) → AreRecordsAt bytes commit_byte rest
-          → end ≡ behind commit_byte rest + 1
+          → end ≡ following commit_byte rest + 1
           → is.written ++ sized_text rest ≡ whole → IsCopied bytes whole next end a c
       go [] there last made = absurd (omega arith)
       go (body ∷ rest) there last made =
-          let later = behind_later (commit_byte + 5 + length body) rest in
+          let later = after_later (commit_byte + 5 + length body) rest in
           let here : next ≡ commit_byte + 5 + length body = far body there.0 (omega arith) in
           record {
             written = is.written ++ sized body;
             rest = rest;
             there = subst (λ (n : ℕ). AreRecordsAt bytes n rest) (sym here) there.1;
-            last = last ∙ ap (λ (n : ℕ). behind n rest + 1) (sym here);
+            last = last ∙ ap (λ (n : ℕ). following n rest + 1) (sym here);
             appended = Appends-trans a b c _ _ is.appended (more body there.0 (omega arith));
             made = append_assoc is.written (sized body) (sized_text rest) ∙ made;
           }
@@ -232,7 +232,7 @@ module _ (bytes whole : Text) (commit_byte end : ℕ) (a b c : Option Text)
 -- them
 abbrev pub OfRecords : Option Text → ℕ → ℕ → (Text → List Text → Type 0) → Type 0
 OfRecords contents first end P = IfSome contents (λ bytes. (bodies : List Text)
-    → AreRecordsAt bytes first bodies → end ≡ behind first bodies + 1 → P bytes bodies)
+    → AreRecordsAt bytes first bodies → end ≡ following first bodies + 1 → P bytes bodies)
 
 -- the same from the end after the commit byte on
 pub between : (contents : Option Text) (from end : ℕ) (P : List Text → Type 0)
@@ -307,14 +307,14 @@ module _ (contents later : Option Text) (same : later ≡ contents) (first commi
           far more
 
 -- The records after the first one follow the end of the first one.
-pub behind_first : (bytes first : Text) (bodies : List Text) (from end : ℕ)
-    → AreRecordsAt bytes 16 (first ∷ bodies) → end ≡ end_behind (first ∷ bodies)
-    → from ≡ min (end_behind (first ∷ [])) end → StandBetween bytes from end bodies
-behind_first bytes first bodies from end there last is =
-    let later = behind_later (16 + 5 + length first) bodies in
+pub following_first : (bytes first : Text) (bodies : List Text) (from end : ℕ)
+    → AreRecordsAt bytes 16 (first ∷ bodies) → end ≡ end_following (first ∷ bodies)
+    → from ≡ min (end_following (first ∷ [])) end → StandBetween bytes from end bodies
+following_first bytes first bodies from end there last is =
+    let later = after_later (16 + 5 + length first) bodies in
     let same : from - 1 ≡ 16 + 5 + length first = omega (arith, is, last, later) in (
       subst (λ (n : ℕ). AreRecordsAt bytes n bodies) (sym same) there.1,
-      last ∙ ap (λ (n : ℕ). behind n bodies + 1) (sym same),
+      last ∙ ap (λ (n : ℕ). following n bodies + 1) (sym same),
     )
 
 -- The first body that stands in bytes are bytes.

@@ -3,34 +3,35 @@ use Rattle.std.proofs.Common.{◌≡◌, ℕ, ◌+◌, ◌-◌, ◌<◌, List, [
 use Rattle.std.proofs.Common.{sym, subst, arith}
 use Rattle.byte_formats.specs.Types.{Text}
 use Rattle.journal_core.specs.Ends.{AreDurable, durable_of}
-use Rattle.journal_core.specs.Format.{AreRecordsAt, RepresentsEither, behind, end_behind}
+use Rattle.journal_core.specs.Format.{AreRecordsAt, RepresentsEither, following, end_following}
 use Rattle.journal_core.specs.Format.{records_of}
 use Rattle.journal_core.specs.Durable.{IsDurable}
-use Rattle.journal_core.proofs.Records.{behind-append, records_before-are}
+use Rattle.journal_core.proofs.Records.{following-append, records_before-are}
 
 -- the records up to an end, and a commit byte after them
 pub record HoldsUpTo (bytes : Text) (list : List Text) (end : ℕ) : Type 0 where
   pub there : AreRecordsAt bytes 16 list
-  pub last : end ≡ end_behind list
-  pub within : behind 16 list < length bytes
+  pub last : end ≡ end_following list
+  pub within : following 16 list < length bytes
 
-pub settled-are : (bytes : Text) (list : List Text) (end : ℕ) → HoldsUpTo bytes list end
+pub is_durable-are : (bytes : Text) (list : List Text) (end : ℕ) → HoldsUpTo bytes list end
     → durable_of end bytes ≡ list
-settled-are bytes list end is =
+is_durable-are bytes list end is =
     records_before-are bytes list (end - 1) is.there (omega (arith, is.last))
     (omega (arith, is.last, is.within))
 
 pub are_durable : (bytes : Text) (list : List Text) (end : ℕ) → HoldsUpTo bytes list end
     → AreDurable end bytes
 are_durable bytes list end is =
-    let same = sym (settled-are bytes list end is) in record {
+    let same = sym (is_durable-are bytes list end is) in record {
       there = subst (AreRecordsAt bytes 16) same is.there;
-      last = subst (λ (l : List Text). end ≡ end_behind l) same is.last;
+      last = subst (λ (l : List Text). end ≡ end_following l) same is.last;
     }
 
-pub of_durable : (bytes : Text) (images : Text → Type 0) (end : ℕ) → IsDurable bytes images end
+pub of_durable : (bytes : Text) (crash_states : Text → Type 0) (end : ℕ)
+    → IsDurable bytes crash_states end
     → HoldsUpTo bytes (records_of bytes) end
-of_durable bytes images end is = record {
+of_durable bytes crash_states end is = record {
   there = is.stands.holds;
   last = is.end_is;
   within = is.stands.ends.there;
@@ -42,12 +43,12 @@ prefix_there bytes place [] body are = tt
 prefix_there bytes place (first ∷ list) body are =
     (are.0, prefix_there bytes (place + 5 + length first) list body are.1)
 
-pub of_either : (bytes : Text) (list : List Text) (body : Text) (end : ℕ) → end ≡ end_behind list
+pub of_either : (bytes : Text) (list : List Text) (body : Text) (end : ℕ) → end ≡ end_following list
     → RepresentsEither list body bytes → HoldsUpTo bytes list end
 of_either bytes list body end last (inl stands) =
     record { there = stands.holds; last = last; within = stands.ends.there }
 of_either bytes list body end last (inr stands) = record {
   there = prefix_there bytes 16 list body stands.holds;
   last = last;
-  within = omega (arith, behind-append 16 list body, stands.ends.there);
+  within = omega (arith, following-append 16 list body, stands.ends.there);
 }

@@ -2,12 +2,12 @@
 use Rattle.std.proofs.Common.{◌≡◌, ◌≢◌, ℕ, false, List, [], ◌∷◌, ◌++◌, length, take, Option, Some}
 use Rattle.std.proofs.Common.{None, IfSome, option_map, Ok, Err, refl, ap, sym, ◌∙◌, subst}
 use Rattle.std.proofs.Common.{append_assoc, arith}
-use Rattle.disk_core.specs.Moments.{OnlyReads}
+use Rattle.disk_core.specs.Times.{OnlyReads}
 use Rattle.disk_core.specs.declared.disk.Disk.{Ghosts}
-use Rattle.journal_core.specs.Folds.{Fold, state_behind, read_by, AreRefused, IsCauseOf}
+use Rattle.journal_core.specs.Folds.{Fold, state_after, read_by, AreRefused, IsCauseOf}
 use Rattle.journal_core.specs.Format.{header, records_before}
 use Rattle.journal_core.specs.Opens.{HasReason, IsOfHeader, IsOfRecord, IsWalkTo}
-use Rattle.journal_core.specs.Openings.{opening_disk, read_list, next_place, refusal, last_body}
+use Rattle.journal_core.specs.Openings.{opening_disk, read_list, next_offset, refusal, last_body}
 use Rattle.journal_core.specs.Openings.{HasRead, HasEnded, HasStepped}
 use Rattle.journal_core.specs.Readings.{HasFolded, HasFound}
 use Rattle.journal_core.specs.Walk.{FileEnd, walk_of, at_commit_byte, at_bad_length, at_cut}
@@ -44,13 +44,13 @@ some_is x y is = cc
 module _ {D : Type 0} {g : Ghosts D} {S E : Type 0} (fold : Fold S E) (old new : Opening D g) where
   -- the bytes of the disk and the records that were read, if the model knows the bytes
   read_at : (o : Opening D g) (b : List ℕ) → g.contents (opening_disk o) ≡ Some b
-      → read_list o ≡ Some (records_before b (next_place o))
+      → read_list o ≡ Some (records_before b (next_offset o))
   read_at o b contents =
-      ap (option_map (λ (bytes : List ℕ). records_before bytes (next_place o))) contents
+      ap (option_map (λ (bytes : List ℕ). records_before bytes (next_offset o))) contents
 
   of_list : (o : Opening D g) (b : List ℕ) → g.contents (opening_disk o) ≡ Some b
-      → (P : List (List ℕ) → Type 0) → IfSome (read_list o) P → P (records_before b (next_place o))
-  of_list o b contents P fact = at_contents P (read_list o) (records_before b (next_place o))
+      → (P : List (List ℕ) → Type 0) → IfSome (read_list o) P → P (records_before b (next_offset o))
+  of_list o b contents P fact = at_contents P (read_list o) (records_before b (next_offset o))
       (read_at o b contents) fact
 
   -- ---- one record more
@@ -63,10 +63,10 @@ module _ {D : Type 0} {g : Ghosts D} {S E : Type 0} (fold : Fold S E) (old new :
     pub folded_next : (s t : S) → HasFolded fold s old → fold.takes s body ≡ Some t
         → HasFolded fold t new
     folded_next s t was next = record {
-      unended = read.goes_on.0;
-      unrefused = read.goes_on.1;
-      made = if_pushed (λ (list : List (List ℕ)). state_behind fold list
-          ≡ Ok s) (λ (list : List (List ℕ)). state_behind fold list ≡ Ok t)
+      unended = read.continues.0;
+      unrefused = read.continues.1;
+      made = if_pushed (λ (list : List (List ℕ)). state_after fold list
+          ≡ Ok s) (λ (list : List (List ℕ)). state_after fold list ≡ Ok t)
           (read_list old) (read_list new) body list_is
           (λ list is. state_next fold list s body t is next) was.made;
     }
@@ -75,32 +75,32 @@ module _ {D : Type 0} {g : Ghosts D} {S E : Type 0} (fold : Fold S E) (old new :
         → read_list old ≡ option_map (λ _. []) (g.contents (opening_disk old))
         → fold.begins body ≡ Some s → HasFolded fold s new
     folded_first s none is = record {
-      unended = read.goes_on.0;
-      unrefused = read.goes_on.1;
+      unended = read.continues.0;
+      unrefused = read.continues.1;
       made = if_pushed (λ (list : List (List ℕ)). list
-          ≡ []) (λ (list : List (List ℕ)). state_behind fold list ≡ Ok s) (read_list old)
+          ≡ []) (λ (list : List (List ℕ)). state_after fold list ≡ Ok s) (read_list old)
           (read_list new) body
-          list_is (λ list empty. ap (λ (l : List (List ℕ)). state_behind fold (pushed body l)) empty
+          list_is (λ list empty. ap (λ (l : List (List ℕ)). state_after fold (pushed body l)) empty
           ∙ state_begins fold body s is) (all_empty _ (read_list old) none);
     }
 
     module _ (only_reads : OnlyReads g (opening_disk old) (opening_disk new)) where
       -- the whole records of the file begin with those that were read and this one
       walk_begins : (b : List ℕ) → g.contents (opening_disk old) ≡ Some b
-          → (rest : List (List ℕ)) × ((walk_of b).records ≡ records_before b (next_place old)
+          → (rest : List (List ℕ)) × ((walk_of b).records ≡ records_before b (next_offset old)
           ++ body ∷ rest)
       walk_begins b contents =
           let contents_new : g.contents (opening_disk new) ≡ Some b =
           only_reads.contents ∙ contents in
-          let begin = records_begin b (g.may_leave (opening_disk new)) (next_place new)
+          let begin = records_begin b (g.may_leave (opening_disk new)) (next_offset new)
           (new.reading b contents_new) in
-          let more : records_before b (next_place new)
-          ≡ pushed body (records_before b (next_place old))
+          let more : records_before b (next_offset new)
+          ≡ pushed body (records_before b (next_offset old))
           = some_is _ _ (sym (read_at new b contents_new) ∙ list_is
           ∙ ap (option_map (pushed body)) (read_at old b contents)) in (
             begin.0,
             begin.1 ∙ ap (λ (list : List (List ℕ)). list ++ begin.0) more
-                ∙ append_assoc (records_before b (next_place old)) (body ∷ []) begin.0,
+                ∙ append_assoc (records_before b (next_offset old)) (body ∷ []) begin.0,
           )
 
       -- the record with this number is not taken
@@ -110,10 +110,10 @@ module _ {D : Type 0} {g : Ghosts D} {S E : Type 0} (fold : Fold S E) (old new :
       refused_next s k count was next =
           if_modelled (λ (b : List ℕ). read_by fold b ≡ Err (fold.bad_record k))
           (g.contents (opening_disk old)) (λ b contents.
-          let list = records_before b (next_place old) in
+          let list = records_before b (next_offset old) in
           let walk = walk_begins b contents in
-          let state : state_behind fold list ≡ Ok s =
-          of_list old b contents (λ (l : List (List ℕ)). state_behind fold l ≡ Ok s) was.made in
+          let state : state_after fold list ≡ Ok s =
+          of_list old b contents (λ (l : List (List ℕ)). state_after fold l ≡ Ok s) was.made in
           let number : k ≡ length list = of_list old b contents (λ (l : List (List ℕ)). k
           ≡ length l) count in
           read_bad fold b list body walk.0 k (old.reading b contents).begins walk.1
@@ -126,7 +126,7 @@ module _ {D : Type 0} {g : Ghosts D} {S E : Type 0} (fold : Fold S E) (old new :
       refused_first none next =
           if_modelled (λ (b : List ℕ). read_by fold b ≡ Err (fold.bad_record 0))
           (g.contents (opening_disk old)) (λ b contents.
-          let list = records_before b (next_place old) in
+          let list = records_before b (next_offset old) in
           let walk = walk_begins b contents in
           let empty : list ≡ [] = of_list old b contents (λ (l : List (List ℕ)). l
           ≡ []) (all_empty _ (read_list old) none) in
@@ -140,7 +140,7 @@ module _ {D : Type 0} {g : Ghosts D} {S E : Type 0} (fold : Fold S E) (old new :
       (only_reads : OnlyReads g (opening_disk old) (opening_disk new)) where
     walk_ends : (b : List ℕ) → g.contents (opening_disk new) ≡ Some b → walk_of b ≡ record {
       records =
-          records_before b (next_place new);
+          records_before b (next_offset new);
       end = at_commit_byte;
     }
     walk_ends b contents = of_list new b contents (λ (l : List (List ℕ)). walk_of b ≡ record {
@@ -154,8 +154,8 @@ module _ {D : Type 0} {g : Ghosts D} {S E : Type 0} (fold : Fold S E) (old new :
 
     pub found_last : (s : S) → HasFolded fold s old → HasFound fold s new
     found_last s was =
-        let made : IfSome (read_list new) (λ l. state_behind fold l ≡ Ok s) =
-        subst (λ (o : Option (List (List ℕ))). IfSome o (λ l. state_behind fold l ≡ Ok s))
+        let made : IfSome (read_list new) (λ l. state_after fold l ≡ Ok s) =
+        subst (λ (o : Option (List (List ℕ))). IfSome o (λ l. state_after fold l ≡ Ok s))
         (sym ended.list) was.made in
         record {
           ended = ended.ended;
@@ -165,9 +165,9 @@ module _ {D : Type 0} {g : Ghosts D} {S E : Type 0} (fold : Fold S E) (old new :
               (λ b contents.
               subst (λ (o : Option (List (List ℕ))). IfSome o (λ l. read_by fold b
               ≡ Ok (record { records = l; state = s }))) (sym (read_at new b contents))
-              (read_ends fold b (records_before b (next_place new)) at_commit_byte s
+              (read_ends fold b (records_before b (next_offset new)) at_commit_byte s
               (new.reading b contents).begins (walk_ends b contents)
-              (of_list new b contents (λ (l : List (List ℕ)). state_behind fold l ≡ Ok s) made)));
+              (of_list new b contents (λ (l : List (List ℕ)). state_after fold l ≡ Ok s) made)));
           stands = ended.stands;
         }
 
@@ -177,7 +177,7 @@ module _ {D : Type 0} {g : Ghosts D} {S E : Type 0} (fold : Fold S E) (old new :
         (g.contents (opening_disk old)) (λ b contents.
         let contents_new : g.contents (opening_disk new) ≡ Some b =
         only_reads.contents ∙ contents in
-        let empty : records_before b (next_place new) ≡ []
+        let empty : records_before b (next_offset new) ≡ []
         = of_list new b contents_new (λ (l : List (List ℕ)). l
         ≡ []) (subst (λ (o : Option (List (List ℕ))). IfSome o (λ l. l ≡ [])) (sym ended.list)
         (all_empty _ (read_list old) none)) in
@@ -193,13 +193,13 @@ module _ {D : Type 0} {g : Ghosts D} {S E : Type 0} (fold : Fold S E) (old new :
   abbrev EndsSo : List ℕ → ℕ → FileEnd → E → Type 0
   EndsSo b at end why = g.contents (opening_disk old) ≡ Some b → walk_of b ≡ record {
     records =
-        records_before b (next_place old);
+        records_before b (next_offset old);
     end = end;
   } → read_by fold b ≡ Err why
 
   cause_by : ((b : List ℕ) (at : ℕ) → EndsSo b at (at_bad_length at) (fold.not_read (BadLength at)))
       → ((b : List ℕ) (at : ℕ) → EndsSo b at (at_cut at) (fold.not_read (CutShort at)))
-      → (why : OpenError) → HasReason g (opening_disk old) (opening_disk new) (next_place old) why
+      → (why : OpenError) → HasReason g (opening_disk old) (opening_disk new) (next_offset old) why
       → IsOfRecord why
       → IfSome (g.contents (opening_disk old)) (λ b. IfSome (read_list old) (IsWalkTo why b))
       → IsCauseOf g fold (opening_disk old) (opening_disk new) why
@@ -224,12 +224,12 @@ module _ {D : Type 0} {g : Ghosts D} {S E : Type 0} (fold : Fold S E) (old new :
       → IsCauseOf g fold (opening_disk old) (opening_disk new) why
   cause_next s why was step =
       let log : (b : List ℕ) → g.contents (opening_disk old) ≡ Some b
-      → state_behind fold (records_before b (next_place old)) ≡ Ok s
-      = λ b contents. of_list old b contents (λ (l : List (List ℕ)). state_behind fold l ≡ Ok s)
+      → state_after fold (records_before b (next_offset old)) ≡ Ok s
+      = λ b contents. of_list old b contents (λ (l : List (List ℕ)). state_after fold l ≡ Ok s)
       was.made in
-      cause_by (λ b at contents walk. read_ends fold b (records_before b (next_place old))
+      cause_by (λ b at contents walk. read_ends fold b (records_before b (next_offset old))
       (at_bad_length at) s (old.reading b contents).begins walk (log b contents))
-      (λ b at contents walk. read_ends fold b (records_before b (next_place old)) (at_cut at) s
+      (λ b at contents walk. read_ends fold b (records_before b (next_offset old)) (at_cut at) s
       (old.reading b contents).begins walk (log b contents))
       why (step.reason was.unrefused) (step.kind was.unrefused) (step.walk was.unrefused)
 
@@ -239,11 +239,11 @@ module _ {D : Type 0} {g : Ghosts D} {S E : Type 0} (fold : Fold S E) (old new :
       → IsCauseOf g fold (opening_disk old) (opening_disk new) why
   cause_first why none unrefused step =
       let empty : (b : List ℕ) → g.contents (opening_disk old) ≡ Some b
-      → records_before b (next_place old) ≡ []
+      → records_before b (next_offset old) ≡ []
       = λ b contents. of_list old b contents (λ (l : List (List ℕ)). l
       ≡ []) (all_empty _ (read_list old) none) in
       let walked : (b : List ℕ) (end : FileEnd) → g.contents (opening_disk old) ≡ Some b
-      → walk_of b ≡ record { records = records_before b (next_place old); end = end }
+      → walk_of b ≡ record { records = records_before b (next_offset old); end = end }
       → walk_of b ≡ record { records = []; end = end }
       = λ b end contents walk. subst (λ (l : List (List ℕ)). walk_of b ≡ record {
         records = l;

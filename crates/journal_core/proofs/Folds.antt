@@ -3,7 +3,7 @@ use Rattle.std.proofs.Common.{◌≡◌, ℕ, ◌+◌, List, [], ◌∷◌, ◌+
 use Rattle.std.proofs.Common.{Ok, Err, ap, ◌∙◌, arith}
 use Rattle.byte_formats.specs.Readings.{◌>>=◌, some_or}
 use Rattle.byte_formats.proofs.Steps.{bind_ok, ok_is}
-use Rattle.journal_core.specs.Folds.{Fold, taken_from, state_behind}
+use Rattle.journal_core.specs.Folds.{Fold, taken_from, state_after}
 
 taken_more : {S E : Type 0} (fold : Fold S E) (k : ℕ) (s : S) (list rest : List (List ℕ)) (t : S)
     → taken_from fold k s list ≡ Ok t
@@ -24,13 +24,13 @@ taken_more {S} {E} fold k s (body ∷ list) rest t is =
     ∙ ap (λ (n : ℕ). taken_from fold n t rest) far
 
 pub state_more : {S E : Type 0} (fold : Fold S E) (list rest : List (List ℕ)) (s : S)
-    → state_behind fold list ≡ Ok s
-    → state_behind fold (list ++ rest) ≡ taken_from fold (length list) s rest
-unfolding state_behind
+    → state_after fold list ≡ Ok s
+    → state_after fold (list ++ rest) ≡ taken_from fold (length list) s rest
+unfolding state_after
 state_more fold [] rest s is = cc
 state_more {S} {E} fold (first ∷ list) rest s is =
     let step = bind_ok (some_or 0 (fold.begins first)) (λ (u : S). taken_from fold 1 u list) s is in
-    let begins : state_behind fold (first ∷ (list ++ rest))
+    let begins : state_after fold (first ∷ (list ++ rest))
     ≡ taken_from fold 1 step.0 (list ++ rest)
     = ap (λ (r : Result S ℕ). r >>= λ (u : S). taken_from fold 1 u (list ++ rest)) step.1 in
     let far : 1 + length list ≡ length (first ∷ list) = omega arith in
@@ -40,8 +40,8 @@ state_more {S} {E} fold (first ∷ list) rest s is =
 -- the next record is taken
 pub state_next : {S E : Type 0} (fold : Fold S E) (list : List (List ℕ)) (s : S)
     (body : List ℕ) (t : S)
-    → state_behind fold list ≡ Ok s → fold.takes s body ≡ Some t
-    → state_behind fold (list ++ body ∷ []) ≡ Ok t
+    → state_after fold list ≡ Ok s → fold.takes s body ≡ Some t
+    → state_after fold (list ++ body ∷ []) ≡ Ok t
 unfolding taken_from
 state_next {S} {E} fold list s body t is next =
     state_more fold list (body ∷ []) s is
@@ -51,8 +51,8 @@ state_next {S} {E} fold list s body t is next =
 -- the next record breaks the rules
 pub state_stops : {S E : Type 0} (fold : Fold S E) (list : List (List ℕ)) (s : S) (body : List ℕ)
     (rest : List (List ℕ))
-    → state_behind fold list ≡ Ok s → fold.takes s body ≡ None
-    → state_behind fold (list ++ body ∷ rest) ≡ Err (length list)
+    → state_after fold list ≡ Ok s → fold.takes s body ≡ None
+    → state_after fold (list ++ body ∷ rest) ≡ Err (length list)
 unfolding taken_from
 state_stops {S} {E} fold list s body rest is next =
     state_more fold list (body ∷ rest) s is
@@ -62,14 +62,14 @@ state_stops {S} {E} fold list s body rest is next =
 -- the first record is taken, or breaks the rules
 pub state_begins : {S E : Type 0} (fold : Fold S E) (body : List ℕ) (s : S)
     → fold.begins body ≡ Some s
-    → state_behind fold (body ∷ []) ≡ Ok s
-unfolding state_behind taken_from
+    → state_after fold (body ∷ []) ≡ Ok s
+unfolding state_after taken_from
 state_begins {S} {E} fold body s is =
     ap (λ (o : Option S). some_or 0 o >>= λ (u : S). taken_from fold 1 u []) is
 
 pub state_begins_not : {S E : Type 0} (fold : Fold S E) (body : List ℕ) (rest : List (List ℕ))
     → fold.begins body ≡ None
-    → state_behind fold (body ∷ rest) ≡ Err 0
-unfolding state_behind
+    → state_after fold (body ∷ rest) ≡ Err 0
+unfolding state_after
 state_begins_not {S} {E} fold body rest is =
     ap (λ (o : Option S). some_or 0 o >>= λ (u : S). taken_from fold 1 u rest) is

@@ -4,8 +4,8 @@ use Rattle.std.proofs.Common.{Err, refl, ap, ◌∙◌}
 use Rattle.std.specs.Str.{bytes_eq}
 use Rattle.std.proofs.lemmas.Slice.Eq.{bytes_eq-Decides}
 use Rattle.byte_formats.specs.Readings.{◌>>=◌, lifted}
-use Rattle.journal_core.specs.Folds.{Fold, Found, state_behind, closing, tested, walked, read_by}
-use Rattle.journal_core.specs.Format.{header, behind, Represents}
+use Rattle.journal_core.specs.Folds.{Fold, Found, state_after, closing, tested, walked, read_by}
+use Rattle.journal_core.specs.Format.{header, following, Represents}
 use Rattle.journal_core.specs.Walk.{FileEnd, walk_of, at_commit_byte}
 use Rattle.journal_core.specs.declared.error.OpenError.TheVariants.{NotJournal}
 use Rattle.journal_core.proofs.ReadOn.{header_length}
@@ -22,16 +22,16 @@ module _ {S E : Type 0} (fold : Fold S E) where
       rw test refl
 
   -- records that make a state, and how they end
-  tested_good : (list : List (List ℕ)) (end : FileEnd) (s : S) → state_behind fold list ≡ Ok s
+  tested_good : (list : List (List ℕ)) (end : FileEnd) (s : S) → state_after fold list ≡ Ok s
       → tested fold list end ≡ closing fold end (Ok s)
-  unfolding state_behind
+  unfolding state_after
   tested_good [] end s is = cc
   tested_good (first ∷ list) end s is =
       ap (λ (r : Result S ℕ). lifted fold.bad_record r >>= λ (t : S). closing fold end (Ok t)) is
 
   -- a record that breaks the rules, whatever follows
   tested_bad : (prefix : List (List ℕ)) (body : List ℕ) (rest : List (List ℕ)) (end : FileEnd)
-      (k : ℕ) → state_behind fold (prefix ++ body ∷ rest) ≡ Err k
+      (k : ℕ) → state_after fold (prefix ++ body ∷ rest) ≡ Err k
       → tested fold (prefix ++ body ∷ rest) end ≡ Err (fold.bad_record k)
   tested_bad [] body rest end k is = ap (λ (r : Result S ℕ). lifted fold.bad_record r >>= λ (t : S).
       closing fold end (Ok t)) is
@@ -43,7 +43,7 @@ module _ {S E : Type 0} (fold : Fold S E) where
 
   pub read_ends : (bytes : List ℕ) (list : List (List ℕ)) (end : FileEnd) (s : S)
       → take 16 bytes ≡ header
-      → walk_of bytes ≡ record { records = list; end = end } → state_behind fold list ≡ Ok s
+      → walk_of bytes ≡ record { records = list; end = end } → state_after fold list ≡ Ok s
       → read_by fold bytes ≡ kept list (closing fold end (Ok s))
   read_ends bytes list end s begins walk is =
       read_walked bytes begins ∙ ap (walked fold) walk ∙ ap (kept list) (tested_good list end s is)
@@ -55,7 +55,7 @@ module _ {S E : Type 0} (fold : Fold S E) where
 
   pub read_bad : (bytes : List ℕ) (prefix : List (List ℕ)) (body : List ℕ) (rest : List (List ℕ))
       (k : ℕ) → take 16 bytes ≡ header
-      → (walk_of bytes).records ≡ prefix ++ body ∷ rest → state_behind fold (prefix ++ body ∷ rest)
+      → (walk_of bytes).records ≡ prefix ++ body ∷ rest → state_after fold (prefix ++ body ∷ rest)
       ≡ Err k → read_by fold bytes ≡ Err (fold.bad_record k)
   read_bad bytes prefix body rest k begins walk is =
       let end = (walk_of bytes).end in
@@ -78,9 +78,10 @@ module _ {S E : Type 0} (fold : Fold S E) where
 
   -- a file that represents records of which a state is made
   pub read_standing : (bytes : List ℕ) (list : List (List ℕ)) (s : S) → Represents bytes list
-      → state_behind fold list ≡ Ok s
+      → state_after fold list ≡ Ok s
       → read_by fold bytes ≡ Ok (record { records = list; state = s })
   read_standing bytes list s stands is =
       read_ends bytes list at_commit_byte s stands.begins
-      (walk_closed bytes list (behind 16 list) stands.holds refl (header_length bytes stands.begins)
+      (walk_closed bytes list (following 16 list) stands.holds refl
+      (header_length bytes stands.begins)
       stands.ends) is

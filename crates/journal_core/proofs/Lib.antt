@@ -6,7 +6,7 @@ pub mod Copies
 pub mod Ends
 pub mod OpeningSteps
 pub mod Owners
-pub mod Places
+pub mod Offsets
 pub mod ReadOn
 pub mod Records
 pub mod Steps

@@ -1,9 +1,9 @@
 -- The steps of an opening, over its disk.
 use Rattle.std.proofs.Common.{◌≡◌, ℕ, ◌+◌, List, [], ◌∷◌, ◌++◌, length, Option, Some, None, IfSome}
 use Rattle.std.proofs.Common.{option_map, refl, ap, sym, ◌∙◌, subst}
-use Rattle.disk_core.specs.Moments.{OnlyReads}
+use Rattle.disk_core.specs.Times.{OnlyReads}
 use Rattle.disk_core.specs.declared.disk.Disk.{Ghosts}
-use Rattle.journal_core.specs.Format.{IsRecordAt, end_behind, IsClosedAt, Represents, records_of}
+use Rattle.journal_core.specs.Format.{IsRecordAt, end_following, IsClosedAt, Represents, records_of}
 use Rattle.journal_core.specs.Format.{records_before, IsBadLengthAt, IsCutShortAt}
 use Rattle.journal_core.specs.Opens.{HasReason, IsOfRecord, IsWalkTo}
 use Rattle.journal_core.specs.Walk.{walk_of, at_commit_byte, at_bad_length, at_cut}
@@ -17,7 +17,7 @@ use Rattle.std.proofs.lemmas.List.{length_push}
 use Rattle.journal_core.proofs.Records.{records_of-stands}
 use Rattle.journal_core.proofs.Walk.{walk_closed, walk_bad, walk_cut}
 use Rattle.journal_core.proofs.ReadOn.{header_length, more_list, more_read, read_same, read_all}
-use Rattle.journal_core.proofs.ReadOn.{settled, not_bad, not_cut}
+use Rattle.journal_core.proofs.ReadOn.{is_durable, not_bad, not_cut}
 
 module _ {D : Type 0} (g : Ghosts D) (old new : D) (only_reads : OnlyReads g old new) (place : ℕ)
     (reading : (b : List ℕ) → g.contents old ≡ Some b → IsReading b (g.may_leave old) place) where
@@ -114,7 +114,7 @@ module _ {D : Type 0} (g : Ghosts D) (old new : D) (only_reads : OnlyReads g old
             end =
                 at_bad_length n;
           }) (sym reason.0)
-          (walk_bad b (records_before b place) place was.holds was.place_is
+          (walk_bad b (records_before b place) place was.holds was.offset_is
           (header_length b was.begins)
           (at_contents (λ (bytes : List ℕ). IsBadLengthAt bytes place) (g.contents old) b is
           reason.1))
@@ -125,7 +125,7 @@ module _ {D : Type 0} (g : Ghosts D) (old new : D) (only_reads : OnlyReads g old
             end =
                 at_cut n;
           }) (sym reason.0)
-          (walk_cut b (records_before b place) place was.holds was.place_is
+          (walk_cut b (records_before b place) place was.holds was.offset_is
           (header_length b was.begins)
           (at_contents (λ (bytes : List ℕ). IsCutShortAt bytes place) (g.contents old) b is
           reason.1))
@@ -157,13 +157,13 @@ module _ {D : Type 0} (g : Ghosts D) (disk : D) (place : ℕ)
       go None is = tt
       go (Some b) is =
           let was = reading b is in
-          walk_closed b (records_before b place) place was.holds was.place_is
+          walk_closed b (records_before b place) place was.holds was.offset_is
           (header_length b was.begins) (closed b is)
 
   pub ended_durable : (b : List ℕ) → g.contents disk ≡ Some b
       → IsDurable b (g.may_leave disk) (place + 1)
   ended_durable b contents =
-      settled b (g.may_leave disk) place (reading b contents) (closed b contents)
+      is_durable b (g.may_leave disk) place (reading b contents) (closed b contents)
 
   pub ended_records : option_map records_of (g.contents disk)
       ≡ option_map (λ b. records_before b place)
@@ -182,9 +182,10 @@ module _ {D : Type 0} (g : Ghosts D) (disk : D) (place : ℕ)
       λ c left. subst (λ (bytes : List ℕ). Represents bytes (records_of b))
       (sym (is.only c left)) is.stands)
 
-  pub ended_place : IfSome (option_map records_of (g.contents disk)) (λ list. place + 1
-      ≡ end_behind list)
-  ended_place = of_records (λ (list : List (List ℕ)). place + 1 ≡ end_behind list) (g.contents disk)
+  pub ended_offset : IfSome (option_map records_of (g.contents disk)) (λ list. place + 1
+      ≡ end_following list)
+  ended_offset =
+      of_records (λ (list : List (List ℕ)). place + 1 ≡ end_following list) (g.contents disk)
       (λ b contents. (ended_durable b contents).end_is)
 
 -- the count of the records that were read, as one of their list

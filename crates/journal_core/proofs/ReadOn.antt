@@ -3,12 +3,12 @@ use Rattle.std.proofs.Common.{◌≡◌, ◌⊎◌, inl, inr, ℕ, ◌+◌, ◌-
 use Rattle.std.proofs.Common.{take, ap, sym, ◌∙◌, subst, arith}
 use Rattle.std.proofs.lemmas.List.{length-take, length-drop}
 use Rattle.disk_core.specs.Disk.{part, Only, NoNew}
-use Rattle.journal_core.specs.Format.{header, IsRecordAt, AreRecordsAt, behind, IsClosedAt}
+use Rattle.journal_core.specs.Format.{header, IsRecordAt, AreRecordsAt, following, IsClosedAt}
 use Rattle.journal_core.specs.Format.{Represents, size_at, records_of, records_before}
 use Rattle.journal_core.specs.Format.{IsBadLengthAt}
 use Rattle.journal_core.specs.Format.{IsCutShortAt}
 use Rattle.journal_core.specs.Durable.{IsDurable, IsReading}
-use Rattle.journal_core.proofs.Records.{records-append, behind-append, records_before-are}
+use Rattle.journal_core.proofs.Records.{records-append, following-append, records_before-are}
 use Rattle.journal_core.proofs.Records.{records_of-stands, size_is, body_found}
 
 -- a record lies within the bytes
@@ -24,7 +24,7 @@ record_within bytes place body is =
 
 -- records lie within the bytes
 pub are_within : (bytes : List ℕ) (place : ℕ) (read : List (List ℕ)) → AreRecordsAt bytes place read
-    → place ≤ length bytes → behind place read ≤ length bytes
+    → place ≤ length bytes → following place read ≤ length bytes
 are_within bytes place [] are there = there
 are_within bytes place (body ∷ read) are there =
     are_within bytes (place + 5 + length body) read are.1 (record_within bytes place body are.0)
@@ -37,19 +37,20 @@ header_length bytes is =
     omega arith
 
 -- one record more
-module _ (bytes : List ℕ) (images : List ℕ → Type 0) (place : ℕ) (is : IsReading bytes images place)
+module _ (bytes : List ℕ) (crash_states : List ℕ → Type 0) (place : ℕ)
+    (is : IsReading bytes crash_states place)
     (body : List ℕ) (found : IsRecordAt bytes place body) where
   more_are : AreRecordsAt bytes 16 (records_before bytes place ++ body ∷ [])
   more_are = records-append bytes 16 (records_before bytes place) body is.holds
-      (subst (λ (n : ℕ). IsRecordAt bytes n body) is.place_is found)
+      (subst (λ (n : ℕ). IsRecordAt bytes n body) is.offset_is found)
 
-  more_place : place + 5 + length body ≡ behind 16 (records_before bytes place ++ body ∷ [])
-  more_place = ap (λ (n : ℕ). n + 5 + length body) is.place_is
-      ∙ sym (behind-append 16 (records_before bytes place) body)
+  more_offset : place + 5 + length body ≡ following 16 (records_before bytes place ++ body ∷ [])
+  more_offset = ap (λ (n : ℕ). n + 5 + length body) is.offset_is
+      ∙ sym (following-append 16 (records_before bytes place) body)
 
   pub more_list : records_before bytes (place + 5 + length body) ≡ records_before bytes place
       ++ body ∷ []
-  more_list = records_before-are bytes _ (place + 5 + length body) more_are more_place
+  more_list = records_before-are bytes _ (place + 5 + length body) more_are more_offset
       (record_within bytes place body found)
 
   pub more_read : (after : List ℕ → Type 0) → Only bytes after
@@ -57,7 +58,7 @@ module _ (bytes : List ℕ) (images : List ℕ → Type 0) (place : ℕ) (is : I
   more_read after only = record {
     begins = is.begins;
     holds = subst (λ (list : List (List ℕ)). AreRecordsAt bytes 16 list) (sym more_list) more_are;
-    place_is = more_place ∙ ap (behind 16) (sym more_list);
+    offset_is = more_offset ∙ ap (following 16) (sym more_list);
     only = only;
   }
 
@@ -68,47 +69,49 @@ read_same bytes before after place no_new is = record {
   begins = is.begins;
   holds =
       is.holds;
-  place_is = is.place_is;
+  offset_is = is.offset_is;
   only = λ c left. is.only c (no_new c left);
 }
 
 -- at the closed commit byte
-pub read_all : (bytes : List ℕ) (images : List ℕ → Type 0) (place : ℕ)
-    → IsReading bytes images place → IsClosedAt bytes place
+pub read_all : (bytes : List ℕ) (crash_states : List ℕ → Type 0) (place : ℕ)
+    → IsReading bytes crash_states place → IsClosedAt bytes place
     → Represents bytes (records_before bytes place)
-read_all bytes images place is ends = record {
+read_all bytes crash_states place is ends = record {
   begins = is.begins;
   holds = is.holds;
-  ends = subst (λ (n : ℕ). IsClosedAt bytes n) is.place_is ends;
+  ends = subst (λ (n : ℕ). IsClosedAt bytes n) is.offset_is ends;
 }
 
-pub settled : (bytes : List ℕ) (images : List ℕ → Type 0) (place : ℕ) → IsReading bytes images place
-    → IsClosedAt bytes place → IsDurable bytes images (place + 1)
-settled bytes images place is ends =
-    let stands = read_all bytes images place is ends in
+pub is_durable : (bytes : List ℕ) (crash_states : List ℕ → Type 0) (place : ℕ)
+    → IsReading bytes crash_states place
+    → IsClosedAt bytes place → IsDurable bytes crash_states (place + 1)
+is_durable bytes crash_states place is ends =
+    let stands = read_all bytes crash_states place is ends in
     let same : records_of bytes ≡ records_before bytes place = records_of-stands bytes _ stands in
     record {
       stands = subst (λ (list : List (List ℕ)). Represents bytes list) (sym same) stands;
-      end_is = ap (λ (n : ℕ). n + 1) (is.place_is ∙ ap (behind 16) (sym same));
+      end_is = ap (λ (n : ℕ). n + 1) (is.offset_is ∙ ap (following 16) (sym same));
       only = is.only;
     }
 
 -- After some of the records of a file stands its next record, or the closed commit byte.
-pub sound_behind : (bytes : List ℕ) (place : ℕ) (read list : List (List ℕ))
+pub sound_after : (bytes : List ℕ) (place : ℕ) (read list : List (List ℕ))
     → AreRecordsAt bytes place read → AreRecordsAt bytes place list
-    → IsClosedAt bytes (behind place list) → IsClosedAt bytes (behind place read) ⊎ ((body : List ℕ)
-    × IsRecordAt bytes (behind place read) body)
-sound_behind bytes place [] [] are all ends = inl ends
-sound_behind bytes place [] (next ∷ list) are all ends = inr (next, all.0)
-sound_behind bytes place (body ∷ read) [] are all ends = absurd (are.0.open_commit_byte ends.shut)
-sound_behind bytes place (body ∷ read) (next ∷ list) are all ends =
+    → IsClosedAt bytes (following place list)
+    → IsClosedAt bytes (following place read) ⊎ ((body : List ℕ)
+    × IsRecordAt bytes (following place read) body)
+sound_after bytes place [] [] are all ends = inl ends
+sound_after bytes place [] (next ∷ list) are all ends = inr (next, all.0)
+sound_after bytes place (body ∷ read) [] are all ends = absurd (are.0.open_commit_byte ends.shut)
+sound_after bytes place (body ∷ read) (next ∷ list) are all ends =
     let same : next ≡ body = sym (body_found bytes place next all.0)
     ∙ body_found bytes place body are.0 in
     let rest : AreRecordsAt bytes (place + 5 + length body) list
     = subst (λ (b : List ℕ). AreRecordsAt bytes (place + 5 + length b) list) same all.1 in
-    let rest_ends : IsClosedAt bytes (behind (place + 5 + length body) list)
-    = subst (λ (b : List ℕ). IsClosedAt bytes (behind (place + 5 + length b) list)) same ends in
-    sound_behind bytes (place + 5 + length body) read list are.1 rest rest_ends
+    let rest_ends : IsClosedAt bytes (following (place + 5 + length body) list)
+    = subst (λ (b : List ℕ). IsClosedAt bytes (following (place + 5 + length b) list)) same ends in
+    sound_after bytes (place + 5 + length body) read list are.1 rest rest_ends
 
 never_bad : (bytes : List ℕ) (place : ℕ) → IsClosedAt bytes place ⊎ ((body : List ℕ)
     × IsRecordAt bytes place body) → IsBadLengthAt bytes place → ⊥
@@ -131,12 +134,13 @@ never_cut bytes place (inr (body, is)) (inr within) =
     elim within.1 [ inl short ↦ omega arith | inr cut ↦ (let c = cut.2 in omega arith) ]
 
 -- A file that represents records is refused nowhere.
-module _ (bytes : List ℕ) (images : List ℕ → Type 0) (place : ℕ) (is : IsReading bytes images place)
+module _ (bytes : List ℕ) (crash_states : List ℕ → Type 0) (place : ℕ)
+    (is : IsReading bytes crash_states place)
     (list : List (List ℕ)) (stands : Represents bytes list) where
   sound_here : IsClosedAt bytes place ⊎ ((body : List ℕ) × IsRecordAt bytes place body)
   sound_here = subst (λ (n : ℕ). IsClosedAt bytes n ⊎ ((body : List ℕ) × IsRecordAt bytes n body))
-      (sym is.place_is)
-      (sound_behind bytes 16 (records_before bytes place) list is.holds stands.holds stands.ends)
+      (sym is.offset_is)
+      (sound_after bytes 16 (records_before bytes place) list is.holds stands.holds stands.ends)
 
   pub not_bad : IsBadLengthAt bytes place → ⊥
   not_bad = never_bad bytes place sound_here

@@ -8,7 +8,7 @@ use Rattle.std.proofs.lemmas.List.{length-drop}
 use Rattle.std.proofs.lemmas.Bool.{ne_eqb, lt-ltb, le-ltb}
 use Rattle.std.proofs.lemmas.Nat.{from_be_bytes-to_be_bytes_4}
 use Rattle.disk_core.specs.Disk.{part}
-use Rattle.journal_core.specs.Format.{header, IsRecordAt, AreRecordsAt, behind, IsClosedAt}
+use Rattle.journal_core.specs.Format.{header, IsRecordAt, AreRecordsAt, following, IsClosedAt}
 use Rattle.journal_core.specs.Format.{Represents, size_at, body_at, records_from, records_of}
 use Rattle.journal_core.specs.Format.{records_to, records_before}
 
@@ -47,30 +47,31 @@ record_kept n place body old new same within is = record {
 }
 
 -- records have at least 0 bytes
-pub behind_later : (place : ℕ) (records : List (List ℕ)) → place ≤ behind place records
-behind_later place [] = omega arith
-behind_later place (body ∷ bodies) = let later =
-    behind_later (place + 5 + length body) bodies in omega arith
+pub after_later : (place : ℕ) (records : List (List ℕ)) → place ≤ following place records
+after_later place [] = omega arith
+after_later place (body ∷ bodies) = let later =
+    after_later (place + 5 + length body) bodies in omega arith
 
-pub behind_far : (place : ℕ) (records : List (List ℕ))
-    → place + length records ≤ behind place records
-behind_far place [] = omega arith
-behind_far place (body ∷ bodies) = let later =
-    behind_far (place + 5 + length body) bodies in omega arith
+pub after_far : (place : ℕ) (records : List (List ℕ))
+    → place + length records ≤ following place records
+after_far place [] = omega arith
+after_far place (body ∷ bodies) = let later =
+    after_far (place + 5 + length body) bodies in omega arith
 
-pub behind-append : (place : ℕ) (records : List (List ℕ)) (body : List ℕ)
-    → behind place (records ++ body ∷ []) ≡ behind place records + 5 + length body
-behind-append place [] body = refl
-behind-append place (first ∷ records) body = behind-append (place + 5 + length first) records body
+pub following-append : (place : ℕ) (records : List (List ℕ)) (body : List ℕ)
+    → following place (records ++ body ∷ []) ≡ following place records + 5 + length body
+following-append place [] body = refl
+following-append place (first ∷ records) body =
+    following-append (place + 5 + length first) records body
 
 -- the records that end within the same prefix
 pub records_kept : (n place : ℕ) (records : List (List ℕ)) (old new : List ℕ)
-    → take n new ≡ take n old → behind place records ≤ n
+    → take n new ≡ take n old → following place records ≤ n
     → AreRecordsAt old place records → AreRecordsAt new place records
 records_kept n place [] old new same within are = tt
 records_kept n place (body ∷ bodies) old new same within are = (
   record_kept n place body old new same (let later =
-      behind_later (place + 5 + length body) bodies in omega arith) are.0,
+      after_later (place + 5 + length body) bodies in omega arith) are.0,
   records_kept n (place + 5 + length body) bodies old new same within are.1,
 )
 
@@ -89,19 +90,20 @@ header_kept n old new same within is = part_kept n 0 16 old new same (omega arit
 
 -- the journal as a whole
 pub stands_kept : (n : ℕ) (records : List (List ℕ)) (old new : List ℕ) → take n new ≡ take n old
-    → behind 16 records < n → n ≤ length new
+    → following 16 records < n → n ≤ length new
     → Represents old records → Represents new records
 stands_kept n records old new same within there is = record {
   begins = header_kept n old new same (let later =
-      behind_later 16 records in omega arith) is.begins;
+      after_later 16 records in omega arith) is.begins;
   holds = records_kept n 16 records old new same (omega arith) is.holds;
-  ends = closed_kept n (behind 16 records) old new same within there is.ends;
+  ends = closed_kept n (following 16 records) old new same within there is.ends;
 }
 
 -- one record more
 pub records-append : (bytes : List ℕ) (place : ℕ) (records : List (List ℕ)) (body : List ℕ)
     → AreRecordsAt bytes place records
-    → IsRecordAt bytes (behind place records) body → AreRecordsAt bytes place (records ++ body ∷ [])
+    → IsRecordAt bytes (following place records) body
+    → AreRecordsAt bytes place (records ++ body ∷ [])
 records-append bytes place [] body are is = (is, tt)
 records-append bytes place (first ∷ records) body are is =
     (are.0, records-append bytes (place + 5 + length first) records body are.1 is)
@@ -124,7 +126,7 @@ commit_byte_open bytes place body is = ne_eqb (slice_index bytes place) 0 is.ope
 
 pub records_from-are : (most : ℕ) (bytes : List ℕ) (place : ℕ) (records : List (List ℕ))
     → AreRecordsAt bytes place records
-    → IsClosedAt bytes (behind place records) → length records ≤ most
+    → IsClosedAt bytes (following place records) → length records ≤ most
     → records_from most bytes place ≡ records
 records_from-are zero bytes place [] are ends few = refl
 records_from-are zero bytes place (body ∷ bodies) are ends few = absurd (omega arith)
@@ -143,18 +145,19 @@ pub records_of-stands : (bytes : List ℕ) (records : List (List ℕ)) → Repre
     → records_of bytes ≡ records
 records_of-stands bytes records is =
     records_from-are (length bytes) bytes 16 records is.holds is.ends
-    (let there = is.ends.there in let far = behind_far 16 records in omega arith)
+    (let there = is.ends.there in let far = after_far 16 records in omega arith)
 
 pub records_to-are : (most : ℕ) (bytes : List ℕ) (place : ℕ) (records : List (List ℕ)) (end : ℕ)
     → AreRecordsAt bytes place records
-    → end ≡ behind place records → length records ≤ most → records_to most bytes place end ≡ records
+    → end ≡ following place records → length records ≤ most
+    → records_to most bytes place end ≡ records
 records_to-are zero bytes place [] end are is few = refl
 records_to-are zero bytes place (body ∷ bodies) end are is few = absurd (omega arith)
 records_to-are (suc most) bytes place [] end are is few =
     let none : nat_lt place end ≡ false = le-ltb place end (omega arith) in rw none refl
 records_to-are (suc most) bytes place (body ∷ bodies) end are is few =
     let more : nat_lt place end ≡ true =
-    lt-ltb place end (let later = behind_later (place + 5 + length body)
+    lt-ltb place end (let later = after_later (place + 5 + length body)
     bodies in omega arith) in
     let next : records_to most bytes (place + 5 + length body) end ≡ bodies
     = records_to-are most bytes (place + 5 + length body) bodies end are.1 is (omega arith) in
@@ -163,11 +166,11 @@ records_to-are (suc most) bytes place (body ∷ bodies) end are is few =
 
 -- the records before the offset after them
 pub records_before-are : (bytes : List ℕ) (records : List (List ℕ)) (place : ℕ)
-    → AreRecordsAt bytes 16 records → place ≡ behind 16 records
+    → AreRecordsAt bytes 16 records → place ≡ following 16 records
     → place ≤ length bytes → records_before bytes place ≡ records
 records_before-are bytes records place are is within =
     records_to-are (length bytes) bytes 16 records place are is (let far =
-    behind_far 16 records in omega arith)
+    after_far 16 records in omega arith)
 
 -- what was read at an offset is the record there
 pub record_read : (bytes : List ℕ) (place count : ℕ) (buffer : List ℕ) → slice_index bytes place ≢ 0
@@ -190,14 +193,14 @@ record_read bytes place count buffer opened size body some few there =
 pub body_there : (bytes : List ℕ) (place : ℕ) (prefix : List (List ℕ)) (body : List ℕ)
     (back : List (List ℕ))
     → AreRecordsAt bytes place (prefix ++ body ∷ back)
-    → part (behind place prefix + 5) (length body) bytes ≡ body
+    → part (following place prefix + 5) (length body) bytes ≡ body
 body_there bytes place [] body back are = are.0.body_is
 body_there bytes place (first ∷ prefix) body back are =
     body_there bytes (place + 5 + length first) prefix body back are.1
 
 pub length_there : (bytes : List ℕ) (place : ℕ) (prefix : List (List ℕ)) (body : List ℕ)
     (back : List (List ℕ))
-    → AreRecordsAt bytes place (prefix ++ body ∷ back) → part (behind place prefix + 1) 4 bytes
+    → AreRecordsAt bytes place (prefix ++ body ∷ back) → part (following place prefix + 1) 4 bytes
     ≡ to_be_bytes w32 (length body)
 length_there bytes place [] body back are = are.0.size
 length_there bytes place (first ∷ prefix) body back are =

@@ -8,12 +8,12 @@ use Rattle.std.proofs.lemmas.Bool.{eqb-true, eqb-false, ltb-true, ltb-false}
 use Rattle.std.proofs.lemmas.List.{length-take, length-drop}
 use Rattle.std.proofs.lemmas.Nat.{be_bytes_4}
 use Rattle.std.proofs.lemmas.Slice.Eq.{bytes_eq-Decides}
-use Rattle.byte_formats.specs.Places.{IsBytes}
+use Rattle.byte_formats.specs.Offsets.{IsBytes}
 use Rattle.byte_formats.specs.Readings.{◌>>=◌, lifted}
 use Rattle.byte_formats.proofs.Steps.{bind_ok, ok_is, IsBytes-drop, IsBytes-take}
 use Rattle.disk_core.specs.Disk.{part}
-use Rattle.journal_core.specs.Folds.{Fold, Found, state_behind, closing, tested, walked, read_by}
-use Rattle.journal_core.specs.Format.{header, IsRecordAt, AreRecordsAt, behind, IsClosedAt}
+use Rattle.journal_core.specs.Folds.{Fold, Found, state_after, closing, tested, walked, read_by}
+use Rattle.journal_core.specs.Format.{header, IsRecordAt, AreRecordsAt, following, IsClosedAt}
 use Rattle.journal_core.specs.Format.{Represents, size_at, body_at}
 use Rattle.journal_core.specs.Walk.{FileEnd, at_commit_byte, at_bad_length, at_cut, FileWalk}
 use Rattle.journal_core.specs.Walk.{walk_from}
@@ -52,7 +52,7 @@ abbrev Closes : FileWalk → List (List ℕ) → Type 0
 Closes walk list = (walk.records ≡ list) × (walk.end ≡ at_commit_byte)
 
 abbrev Stand : List ℕ → ℕ → List (List ℕ) → Type 0
-Stand bytes place list = AreRecordsAt bytes place list × IsClosedAt bytes (behind place list)
+Stand bytes place list = AreRecordsAt bytes place list × IsClosedAt bytes (following place list)
 
 not_cut : (place : ℕ) → at_cut place ≡ at_commit_byte → ⊥
 not_cut place is = cc
@@ -139,21 +139,21 @@ module _ {S E : Type 0} (fold : Fold S E) where
   lifted_ok (Err k) end s is = cc
 
   tested_ok : (list : List (List ℕ)) (end : FileEnd) (s : S) → tested fold list end ≡ Ok s
-      → (end ≡ at_commit_byte) × (state_behind fold list ≡ Ok s)
+      → (end ≡ at_commit_byte) × (state_after fold list ≡ Ok s)
   tested_ok [] end s is =
       let closed = closing_ok end (Err (fold.bad_record 0)) s is in
       let wrong : Err (fold.bad_record 0) ≡ Ok s = closed.1 in cc
-  tested_ok (first ∷ list) end s is = lifted_ok (state_behind fold (first ∷ list)) end s is
+  tested_ok (first ∷ list) end s is = lifted_ok (state_after fold (first ∷ list)) end s is
 
   pub found_stands : (bytes : List ℕ) (found : Found S) → IsBytes bytes
       → read_by fold bytes ≡ Ok found
-      → Represents bytes found.records × (state_behind fold found.records ≡ Ok found.state)
+      → Represents bytes found.records × (state_after fold found.records ≡ Ok found.state)
   unfolding read_by walk_of
   found_stands bytes found are is = go (bytes_eq (take 16 bytes) header) refl is
     where
-      behind_header : take 16 bytes ≡ header → walked fold (walk_of bytes) ≡ Ok found
-          → Represents bytes found.records × (state_behind fold found.records ≡ Ok found.state)
-      behind_header begins is =
+      after_header : take 16 bytes ≡ header → walked fold (walk_of bytes) ≡ Ok found
+          → Represents bytes found.records × (state_after fold found.records ≡ Ok found.state)
+      after_header begins is =
           let walk = walk_of bytes in
           let step = bind_ok (tested fold walk.records walk.end) (λ (s : S). Ok (record {
             records =
@@ -165,11 +165,11 @@ module _ {S E : Type 0} (fold : Fold S E) where
           let state = tested_ok walk.records walk.end step.0 step.1 in
           let stand = walk_stands (length bytes) bytes 16 walk.records are (refl, state.0) in
           let P : Found S → Type 0 = λ f. Represents bytes f.records
-          × (state_behind fold f.records ≡ Ok f.state) in
+          × (state_after fold f.records ≡ Ok f.state) in
           subst P made (record { begins = begins; holds = stand.0; ends = stand.1 }, state.1)
 
       go : (b : Bool) → bytes_eq (take 16 bytes) header ≡ b
           → (if b then walked fold (walk_of bytes) else Err (fold.not_read NotJournal)) ≡ Ok found
-          → Represents bytes found.records × (state_behind fold found.records ≡ Ok found.state)
-      go true test is = behind_header ((bytes_eq-Decides (take 16 bytes) header).0 test) is
+          → Represents bytes found.records × (state_after fold found.records ≡ Ok found.state)
+      go true test is = after_header ((bytes_eq-Decides (take 16 bytes) header).0 test) is
       go false test is = cc

@@ -4,24 +4,26 @@ use Rattle.std.proofs.Common.{◌≡◌, inl, inr, ℕ, ◌+◌, ◌-◌, ◌≤
 use Rattle.std.proofs.Common.{Some, None, IfSome, option_map, is_some, true, false, refl, ap, sym}
 use Rattle.std.proofs.Common.{◌∙◌, subst, arith}
 use Rattle.disk_core.specs.Disk.{overwritten, part, Torn, Only}
-use Rattle.disk_core.specs.Moments.{LeavesOnly}
+use Rattle.disk_core.specs.Times.{LeavesOnly}
 use Rattle.disk_core.specs.declared.disk.Disk.{Ghosts}
-use Rattle.disk_core.proofs.Moments.{joined, weaker, left_now}
-use Rattle.journal_core.specs.Format.{AreRecordsAt, behind, Represents, RepresentsEither, tail_of}
+use Rattle.disk_core.proofs.Times.{joined, weaker, left_now}
+use Rattle.journal_core.specs.Format.{AreRecordsAt, following, Represents, RepresentsEither}
+use Rattle.journal_core.specs.Format.{tail_of}
 use Rattle.journal_core.specs.Format.{records_of, record_bytes}
 use Rattle.journal_core.specs.Durable.{IsDurable}
 use Rattle.journal_core.specs.Words.{AllRepresent, HoldsBody, HoldsLength}
-use Rattle.journal_core.proofs.Records.{records_of-stands, behind-append, body_there, length_there}
+use Rattle.journal_core.proofs.Records.{records_of-stands, following-append, body_there}
+use Rattle.journal_core.proofs.Records.{length_there}
 use Rattle.journal_core.proofs.Records.{part_there}
 use Rattle.journal_core.proofs.Modelled.{if_modelled, at_contents, contents_before, of_records}
-use Rattle.journal_core.proofs.Append.{IsStaged, staged, torn_behind, torn_commit_byte, opened}
+use Rattle.journal_core.proofs.Append.{IsStaged, staged, torn_following, torn_commit_byte, opened}
 use Rattle.journal_core.proofs.Append.{opened_before}
 
 module _ {D : Type 0} (g : Ghosts D) (old mid new : D) (bytes : List ℕ) (body : List ℕ)
     (end : ℕ) where
   -- the first write, at any time
   pub first_step : (records : List (List ℕ)) → Only bytes (g.may_leave old)
-      → Represents bytes records → end ≡ behind 16 records + 1 → (piece : List ℕ)
+      → Represents bytes records → end ≡ following 16 records + 1 → (piece : List ℕ)
       → LeavesOnly g old mid (λ c. (d : List ℕ) × g.may_leave old d × Torn end piece d c)
       → LeavesOnly g old mid (RepresentsEither records body)
   first_step records only is end_is piece run =
@@ -29,32 +31,32 @@ module _ {D : Type 0} (g : Ghosts D) (old mid new : D) (bytes : List ℕ) (body 
         d,
         was,
         torn,
-      ). inl (torn_behind end piece records d c end_is torn
+      ). inl (torn_following end piece records d c end_is torn
       (subst (λ (b : List ℕ). Represents b records) (sym (only d was)) is))) run
 
   -- the second write, at any time
   pub second_step : (records : List (List ℕ)) (staged_bytes : List ℕ)
       → Only staged_bytes (g.may_leave mid) → IsStaged staged_bytes records body
-      → 1 ≤ length body → length body ≤ 131072 → end ≡ behind 16 records + 1
+      → 1 ≤ length body → length body ≤ 131072 → end ≡ following 16 records + 1
       → LeavesOnly g mid new
       (λ c. (d : List ℕ) × g.may_leave mid d × Torn (end - 1) (1 ∷ []) d c)
       → LeavesOnly g mid new (RepresentsEither records body)
   second_step records staged_bytes only is some few end_is run =
-      let commit_byte : end - 1 ≡ behind 16 records = omega arith in
+      let commit_byte : end - 1 ≡ following 16 records = omega arith in
       weaker g mid new _ _ (λ c (d, was, torn). torn_commit_byte d records body
       (subst (λ (b : List ℕ). IsStaged b records body) (sym (only d was)) is) c
       (subst (λ (n : ℕ). Torn n (1 ∷ []) d c) commit_byte torn) some few) run
 
 -- An append whose two writes are done.
 module _ {D : Type 0} (g : Ghosts D) (old mid new : D) (body piece : List ℕ) (end : ℕ)
-    (settled : (b : List ℕ) → g.contents old ≡ Some b → IsDurable b (g.may_leave old) end)
+    (is_durable : (b : List ℕ) → g.contents old ≡ Some b → IsDurable b (g.may_leave old) end)
     (piece_is : piece ≡ tail_of body) (some : 1 ≤ length body) (few : length body ≤ 131072)
     (first : g.contents mid ≡ option_map (overwritten end piece) (g.contents old))
     (second : g.contents new ≡ option_map (overwritten (end - 1) (1 ∷ [])) (g.contents mid))
     (durable : IfSome (g.contents new) (λ b. Only b (g.may_leave new))) where
   -- the bytes represent the records from before, and the new one
   pub done_stands : (b : List ℕ) → g.contents new ≡ Some b
-      → (was : List ℕ) × (g.contents old ≡ Some was) × (end ≡ behind 16 (records_of was) + 1)
+      → (was : List ℕ) × (g.contents old ≡ Some was) × (end ≡ following 16 (records_of was) + 1)
       × Represents b (records_of was ++ body ∷ [])
   done_stands b contents =
       let (staged_bytes, contents_mid, b_is) =
@@ -63,8 +65,8 @@ module _ {D : Type 0} (g : Ghosts D) (old mid new : D) (body piece : List ℕ) (
       let (was, contents_old, staged_is) =
       contents_before (g.contents old) (g.contents mid) (overwritten end piece)
       staged_bytes first contents_mid in
-      let was_durable = settled was contents_old in
-      let commit_byte : end - 1 ≡ behind 16 (records_of was) = let at =
+      let was_durable = is_durable was contents_old in
+      let commit_byte : end - 1 ≡ following 16 (records_of was) = let at =
       was_durable.end_is in omega arith in
       let is_staged : IsStaged staged_bytes (records_of was) body
       = staged end (records_of was) body was staged_bytes was_durable.end_is was_durable.stands
@@ -84,8 +86,8 @@ module _ {D : Type 0} (g : Ghosts D) (old mid new : D) (body piece : List ℕ) (
       record {
         stands = subst (λ (list : List (List ℕ)). Represents b list) (sym same) stands;
         end_is = subst (λ (list : List (List ℕ)). end + (length body + 5)
-            ≡ behind 16 list + 1) (sym same)
-            (let place = behind-append 16 (records_of was) body in omega arith);
+            ≡ following 16 list + 1) (sym same)
+            (let place = following-append 16 (records_of was) body in omega arith);
         only = at_contents (λ (bytes : List ℕ). Only bytes (g.may_leave new))
             (g.contents new) b contents durable;
       }
@@ -132,7 +134,7 @@ module _ {D : Type 0} (g : Ghosts D) (old mid new : D) (body piece : List ℕ) (
           → g.contents new ≡ option_map (overwritten (end - 1) (record_bytes body)) was
       go None is = both None is
       go (Some b) is =
-          let was = settled b is in
+          let was = is_durable b is in
           let there = was.stands.ends.there in
           let end_is = was.end_is in
           both (Some b) is
@@ -142,7 +144,7 @@ module _ {D : Type 0} (g : Ghosts D) (old mid new : D) (body piece : List ℕ) (
 
 -- An append at any time.
 module _ {D : Type 0} (g : Ghosts D) (old mid new : D) (body piece : List ℕ) (end : ℕ)
-    (settled : (b : List ℕ) → g.contents old ≡ Some b → IsDurable b (g.may_leave old) end)
+    (is_durable : (b : List ℕ) → g.contents old ≡ Some b → IsDurable b (g.may_leave old) end)
     (piece_is : piece ≡ tail_of body) (some : 1 ≤ length body) (few : length body ≤ 131072) where
   -- in the first write
   pub one_step : LeavesOnly g old mid (λ c. (d : List ℕ) × g.may_leave old d × Torn end piece d c)
@@ -150,7 +152,7 @@ module _ {D : Type 0} (g : Ghosts D) (old mid new : D) (body piece : List ℕ) (
       (λ list. LeavesOnly g old mid (RepresentsEither list body))
   one_step run = of_records (λ list. LeavesOnly g old mid (RepresentsEither list body))
       (g.contents old) (λ b contents.
-      let was = settled b contents in
+      let was = is_durable b contents in
       first_step g old mid new b body end (records_of b) was.only was.stands was.end_is piece run)
 
   -- in the second write
@@ -165,7 +167,7 @@ module _ {D : Type 0} (g : Ghosts D) (old mid new : D) (body piece : List ℕ) (
   both_steps run written durable run_on =
       of_records (λ list. LeavesOnly g old new (RepresentsEither list body)) (g.contents old)
       (λ b contents.
-      let was = settled b contents in
+      let was = is_durable b contents in
       let now : List ℕ = overwritten end piece b in
       let contents_mid : g.contents mid ≡ Some now = written
       ∙ ap (option_map (overwritten end piece)) contents in
@@ -195,25 +197,25 @@ module _ {D : Type 0} (g : Ghosts D) (old : D) (place : ℕ) (read : List ℕ)
 
   pub read_body : IfSome (option_map records_of (g.contents old)) (HoldsBody place read)
   read_body = of_records (HoldsBody place read) (g.contents old)
-      (λ b contents prefix body back from list_is place_is within.
-      let whole : place ≡ behind 16 prefix + 5 + from = omega arith in
+      (λ b contents prefix body back from list_is offset_is within.
+      let whole : place ≡ following 16 prefix + 5 + from = omega arith in
       found b contents ∙ ap (λ (n : ℕ). part n (length read) b) whole
-      ∙ part_there b (behind 16 prefix + 5) from (length read) body
+      ∙ part_there b (following 16 prefix + 5) from (length read) body
       (body_there b 16 prefix body back
       (are b _ contents list_is)) within)
 
   pub read_length : IfSome (option_map records_of (g.contents old)) (HoldsLength place read)
   read_length = of_records (HoldsLength place read) (g.contents old)
-      (λ b contents prefix body back list_is place_is four.
-      found b contents ∙ ap (λ (n : ℕ). part place n b) four ∙ ap (λ (n : ℕ). part n 4 b) place_is
+      (λ b contents prefix body back list_is offset_is four.
+      found b contents ∙ ap (λ (n : ℕ). part place n b) four ∙ ap (λ (n : ℕ). part n 4 b) offset_is
       ∙ length_there b 16 prefix body back (are b _ contents list_is))
 
 -- After writes at each time of which a crash leaves the old records, or these and one more, the
 -- bytes still represent their records.
 module _ {D : Type 0} (g : Ghosts D) (old new : D) (body : List ℕ)
     (contents_kept : is_some (g.contents new) ≡ is_some (g.contents old))
-    (reads_image : (b : List ℕ) → g.contents new ≡ Some b → g.may_leave new b)
-    (counts_now : (t : ℕ) (c : List ℕ) → t ≤ g.moment new → g.may_leave new c
+    (reads_crash_state : (b : List ℕ) → g.contents new ≡ Some b → g.may_leave new b)
+    (counts_now : (t : ℕ) (c : List ℕ) → t ≤ g.clock_at new → g.may_leave new c
     → g.left_since new t c)
     (run : IfSome (option_map records_of (g.contents old))
     (λ list. LeavesOnly g old new (RepresentsEither list body))) where
@@ -233,7 +235,7 @@ module _ {D : Type 0} (g : Ghosts D) (old new : D) (body : List ℕ)
           (λ (list : List (List ℕ)). LeavesOnly g old new (RepresentsEither list body))
           (option_map records_of (g.contents old)) (records_of bytes)
           (ap (option_map records_of) is) run in
-          elim (left_now g old new _ counts_now leaves b (reads_image b contents)) [
+          elim (left_now g old new _ counts_now leaves b (reads_crash_state b contents)) [
             | inl stands ↦ by_list (records_of bytes) stands
             | inr stands ↦ by_list (records_of bytes ++ body ∷ []) stands
           ]

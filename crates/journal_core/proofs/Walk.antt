@@ -3,13 +3,13 @@ use Rattle.std.proofs.Common.{◌≡◌, ◌≢◌, ◌⊎◌, inl, inr, ℕ, ze
 use Rattle.std.proofs.Common.{nat_lt, true, false, List, [], ◌∷◌, ◌++◌, length, slice_index, refl}
 use Rattle.std.proofs.Common.{ap, ◌∙◌, subst, arith}
 use Rattle.std.proofs.lemmas.Bool.{ne_eqb, lt-ltb, le-ltb, cases_lt}
-use Rattle.journal_core.specs.Format.{IsRecordAt, AreRecordsAt, behind, IsClosedAt, size_at}
+use Rattle.journal_core.specs.Format.{IsRecordAt, AreRecordsAt, following, IsClosedAt, size_at}
 use Rattle.journal_core.specs.Format.{records_before, IsBadLengthAt, IsCutShortAt}
 use Rattle.journal_core.specs.Durable.{IsReading}
 use Rattle.journal_core.specs.Walk.{FileEnd, FileWalk, at_commit_byte, at_bad_length, at_cut}
 use Rattle.journal_core.specs.Walk.{ends_here}
 use Rattle.journal_core.specs.Walk.{with_record, walk_from, walk_of}
-use Rattle.journal_core.proofs.Records.{size_is, body_found, behind_far}
+use Rattle.journal_core.proofs.Records.{size_is, body_found, after_far}
 use Rattle.journal_core.proofs.ReadOn.{header_length, record_within, are_within}
 
 -- at a record
@@ -37,7 +37,7 @@ walk_record most bytes place body is =
 -- after the records that were read
 walk_read : (most : ℕ) (bytes : List ℕ) (place : ℕ) (read : List (List ℕ)) (end : FileEnd)
     → AreRecordsAt bytes place read → length read < most
-    → ((left : ℕ) → walk_from (suc left) bytes (behind place read) ≡ ends_here end)
+    → ((left : ℕ) → walk_from (suc left) bytes (following place read) ≡ ends_here end)
     → walk_from most bytes place ≡ record { records = read; end = end }
 walk_read zero bytes place read end are few ends = absurd (omega arith)
 walk_read (suc most) bytes place [] end are few ends = ends most
@@ -47,16 +47,17 @@ walk_read (suc most) bytes place (body ∷ read) end are few ends =
     (omega arith) ends)
 
 module _ (bytes : List ℕ) (read : List (List ℕ)) (place : ℕ) (are : AreRecordsAt bytes 16 read)
-    (place_is : place ≡ behind 16 read) (some : 16 ≤ length bytes) where
+    (offset_is : place ≡ following 16 read) (some : 16 ≤ length bytes) where
   few : length read < length bytes
-  few = let far = behind_far 16 read in let within =
+  few = let far = after_far 16 read in let within =
       are_within bytes 16 read are some in omega arith
 
   ends_with : (end : FileEnd) → ((left : ℕ) → walk_from (suc left) bytes place ≡ ends_here end)
       → walk_of bytes ≡ record { records = read; end = end }
   unfolding walk_of
   ends_with end ends = walk_read (length bytes) bytes 16 read end are few
-      (λ left. subst (λ (n : ℕ). walk_from (suc left) bytes n ≡ ends_here end) place_is (ends left))
+      (λ left. subst (λ (n : ℕ). walk_from (suc left) bytes n ≡ ends_here end) offset_is
+      (ends left))
 
   pub walk_closed : IsClosedAt bytes place → walk_of bytes ≡ record {
     records =
@@ -162,12 +163,12 @@ walk_prefix (suc most) bytes place (body ∷ read) are few =
     )
 
 -- the records that were read are the first of the whole records
-pub records_begin : (bytes : List ℕ) (images : List ℕ → Type 0) (place : ℕ)
-    → IsReading bytes images place
+pub records_begin : (bytes : List ℕ) (crash_states : List ℕ → Type 0) (place : ℕ)
+    → IsReading bytes crash_states place
     → (rest : List (List ℕ)) × ((walk_of bytes).records ≡ records_before bytes place ++ rest)
 unfolding walk_of
-records_begin bytes images place is =
+records_begin bytes crash_states place is =
     let read = records_before bytes place in
-    let far = behind_far 16 read in
+    let far = after_far 16 read in
     let within = are_within bytes 16 read is.holds (header_length bytes is.begins) in
     walk_prefix (length bytes) bytes 16 read is.holds (omega arith)

@@ -2,7 +2,7 @@
 use Rattle.std.specs.Prelude.{◌≡◌, ◌↔◌, ◌<◌, ◌≤◌, ◌+◌, max, false, length, is_some, IfSome}
 use Rattle.std.specs.Prelude.{Result, IsTrue, IsErrOf}
 use Rattle.byte_formats.specs.Types.{Text}
-use Rattle.disk_core.specs.Moments.{LeavesOnly}
+use Rattle.disk_core.specs.Times.{LeavesOnly}
 use Rattle.disk_core.specs.declared.disk.Disk.{Ghosts}
 use Rattle.journal_core.specs.Format.{RepresentsEither, most_bytes}
 use Rattle.journal_core.specs.Words.{AppendLeaves, disk_of, end_of, is_broken, records}
@@ -28,5 +28,5 @@ pub record JournalAppends {D : Type 0} {g : Ghosts D} (body : Text) (old new : J
       (λ list. IfSome (g.contents (disk_of new)) (RepresentsEither list body))
   pub afterwards : is_broken old ≡ false → IfSome (records old)
       (λ list. (c : Text) → g.may_leave (disk_of new) c → RepresentsEither list body c)
-  pub any_moment : is_broken old ≡ false → IfSome (records old)
+  pub any_time : is_broken old ≡ false → IfSome (records old)
       (λ list. LeavesOnly g (disk_of old) (disk_of new) (RepresentsEither list body))

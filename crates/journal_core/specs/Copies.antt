@@ -4,7 +4,7 @@ use Rattle.std.specs.List.{flat_map}
 use Rattle.std.specs.Int.{w32, to_be_bytes}
 use Rattle.byte_formats.specs.Types.{Text}
 use Rattle.mtc_io.specs.Counts.{Rose}
-use Rattle.disk_core.specs.Moments.{OnlyReads}
+use Rattle.disk_core.specs.Times.{OnlyReads}
 use Rattle.disk_core.specs.declared.disk.Disk.{Ghosts}
 use Rattle.journal_core.specs.Words.{disk_of, end_of, is_broken, records}
 use Rattle.journal_core.specs.declared.error.CopyError.{CopyError}

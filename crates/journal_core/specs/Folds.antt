@@ -37,9 +37,9 @@ taken_from fold k s (body ∷ bodies) =
 
 -- The state after all records of a journal, or the number of the first one that breaks the rules.
 -- Without a record the first one is missing.
-unfoldable pub state_behind : {S E : Type 0} → Fold S E → List Text → Result S ℕ
-state_behind fold [] = Err 0
-state_behind fold (first ∷ bodies) =
+unfoldable pub state_after : {S E : Type 0} → Fold S E → List Text → Result S ℕ
+state_after fold [] = Err 0
+state_after fold (first ∷ bodies) =
     some_or 0 (fold.begins first) >>= λ s. taken_from fold 1 s bodies
 
 -- where the records end at the closed commit byte, this; else the file is no journal
@@ -53,7 +53,7 @@ closing fold (at_cut place) found = Err (fold.not_read (CutShort place))
 abbrev pub tested : {S E : Type 0} → Fold S E → List Text → FileEnd → Result S E
 tested fold [] end = closing fold end (Err (fold.bad_record 0))
 tested fold (first ∷ bodies) end =
-    lifted fold.bad_record (state_behind fold (first ∷ bodies)) >>= λ s. closing fold end (Ok s)
+    lifted fold.bad_record (state_after fold (first ∷ bodies)) >>= λ s. closing fold end (Ok s)
 
 -- a walk whose records are tested
 abbrev pub walked : {S E : Type 0} → Fold S E → FileWalk → Result (Found S) E

@@ -30,14 +30,14 @@ AreRecordsAt bytes place (body ∷ bodies) = IsRecordAt bytes place body
     × AreRecordsAt bytes (place + 5 + length body) bodies
 
 -- the offset after records that begin at an offset
-abbrev pub behind : ℕ → List Text → ℕ
-behind place [] = place
-behind place (body ∷ bodies) = behind (place + 5 + length body) bodies
+abbrev pub following : ℕ → List Text → ℕ
+following place [] = place
+following place (body ∷ bodies) = following (place + 5 + length body) bodies
 
 -- The end of a journal with these records: the offset after the closed commit byte that ends them.
 -- The next body would begin four bytes further on.
-abbrev pub end_behind : List Text → ℕ
-end_behind records = behind 16 records + 1
+abbrev pub end_following : List Text → ℕ
+end_following records = following 16 records + 1
 
 -- at this offset stands a closed commit byte
 pub record IsClosedAt (bytes : Text) (place : ℕ) : Type 0 where
@@ -49,7 +49,7 @@ pub record IsClosedAt (bytes : Text) (place : ℕ) : Type 0 where
 pub record Represents (bytes : Text) (records : List Text) : Type 0 where
   pub begins : take 16 bytes ≡ header
   pub holds : AreRecordsAt bytes 16 records
-  pub ends : IsClosedAt bytes (behind 16 records)
+  pub ends : IsClosedAt bytes (following 16 records)
 
 -- the bytes are a journal with these records, or with these and one more
 abbrev pub RepresentsEither : List Text → Text → Text → Type 0

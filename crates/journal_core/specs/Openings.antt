@@ -5,7 +5,7 @@ use Rattle.std.specs.Prelude.{Ok, Err}
 use Rattle.std.specs.Borrow.{Bor}
 use Rattle.byte_formats.specs.Types.{Text}
 use Rattle.disk_core.specs.Disk.{part}
-use Rattle.disk_core.specs.Moments.{OnlyReads}
+use Rattle.disk_core.specs.Times.{OnlyReads}
 use Rattle.disk_core.specs.declared.disk.Disk.{Ghosts}
 use Rattle.journal_core.specs.Format.{header, Represents, records_before}
 use Rattle.journal_core.specs.Opens.{HasReason, IsOfRecord, IsWalkTo}
@@ -25,8 +25,8 @@ module _ {D : Type 0} {g : Ghosts D} where
       option_map (λ bytes. records_before bytes opening.place) (g.contents opening.disk)
 
   -- the offset of the next commit byte
-  abbrev pub next_place : Opening D g → ℕ
-  next_place opening = opening.place
+  abbrev pub next_offset : Opening D g → ℕ
+  next_offset opening = opening.place
 
   -- the closed commit byte was read
   abbrev pub is_ended : Opening D g → Bool
@@ -48,8 +48,8 @@ module _ {D : Type 0} {g : Ghosts D} where
   pub record HasBegun (old : D) (new : Opening D g) : Type 0 where
     pub begins : IfSome (g.contents old) (λ bytes. take 16 bytes ≡ header)
     pub list : read_list new ≡ option_map (λ _. []) (g.contents old)
-    pub place : next_place new ≡ 16
-    pub goes_on : (is_ended new ≡ false) × (refusal new ≡ None)
+    pub place : next_offset new ≡ 16
+    pub continues : (is_ended new ≡ false) × (refusal new ≡ None)
     pub only_reads : OnlyReads g old (opening_disk new)
     pub fine : g.faults (opening_disk new) ≡ g.faults old
 
@@ -58,16 +58,16 @@ module _ {D : Type 0} {g : Ghosts D} where
     pub list : read_list new ≡ option_map (λ list. list ++ last_body new ∷ []) (read_list old)
     pub some : 1 ≤ length (last_body new)
     pub few : length (last_body new) ≤ 131072
-    pub place : next_place new ≡ next_place old + 5 + length (last_body new)
+    pub place : next_offset new ≡ next_offset old + 5 + length (last_body new)
     pub shorter : bytes_left new < bytes_left old
-    pub goes_on : (is_ended new ≡ false) × (refusal new ≡ None)
+    pub continues : (is_ended new ≡ false) × (refusal new ≡ None)
 
   -- the closed commit byte was read: the file represents the records that were read
   pub record HasEnded (old new : Opening D g) : Type 0 where
     pub list : read_list new ≡ read_list old
     pub ended : is_ended new ≡ true
-    pub place : next_place new ≡ next_place old
-    pub goes_on : refusal new ≡ None
+    pub place : next_offset new ≡ next_offset old
+    pub continues : refusal new ≡ None
     pub stands : IfSome (g.contents (opening_disk new))
         (λ bytes. IfSome (read_list new) (Represents bytes))
     pub walk : IfSome (g.contents (opening_disk new)) (λ bytes. IfSome (read_list new)
@@ -77,7 +77,7 @@ module _ {D : Type 0} {g : Ghosts D} where
   pub record HasRefused (old new : Opening D g) (why : OpenError) : Type 0 where
     pub list : read_list new ≡ read_list old
     pub kept : refusal new ≡ Some why
-    pub goes_on : is_ended new ≡ is_ended old
+    pub continues : is_ended new ≡ is_ended old
 
   -- What every step does. A refusal that was given is given again, and so is the end; a fresh
   -- refusal has its cause, and on a file that represents records it is a failure of the disk.
@@ -88,7 +88,7 @@ module _ {D : Type 0} {g : Ghosts D} where
     pub rests : is_ended old ≡ true → refusal old ≡ None
         → (ended ≡ true) × (why ≡ None) × (opening_disk new ≡ opening_disk old)
     pub reason : refusal old ≡ None
-        → IfSome why (HasReason g (opening_disk old) (opening_disk new) (next_place old))
+        → IfSome why (HasReason g (opening_disk old) (opening_disk new) (next_offset old))
     pub kind : refusal old ≡ None → IfSome why IsOfRecord
     pub whole : refusal old ≡ None
         → IfSome why (λ e. IfSome (g.contents (opening_disk old)) (λ bytes. (list : List Text)

@@ -4,7 +4,7 @@ use Rattle.std.specs.Prelude.{◌≡◌, ℕ, ◌+◌, ◌≤◌, Bool, true, fa
 use Rattle.std.specs.Prelude.{Option, Some, None, option_map, IfSome, OnOk, Result, Ok, Err}
 use Rattle.byte_formats.specs.Types.{Text}
 use Rattle.mtc_io.specs.Counts.{Rose}
-use Rattle.disk_core.specs.Moments.{LeavesOnly}
+use Rattle.disk_core.specs.Times.{LeavesOnly}
 use Rattle.disk_core.specs.declared.disk.Disk.{Ghosts}
 use Rattle.journal_core.specs.Format.{RepresentsEither}
 use Rattle.journal_core.specs.Words.{AllRepresent, disk_of, end_of, is_broken}
@@ -84,7 +84,7 @@ module _ {D S : Type 0} where
     pub kept : OnOk result (IfSome old.records
         (λ list. AllRepresent g new.disk (list ++ body ∷ [])))
     pub count : g.faults old.disk ≤ g.faults new.disk
-    pub any_moment : old.broken ≡ false → IfSome old.records
+    pub any_time : old.broken ≡ false → IfSome old.records
         (λ list. LeavesOnly g old.disk new.disk (RepresentsEither list body))
     pub afterwards : old.broken ≡ false → IfSome old.records
         (λ list. (c : Text) → g.may_leave new.disk c → RepresentsEither list body c)

@@ -8,7 +8,7 @@ ghost use Rattle.byte_formats.specs.Types.{Text};
 ghost use Rattle.disk_core.specs.Disk.{part};
 ghost use Rattle.journal_core.specs.Copies.{HasCopyCause, IsOnlyRead, sized, sized_text};
 ghost use Rattle.journal_core.specs.Ends.{StandBetween};
-ghost use Rattle.journal_core.specs.Format.{AreRecordsAt, IsRecordAt, behind, end_behind};
+ghost use Rattle.journal_core.specs.Format.{AreRecordsAt, IsRecordAt, following, end_following};
 ghost use Rattle.journal_core.specs.Words.{disk_of, end_of};
 
 use crate::error::CopyError;
@@ -135,11 +135,11 @@ fn copy_records<D: Disk, O: Sink>(
     requires { first + 1 ≤ end_of journal.old }
     ensures ok { OnOk result (IfSome (D.contents (disk_of journal.old)) (λ bytes.
         (bodies : List Text) → AreRecordsAt bytes first bodies
-        → end_of journal.old ≡ behind first bodies + 1
+        → end_of journal.old ≡ following first bodies + 1
         → Appends (O.taken out.old) (O.taken out.new) (sized_text bodies))) }
     ensures prefix { IfSome (D.contents (disk_of journal.old)) (λ bytes.
         (bodies : List Text) → AreRecordsAt bytes first bodies
-        → end_of journal.old ≡ behind first bodies + 1
+        → end_of journal.old ≡ following first bodies + 1
         → AppendsPrefix (O.taken out.old) (O.taken out.new) (sized_text bodies)) }
     ensures kept { IsOnlyRead journal.old journal.new }
     ensures cause { HasCopyCause (D.faults (disk_of journal.old)) (O.faults out.old)
@@ -158,12 +158,12 @@ fn copy_records<D: Disk, O: Sink>(
 /// the journal, which an append that fails leaves where it was.
 ///
 /// Errors: `Read` where the disk fails, and `Write` where the sink does. A prefix is written then.
-pub fn copy_behind<D: Disk, O: Sink>(
+pub fn copy_after<D: Disk, O: Sink>(
     journal: &mut Journal<D>,
     from: u64,
     out: &mut O,
 ) -> Result<(), CopyError>
-    requires begun { end_behind [] ≤ from }
+    requires begun { end_following [] ≤ from }
     requires within { from ≤ end_of journal.old }
     ensures ok { OnOk result (IfSome (D.contents (disk_of journal.old)) (λ bytes.
         (bodies : List Text) → StandBetween bytes from (end_of journal.old) bodies

@@ -14,7 +14,7 @@ pub struct Refused<D, E> {
     pub why: E,
 }
 
-pub(crate) fn hand_back<D, E>(disk: D, why: E) -> Refused<D, E>
+pub(crate) fn return_rest<D, E>(disk: D, why: E) -> Refused<D, E>
     ensures disk { result.disk ≡ disk }
     ensures why { result.why ≡ why }
 {

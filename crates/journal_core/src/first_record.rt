@@ -4,14 +4,14 @@ ghost use Rattle.std.specs.Prelude.{◌≡◌, ◌≢◌, ◌≤◌, ◌+◌, []
 ghost use Rattle.std.specs.Prelude.{IfSome, IfOk, IfErr, OnOk};
 ghost use Rattle.mtc_io.specs.Counts.{HasCause};
 ghost use Rattle.disk_core.specs.Disk.{overwritten, part, Only};
-ghost use Rattle.disk_core.specs.Moments.{OnlyReads};
+ghost use Rattle.disk_core.specs.Times.{OnlyReads};
 ghost use Rattle.journal_core.specs.Format.{new_file_of};
 ghost use Rattle.journal_core.specs.Starts.{HasStarted, IsNotStarted};
 
-use crate::error::{Refused, StartError, hand_back};
+use crate::error::{Refused, StartError, return_rest};
 use crate::format::{buffer, pack_first};
 use crate::journal::Journal;
-use disk_core::{Disk, look_len, write_synced};
+use disk_core::{Disk, read_len, write_synced};
 use mtc_io::{Failed, Memory};
 use std::alloc::Global;
 
@@ -73,12 +73,12 @@ impl FirstRecord {
         ensures spared { IfErr result (λ e. IfSome (D.contents disk)
             (λ b. b ≢ [] → OnlyReads D.Disk disk e.disk)) }
     {
-        let length = match look_len(&mut disk) {
+        let length = match read_len(&mut disk) {
             Ok(length) => length,
-            Err(failed) => return Err(hand_back(disk, failed.into())),
+            Err(failed) => return Err(return_rest(disk, failed.into())),
         };
         if length != 0 {
-            return Err(hand_back(disk, StartError::NotEmpty));
+            return Err(return_rest(disk, StartError::NotEmpty));
         }
         match write_first(&mut disk, &self.buffer[..self.size + 22]) {
             Ok(()) => Ok(Journal {
@@ -87,7 +87,7 @@ impl FirstRecord {
                 broken: false,
                 buffer: self.buffer,
             }),
-            Err(failed) => Err(hand_back(disk, failed.into())),
+            Err(failed) => Err(return_rest(disk, failed.into())),
         }
     }
 }
@@ -112,6 +112,6 @@ pub fn start<D: Disk>(
 {
     match FirstRecord::pack(alloc, first) {
         Ok(packed) => packed.start(disk),
-        Err(Memory) => Err(hand_back(disk, StartError::Memory)),
+        Err(Memory) => Err(return_rest(disk, StartError::Memory)),
     }
 }

@@ -3,12 +3,12 @@
 ghost use Rattle.std.specs.Prelude.{◌≡◌, ◌≤◌, ◌+◌, length, take, IfSome, IfOk, OnOk};
 ghost use Rattle.mtc_io.specs.Counts.{HasCause};
 ghost use Rattle.disk_core.specs.Disk.{part};
-ghost use Rattle.disk_core.specs.Moments.{OnlyReads};
+ghost use Rattle.disk_core.specs.Times.{OnlyReads};
 ghost use Rattle.journal_core.specs.Windows.{Holds};
 
 use crate::format::LONGEST_WRITE;
 use crate::window::Window;
-use disk_core::{Disk, look_at};
+use disk_core::{Disk, read_part};
 use mtc_io::Failed;
 
 // Bytes from an offset on, into a prefix of the buffer.
@@ -26,7 +26,7 @@ fn read_prefix<D: Disk>(
     ensures only_reads { OnlyReads D.Disk disk.old disk.new }
     ensures cause { HasCause (D.faults disk.old) (D.faults disk.new) result }
 {
-    look_at(disk, place, &mut buffer[..count])?;
+    read_part(disk, place, &mut buffer[..count])?;
     Ok(())
 }
 

@@ -6,15 +6,16 @@ ghost use Rattle.std.proofs.Props.{props};
 ghost use Rattle.byte_formats.specs.Types.{Text};
 ghost use Rattle.mtc_io.specs.Counts.{HasCause};
 ghost use Rattle.disk_core.specs.Disk.{part};
-ghost use Rattle.disk_core.specs.Moments.{LeavesOnly, OnlyReads};
-ghost use Rattle.journal_core.specs.Format.{end_behind, most_bytes, Represents, RepresentsEither};
+ghost use Rattle.disk_core.specs.Times.{LeavesOnly, OnlyReads};
+ghost use Rattle.journal_core.specs.Format.{end_following, most_bytes, Represents};
+ghost use Rattle.journal_core.specs.Format.{RepresentsEither};
 ghost use Rattle.journal_core.specs.Format.{records_of};
 ghost use Rattle.journal_core.specs.Durable.{IsDurable, IsDurable-prop, Represents-records-prop};
 
 use crate::error::AppendError;
 use crate::format::pack;
 use crate::record::number;
-use disk_core::{Disk, look_at, write_synced};
+use disk_core::{Disk, read_part, write_synced};
 use mtc_io::Failed;
 
 // A journal file has at most so many bytes.
@@ -31,7 +32,7 @@ pub struct Journal<D: Disk> {
     ghost begun: { 17 ≤ end },
     ghost stands: { (b : Text) → D.Disk.contents disk ≡ Some b
         → Represents b (records_of b) } by { Prim.hlevel (props, Represents-records-prop) },
-    ghost settled: { broken ≡ false → (b : Text) → D.Disk.contents disk ≡ Some b
+    ghost is_durable: { broken ≡ false → (b : Text) → D.Disk.contents disk ≡ Some b
         → IsDurable b (D.Disk.may_leave disk) end } by { Prim.hlevel (props, IsDurable-prop) },
 }
 
@@ -85,7 +86,7 @@ impl<D: Disk> Journal<D> {
         ensures cause { HasCause (D.faults (disk_of self.old)) (D.faults (disk_of self.new))
             result }
     {
-        look_at(&mut self.disk, place, out)?;
+        read_part(&mut self.disk, place, out)?;
         Ok(())
     }
 
@@ -115,12 +116,12 @@ impl<D: Disk> Journal<D> {
 
     /// The end after a first record of so many bytes, or that of the journal if it comes first. The
     /// call doesn't read the disk.
-    pub fn end_behind_first(&self, size: u64) -> u64
+    pub fn end_after_first(&self, size: u64) -> u64
         requires { size ≤ 131072 }
-        ensures least { end_behind [] ≤ result }
+        ensures least { end_following [] ≤ result }
         ensures most { result ≤ end_of self.now }
         ensures end { (first : Text) → length first ≡ size
-            → result ≡ min (end_behind (first ∷ [])) (end_of self.now) }
+            → result ≡ min (end_following (first ∷ [])) (end_of self.now) }
     {
         (size + 22).min(self.end)
     }
@@ -146,7 +147,7 @@ impl<D: Disk> Journal<D> {
         ensures full { IsErrOf result AppendError.Full ↔ (is_broken self.old ≡ false)
             × (most_bytes < end_of self.old + 5 + length body.now) }
         ensures contents { is_some (records self.new) ≡ is_some (records self.old) }
-        ensures any_moment { is_broken self.old ≡ false
+        ensures any_time { is_broken self.old ≡ false
             → IfSome (records self.old) (λ list. LeavesOnly D.Disk (disk_of self.old)
             (disk_of self.new) (RepresentsEither list body.now)) }
         ensures count { D.faults (disk_of self.old) ≤ D.faults (disk_of self.new) }

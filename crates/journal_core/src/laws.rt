@@ -2,9 +2,9 @@
 
 ghost use Rattle.std.specs.Prelude.{◌≡◌, ◌≤◌, ℕ, List, length, take, Ok};
 ghost use Rattle.byte_formats.specs.Types.{Text};
-ghost use Rattle.byte_formats.specs.Places.{IsBytes};
+ghost use Rattle.byte_formats.specs.Offsets.{IsBytes};
 ghost use Rattle.disk_core.specs.Disk.{part, Torn};
-ghost use Rattle.journal_core.specs.Folds.{Fold, Found, state_behind, read_by};
+ghost use Rattle.journal_core.specs.Folds.{Fold, Found, state_after, read_by};
 ghost use Rattle.journal_core.specs.Format.{Represents, new_file_of, record_bytes};
 ghost use Rattle.journal_core.specs.Words.{AllRepresent};
 
@@ -40,22 +40,22 @@ pub fn law_writes_have_a_longest()
 /// state.
 pub fn law_files_are_read_by_their_records<S, E>()
     ensures read { (fold : Fold S E) (bytes : Text) (list : List Text) (state : S)
-        → Represents bytes list → state_behind fold list ≡ Ok state
+        → Represents bytes list → state_after fold list ≡ Ok state
         → read_by fold bytes ≡ Ok (record { records = list; state = state }) }
     ensures only { (fold : Fold S E) (bytes : Text) (found : Found S) → IsBytes bytes
         → read_by fold bytes ≡ Ok found
-        → Represents bytes found.records × (state_behind fold found.records ≡ Ok found.state) }
+        → Represents bytes found.records × (state_after fold found.records ≡ Ok found.state) }
 {}
 
 /// For each kind of journal: if every crash state of a disk represents records that make a state, a
 /// crash leaves a file that is read as these; and what a crash at any time leaves is read as a
 /// journal only if it represents records that make its state.
-pub fn law_images_are_read_by_their_records<D: Disk, S, E>()
+pub fn law_crash_states_are_read_by_their_records<D: Disk, S, E>()
     ensures read { (fold : Fold S E) (disk : D) (list : List Text) (state : S)
-        → AllRepresent D.Disk disk list → state_behind fold list ≡ Ok state
-        → (image : Text) → D.may_leave disk image
-        → read_by fold image ≡ Ok (record { records = list; state = state }) }
-    ensures only { (fold : Fold S E) (disk : D) (since : ℕ) (image : Text) (found : Found S)
-        → D.left_since disk since image → read_by fold image ≡ Ok found
-        → Represents image found.records × (state_behind fold found.records ≡ Ok found.state) }
+        → AllRepresent D.Disk disk list → state_after fold list ≡ Ok state
+        → (crash_state : Text) → D.may_leave disk crash_state
+        → read_by fold crash_state ≡ Ok (record { records = list; state = state }) }
+    ensures only { (fold : Fold S E) (disk : D) (since : ℕ) (crash_state : Text) (found : Found S)
+        → D.left_since disk since crash_state → read_by fold crash_state ≡ Ok found
+        → Represents crash_state found.records × (state_after fold found.records ≡ Ok found.state) }
 {}

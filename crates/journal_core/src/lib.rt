@@ -4,7 +4,7 @@
 //! [`start`] begins a journal on an empty disk, [`Opening`] reads one record by record, and
 //! [`Journal::append`] adds one: it writes the record after a closed commit byte, syncs, opens the
 //! commit byte, and syncs. So a crash at any time leaves the records from before, or these and the
-//! new one, and once the call has answered Ok it leaves the latter. [`copy_behind`] writes the
+//! new one, and once the call has answered Ok it leaves the latter. [`copy_after`] writes the
 //! records from one of its ends on to a sink.
 //!
 //! A layer above speaks of lists of records, and may read one again at its offset: a file
@@ -23,7 +23,7 @@ mod opening;
 mod record;
 mod window;
 
-pub use copying::copy_behind;
+pub use copying::copy_after;
 pub use error::{AppendError, CopyError, OpenError, Refused, StartError};
 pub use first_record::{FirstRecord, start};
 pub use format::{HEADER, LONGEST_WRITE, MAX_BODY};

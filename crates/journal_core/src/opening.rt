@@ -6,19 +6,19 @@ ghost use Rattle.std.proofs.Props.{props};
 ghost use Rattle.byte_formats.specs.Types.{Text};
 ghost use Rattle.mtc_io.specs.Counts.{HasCause};
 ghost use Rattle.disk_core.specs.Disk.{Only};
-ghost use Rattle.disk_core.specs.Moments.{OnlyReads};
-ghost use Rattle.journal_core.specs.Format.{header, end_behind, IsClosedAt, Represents};
+ghost use Rattle.disk_core.specs.Times.{OnlyReads};
+ghost use Rattle.journal_core.specs.Format.{header, end_following, IsClosedAt, Represents};
 ghost use Rattle.journal_core.specs.Format.{records_before};
 ghost use Rattle.journal_core.specs.Opens.{HasReason, IsOfHeader};
 ghost use Rattle.journal_core.specs.Windows.{Holds, Holds-prop};
 ghost use Rattle.journal_core.specs.Durable.{IsReading, IsReading-prop, IsClosedAt-prop};
 
-use crate::error::{OpenError, Refused, hand_back};
+use crate::error::{OpenError, Refused, return_rest};
 use crate::format::{HEADER, buffer};
 use crate::journal::Journal;
 use crate::record::{Body, read_record};
 use crate::window::Window;
-use disk_core::{Disk, look_at, look_len, settle};
+use disk_core::{Disk, make_durable, read_len, read_part};
 use mtc_io::{Failed, Memory};
 use std::alloc::Global;
 
@@ -59,7 +59,7 @@ fn read_header<D: Disk>(disk: &mut D) -> Result<bool, Failed>
     ensures cause { HasCause (D.faults disk.old) (D.faults disk.new) result }
 {
     let mut first = [0; 16];
-    look_at(disk, 0, &mut first)?;
+    read_part(disk, 0, &mut first)?;
     Ok(first == HEADER)
 }
 
@@ -73,8 +73,8 @@ fn measure<D: Disk>(disk: &mut D) -> Result<Option<u64>, Failed>
     ensures only_reads { OnlyReads D.Disk disk.old disk.new }
     ensures cause { HasCause (D.faults disk.old) (D.faults disk.new) result }
 {
-    settle(disk)?;
-    let size = look_len(disk)?;
+    make_durable(disk)?;
+    let size = read_len(disk)?;
     if size < 16 {
         return Ok(None);
     }
@@ -84,7 +84,7 @@ fn measure<D: Disk>(disk: &mut D) -> Result<Option<u64>, Failed>
 
 impl<D: Disk> Opening<D> {
     ghost use Rattle.journal_core.specs.Openings.{opening_disk, read_list, is_ended, last_body};
-    ghost use Rattle.journal_core.specs.Openings.{next_place};
+    ghost use Rattle.journal_core.specs.Openings.{next_offset};
     ghost use Rattle.journal_core.specs.Openings.{HasBegun, Steps, Nexts};
     ghost use Rattle.journal_core.specs.contracts.opening.Opening.{the_row};
     ghost use Rattle.std.specs.Borrow.{sem};
@@ -108,12 +108,12 @@ impl<D: Disk> Opening<D> {
     {
         let size = match measure(&mut disk) {
             Ok(Some(size)) => size,
-            Ok(None) => return Err(hand_back(disk, OpenError::NotJournal)),
-            Err(failed) => return Err(hand_back(disk, failed.into())),
+            Ok(None) => return Err(return_rest(disk, OpenError::NotJournal)),
+            Err(failed) => return Err(return_rest(disk, failed.into())),
         };
         let buffer = match buffer(alloc) {
             Ok(buffer) => buffer,
-            Err(Memory) => return Err(hand_back(disk, OpenError::Memory)),
+            Err(Memory) => return Err(return_rest(disk, OpenError::Memory)),
         };
         Ok(Opening {
             disk,
@@ -152,10 +152,10 @@ impl<D: Disk> Opening<D> {
     }
 
     /// The offset of the next commit byte, after the records that were read. The length of the next
-    /// body stands one byte further on. What a journal calls its end lies there too.
+    /// body stands one byte further on. `Journal::end` is one byte further on, too.
     pub fn place(&self) -> u64
-        ensures value { result ≡ next_place self.now }
-        ensures list { IfSome (read_list self.now) (λ list. result + 1 ≡ end_behind list) }
+        ensures value { result ≡ next_offset self.now }
+        ensures list { IfSome (read_list self.now) (λ list. result + 1 ≡ end_following list) }
     {
         self.place
     }
@@ -166,9 +166,9 @@ impl<D: Disk> Opening<D> {
         ensures list { records result ≡ read_list self }
         ensures disk { disk_of result ≡ opening_disk self }
         ensures sound { is_broken result ≡ false }
-        ensures place { end_of result ≡ next_place self + 1 }
+        ensures place { end_of result ≡ next_offset self + 1 }
         ensures all { IfSome (records result) (AllRepresent D.Disk (disk_of result)) }
-        ensures end { IfSome (records result) (λ list. end_of result ≡ end_behind list) }
+        ensures end { IfSome (records result) (λ list. end_of result ≡ end_following list) }
     {
         Journal {
             disk: self.disk,

@@ -59,9 +59,9 @@ one_more number before size sizes below small at_zero few others = record {
         → get_or (size ∷ sizes) (i + 1) 0 < get_or (size ∷ sizes) i 0
     each_falls zero more = others.first (omega arith)
     each_falls (suc i) more =
-        let behind : suc i + 1 ≡ suc (i + 1) = omega arith in
+        let following : suc i + 1 ≡ suc (i + 1) = omega arith in
         let next : get_or (size ∷ sizes) (suc i + 1) 0 ≡ get_or sizes (i + 1) 0 =
-        ap (λ k. get_or (size ∷ sizes) k 0) behind in
+        ap (λ k. get_or (size ∷ sizes) k 0) following in
         let step = others.falls i (omega arith) in
         omega arith
 
@@ -172,11 +172,11 @@ without_first number before size sizes fits =
       falls = λ i more.
           let step = fits.falls (i + 1) (omega arith) in
           let place : i + 1 ≡ suc i = omega arith in
-          let behind : i + 1 + 1 ≡ suc (i + 1) = omega arith in
+          let following : i + 1 + 1 ≡ suc (i + 1) = omega arith in
           let upper : get_or (size ∷ sizes) (i + 1) 0 ≡ get_or sizes i 0 =
           ap (λ k. get_or (size ∷ sizes) k 0) place in
           let lower : get_or (size ∷ sizes) (i + 1 + 1) 0 ≡ get_or sizes (i + 1) 0 =
-          ap (λ k. get_or (size ∷ sizes) k 0) behind in
+          ap (λ k. get_or (size ∷ sizes) k 0) following in
           omega arith;
       zero = last_zero number fits;
     }

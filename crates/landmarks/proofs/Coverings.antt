@@ -65,7 +65,7 @@ are_above index [] falls = record {
   below = λ i here. omega arith;
 }
 are_above index (size ∷ sizes) falls =
-    let behind : (i : ℕ) → i + 1 < length sizes → get_or sizes (i + 1) 0 < get_or sizes i 0 =
+    let following : (i : ℕ) → i + 1 < length sizes → get_or sizes (i + 1) 0 < get_or sizes i 0 =
     λ i more.
     let step = falls (i + 1) (omega arith) in
     let place : i + 1 ≡ suc i = omega arith in
@@ -75,7 +75,7 @@ are_above index (size ∷ sizes) falls =
     let lower : get_or (size ∷ sizes) (i + 1 + 1) 0 ≡ get_or sizes (i + 1) 0 =
     ap (λ k. get_or (size ∷ sizes) k 0) next in
     omega arith in
-    let others = are_above index sizes behind in
+    let others = are_above index sizes following in
     let p : ℕ = count_by (λ s. nat_lt index s) sizes in
     let P : ℕ → Type 0 = λ k. AreAbove index k (size ∷ sizes) in
     let same : p ≡ 0 + p = omega arith in
@@ -144,8 +144,8 @@ second_part : (start end index : ℕ) (first : Span) (second : Option Span)
     → MatchOption second (first.end ≡ end)
     (λ s. (s.start ≡ first.end) × ((s.end ≡ end) × IsSubtree s.start s.end))
     → IsPart end index (or_second second first)
-second_part start end index first None behind within last = absurd (omega arith)
-second_part start end index first (Some second) behind within parts = record {
+second_part start end index first None following within last = absurd (omega arith)
+second_part start end index first (Some second) following within parts = record {
   subtree = parts.1.1;
   from = omega (arith, parts.0);
   below = omega (arith, parts.1.0);

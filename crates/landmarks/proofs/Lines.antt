@@ -58,10 +58,10 @@ head_lacks last active small few i here =
     let same = get_or-append_right (decimal last) (0x20 ∷ decimal active) (length (decimal last)) i
     0 refl back in
     let long = length-append (decimal last) (0x20 ∷ decimal active) in
-    let other = behind (i - length (decimal last)) (omega arith) in λ e. other (sym same ∙ e))
+    let other = following (i - length (decimal last)) (omega arith) in λ e. other (sym same ∙ e))
     (cases_lt i (length (decimal last)))
   where
-    behind : (k : ℕ) → k < length (0x20 ∷ decimal active)
+    following : (k : ℕ) → k < length (0x20 ∷ decimal active)
         → get_or (0x20 ∷ decimal active) k 0 ≢ 0x0A
-    behind zero within = λ e. absurd (omega (arith, e))
-    behind (suc k) within = decimal_lacks 0x0A active (omega arith) few k (omega arith)
+    following zero within = λ e. absurd (omega (arith, e))
+    following (suc k) within = decimal_lacks 0x0A active (omega arith) few k (omega arith)

@@ -98,10 +98,10 @@ fn read_sizes<'a>(head: Head<'a>, sizes: &mut Vec<u64>) -> Result<&'a [u8], List
     let mut rest = head.rest;
     let mut before = 1 << 63;
     for place in 0..head.active + 1 {
-        let (size, behind) = size_line(rest, place as usize + 1, head.last - place, before)?;
+        let (size, following) = size_line(rest, place as usize + 1, head.last - place, before)?;
         push(sizes, size)?;
         before = size;
-        rest = behind;
+        rest = following;
     }
     Ok(rest)
 }

@@ -96,14 +96,14 @@ type_of_code-typecode W8 = refl
 pub finished_end : (t : OtsType) (id : Text) (q : ℕ) (seed coded s : Text) (i : ℕ)
     → value_at s (36 + 32 * i) ≡ signed_link t id q seed coded i
     → finished_link t id q coded s i ≡ chain_end t id q seed i
-finished_end t id q seed coded s i told =
+finished_end t id q seed coded s i reported =
     let p = chain_prefix id q i in
     let d = digit t coded i in
     let all : d + (steps t - d) ≡ steps t = omega (arith, digit_small t coded i) in
     let on : chain p (0 + d) (steps t - d) (chain p 0 d (secret_start id q seed i))
     ≡ chain p 0 (d + (steps t - d)) (secret_start id q seed i) =
     chain-add p 0 d (steps t - d) (secret_start id q seed i) in
-    rw told (rw (zero-add, all) at on)
+    rw reported (rw (zero-add, all) at on)
 
 -- the parts of a signature, after its first 36 bytes
 pub signature-part : (code c : Text) (f : ℕ → Text) (n i : ℕ) → length code ≡ 4 → length c ≡ 32
@@ -174,8 +174,8 @@ signature_yields_key t id seed message q =
     let c = randomizer id q seed in
     let coded = coded_hash t (message_hash id q c message) in
     let code = to_be_bytes w32 (typecode t) in
-    let told = signed_link t id q seed coded in
-    let links = concatenated told (chains t) in
+    let reported = signed_link t id q seed coded in
+    let links = concatenated reported (chains t) in
     let size = length-secret_start id q seed 65533 in
     let sizes = length-signed_link t id q seed coded in
     let kept : value_at (code ++ c ++ links) 4 ≡ c = second_part code c links refl size in
@@ -184,5 +184,5 @@ signature_yields_key t id seed message q =
     let ends = concatenated-same (finished_link t id q coded (code ++ c ++ links))
     (chain_end t id q seed) (chains t)
     (λ i below. finished_end t id q seed coded (code ++ c ++ links) i
-    (signature-part code c told (chains t) i refl size sizes below)) in
+    (signature-part code c reported (chains t) i refl size sizes below)) in
     whole ∙ ap Some (rw (kept, ends) refl)

@@ -8,7 +8,7 @@ use Rattle.byte_formats.specs.Types.{Text}
 use Rattle.lmots_core.specs.Strings.{value_at}
 use Rattle.lms_core.specs.declared.private_key.PrivateKey.{PrivateKey}
 use Rattle.lms_core.specs.Trees.{climbed, parent, sibling, tree_value}
-use Rattle.lms_core.proofs.Places.{div_pow}
+use Rattle.lms_core.proofs.Indices.{div_pow}
 
 -- a node and its sibling give their parent
 pub parent-tree_value : (k : PrivateKey) (d n : ℕ)

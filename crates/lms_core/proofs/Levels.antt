@@ -12,7 +12,7 @@ use Rattle.lms_core.specs.declared.private_key.PrivateKey.{PrivateKey}
 use Rattle.lms_core.specs.Heights.{height}
 use Rattle.lms_core.specs.Trees.{inner_node, leaf_node, path_node, sibling, tree_value}
 use Rattle.lms_core.specs.Held.{HoldsNodes, HoldsFrom}
-use Rattle.lms_core.proofs.Places.{pow_half, pow_most, sibling_within}
+use Rattle.lms_core.proofs.Indices.{pow_half, pow_most, sibling_within}
 
 -- every node has 32 bytes
 pub length-tree_value : (k : PrivateKey) (d r : ℕ) → length (tree_value k d r) ≡ 32

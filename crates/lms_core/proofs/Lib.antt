@@ -1,4 +1,4 @@
-pub mod Places
+pub mod Indices
 pub mod Levels
 pub mod Parts
 pub mod Climbs

@@ -19,7 +19,7 @@ use Rattle.lms_core.specs.declared.heights.LmsType.TheVariants.{H5, H10, H15, H2
 use Rattle.lms_core.specs.declared.private_key.PrivateKey.{PrivateKey}
 use Rattle.lms_core.specs.Heights.{height, lms_code, lms_signature_length, lms_type_of_code}
 use Rattle.lms_core.specs.Trees.{lms_public, lms_signature, path_node, private_key, tree_value}
-use Rattle.lms_core.specs.Refusals.{check_refusal, front_types, key_types, level_refusal}
+use Rattle.lms_core.specs.Refusals.{check_refusal, prefix_types, key_types, level_refusal}
 use Rattle.lms_core.specs.Refusals.{lms_refusal, root_of_key, types_of, yields_root}
 use Rattle.lms_core.specs.Refusals.{SignatureVerifies}
 use Rattle.lms_core.proofs.Climbs.{climbed-tree_value, top}
@@ -178,21 +178,21 @@ lms_signature-path k q message =
     (length-before_path k q message)
 
 -- bytes that are long enough for their typecodes begin with a signature
-front_types-long : (l : LmsType) (t : OtsType) (s : Text) → lms_signature_length l t ≤ length s
+prefix_types-long : (l : LmsType) (t : OtsType) (s : Text) → lms_signature_length l t ≤ length s
     → u32_at s 4 ≡ typecode t → u32_at s (4 + signature_length t) ≡ lms_code l
-    → front_types s ≡ Some (l, t)
-unfolding front_types
-front_types-long l t s long once tree =
+    → prefix_types s ≡ Some (l, t)
+unfolding prefix_types
+prefix_types-long l t s long once tree =
     let first = le-ltb (length s) 8 (omega arith) in
     let second = le-ltb (length s) (8 + signature_length t) (omega arith) in
     let third = le-ltb (length s) (lms_signature_length l t) long in
     rw (first, once, type_of_code-typecode t, second, tree, lms_type_of_code-lms_code l, third) refl
 
 -- whatever follows a signature
-pub front_types-append : (k : PrivateKey) (q : ℕ) (message rest : Text)
-    → front_types (lms_signature k q message ++ rest) ≡ Some (k.lms, k.ots)
-front_types-append k q message rest =
-    front_types-long k.lms k.ots (lms_signature k q message ++ rest)
+pub prefix_types-append : (k : PrivateKey) (q : ℕ) (message rest : Text)
+    → prefix_types (lms_signature k q message ++ rest) ≡ Some (k.lms, k.ots)
+prefix_types-append k q message rest =
+    prefix_types-long k.lms k.ots (lms_signature k q message ++ rest)
     (omega (
       arith,
       length-append (lms_signature k q message) rest,
@@ -200,9 +200,9 @@ front_types-append k q message rest =
     ))
     (lms_signature-ots k q message rest) (lms_signature-lms k q message rest)
 
-pub front_types-lms_signature : (k : PrivateKey) (q : ℕ) (message : Text)
-    → front_types (lms_signature k q message) ≡ Some (k.lms, k.ots)
-front_types-lms_signature k q message = rw append-nil at (front_types-append k q message [])
+pub prefix_types-lms_signature : (k : PrivateKey) (q : ℕ) (message : Text)
+    → prefix_types (lms_signature k q message) ≡ Some (k.lms, k.ots)
+prefix_types-lms_signature k q message = rw append-nil at (prefix_types-append k q message [])
 
 -- ---- the root
 
@@ -252,7 +252,7 @@ check_refusal-lms_signature k q message size below =
     let once = eq-eqb (typecode k.ots) (u32_at (lms_public k) 4) (sym (lms_public-types k).1) in
     let index = lt-ltb q (2 ^ height k.lms) below in
     rw (
-      front_types-lms_signature k q message,
+      prefix_types-lms_signature k q message,
       whole,
       tree,
       once,

@@ -47,8 +47,8 @@ prefix_with (Some t) s =
 -- The types of the signature that the bytes begin with: the one-time typecode stands at offset 4,
 -- that of the tree after the one-time signature. None where the bytes begin with no whole
 -- signature.
-unfoldable pub front_types : Text → Option (LmsType × OtsType)
-front_types s = if nat_lt (length s) 8 then None else prefix_with (type_of_code (u32_at s 4)) s
+unfoldable pub prefix_types : Text → Option (LmsType × OtsType)
+prefix_types s = if nat_lt (length s) 8 then None else prefix_with (type_of_code (u32_at s 4)) s
 
 -- The root that a signature leads to from the candidate key of its leaf.
 abbrev pub root_of_key : LmsType → OtsType → Text → Text → Hash → Hash
@@ -86,7 +86,7 @@ refusal_with key message (Some (l, t)) s =
 
 -- The same of any bytes: they must be one whole signature.
 unfoldable pub check_refusal : Text → Text → Text → Option SigError
-check_refusal key message s = refusal_with key message (front_types s) s
+check_refusal key message s = refusal_with key message (prefix_types s) s
 
 abbrev pub refusal_under : Option (LmsType × OtsType) → Text → Text → Text → Option SigError
 refusal_under None key message s = Some BadKey

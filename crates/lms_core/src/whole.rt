@@ -2,7 +2,7 @@
 
 ghost use Rattle.std.specs.Prelude.{◌≡◌, ◌≤◌, length, IfSome, Some};
 ghost use Rattle.lms_core.specs.Heights.{lms_signature_length};
-ghost use Rattle.lms_core.specs.Refusals.{front_types, prefix_with};
+ghost use Rattle.lms_core.specs.Refusals.{prefix_types, prefix_with};
 
 use crate::heights::LmsType;
 use lmots_core::{OtsType, read_u32};
@@ -30,9 +30,9 @@ fn prefix_with(ots: OtsType, bytes: &[u8]) -> Option<(LmsType, OtsType)>
 
 /// The types of the signature that the bytes begin with, by its own typecodes; `None` where they
 /// begin with no whole signature. The bytes after it are not read.
-#[tactic(auto, unfolding(crate::specs::Refusals::front_types))]
+#[tactic(auto, unfolding(crate::specs::Refusals::prefix_types))]
 pub fn prefix(bytes: &[u8]) -> Option<(LmsType, OtsType)>
-    ensures types { result ≡ front_types bytes.now }
+    ensures types { result ≡ prefix_types bytes.now }
     ensures within { IfSome result (λ k. lms_signature_length k.0 k.1 ≤ length bytes.now) }
 {
     if bytes.len() < 8 {

@@ -5,7 +5,7 @@ use Rattle.std.proofs.Common.{arith, inl, inr, lit<, eqb-true, eq-eqb}
 use Rattle.std.specs.Prelude.{◌==◌, if◌then◌else◌}
 use Rattle.std.proofs.lemmas.List.{nil_from_length}
 use Rattle.byte_formats.specs.Types.{Text}
-use Rattle.byte_formats.specs.Places.{At, IsBytes, at}
+use Rattle.byte_formats.specs.Offsets.{At, IsBytes, at}
 use Rattle.byte_formats.specs.Readings.{◌>>=◌, lifted, mapped_at, Gives}
 use Rattle.byte_formats.specs.Forms.{IsForm, Anything, Nothing, itself, both, FitsBoth}
 use Rattle.byte_formats.proofs.Steps.{bind_ok, chosen, pass_ok, ok_is, lifted_ok, IsBytes-rest}
@@ -49,12 +49,12 @@ key_hash_form =
 
 -- ---- the body
 
-abbrev moments_text : Text × Period → Text
-moments_text v = v.0
+abbrev unix_times_text : Text × Period → Text
+unix_times_text v = v.0
 
 abbrev fields_text : Fields → Text
 fields_text = both version_text (both itself
-    (both moments_text (both itself (both key_hash_text itself))))
+    (both unix_times_text (both itself (both key_hash_text itself))))
 
 abbrev AreFields : Fields → Type 0
 AreFields = FitsBoth NoValue (FitsBoth IsName

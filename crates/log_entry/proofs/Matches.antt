@@ -4,7 +4,7 @@ use Rattle.std.proofs.Common.{◌∙◌}
 use Rattle.std.proofs.lemmas.Bool.{and_parts}
 use Rattle.std.proofs.lemmas.Slice.Eq.{bytes_eq-Decides}
 use Rattle.byte_formats.specs.Types.{Text, HashFunction}
-use Rattle.byte_formats.specs.Places.{IsBytes}
+use Rattle.byte_formats.specs.Offsets.{IsBytes}
 use Rattle.cert_time.specs.Times.{validity_element}
 use Rattle.cert_fields.specs.Certificate.{Parts}
 use Rattle.cert_fields.specs.Keys.{is_public_key}

@@ -2,7 +2,7 @@
 use Rattle.std.specs.Prelude.{ℕ, ◌+◌, ◌*◌, ◌==◌, Bool, [], ◌∷◌, length, Option, Some, None, Result}
 use Rattle.std.specs.Prelude.{Ok, Err, if◌then◌else◌}
 use Rattle.byte_formats.specs.Types.{Text, Hash}
-use Rattle.byte_formats.specs.Places.{At, at}
+use Rattle.byte_formats.specs.Offsets.{At, at}
 use Rattle.byte_formats.specs.Readings.{Reading, ◌>>=◌, lifted, lifted_at, both_at, mapped_at}
 use Rattle.byte_formats.specs.Readings.{tested_at}
 use Rattle.der_core.specs.Reading.{end_at}

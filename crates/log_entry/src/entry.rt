@@ -26,7 +26,7 @@ pub struct TbsEntry<'a> {
 }
 
 /// The parts of an entry that is to be written. Issuer, subject and extensions are whole elements;
-/// no bytes represent absent extensions.
+/// extensions are no bytes if they are absent.
 #[derive(Clone, Copy, Debug)]
 pub struct EntryParts<'a> {
     pub issuer: &'a [u8],

@@ -2,7 +2,7 @@
 
 ghost use Rattle.std.specs.Prelude.{◌≡◌, length, Option, Some, Ok, true};
 ghost use Rattle.byte_formats.specs.Types.{Text, HashFunction};
-ghost use Rattle.byte_formats.specs.Places.{IsBytes};
+ghost use Rattle.byte_formats.specs.Offsets.{IsBytes};
 ghost use Rattle.cert_fields.specs.Certificate.{Parts};
 ghost use Rattle.cert_fields.specs.Grammar.{IsPublicKey, IsCertificate};
 ghost use Rattle.log_entry.specs.Entries.{TbsParts, tbs_text, IsTbs, entry_text, IsEntry};

@@ -1,7 +1,7 @@
 //! Reading an entry.
 
 ghost use Rattle.std.specs.Prelude.{◌≡◌, ◌≤◌, length, IfOk, Ok, Option};
-ghost use Rattle.byte_formats.specs.Places.{at};
+ghost use Rattle.byte_formats.specs.Offsets.{at};
 ghost use Rattle.byte_formats.specs.Readings.{Gives, Moves, both_at};
 ghost use Rattle.cert_fields.specs.Extensions.{extensions_at};
 ghost use Rattle.cert_fields.specs.Names.{name_at};
@@ -29,9 +29,7 @@ fn key_hash<'a>(reader: &mut Reader<'a>) -> Result<&'a [u8], EntryError>
 }
 
 // The subject, the hash of the public key and the extensions.
-fn behind_validity<'a>(
-    reader: &mut Reader<'a>,
-) -> Result<(&'a [u8], &'a [u8], &'a [u8]), EntryError>
+fn after_validity<'a>(reader: &mut Reader<'a>) -> Result<(&'a [u8], &'a [u8], &'a [u8]), EntryError>
     ensures { Moves (λ x. (x.0.now, (x.1.now, x.2.now))) (both_at (field_at name_at)
         (both_at key_hash_at (field_at extensions_at))) reader.old result reader.new }
 {
@@ -51,7 +49,7 @@ fn body(entry: &[u8]) -> Result<TbsEntry<'_>, EntryError>
     read_version(&mut reader)?;
     let issuer = read_name(&mut reader)?;
     let (validity_der, validity) = read_validity(&mut reader)?;
-    let (subject, key_hash, extensions) = behind_validity(&mut reader)?;
+    let (subject, key_hash, extensions) = after_validity(&mut reader)?;
     reader.end()?;
     Ok(TbsEntry {
         issuer,

@@ -21,7 +21,7 @@ use Rattle.monitor_core.proofs.Letters.{decimal_bytes, hex_lacks, id_bytes, is_i
 use Rattle.monitor_core.proofs.Letters.{lacks_append, lacks_cons, lacks_failing, lacks_none}
 use Rattle.monitor_core.proofs.Letters.{name_lacks}
 use Rattle.monitor_core.proofs.Skips.{no_line, skips_one}
-use Rattle.monitor_core.specs.Reading.{behind_report, behind_report_line, is_report_word, last_line}
+use Rattle.monitor_core.specs.Reading.{after_report, after_report_line, is_report_word, last_line}
 use Rattle.monitor_core.specs.Reading.{lower_hash_in, lower_only, peak_in, peaks_in, state_in}
 use Rattle.monitor_core.specs.Reading.{state_words, word_end}
 use Rattle.monitor_core.specs.Report.{Findings}
@@ -50,9 +50,9 @@ peak_again hash rest is =
     let long : length digits ≡ 64 = omega arith in
     let both = length-append digits rest in
     let enough : nat_le 65 (length (0x20 ∷ (digits ++ rest))) ≡ true = le-leb 65 _ (omega arith) in
-    let front : take 64 (digits ++ rest) ≡ digits = take_at digits rest 64 long in
+    let prefix : take 64 (digits ++ rest) ≡ digits = take_at digits rest 64 long in
     let back : drop 64 (digits ++ rest) ≡ rest = drop_at digits rest 64 long in
-    rw (enough, front, hash_again hash is, back) refl
+    rw (enough, prefix, hash_again hash is, back) refl
 
 peaks_again : (peaks : List Hash) → AllByRecursion IsHash peaks
     → peaks_in (length peaks) (flat_map peak_text peaks) ≡ Some peaks
@@ -143,7 +143,7 @@ module _ (s : MonitorState) (kept : IsKept s) where
   words_again n =
       let digits : Text = decimal s.size in
       let back : Text = flat_map peak_text s.peaks in
-      let front : take (length digits) (sized s) ≡ digits =
+      let prefix : take (length digits) (sized s) ≡ digits =
       take_at digits back (length digits) refl in
       let rest : drop (length digits) (sized s) ≡ back = drop_at digits back (length digits) refl in
       let peaks : peaks_in (count_ones s.size) back ≡ Some s.peaks =
@@ -152,7 +152,7 @@ module _ (s : MonitorState) (kept : IsKept s) where
         log_is,
         text_again s.log kept.log,
         end_is,
-        front,
+        prefix,
         decimal_is_number s.size kept.size,
         rest,
         peaks,
@@ -162,28 +162,28 @@ module _ (s : MonitorState) (kept : IsKept s) where
   unfolding last_line
   last_again n = rw (line_is, word_is, words_again n) refl
 
-  no_report : behind_report_line (first_line (state_text s)) ≡ None
+  no_report : after_report_line (first_line (state_text s)) ≡ None
   no_report = rw (line_is, word_is) refl
 
 -- ---- the lines of a report
 
-spaced : (front back more : Text)
-    → (front ++ (0x20 ∷ (back ++ 0x0A ∷ []))) ++ more ≡ (front ++ (0x20 ∷ back)) ++ (0x0A ∷ more)
-spaced front back more =
-    append_assoc front (0x20 ∷ (back ++ 0x0A ∷ [])) more
-    ∙ ap (λ t. front ++ (0x20 ∷ t)) (append_assoc back (0x0A ∷ []) more)
-    ∙ sym (append_assoc front (0x20 ∷ back) (0x0A ∷ more))
+spaced : (prefix back more : Text)
+    → (prefix ++ (0x20 ∷ (back ++ 0x0A ∷ []))) ++ more ≡ (prefix ++ (0x20 ∷ back)) ++ (0x0A ∷ more)
+spaced prefix back more =
+    append_assoc prefix (0x20 ∷ (back ++ 0x0A ∷ [])) more
+    ∙ ap (λ t. prefix ++ (0x20 ∷ t)) (append_assoc back (0x0A ∷ []) more)
+    ∙ sym (append_assoc prefix (0x20 ∷ back) (0x0A ∷ more))
 
 -- a word of a report, a space, and what has no newline
 word_line : (word tail more : Text) → list_all is_visible word ≡ true → Lacks 0x0A tail
     → is_report_word word ≡ true
-    → behind_report_line (first_line ((word ++ (0x20 ∷ tail)) ++ (0x0A ∷ more))) ≡ Some more
+    → after_report_line (first_line ((word ++ (0x20 ∷ tail)) ++ (0x0A ∷ more))) ≡ Some more
 word_line word tail more visible lacks report =
-    let front : Text = word ++ (0x20 ∷ tail) in
-    let line : first_line (front ++ (0x0A ∷ more)) ≡ Some (front, more) =
-    cut_again 0x0A front more (lacks_append 0x0A word (0x20 ∷ tail) (name_lacks word visible)
+    let prefix : Text = word ++ (0x20 ∷ tail) in
+    let line : first_line (prefix ++ (0x0A ∷ more)) ≡ Some (prefix, more) =
+    cut_again 0x0A prefix more (lacks_append 0x0A word (0x20 ∷ tail) (name_lacks word visible)
     (lacks_cons 0x0A 0x20 tail (λ same. absurd (omega (arith, same))) lacks)) in
-    let cut : cut_at 0x20 front ≡ Some (word, tail) =
+    let cut : cut_at 0x20 prefix ≡ Some (word, tail) =
     cut_again 0x20 word tail (lacks_failing is_visible 0x20 word refl visible) in
     rw (line, cut, report) refl
 
@@ -199,24 +199,24 @@ tail_lacks index name small lacks =
 
 -- the line of a match is one of these
 match_again : (index : ℕ) (name more : Text) → index < 2 ^ 64
-    → behind_report_line (first_line (match_text index name ++ more)) ≡ Some more
+    → after_report_line (first_line (match_text index name ++ more)) ≡ Some more
 match_again index name more small =
     ⊎_elim
     (λ (visible : list_all is_visible name ≡ true).
-    ap (λ t. behind_report_line (first_line (t ++ more))) (cond-true _
+    ap (λ t. after_report_line (first_line (t ++ more))) (cond-true _
     (codes "match " ++ (decimal index ++ (codes " " ++ (name ++ codes "\n"))))
     (codes "match-hex " ++ (decimal index ++ (codes " " ++ (encode_lower name ++ codes "\n"))))
     visible)
-    ∙ ap (λ t. behind_report_line (first_line (codes "match " ++ t)))
+    ∙ ap (λ t. after_report_line (first_line (codes "match " ++ t)))
     (spaced (decimal index) name more)
     ∙ word_line (codes "match") (decimal index ++ (0x20 ∷ name)) more refl
     (tail_lacks index name small (name_lacks name visible)) refl)
     (λ (other : list_all is_visible name ≡ false).
-    ap (λ t. behind_report_line (first_line (t ++ more))) (cond-false _
+    ap (λ t. after_report_line (first_line (t ++ more))) (cond-false _
     (codes "match " ++ (decimal index ++ (codes " " ++ (name ++ codes "\n"))))
     (codes "match-hex " ++ (decimal index ++ (codes " " ++ (encode_lower name ++ codes "\n"))))
     other)
-    ∙ ap (λ t. behind_report_line (first_line (codes "match-hex " ++ t)))
+    ∙ ap (λ t. after_report_line (first_line (codes "match-hex " ++ t)))
     (spaced (decimal index) (encode_lower name) more)
     ∙ word_line (codes "match-hex") (decimal index ++ (0x20 ∷ encode_lower name)) more refl
     (tail_lacks index (encode_lower name) small
@@ -224,10 +224,10 @@ match_again index name more small =
     (cases_Bool (list_all is_visible name))
 
 line_again : (line : Line) (more : Text) → IsIndexed line
-    → behind_report_line (first_line (line_text line ++ more)) ≡ Some more
+    → after_report_line (first_line (line_text line ++ more)) ≡ Some more
 line_again (Match index name) more small = match_again index name more small
 line_again (Unread index) more small =
-    ap (λ t. behind_report_line (first_line (codes "unread " ++ t)))
+    ap (λ t. after_report_line (first_line (codes "unread " ++ t)))
     (append_assoc (decimal index) (0x0A ∷ []) more)
     ∙ word_line (codes "unread") (decimal index) more refl (index_lacks index small) refl
 
@@ -250,7 +250,7 @@ lines_some (line ∷ lines) =
 
 module _ (s : MonitorState) (kept : IsKept s) where
   report_again : (lines : List Line) (left n : ℕ) → AllByRecursion IsIndexed lines
-      → behind_report (length lines + left) n (flat_map line_text lines ++ state_text s)
+      → after_report (length lines + left) n (flat_map line_text lines ++ state_text s)
       ≡ (n + length lines, state_text s)
   report_again [] left n small =
       let same : n ≡ n + 0 = omega arith in
@@ -259,9 +259,9 @@ module _ (s : MonitorState) (kept : IsKept s) where
       let rest : Text = flat_map line_text lines ++ state_text s in
       let count : suc (length lines) + left ≡ suc (length lines + left) = omega arith in
       let last : n + 1 + length lines ≡ n + suc (length lines) = omega arith in
-      ap (λ k. behind_report k n
+      ap (λ k. after_report k n
       ((line_text line ++ flat_map line_text lines) ++ state_text s)) count
-      ∙ ap (behind_report (suc (length lines + left)) n)
+      ∙ ap (after_report (suc (length lines + left)) n)
       (append_assoc (line_text line) (flat_map line_text lines) (state_text s))
       ∙ skips_one (length lines + left) n (line_text line ++ rest) rest
       (line_again line rest small.0)
@@ -278,9 +278,9 @@ found_again found kept small =
     let both = length-append lines (state_text found.state) in
     let left : ℕ = length text - length found.lines in
     let count : length text ≡ length found.lines + left = omega arith in
-    let passed : behind_report (length text) 0 text
+    let passed : after_report (length text) 0 text
     ≡ (0 + length found.lines, state_text found.state) =
-    ap (λ k. behind_report k 0 text) count
+    ap (λ k. after_report k 0 text) count
     ∙ report_again found.state kept found.lines left 0 small in
     ap (λ (p : ℕ × Text). last_line p.0 p.1) passed
     ∙ last_again found.state kept (0 + length found.lines)
@@ -296,13 +296,13 @@ pub stated_again : (s : MonitorState) (text none : Text) → IsKept s → none �
 stated_again s text none kept empty is =
     ap state_in (is ∙ ap (λ t. t ++ state_text s) empty) ∙ state_again s kept
 
-pub found_so : (found : Findings) (text front none : Text) (lines : List Line)
+pub found_so : (found : Findings) (text prefix none : Text) (lines : List Line)
     (state : MonitorState) → IsKept found.state → AllByRecursion IsIndexed found.lines
     → lines ≡ found.lines → state ≡ found.state → none ≡ []
-    → front ≡ none ++ flat_map line_text lines → text ≡ front ++ state_text state
+    → prefix ≡ none ++ flat_map line_text lines → text ≡ prefix ++ state_text state
     → state_in text ≡ Ok found.state
 unfolding found_text
-found_so found text front none lines state kept small same_lines same_state empty first last =
+found_so found text prefix none lines state kept small same_lines same_state empty first last =
     ap state_in (last
     ∙ ap (λ t. t ++ state_text state) (first ∙ ap (λ t. t ++ flat_map line_text lines) empty
     ∙ ap (λ (ls : List Line). flat_map line_text ls) same_lines)

@@ -13,7 +13,7 @@ use Rattle.std.proofs.lemmas.List.Folds.{list_all-append}
 use Rattle.std.proofs.lemmas.Str.{IsUtf8-from_ascii}
 use Rattle.hex.specs.Hex.{encode_lower, encode_with, hex_digit_value, lower_digits}
 use Rattle.hex.proofs.HexLemmas.{IsDigits-lower_digits}
-use Rattle.byte_formats.specs.Places.{IsBytes}
+use Rattle.byte_formats.specs.Offsets.{IsBytes}
 use Rattle.byte_formats.specs.Readings.{blamed}
 use Rattle.byte_formats.specs.Types.{Text}
 use Rattle.tls_wire.specs.Anchors.{anchor_text, text_of}
@@ -30,12 +30,12 @@ use Rattle.monitor_core.specs.declared.error.TextError.TheVariants.{BadLine}
 pub lacks_none : (mark : ℕ) → Lacks mark []
 lacks_none mark i here = absurd (omega arith)
 
-pub lacks_append : (mark : ℕ) (front back : Text) → Lacks mark front → Lacks mark back
-    → Lacks mark (front ++ back)
+pub lacks_append : (mark : ℕ) (prefix back : Text) → Lacks mark prefix → Lacks mark back
+    → Lacks mark (prefix ++ back)
 lacks_append mark [] back one other i here = other i here
-lacks_append mark (x ∷ front) back one other zero here = one 0 (omega arith)
-lacks_append mark (x ∷ front) back one other (suc i) here =
-    lacks_append mark front back (λ k inside. one (suc k) (omega arith)) other i (omega arith)
+lacks_append mark (x ∷ prefix) back one other zero here = one 0 (omega arith)
+lacks_append mark (x ∷ prefix) back one other (suc i) here =
+    lacks_append mark prefix back (λ k inside. one (suc k) (omega arith)) other i (omega arith)
 
 pub lacks_cons : (mark x : ℕ) (rest : Text) → x ≢ mark → Lacks mark rest → Lacks mark (x ∷ rest)
 lacks_cons mark x rest other lacks zero here = other

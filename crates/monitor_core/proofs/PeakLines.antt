@@ -97,9 +97,9 @@ later_fault n left text done e all same some fault = go (peak_in text) refl faul
   where
     go : (o : Option (Hash × Text)) → peak_in text ≡ o → some_or (BadLine n) o ≡ Err e
         → some_or (BadLine n) all ≡ Err e
-    go None is told =
+    go None is reported =
         let why : BadLine n ≡ e = cc in
         ap (λ (o : Option (List Hash)). some_or (BadLine n) o)
         (sym same ∙ later_fails left text done some is)
         ∙ ap (λ (d : TextError). Err d) why
-    go (Some peak) is told = absurd cc
+    go (Some peak) is reported = absurd cc

@@ -12,7 +12,7 @@ use Rattle.std.proofs.lemmas.Slice.Eq.{bytes_eq-Decides}
 use Rattle.hex.specs.Hex.{decode_sized, encode_lower}
 use Rattle.hex.specs.declared.error.FromHexError.{FromHexError}
 use Rattle.hex.proofs.HexLemmas.{decode_of-ok, decode_sized-ok, decode_sized-twice}
-use Rattle.byte_formats.specs.Places.{IsBytes}
+use Rattle.byte_formats.specs.Offsets.{IsBytes}
 use Rattle.byte_formats.specs.Readings.{◌>>=◌, blamed, some_or}
 use Rattle.byte_formats.specs.Types.{Hash, Text}
 use Rattle.byte_formats.proofs.Steps.{IsBytes-back, IsBytes-prefix, IsBytes-rest, bind_ok}
@@ -25,7 +25,7 @@ use Rattle.tls_wire.proofs.AnchorForm.{text_takes}
 use Rattle.tls_wire.proofs.Cuts.{cut_parts}
 use Rattle.tls_wire.proofs.Decimals.{number_is_decimal}
 use Rattle.monitor_core.proofs.Again.{found_again, grouped, last_again}
-use Rattle.monitor_core.specs.Reading.{begins_report, behind_report, behind_report_line, last_line}
+use Rattle.monitor_core.specs.Reading.{begins_report, after_report, after_report_line, last_line}
 use Rattle.monitor_core.specs.Reading.{line_with, lower_hash_in, lower_only, peak_in, peaks_in}
 use Rattle.monitor_core.specs.Reading.{skipped, state_in, state_words, word_end}
 use Rattle.monitor_core.specs.States.{IsHash, IsKept, MonitorState}
@@ -197,8 +197,8 @@ last_read n text s bytes e =
     let is : words.0 ≡ codes "state" =
     (bytes_eq-Decides words.0 (codes "state")).0 (not-false _ word.0) in
     let all : IsBytes (cut.0 ++ (0x0A ∷ cut.1)) = rw line at bytes in
-    let front = IsBytes-prefix cut.0 (0x0A ∷ cut.1) all in
-    let both : IsBytes (words.0 ++ (0x20 ∷ words.1)) = rw first at front in
+    let prefix = IsBytes-prefix cut.0 (0x0A ∷ cut.1) all in
+    let both : IsBytes (words.0 ++ (0x20 ∷ words.1)) = rw first at prefix in
     let back = IsBytes-rest 0x20 words.1 (IsBytes-back words.0 (0x20 ∷ words.1) both) in
     let known = words_read n words.1 three.0 back three.1 in
     let P : MonitorState → Type 0 = IsLast text in
@@ -214,11 +214,11 @@ last_read n text s bytes e =
 
 -- ---- what stands before it
 
-line_parts : (text rest : Text) → behind_report_line (first_line text) ≡ Some rest
+line_parts : (text rest : Text) → after_report_line (first_line text) ≡ Some rest
     → (line : Text) × (text ≡ line ++ (0x0A ∷ rest))
 line_parts text rest e = go (first_line text) refl e
   where
-    go : (o : Option (Text × Text)) → first_line text ≡ o → behind_report_line o ≡ Some rest
+    go : (o : Option (Text × Text)) → first_line text ≡ o → after_report_line o ≡ Some rest
         → (line : Text) × (text ≡ line ++ (0x0A ∷ rest))
     go None is none = absurd cc
     go (Some cut) is passed =
@@ -233,7 +233,7 @@ whole_lines : (line before : Text) → AreWholeLines before → AreWholeLines (l
 whole_lines line before whole =
     ⊎_elim
     (λ (none : before ≡ []). inr (line, ap (λ t. line ++ (0x0A ∷ t)) none))
-    (λ (some : (front : Text) × (before ≡ front ++ (0x0A ∷ []))). inr (
+    (λ (some : (prefix : Text) × (before ≡ prefix ++ (0x0A ∷ []))). inr (
       line ++ (0x0A ∷ some.0),
       ap (λ t. line ++ (0x0A ∷ t)) some.1 ∙ sym (append_assoc line (0x0A ∷ some.0) (0x0A ∷ [])),
     ))
@@ -243,7 +243,7 @@ whole_lines line before whole =
 passed : (n : ℕ) (text : Text) (next : ℕ → Text → ℕ × Text)
     → ((m : ℕ) (rest : Text)
     → (before : Text) × (rest ≡ before ++ (next m rest).1) × AreWholeLines before)
-    → (o : Option Text) → behind_report_line (first_line text) ≡ o
+    → (o : Option Text) → after_report_line (first_line text) ≡ o
     → (before : Text) × (text ≡ before ++ (skipped n text o next).1) × AreWholeLines before
 passed n text next more None is = ([], refl, inl refl)
 passed n text next more (Some rest) is =
@@ -257,19 +257,19 @@ passed n text next more (Some rest) is =
     )
 
 report_read : (left n : ℕ) (text : Text)
-    → (before : Text) × (text ≡ before ++ (behind_report left n text).1) × AreWholeLines before
-unfolding behind_report
+    → (before : Text) × (text ≡ before ++ (after_report left n text).1) × AreWholeLines before
+unfolding after_report
 report_read zero n text = ([], refl, inl refl)
 report_read (suc left) n text =
-    passed n text (behind_report left) (λ m rest. report_read left m rest)
-    (behind_report_line (first_line text)) refl
+    passed n text (after_report left) (λ m rest. report_read left m rest)
+    (after_report_line (first_line text)) refl
 
 state_read : (text : Text) (state : MonitorState) → IsBytes text → state_in text ≡ Ok state
     → IsKept state
     × ((before : Text) × (text ≡ before ++ state_text state) × AreWholeLines before)
 unfolding state_in
 state_read text state bytes e =
-    let last : ℕ × Text = behind_report (length text) 0 text in
+    let last : ℕ × Text = after_report (length text) 0 text in
     let before = report_read (length text) 0 text in
     let all : IsBytes (before.0 ++ last.1) = rw before.1 at bytes in
     let known = last_read last.0 last.1 state (IsBytes-back before.0 last.1 all) e in

@@ -9,51 +9,51 @@ use Rattle.std.proofs.lemmas.Option.{same_Some}
 use Rattle.byte_formats.specs.Types.{Text}
 use Rattle.byte_formats.proofs.Values.{when_some}
 use Rattle.tls_wire.specs.Lines.{first_line}
-use Rattle.monitor_core.specs.Reading.{behind_report, behind_report_line, skipped, word_end}
+use Rattle.monitor_core.specs.Reading.{after_report, after_report_line, skipped, word_end}
 
 -- So many lines were passed, and what is left leads where the whole does.
 pub record Skips (text : Text) (n : ℕ) (rest : Text) : Type 0 where
   pub few : n + length rest ≤ length text
-  pub same : behind_report (length text - n) n rest ≡ behind_report (length text) 0 text
+  pub same : after_report (length text - n) n rest ≡ after_report (length text) 0 text
 
 pub skips-from : (text : Text) → Skips text 0 text
 skips-from text =
     let all : length text - 0 ≡ length text = omega arith in
-    record { few = omega arith; same = ap (λ k. behind_report k 0 text) all }
+    record { few = omega arith; same = ap (λ k. after_report k 0 text) all }
 
-one_line : (left n : ℕ) (text rest : Text) → behind_report_line (first_line text) ≡ Some rest
-    → behind_report (suc left) n text ≡ behind_report left (n + 1) rest
-unfolding behind_report
-one_line left n text rest is = ap (λ o. skipped n text o (behind_report left)) is
+one_line : (left n : ℕ) (text rest : Text) → after_report_line (first_line text) ≡ Some rest
+    → after_report (suc left) n text ≡ after_report left (n + 1) rest
+unfolding after_report
+one_line left n text rest is = ap (λ o. skipped n text o (after_report left)) is
 
-pub skips-more : (text : Text) (n : ℕ) (rest behind : Text) → Skips text n rest
-    → behind_report_line (first_line rest) ≡ Some behind → length behind < length rest
-    → Skips text (n + 1) behind
-skips-more text n rest behind so_far is shorter =
+pub skips-more : (text : Text) (n : ℕ) (rest following : Text) → Skips text n rest
+    → after_report_line (first_line rest) ≡ Some following → length following < length rest
+    → Skips text (n + 1) following
+skips-more text n rest following so_far is shorter =
     let few = so_far.few in
     let more : length text - n ≡ suc (length text - (n + 1)) = omega arith in
     record {
       few = omega arith;
-      same = sym (ap (λ k. behind_report k n rest) more
-          ∙ one_line (length text - (n + 1)) n rest behind is)
+      same = sym (ap (λ k. after_report k n rest) more
+          ∙ one_line (length text - (n + 1)) n rest following is)
           ∙ so_far.same;
     }
 
-pub no_line : (left n : ℕ) (text : Text) → behind_report_line (first_line text) ≡ None
-    → behind_report left n text ≡ (n, text)
-unfolding behind_report
+pub no_line : (left n : ℕ) (text : Text) → after_report_line (first_line text) ≡ None
+    → after_report left n text ≡ (n, text)
+unfolding after_report
 no_line zero n text none = refl
-no_line (suc left) n text none = ap (λ o. skipped n text o (behind_report left)) none
+no_line (suc left) n text none = ap (λ o. skipped n text o (after_report left)) none
 
 pub skips-end : (text : Text) (n : ℕ) (rest : Text) → Skips text n rest
-    → behind_report_line (first_line rest) ≡ None
-    → (n, rest) ≡ behind_report (length text) 0 text
+    → after_report_line (first_line rest) ≡ None
+    → (n, rest) ≡ after_report (length text) 0 text
 skips-end text n rest so_far none =
     sym (no_line (length text - n) n rest none) ∙ so_far.same
 
 -- a line of a report
-pub skips_one : (left n : ℕ) (text rest : Text) → behind_report_line (first_line text) ≡ Some rest
-    → behind_report (suc left) n text ≡ behind_report left (n + 1) rest
+pub skips_one : (left n : ℕ) (text rest : Text) → after_report_line (first_line text) ≡ Some rest
+    → after_report (suc left) n text ≡ after_report left (n + 1) rest
 skips_one = one_line
 
 -- ---- where a word ends

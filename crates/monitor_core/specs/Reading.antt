@@ -65,19 +65,19 @@ begins_report None = false
 begins_report (Some words) = is_report_word words.0
 
 -- What is after the first line, where it is a line of a report.
-abbrev pub behind_report_line : Option (Text × Text) → Option Text
-behind_report_line None = None
-behind_report_line (Some cut) = if begins_report (cut_at 0x20 cut.0) then Some cut.1 else None
+abbrev pub after_report_line : Option (Text × Text) → Option Text
+after_report_line None = None
+after_report_line (Some cut) = if begins_report (cut_at 0x20 cut.0) then Some cut.1 else None
 
 -- How many lines of a report stand first, counted from n on, and what is after them.
 abbrev pub skipped : ℕ → Text → Option Text → (ℕ → Text → ℕ × Text) → ℕ × Text
-skipped n text None behind = (n, text)
-skipped n text (Some rest) behind = behind (n + 1) rest
+skipped n text None following = (n, text)
+skipped n text (Some rest) following = following (n + 1) rest
 
-unfoldable pub behind_report : ℕ → ℕ → Text → ℕ × Text
-behind_report zero n text = (n, text)
-behind_report (suc left) n text =
-    skipped n text (behind_report_line (first_line text)) (behind_report left)
+unfoldable pub after_report : ℕ → ℕ → Text → ℕ × Text
+after_report zero n text = (n, text)
+after_report (suc left) n text =
+    skipped n text (after_report_line (first_line text)) (after_report left)
 
 -- The hash that these bytes are, if they are written in lower case.
 abbrev pub lower_only : Text → Result Hash FromHexError → Option Hash
@@ -129,4 +129,4 @@ last_line n text =
 
 -- The state in a text of what was found, after the lines of the report.
 unfoldable pub state_in : Text → Result MonitorState TextError
-state_in text = let last = behind_report (length text) 0 text in last_line last.0 last.1
+state_in text = let last = after_report (length text) 0 text in last_line last.0 last.1

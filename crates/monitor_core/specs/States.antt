@@ -2,7 +2,7 @@
 use Rattle.std.specs.Prelude.{◌≡◌, ◌^◌, ◌<◌, ℕ, List, [], length, map, count_ones}
 use Rattle.std.specs.List.{AllByRecursion}
 use Rattle.byte_formats.specs.Types.{Hash, HashFunction, Text}
-use Rattle.byte_formats.specs.Places.{IsBytes}
+use Rattle.byte_formats.specs.Offsets.{IsBytes}
 use Rattle.tree_core.specs.Tree.{leaf_hash}
 use Rattle.tree_peaks.specs.Peaks.{ArePeaksOf, PeaksState}
 use Rattle.tls_wire.specs.Arcs.{IsAnchorId}

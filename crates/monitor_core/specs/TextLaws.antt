@@ -1,7 +1,7 @@
 -- What holds of the texts of a monitor.
 use Rattle.std.specs.Prelude.{◌≡◌, ◌⊎◌, ◌^◌, ◌<◌, [], ◌∷◌, ◌++◌, Ok}
 use Rattle.std.specs.List.{AllByRecursion}
-use Rattle.byte_formats.specs.Places.{IsBytes}
+use Rattle.byte_formats.specs.Offsets.{IsBytes}
 use Rattle.byte_formats.specs.Types.{Text}
 use Rattle.monitor_core.specs.Reading.{state_in}
 use Rattle.monitor_core.specs.Report.{Findings}
@@ -17,7 +17,7 @@ IsIndexed (Unread index) = index < 2 ^ 64
 
 -- Whole lines: no bytes, or the last one is a newline.
 abbrev pub AreWholeLines : Text → Type 0
-AreWholeLines text = (text ≡ []) ⊎ ((front : Text) × (text ≡ front ++ (0x0A ∷ [])))
+AreWholeLines text = (text ≡ []) ⊎ ((prefix : Text) × (text ≡ prefix ++ (0x0A ∷ [])))
 
 -- The text of what was found is read as the state that was found; a text that is read is whole
 -- lines and the line of what was read; and states with one line are one state.

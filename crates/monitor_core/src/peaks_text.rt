@@ -77,9 +77,9 @@ pub(crate) fn read_peaks(
     let mut rest = text;
     let mut left = count;
     'peaks: while left > 0 {
-        let (hash, behind) = numbered_peak(rest, n)?;
+        let (hash, following) = numbered_peak(rest, n)?;
         push(peaks, &hash)?;
-        rest = behind;
+        rest = following;
         left -= 1;
     }
     if rest.is_empty() {

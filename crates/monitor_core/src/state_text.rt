@@ -5,7 +5,7 @@ ghost use Rattle.std.specs.List.{position};
 ghost use Rattle.byte_formats.specs.Readings.{Answers, blamed};
 ghost use Rattle.tls_wire.specs.Anchors.{anchor_text};
 ghost use Rattle.tls_wire.specs.Lines.{first_line};
-ghost use Rattle.monitor_core.specs.Reading.{behind_report, behind_report_line, is_report_word};
+ghost use Rattle.monitor_core.specs.Reading.{after_report, after_report_line, is_report_word};
 ghost use Rattle.monitor_core.specs.Reading.{last_line, state_in, state_words, word_end};
 ghost use Rattle.monitor_core.specs.declared.error.TextError.TheVariants.{BadLine};
 ghost use Rattle.monitor_core.specs.declared.error.TextError.TheVariants.{Memory as NoCapacity};
@@ -26,9 +26,9 @@ fn is_report_word(word: &[u8]) -> bool
 }
 
 // What is after the first line, where it is a line of a report.
-fn behind_report_line(text: &[u8]) -> Option<&[u8]>
+fn after_report_line(text: &[u8]) -> Option<&[u8]>
     ensures exact { option_map (λ rest. rest.now) result
-        ≡ behind_report_line (first_line text.now) }
+        ≡ after_report_line (first_line text.now) }
     ensures shorter { IfSome result (λ rest. length rest.now < length text.now) }
 {
     let (line, rest) = first_line(text)?;
@@ -41,14 +41,14 @@ fn behind_report_line(text: &[u8]) -> Option<&[u8]>
 }
 
 // How many lines of a report stand first, and what is after them.
-fn behind_report(text: &[u8]) -> (usize, &[u8])
-    ensures exact { (result.0, result.1.now) ≡ behind_report (length text.now) 0 text.now }
+fn after_report(text: &[u8]) -> (usize, &[u8])
+    ensures exact { (result.0, result.1.now) ≡ after_report (length text.now) 0 text.now }
     ensures few { result.0 ≤ length text.now }
 {
     let mut rest = text;
     let mut n = 0;
-    'lines: while let Some(behind) = behind_report_line(rest) {
-        rest = behind;
+    'lines: while let Some(following) = after_report_line(rest) {
+        rest = following;
         n += 1;
     }
     (n, rest)
@@ -131,6 +131,6 @@ fn last_line(alloc: Global, text: &[u8], n: usize) -> Result<State, TextError>
 pub fn read_state(alloc: Global, text: &[u8]) -> Result<State, TextError>
     ensures { Answers NoCapacity (state_in text.now) result }
 {
-    let (n, rest) = behind_report(text);
+    let (n, rest) = after_report(text);
     last_line(alloc, rest, n)
 }

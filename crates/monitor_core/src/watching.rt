@@ -89,9 +89,9 @@ fn read_domains(alloc: Global, text: &[u8], domains: &mut Vec<Bytes>) -> Result<
         if rest.is_empty() {
             return Ok(());
         }
-        let (domain, behind) = domain_line(rest, n)?;
+        let (domain, following) = domain_line(rest, n)?;
         push_copy(alloc, domains, domain)?;
-        rest = behind;
+        rest = following;
     }
     if rest.is_empty() {
         Ok(())

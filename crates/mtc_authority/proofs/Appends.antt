@@ -4,7 +4,7 @@ use Rattle.std.proofs.Common.{inl, inr, refl, sym, subst, ap, ◌∙◌, option_
 use Rattle.std.proofs.lemmas.Option.{IfSome_then}
 use Rattle.byte_formats.specs.Types.{Text}
 use Rattle.disk_core.specs.declared.disk.Disk.{Ghosts}
-use Rattle.journal_core.specs.Format.{end_behind}
+use Rattle.journal_core.specs.Format.{end_following}
 use Rattle.journal_core.specs.declared.error.AppendError.TheVariants as append_error
 use Rattle.tree_core.specs.declared.hashing.TreeHash.{Ghosts as Hashes}
 use Rattle.issuance_log.specs.Folds.{LogState, LogView, view_in}
@@ -22,7 +22,7 @@ use Rattle.mtc_command.specs.Works.{HasWorked, HasWorkedTiled, journaled_by}
 use Rattle.mtc_command.specs.declared.answer.Said.TheVariants.{Done}
 use Rattle.mtc_command.proofs.Tiled.{tiled_less, tiled_of}
 use Rattle.mtc_command.proofs.Works.{appended_on, both_some, failed_on, read_on, says_so}
-use Rattle.mtc_command.proofs.Works.{starved_on}
+use Rattle.mtc_command.proofs.Works.{out_of_memory_on}
 use Rattle.mtc_authority.specs.Works.{IsReadyLog}
 
 -- of what is made of a thing, and of the thing
@@ -44,7 +44,7 @@ module _ {H D : Type 0} {hashes : Hashes H} {g : Ghosts D}
   view_at list = view_in (shown_with (view_of old) list)
 
   abbrev says_by : LogView → List Text → Outcome
-  says_by v list = outcome_by v list (refusal_by v false (end_behind list))
+  says_by v list = outcome_by v list (refusal_by v false (end_following list))
 
   abbrev says : List Text → Outcome
   says list = says_by (view_at list) list
@@ -87,7 +87,7 @@ module _ {H D : Type 0} {hashes : Hashes H} {g : Ghosts D}
         → Works (replied (said Done text))
     done_so answer run = so None (λ list. appends list body text) _ free appending
         (appended_on g name (log_records old) (log_disk old) (log_disk new) body text
-        run.journal.count (run.journal.any_moment ready.sound) run.journal.kept)
+        run.journal.count (run.journal.any_time ready.sound) run.journal.kept)
 
     -- the device failed in the append
     pub failed_so : {X : Type 0}
@@ -95,7 +95,7 @@ module _ {H D : Type 0} {hashes : Hashes H} {g : Ghosts D}
         → Works (room_failed name)
     failed_so run = so None (λ list. appends list body text) _ free appending
         (failed_on g name (log_records old) (log_disk old) (log_disk new) body text
-        run.journal.leaves.cause run.journal.count (run.journal.any_moment ready.sound)
+        run.journal.leaves.cause run.journal.count (run.journal.any_time ready.sound)
         (run.journal.afterwards ready.sound))
 
   -- the log refuses the record
@@ -109,26 +109,26 @@ module _ {H D : Type 0} {hashes : Hashes H} {g : Ghosts D}
       (refl, code))
 
   -- memory was refused
-  pub starved_so : log_disk new ≡ log_disk old → Works no_memory
-  starved_so same =
+  pub out_of_memory_so : log_disk new ≡ log_disk old → Works no_memory
+  out_of_memory_so same =
       tiled_less g name (log_records old) (log_disk old) (log_disk new) (log_tiles_disk old)
       (log_tiles_disk new) (g.contents (log_tiles_disk old)) says no_memory
       (tiled_of g name (log_records old) (log_disk old) (log_disk new) (log_tiles_disk old)
       (log_tiles_disk new) says no_memory
-      (starved_on g name (log_records old) (log_disk old) (log_disk new) says (inl same)))
+      (out_of_memory_on g name (log_records old) (log_disk old) (log_disk new) says (inl same)))
 
   each_valid : (Valid Sound : List Text → Type 0)
       → ((list : List Text) (why : Option LogError) → (why ≡ None → Sound list)
       → AddsValid Valid (journaled_by (outcome_by (view_of old) list why)))
       → (records : Option (List Text))
-      → IfSome records (λ list. log_end old ≡ end_behind list)
+      → IfSome records (λ list. log_end old ≡ end_following list)
       → IfSome records (λ list. view_at list ≡ view_of old)
       → (refusal ≡ None → IfSome records Sound)
       → IfSome records (λ list. AddsValid Valid (journaled_by (says list)))
   each_valid Valid Sound keeps None end view sound = tt
   each_valid Valid Sound keeps (Some list) end view sound =
       subst (λ (v : LogView). AddsValid Valid (journaled_by (says_by v list))) (sym view)
-      (keeps list (refusal_by (view_of old) false (end_behind list))
+      (keeps list (refusal_by (view_of old) false (end_following list))
       (λ free. sound (ap (λ broken. refusal_by (view_of old) broken (log_end old)) ready.sound
       ∙ ap (refusal_by (view_of old) false) end ∙ free)))
 

@@ -258,9 +258,9 @@ module _ (has : ℕ → ℕ → Bool) where
     ]
 
     -- one that is no sooner before the tile
-    behind_first : (first : ℕ × ℕ) → (number tile < number first) ⊎ (first ≡ tile)
+    following_first : (first : ℕ × ℕ) → (number tile < number first) ⊎ (first ≡ tile)
         → sooner_of first (Some tile) ≡ Some tile
-    behind_first first later = elim later [
+    following_first first later = elim later [
       | inl more ↦ cond_true (nat_lt (number tile) (number first)) (Some tile) (Some first)
           (lt-ltb (number tile) (number first) more)
       | inr same ↦ cond_false (nat_lt (number tile) (number first)) (Some tile) (Some first)
@@ -284,7 +284,7 @@ module _ (has : ℕ → ℕ → Bool) where
           elim (cases_Bool (has first.0 first.1)) [
             | inl here ↦ cond_true _ _ _ here ∙ found
             | inr gone ↦ cond_false _ _ _ gone ∙ ap (sooner_of first) found
-                ∙ behind_first first (all.0 gone)
+                ∙ following_first first (all.0 gone)
           ])
     ]
 

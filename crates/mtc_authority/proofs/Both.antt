@@ -5,10 +5,10 @@ use Rattle.std.proofs.Common.{refl, sym, subst, ap, ◌∙◌}
 use Rattle.std.specs.Prelude.{map, option_and_then}
 use Rattle.byte_formats.specs.Types.{Hash, Text}
 use Rattle.byte_formats.proofs.Steps.{ok_is}
-use Rattle.disk_core.specs.Moments.{LeavesOnly, OnlyReads}
+use Rattle.disk_core.specs.Times.{LeavesOnly, OnlyReads}
 use Rattle.disk_core.specs.declared.disk.Disk.{Ghosts}
-use Rattle.disk_core.proofs.Moments.{nothing_read}
-use Rattle.journal_core.specs.Format.{Represents, RepresentsEither, end_behind}
+use Rattle.disk_core.proofs.Times.{nothing_read}
+use Rattle.journal_core.specs.Format.{Represents, RepresentsEither, end_following}
 use Rattle.journal_core.specs.declared.error.AppendError.TheVariants as append_error
 use Rattle.tile_store.specs.Contents.{HoldsTiles}
 use Rattle.tree_core.specs.Tree.{leaf_hash}
@@ -18,7 +18,7 @@ use Rattle.issuance_log.specs.Records.{tiles_record}
 use Rattle.issuance_log.specs.Refusals.{TilesKeepTo, full_size, tile_refusal}
 use Rattle.issuance_log.specs.Shown.{shown_with}
 use Rattle.issuance_log.specs.Sound.{IsSound}
-use Rattle.issuance_log.specs.Words.{KeepsTiles, LogAppends, TilesStandBehind, both_records}
+use Rattle.issuance_log.specs.Words.{KeepsTiles, LogAppends, TilesStandAfter, both_records}
 use Rattle.issuance_log.specs.Words.{log_broken, log_disk, log_end, log_leaves, log_records}
 use Rattle.issuance_log.specs.Words.{log_tiles_disk, modelled_state, view_of}
 use Rattle.issuance_log.specs.declared.error.LogError.{LogError}
@@ -47,7 +47,7 @@ use Rattle.mtc_authority.proofs.Plain.{IsPlain, says_plain}
 
 -- a crash state of now is one of those since an earlier time
 abbrev pub CountsNow : {D : Type 0} → Ghosts D → Type 0
-CountsNow {D} g = (d : D) (t : ℕ) (c : Text) → t ≤ g.moment d → g.may_leave d c
+CountsNow {D} g = (d : D) (t : ℕ) (c : Text) → t ≤ g.clock_at d → g.may_leave d c
     → g.left_since d t c
 
 -- ---- `tile`
@@ -97,7 +97,7 @@ module _ {H D : Type 0} {hashes : Hashes H} {g : Ghosts D}
       → HoldsTiles hashes.hash (leaves_in list) (view_of old).tiled c)
       → LeavesOnly g (log_tiles_disk old) (log_tiles_disk new)
       (HoldsTiles hashes.hash (leaves_in list) (view_of old).tiled))
-      (behind : (c : Text) → g.left_since (log_disk new) (g.moment (log_disk old)) c
+      (following : (c : Text) → g.left_since (log_disk new) (g.clock_at (log_disk old)) c
       → Represents c (list ++ body ∷ []) → (d : Text) → g.may_leave (log_tiles_disk new) d
       → HoldsTiles hashes.hash (leaves_in list) size d) where
     abbrev Goes : List Text → Text → Type 0
@@ -110,16 +110,17 @@ module _ {H D : Type 0} {hashes : Hashes H} {g : Ghosts D}
         subst (λ (u : LogState).
         HoldsTiles hashes.hash (map (leaf_hash hashes.hash) u.entries) u.tiled c)
         (ok_is ℕ (state list) s (sym made ∙ is))
-        (stays.each c (now (log_tiles_disk new) (g.moment (log_tiles_disk old)) c stays.later at))
+        (stays.each c (now (log_tiles_disk new) (g.clock_at (log_tiles_disk old)) c stays.later at))
 
-    goes_behind : IsTaken list → (c : Text) → g.may_leave (log_disk new) c
+    goes_after : IsTaken list → (c : Text) → g.may_leave (log_disk new) c
         → Represents c (list ++ body ∷ []) → (d : Text) → g.may_leave (log_tiles_disk new) d
         → Goes (list ++ body ∷ []) d
-    goes_behind taken c at stands d there s is =
+    goes_after taken c at stands d there s is =
         subst (λ (u : LogState).
         HoldsTiles hashes.hash (map (leaf_hash hashes.hash) u.entries) u.tiled d)
         (ok_is ℕ (with_tiles size (state list)) s (sym taken ∙ is))
-        (behind c (now (log_disk new) (g.moment (log_disk old)) c either.later at) stands d there)
+        (following c (now (log_disk new) (g.clock_at (log_disk old)) c either.later at) stands d
+        there)
 
     stores_by : (why : Option LogError) → (why ≡ None → IsTaken list)
         → (why ≢ None → log_disk new ≡ log_disk old)
@@ -131,7 +132,7 @@ module _ {H D : Type 0} {hashes : Hashes H} {g : Ghosts D}
       stands = after;
       left = record {
         keeps = keeps_going;
-        behind = λ all. goes_behind (taken refl);
+        following = λ all. goes_after (taken refl);
       };
     }
     stores_by (Some why) taken same = record {
@@ -151,17 +152,17 @@ module _ {H D : Type 0} {hashes : Hashes H} {g : Ghosts D}
       (journaled_by (tile_says (found_log (state list) list)))
       (log_disk old) (log_disk new) (log_tiles_disk old) (log_tiles_disk new)
 
-  same_says : (list : List Text) → log_end old ≡ end_behind list
+  same_says : (list : List Text) → log_end old ≡ end_following list
       → view_in (state list) ≡ view_of old
       → tiled_by (view_of old) list refusal ≡ tile_says (found_log (state list) list)
   same_says list end view =
       ap (tiled_by (view_of old) list)
       (ap (λ (b : Bool). tile_refusal (view_of old) b (log_end old)) ready.sound
       ∙ ap (tile_refusal (view_of old) false) end)
-      ∙ ap (λ (v : LogView). tiled_by v list (tile_refusal v false (end_behind list))) (sym view)
+      ∙ ap (λ (v : LogView). tiled_by v list (tile_refusal v false (end_following list))) (sym view)
 
   stores_for : (records : Option (List Text)) (contents : Option Text) → CountsNow g
-      → IfSome records (λ list. log_end old ≡ end_behind list)
+      → IfSome records (λ list. log_end old ≡ end_following list)
       → IfSome records (λ list. view_in (state list) ≡ view_of old)
       → IfSome records (λ list.
       LeavesOnly g (log_disk old) (log_disk new) (RepresentsEither list body))
@@ -173,31 +174,31 @@ module _ {H D : Type 0} {hashes : Hashes H} {g : Ghosts D}
       → LeavesOnly g (log_tiles_disk old) (log_tiles_disk new)
       (HoldsTiles hashes.hash leaves (view_of old).tiled))
       → IfSome (leaves_of records contents) (λ leaves. IfSome records (λ list. (c : Text)
-      → g.left_since (log_disk new) (g.moment (log_disk old)) c → Represents c (list ++ body ∷ [])
+      → g.left_since (log_disk new) (g.clock_at (log_disk old)) c → Represents c (list ++ body ∷ [])
       → (d : Text) → g.may_leave (log_tiles_disk new) d → HoldsTiles hashes.hash leaves size d))
       → (refusal ≡ None → IfSome records IsTaken)
       → (refusal ≢ None → log_disk new ≡ log_disk old)
       → IfSome (option_and_then (λ tiles. records) contents) Stored
-  stores_for None None now end view either after keeps behind taken same = tt
-  stores_for None (Some bytes) now end view either after keeps behind taken same = tt
-  stores_for (Some list) None now end view either after keeps behind taken same = tt
-  stores_for (Some list) (Some bytes) now end view either after keeps behind taken same =
+  stores_for None None now end view either after keeps following taken same = tt
+  stores_for None (Some bytes) now end view either after keeps following taken same = tt
+  stores_for (Some list) None now end view either after keeps following taken same = tt
+  stores_for (Some list) (Some bytes) now end view either after keeps following taken same =
       λ opened made. inr (subst (λ (o : Outcome). StoresBoth (HasTilesOf hashes.hash)
       (IsLog hashes.hash) (journaled_by o) (g.may_leave (log_disk new))
       (g.may_leave (log_tiles_disk old)) (g.may_leave (log_tiles_disk new)))
       (same_says list end view)
-      (stores_by now list made opened either after keeps behind refusal taken same))
+      (stores_by now list made opened either after keeps following refusal taken same))
 
   -- tiles were stored, or refused
   pub tiles_so : (result : Result ℕ LogError) → CountsNow g → HasTiled result
       → TilesKeepTo refusal result → KeepsTiles (view_of old).tiled old new
-      → TilesStandBehind body size old new → (refusal ≡ None → IfSome (log_records old) IsTaken)
+      → TilesStandAfter body size old new → (refusal ≡ None → IfSome (log_records old) IsTaken)
       → StoresLog tile_says old new
-  tiles_so result now run answer keeps behind taken =
+  tiles_so result now run answer keeps following taken =
       stores_for (log_records old) (g.contents (log_tiles_disk old)) now ready.end
       (mapped_some state (log_records old) (λ s. view_in s ≡ view_of old) ready.view)
-      (run.journal.any_moment ready.sound) (run.journal.afterwards ready.sound) keeps
-      (behind ready.sound) taken (same_disk result answer run)
+      (run.journal.any_time ready.sound) (run.journal.afterwards ready.sound) keeps
+      (following ready.sound) taken (same_disk result answer run)
 
 module _ {H D : Type 0} {hashes : Hashes H} {g : Ghosts D} where
   -- nothing was done
@@ -223,7 +224,7 @@ module _ {D : Type 0} (h : Text → Text) (g : Ghosts D) (mid new tiles tiles' :
     stands = after;
     left = record {
       keeps = λ all c at. all c (second.crash c at);
-      behind = λ all c at stands t there. plain t (all t (second.crash t there));
+      following = λ all c at stands t there. plain t (all t (second.crash t there));
     };
   })
 

@@ -36,7 +36,7 @@ use Rattle.mtc_authority.specs.CertOutcome.{light_reply, light_text, signatures_
 use Rattle.mtc_authority.specs.CertOutcome.{signatures_in}
 use Rattle.mtc_authority.specs.Works.{RepliesOnLog, log_outcome}
 use Rattle.mtc_authority.specs.declared.work.Work.TheVariants.{Cert}
-use Rattle.mtc_authority.proofs.Replied.{at_journal, at_tiles, both_so, shown_so, starved_so}
+use Rattle.mtc_authority.proofs.Replied.{at_journal, at_tiles, both_so, shown_so, out_of_memory_so}
 use Rattle.mtc_authority.proofs.Replied.{modelled_both}
 use Rattle.mtc_authority.proofs.Replied.{modelled_so}
 
@@ -119,7 +119,7 @@ module _ {H D : Type 0} {hashes : Hashes H} {g : Ghosts D} (name : Text)
       at_journal name wanted old new stays (room_failed name) (refl, journal)
   not_certified TilesFailed is journal tiles =
       at_tiles name wanted old new stays (room_failed (tiles_name name)) (refl, tiles)
-  not_certified Memory is journal tiles = starved_so name wanted old new stays
+  not_certified Memory is journal tiles = out_of_memory_so name wanted old new stays
 
   -- this certificate is written
   certified : (bytes : Text) → refusal (view_of old) ≡ None

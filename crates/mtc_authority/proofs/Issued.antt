@@ -30,7 +30,8 @@ use Rattle.mtc_command.specs.declared.answer.Stopped.TheVariants.{Beyond}
 use Rattle.mtc_authority.specs.IssueOutcome.{issue_ending, issue_says, issued_by, issued_text}
 use Rattle.mtc_authority.specs.IssueOutcome.{log_fault_text}
 use Rattle.mtc_authority.specs.Works.{HasWorkedOnLog, IsLog, IsReadyLog, StaysLog}
-use Rattle.mtc_authority.proofs.Appends.{done_so, failed_so, starved_so, modelled_so, valid_so}
+use Rattle.mtc_authority.proofs.Appends.{done_so, failed_so, out_of_memory_so, modelled_so}
+use Rattle.mtc_authority.proofs.Appends.{valid_so}
 
 -- the answer of a call that refuses
 abbrev pub failed : IssueError → Result ℕ IssueError
@@ -79,7 +80,7 @@ module _ {H D : Type 0} {hashes : Hashes H} {g : Ghosts D} (h : HashFunction) (r
       failed_so outcome_by refusal_by name old new ready body line one_item_more
       (issued_log h (view_of old).settings r) (λ list. refl) is run
   refused_so (Log Memory) run is =
-      starved_so outcome_by refusal_by name old new ready run.journal.leaves.disk
+      out_of_memory_so outcome_by refusal_by name old new ready run.journal.leaves.disk
   refused_so (Log other) run is = contents other is run.journal.leaves.disk
 
   -- a log that no append has broken doesn't refuse an entry as a broken one
@@ -100,23 +101,23 @@ module _ {H D : Type 0} {hashes : Hashes H} {g : Ghosts D} (h : HashFunction) (r
       (sym (ap (λ broken. refusal_by (view_of old) broken (log_end old)) ready.sound) ∙ is)
 
   -- the record makes a log with those before it
-  abbrev pub IsSoundBehind : List Text → Type 0
-  IsSoundBehind list = log_of h (list ++ body ∷ [])
+  abbrev pub IsSoundAfter : List Text → Type 0
+  IsSoundAfter list = log_of h (list ++ body ∷ [])
       ≡ Ok (issued_log h (view_of old).settings r (shown_with (view_of old) list))
 
-  adds_valid : (list : List Text) (why : Option LogError) → (why ≡ None → IsSoundBehind list)
+  adds_valid : (list : List Text) (why : Option LogError) → (why ≡ None → IsSoundAfter list)
       → AddsValid (IsLog h) (journaled_by (outcome_by (view_of old) list why))
   adds_valid list None sound = subst IsOk (sym (sound refl)) refl
   adds_valid list (Some why) sound = tt
 
-  pub issued_valid : (refusal ≡ None → IfSome (log_records old) IsSoundBehind)
+  pub issued_valid : (refusal ≡ None → IfSome (log_records old) IsSoundAfter)
       → StaysLog h (issue_says h r) old new
   issued_valid sound = valid_so outcome_by refusal_by name old new ready (IsLog h)
-      IsSoundBehind adds_valid sound
+      IsSoundAfter adds_valid sound
 
   pub refused_valid : (why : IssueError) → HasIssued (of_log (Err why))
       → (failed why ≢ failed (Log Memory) → refusal ≡ None
-      → IfSome (log_records old) IsSoundBehind)
+      → IfSome (log_records old) IsSoundAfter)
       → StaysLog h (issue_says h r) old new
   refused_valid (Log Memory) run sound = inl (inl run.journal.leaves.disk)
   refused_valid (Log other) run sound = issued_valid (sound (λ is. absurd cc))

@@ -61,12 +61,12 @@ printed_again h s count sound le =
     le
 
 -- an item after the bytes
-pub item_behind : (contents : Option LogState) (index : ℕ) (entry key out mid new : Text)
+pub item_after : (contents : Option LogState) (index : ℕ) (entry key out mid new : Text)
     → IfSome contents (λ s. IsItemAt s index entry key) → mid ≡ out ++ vector w16 entry
     → new ≡ mid ++ vector w16 key
     → IfSome contents (λ s. new ≡ out ++ listed_text (items_of s) index)
-item_behind None index entry key out mid new item first second = tt
-item_behind (Some s) index entry key out mid new item first second =
+item_after None index entry key out mid new item first second = tt
+item_after (Some s) index entry key out mid new item first second =
     second
     ∙ ap (λ (t : Text). t ++ vector w16 key) first
     ∙ append_assoc out (vector w16 entry) (vector w16 key)

@@ -26,7 +26,8 @@ use Rattle.mtc_authority.specs.LandmarkOutcomes.{MayRefuseMark, landmark_says, m
 use Rattle.mtc_authority.specs.LandmarkOutcomes.{mark_refused}
 use Rattle.mtc_authority.specs.LandmarkOutcomes.{marked_by, next_line}
 use Rattle.mtc_authority.specs.Works.{HasWorkedOnLog, IsLog, IsReadyLog, StaysLog}
-use Rattle.mtc_authority.proofs.Appends.{done_so, failed_so, starved_so, modelled_so, valid_so}
+use Rattle.mtc_authority.proofs.Appends.{done_so, failed_so, out_of_memory_so, modelled_so}
+use Rattle.mtc_authority.proofs.Appends.{valid_so}
 
 module _ {H D : Type 0} {hashes : Hashes H} {g : Ghosts D} (name : Text)
     (old new : OpenLog H D D hashes g g) (ready : IsReadyLog old) where
@@ -67,7 +68,7 @@ module _ {H D : Type 0} {hashes : Hashes H} {g : Ghosts D} (name : Text)
       failed_so outcome_by refusal_by name old new ready body (next_line (view_of old))
       one_mark_more with_mark (λ list. refl) is run
   refused_so Memory may run is =
-      starved_so outcome_by refusal_by name old new ready run.journal.leaves.disk
+      out_of_memory_so outcome_by refusal_by name old new ready run.journal.leaves.disk
   refused_so other may run is = absurd may
 
   -- a log that no append has broken doesn't refuse a landmark as a broken one
@@ -92,16 +93,16 @@ module _ {H D : Type 0} {hashes : Hashes H} {g : Ghosts D} (name : Text)
 
   -- the record makes a log with those before it
   module _ (h : HashFunction) where
-    abbrev pub IsSoundBehind : List Text → Type 0
-    IsSoundBehind list =
+    abbrev pub IsSoundAfter : List Text → Type 0
+    IsSoundAfter list =
         log_of h (list ++ body ∷ []) ≡ Ok (with_mark (shown_with (view_of old) list))
 
-    adds_valid : (list : List Text) (why : Option LogError) → (why ≡ None → IsSoundBehind list)
+    adds_valid : (list : List Text) (why : Option LogError) → (why ≡ None → IsSoundAfter list)
         → AddsValid (IsLog h) (journaled_by (outcome_by (view_of old) list why))
     adds_valid list None sound = subst IsOk (sym (sound refl)) refl
     adds_valid list (Some why) sound = tt
 
-    pub marked_valid : (refusal ≡ None → IfSome (log_records old) IsSoundBehind)
+    pub marked_valid : (refusal ≡ None → IfSome (log_records old) IsSoundAfter)
         → StaysLog h landmark_says old new
     marked_valid sound = valid_so outcome_by refusal_by name old new ready (IsLog h)
-        IsSoundBehind adds_valid sound
+        IsSoundAfter adds_valid sound

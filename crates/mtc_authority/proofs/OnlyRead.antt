@@ -13,9 +13,9 @@ use Rattle.mtc_authority.specs.NoJournal.{IsNoJournal, SparesTiles}
 
 module _ {R S D : Type 0} (rooms : Rooms R S D) (disks : Disks D) (beside : Text) where
   -- then comes the rest of it
-  pub only_read_behind : (old mid new : R) → ClosesAll rooms old mid []
+  pub only_read_after : (old mid new : R) → ClosesAll rooms old mid []
       → OnlyReadsBeside rooms disks mid new beside → OnlyReadsBeside rooms disks old new beside
-  only_read_behind old mid new read only_reads = λ t. subst
+  only_read_after old mid new read only_reads = λ t. subst
       (λ x. Leaves disks (HasKept untouched) x (rooms.device new beside))
       (read.others beside tt).disk (only_reads (read.is_modelled t))
 
@@ -28,9 +28,9 @@ module _ {R S D : Type 0} (rooms : Rooms R S D) (disks : Disks D) (beside : Text
 -- So it stays where the journal's file is none.
 module _ {R S D : Type 0} (rooms : Rooms R S D) (journal : Text) where
   -- then comes the rest of it
-  pub spared_behind : (old mid new : R) → ClosesAll rooms old mid []
+  pub spared_after : (old mid new : R) → ClosesAll rooms old mid []
       → SparesTiles rooms mid new journal → SparesTiles rooms old new journal
-  spared_behind old mid new read spares = λ t not.
+  spared_after old mid new read spares = λ t not.
       let tiles = tiles_name journal in
       let stays = spares (read.is_modelled t)
       (subst IsNoJournal (sym (read.others journal tt).bytes) not) in

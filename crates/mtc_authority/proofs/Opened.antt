@@ -3,9 +3,9 @@ use Rattle.std.proofs.Common.{◌≡◌, ℕ, List, Option, None, IfSome, Ok, Er
 use Rattle.std.proofs.Common.{option_map, refl, ap, subst, ◌∙◌}
 use Rattle.std.proofs.lemmas.Option.{IfSome_then}
 use Rattle.byte_formats.specs.Types.{HashFunction, Text}
-use Rattle.disk_core.specs.Moments.{OnlyReads}
+use Rattle.disk_core.specs.Times.{OnlyReads}
 use Rattle.disk_core.specs.declared.disk.Disk.{Ghosts}
-use Rattle.disk_core.proofs.Moments.{only_read_on}
+use Rattle.disk_core.proofs.Times.{only_read_on}
 use Rattle.mtc_io.specs.Counts.{Rose}
 use Rattle.journal_core.specs.Folds.{IsCauseOf}
 use Rattle.journal_core.specs.Format.{Represents}

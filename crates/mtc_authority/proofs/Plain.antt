@@ -21,7 +21,7 @@ use Rattle.issuance_log.specs.Records.{entry_record, entry_tag, item_in, landmar
 use Rattle.issuance_log.specs.Records.{landmark_tag, mark_in, size_in, size_record, tagged}
 use Rattle.issuance_log.specs.Records.{tiled_in, tiles_tag}
 use Rattle.issuance_log.specs.declared.error.LogError.{LogError}
-use Rattle.issuance_log.proofs.Behind.{when}
+use Rattle.issuance_log.proofs.After.{when}
 use Rattle.issuance_log.proofs.Encoded.{changed_log, next_says}
 use Rattle.mtc_command.specs.Made.{Journaled, appended, reads, started, untouched}
 use Rattle.mtc_command.specs.Works.{journaled_by}

@@ -78,8 +78,8 @@ module _ {H D : Type 0} {hashes : Hashes H} {g : Ghosts D} where
         means)
 
     -- memory was refused
-    pub starved_so : RepliesOnLog name wanted old new no_memory
-    starved_so = record { plain = tt; fault = tt; reply = tt; stays = stays }
+    pub out_of_memory_so : RepliesOnLog name wanted old new no_memory
+    out_of_memory_so = record { plain = tt; fault = tt; reply = tt; stays = stays }
 
     -- it ended without a reply, at the journal or at the tiles
     pub at_journal : (ending : Ending)
@@ -88,7 +88,7 @@ module _ {H D : Type 0} {hashes : Hashes H} {g : Ghosts D} where
     at_journal (replied reply) is = absurd is
     at_journal (room_failed at) is =
         record { plain = tt; fault = inl is; reply = tt; stays = stays }
-    at_journal no_memory is = starved_so
+    at_journal no_memory is = out_of_memory_so
 
     pub at_tiles : (ending : Ending)
         → StopsAt (Rose (g.faults (log_tiles_disk old)) (g.faults (log_tiles_disk new)))
@@ -96,7 +96,7 @@ module _ {H D : Type 0} {hashes : Hashes H} {g : Ghosts D} where
     at_tiles (replied reply) is = absurd is
     at_tiles (room_failed at) is =
         record { plain = tt; fault = inr is; reply = tt; stays = stays }
-    at_tiles no_memory is = starved_so
+    at_tiles no_memory is = out_of_memory_so
 
 -- ---- failures of more than one call
 

@@ -4,7 +4,7 @@ use Rattle.std.proofs.Common.{Result, Ok, Err, if◌then◌else◌, inl, inr, re
 use Rattle.std.proofs.Common.{arith, subst, IfSome, IsOk, ◌++◌, ◌∷◌, []}
 use Rattle.byte_formats.specs.Types.{HashFunction, Text}
 use Rattle.disk_core.specs.declared.disk.Disk.{Ghosts}
-use Rattle.disk_core.proofs.Moments.{started}
+use Rattle.disk_core.proofs.Times.{started}
 use Rattle.journal_core.specs.Format.{RepresentsEither}
 use Rattle.journal_core.specs.declared.error.AppendError.TheVariants as append_error
 use Rattle.mtc_io.specs.Counts.{Rose}
@@ -33,7 +33,8 @@ use Rattle.mtc_command.proofs.Works.{each_some}
 use Rattle.mtc_authority.specs.TileOutcome.{MayRefuseTiles, tile_says, tiled_by, tiled_line}
 use Rattle.mtc_authority.specs.TileOutcome.{tiles_ending, tiles_refused}
 use Rattle.mtc_authority.specs.Works.{HasWorkedOnLog, IsLog, IsReadyLog, StaysLog, found_log}
-use Rattle.mtc_authority.proofs.Appends.{done_so, failed_so, starved_so, modelled_so, valid_so}
+use Rattle.mtc_authority.proofs.Appends.{done_so, failed_so, out_of_memory_so, modelled_so}
+use Rattle.mtc_authority.proofs.Appends.{valid_so}
 
 module _ {H D : Type 0} {hashes : Hashes H} {g : Ghosts D} (name : Text)
     (old new : OpenLog H D D hashes g g) (ready : IsReadyLog old) where
@@ -106,12 +107,12 @@ module _ {H D : Type 0} {hashes : Hashes H} {g : Ghosts D} (name : Text)
       failed_so outcome_by refusal_by name old new ready (tiles_record size) (tiled_line size)
       (tiled_to size) (with_tiles size) (λ list. refl) is run
   refused_so only_now Memory may run is counts =
-      starved_so outcome_by refusal_by name old new ready run.journal.leaves.disk
+      out_of_memory_so outcome_by refusal_by name old new ready run.journal.leaves.disk
   refused_so only_now other may run is counts = absurd may
 
   -- memory was refused before
   pub unstored : log_disk new ≡ log_disk old → HasWorkedOnLog name tile_says old new no_memory
-  unstored same = starved_so outcome_by refusal_by name old new ready same
+  unstored same = out_of_memory_so outcome_by refusal_by name old new ready same
 
   -- a log that no append has broken doesn't refuse tiles as a broken one
   first : (nothing over : Bool)
@@ -134,16 +135,16 @@ module _ {H D : Type 0} {hashes : Hashes H} {g : Ghosts D} (name : Text)
 
   -- the record makes a log with those before it
   module _ (h : HashFunction) where
-    abbrev pub IsSoundBehind : List Text → Type 0
-    IsSoundBehind list = log_of h (list ++ tiles_record size ∷ [])
+    abbrev pub IsSoundAfter : List Text → Type 0
+    IsSoundAfter list = log_of h (list ++ tiles_record size ∷ [])
         ≡ Ok (with_tiles size (shown_with (view_of old) list))
 
-    adds_valid : (list : List Text) (why : Option LogError) → (why ≡ None → IsSoundBehind list)
+    adds_valid : (list : List Text) (why : Option LogError) → (why ≡ None → IsSoundAfter list)
         → AddsValid (IsLog h) (journaled_by (outcome_by (view_of old) list why))
     adds_valid list None sound = subst IsOk (sym (sound refl)) refl
     adds_valid list (Some why) sound = tt
 
-    pub tiled_valid : (refusal ≡ None → IfSome (log_records old) IsSoundBehind)
+    pub tiled_valid : (refusal ≡ None → IfSome (log_records old) IsSoundAfter)
         → StaysLog h tile_says old new
     tiled_valid sound = valid_so outcome_by refusal_by name old new ready (IsLog h)
-        IsSoundBehind adds_valid sound
+        IsSoundAfter adds_valid sound

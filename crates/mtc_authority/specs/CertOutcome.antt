@@ -2,7 +2,7 @@
 use Rattle.std.specs.Prelude.{ℕ, [], ◌++◌, codes, slice_index_or, Option, Some, None, Result, Ok}
 use Rattle.std.specs.Prelude.{Err}
 use Rattle.std.specs.Fmt.{decimal}
-use Rattle.byte_formats.specs.Places.{at}
+use Rattle.byte_formats.specs.Offsets.{at}
 use Rattle.byte_formats.specs.Readings.{◌>>=◌}
 use Rattle.byte_formats.specs.Types.{HashFunction, Text}
 use Rattle.cert_fields.specs.Encoding.{certificate}

@@ -1,7 +1,7 @@
 -- What is known of a journal whose header was read, and what stays where a file has no such header.
 use Rattle.std.specs.Prelude.{◌≡◌, ◌≢◌, Option, None, Some, take}
 use Rattle.byte_formats.specs.Types.{Text}
-use Rattle.disk_core.specs.Moments.{OnlyReads}
+use Rattle.disk_core.specs.Times.{OnlyReads}
 use Rattle.disk_core.specs.declared.disk.Disk.{Ghosts}
 use Rattle.journal_core.specs.Format.{header}
 use Rattle.mtc_room.specs.Room.{Stays}
@@ -23,7 +23,7 @@ SparesTiles rooms old new journal = rooms.is_modelled old → IsNoJournal (rooms
 -- The device of the journal was opened, and has only been read since, without a failure.
 pub record HasReadHeader {R S D : Type 0} (rooms : Rooms R S D) (g : Ghosts D) (name : Text)
     (old new : R) (disk : D) : Type 0 where
-  pub lent : D
-  pub opened : HasOpened rooms g name old new lent
-  pub only_reads : OnlyReads g lent disk
-  pub fine : g.faults disk ≡ g.faults lent
+  pub opened_disk : D
+  pub opened : HasOpened rooms g name old new opened_disk
+  pub only_reads : OnlyReads g opened_disk disk
+  pub fine : g.faults disk ≡ g.faults opened_disk

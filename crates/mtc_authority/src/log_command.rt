@@ -2,7 +2,7 @@
 //! tiles, the log is opened over them and worked on, and both are closed.
 
 ghost use Rattle.std.specs.Prelude.{◌≡◌, ◌≢◌, ◌<◌, ◌+◌, ◌^◌, [], ◌∷◌, take, IfErr, IfSome, OnOk};
-ghost use Rattle.disk_core.specs.Moments.{OnlyReads};
+ghost use Rattle.disk_core.specs.Times.{OnlyReads};
 ghost use Rattle.frame_pool.specs.Frames.{IsNew};
 ghost use Rattle.journal_core.specs.Format.{header};
 ghost use Rattle.journal_core.specs.Opens.{HasReason, IsOfHeader};
@@ -17,7 +17,7 @@ ghost use Rattle.mtc_authority.specs.Works.{IsLog, log_bytes_say, log_outcome, l
 ghost use Rattle.mtc_authority.specs.declared.work.Work.TheVariants.{Tile};
 
 use crate::work::{Work, carry_out};
-use disk_core::{Disk, look_at, look_len};
+use disk_core::{Disk, read_len, read_part};
 use frame_pool::Pool;
 use issuance_log::{Log, LogOpenError, LogRefused};
 use journal_core::{HEADER, OpenError};
@@ -69,11 +69,11 @@ fn read_header<D: Disk>(disk: &mut D) -> Result<(), OpenError>
     ensures kind { IfErr result IsOfHeader }
     ensures only_reads { OnlyReads D.Disk disk.old disk.new }
 {
-    if look_len(disk)? < 16 {
+    if read_len(disk)? < 16 {
         return Err(OpenError::NotJournal);
     }
     let mut first = [0; 16];
-    look_at(disk, 0, &mut first)?;
+    read_part(disk, 0, &mut first)?;
     if first == HEADER {
         Ok(())
     } else {

@@ -14,7 +14,7 @@ mod codes;
 mod pieces;
 mod verdict;
 
-use crate::pieces::{entry_hash_of, hand_out, name_of, public_key_of};
+use crate::pieces::{copy_out, entry_hash_of, name_of, public_key_of};
 use crate::verdict::verdict_on;
 use std::alloc::Global;
 use tree_core::{Sha, TreeHash};
@@ -44,7 +44,7 @@ pub extern "C" fn mtc_public_key(cert: &[u8], out: &mut [u8], length: &mut u64) 
     ensures { IsPutInBuffer (public_key_in cert.now) out.old out.new length.new result }
 {
     match public_key_of(cert) {
-        Ok(key) => hand_out(key, out, length),
+        Ok(key) => copy_out(key, out, length),
         Err(status) => nothing(status, length),
     }
 }
@@ -57,7 +57,7 @@ pub extern "C" fn mtc_dns_name(cert: &[u8], number: u64, out: &mut [u8], length:
     ensures { IsPutInBuffer (name_in cert.now number) out.old out.new length.new result }
 {
     match name_of(cert, number) {
-        Ok(name) => hand_out(name, out, length),
+        Ok(name) => copy_out(name, out, length),
         Err(status) => nothing(status, length),
     }
 }
@@ -70,7 +70,7 @@ pub extern "C" fn mtc_entry_hash(cert: &[u8], out: &mut [u8], length: &mut u64) 
         length.new result }
 {
     match entry_hash_of::<Sha>(cert) {
-        Ok(hash) => hand_out(&hash, out, length),
+        Ok(hash) => copy_out(&hash, out, length),
         Err(status) => nothing(status, length),
     }
 }

@@ -19,7 +19,7 @@ const NO_SUCH_NAME: u32 = 4;
 const TOO_LONG: u32 = 9;
 
 /// Puts bytes at the start of a buffer, if they fit, and answers how many they are.
-pub(crate) fn hand_out(piece: &[u8], out: &mut [u8], length: &mut u64) -> u32
+pub(crate) fn copy_out(piece: &[u8], out: &mut [u8], length: &mut u64) -> u32
     ensures { IsPutInBuffer (Ok piece.now) out.old out.new length.new result }
 {
     *length = piece.len() as u64;

@@ -62,16 +62,16 @@ module _ {R S D : Type 0} (rooms : Rooms R S D) (g : Disks D) (name : List ℕ) 
   begins_of first text old new ending (inr begun) = inr (first, text, begun)
 
   -- after a step that leaves the name's file
-  pub begins_behind : (old mid new : R) (ending : Ending) → NameStays old mid
+  pub begins_after : (old mid new : R) (ending : Ending) → NameStays old mid
       → ModelsNew rooms g name mid new ending → ModelsNew rooms g name old new ending
-  begins_behind old mid new ending stays (inl not) = inl (
+  begins_after old mid new ending stays (inl not) = inl (
     record {
       bytes = not.0.bytes ∙ stays.bytes;
       disk = not.0.disk ∙ stays.disk;
     },
     not.1,
   )
-  begins_behind old mid new ending stays (inr begun) = inr begun
+  begins_after old mid new ending stays (inr begun) = inr begun
 
   -- where an input file stopped the command
   pub begins_stopped : (file : List ℕ) (old new : R) (ending : Ending) → NameStays old new

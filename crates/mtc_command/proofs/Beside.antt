@@ -6,9 +6,9 @@ use Rattle.std.proofs.lemmas.List.{length-append}
 use Rattle.std.specs.Option.{IsSomeAnd}
 use Rattle.mtc_io.specs.Counts.{Rose}
 use Rattle.disk_core.specs.declared.disk.Disk.{Ghosts}
-use Rattle.disk_core.specs.Moments.{OnlyReads}
+use Rattle.disk_core.specs.Times.{OnlyReads}
 use Rattle.disk_core.specs.Same.{SameDevice}
-use Rattle.disk_core.proofs.Moments.{nothing_read}
+use Rattle.disk_core.proofs.Times.{nothing_read}
 use Rattle.mtc_room.specs.Room.{OpensBytes, ModelsFile}
 use Rattle.mtc_room.specs.declared.room.Room.{Ghosts as Rooms}
 use Rattle.mtc_command.specs.Answers.{Ending, replied, room_failed, no_memory, IfReply, Reply}
@@ -81,11 +81,12 @@ failed_at (room_failed at) F B Fault file beside files among too so more is = el
 failed_at no_memory F B Fault file beside files among too so more is = tt
 
 -- a fact of the reply under a premise
-if_tells : (Models : Type 0) (ending : Ending) (P : Reply → Type 0) → (Models → IfReply ending P)
+where_modelled : (Models : Type 0) (ending : Ending) (P : Reply → Type 0)
+    → (Models → IfReply ending P)
     → IfReply ending (λ reply. Models → P reply)
-if_tells Models (replied reply) P is = is
-if_tells Models (room_failed file) P is = tt
-if_tells Models no_memory P is = tt
+where_modelled Models (replied reply) P is = is
+where_modelled Models (room_failed file) P is = tt
+where_modelled Models no_memory P is = tt
 
 -- Both devices were worked on and closed, that of the journal last.
 module _ {R S D : Type 0} (rooms : Rooms R S D) (g : Ghosts D) (name : List ℕ)
@@ -156,7 +157,7 @@ module _ {R S D : Type 0} (rooms : Rooms R S D) (g : Ghosts D) (name : List ℕ)
       };
     };
     ends = record {
-      reply = if_tells (rooms.is_modelled old) ending _ (λ t. reply_so ending _ _ (λ reply is.
+      reply = where_modelled (rooms.is_modelled old) ending _ (λ t. reply_so ending _ _ (λ reply is.
           of_bytes (λ o. Meets o.answer reply) name _ _ (λ bytes. says bytes held) (opened.bytes t)
           is) (given_by (g.contents e)
           (held_is rooms g name old mid both d e opened opened_beside t)
@@ -164,11 +165,12 @@ module _ {R S D : Type 0} (rooms : Rooms R S D) (g : Ghosts D) (name : List ℕ)
       words = λ bad. absurd bad;
       not_words = worked.ends.plain;
       fault = fault_tiled among among_tiles worked.ends.fault;
-      early = if_tells (rooms.is_modelled old) ending _ (λ t. reply_so ending _ _ (λ reply is. (
-        of_bytes (λ o. journaled_by o ≡ untouched → IsEarly (status_of reply)) name _ _
-            (λ bytes. says bytes held) (opened.bytes t) is,
-        tt,
-      )) (given_by (g.contents e) (held_is rooms g name old mid both d e opened opened_beside t)
+      early =
+          where_modelled (rooms.is_modelled old) ending _ (λ t. reply_so ending _ _ (λ reply is. (
+            of_bytes (λ o. journaled_by o ≡ untouched → IsEarly (status_of reply)) name _ _
+                (λ bytes. says bytes held) (opened.bytes t) is,
+            tt,
+          )) (given_by (g.contents e) (held_is rooms g name old mid both d e opened opened_beside t)
           worked.gives).early);
     };
     made = λ t. record {
@@ -229,15 +231,15 @@ module _ {R S D : Type 0} (rooms : Rooms R S D) (g : Ghosts D) where
 
   -- a file that was made empty holds nothing
   made_empty : (x z : Option D) (e e' : D) → x ≡ None → OnlyReads g e e'
-      → ((c : List ℕ) → g.may_leave e c → c ≡ []) → g.moment e ≡ 0
+      → ((c : List ℕ) → g.may_leave e c → c ≡ []) → g.clock_at e ≡ 0
       → IsSomeAnd z (λ b. SameDevice g e' b) → Leaves g (HasKept untouched) x z
   made_empty x None e e' none only_reads only time put = absurd put
   made_empty x (Some b) e e' none only_reads only time put =
       subst (λ (o : Option D). Leaves g (HasKept untouched) o (Some b)) (sym none) (record {
         later = omega arith;
-        images = record {
+        crash_states = record {
           now_is = λ c left. only c (only_reads.crash c ((put.leaves c).0 left));
-          since_is = λ c since. only c (only_reads.moments.each c
+          since_is = λ c since. only c (only_reads.times.each c
               (subst (λ n. g.left_since e' n c) (sym time) ((put.left 0 c).0 since)));
         };
       })

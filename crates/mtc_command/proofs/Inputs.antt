@@ -12,7 +12,7 @@ use Rattle.mtc_command.specs.Served.{ClosesAll, HasDone}
 use Rattle.mtc_command.specs.Steps.{Outcome, answers, stops_at, with_bytes}
 use Rattle.mtc_command.specs.declared.answer.Stopped.TheVariants.{Missing, Beyond}
 use Rattle.mtc_command.proofs.Made.{OnlyNow}
-use Rattle.mtc_command.proofs.Served.{behind, stopped}
+use Rattle.mtc_command.proofs.Served.{following, stopped}
 
 module _ (limit : ℕ) (name : List ℕ) (next : List ℕ → Outcome) where
   no_file : (file : Option (List ℕ)) (reason : List ℕ) → reason ≡ codes "Absent" → file ≡ None
@@ -57,8 +57,8 @@ module _ {R S D : Type 0} (rooms : Rooms R S D) (disks : Disks D) (limit : ℕ) 
   failed rose = λ files names next among.
       stopped rooms disks files names [] _ old new read only_now _ (rose, among) tt
 
-  pub starved : Done rooms disks limit name old new no_memory
-  starved = λ files names next among.
+  pub out_of_memory : Done rooms disks limit name old new no_memory
+  out_of_memory = λ files names next among.
       stopped rooms disks files names [] _ old new read only_now no_memory tt tt
 
 -- a file is there and short enough
@@ -75,12 +75,12 @@ module _ {R S D : Type 0} (rooms : Rooms R S D) (disks : Disks D) (limit : ℕ) 
     (old mid new : R) (bytes : List ℕ) (back : ClosesAll rooms old mid [])
     (is : rooms.is_modelled old → (rooms.file old name ≡ Some bytes) × (length bytes ≤ limit)) where
   -- a command that has read a file does the rest of its work
-  pub behind_file : (files names besides : List (List ℕ)) (next : List ℕ → Outcome)
+  pub after_file : (files names besides : List (List ℕ)) (next : List ℕ → Outcome)
       (wanted : Outcome) (ending : Ending) → (rooms.is_modelled old → wanted ≡ next bytes)
       → HasDone rooms disks ⊥ files names besides wanted mid new ending
       → HasDone rooms disks ⊥ files names besides
       (with_bytes limit name (rooms.file old name) next) old new ending
-  behind_file files names besides next wanted ending same done =
-      behind rooms disks files files names besides _ wanted old mid new ending back
+  after_file files names besides next wanted ending same done =
+      following rooms disks files files names besides _ wanted old mid new ending back
       (λ t. same t ∙ sym (bytes_read limit name (rooms.file old name) bytes next (is t).0 (is t).1))
       (λ file among. among) done

@@ -2,7 +2,7 @@
 -- device of the file system.
 use Rattle.std.proofs.Common.{◌≡◌, inl, inr, ℕ, ◌≤◌, List, Option, None, Some, sym, subst, arith}
 use Rattle.std.specs.Option.{IsSomeAnd}
-use Rattle.disk_core.specs.Moments.{LeavesOnly, OnlyReads}
+use Rattle.disk_core.specs.Times.{LeavesOnly, OnlyReads}
 use Rattle.disk_core.specs.Same.{SameDevice}
 use Rattle.disk_core.specs.declared.disk.Disk.{Ghosts}
 use Rattle.journal_core.specs.Format.{Represents, RepresentsEither}
@@ -12,53 +12,54 @@ use Rattle.mtc_command.specs.Made.{Kept, WasRead, HasAdded, HasKept, HasMade, Ma
 use Rattle.mtc_command.specs.Made.{ReadsAtMost, Adds, MayAdd, Leaves}
 use Rattle.mtc_command.specs.Answers.{Ending, replied, room_failed, no_memory, IfReply}
 use Rattle.mtc_command.specs.Endings.{LeftBy, AddsBy}
-use Rattle.disk_core.proofs.Moments.{only_read_on}
+use Rattle.disk_core.proofs.Times.{only_read_on}
 
 module _ {D : Type 0} (g : Ghosts D) where
   -- the bytes of a disk that the model knows are a crash state; and the crash states since now are
   -- those of now
-  abbrev pub ReadsImage : Type 0
-  ReadsImage = (d : D) (b : List ℕ) → g.contents d ≡ Some b → g.may_leave d b
+  abbrev pub ReadsCrashState : Type 0
+  ReadsCrashState = (d : D) (b : List ℕ) → g.contents d ≡ Some b → g.may_leave d b
 
   abbrev pub OnlyNow : Type 0
-  OnlyNow = (d : D) (c : List ℕ) → g.left_since d (g.moment d) c → g.may_leave d c
+  OnlyNow = (d : D) (c : List ℕ) → g.left_since d (g.clock_at d) c → g.may_leave d c
 
   -- a read leaves nothing new
   pub kept_of : (old mid : D) (did : Journaled) → OnlyReads g old mid
       → Leaves g (HasKept did) (Some old) (Some mid)
   kept_of old mid did only_reads = record {
-    later = only_reads.moments.later;
-    images = record { now_is = only_reads.crash; since_is = only_reads.moments.each };
+    later = only_reads.times.later;
+    crash_states = record { now_is = only_reads.crash; since_is = only_reads.times.each };
   }
 
-  was_read : (old mid : D) (list : List (List ℕ)) → ReadsImage → OnlyReads g old mid
+  was_read : (old mid : D) (list : List (List ℕ)) → ReadsCrashState → OnlyReads g old mid
       → IsOpen g mid list
       → WasRead (g.may_leave old) list
-  was_read old mid list image only_reads is = record {
+  was_read old mid list crash_state only_reads is = record {
     bytes = is.bytes;
-    image = only_reads.crash is.bytes (image mid is.bytes is.contents);
+    crash_state = only_reads.crash is.bytes (crash_state mid is.bytes is.contents);
     stands = is.stands;
   }
 
   -- the crash states after an opening and an append, seen from the device before
   has_added : (old mid new : D) (list : List (List ℕ)) (body : List ℕ) (Now : CrashStates)
-      → ReadsImage → OnlyReads g old mid → IsOpen g mid list
+      → ReadsCrashState → OnlyReads g old mid → IsOpen g mid list
       → LeavesOnly g mid new (RepresentsEither list body)
       → ((c : List ℕ) → g.may_leave new c → Now c)
-      → HasAdded list body Now (g.may_leave old) (g.may_leave new) (g.left_since new (g.moment old))
-  has_added old mid new list body Now image only_reads is run now = record {
-    read = was_read old mid list image only_reads is;
+      → HasAdded list body Now (g.may_leave old) (g.may_leave new)
+      (g.left_since new (g.clock_at old))
+  has_added old mid new list body Now crash_state only_reads is run now = record {
+    read = was_read old mid list crash_state only_reads is;
     now_is = now;
-    since_is = λ c since. elim (run.before (g.moment old) c only_reads.moments.later since) [
-      | inl past ↦ inl (only_reads.moments.each c past)
+    since_is = λ c since. elim (run.before (g.clock_at old) c only_reads.times.later since) [
+      | inl past ↦ inl (only_reads.times.each c past)
       | inr either ↦ inr either
     ];
   }
 
   later_still : (old mid new : D) (P : List ℕ → Type 0) → OnlyReads g old mid
       → LeavesOnly g mid new P
-      → g.moment old ≤ g.moment new
-  later_still old mid new P only_reads run = omega (arith, only_reads.moments.later, run.later)
+      → g.clock_at old ≤ g.clock_at new
+  later_still old mid new P only_reads run = omega (arith, only_reads.times.later, run.later)
 
   -- what was only read
   pub only_read : (old mid new : D) → OnlyReads g old mid → ReadsAtMost g mid new
@@ -76,46 +77,47 @@ module _ {D : Type 0} (g : Ghosts D) where
   ]
 
   -- what the work after an opening has made
-  has_made : (old mid new : D) (did : Journaled) → ReadsImage
+  has_made : (old mid new : D) (did : Journaled) → ReadsCrashState
       → OnlyReads g old mid → Adds g did mid new → Leaves g (HasMade did) (Some old) (Some new)
-  has_made old mid new untouched image only_reads made = absurd made
-  has_made old mid new (reads list) image only_reads made =
+  has_made old mid new untouched crash_state only_reads made = absurd made
+  has_made old mid new (reads list) crash_state only_reads made =
       let after = only_read old mid new only_reads made.1 in
       record {
-        later = after.moments.later;
-        images = record {
-          read = was_read old mid list image only_reads made.0;
+        later = after.times.later;
+        crash_states = record {
+          read = was_read old mid list crash_state only_reads made.0;
           now_is = still_open mid new list made.0 made.1;
-          since_is = after.moments.each;
+          since_is = after.times.each;
         };
       }
-  has_made old mid new (appended list body) image only_reads made = record {
+  has_made old mid new (appended list body) crash_state only_reads made = record {
     later = later_still old mid new _ only_reads made.1;
-    images = has_added old mid new list body _ image only_reads made.0 made.1 made.2;
+    crash_states = has_added old mid new list body _ crash_state only_reads made.0 made.1 made.2;
   }
-  has_made old mid new (started body) image only_reads made = absurd made
+  has_made old mid new (started body) crash_state only_reads made = absurd made
 
-  may_have_made : (old mid new : D) (did : Journaled) → ReadsImage
+  may_have_made : (old mid new : D) (did : Journaled) → ReadsCrashState
       → OnlyReads g old mid → MayAdd g did mid new
       → Leaves g (MayHaveMade did) (Some old) (Some new)
-  may_have_made old mid new untouched image only_reads made = absurd made
-  may_have_made old mid new (reads list) image only_reads made =
+  may_have_made old mid new untouched crash_state only_reads made = absurd made
+  may_have_made old mid new (reads list) crash_state only_reads made =
       kept_of old new (reads list) (only_read old mid new only_reads made.1)
-  may_have_made old mid new (appended list body) image only_reads made = record {
+  may_have_made old mid new (appended list body) crash_state only_reads made = record {
     later = later_still old mid new _ only_reads made.1;
-    images = inr (has_added old mid new list body _ image only_reads made.0 made.1 made.2);
+    crash_states =
+        inr (has_added old mid new list body _ crash_state only_reads made.0 made.1 made.2);
   }
-  may_have_made old mid new (started body) image only_reads made = absurd made
+  may_have_made old mid new (started body) crash_state only_reads made = absurd made
 
   -- what it leaves, by its ending
-  pub worked : (old mid new : D) (ending : Ending) (did : Journaled) → ReadsImage
+  pub worked : (old mid new : D) (ending : Ending) (did : Journaled) → ReadsCrashState
       → OnlyReads g old mid → AddsBy g ending did mid new
       → Leaves g (LeftBy ending did) (Some old) (Some new)
-  worked old mid new (replied reply) did image only_reads made =
-      has_made old mid new did image only_reads made
-  worked old mid new (room_failed file) did image only_reads made =
-      may_have_made old mid new did image only_reads made
-  worked old mid new no_memory did image only_reads made =
+  worked old mid new (replied reply) did crash_state only_reads made =
+      has_made old mid new did crash_state only_reads made
+  worked old mid new (room_failed file) did crash_state only_reads made =
+      may_have_made old mid new did crash_state only_reads made
+  worked old mid new no_memory did crash_state only_reads made =
       kept_of old new did (only_read old mid new only_reads made)
 
 -- Nothing new is left also by a command that a failure has ended.
@@ -133,22 +135,23 @@ module _ {D : Type 0} (g : Ghosts D) where
       → Leaves g (HasKept did) old new → Leaves g (LeftBy ending did) old new
   left_kept (replied reply) did old new not kept =
       subst (λ d. Leaves g (HasMade d) old new) (sym not)
-      (record { later = kept.later; images = kept.images })
+      (record { later = kept.later; crash_states = kept.crash_states })
   left_kept (room_failed file) did old new not kept = record {
     later = kept.later;
-    images = may_kept did _ _ _ kept.images;
+    crash_states = may_kept did _ _ _ kept.crash_states;
   }
-  left_kept no_memory did old new not kept = record { later = kept.later; images = kept.images }
+  left_kept no_memory did old new not kept =
+      record { later = kept.later; crash_states = kept.crash_states }
 
   -- a device that was left alone
   still_at : (x : Option D) (did : Journaled) → OnlyNow g → Leaves g (HasKept did) x x
   still_at None did only_now = record {
     later = omega arith;
-    images = record { now_is = λ c is. is; since_is = λ c is. is };
+    crash_states = record { now_is = λ c is. is; since_is = λ c is. is };
   }
   still_at (Some d) did only_now = record {
     later = omega arith;
-    images = record { now_is = λ c is. is; since_is = only_now d };
+    crash_states = record { now_is = λ c is. is; since_is = only_now d };
   }
 
   pub still : (x y : Option D) (did : Journaled) → OnlyNow g → y ≡ x → Leaves g (HasKept did) x y
@@ -171,7 +174,7 @@ module _ (b b' n n' s s' : CrashStates) (w : Wider b b' n n' s s') where
   read_through : (list : List (List ℕ)) → WasRead b list → WasRead b' list
   read_through list r = record {
     bytes = r.bytes;
-    image = w.from_before r.bytes r.image;
+    crash_state = w.from_before r.bytes r.crash_state;
     stands = r.stands;
   }
 
@@ -221,12 +224,12 @@ module _ {D : Type 0} (g : Ghosts D) where
   opened How through (Some a) None d e out back k = absurd back
   opened How through (Some a) (Some b) d e out back k = record {
     later = omega (arith, out.time, back.time, k.later);
-    images = through _ _ _ _ _ _ (record {
+    crash_states = through _ _ _ _ _ _ (record {
       from_before = λ c is. (out.leaves c).0 is;
       to_now = λ c is. (back.leaves c).0 is;
       to_since = λ c is. subst (λ t. g.left_since e t c) (sym out.time)
-          ((back.left (g.moment a) c).0 is);
-    }) k.images;
+          ((back.left (g.clock_at a) c).0 is);
+    }) k.crash_states;
   }
 
   pub left_opened : (ending : Ending) (did : Journaled) (x z : Option D) (d e : D)

@@ -115,10 +115,10 @@ module _ {R S D : Type 0} (rooms : Rooms R S D) (disks : Disks D) where
   -- A command that has closed what it read does the rest of its work.
   module _ (files files' names besides : List (List ℕ)) (wanted wanted' : Outcome) (old mid new : R)
       (ending : Ending) (read : ClosesAll rooms old mid []) where
-    made_behind : rooms.is_modelled old → wanted' ≡ wanted
+    made_after : rooms.is_modelled old → wanted' ≡ wanted
         → LeavesJournals rooms disks mid new (done_with names wanted'.journals) ending
         → LeavesJournals rooms disks old new (done_with names wanted.journals) ending
-    made_behind is_modelled same made = subst
+    made_after is_modelled same made = subst
         (λ (w : Outcome). LeavesJournals rooms disks old new (done_with names w.journals) ending)
         same
         (record {
@@ -133,11 +133,11 @@ module _ {R S D : Type 0} (rooms : Rooms R S D) (disks : Disks D) where
               (read.others name tt).disk is) (done_with names wanted'.journals) made.left;
         })
 
-    pub behind : (rooms.is_modelled old → wanted' ≡ wanted)
+    pub following : (rooms.is_modelled old → wanted' ≡ wanted)
         → ((file : List ℕ) → IsNamed files' file → IsNamed files file)
         → HasDone rooms disks ⊥ files' names besides wanted' mid new ending
         → HasDone rooms disks ⊥ files names besides wanted old new ending
-    behind same more done = record {
+    following same more done = record {
       back = record {
         opened = done.back.opened ∙ read.opened;
         later = omega (arith, read.later, done.back.later);
@@ -158,7 +158,7 @@ module _ {R S D : Type 0} (rooms : Rooms R S D) (disks : Disks D) where
             OfEach (λ name did. did ≡ untouched → IsEarly (status_of reply))
             (done_with names w.journals)) (same t) (is (read.is_modelled t))) done.ends.early;
       };
-      made = λ t. made_behind t (same t) (done.made (read.is_modelled t));
+      made = λ t. made_after t (same t) (done.made (read.is_modelled t));
     }
 
   -- A command that has closed what it read ends, and opens no journal.

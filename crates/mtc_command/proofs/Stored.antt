@@ -5,10 +5,10 @@ use Rattle.std.specs.Prelude.{option_and_then}
 use Rattle.std.specs.Option.{IsSomeAnd}
 use Rattle.std.proofs.lemmas.Option.{IfSome_then}
 use Rattle.byte_formats.specs.Types.{Text}
-use Rattle.disk_core.specs.Moments.{OnlyReads}
+use Rattle.disk_core.specs.Times.{OnlyReads}
 use Rattle.disk_core.specs.Same.{SameDevice}
 use Rattle.disk_core.specs.declared.disk.Disk.{Ghosts as Disks}
-use Rattle.disk_core.proofs.Moments.{only_read_on}
+use Rattle.disk_core.proofs.Times.{only_read_on}
 use Rattle.file_events.specs.Events.{CrashStates}
 use Rattle.file_events.specs.Tiles.{LeavesTiles, stored}
 use Rattle.file_events.specs.Worlds.{states_at}
@@ -52,8 +52,8 @@ module _ (goes : List Text → Text → Type 0) (Valid : List Text → Type 0)
   left_through (reads list) is = λ all c at. is (λ t there. all t (more t there)) c (fewer c at)
   left_through (appended list body) is = record {
     keeps = λ all t at. is.keeps (λ u there. all u (more u there)) t (fewer t at);
-    behind = λ all c at stands t there.
-        is.behind (λ u was. all u (more u was)) c (less c at) stands t (fewer t there);
+    following = λ all c at stands t there.
+        is.following (λ u was. all u (more u was)) c (less c at) stands t (fewer t there);
   }
   left_through (started body) is = λ c at. more c (is c (fewer c at))
 
@@ -302,11 +302,11 @@ module _ (goes : List Text → Text → Type 0) (Valid : List Text → Type 0) {
       ]
 
   -- what was read was closed, and then comes the rest of the command
-  pub behind_stored : (names besides : List Text) (wanted wanted' : Outcome) (old mid new : R)
+  pub after_stored : (names besides : List Text) (wanted wanted' : Outcome) (old mid new : R)
       → ClosesAll rooms old mid [] → (rooms.is_modelled old → wanted' ≡ wanted)
       → StoresBeside goes Valid rooms g mid new names besides wanted'
       → StoresBeside goes Valid rooms g old new names besides wanted
-  behind_stored names besides wanted wanted' old mid new read same stores = λ t.
+  after_stored names besides wanted wanted' old mid new read same stores = λ t.
       subst (λ (w : Outcome). OfEach (λ name did. IsNamed besides (tiles_name name)
       → LeavesBoth goes Valid rooms g old new name did) (done_with names w.journals)) (same t)
       (each_so (λ name did. IsNamed besides (tiles_name name)

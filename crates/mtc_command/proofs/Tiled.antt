@@ -5,7 +5,7 @@ use Rattle.std.proofs.Common.{IfSome, option_map, subst, arith}
 use Rattle.std.specs.Prelude.{option_and_then}
 use Rattle.mtc_io.specs.Counts.{Rose}
 use Rattle.disk_core.specs.declared.disk.Disk.{Ghosts}
-use Rattle.disk_core.specs.Moments.{OnlyReads}
+use Rattle.disk_core.specs.Times.{OnlyReads}
 use Rattle.journal_core.specs.Format.{Represents, records_of}
 use Rattle.journal_core.specs.Words.{AllRepresent}
 use Rattle.mtc_command.specs.Answers.{Ending, replied, room_failed, no_memory, IfReply, Reply}
@@ -19,7 +19,7 @@ use Rattle.mtc_command.specs.Wanted.{Meets}
 use Rattle.mtc_command.specs.Works.{HasFinishedTiled, HasGiven}
 use Rattle.mtc_command.specs.Works.{HasWorked, HasWorkedTiled}
 use Rattle.mtc_command.specs.Works.{HasWorkedTiledOn, journaled_by}
-use Rattle.mtc_command.proofs.Made.{ReadsImage}
+use Rattle.mtc_command.proofs.Made.{ReadsCrashState}
 use Rattle.mtc_command.proofs.Served.{reply_so}
 use Rattle.mtc_command.proofs.Valid.{valid_on}
 use Rattle.mtc_command.proofs.Works.{each_some, given_early, given_on}
@@ -100,16 +100,18 @@ module _ {D : Type 0} (g : Ghosts D) (name : List ℕ) (says : List ℕ → List
   abbrev list : Option (List (List ℕ))
   list = option_map records_of (g.contents mid)
 
-  gives_at : (x : Option (List ℕ)) → g.contents tiles_mid ≡ x → ReadsImage g → OnlyReads g old mid
+  gives_at : (x : Option (List ℕ)) → g.contents tiles_mid ≡ x → ReadsCrashState g
+      → OnlyReads g old mid
       → IfSome x (λ held. IfSome (g.contents old) (λ b. IfSome list (λ l. says b held ≡ next l)))
       → IfSome (g.contents mid) (λ b. IfSome list (Represents b))
       → IfSome list (AllRepresent g mid)
       → HasWorkedTiled g name (option_and_then (λ bytes. list) (g.contents tiles_mid)) next mid new
       tiles_mid tiles' ending
       → IfSome x (λ held. HasGiven g (λ b. says b held) old new ending)
-  gives_at None is image only_reads found stands all work = tt
-  gives_at (Some held) is image only_reads found stands all work =
-      given_on g name (λ b. says b held) next old mid new ending image only_reads found stands all
+  gives_at None is crash_state only_reads found stands all work = tt
+  gives_at (Some held) is crash_state only_reads found stands all work =
+      given_on g name (λ b. says b held) next old mid new ending crash_state only_reads found stands
+      all
       (reply_so ending _ _ (λ reply meets. subst (λ (o : Option (List ℕ)).
       IfSome (option_and_then (λ bytes. list) o) (λ l. Meets (next l).answer reply)) is meets)
       work.reply)
@@ -117,7 +119,7 @@ module _ {D : Type 0} (g : Ghosts D) (name : List ℕ) (says : List ℕ → List
       (λ l. IsOpen g mid l → AddsBy g ending (journaled_by (next l)) mid new)) is work.adds)
 
   -- the work after the opening is work on the devices that the file system opened
-  pub tiled_on : ReadsImage g → OnlyReads g old mid → g.faults mid ≡ g.faults old
+  pub tiled_on : ReadsCrashState g → OnlyReads g old mid → g.faults mid ≡ g.faults old
       → OnlyReads g tiles tiles_mid → g.faults tiles_mid ≡ g.faults tiles
       → IfSome (g.contents tiles) (λ held. IfSome (g.contents old) (λ b.
       IfSome list (λ l. says b held ≡ next l)))
@@ -126,7 +128,7 @@ module _ {D : Type 0} (g : Ghosts D) (name : List ℕ) (says : List ℕ → List
       → HasWorkedTiled g name (option_and_then (λ bytes. list) (g.contents tiles_mid)) next mid new
       tiles_mid tiles' ending
       → HasWorkedTiledOn g name says old new tiles tiles' ending
-  tiled_on image only_reads fine only_reads_tiles fine_tiles found stands all work = record {
+  tiled_on crash_state only_reads fine only_reads_tiles fine_tiles found stands all work = record {
     ends = record {
       plain = work.ends.plain;
       later = omega (arith, fine, work.ends.later);
@@ -134,7 +136,8 @@ module _ {D : Type 0} (g : Ghosts D) (name : List ℕ) (says : List ℕ → List
           (subst (λ n. Rose n (g.faults new)) fine)
           (subst (λ n. Rose n (g.faults tiles')) fine_tiles) work.ends.fault;
     };
-    gives = gives_at (g.contents tiles) only_reads_tiles.contents image only_reads found stands all
+    gives = gives_at (g.contents tiles) only_reads_tiles.contents crash_state only_reads found
+        stands all
         work;
   }
 

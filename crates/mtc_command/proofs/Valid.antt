@@ -3,7 +3,7 @@ use Rattle.std.proofs.Common.{◌≡◌, inl, inr, ℕ, List, [], ◌∷◌, Opt
 use Rattle.std.proofs.Common.{arith, IfSome, IsSome, option_map, subst, sym, refl, ap, ◌∙◌}
 use Rattle.std.specs.Option.{IsSomeAnd}
 use Rattle.std.proofs.lemmas.Option.{IfSome_then}
-use Rattle.disk_core.specs.Moments.{OnlyReads}
+use Rattle.disk_core.specs.Times.{OnlyReads}
 use Rattle.disk_core.specs.Same.{SameDevice}
 use Rattle.disk_core.specs.declared.disk.Disk.{Ghosts as Disks}
 use Rattle.journal_core.specs.Format.{Represents, records_of}
@@ -100,11 +100,11 @@ module _ {R S D : Type 0} (rooms : Rooms R S D) (disks : Disks D)
       kept_valid names wanted old old (gives_same rooms old) only_now
 
   -- what was read was closed, and then comes the rest of the command
-  pub behind_valid : (names : List (List ℕ)) (wanted wanted' : Outcome) (old mid new : R)
+  pub after_valid : (names : List (List ℕ)) (wanted wanted' : Outcome) (old mid new : R)
       → ClosesAll rooms old mid [] → (rooms.is_modelled old → wanted' ≡ wanted)
       → KeepsValid rooms disks Valid names wanted' mid new
       → KeepsValid rooms disks Valid names wanted old new
-  behind_valid names wanted wanted' old mid new read same valid = λ t.
+  after_valid names wanted wanted' old mid new read same valid = λ t.
       subst (λ (w : Outcome). OfEach (LeavesValid rooms disks Valid old new)
       (done_with names w.journals)) (same t)
       (each_so (LeavesValid rooms disks Valid mid new) (LeavesValid rooms disks Valid old new)

@@ -6,7 +6,7 @@ use Rattle.std.proofs.Common.{IfSome, IsSome, option_map, subst, sym, ◌∙◌,
 use Rattle.std.proofs.lemmas.Option.{IfSome_then}
 use Rattle.mtc_io.specs.Counts.{Rose, with_count}
 use Rattle.disk_core.specs.declared.disk.Disk.{Ghosts}
-use Rattle.disk_core.specs.Moments.{LeavesOnly, OnlyReads}
+use Rattle.disk_core.specs.Times.{LeavesOnly, OnlyReads}
 use Rattle.journal_core.specs.Format.{Represents, RepresentsEither, records_of}
 use Rattle.journal_core.specs.Words.{AllRepresent}
 use Rattle.mtc_room.specs.Room.{OpensBytes}
@@ -22,7 +22,7 @@ use Rattle.mtc_command.specs.declared.answer.Said.TheVariants.{Done}
 use Rattle.mtc_command.specs.Works.{HasFinished, HasGiven, HasOpened, HasClosed, HasWorked}
 use Rattle.mtc_command.specs.Works.{HasWorkedOn}
 use Rattle.mtc_command.specs.Works.{journaled_by}
-use Rattle.mtc_command.proofs.Made.{ReadsImage, kept_of, left_kept, left_opened, worked}
+use Rattle.mtc_command.proofs.Made.{ReadsCrashState, kept_of, left_kept, left_opened, worked}
 use Rattle.mtc_command.proofs.Served.{failed_so, reply_so}
 
 module _ {X : Type 0} where
@@ -59,9 +59,9 @@ module _ {D : Type 0} (g : Ghosts D) (name : List ℕ) (list : Option (List (Lis
   }
 
   -- memory was refused before there was anything to append
-  pub starved_on : (says : List (List ℕ) → Outcome) → ReadsAtMost g mid new
+  pub out_of_memory_on : (says : List (List ℕ) → Outcome) → ReadsAtMost g mid new
       → HasWorked g name list says mid new no_memory
-  starved_on says only = record {
+  out_of_memory_on says only = record {
     ends = record { plain = tt; later = later_of only; fault = tt };
     reply = tt;
     adds = each_some list _ (λ records opened. only);
@@ -131,21 +131,21 @@ module _ {D : Type 0} (g : Ghosts D) (name : List ℕ) (says : List ℕ → Outc
   no_early no_memory adds = tt
 
   -- the work after an opening has given what work on the device that was opened gives
-  pub given_on : (ending : Ending) → ReadsImage g → OnlyReads g old mid
+  pub given_on : (ending : Ending) → ReadsCrashState g → OnlyReads g old mid
       → IfSome (g.contents old) (λ b. IfSome list (λ l. says b ≡ next l))
       → IfSome (g.contents mid) (λ b. IfSome list (Represents b))
       → IfSome list (AllRepresent g mid)
       → IfReply ending (λ reply. IfSome list (λ l. Meets (next l).answer reply))
       → IfSome list (λ l. IsOpen g mid l → AddsBy g ending (journaled_by (next l)) mid new)
       → HasGiven g says old new ending
-  given_on ending image only_reads found stands all reply adds = record {
+  given_on ending crash_state only_reads found stands all reply adds = record {
     reply = reply_so ending _ _ (λ reply is. opened_at (λ o. Meets o.answer reply) (g.contents old)
         (g.contents mid) refl only_reads.contents found stands all
         (IfSome_then list is (λ l meets opened. meets))) reply;
     left = opened_at (λ o. Leaves g (LeftBy ending (journaled_by o)) (Some old) (Some new))
         (g.contents old) (g.contents mid) refl only_reads.contents found stands all
         (IfSome_then list adds (λ l made opened.
-        worked g old mid new ending (journaled_by (next l)) image only_reads (made opened)));
+        worked g old mid new ending (journaled_by (next l)) crash_state only_reads (made opened)));
     early = reply_so ending _ _ (λ reply is. opened_at
         (λ o. journaled_by o ≡ untouched → IsEarly (status_of reply)) (g.contents old)
         (g.contents mid)
@@ -153,22 +153,22 @@ module _ {D : Type 0} (g : Ghosts D) (name : List ℕ) (says : List ℕ → Outc
   }
 
   -- and is work on it
-  pub worked_on : (ending : Ending) → ReadsImage g → OnlyReads g old mid
+  pub worked_on : (ending : Ending) → ReadsCrashState g → OnlyReads g old mid
       → g.faults mid ≡ g.faults old
       → IfSome (g.contents old) (λ b. IfSome list (λ l. says b ≡ next l))
       → IfSome (g.contents mid) (λ b. IfSome list (Represents b))
       → IfSome list (AllRepresent g mid)
       → HasWorked g name list next mid new ending → HasWorkedOn g name says old new ending
-  worked_on ending image only_reads fine found stands all work = record {
+  worked_on ending crash_state only_reads fine found stands all work = record {
     ends = record {
       plain = work.ends.plain;
       later = omega (arith, fine, work.ends.later);
       fault = failed_so ending _ _ (name ∷ []) (name ∷ [])
           (subst (λ n. Rose n (g.faults new)) fine) (λ file is. is) work.ends.fault;
     };
-    reply = (given_on ending image only_reads found stands all work.reply work.adds).reply;
-    left = (given_on ending image only_reads found stands all work.reply work.adds).left;
-    early = (given_on ending image only_reads found stands all work.reply work.adds).early;
+    reply = (given_on ending crash_state only_reads found stands all work.reply work.adds).reply;
+    left = (given_on ending crash_state only_reads found stands all work.reply work.adds).left;
+    early = (given_on ending crash_state only_reads found stands all work.reply work.adds).early;
   }
 
 -- The opening was refused, and the device was only read.

@@ -2,7 +2,7 @@
 -- began.
 use Rattle.std.specs.Prelude.{◌≡◌, ◌⊎◌, ◌≤◌, List, [], ◌∷◌, ◌++◌, Option, None, Some}
 use Rattle.byte_formats.specs.Types.{Text}
-use Rattle.disk_core.specs.Moments.{LeavesOnly, OnlyReads}
+use Rattle.disk_core.specs.Times.{LeavesOnly, OnlyReads}
 use Rattle.disk_core.specs.declared.disk.Disk.{Ghosts}
 use Rattle.journal_core.specs.Format.{Represents, RepresentsEither}
 use Rattle.journal_core.specs.Words.{AllRepresent}
@@ -39,7 +39,7 @@ HasKept did before now since = Kept before now since
 -- What was read is a crash state from before, and represents these records.
 pub record WasRead (before : CrashStates) (list : List Text) : Type 0 where
   pub bytes : Text
-  pub image : before bytes
+  pub crash_state : before bytes
   pub stands : Represents bytes list
 
 -- The records that were read are on the disk, and nothing else.
@@ -106,4 +106,4 @@ module _ {D : Type 0} (g : Ghosts D) where
 -- From one device of a name to a later one the clock doesn't go back, and the crash states are so.
 pub record Leaves {D : Type 0} (g : Ghosts D) (How : Leaving) (old new : Option D) : Type 0 where
   pub later : clock_of g old ≤ clock_of g new
-  pub images : How (states_at g old) (states_at g new) (states_since g new (clock_of g old))
+  pub crash_states : How (states_at g old) (states_at g new) (states_since g new (clock_of g old))

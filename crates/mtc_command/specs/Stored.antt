@@ -2,7 +2,7 @@
 -- the file goes with the records of the journal.
 use Rattle.std.specs.Prelude.{◌≡◌, ◌⊎◌, List, IfSome}
 use Rattle.byte_formats.specs.Types.{Text}
-use Rattle.disk_core.specs.Moments.{OnlyReads}
+use Rattle.disk_core.specs.Times.{OnlyReads}
 use Rattle.disk_core.specs.declared.disk.Disk.{Ghosts as Disks}
 use Rattle.file_events.specs.Events.{CrashStates, StatesRepresent}
 use Rattle.file_events.specs.Tiles.{LeavesTiles, stored}

@@ -4,7 +4,7 @@ use Rattle.std.specs.Prelude.{IsSome, codes, Result, Ok, Err}
 use Rattle.std.specs.Option.{IsSomeAnd}
 use Rattle.byte_formats.specs.Types.{Text}
 use Rattle.mtc_io.specs.Counts.{Rose, with_count}
-use Rattle.disk_core.specs.Moments.{OnlyReads}
+use Rattle.disk_core.specs.Times.{OnlyReads}
 use Rattle.disk_core.specs.Same.{SameDevice}
 use Rattle.disk_core.specs.declared.disk.Disk.{Ghosts}
 use Rattle.journal_core.specs.Format.{Represents}
@@ -121,7 +121,7 @@ module _ {R S D : Type 0} (rooms : Rooms R S D) (g : Ghosts D) (name : Text) whe
         → IsSomeAnd (rooms.device new name) (λ d. SameDevice g d disk)
     pub only : rooms.is_modelled old → rooms.file old name ≡ None
         → (c : Text) → g.may_leave disk c → c ≡ []
-    pub time : rooms.is_modelled old → rooms.file old name ≡ None → g.moment disk ≡ 0
+    pub time : rooms.is_modelled old → rooms.file old name ≡ None → g.clock_at disk ≡ 0
 
   -- The device was closed: it is that of the file now, if there is one.
   pub record HasClosed (old new : R) (disk : D) : Type 0 where

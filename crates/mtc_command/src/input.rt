@@ -27,7 +27,7 @@ pub fn read_input<'a, R: Room>(
     limit: u64,
 ) -> Result<Bytes, Stop<'a>>
     requires { R.opened room.old < 2 ^ 32 }
-    ensures settled { ClosesAll R.Room room.old room.new [] }
+    ensures all_closed { ClosesAll R.Room room.old room.new [] }
     ensures bytes { IfOk result (λ bytes. R.is_modelled room.old
         → (R.file room.old name.now ≡ Some bytes) × (length bytes ≤ limit)) }
     ensures kind { IfErr result (λ stop. IsInputStop name.now (stop_ending stop)) }

@@ -3,7 +3,7 @@ use Rattle.std.proofs.Common.{◌≡◌, ◌≤◌, ℕ, List, Option, IfSome, O
 use Rattle.std.proofs.Common.{refl, ap}
 use Rattle.std.proofs.lemmas.Option.{IfSome_then}
 use Rattle.byte_formats.specs.Types.{HashFunction, Text}
-use Rattle.disk_core.specs.Moments.{OnlyReads}
+use Rattle.disk_core.specs.Times.{OnlyReads}
 use Rattle.disk_core.specs.declared.disk.Disk.{Ghosts}
 use Rattle.journal_core.specs.Format.{Represents}
 use Rattle.journal_core.specs.Words.{AllRepresent}

@@ -4,9 +4,9 @@ use Rattle.std.proofs.Common.{IfSome, IsOk, Ok, Err, inl, refl, sym, subst, ap, 
 use Rattle.std.proofs.Common.{◌∷◌}
 use Rattle.std.proofs.lemmas.Option.{IfSome_then}
 use Rattle.byte_formats.specs.Types.{HashFunction, Text}
-use Rattle.disk_core.specs.Moments.{LeavesOnly}
+use Rattle.disk_core.specs.Times.{LeavesOnly}
 use Rattle.disk_core.specs.declared.disk.Disk.{Ghosts}
-use Rattle.journal_core.specs.Format.{RepresentsEither, end_behind}
+use Rattle.journal_core.specs.Format.{RepresentsEither, end_following}
 use Rattle.journal_core.specs.Owners.{Owner, OwnerAppends}
 use Rattle.journal_core.specs.Words.{AllRepresent}
 use Rattle.journal_core.specs.declared.error.AppendError.TheVariants as append_error
@@ -44,7 +44,7 @@ module _ {D : Type 0} (g : Ghosts D) (name : Text) (old new : Owner D CosignerSt
     (refusal : Bool → ℕ → Option CosignError) where
   -- what is wanted of it
   abbrev pub says : FoundCosigner → Outcome
-  says found = stepped found body text (refusal false (end_behind found.records))
+  says found = stepped found body text (refusal false (end_following found.records))
 
   abbrev pub met : Option CosignError
   met = refusal old.broken old.end
@@ -62,7 +62,7 @@ module _ {D : Type 0} (g : Ghosts D) (name : Text) (old new : Owner D CosignerSt
       → HasWorkedOnCosigner g name says old new.disk (replied (said Done text))
   step_made free made = says_so g name old.records old.disk new.disk _ _ _ (same_says None free)
       (appended_on g name old.records old.disk new.disk body text made.count
-      (made.any_moment ready.sound) made.kept)
+      (made.any_time ready.sound) made.kept)
 
   untaken : (why : CosignError) → met ≡ Some why → new.disk ≡ old.disk
       → (step_stopped why ≡ NotAllowed) ⊎ (step_stopped why ≡ OverLimit)
@@ -80,7 +80,7 @@ module _ {D : Type 0} (g : Ghosts D) (name : Text) (old new : Owner D CosignerSt
   step_refused (Append append_error.Failed) made is =
       says_so g name old.records old.disk new.disk _ _ _ (same_says None is)
       (failed_on g name old.records old.disk new.disk body text made.leaves.cause made.count
-      (made.any_moment ready.sound) (made.afterwards ready.sound))
+      (made.any_time ready.sound) (made.afterwards ready.sound))
   step_refused (Append other) made is = untaken (Append other) is made.leaves.disk (inr refl)
   step_refused other made is = untaken other is made.leaves.disk (inl refl)
 
@@ -93,12 +93,12 @@ module _ {D : Type 0} (g : Ghosts D) (name : Text) (old new : Owner D CosignerSt
   made_valid h list (Some why) valid = tt
 
   each_valid : (h : HashFunction) (records : Option (List Text))
-      → IfSome records (λ list. old.end ≡ end_behind list)
+      → IfSome records (λ list. old.end ≡ end_following list)
       → (met ≡ None → IfSome records (λ list. cosigner_of h (list ++ body ∷ []) ≡ Ok next))
       → IfSome records (λ list.
       AddsValid (IsCosigner h) (journaled_by (says (found_cosigner old.state list))))
   each_valid h None end valid = tt
-  each_valid h (Some list) end valid = made_valid h list (refusal false (end_behind list))
+  each_valid h (Some list) end valid = made_valid h list (refusal false (end_following list))
       (λ free. valid (ap (λ broken. refusal broken old.end) ready.sound
       ∙ ap (refusal false) end ∙ free))
 

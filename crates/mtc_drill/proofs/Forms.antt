@@ -4,7 +4,7 @@ use Rattle.std.specs.Str.{bytes_eq}
 use Rattle.std.proofs.lemmas.Bool.{or_left, or_right}
 use Rattle.byte_formats.proofs.Values.{same_bytes}
 use Rattle.drill_core.specs.Counts.{IsCounted}
-use Rattle.drill_nodes.specs.Rounds.{drill_of}
+use Rattle.drill_parties.specs.Rounds.{drill_of}
 use Rattle.drill_core.specs.declared.made.Counts.{Counts}
 use Rattle.mtc_drill.specs.Summary.{counts_with, is_summary, is_summary_from, summary_text}
 

@@ -2,7 +2,7 @@
 use Rattle.std.specs.Prelude.{ℕ, zero, suc, ◌+◌, ◌++◌, ◌||◌, Bool, [], length, codes, bytes_eq}
 use Rattle.std.specs.Fmt.{decimal}
 use Rattle.byte_formats.specs.Types.{Text}
-use Rattle.drill_nodes.specs.Rounds.{drill_of}
+use Rattle.drill_parties.specs.Rounds.{drill_of}
 use Rattle.drill_core.specs.declared.made.Counts.{Counts}
 use Rattle.mtc_command.specs.Steps.{Outcome}
 use Rattle.mtc_command.specs.Wanted.{formed}

@@ -6,7 +6,7 @@ ghost use Rattle.mtc_command.specs.Answers.{ending_of};
 ghost use Rattle.mtc_command.specs.Endings.{Replies};
 ghost use Rattle.mtc_drill.specs.Summary.{drill_outcome, numbered_line, summary_text};
 
-use drill_core::{Counts, fleet};
+use drill_core::{Counts, play_drill};
 use mtc_command::{Answer, Said, Stop};
 use std::alloc::{AllocError, Global};
 use tree_core::TreeHash;
@@ -49,6 +49,6 @@ fn answer_of<'a>(alloc: Global, number: u64, counts: &Counts) -> Result<Answer, 
 pub fn drill<'a, H: TreeHash>(alloc: Global, number: u64) -> Result<Answer, Stop<'a>>
     ensures { Replies (drill_outcome number).answer (ending_of result) }
 {
-    let fleet = fleet::<H>(alloc, number)?;
-    answer_of(alloc, number, &fleet.counts)
+    let played = play_drill::<H>(alloc, number)?;
+    answer_of(alloc, number, &played.counts)
 }

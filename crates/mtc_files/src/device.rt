@@ -2,7 +2,7 @@
 //! crashes, with other programs and with itself.
 
 ghost use Rattle.std.specs.Prelude.{◌≡◌, false, IfOk};
-ghost use Rattle.disk_core.specs.File.{file_faults, file_moment, is_file_lost};
+ghost use Rattle.disk_core.specs.File.{file_faults, file_clock, is_file_lost};
 
 use crate::held::Held;
 use crate::journal::{create_journal, hold_journal, hold_new, open_to_write};
@@ -18,7 +18,7 @@ use std::rt::Files;
 /// which has a secret in it, is refused where its mode lets others than its owner do anything; its
 /// last bytes, all that the last command may have written, are written again as they are read, so
 /// that the next sync carries them to the disk also where an earlier sync failed; and the folder of
-/// the name is synced. [`FileDisk::new`] does none of this: two processes that open one cosigner by
+/// the name is synced. [`FileDisk::unlocked`] does none of this: two processes that open one cosigner by
 /// it sign with the same one-time keys.
 ///
 /// A file that doesn't begin as a journal is neither written nor refused: opening a log or a
@@ -31,12 +31,12 @@ use std::rt::Files;
 pub fn open_journal<R: Files>(files: &R, name: &str) -> io::Result<FileDisk<R::File>>
 where
     R::File: Held,
-    ensures time { IfOk result (λ disk. file_moment disk ≡ 0) }
+    ensures time { IfOk result (λ disk. file_clock disk ≡ 0) }
     ensures begins { IfOk result (λ disk. file_faults disk ≡ 0) }
     ensures whole { IfOk result (λ disk. is_file_lost disk ≡ false) }
 {
     let file = open_to_write(files, name)?;
-    Ok(FileDisk::new(hold_journal(files, file, name)?))
+    Ok(FileDisk::unlocked(hold_journal(files, file, name)?))
 }
 
 /// Makes the empty file of a new journal, that its owner alone may read and write (mode 0600), and
@@ -51,10 +51,10 @@ where
 pub fn new_journal<R: Files>(files: &R, name: &str) -> io::Result<FileDisk<R::File>>
 where
     R::File: Held,
-    ensures time { IfOk result (λ disk. file_moment disk ≡ 0) }
+    ensures time { IfOk result (λ disk. file_clock disk ≡ 0) }
     ensures begins { IfOk result (λ disk. file_faults disk ≡ 0) }
     ensures whole { IfOk result (λ disk. is_file_lost disk ≡ false) }
 {
     let file = create_journal(files, name)?;
-    Ok(FileDisk::new(hold_new(files, file, name)?))
+    Ok(FileDisk::unlocked(hold_new(files, file, name)?))
 }

@@ -3,7 +3,7 @@
 ghost use Rattle.std.specs.Prelude.{◌≡◌, ◌+◌, ◌≤◌, ◌<◌, ◌^◌, None, IfOk, IfErr};
 ghost use Rattle.mtc_io.specs.Counts.{Rose, with_count};
 ghost use Rattle.mtc_room.specs.Room.{Opens};
-ghost use Rattle.disk_core.specs.File.{file_faults, file_moment};
+ghost use Rattle.disk_core.specs.File.{file_faults, file_clock};
 
 use crate::held::Held;
 use crate::journal::{create_journal, hold_journal, hold_new, hold_tiles, open_to_write};
@@ -88,13 +88,13 @@ where
         ensures opens { Opens self.old.opened self.new.opened
             self.old.faults self.new.faults result }
         ensures failed { IfErr result (λ why. why ≡ RoomError.Failed) }
-        ensures time { IfOk result (λ disk. file_moment disk ≡ 0) }
+        ensures time { IfOk result (λ disk. file_clock disk ≡ 0) }
         ensures begins { IfOk result (λ disk. file_faults disk ≡ 0) }
     {
         match held {
             Ok(file) => {
                 self.opened += 1;
-                Ok(FileDisk::new(file))
+                Ok(FileDisk::unlocked(file))
             }
             Err(why) => Err(self.fail(&why)),
         }

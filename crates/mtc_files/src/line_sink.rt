@@ -65,10 +65,10 @@ impl<W: Write> Line<W> {
                 self.encode(b'\n')?;
                 self.is_ended = false;
             }
-            let behind = piece.get(place.saturating_add(1)).copied().unwrap_or(0);
+            let following = piece.get(place.saturating_add(1)).copied().unwrap_or(0);
             if *byte == b'\n' {
                 self.is_ended = true;
-            } else if is_control(before, *byte, behind) {
+            } else if is_control(before, *byte, following) {
                 self.encode(*byte)?;
             } else {
                 self.hold(*byte)?;
@@ -89,8 +89,8 @@ impl<W: Write> Line<W> {
 
 // Whether a byte is one of a control character, by the bytes around it. In UTF-8 those from U+0080
 // to U+009F are C2 and a byte from 80 to 9F.
-fn is_control(before: u8, byte: u8, behind: u8) -> bool {
-    byte < b' ' || byte == 0x7F || is_high_control(before, byte) || is_high_control(byte, behind)
+fn is_control(before: u8, byte: u8, following: u8) -> bool {
+    byte < b' ' || byte == 0x7F || is_high_control(before, byte) || is_high_control(byte, following)
 }
 
 fn is_high_control(first: u8, second: u8) -> bool {

@@ -10,12 +10,12 @@ pub record SourceState : Type 0 where
   pub failing : List ℕ
   pub faults : ℕ
 
--- a sink in memory: the bytes taken, how many it takes at a time, and as above; `starved` counts
--- the faults that came because memory ran out
+-- a sink in memory: the bytes taken, how many it takes at a time, and as above;
+-- `failed_allocations` counts the faults that came because memory ran out
 pub record SinkState : Type 0 where
   pub taken : Text
   pub per_call : ℕ
   pub calls : ℕ
   pub failing : List ℕ
   pub faults : ℕ
-  pub starved : ℕ
+  pub failed_allocations : ℕ

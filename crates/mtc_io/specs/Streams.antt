@@ -1,6 +1,6 @@
 -- What calls do to the bytes that a source has left and a sink has taken, where the model knows
--- them. std's words of the same subject (`Consumes`, `Appends`, `Keeps`, `IsAtEnd`) stand beside
--- these.
+-- them. std's words of the same subject (`Consumes`, `Appends`, `Keeps`, `IsAtEnd`) are used in
+-- addition to these.
 use Rattle.std.specs.Prelude.{ℕ, List, Option, take}
 use Rattle.std.specs.Borrow.{Bor}
 use Rattle.std.specs.List.{flat_map}

@@ -6,7 +6,7 @@
 //! for an end of input.
 //!
 //! No clause says which bytes a reader or a writer of std gives or takes: [`StdSource`] and
-//! [`StdSink`] are tested over vectors, a reader that fails and a writer without capacity.
+//! [`StdSink`] are tested over vectors, a reader that fails and a writer that takes nothing.
 #![tactic(auto)]
 
 mod bytes;

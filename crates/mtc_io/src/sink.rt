@@ -17,7 +17,7 @@ pub trait Sink {
     ghost faults: { Self → ℕ };
 
     /// Takes a prefix of a piece, and answers its length: at least 1 if the piece isn't empty.
-    /// `Failed` comes only with a fault, and then nothing was taken.
+    /// `Failed` comes only with a failure, and then nothing was taken.
     fn write(&mut self, piece: &[u8]) -> Result<usize, Failed>
         ensures bound { IfOk result (λ count. count ≤ length piece.now) }
         ensures some { IfOk result (λ count. 0 < length piece.now → 0 < count) }

@@ -22,7 +22,7 @@ pub trait Source {
     ghost faults: { Self → ℕ };
 
     /// Puts the next bytes into a prefix of `into`, and answers how many. If `into` isn't empty, 0
-    /// means the end of input. `Failed` comes only with a fault, and then nothing was given.
+    /// means the end of input. `Failed` comes only with a failure, and then nothing was given.
     fn read(&mut self, into: &mut [u8]) -> Result<usize, Failed>
         ensures bound { IfOk result (λ count. count ≤ length into.new) }
         ensures bytes { ReadConsumes (left self.old) (left self.new) result into.new }

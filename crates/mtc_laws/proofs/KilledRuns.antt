@@ -1,7 +1,7 @@
 -- What a run over fuses leaves is what it leaves of the files inside, and so what a killed program
 -- leaves.
 use Rattle.std.proofs.Common.{◌≡◌, ℕ, List, Option, None, Some, false, option_map, refl, sym, subst}
-use Rattle.byte_formats.specs.Places.{IsBytes}
+use Rattle.byte_formats.specs.Offsets.{IsBytes}
 use Rattle.byte_formats.specs.Types.{HashFunction, Text}
 use Rattle.disk_core.specs.contracts.memory.mem_disk.MemDiskDisk.TheImpl.{ghosts as mem_disks}
 use Rattle.disk_core.specs.declared.disk.Disk.{Ghosts as Disks}
@@ -24,9 +24,9 @@ use Rattle.mtc_words.specs.Words.{command_of}
 use Rattle.mtc_command.specs.Answers.{tiles_name}
 use Rattle.mtc_command.specs.Made.{Journaled}
 use Rattle.mtc_command.specs.Served.{done_with}
-use Rattle.mtc_command.proofs.Made.{OnlyNow, ReadsImage}
+use Rattle.mtc_command.proofs.Made.{OnlyNow, ReadsCrashState}
 use Rattle.mtc_authority.specs.StoredTiles.{HasTilesOf}
-use Rattle.node_history.specs.Rules.{AreRecords}
+use Rattle.party_history.specs.Rules.{AreRecords}
 use Rattle.mtc_top.specs.Courses.{owner, program}
 use Rattle.mtc_top.specs.Facts.{facts}
 use Rattle.mtc_top.specs.TileLaws.{tiled_log}
@@ -37,18 +37,18 @@ use Rattle.mtc_laws.specs.Killed.{DiesOverFuses, JournalsMayBreak, LogsMayBreak}
 -- ---- any files
 
 module _ {R S D O E : Type 0} (h : HashFunction) (rooms : Rooms R S D) (disks : Disks D)
-    (outs : Sinks O) (errs : Sinks E) (image : ReadsImage disks) (only : OnlyNow disks)
+    (outs : Sinks O) (errs : Sinks E) (crash_state : ReadsCrashState disks) (only : OnlyNow disks)
     (contents : (room : R) (name : List ℕ) → rooms.is_modelled room
     → ModelsFile disks.contents (rooms.file room name) (rooms.device room name))
     (bytes : (d : D) (b : List ℕ) → disks.contents d ≡ Some b → IsBytes b) where
   pub journals_may_break : JournalsMayBreak h rooms disks outs errs
   journals_may_break name own = journal_breaks (program h rooms disks outs errs) (AreRecords h) name
-      (serves h rooms disks outs errs image only contents bytes name own)
+      (serves h rooms disks outs errs crash_state only contents bytes name own)
 
   pub logs_may_break : LogsMayBreak h rooms disks outs errs
   logs_may_break name own = log_runs_break (program h rooms disks outs errs) (HasTilesOf h)
       (λ list body. ⊥) (AreRecords h) name (tiles_name name) (λ old run. stored)
-      (serves_log h rooms disks outs errs image only contents bytes name own)
+      (serves_log h rooms disks outs errs crash_state only contents bytes name own)
 
 -- ---- fuses
 

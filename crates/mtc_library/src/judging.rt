@@ -6,7 +6,7 @@ pub use der_core::{CertError, DerError};
 pub use mtc_io::{Bytes, Memory};
 pub use mtc_proof::ProofError;
 pub use policy_core::{
-    Accepted, By, Cosigners, Known, Places, Refusal, Revoked, Rule, Rules, Store, StoreError,
+    Accepted, By, Cosigners, Indices, Known, Refusal, Revoked, Rule, Rules, Store, StoreError,
     Subtrees, Trusted,
 };
 pub use relying_party::{judge, judge_cert};

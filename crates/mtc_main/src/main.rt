@@ -29,7 +29,7 @@ const BAD_WORDS: u8 = 1;
 const NO_MEMORY: u8 = 8;
 
 // Collects the arguments after the program's name.
-fn words_behind_name(rt: &(impl Env + AllocGlobal)) -> io::Result<Vec<String>> {
+fn words_after_name(rt: &(impl Env + AllocGlobal)) -> io::Result<Vec<String>> {
     let mut words = Vec::new(rt.alloc());
     for word in env::args(rt)?.skip(1) {
         words.push(word)?;
@@ -67,7 +67,7 @@ fn act<'a, R: Files<File = File>>(
 
 fn main(rt: HostRuntime) -> ExitCode {
     let mut err = LineSink::new(rt.stderr());
-    let code = match words_behind_name(&rt) {
+    let code = match words_after_name(&rt) {
         Ok(words) => {
             let mut room = FileRoom::new(&rt);
             let mut out = StdSink::new(rt.stdout());

@@ -66,9 +66,9 @@ module _ (h : HashFunction) (x : AuditCase) where
   audit_meets (Foreign wanted found) is = foreign _ _ _ wanted found is
   audit_meets Unrecorded is = unrecorded _ _ _ is.list is.lacks
   audit_meets (Stands index) is =
-      stands _ _ _ index is.list is.supported is.settles.0 is.settles.1
+      stands _ _ _ index is.list is.supported is.decides.0 is.decides.1
   audit_meets (Pair one other) is =
-      pair _ _ _ one other is.list is.supported is.settles.0 is.settles.1
+      pair _ _ _ one other is.list is.supported is.decides.0 is.decides.1
 
 -- an answer that says this reply, if there is one
 pub modelled_meets : {E : Type 0} (wanted : Wanted) (reply : Reply) (r : Result Answer E)

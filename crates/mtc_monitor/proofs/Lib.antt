@@ -1,4 +1,4 @@
 pub mod Audited
-pub mod Behind
+pub mod After
 pub mod Quarrels
 pub mod Trusted

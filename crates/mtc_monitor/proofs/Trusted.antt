@@ -12,7 +12,7 @@ use Rattle.tree_core.specs.Cover.{CoversInterval}
 use Rattle.tree_core.specs.declared.spans.Cover.{Cover}
 use Rattle.tree_core.specs.declared.spans.Span.{Span}
 use Rattle.mtc_monitor.specs.TrustOutcome.{landmark_tables, tables_of}
-use Rattle.mtc_monitor.specs.Within.{ArePlaces}
+use Rattle.mtc_monitor.specs.Within.{AreWithinCount}
 
 -- one landmark more
 pub tables_more : (h : HashFunction) (entries : List Text) (l : LandmarkList) (count number : ℕ)
@@ -38,14 +38,14 @@ largest sizes falls (suc i) here =
     ap (λ k. get_or sizes k 0) (omega arith) in
     omega arith
 
-places_of : (count start end : ℕ) (first : Span) (second : Option Span) → end ≤ count
+spans_within : (count start end : ℕ) (first : Span) (second : Option Span) → end ≤ count
     → CoversInterval start end (record { first = first; second = second })
-    → ArePlaces count (record { first = first; second = second })
-places_of count start end first None few is = record {
+    → AreWithinCount count (record { first = first; second = second })
+spans_within count start end first None few is = record {
   first = record { order = omega (arith, is.first, is.rest); within = omega (arith, is.rest) };
   second = tt;
 }
-places_of count start end first (Some second) few is = record {
+spans_within count start end first (Some second) few is = record {
   first = record {
     order = omega (arith, is.first, is.rest.0, is.rest.1.0, is.rest.1.1.inhabited);
     within = omega (arith, is.rest.0, is.rest.1.0, is.rest.1.1.inhabited);
@@ -57,12 +57,13 @@ places_of count start end first (Some second) few is = record {
 }
 
 -- the subtrees of an active landmark are some of the entries
-pub places : (l : LandmarkList) (number count : ℕ) (cover : Cover) → IsLandmarks l
+pub all_within : (l : LandmarkList) (number count : ℕ) (cover : Cover) → IsLandmarks l
     → get_or l.sizes 0 0 ≤ count → IsActive l number
     → CoversInterval (landmark_size l (number - 1)) (landmark_size l number) cover
-    → ArePlaces count cover
-places l number count cover known within active is =
+    → AreWithinCount count cover
+all_within l number count cover known within active is =
     let size = largest l.sizes known.falls (l.last - number)
     (omega (arith, active.from, active.below, known.some)) in
-    places_of count (landmark_size l (number - 1)) (landmark_size l number) cover.first cover.second
+    spans_within count (landmark_size l (number - 1)) (landmark_size l number) cover.first
+    cover.second
     (omega (arith, size, within)) is

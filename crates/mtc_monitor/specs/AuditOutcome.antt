@@ -38,8 +38,8 @@ pub record AcceptedParts : Type 0 where
 
 -- The judgement of a certificate's bytes, and the parts of one that is accepted.
 abbrev pub accepted_in : HashFunction → Text → Store → ℤ → Result AcceptedParts Refusal
-accepted_in h bytes store moment =
-    judgement h bytes store moment >>= λ a.
+accepted_in h bytes store unix_time =
+    judgement h bytes store unix_time >>= λ a.
     lifted Grammar (parts_of bytes) >>= λ c.
     lifted ProofGrammar (proof_in c.proof) >>= λ p.
     Ok (record { accepted = a; cert = c; proof = p })
@@ -105,28 +105,28 @@ audit_accepted_says h cert store items kept (Err why) = verdict_says cert (Err w
 -- The certificate is judged, which is the last step.
 abbrev pub audit_cert_says : HashFunction → InputFile → ℕ → Store → ItemLists → Option Export
     → Outcome
-audit_cert_says h cert moment store items kept =
-    audit_accepted_says h cert.name store items kept (accepted_in h cert.text store (pos moment))
+audit_cert_says h cert unix_time store items kept =
+    audit_accepted_says h cert.name store items kept (accepted_in h cert.text store (pos unix_time))
 
 -- The export is read before it.
 abbrev pub audit_export_says : HashFunction → InputFile → ℕ → InputFile → Store → ItemLists
     → Outcome
-audit_export_says h cert moment export store items =
+audit_export_says h cert unix_time export store items =
     with_form export_fault_text export.name (export_in h export.text)
-    (audit_cert_says h cert moment store items)
+    (audit_cert_says h cert unix_time store items)
 
 -- The entries are read before that.
 abbrev pub audit_items_say : HashFunction → InputFile → ℕ → InputFile → InputFile → Store → Outcome
-audit_items_say h cert moment entries export store =
+audit_items_say h cert unix_time entries export store =
     with_form items_fault_text entries.name (items_in h entries.text)
-    (audit_export_says h cert moment export store)
+    (audit_export_says h cert unix_time export store)
 
 -- And the store before all of these.
 abbrev pub audit_store_says : HashFunction → InputFile → InputFile → ℕ → InputFile → InputFile
     → Outcome
-audit_store_says h cert store moment entries export =
+audit_store_says h cert store unix_time entries export =
     with_form store_fault_text store.name (store_of store.text)
-    (audit_items_say h cert moment entries export)
+    (audit_items_say h cert unix_time entries export)
 
 -- An input file of at most so many bytes.
 abbrev pub with_input : ℕ → Text → Files → (InputFile → Outcome) → Outcome
@@ -136,9 +136,9 @@ with_input limit name files next =
 -- The outcome of `audit CERT STORE NOW ENTRIES EXPORT`: the four files are read in this order,
 -- certificate and store at most 16 MiB each, the others 1 GiB.
 abbrev pub audit_outcome : HashFunction → Text → Text → ℕ → Text → Text → Files → Outcome
-audit_outcome h cert store moment entries export files =
+audit_outcome h cert store unix_time entries export files =
     with_input 16777216 cert files
     (λ c. with_input 16777216 store files
     (λ s. with_input 1073741824 entries files
     (λ e. with_input 1073741824 export files
-    (λ x. audit_store_says h c s moment e x))))
+    (λ x. audit_store_says h c s unix_time e x))))

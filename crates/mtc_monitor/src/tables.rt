@@ -5,7 +5,7 @@ ghost use Rattle.landmarks.specs.Landmarks.{IsLandmarks};
 ghost use Rattle.tree_core.specs.Path.{part_of};
 ghost use Rattle.tree_core.specs.Tree.{tree_hash};
 ghost use Rattle.mtc_monitor.specs.TrustOutcome.{cover_tables, subtree_table, trust_text};
-ghost use Rattle.mtc_monitor.specs.Within.{ArePlaces, IsPlace};
+ghost use Rattle.mtc_monitor.specs.Within.{AreWithinCount, IsWithinCount};
 
 use entry_list::Entries;
 use landmarks::{Landmarks, active, subtrees};
@@ -16,7 +16,7 @@ use tree_proofs::{list_hash, part_between};
 
 // The tree hash of the entries of a subtree.
 fn subtree_hash<H: TreeHash>(entries: &Entries<'_>, span: Span) -> [u8; 32]
-    requires { IsPlace (length entries.now) span }
+    requires { IsWithinCount (length entries.now) span }
     ensures { result ≡ tree_hash H.hash (part_of entries.now span.start span.end) }
 {
     list_hash::<H, _>(&part_between(entries, span.start, span.end))
@@ -28,7 +28,7 @@ fn subtree_table<H: TreeHash>(
     entries: &Entries<'_>,
     span: Span,
 ) -> Result<String, Memory>
-    requires { IsPlace (length entries.now) span }
+    requires { IsWithinCount (length entries.now) span }
     ensures { IfOk result (λ text.
         string_bytes text ≡ subtree_table H.hash entries.now span) }
 {
@@ -46,7 +46,7 @@ fn put_cover<H: TreeHash>(
     entries: &Entries<'_>,
     cover: Cover,
 ) -> Result<(), Memory>
-    requires { ArePlaces (length entries.now) cover }
+    requires { AreWithinCount (length entries.now) cover }
     ensures { OnOk result (string_bytes text.new
         ≡ string_bytes text.old ++ cover_tables H.hash entries.now cover) }
 {

@@ -29,11 +29,12 @@ use Rattle.mtc_plans.specs.AuditPlans.{quarrel_judged, quarrel_judged_by, quarre
 use Rattle.mtc_plans.specs.AuditPlans.{quarrel_step}
 use Rattle.mtc_plans.specs.Steps.{large_file, small_file}
 use Rattle.mtc_plans.proofs.Reading.{verdict_same}
-use Rattle.mtc_plans.proofs.Texts.{first_read, fourth_read, second_read, third_read, told_alone}
+use Rattle.mtc_plans.proofs.Texts.{first_read, fourth_read, second_read, third_read, reported_alone}
 
 by_same : (h : HashFunction) (x : AuditCase) (foreign : Option (Hash × Hash))
     (supported own : Bool)
-    → audit_by h x foreign supported own ≡ told_alone (audit_judged_by h x foreign supported own)
+    → audit_by h x foreign supported own
+    ≡ reported_alone (audit_judged_by h x foreign supported own)
 by_same h x (Some hashes) supported own = refl
 by_same h x None false own = refl
 by_same h x None true true = refl
@@ -52,20 +53,20 @@ module _ (k : Kinds) (h : HashFunction) (files : Files) (inputs : List Input) wh
       by_same h x (foreign_of h x) (is_supported x) (has_own h x.items x.accepted x.cert)
   audited_same c store items kept (Err why) = verdict_same k h files inputs c (Err why)
 
-  audit_same : (moment : ℕ) (c s e x : Read inputs)
-      → audit_store_says h (file_of c) (file_of s) moment (file_of e) (file_of x)
-      ≡ step_outcome {k = k} [] (audit_step h moment c s e x) files
-  audit_same moment c s e x =
+  audit_same : (unix_time : ℕ) (c s e x : Read inputs)
+      → audit_store_says h (file_of c) (file_of s) unix_time (file_of e) (file_of x)
+      ≡ step_outcome {k = k} [] (audit_step h unix_time c s e x) files
+  audit_same unix_time c s e x =
       form_same [] files s store_fault_text (store_of s.text) _ _ (λ store.
       form_same [] files e items_fault_text (items_in h e.text) _ _ (λ items.
       form_same [] files x export_fault_text (export_in h x.text) _ _ (λ kept.
-      audited_same c store items kept (accepted_in h c.text store (pos moment)))))
+      audited_same c store items kept (accepted_in h c.text store (pos unix_time)))))
 
-pub audit_plans : (k : Kinds) (h : HashFunction) (cert store : List ℕ) (moment : ℕ)
+pub audit_plans : (k : Kinds) (h : HashFunction) (cert store : List ℕ) (unix_time : ℕ)
     (entries export : List ℕ) (files : Files)
-    → audit_outcome h cert store moment entries export files
-    ≡ outcome_of (audit_plan {k = k} h cert store moment entries export) files
-audit_plans k h cert store moment entries export files =
+    → audit_outcome h cert store unix_time entries export files
+    ≡ outcome_of (audit_plan {k = k} h cert store unix_time entries export) files
+audit_plans k h cert store unix_time entries export files =
     let one = small_file cert in
     let two = small_file store in
     let three = large_file entries in
@@ -74,19 +75,19 @@ audit_plans k h cert store moment entries export files =
     (λ c. bytes_same 16777216 store (files store) _ _
     (λ s. bytes_same 1073741824 entries (files entries) _ _
     (λ e. bytes_same 1073741824 export (files export) _ _
-    (λ x. audit_same k h files (one ∷ (two ∷ (three ∷ (four ∷ [])))) moment
+    (λ x. audit_same k h files (one ∷ (two ∷ (three ∷ (four ∷ [])))) unix_time
     (first_read one (two ∷ (three ∷ (four ∷ []))) c)
     (second_read one two (three ∷ (four ∷ [])) s)
     (third_read one two three (four ∷ []) e)
     (fourth_read one two three four [] x)))))
 
 conflict_same : (h : HashFunction) (steps : List CosignerStep) (keys : Option (ℕ × ℕ))
-    → quarrel_by h steps keys ≡ told_alone (quarrel_judged_by h steps keys)
+    → quarrel_by h steps keys ≡ reported_alone (quarrel_judged_by h steps keys)
 conflict_same h steps None = refl
 conflict_same h steps (Some keys) = refl
 
 kept_same : (h : HashFunction) (kept : Option Export)
-    → quarrel_kept h kept ≡ told_alone (quarrel_judged h kept)
+    → quarrel_kept h kept ≡ reported_alone (quarrel_judged h kept)
 kept_same h None = refl
 kept_same h (Some kept) = conflict_same h kept.steps (quarrel_of kept.steps)
 

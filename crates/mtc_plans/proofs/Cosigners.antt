@@ -1,7 +1,7 @@
 -- What the commands on the journal of a cosigner have to answer is what comes of their plans.
 use Rattle.std.proofs.Common.{◌≡◌, ℕ, false, List, [], ◌∷◌, Option, None, Some, refl}
 use Rattle.byte_formats.specs.Types.{HashFunction}
-use Rattle.journal_core.specs.Format.{end_behind}
+use Rattle.journal_core.specs.Format.{end_following}
 use Rattle.cosigner_core.specs.Openings.{FoundCosigner, cosigner_read}
 use Rattle.cosigner_core.specs.Reading.{advance_in, subtree_in}
 use Rattle.cosigner_core.specs.Records.{advance_record, cosigner_record, sign_record}
@@ -21,48 +21,50 @@ use Rattle.mtc_cosigner.specs.Works.{cosigner_outcome, export_outcome}
 use Rattle.command_plans.specs.Outcomes.{outcome_of, step_outcome}
 use Rattle.command_plans.specs.Plans.{Input, makes}
 use Rattle.command_plans.proofs.Forms.{bytes_same, form_same}
-use Rattle.mtc_plans.specs.CosignerPlans.{advance_plan, advance_told, cosign_plan, cosign_told}
-use Rattle.mtc_plans.specs.CosignerPlans.{export_plan, export_told, init_cosigner_plan}
-use Rattle.mtc_plans.specs.CosignerPlans.{opens_cosigner, step_told, told_step}
-use Rattle.mtc_plans.specs.NodeKinds.{cosigner, node_kinds}
-use Rattle.mtc_plans.specs.Steps.{Told, small_file}
+use Rattle.mtc_plans.specs.CosignerPlans.{advance_plan, advance_reported, cosign_plan}
+use Rattle.mtc_plans.specs.CosignerPlans.{cosign_reported}
+use Rattle.mtc_plans.specs.CosignerPlans.{export_plan, export_reported, init_cosigner_plan}
+use Rattle.mtc_plans.specs.CosignerPlans.{opens_cosigner, step_reported, reported_step}
+use Rattle.mtc_plans.specs.PartyKinds.{cosigner, party_kinds}
+use Rattle.mtc_plans.specs.Steps.{StepReport, small_file}
 use Rattle.mtc_plans.proofs.Reading.{secret_same}
-use Rattle.mtc_plans.proofs.Texts.{first_read, told_on}
+use Rattle.mtc_plans.proofs.Texts.{first_read, reported_on}
 
 stepped_same : (found : FoundCosigner) (body text : List ℕ) (why : Option CosignError)
-    → stepped found body text why ≡ told_on found.records (step_told body text why)
+    → stepped found body text why ≡ reported_on found.records (step_reported body text why)
 stepped_same found body text None = refl
 stepped_same found body text (Some (Append why)) = refl
 stepped_same found body text (Some why) = refl
 
 module _ (h : HashFunction) where
   advance_same : (r : AdvanceParts) (found : FoundCosigner)
-      → advance_says h r found ≡ told_on found.records (advance_told h r found)
+      → advance_says h r found ≡ reported_on found.records (advance_reported h r found)
   advance_same r found =
       stepped_same found (advance_record r.size r.root r.proof) (advanced_text r.size)
-      (advance_refused h found.state false (end_behind found.records) r)
+      (advance_refused h found.state false (end_following found.records) r)
 
   cosign_same : (r : SubtreeParts) (found : FoundCosigner)
-      → cosign_says h r found ≡ told_on found.records (cosign_told h r found)
+      → cosign_says h r found ≡ reported_on found.records (cosign_reported h r found)
   cosign_same r found =
       stepped_same found (sign_record found.state.key.next r.start r.end r.hash r.proof)
       (cosigned_text found.state r)
-      (cosign_refused h found.state false (end_behind found.records) r)
+      (cosign_refused h found.state false (end_following found.records) r)
 
   module _ (files : Files) (inputs : List Input) where
     opened_same : (journal : List ℕ) (says : FoundCosigner → Outcome)
-        (told : FoundCosigner → Told)
-        → ((found : FoundCosigner) → says found ≡ told_on found.records (told found))
+        (reported : FoundCosigner → StepReport)
+        → ((found : FoundCosigner) → says found ≡ reported_on found.records (reported found))
         → cosigner_outcome h journal (files journal) says
-        ≡ step_outcome {inputs = inputs} (opens_cosigner h journal) (told_step h journal told) files
-    opened_same journal says told same = λ i. with_file journal (files journal) (λ bytes.
+        ≡ step_outcome {inputs = inputs} (opens_cosigner h journal)
+        (reported_step h journal reported) files
+    opened_same journal says reported same = λ i. with_file journal (files journal) (λ bytes.
         with_form cosigner_open_text journal (cosigner_read h bytes) (λ found. same found i))
 
 module _ (h : HashFunction) (files : Files) where
   pub export_plans : (journal : List ℕ)
       → export_outcome h journal files ≡ outcome_of (export_plan h journal) files
   unfolding export_outcome
-  export_plans journal = opened_same h files [] journal export_says export_told (λ found. refl)
+  export_plans journal = opened_same h files [] journal export_says export_reported (λ found. refl)
 
   pub advance_plans : (journal request : List ℕ)
       → advance_outcome h journal request files ≡ outcome_of (advance_plan h journal request) files
@@ -72,7 +74,7 @@ module _ (h : HashFunction) (files : Files) where
       bytes_same 16777216 request (files request) _ _
       (λ b. form_same (opens_cosigner h journal) files (first_read one [] b) form_fault_text
       (advance_in b) _ _
-      (λ r. opened_same h files (one ∷ []) journal (advance_says h r) (advance_told h r)
+      (λ r. opened_same h files (one ∷ []) journal (advance_says h r) (advance_reported h r)
       (advance_same h r)))
 
   pub cosign_plans : (journal request : List ℕ)
@@ -83,7 +85,7 @@ module _ (h : HashFunction) (files : Files) where
       bytes_same 16777216 request (files request) _ _
       (λ b. form_same (opens_cosigner h journal) files (first_read one [] b) form_fault_text
       (subtree_in b) _ _
-      (λ r. opened_same h files (one ∷ []) journal (cosign_says h r) (cosign_told h r)
+      (λ r. opened_same h files (one ∷ []) journal (cosign_says h r) (cosign_reported h r)
       (cosign_same h r)))
 
   pub init_cosigner_plans : (journal id log_id : List ℕ) (height width : ℕ) (file : List ℕ)
@@ -95,7 +97,7 @@ module _ (h : HashFunction) (files : Files) where
       let next : List ℕ → Outcome = λ b.
       starts (cosigner_record s b) (public_line s.lms s.ots b) in
       bytes_same 16777216 file (files file) _ _
-      (λ b. secret_same (node_kinds h) files (one ∷ []) (makes cosigner journal ∷ [])
+      (λ b. secret_same (party_kinds h) files (one ∷ []) (makes cosigner journal ∷ [])
       (first_read one [] b)
       (with_fresh journal (files journal) (next b))
       _ refl)

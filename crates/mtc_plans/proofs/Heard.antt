@@ -5,7 +5,7 @@ use Rattle.std.proofs.Common.{if◌then◌else◌}
 use Rattle.std.specs.Fmt.{decimal}
 use Rattle.byte_formats.specs.Types.{HashFunction}
 use Rattle.journal_core.specs.Folds.{Found, read_by}
-use Rattle.journal_core.specs.Format.{end_behind}
+use Rattle.journal_core.specs.Format.{end_following}
 use Rattle.authority_core.specs.Files.{request_of}
 use Rattle.authority_core.specs.Issues.{issued_entry, issued_record}
 use Rattle.authority_core.specs.Requests.{RequestParts}
@@ -38,15 +38,17 @@ use Rattle.command_plans.specs.Plans.{Beside, Deed, Finds, Input, Journal, Plan,
 use Rattle.command_plans.specs.Plans.{in_form, misreads, only_reads, only_prints, opens, prints}
 use Rattle.command_plans.specs.Plans.{works}
 use Rattle.command_plans.proofs.Facts.{heard_passed}
-use Rattle.mtc_plans.specs.CosignerPlans.{advance_told, cosign_told, export_plan, export_told}
-use Rattle.mtc_plans.specs.CosignerPlans.{init_cosigner_plan, step_told}
+use Rattle.mtc_plans.specs.CosignerPlans.{advance_reported, cosign_reported, export_plan}
+use Rattle.mtc_plans.specs.CosignerPlans.{export_reported}
+use Rattle.mtc_plans.specs.CosignerPlans.{init_cosigner_plan, step_reported}
 use Rattle.mtc_plans.specs.Heard.{AdvancedTextsAreOfRecords, BegunTextsAreOfSecrets}
 use Rattle.mtc_plans.specs.Heard.{CosignedTextsAreOfRecords, ExportedTextsAreOfRecords}
 use Rattle.mtc_plans.specs.Heard.{HoldsSmall, IssuedTextsAreOfRecords, KeyTextsAreOfSecrets}
-use Rattle.mtc_plans.specs.LogWork.{issue_told, work_told}
-use Rattle.mtc_plans.specs.NodeKinds.{NodeKind, NodeState, cosigner, log, node_fold, node_kinds}
+use Rattle.mtc_plans.specs.LogWork.{issue_reported, work_reported}
+use Rattle.mtc_plans.specs.PartyKinds.{PartyKind, PartyState, cosigner, log, party_fold}
+use Rattle.mtc_plans.specs.PartyKinds.{party_kinds}
 use Rattle.mtc_plans.specs.ReadPlans.{keygen_plan}
-use Rattle.mtc_plans.specs.Steps.{Told, deed_new, deed_on, in_secret, small_file}
+use Rattle.mtc_plans.specs.Steps.{StepReport, deed_new, deed_on, in_secret, small_file}
 
 -- ---- which step was taken
 
@@ -97,45 +99,46 @@ not_refused status text why file reason is = cc
 
 -- ---- a command that reads one file in some form, and then works on a journal that is there
 
-module _ {F E : Type 0} (h : HashFunction) (files : Files) (kind : NodeKind) (beside : Beside)
+module _ {F E : Type 0} (h : HashFunction) (files : Files) (kind : PartyKind) (beside : Beside)
     (journal file : List ℕ) (fault_text : E → List ℕ) (reading : List ℕ → Result F E)
-    (told : F → Found (NodeState kind) → Told) where
-  abbrev told_on : F → Step {k = node_kinds h} (small_file file ∷ [])
+    (reported : F → Found (PartyState kind) → StepReport) where
+  abbrev reported_on : F → Step {k = party_kinds h} (small_file file ∷ [])
       (opens kind beside journal ∷ [])
-  told_on form = works (λ founds. deed_on (told form founds.0))
+  reported_on form = works (λ founds. deed_on (reported form founds.0))
 
-  abbrev formed_plan : Plan (node_kinds h)
+  abbrev formed_plan : Plan (party_kinds h)
   formed_plan = record {
     inputs = small_file file ∷ [];
     journals = opens kind beside journal ∷ [];
-    steps = λ (r, none). in_form r fault_text (reading r.text) told_on;
+    steps = λ (r, none). in_form r fault_text (reading r.text) reported_on;
   }
 
   -- its file was read, its journal was found, and this is what it answered and added
-  pub record HasTold (status : Said) (text : List ℕ) : Type 0 where
+  pub record HasReported (status : Said) (text : List ℕ) : Type 0 where
     pub bytes : List ℕ
     pub has_bytes : HoldsSmall files file bytes
     pub form : F
     pub asked : reading bytes ≡ Ok form
     pub held : List ℕ
     pub there : files journal ≡ Some held
-    pub found : Found (NodeState kind)
-    pub is_node : read_by (node_fold h kind) held ≡ Ok found
+    pub found : Found (PartyState kind)
+    pub is_party : read_by (party_fold h kind) held ≡ Ok found
     pub did : (outcome_of formed_plan files).journals
-        ≡ opened_did found.records (told form found).1 ∷ []
-    pub meets : Meets (wanted_of (told form found).0) (said status text)
+        ≡ opened_did found.records (reported form found).1 ∷ []
+    pub meets : Meets (wanted_of (reported form found).0) (said status text)
 
-  has_told : (status : Said) (text : List ℕ)
-      → Meets (outcome_of formed_plan files).answer (said status text) → HasTold status text
-  has_told status text meets =
-      let passed = heard_passed (node_kinds h) formed_plan files status text meets in
+  has_reported : (status : Said) (text : List ℕ)
+      → Meets (outcome_of formed_plan files).answer (said status text) → HasReported status text
+  has_reported status text meets =
+      let passed = heard_passed (party_kinds h) formed_plan files status text meets in
       let read = passed.read.0 in
-      let form = form_passed read fault_text (reading read.text) told_on passed.say
+      let form = form_passed read fault_text (reading read.text) reported_on passed.say
       passed.works_so in
       let found = passed.founds.0 in
-      let deed : Deed formed_plan.journals = deed_on (told form.0 found) in
+      let deed : Deed formed_plan.journals = deed_on (reported form.0 found) in
       let eq : deed ≡ passed.say passed.founds = same_work passed.say
-      (λ founds. deed_on (told form.0 founds.0)) passed.founds (works passed.say) refl form.1.1 in
+      (λ founds. deed_on (reported form.0 founds.0)) passed.founds (works passed.say) refl form.1.1
+      in
       record {
         bytes = read.text;
         has_bytes = record { there = passed.are_read.0.there; few = passed.are_read.0.few };
@@ -144,7 +147,7 @@ module _ {F E : Type 0} (h : HashFunction) (files : Files) (kind : NodeKind) (be
         held = passed.are_found.0.bytes;
         there = passed.are_found.0.there;
         found = found;
-        is_node = passed.are_found.0.is;
+        is_party = passed.are_found.0.is;
         did = ap (λ (o : Outcome). o.journals) passed.is
             ∙ ap (λ (d : Deed formed_plan.journals).
             (deed_outcome formed_plan.journals passed.founds d).journals) (sym eq);
@@ -156,8 +159,8 @@ module _ {F E : Type 0} (h : HashFunction) (files : Files) (kind : NodeKind) (be
 
 issue_so : (h : HashFunction) (r : RequestParts) (v : LogView) (why : Option LogError)
     (status : Said) (text : List ℕ)
-    → Meets (wanted_of (issue_told h r v why).0) (said status text)
-    → (why ≡ None) × (((issue_told h r v why).1 ≡ Some (issued_record h v.settings r))
+    → Meets (wanted_of (issue_reported h r v why).0) (said status text)
+    → (why ≡ None) × (((issue_reported h r v why).1 ≡ Some (issued_record h v.settings r))
     × (said status text ≡ said Done (issued_text v.size)))
 issue_so h r v None status text meets = (refl, (refl, meets))
 issue_so h r v (Some why) status text meets =
@@ -165,10 +168,10 @@ issue_so h r v (Some why) status text meets =
 
 pub issued_so : IssuedTextsAreOfRecords
 issued_so h files journal file status text meets =
-    let t = has_told h files log only_reads journal file request_fault_text request_of
-    (λ (r : RequestParts) (found : FoundLog). work_told h (Issue r) found) status text meets in
+    let t = has_reported h files log only_reads journal file request_fault_text request_of
+    (λ (r : RequestParts) (found : FoundLog). work_reported h (Issue r) found) status text meets in
     let v = view_in t.found.state in
-    let so = issue_so h t.form v (add_refusal v false (end_behind t.found.records)
+    let so = issue_so h t.form v (add_refusal v false (end_following t.found.records)
     (issued_entry h t.found.state.settings t.form) t.form.key) status text t.meets in
     record {
       bytes = t.bytes;
@@ -178,7 +181,7 @@ issued_so h files journal file status text meets =
       held = t.held;
       there = t.there;
       found = t.found;
-      is_log = t.is_node;
+      is_log = t.is_party;
       fits = so.0;
       did = t.did ∙ ap (λ (m : Option (List ℕ)). opened_did t.found.records m ∷ []) so.1.0;
       reply_is = so.1.1;
@@ -187,8 +190,8 @@ issued_so h files journal file status text meets =
 -- ---- a cosigner's journal
 
 step_so : (body line : List ℕ) (why : Option CosignError) (status : Said) (text : List ℕ)
-    → Meets (wanted_of (step_told body line why).0) (said status text)
-    → (why ≡ None) × (((step_told body line why).1 ≡ Some body)
+    → Meets (wanted_of (step_reported body line why).0) (said status text)
+    → (why ≡ None) × (((step_reported body line why).1 ≡ Some body)
     × (said status text ≡ said Done line))
 step_so body line None status text meets = (refl, (refl, meets))
 step_so body line (Some (Append why)) status text meets =
@@ -198,11 +201,11 @@ step_so body line (Some why) status text meets =
 
 pub advanced_so : AdvancedTextsAreOfRecords
 advanced_so h files journal file status text meets =
-    let t = has_told h files cosigner only_reads journal file form_fault_text advance_in
-    (advance_told h) status text meets in
+    let t = has_reported h files cosigner only_reads journal file form_fault_text advance_in
+    (advance_reported h) status text meets in
     let r = t.form in
     let so = step_so (advance_record r.size r.root r.proof) (advanced_text r.size)
-    (advance_refused h t.found.state false (end_behind t.found.records) r) status text t.meets in
+    (advance_refused h t.found.state false (end_following t.found.records) r) status text t.meets in
     record {
       bytes = t.bytes;
       has_bytes = t.has_bytes;
@@ -211,7 +214,7 @@ advanced_so h files journal file status text meets =
       held = t.held;
       there = t.there;
       found = t.found;
-      is_cosigner = t.is_node;
+      is_cosigner = t.is_party;
       fits = so.0;
       did = t.did ∙ ap (λ (m : Option (List ℕ)). opened_did t.found.records m ∷ []) so.1.0;
       reply_is = so.1.1;
@@ -219,12 +222,12 @@ advanced_so h files journal file status text meets =
 
 pub cosigned_so : CosignedTextsAreOfRecords
 cosigned_so h files journal file status text meets =
-    let t = has_told h files cosigner only_reads journal file form_fault_text subtree_in
-    (cosign_told h) status text meets in
+    let t = has_reported h files cosigner only_reads journal file form_fault_text subtree_in
+    (cosign_reported h) status text meets in
     let r = t.form in
     let state = t.found.state in
     let so = step_so (sign_record state.key.next r.start r.end r.hash r.proof)
-    (cosigned_text state r) (cosign_refused h state false (end_behind t.found.records) r) status
+    (cosigned_text state r) (cosign_refused h state false (end_following t.found.records) r) status
     text t.meets in
     record {
       bytes = t.bytes;
@@ -234,7 +237,7 @@ cosigned_so h files journal file status text meets =
       held = t.held;
       there = t.there;
       found = t.found;
-      is_cosigner = t.is_node;
+      is_cosigner = t.is_party;
       fits = so.0;
       did = t.did ∙ ap (λ (m : Option (List ℕ)). opened_did t.found.records m ∷ []) so.1.0;
       reply_is = so.1.1;
@@ -243,11 +246,11 @@ cosigned_so h files journal file status text meets =
 pub exported_so : ExportedTextsAreOfRecords
 exported_so h files journal status text meets =
     let plan = export_plan h journal in
-    let passed = heard_passed (node_kinds h) plan files status text meets in
+    let passed = heard_passed (party_kinds h) plan files status text meets in
     let found = passed.founds.0 in
-    let deed : Deed plan.journals = deed_on (export_told found) in
+    let deed : Deed plan.journals = deed_on (export_reported found) in
     let eq : deed ≡ passed.say passed.founds = same_work passed.say
-    (λ founds. deed_on (export_told founds.0)) passed.founds (works passed.say) refl
+    (λ founds. deed_on (export_reported founds.0)) passed.founds (works passed.say) refl
     passed.works_so in
     record {
       held = passed.are_found.0.bytes;
@@ -265,8 +268,8 @@ exported_so h files journal status text meets =
 
 pub keyed_so : KeyTextsAreOfSecrets
 keyed_so h files height width file status text meets =
-    let plan : Plan (node_kinds h) = keygen_plan height width file in
-    let passed = heard_passed (node_kinds h) plan files status text meets in
+    let plan : Plan (party_kinds h) = keygen_plan height width file in
+    let passed = heard_passed (party_kinds h) plan files status text meets in
     let read = passed.read.0 in
     let judged = prints Done (public_line (lms_type height) (ots_type width) read.text) in
     let deed : Deed plan.journals = record { answer = judged; does = tt } in
@@ -283,7 +286,7 @@ keyed_so h files height width file status text meets =
 pub begun_so : BegunTextsAreOfSecrets
 begun_so h files journal id log_id height width file status text meets =
     let plan = init_cosigner_plan h journal id log_id height width file in
-    let passed = heard_passed (node_kinds h) plan files status text meets in
+    let passed = heard_passed (party_kinds h) plan files status text meets in
     let read = passed.read.0 in
     let s = cosigner_settings_of id log_id height width in
     let line = public_line s.lms s.ots read.text in

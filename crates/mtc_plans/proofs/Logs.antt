@@ -20,10 +20,10 @@ use Rattle.command_plans.specs.Plans.{Beside, Input, only_reads}
 use Rattle.command_plans.proofs.Forms.{bytes_same, form_same}
 use Rattle.mtc_plans.specs.LogPlans.{cert_plan, init_log_plan, issue_plan}
 use Rattle.mtc_plans.specs.LogPlans.{opens_log, work_plan, work_step}
-use Rattle.mtc_plans.specs.LogWork.{work_told}
-use Rattle.mtc_plans.specs.NodeKinds.{log, missing_text, node_kinds}
+use Rattle.mtc_plans.specs.LogWork.{work_reported}
+use Rattle.mtc_plans.specs.PartyKinds.{log, missing_text, party_kinds}
 use Rattle.mtc_plans.specs.Steps.{small_file}
-use Rattle.mtc_plans.proofs.Texts.{first_read, told_on}
+use Rattle.mtc_plans.proofs.Texts.{first_read, reported_on}
 use Rattle.mtc_plans.proofs.Working.{work_same}
 
 missing_same : (journal : List ℕ) (tile : Option (ℕ × ℕ)) (one other : Outcome) → one ≡ other
@@ -35,11 +35,11 @@ missing_same journal (Some tile) one other same = refl
 module _ (h : HashFunction) (files : Files) where
   tested_same : (journal : List ℕ) (work : Work) (found : FoundLog)
       → tested_says h journal work (held_in (files (tiles_name journal))) found
-      ≡ with_beside (node_kinds h) log found.state (Some (tiles_name journal)) files
-      (told_on found.records (work_told h work found))
+      ≡ with_beside (party_kinds h) log found.state (Some (tiles_name journal)) files
+      (reported_on found.records (work_reported h work found))
   tested_same journal work found = missing_same journal
       (first_bad h found.state (held_in (files (tiles_name journal)))) (log_says h work found)
-      (told_on found.records (work_told h work found)) (work_same h work found)
+      (reported_on found.records (work_reported h work found)) (work_same h work found)
 
   module _ (inputs : List Input) where
     opened_same : (beside : Beside) (journal : List ℕ) (work : Work)

@@ -10,7 +10,7 @@ use Rattle.mtc_command.specs.Served.{IsOther}
 use Rattle.command_plans.specs.Names.{beside_names, journal_names, made_names, only_read_names}
 use Rattle.command_plans.specs.Plans.{Journal, makes, opens}
 use Rattle.mtc_plans.specs.Commands.{plan_of}
-use Rattle.mtc_plans.specs.NodeKinds.{cosigner, log, node_kinds}
+use Rattle.mtc_plans.specs.PartyKinds.{cosigner, log, party_kinds}
 use Rattle.mtc_plans.specs.Words.{journal_made_by, only_read_by}
 
 pub journals_named : (h : HashFunction) (command : CommandValue)
@@ -29,7 +29,7 @@ pub only_read_named : (h : HashFunction) (command : CommandValue)
 only_read_named h (member file) = refl
 only_read_named h other = refl
 
-pub no_journal_beside : (h : HashFunction) (journals : List (Journal (node_kinds h)))
+pub no_journal_beside : (h : HashFunction) (journals : List (Journal (party_kinds h)))
     (name : List ℕ) → is_tiles_name name ≡ false → IsOther (beside_names journals) name
 no_journal_beside h [] name own = tt
 no_journal_beside h (opens log beside journal ∷ rest) name own =

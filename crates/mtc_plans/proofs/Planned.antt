@@ -13,7 +13,7 @@ use Rattle.mtc_authority.specs.declared.work.Work.TheVariants.{Subtree, Tile}
 use Rattle.command_plans.specs.Plans.{changes, only_reads}
 use Rattle.mtc_plans.specs.Cited.{command_outcome}
 use Rattle.mtc_plans.specs.Commands.{planned_outcome}
-use Rattle.mtc_plans.specs.NodeKinds.{node_kinds}
+use Rattle.mtc_plans.specs.PartyKinds.{party_kinds}
 use Rattle.mtc_plans.proofs.Auditing.{audit_plans, quarrel_plans}
 use Rattle.mtc_plans.proofs.Cosigners.{advance_plans, cosign_plans, export_plans}
 use Rattle.mtc_plans.proofs.Cosigners.{init_cosigner_plans}
@@ -25,10 +25,10 @@ use Rattle.mtc_plans.proofs.Watching.{held_plans, monitor_init_plans, monitor_pl
 module _ (h : HashFunction) where
   pub outcome_planned : (command : CommandValue) (files : Files)
       → command_outcome h command files ≡ planned_outcome h command files
-  outcome_planned (member file) files = member_plans (node_kinds h) h file files
-  outcome_planned (show file) files = show_plans (node_kinds h) h file files
-  outcome_planned (verify certificate store moment) files =
-      verify_plans (node_kinds h) h certificate store moment files
+  outcome_planned (member file) files = member_plans (party_kinds h) h file files
+  outcome_planned (show file) files = show_plans (party_kinds h) h file files
+  outcome_planned (verify certificate store unix_time) files =
+      verify_plans (party_kinds h) h certificate store unix_time files
   outcome_planned (init_log journal id active limit) files =
       init_log_plans h files journal id active limit
   outcome_planned (issue journal request) files = issue_plans h files journal request
@@ -40,7 +40,7 @@ module _ (h : HashFunction) where
   outcome_planned (subtree journal start end size) files =
       work_plans h files only_reads journal (Subtree start end size)
   outcome_planned (keygen height width file) files =
-      keygen_plans (node_kinds h) h height width file files
+      keygen_plans (party_kinds h) h height width file files
   outcome_planned (init_cosigner journal id log_id height width file) files =
       init_cosigner_plans h files journal id log_id height width file
   outcome_planned (advance journal request) files = advance_plans h files journal request
@@ -51,16 +51,16 @@ module _ (h : HashFunction) where
   outcome_planned (light_cert journal index) files =
       work_plans h files only_reads journal (LightCert index)
   outcome_planned (trust_landmarks list active items) files =
-      trust_plans (node_kinds h) h list active items files
+      trust_plans (party_kinds h) h list active items files
   outcome_planned (cert journal index start end file) files =
       cert_plans h files journal index start end file
-  outcome_planned (audit certificate store moment items kept) files =
-      audit_plans (node_kinds h) h certificate store moment items kept files
-  outcome_planned (quarrel kept) files = quarrel_plans (node_kinds h) h kept files
-  outcome_planned (drill number) files = drill_plans (node_kinds h) h number files
+  outcome_planned (audit certificate store unix_time items kept) files =
+      audit_plans (party_kinds h) h certificate store unix_time items kept files
+  outcome_planned (quarrel kept) files = quarrel_plans (party_kinds h) h kept files
+  outcome_planned (drill number) files = drill_plans (party_kinds h) h number files
   outcome_planned (tile journal) files = work_plans h files changes journal Tile
-  outcome_planned (root items) files = root_plans (node_kinds h) h items files
-  outcome_planned (held kept) files = held_plans (node_kinds h) h kept files
-  outcome_planned (monitor_init id) files = monitor_init_plans (node_kinds h) h id files
+  outcome_planned (root items) files = root_plans (party_kinds h) h items files
+  outcome_planned (held kept) files = held_plans (party_kinds h) h kept files
+  outcome_planned (monitor_init id) files = monitor_init_plans (party_kinds h) h id files
   outcome_planned (monitor state watch request items) files =
-      monitor_plans (node_kinds h) h state watch request items files
+      monitor_plans (party_kinds h) h state watch request items files

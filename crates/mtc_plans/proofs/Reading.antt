@@ -32,10 +32,10 @@ use Rattle.mtc_plans.specs.ReadPlans.{drill_plan, keygen_plan, keygen_step, memb
 use Rattle.mtc_plans.specs.ReadPlans.{member_plan, member_step, show_plan, show_step, trust_plan}
 use Rattle.mtc_plans.specs.ReadPlans.{trust_step, verdict_step, verify_plan, verify_step}
 use Rattle.mtc_plans.specs.Steps.{in_secret, large_file, small_file}
-use Rattle.mtc_plans.proofs.Texts.{first_read, second_read, told_alone}
+use Rattle.mtc_plans.proofs.Texts.{first_read, second_read, reported_alone}
 
 judged_same : (index : ℕ) (r : Result Bool EvalError)
-    → judgement_says index r ≡ told_alone (member_judged index r)
+    → judgement_says index r ≡ reported_alone (member_judged index r)
 judged_same index (Ok true) = refl
 judged_same index (Ok false) = refl
 judged_same index (Err why) = refl
@@ -71,11 +71,11 @@ module _ (k : Kinds) (h : HashFunction) (files : Files) (inputs : List Input) wh
   verdict_same c (Err (ProofGrammar why)) = refl
   verdict_same c (Err why) = refl
 
-  verify_same : (moment : ℕ) (c s : Read inputs)
-      → verify_says h c.file.name s.file.name moment c.text s.text
-      ≡ step_outcome {k = k} [] (verify_step h moment c s) files
-  verify_same moment c s = form_same [] files s store_fault_text (store_of s.text) _ _
-      (λ trusted. verdict_same c (judgement h c.text trusted (pos moment)))
+  verify_same : (unix_time : ℕ) (c s : Read inputs)
+      → verify_says h c.file.name s.file.name unix_time c.text s.text
+      ≡ step_outcome {k = k} [] (verify_step h unix_time c s) files
+  verify_same unix_time c s = form_same [] files s store_fault_text (store_of s.text) _ _
+      (λ trusted. verdict_same c (judgement h c.text trusted (pos unix_time)))
 
   trust_same : (most : ℕ) (l e : Read inputs)
       → trust_says h l.file.name most e.file.name l.text e.text
@@ -104,15 +104,15 @@ module _ (k : Kinds) (h : HashFunction) where
       bytes_same 16777216 cert (files cert) _ _
       (λ b. show_same k h files (one ∷ []) (first_read one [] b))
 
-  pub verify_plans : (cert store : List ℕ) (moment : ℕ) (files : Files)
-      → verify_outcome h cert store moment files
-      ≡ outcome_of (verify_plan {k = k} h cert store moment) files
-  verify_plans cert store moment files =
+  pub verify_plans : (cert store : List ℕ) (unix_time : ℕ) (files : Files)
+      → verify_outcome h cert store unix_time files
+      ≡ outcome_of (verify_plan {k = k} h cert store unix_time) files
+  verify_plans cert store unix_time files =
       let one = small_file cert in
       let two = small_file store in
       bytes_same 16777216 cert (files cert) _ _
       (λ b. bytes_same 16777216 store (files store) _ _
-      (λ t. verify_same k h files (one ∷ (two ∷ [])) moment (first_read one (two ∷ []) b)
+      (λ t. verify_same k h files (one ∷ (two ∷ [])) unix_time (first_read one (two ∷ []) b)
       (second_read one two [] t)))
 
   pub trust_plans : (list : List ℕ) (most : ℕ) (entries : List ℕ) (files : Files)

@@ -7,7 +7,7 @@ use Rattle.mtc_command.specs.Steps.{Outcome, answers_on}
 use Rattle.mtc_command.specs.Wanted.{Wanted, exactly}
 use Rattle.command_plans.specs.Outcomes.{opened_did, wanted_of}
 use Rattle.command_plans.specs.Plans.{Input, Judged, Read}
-use Rattle.mtc_plans.specs.Steps.{Told}
+use Rattle.mtc_plans.specs.Steps.{StepReport}
 
 -- ---- what is read
 
@@ -31,14 +31,14 @@ fourth_read one two three four rest text =
 -- ---- what is reported
 
 -- without a journal
-abbrev pub told_alone : Judged → Outcome
-told_alone judged = record { answer = wanted_of judged; journals = [] }
+abbrev pub reported_alone : Judged → Outcome
+reported_alone judged = record { answer = wanted_of judged; journals = [] }
 
 -- over an open journal with these records
-abbrev pub told_on : List (List ℕ) → Told → Outcome
-told_on list told = record {
-  answer = wanted_of told.0;
-  journals = opened_did list told.1 ∷ [];
+abbrev pub reported_on : List (List ℕ) → StepReport → Outcome
+reported_on list reported = record {
+  answer = wanted_of reported.0;
+  journals = opened_did list reported.1 ∷ [];
 }
 
 -- one of two answers
@@ -49,7 +49,7 @@ either_same true one other first second so not = so
 either_same false one other first second so not = not
 
 pub on_list : (list : List (List ℕ)) (reply : Reply) (judged : Judged)
-    → exactly reply ≡ wanted_of judged → answers_on list reply ≡ told_on list (judged, None)
+    → exactly reply ≡ wanted_of judged → answers_on list reply ≡ reported_on list (judged, None)
 on_list list reply judged same =
     let F : Wanted → Outcome = λ wanted. record { answer = wanted; journals = reads list ∷ [] } in
     ap F same

@@ -22,9 +22,9 @@ use Rattle.command_plans.proofs.Forms.{bytes_same, form_same}
 use Rattle.mtc_plans.specs.Steps.{large_file, small_file}
 use Rattle.mtc_plans.specs.WatchPlans.{held_plan, held_step, monitor_init_plan, monitor_plan}
 use Rattle.mtc_plans.specs.WatchPlans.{monitor_step, root_plan, root_step, run_judged}
-use Rattle.mtc_plans.proofs.Texts.{first_read, fourth_read, second_read, third_read, told_alone}
+use Rattle.mtc_plans.proofs.Texts.{first_read, fourth_read, second_read, third_read, reported_alone}
 
-run_same : (r : Result Findings MonitorError) → run_says r ≡ told_alone (run_judged r)
+run_same : (r : Result Findings MonitorError) → run_says r ≡ reported_alone (run_judged r)
 run_same (Ok found) = refl
 run_same (Err why) = refl
 

@@ -2,7 +2,7 @@
 use Rattle.std.proofs.Common.{◌≡◌, ℕ, false, nat_le, nat_lt, not, List, length, Option, None}
 use Rattle.std.proofs.Common.{Some, refl}
 use Rattle.byte_formats.specs.Types.{HashFunction}
-use Rattle.journal_core.specs.Format.{end_behind}
+use Rattle.journal_core.specs.Format.{end_following}
 use Rattle.authority_core.specs.Certificates.{cert_refusal, covering_in, light_refusal}
 use Rattle.authority_core.specs.Issues.{issued_entry}
 use Rattle.authority_core.specs.Requests.{RequestParts}
@@ -29,9 +29,10 @@ use Rattle.mtc_authority.specs.declared.work.Work.TheVariants.{Issue, Landmark, 
 use Rattle.mtc_authority.specs.declared.work.Work.TheVariants.{LightCert, Subtree, Tile}
 use Rattle.command_plans.specs.Outcomes.{wanted_of}
 use Rattle.mtc_plans.specs.LogWork.{cert_judged, consist_judged, entries_judged}
-use Rattle.mtc_plans.specs.LogWork.{issue_told, log_judged, mark_told, subtree_judged, tile_told}
-use Rattle.mtc_plans.specs.LogWork.{work_told, write_judged}
-use Rattle.mtc_plans.proofs.Texts.{either_same, on_list, told_on}
+use Rattle.mtc_plans.specs.LogWork.{issue_reported, log_judged, mark_reported, subtree_judged}
+use Rattle.mtc_plans.specs.LogWork.{tile_reported}
+use Rattle.mtc_plans.specs.LogWork.{work_reported, write_judged}
+use Rattle.mtc_plans.proofs.Texts.{either_same, on_list, reported_on}
 
 write_same : (why : WriteError) → exactly (cert_refused why) ≡ wanted_of (write_judged why)
 write_same write_error.NoSuchEntry = refl
@@ -75,31 +76,32 @@ module _ (h : HashFunction) where
       (either_same (nat_lt size end) _ _ _ _ refl refl))
 
   issued_same : (r : RequestParts) (found : FoundLog) (why : Option LogError)
-      → issued h r found why ≡ told_on found.records (issue_told h r (view_in found.state) why)
+      → issued h r found why
+      ≡ reported_on found.records (issue_reported h r (view_in found.state) why)
   issued_same r found None = refl
   issued_same r found (Some why) = refl
 
   marked_same : (found : FoundLog) (why : Option LogError)
-      → marked found why ≡ told_on found.records (mark_told (view_in found.state) why)
+      → marked found why ≡ reported_on found.records (mark_reported (view_in found.state) why)
   marked_same found None = refl
   marked_same found (Some why) = on_list found.records (mark_refused why) (log_judged why)
       (mark_same why)
 
   tiled_same : (found : FoundLog) (why : Option LogError)
       → tiled_by (view_in found.state) found.records why
-      ≡ told_on found.records (tile_told (view_in found.state) why)
+      ≡ reported_on found.records (tile_reported (view_in found.state) why)
   tiled_same found None = refl
   tiled_same found (Some why) = on_list found.records (tiles_refused why) (log_judged why)
       (tiles_same why)
 
   pub work_same : (work : Work) (found : FoundLog)
-      → log_says h work found ≡ told_on found.records (work_told h work found)
+      → log_says h work found ≡ reported_on found.records (work_reported h work found)
   unfolding log_says
   work_same Checkpoint found = refl
   work_same (Entries size) found = on_list found.records (entries_reply size found.state)
       (entries_judged size found.state) (entries_same size found.state)
   work_same (Issue request) found = issued_same request found
-      (add_refusal (view_in found.state) false (end_behind found.records)
+      (add_refusal (view_in found.state) false (end_following found.records)
       (issued_entry h found.state.settings request) request.key)
   work_same (Consist old new) found = on_list found.records (consist_reply h old new found.state)
       (consist_judged h old new found.state) (consist_same old new found.state)
@@ -107,7 +109,7 @@ module _ (h : HashFunction) where
       on_list found.records (subtree_reply h start end size found.state)
       (subtree_judged h start end size found.state) (subtree_same start end size found.state)
   work_same Landmark found =
-      marked_same found (mark_refusal (view_in found.state) false (end_behind found.records))
+      marked_same found (mark_refusal (view_in found.state) false (end_following found.records))
   work_same Landmarks found = refl
   work_same (LightCert index) found =
       let why = light_refusal (view_in found.state) index in
@@ -118,4 +120,4 @@ module _ (h : HashFunction) where
       let text = certificate_in h index start end signatures found.state in
       on_list found.records (cert_replies why text) (cert_judged why text) (cert_same why text)
   work_same Tile found =
-      tiled_same found (tile_refusal (view_in found.state) false (end_behind found.records))
+      tiled_same found (tile_refusal (view_in found.state) false (end_following found.records))

@@ -51,17 +51,17 @@ audited_step h cert store items kept (Err why) = verdict_step cert (Err why)
 -- The store, the entries and the export are read, and then the certificate is judged.
 abbrev pub audit_step : {k : Kinds} {inputs : List Input} → HashFunction → ℕ → Read inputs
     → Read inputs → Read inputs → Read inputs → Step {k = k} inputs []
-audit_step h moment cert store entries export =
+audit_step h unix_time cert store entries export =
     in_form store store_fault_text (store_of store.text) (λ s.
     in_form entries items_fault_text (items_in h entries.text) (λ items.
     in_form export export_fault_text (export_in h export.text) (λ kept.
-    audited_step h cert s items kept (accepted_in h cert.text s (pos moment)))))
+    audited_step h cert s items kept (accepted_in h cert.text s (pos unix_time)))))
 
 abbrev pub audit_plan : {k : Kinds} → HashFunction → Text → Text → ℕ → Text → Text → Plan k
-audit_plan h cert store moment entries export = record {
+audit_plan h cert store unix_time entries export = record {
   inputs = small_file cert ∷ (small_file store ∷ (large_file entries ∷ (large_file export ∷ [])));
   journals = [];
-  steps = λ (c, (s, (e, (x, none)))). audit_step h moment c s e x;
+  steps = λ (c, (s, (e, (x, none)))). audit_step h unix_time c s e x;
 }
 
 -- ---- quarrel EXPORT

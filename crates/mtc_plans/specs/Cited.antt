@@ -39,7 +39,8 @@ outcome_on_log h journal work files =
 abbrev pub command_outcome : HashFunction → CommandValue → Files → Outcome
 command_outcome h (member file) = member_outcome h file
 command_outcome h (show file) = show_outcome file
-command_outcome h (verify certificate store moment) = verify_outcome h certificate store moment
+command_outcome h (verify certificate store unix_time) =
+    verify_outcome h certificate store unix_time
 command_outcome h (init_log journal id active limit) = init_log_outcome journal id active limit
 command_outcome h (issue journal request) = issue_outcome h journal request
 command_outcome h (checkpoint journal) = outcome_on_log h journal Checkpoint
@@ -58,8 +59,8 @@ command_outcome h (landmarks journal) = outcome_on_log h journal Landmarks
 command_outcome h (light_cert journal index) = outcome_on_log h journal (LightCert index)
 command_outcome h (trust_landmarks list active items) = trust_outcome h list active items
 command_outcome h (cert journal index start end file) = cert_outcome h journal index start end file
-command_outcome h (audit certificate store moment items kept) =
-    audit_outcome h certificate store moment items kept
+command_outcome h (audit certificate store unix_time items kept) =
+    audit_outcome h certificate store unix_time items kept
 command_outcome h (quarrel kept) = quarrel_outcome h kept
 command_outcome h (drill number) = λ files. drill_outcome number
 command_outcome h (tile journal) = outcome_on_log h journal Tile

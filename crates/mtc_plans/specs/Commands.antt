@@ -15,16 +15,16 @@ use Rattle.mtc_plans.specs.AuditPlans.{audit_plan, quarrel_plan}
 use Rattle.mtc_plans.specs.CosignerPlans.{advance_plan, cosign_plan, export_plan}
 use Rattle.mtc_plans.specs.CosignerPlans.{init_cosigner_plan}
 use Rattle.mtc_plans.specs.LogPlans.{cert_plan, init_log_plan, issue_plan, work_plan}
-use Rattle.mtc_plans.specs.NodeKinds.{node_kinds}
+use Rattle.mtc_plans.specs.PartyKinds.{party_kinds}
 use Rattle.mtc_plans.specs.ReadPlans.{drill_plan, keygen_plan, member_plan, show_plan}
 use Rattle.mtc_plans.specs.ReadPlans.{trust_plan, verify_plan}
 use Rattle.mtc_plans.specs.WatchPlans.{held_plan, monitor_init_plan, monitor_plan, root_plan}
 
 -- The plan of each command.
-abbrev pub plan_of : (h : HashFunction) → CommandValue → Plan (node_kinds h)
+abbrev pub plan_of : (h : HashFunction) → CommandValue → Plan (party_kinds h)
 plan_of h (member file) = member_plan h file
 plan_of h (show file) = show_plan file
-plan_of h (verify certificate store moment) = verify_plan h certificate store moment
+plan_of h (verify certificate store unix_time) = verify_plan h certificate store unix_time
 plan_of h (init_log journal id active limit) = init_log_plan h journal id active limit
 plan_of h (issue journal request) = issue_plan h journal request
 plan_of h (checkpoint journal) = work_plan h only_reads journal Checkpoint
@@ -43,8 +43,8 @@ plan_of h (landmarks journal) = work_plan h only_reads journal Landmarks
 plan_of h (light_cert journal index) = work_plan h only_reads journal (LightCert index)
 plan_of h (trust_landmarks list active items) = trust_plan h list active items
 plan_of h (cert journal index start end file) = cert_plan h journal index start end file
-plan_of h (audit certificate store moment items kept) =
-    audit_plan h certificate store moment items kept
+plan_of h (audit certificate store unix_time items kept) =
+    audit_plan h certificate store unix_time items kept
 plan_of h (quarrel kept) = quarrel_plan h kept
 plan_of h (drill number) = drill_plan number
 plan_of h (tile journal) = work_plan h changes journal Tile

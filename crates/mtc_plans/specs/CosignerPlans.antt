@@ -1,7 +1,7 @@
 -- The plans of the commands on the journal of a cosigner.
 use Rattle.std.specs.Prelude.{ℕ, false, List, [], ◌∷◌, Option, None, Some}
 use Rattle.byte_formats.specs.Types.{HashFunction, Text}
-use Rattle.journal_core.specs.Format.{end_behind}
+use Rattle.journal_core.specs.Format.{end_following}
 use Rattle.cosigner_core.specs.Exports.{export_text}
 use Rattle.cosigner_core.specs.Openings.{FoundCosigner}
 use Rattle.cosigner_core.specs.Reading.{advance_in, subtree_in}
@@ -19,8 +19,8 @@ use Rattle.mtc_cosigner.specs.InitOutcome.{cosigner_settings_of}
 use Rattle.mtc_cosigner.specs.KeygenOutcome.{public_line}
 use Rattle.command_plans.specs.Plans.{Input, Journal, Judged, Plan, Read, Step, exceeds, forbids}
 use Rattle.command_plans.specs.Plans.{in_form, makes, only_reads, opens, prints, works}
-use Rattle.mtc_plans.specs.NodeKinds.{cosigner, node_kinds}
-use Rattle.mtc_plans.specs.Steps.{Told, deed_new, deed_on, in_secret, small_file}
+use Rattle.mtc_plans.specs.PartyKinds.{cosigner, party_kinds}
+use Rattle.mtc_plans.specs.Steps.{StepReport, deed_new, deed_on, in_secret, small_file}
 
 -- Why a cosigner takes no step: its state doesn't allow it, or its journal is full.
 abbrev pub step_judged : CosignError → Judged
@@ -28,42 +28,43 @@ step_judged (Append why) = exceeds (step_fault_text (Append why))
 step_judged why = forbids (step_fault_text why)
 
 -- A record more and its text, unless the step is refused.
-abbrev pub step_told : Text → Text → Option CosignError → Told
-step_told body text None = (prints Done text, Some body)
-step_told body text (Some why) = (step_judged why, None)
+abbrev pub step_reported : Text → Text → Option CosignError → StepReport
+step_reported body text None = (prints Done text, Some body)
+step_reported body text (Some why) = (step_judged why, None)
 
-abbrev pub advance_told : HashFunction → AdvanceParts → FoundCosigner → Told
-advance_told h r found = step_told (advance_record r.size r.root r.proof) (advanced_text r.size)
-    (advance_refused h found.state false (end_behind found.records) r)
+abbrev pub advance_reported : HashFunction → AdvanceParts → FoundCosigner → StepReport
+advance_reported h r found =
+    step_reported (advance_record r.size r.root r.proof) (advanced_text r.size)
+    (advance_refused h found.state false (end_following found.records) r)
 
-abbrev pub cosign_told : HashFunction → SubtreeParts → FoundCosigner → Told
-cosign_told h r found =
-    step_told (sign_record found.state.key.next r.start r.end r.hash r.proof)
+abbrev pub cosign_reported : HashFunction → SubtreeParts → FoundCosigner → StepReport
+cosign_reported h r found =
+    step_reported (sign_record found.state.key.next r.start r.end r.hash r.proof)
     (cosigned_text found.state r)
-    (cosign_refused h found.state false (end_behind found.records) r)
+    (cosign_refused h found.state false (end_following found.records) r)
 
 -- What others may know of a cosigner.
-abbrev pub export_told : FoundCosigner → Told
-export_told found = (prints Done (export_text found.state found.records), None)
+abbrev pub export_reported : FoundCosigner → StepReport
+export_reported found = (prints Done (export_text found.state found.records), None)
 
 module _ (h : HashFunction) where
   -- The journal of a cosigner that is there. No file goes with it.
-  abbrev pub opens_cosigner : Text → List (Journal (node_kinds h))
+  abbrev pub opens_cosigner : Text → List (Journal (party_kinds h))
   opens_cosigner journal = opens cosigner only_reads journal ∷ []
 
   -- The work on the cosigner that is found.
-  abbrev pub told_step : {inputs : List Input} (journal : Text) → (FoundCosigner → Told)
+  abbrev pub reported_step : {inputs : List Input} (journal : Text) → (FoundCosigner → StepReport)
       → Step inputs (opens_cosigner journal)
-  told_step journal told = works (λ found. deed_on (told found.0))
+  reported_step journal reported = works (λ found. deed_on (reported found.0))
 
   -- `init-cosigner S ID LOGID HEIGHT WIDTH SECRET`: the secret is tested, and then a journal of the
   -- cosigner's first record is made.
   abbrev pub init_step : {inputs : List Input} (journal : Text) → CosignerSettings → Read inputs
-      → Step {k = node_kinds h} inputs (makes cosigner journal ∷ [])
+      → Step {k = party_kinds h} inputs (makes cosigner journal ∷ [])
   init_step journal s secret = in_secret secret (works (λ nothing.
       deed_new (cosigner_record s secret.text) (prints Done (public_line s.lms s.ots secret.text))))
 
-  abbrev pub init_cosigner_plan : Text → Text → Text → ℕ → ℕ → Text → Plan (node_kinds h)
+  abbrev pub init_cosigner_plan : Text → Text → Text → ℕ → ℕ → Text → Plan (party_kinds h)
   init_cosigner_plan journal id log_id height width file = record {
     inputs = small_file file ∷ [];
     journals = makes cosigner journal ∷ [];
@@ -74,9 +75,9 @@ module _ (h : HashFunction) where
   abbrev pub advance_step : {inputs : List Input} (journal : Text) → Read inputs
       → Step inputs (opens_cosigner journal)
   advance_step journal request = in_form request form_fault_text (advance_in request.text)
-      (λ r. told_step journal (advance_told h r))
+      (λ r. reported_step journal (advance_reported h r))
 
-  abbrev pub advance_plan : Text → Text → Plan (node_kinds h)
+  abbrev pub advance_plan : Text → Text → Plan (party_kinds h)
   advance_plan journal request = record {
     inputs = small_file request ∷ [];
     journals = opens_cosigner journal;
@@ -86,9 +87,9 @@ module _ (h : HashFunction) where
   abbrev pub cosign_step : {inputs : List Input} (journal : Text) → Read inputs
       → Step inputs (opens_cosigner journal)
   cosign_step journal request = in_form request form_fault_text (subtree_in request.text)
-      (λ r. told_step journal (cosign_told h r))
+      (λ r. reported_step journal (cosign_reported h r))
 
-  abbrev pub cosign_plan : Text → Text → Plan (node_kinds h)
+  abbrev pub cosign_plan : Text → Text → Plan (party_kinds h)
   cosign_plan journal request = record {
     inputs = small_file request ∷ [];
     journals = opens_cosigner journal;
@@ -96,9 +97,9 @@ module _ (h : HashFunction) where
   }
 
   -- `export S`
-  abbrev pub export_plan : Text → Plan (node_kinds h)
+  abbrev pub export_plan : Text → Plan (party_kinds h)
   export_plan journal = record {
     inputs = [];
     journals = opens_cosigner journal;
-    steps = λ none. told_step journal export_told;
+    steps = λ none. reported_step journal export_reported;
   }

@@ -1,4 +1,4 @@
-pub mod NodeKinds
+pub mod PartyKinds
 pub mod Steps
 pub mod ReadPlans
 pub mod AuditPlans

@@ -11,14 +11,14 @@ use Rattle.mtc_authority.specs.declared.work.Work.{Work}
 use Rattle.mtc_authority.specs.declared.work.Work.TheVariants.{Cert, Issue}
 use Rattle.command_plans.specs.Plans.{Beside, Input, Journal, Plan, Read, Step}
 use Rattle.command_plans.specs.Plans.{in_form, makes, only_reads, opens, prints, works}
-use Rattle.mtc_plans.specs.LogWork.{work_told}
-use Rattle.mtc_plans.specs.NodeKinds.{log, node_kinds}
+use Rattle.mtc_plans.specs.LogWork.{work_reported}
+use Rattle.mtc_plans.specs.PartyKinds.{log, party_kinds}
 use Rattle.mtc_plans.specs.Steps.{deed_new, deed_on, small_file}
 
 module _ (h : HashFunction) where
   -- The journal of a log that is there.
   abbrev pub LogJournals : Type 0
-  LogJournals = List (Journal (node_kinds h))
+  LogJournals = List (Journal (party_kinds h))
 
   abbrev pub opens_log : Beside → Text → LogJournals
   opens_log beside journal = opens log beside journal ∷ []
@@ -26,10 +26,10 @@ module _ (h : HashFunction) where
   -- The work on the log that is found.
   abbrev pub work_step : {inputs : List Input} (beside : Beside) (journal : Text) → Work
       → Step inputs (opens_log beside journal)
-  work_step beside journal work = works (λ found. deed_on (work_told h work found.0))
+  work_step beside journal work = works (λ found. deed_on (work_reported h work found.0))
 
   -- A command of its arguments alone.
-  abbrev pub work_plan : Beside → Text → Work → Plan (node_kinds h)
+  abbrev pub work_plan : Beside → Text → Work → Plan (party_kinds h)
   work_plan beside journal work = record {
     inputs = [];
     journals = opens_log beside journal;
@@ -37,7 +37,7 @@ module _ (h : HashFunction) where
   }
 
   -- `init-log J ID ACTIVE LIMIT`: a new journal of the log's first record.
-  abbrev pub init_log_plan : Text → Text → ℕ → ℕ → Plan (node_kinds h)
+  abbrev pub init_log_plan : Text → Text → ℕ → ℕ → Plan (party_kinds h)
   init_log_plan journal id active limit = record {
     inputs = [];
     journals = makes log journal ∷ [];
@@ -51,7 +51,7 @@ module _ (h : HashFunction) where
   issue_step journal request = in_form request request_fault_text (request_of request.text)
       (λ r. work_step only_reads journal (Issue r))
 
-  abbrev pub issue_plan : Text → Text → Plan (node_kinds h)
+  abbrev pub issue_plan : Text → Text → Plan (party_kinds h)
   issue_plan journal request = record {
     inputs = small_file request ∷ [];
     journals = opens_log only_reads journal;
@@ -66,7 +66,7 @@ module _ (h : HashFunction) where
       in_form file signatures_fault_text (signatures_in file.text)
       (λ signatures. work_step only_reads journal (Cert index start end signatures))
 
-  abbrev pub cert_plan : Text → ℕ → ℕ → ℕ → Text → Plan (node_kinds h)
+  abbrev pub cert_plan : Text → ℕ → ℕ → ℕ → Text → Plan (party_kinds h)
   cert_plan journal index start end file = record {
     inputs = small_file file ∷ [];
     journals = opens_log only_reads journal;

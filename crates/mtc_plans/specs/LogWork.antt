@@ -2,7 +2,7 @@
 use Rattle.std.specs.Prelude.{ℕ, false, nat_le, nat_lt, not, List, length, codes, Option}
 use Rattle.std.specs.Prelude.{None, Some, if◌then◌else◌}
 use Rattle.byte_formats.specs.Types.{HashFunction, Text}
-use Rattle.journal_core.specs.Format.{end_behind}
+use Rattle.journal_core.specs.Format.{end_following}
 use Rattle.authority_core.specs.Certificates.{cert_refusal, covering_in, light_refusal}
 use Rattle.authority_core.specs.Issues.{issued_entry, issued_record}
 use Rattle.authority_core.specs.Requests.{RequestParts}
@@ -32,7 +32,7 @@ use Rattle.mtc_authority.specs.declared.work.Work.TheVariants.{Cert, Checkpoint,
 use Rattle.mtc_authority.specs.declared.work.Work.TheVariants.{Issue, Landmark, Landmarks}
 use Rattle.mtc_authority.specs.declared.work.Work.TheVariants.{LightCert, Subtree, Tile}
 use Rattle.command_plans.specs.Plans.{Judged, exceeds, forbids, prints}
-use Rattle.mtc_plans.specs.Steps.{Told, beyond_size}
+use Rattle.mtc_plans.specs.Steps.{StepReport, beyond_size}
 
 -- ---- what only reads the log
 
@@ -82,9 +82,9 @@ cert_judged (Some why) text = write_judged why
 -- ---- what adds a record
 
 -- The entry of a request is added with its key, unless the log refuses it.
-abbrev pub issue_told : HashFunction → RequestParts → LogView → Option LogError → Told
-issue_told h r v None = (prints Done (issued_text v.size), Some (issued_record h v.settings r))
-issue_told h r v (Some why) = (exceeds (log_fault_text why), None)
+abbrev pub issue_reported : HashFunction → RequestParts → LogView → Option LogError → StepReport
+issue_reported h r v None = (prints Done (issued_text v.size), Some (issued_record h v.settings r))
+issue_reported h r v (Some why) = (exceeds (log_fault_text why), None)
 
 -- Why a log takes no landmark, and stores no tiles.
 abbrev pub log_judged : LogError → Judged
@@ -92,38 +92,38 @@ log_judged log_error.NothingNew = forbids (codes "NothingNew")
 log_judged why = exceeds (log_fault_text why)
 
 -- A landmark at the size of the log is set.
-abbrev pub mark_told : LogView → Option LogError → Told
-mark_told v None = (prints Done (next_line v), Some (landmark_record v.size))
-mark_told v (Some why) = (log_judged why, None)
+abbrev pub mark_reported : LogView → Option LogError → StepReport
+mark_reported v None = (prints Done (next_line v), Some (landmark_record v.size))
+mark_reported v (Some why) = (log_judged why, None)
 
 -- The tiles that the entries fill are stored.
-abbrev pub tile_told : LogView → Option LogError → Told
-tile_told v None = (prints Done (tiled_line (full_size v)), Some (tiles_record (full_size v)))
-tile_told v (Some why) = (log_judged why, None)
+abbrev pub tile_reported : LogView → Option LogError → StepReport
+tile_reported v None = (prints Done (tiled_line (full_size v)), Some (tiles_record (full_size v)))
+tile_reported v (Some why) = (log_judged why, None)
 
 -- ---- each work
 
-abbrev pub work_told : HashFunction → Work → FoundLog → Told
-work_told h Checkpoint found = (checkpoint_judged h found.state.entries, None)
-work_told h (Entries size) found = (entries_judged size found.state, None)
-work_told h (Issue request) found = issue_told h request (view_in found.state)
-    (add_refusal (view_in found.state) false (end_behind found.records)
+abbrev pub work_reported : HashFunction → Work → FoundLog → StepReport
+work_reported h Checkpoint found = (checkpoint_judged h found.state.entries, None)
+work_reported h (Entries size) found = (entries_judged size found.state, None)
+work_reported h (Issue request) found = issue_reported h request (view_in found.state)
+    (add_refusal (view_in found.state) false (end_following found.records)
     (issued_entry h found.state.settings request) request.key)
-work_told h (Consist old new) found = (consist_judged h old new found.state, None)
-work_told h (Subtree start end size) found = (subtree_judged h start end size found.state, None)
-work_told h Landmark found = mark_told (view_in found.state)
-    (mark_refusal (view_in found.state) false (end_behind found.records))
-work_told h Landmarks found =
+work_reported h (Consist old new) found = (consist_judged h old new found.state, None)
+work_reported h (Subtree start end size) found = (subtree_judged h start end size found.state, None)
+work_reported h Landmark found = mark_reported (view_in found.state)
+    (mark_refusal (view_in found.state) false (end_following found.records))
+work_reported h Landmarks found =
     (prints Done (list_text (log_landmarks (view_in found.state))), None)
-work_told h (LightCert index) found = (
+work_reported h (LightCert index) found = (
   cert_judged (light_refusal (view_in found.state) index)
       (light_text h index found.state (covering_in (view_in found.state) index)),
   None,
 )
-work_told h (Cert index start end signatures) found = (
+work_reported h (Cert index start end signatures) found = (
   cert_judged (cert_refusal (view_in found.state) index start end signatures)
       (certificate_in h index start end signatures found.state),
   None,
 )
-work_told h Tile found = tile_told (view_in found.state)
-    (tile_refusal (view_in found.state) false (end_behind found.records))
+work_reported h Tile found = tile_reported (view_in found.state)
+    (tile_refusal (view_in found.state) false (end_following found.records))

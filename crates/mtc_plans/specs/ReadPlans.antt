@@ -76,14 +76,14 @@ verdict_step cert (Err why) = only_prints (prints_against (refusal_text why))
 -- The store is read, and the certificate is judged by it.
 abbrev pub verify_step : {k : Kinds} {inputs : List Input} → HashFunction → ℕ → Read inputs
     → Read inputs → Step {k = k} inputs []
-verify_step h moment cert store = in_form store store_fault_text (store_of store.text)
-    (λ s. verdict_step cert (judgement h cert.text s (pos moment)))
+verify_step h unix_time cert store = in_form store store_fault_text (store_of store.text)
+    (λ s. verdict_step cert (judgement h cert.text s (pos unix_time)))
 
 abbrev pub verify_plan : {k : Kinds} → HashFunction → Text → Text → ℕ → Plan k
-verify_plan h cert store moment = record {
+verify_plan h cert store unix_time = record {
   inputs = small_file cert ∷ (small_file store ∷ []);
   journals = [];
-  steps = λ (c, (s, none)). verify_step h moment c s;
+  steps = λ (c, (s, none)). verify_step h unix_time c s;
 }
 
 -- ---- trust-landmarks LIST MAXACTIVE ENTRIES

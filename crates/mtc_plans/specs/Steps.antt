@@ -30,12 +30,12 @@ beyond_size size = forbids (codes "Beyond " ++ decimal size)
 -- ---- deeds on one journal
 
 -- What is answered over an open journal, and the record that is added to it, if one is.
-abbrev pub Told : Type 0
-Told = Judged × Option Text
+abbrev pub StepReport : Type 0
+StepReport = Judged × Option Text
 
-abbrev pub deed_on : {k : Kinds} {kind : k.Kind} {beside : Beside} {name : Text} → Told
+abbrev pub deed_on : {k : Kinds} {kind : k.Kind} {beside : Beside} {name : Text} → StepReport
     → Deed {k = k} (opens kind beside name ∷ [])
-deed_on told = record { answer = told.0; does = (told.1, tt) }
+deed_on reported = record { answer = reported.0; does = (reported.1, tt) }
 
 -- A new journal with this first record.
 abbrev pub deed_new : {k : Kinds} {kind : k.Kind} {name : Text} → Text → Judged

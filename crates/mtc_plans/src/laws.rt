@@ -17,7 +17,7 @@ ghost use Rattle.mtc_plans.specs.Commands.{plan_of, planned_outcome};
 ghost use Rattle.mtc_plans.specs.Heard.{AdvancedTextsAreOfRecords, BegunTextsAreOfSecrets};
 ghost use Rattle.mtc_plans.specs.Heard.{CosignedTextsAreOfRecords, ExportedTextsAreOfRecords};
 ghost use Rattle.mtc_plans.specs.Heard.{IssuedTextsAreOfRecords, KeyTextsAreOfSecrets};
-ghost use Rattle.mtc_plans.specs.NodeKinds.{node_kinds};
+ghost use Rattle.mtc_plans.specs.PartyKinds.{party_kinds};
 ghost use Rattle.mtc_plans.specs.Words.{journal_made_by, only_read_by};
 
 /// What each command has to answer, as its contract cites it, is what comes of its plan.
@@ -35,7 +35,7 @@ pub fn law_plans_name_their_files()
         → journal_names (plan_of h command).journals ≡ option_to_list (journal_of command) }
     ensures makes { (h : HashFunction) (command : CommandValue)
         → made_names (plan_of h command).journals ≡ option_to_list (journal_made_by command) }
-    ensures beside { (h : HashFunction) (journals : List (Journal (node_kinds h))) (name : Text)
+    ensures beside { (h : HashFunction) (journals : List (Journal (party_kinds h))) (name : Text)
         → is_tiles_name name ≡ false → IsOther (beside_names journals) name }
     ensures only_read { (h : HashFunction) (command : CommandValue)
         → only_read_names (plan_of h command).journals
@@ -47,12 +47,12 @@ pub fn law_plans_name_their_files()
 /// journal that it opens or a tile of one; a journal that isn't opened goes with an early status;
 /// what is found is what its file represents; and a command that is heard has passed all tests.
 pub fn law_commands_come()
-    ensures six { (h : HashFunction) → OutcomesCome (node_kinds h) }
-    ensures words { (h : HashFunction) → NoCommandIsBadWords (node_kinds h) }
-    ensures misread { (h : HashFunction) → MisreadIsAbout (node_kinds h) }
-    ensures early { (h : HashFunction) → UnopenedIsEarly (node_kinds h) }
-    ensures valid { (h : HashFunction) → FoundIsValid (node_kinds h) }
-    ensures passed { (h : HashFunction) → HeardHasPassed (node_kinds h) }
+    ensures six { (h : HashFunction) → OutcomesCome (party_kinds h) }
+    ensures words { (h : HashFunction) → NoCommandIsBadWords (party_kinds h) }
+    ensures misread { (h : HashFunction) → MisreadIsAbout (party_kinds h) }
+    ensures early { (h : HashFunction) → UnopenedIsEarly (party_kinds h) }
+    ensures valid { (h : HashFunction) → FoundIsValid (party_kinds h) }
+    ensures passed { (h : HashFunction) → HeardHasPassed (party_kinds h) }
 {}
 
 /// Where `issue` answers with a text, its request was read, its log was found and takes the entry

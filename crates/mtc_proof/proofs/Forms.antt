@@ -8,7 +8,7 @@ use Rattle.std.specs.List.{flat_map, AllByRecursion}
 use Rattle.std.specs.Int.{w8, w16, w64}
 use Rattle.std.proofs.lemmas.List.{length-append, nil_from_length}
 use Rattle.byte_formats.specs.Types.{Hash, Text}
-use Rattle.byte_formats.specs.Places.{At, IsBytes, at, has_bytes}
+use Rattle.byte_formats.specs.Offsets.{At, IsBytes, at, has_bytes}
 use Rattle.byte_formats.specs.Readings.{◌>>=◌, discarded, tested_at, Gives}
 use Rattle.byte_formats.specs.Lists.{up_to_end}
 use Rattle.byte_formats.specs.Forms.{IsForm, Anything, Nothing, FitsBoth}

@@ -2,7 +2,7 @@
 use Rattle.std.proofs.Common.{◌≡◌, List, [], ◌∷◌, Ok, Err, ap, lit≤}
 use Rattle.std.specs.List.{flat_map, AllByRecursion}
 use Rattle.std.specs.Int.{w8, w16}
-use Rattle.byte_formats.specs.Places.{At, at, has_bytes}
+use Rattle.byte_formats.specs.Offsets.{At, at, has_bytes}
 use Rattle.byte_formats.specs.Left.{first_at}
 use Rattle.byte_formats.proofs.Left.{Takes, less_takes, lifted_takes, tested_takes, mapped_takes}
 use Rattle.byte_formats.proofs.Left.{then_takes, left_next, left_end, left_found}

@@ -3,7 +3,7 @@ use Rattle.std.specs.Prelude.{ℕ, ◌-◌, ◌==◌, List, length, Result, Ok, 
 use Rattle.std.specs.Prelude.{if◌then◌else◌}
 use Rattle.std.specs.Int.{Width, w8, w16, w64}
 use Rattle.byte_formats.specs.Types.{Hash, Text}
-use Rattle.byte_formats.specs.Places.{At, at, has_bytes}
+use Rattle.byte_formats.specs.Offsets.{At, at, has_bytes}
 use Rattle.byte_formats.specs.Readings.{Reading, ◌>>=◌, lifted_at, discarded, both_at, mapped_at}
 use Rattle.byte_formats.specs.Readings.{tested_at}
 use Rattle.byte_formats.specs.Lists.{up_to_end}

@@ -2,7 +2,7 @@
 
 ghost use Rattle.std.specs.Prelude.{◌≡◌, [], ◌∷◌, MatchOption};
 ghost use Rattle.std.specs.Iterator.{YieldsFirstBy, item_count};
-ghost use Rattle.byte_formats.specs.Places.{at};
+ghost use Rattle.byte_formats.specs.Offsets.{at};
 ghost use Rattle.mtc_proof.specs.Reading.{signatures_left};
 ghost use Rattle.mtc_proof.specs.Views.{sig_parts};
 

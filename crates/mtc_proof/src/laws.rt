@@ -3,7 +3,7 @@
 ghost use Rattle.std.specs.Prelude.{◌≡◌, List, Ok};
 ghost use Rattle.byte_formats.specs.Types.{Text};
 ghost use Rattle.std.specs.List.{flat_map, AllByRecursion};
-ghost use Rattle.byte_formats.specs.Places.{IsBytes, at};
+ghost use Rattle.byte_formats.specs.Offsets.{IsBytes, at};
 ghost use Rattle.byte_formats.specs.Lists.{up_to_end};
 ghost use Rattle.byte_formats.specs.Forms.{IsForm, Anything, Nothing};
 ghost use Rattle.mtc_proof.specs.Inputs.{InputParts, IsInput, input_text};

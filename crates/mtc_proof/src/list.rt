@@ -1,7 +1,7 @@
 //! Lists of signatures.
 
 ghost use Rattle.std.specs.Prelude.{◌≡◌, ◌<◌, length, Ok, Err, OnOk, IfErr, IsOk};
-ghost use Rattle.byte_formats.specs.Places.{at};
+ghost use Rattle.byte_formats.specs.Offsets.{at};
 ghost use Rattle.byte_formats.specs.Readings.{Moves, Gives, discarded};
 ghost use Rattle.byte_formats.specs.Lists.{up_to_end};
 ghost use Rattle.mtc_proof.specs.Proofs.{AreSignatures};

@@ -1,7 +1,7 @@
 -- The command `member`: what its file holds, and what is judged of it.
 use Rattle.std.specs.Prelude.{ℕ, List, Bool, Result, Ok, bytes_eq}
 use Rattle.std.specs.Int.{w64}
-use Rattle.byte_formats.specs.Places.{at}
+use Rattle.byte_formats.specs.Offsets.{at}
 use Rattle.byte_formats.specs.Types.{Hash, HashFunction, Text}
 use Rattle.byte_formats.specs.Readings.{◌>>=◌, lifted}
 use Rattle.tls_wire.specs.declared.cursor.HashesError.{HashesError}

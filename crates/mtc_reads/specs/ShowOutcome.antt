@@ -4,7 +4,7 @@ use Rattle.std.specs.Prelude.{None, Result, Ok, Err, bytes_eq, if◌then◌else�
 use Rattle.std.specs.Fmt.{decimal}
 use Rattle.std.specs.List.{list_all, flat_map}
 use Rattle.hex.specs.Hex.{encode_lower}
-use Rattle.byte_formats.specs.Places.{at}
+use Rattle.byte_formats.specs.Offsets.{at}
 use Rattle.byte_formats.specs.Types.{Text}
 use Rattle.tls_wire.specs.Anchors.{anchor_of, text_of as text_of_id}
 use Rattle.tls_wire.specs.declared.fault.AnchorBytesError.{AnchorBytesError}
@@ -12,7 +12,7 @@ use Rattle.mtc_proof.specs.Proofs.{SigParts, ProofParts}
 use Rattle.mtc_proof.specs.Reading.{proof_in, signatures_left}
 use Rattle.mtc_proof.specs.declared.fault.ProofError.{ProofError}
 use Rattle.cert_fields.specs.Given.{mtc_proof}
-use Rattle.cert_time.specs.Texts.{moment_text}
+use Rattle.cert_time.specs.Texts.{unix_time_text}
 use Rattle.cert_fields.specs.Certificate.{Parts, parts_of}
 use Rattle.cert_fields.specs.Extensions.{dns_names_in}
 use Rattle.cert_names.specs.LogNames.{log_in}
@@ -45,8 +45,8 @@ abbrev pub fields_text : Parts → Text
 fields_text p =
     codes "serial " ++ (decimal p.serial
     ++ (codes "\nissuer " ++ (issuer_text (log_in p.issuer)
-    ++ (codes "\nnot_before " ++ (moment_text p.validity.not_before
-    ++ (codes "\nnot_after " ++ (moment_text p.validity.not_after
+    ++ (codes "\nnot_before " ++ (unix_time_text p.validity.not_before
+    ++ (codes "\nnot_after " ++ (unix_time_text p.validity.not_after
     ++ (codes "\nsubject " ++ (subject_text p.subject
     ++ (codes "\nkey " ++ (encode_lower p.spki ++ codes "\n")))))))))))
 

@@ -24,12 +24,12 @@ verdict_says cert (Err why) = judged_against (refusal_text why)
 
 -- The store is read, and the certificate is judged by it.
 abbrev pub verify_says : HashFunction → Text → Text → ℕ → Text → Text → Outcome
-verify_says h cert store moment bytes text = with_form store_fault_text store (store_of text)
-    (λ s. verdict_says cert (judgement h bytes s (pos moment)))
+verify_says h cert store unix_time bytes text = with_form store_fault_text store (store_of text)
+    (λ s. verdict_says cert (judgement h bytes s (pos unix_time)))
 
 -- The outcome of `verify CERT STORE NOW`: the certificate is read, and then the store, each at most
 -- 16 MiB.
 abbrev pub verify_outcome : HashFunction → Text → Text → ℕ → Files → Outcome
-verify_outcome h cert store moment files =
+verify_outcome h cert store unix_time files =
     with_bytes 16777216 cert (files cert)
-    (λ bytes. with_bytes 16777216 store (files store) (verify_says h cert store moment bytes))
+    (λ bytes. with_bytes 16777216 store (files store) (verify_says h cert store unix_time bytes))

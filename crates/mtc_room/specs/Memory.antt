@@ -23,7 +23,7 @@ pub record RoomState : Type 0 where
   pub fresh_failing : List ℕ
   pub opened : ℕ
   pub faults : ℕ
-  pub starved : ℕ
+  pub failed_allocations : ℕ
 
 -- a device as a file
 abbrev pub file_of : MemDisk → FileState
@@ -40,7 +40,7 @@ state room = record {
   fresh_failing = room.fresh_failing.items;
   opened = room.opened;
   faults = room.faults;
-  starved = room.starved;
+  failed_allocations = room.failed_allocations;
 }
 
 -- the bytes of each name's file
@@ -61,13 +61,14 @@ pub record CountsOpening {T : Type 0} (old new : RoomState) (result : Result T R
   where
     pub fresh_failing : new.fresh_failing ≡ old.fresh_failing
     pub faults : new.faults ≡ count_after old.faults result
-    pub starved : new.starved ≡ count_after old.starved result
+    pub failed_allocations : new.failed_allocations ≡ count_after old.failed_allocations result
 
 -- the same of a call that finds a file or makes it
 pub record CountsFinding {T E : Type 0} (old new : RoomState) (result : Result T E) : Type 0 where
   pub fresh_failing : new.fresh_failing ≡ old.fresh_failing
-  pub starved : OnOk result (new.starved ≡ old.starved)
-  pub starved_err : OnErr result (new.starved ≡ with_count old.starved 1)
+  pub failed_allocations : OnOk result (new.failed_allocations ≡ old.failed_allocations)
+  pub failed_allocations_err : OnErr result
+      (new.failed_allocations ≡ with_count old.failed_allocations 1)
 
 -- a file without bytes whose calls fail as those of new files do
 abbrev pub new_file : RoomState → FileState

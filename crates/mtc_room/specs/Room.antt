@@ -79,7 +79,7 @@ module _ {D : Type 0} (g : Ghosts D) (Models : Type 0) where
     pub empty : Models → (file ≡ Some []) × (g.contents opened ≡ Some [])
     pub device : Models → IsSomeAnd stored (λ d. SameDevice g d opened)
     pub only : Models → (c : Text) → g.may_leave opened c → c ≡ []
-    pub time : g.moment opened ≡ 0
+    pub time : g.clock_at opened ≡ 0
     pub begins : g.faults opened ≡ 0
 
   -- The device that was opened of a file that was found, or made if there was none before the call.
@@ -91,5 +91,5 @@ module _ {D : Type 0} (g : Ghosts D) (Models : Type 0) where
       pub bytes : Models → OpensBytes file (g.contents opened)
       pub device : Models → IsSomeAnd stored (λ d. SameDevice g d opened)
       pub only : Models → before ≡ None → (c : Text) → g.may_leave opened c → c ≡ []
-      pub time : Models → before ≡ None → g.moment opened ≡ 0
+      pub time : Models → before ≡ None → g.clock_at opened ≡ 0
       pub begins : g.faults opened ≡ 0

@@ -1,6 +1,6 @@
 //! File systems: the files that the program may reach, opened one at a time.
 //!
-//! The program opens nothing by itself. It is handed a [`Room`], a file system, which opens files
+//! The program opens nothing by itself. It is given a [`Room`], a file system, which opens files
 //! by name, as sources or as devices, makes new ones, and closes what it opened. A file system
 //! counts its failures, and how many objects are open; so a caller can show that it closed all of
 //! them, and that an answer that names a failure has one.

@@ -7,7 +7,7 @@ ghost use Rattle.byte_formats.specs.Types.{Text};
 ghost use Rattle.mtc_io.specs.Counts.{with_count};
 ghost use Rattle.disk_core.specs.Same.{SameDevice};
 ghost use Rattle.disk_core.specs.Memory.{bytes_of, failing_of, made_of, faults_of};
-ghost use Rattle.disk_core.specs.Memory.{starved_of, IsFresh};
+ghost use Rattle.disk_core.specs.Memory.{failed_allocations_of, IsFresh};
 
 use crate::room::Room;
 use crate::{Cause, RoomError};
@@ -27,7 +27,7 @@ pub struct MemRoom {
     fresh_failing: Vec<u64>,
     opened: u64,
     faults: u64,
-    starved: u64,
+    failed_allocations: u64,
 }
 
 // A drop in one step: a derived one is proved field by field wherever a value is dropped.
@@ -39,7 +39,7 @@ impl Drop for MemRoom {
             fresh_failing: _,
             opened: _,
             faults: _,
-            starved: _,
+            failed_allocations: _,
         } = self;
     }
 }
@@ -69,7 +69,7 @@ impl MemRoom {
         ensures fresh_failing { (state result).fresh_failing ≡ [] }
         ensures opened { (state result).opened ≡ 0 }
         ensures faults { (state result).faults ≡ 0 }
-        ensures starved { (state result).starved ≡ 0 }
+        ensures failed_allocations { (state result).failed_allocations ≡ 0 }
     {
         MemRoom {
             alloc,
@@ -77,7 +77,7 @@ impl MemRoom {
             fresh_failing: Vec::new(alloc),
             opened: 0,
             faults: 0,
-            starved: 0,
+            failed_allocations: 0,
         }
     }
 
@@ -101,7 +101,8 @@ impl MemRoom {
         ensures fresh_failing { (state self.new).fresh_failing ≡ (state self.old).fresh_failing }
         ensures opened { (state self.new).opened ≡ (state self.old).opened }
         ensures faults { (state self.new).faults ≡ (state self.old).faults }
-        ensures starved { (state self.new).starved ≡ (state self.old).starved }
+        ensures failed_allocations { (state self.new).failed_allocations
+            ≡ (state self.old).failed_allocations }
     {
         let name = String::from_str(self.alloc, name)?;
         self.files
@@ -119,11 +120,11 @@ impl MemRoom {
         }
     }
 
-    /// How often the file system found no memory, or a device that it closed.
-    pub fn starved(&self) -> u64
-        ensures { result ≡ (state self.now).starved }
+    /// How often the file system, or a device that it closed, found no memory.
+    pub fn failed_allocations(&self) -> u64
+        ensures { result ≡ (state self.now).failed_allocations }
     {
-        self.starved
+        self.failed_allocations
     }
 
     // Counts what was opened, or that memory ran out.
@@ -136,7 +137,8 @@ impl MemRoom {
         ensures files { self.new.files ≡ self.old.files }
         ensures fresh_failing { self.new.fresh_failing ≡ self.old.fresh_failing }
         ensures counted { self.new.faults ≡ count_after self.old.faults result }
-        ensures starved { self.new.starved ≡ count_after self.old.starved result }
+        ensures failed_allocations { self.new.failed_allocations
+            ≡ count_after self.old.failed_allocations result }
     {
         match made {
             Ok(opened) => {
@@ -145,7 +147,7 @@ impl MemRoom {
             }
             Err(Memory) => {
                 self.faults = self.faults.saturating_add(1);
-                self.starved = self.starved.saturating_add(1);
+                self.failed_allocations = self.failed_allocations.saturating_add(1);
                 Err(RoomError::Failed)
             }
         }
@@ -165,12 +167,12 @@ impl MemRoom {
         ensures fresh_failing { self.new.fresh_failing ≡ self.old.fresh_failing }
         ensures opened { self.new.opened ≡ self.old.opened }
         ensures faults { self.new.faults ≡ self.old.faults }
-        ensures starved { self.new.starved ≡ self.old.starved }
+        ensures failed_allocations { self.new.failed_allocations ≡ self.old.failed_allocations }
     {
         let name = String::from_str(self.alloc, name)?;
         let failing = Vec::from_slice(self.alloc, &self.fresh_failing)?;
         let disk = MemDisk::new(self.alloc, failing);
-        let opened = disk.lend()?;
+        let opened = disk.open_copy()?;
         self.files.insert(name, disk)?;
         Ok(opened)
     }
@@ -190,10 +192,10 @@ impl MemRoom {
         ensures fresh_failing { self.new.fresh_failing ≡ self.old.fresh_failing }
         ensures opened { self.new.opened ≡ self.old.opened }
         ensures faults { self.new.faults ≡ self.old.faults }
-        ensures starved { self.new.starved ≡ self.old.starved }
+        ensures failed_allocations { self.new.failed_allocations ≡ self.old.failed_allocations }
     {
         match self.files.get(name) {
-            Some(disk) => disk.lend(),
+            Some(disk) => disk.open_copy(),
             None => self.make(name),
         }
     }
@@ -271,7 +273,7 @@ impl Room for MemRoom {
         let Some(disk) = self.files.get(name) else {
             return Err(RoomError::Absent);
         };
-        let copy = disk.lend();
+        let copy = disk.open_copy();
         self.open_one(copy)
     }
 
@@ -334,7 +336,8 @@ impl Room for MemRoom {
             (disk_in self.old) (disk_in self.new) }
         ensures is_modelled { ⊤ → ⊤ }
         ensures fresh_failing { (state self.new).fresh_failing ≡ (state self.old).fresh_failing }
-        ensures starved { (state self.new).starved ≡ (state self.old).starved }
+        ensures failed_allocations { (state self.new).failed_allocations
+            ≡ (state self.old).failed_allocations }
     {
         self.faults = self.faults.saturating_add(source.faults());
         self.opened -= 1;
@@ -355,11 +358,13 @@ impl Room for MemRoom {
         ensures kept { IsSome (bytes_in self.old name.now) → disk_in self.new name.now ≡ Some disk }
         ensures none { ⊤ → bytes_in self.old name.now ≡ None → bytes_in self.new name.now ≡ None }
         ensures fresh_failing { (state self.new).fresh_failing ≡ (state self.old).fresh_failing }
-        ensures starved { (state self.new).starved
-            ≡ with_count (state self.old).starved (starved_of disk) }
+        ensures failed_allocations { (state self.new).failed_allocations
+            ≡ with_count (state self.old).failed_allocations (failed_allocations_of disk) }
     {
         self.faults = self.faults.saturating_add(disk.faults());
-        self.starved = self.starved.saturating_add(disk.starved());
+        self.failed_allocations = self
+            .failed_allocations
+            .saturating_add(disk.failed_allocations());
         self.opened -= 1;
         if let Some(file) = self.files.get_mut(name) {
             *file = disk;

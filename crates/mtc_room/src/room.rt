@@ -93,7 +93,7 @@ pub trait Room {
             (file self.new name.now) (device self.new name.now)) };
 
     /// Opens the device of a file that exists, as [`Room::disk`], or makes an empty one and opens
-    /// its device, as [`Room::fresh`]. It is for files that are made of what stands in others.
+    /// its device, as [`Room::fresh`]. It is for files whose contents follow from others.
     /// `Failed` comes only with a failure of the file system, and makes no file, if the model knows
     /// the files.
     fn scratch(&mut self, name: &str) -> Result<Self::Dsk, Failed>

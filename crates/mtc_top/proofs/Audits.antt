@@ -13,7 +13,7 @@ use Rattle.std.specs.Io.KnownBytes.{Appends}
 use Rattle.std.specs.Prelude.{Contains, if◌then◌else◌}
 use Rattle.std.specs.Str.{bytes_eq}
 use Rattle.std.proofs.lemmas.Option.{same_Some}
-use Rattle.byte_formats.specs.Places.{IsBytes}
+use Rattle.byte_formats.specs.Offsets.{IsBytes}
 use Rattle.byte_formats.specs.Types.{HashFunction}
 use Rattle.byte_formats.proofs.Steps.{ok_is}
 use Rattle.byte_formats.proofs.Values.{same_bytes}
@@ -34,14 +34,14 @@ use Rattle.policy_core.specs.declared.answer.By.{By}
 use Rattle.policy_core.specs.declared.answer.By.TheVariants.{Cosigners, Landmark}
 use Rattle.policy_core.specs.declared.store.Store.{Store}
 use Rattle.mtc_plans.proofs.Planned.{outcome_planned}
-use Rattle.node_history.specs.declared.start.NodeStart.TheVariants.{Cosigner}
+use Rattle.party_history.specs.declared.start.PartyStart.TheVariants.{Cosigner}
 use Rattle.world_core.specs.Audit.{AuditCase, has_own, is_counted, is_counted_as, is_recorded}
-use Rattle.world_core.specs.Audit.{is_recorded_by, is_sign_of, is_supported, some_place}
+use Rattle.world_core.specs.Audit.{is_recorded_by, is_sign_of, is_supported, some_index}
 use Rattle.mtc_command.specs.Answers.{Reply, said, refused, out_of, status_of}
 use Rattle.mtc_command.specs.Steps.{Files, Outcome, with_form}
 use Rattle.mtc_command.specs.Wanted.{Meets}
 use Rattle.mtc_command.proofs.Inputs.{bytes_read}
-use Rattle.mtc_command.proofs.Made.{OnlyNow, ReadsImage}
+use Rattle.mtc_command.proofs.Made.{OnlyNow, ReadsCrashState}
 use Rattle.mtc_monitor.specs.AuditOutcome.{InputFile, audit_by, audit_outcome, audit_says}
 use Rattle.mtc_monitor.specs.AuditOutcome.{audit_cert_says, audit_export_says, audit_items_say}
 use Rattle.mtc_monitor.specs.AuditOutcome.{audit_accepted_says, audit_store_says, with_input}
@@ -64,28 +64,28 @@ input_there : (limit : ℕ) (name : List ℕ) (files : Files) (next : InputFile 
 input_there limit name files next text holds = bytes_read limit name (files name) text
     (λ t. next (record { name = name; text = t })) holds.there holds.few
 
-audit_asked : (h : HashFunction) (files : Files) (cert store : List ℕ) (moment : ℕ)
-    (entries kept : List ℕ) (x : AuditCase) → IsAuditOf h files cert store moment entries kept x
-    → audit_outcome h cert store moment entries kept files ≡ audit_says h x
-audit_asked h files cert store moment entries kept x is =
+audit_asked : (h : HashFunction) (files : Files) (cert store : List ℕ) (unix_time : ℕ)
+    (entries kept : List ℕ) (x : AuditCase) → IsAuditOf h files cert store unix_time entries kept x
+    → audit_outcome h cert store unix_time entries kept files ≡ audit_says h x
+audit_asked h files cert store unix_time entries kept x is =
     let c : InputFile = record { name = cert; text = is.cert_text } in
     let s : InputFile = record { name = store; text = is.store_text } in
     let e : InputFile = record { name = entries; text = is.entries_text } in
     let k : InputFile = record { name = kept; text = is.kept_text } in
     input_there 16777216 cert files (λ a. with_input 16777216 store files
     (λ b. with_input 1073741824 entries files (λ d. with_input 1073741824 kept files
-    (λ f. audit_store_says h a b moment d f)))) is.cert_text is.has_cert
+    (λ f. audit_store_says h a b unix_time d f)))) is.cert_text is.has_cert
     ∙ input_there 16777216 store files (λ b. with_input 1073741824 entries files
-    (λ d. with_input 1073741824 kept files (λ f. audit_store_says h c b moment d f)))
+    (λ d. with_input 1073741824 kept files (λ f. audit_store_says h c b unix_time d f)))
     is.store_text is.has_store
     ∙ input_there 1073741824 entries files (λ d. with_input 1073741824 kept files
-    (λ f. audit_store_says h c s moment d f)) is.entries_text is.has_entries
-    ∙ input_there 1073741824 kept files (λ f. audit_store_says h c s moment e f) is.kept_text
+    (λ f. audit_store_says h c s unix_time d f)) is.entries_text is.has_entries
+    ∙ input_there 1073741824 kept files (λ f. audit_store_says h c s unix_time e f) is.kept_text
     is.has_kept
-    ∙ ap (λ r. with_form store_fault_text store r (audit_items_say h c moment e k)) is.store_read
-    ∙ ap (λ r. with_form items_fault_text entries r (audit_export_says h c moment k x.store))
+    ∙ ap (λ r. with_form store_fault_text store r (audit_items_say h c unix_time e k)) is.store_read
+    ∙ ap (λ r. with_form items_fault_text entries r (audit_export_says h c unix_time k x.store))
     is.items_read
-    ∙ ap (λ r. with_form export_fault_text kept r (audit_cert_says h c moment x.store x.items))
+    ∙ ap (λ r. with_form export_fault_text kept r (audit_cert_says h c unix_time x.store x.items))
     is.kept_read
     ∙ ap (audit_accepted_says h cert x.store x.items x.kept) is.judged
 
@@ -100,9 +100,9 @@ module _ {X : Type 0} (p : X → Bool) where
     | inr some ↦ some.1
   ]
 
-  found_place : (xs : List X) (x : X) → Contains xs x → p x ≡ true
+  found_index : (xs : List X) (x : X) → Contains xs x → p x ≡ true
       → is_some (position p xs) ≡ true
-  found_place xs x there passes =
+  found_index xs x there passes =
       ap (λ (b : Bool). is_some (if b then Some (position_or_len p xs) else None))
       (lt-ltb (position_or_len p xs) (length xs)
       (place_within xs there.0 x there.1 there.2 passes))
@@ -126,22 +126,22 @@ recorded_so store a set e index proof log counts there =
     all_three (bytes_eq e.log store.log) (is_counted store set e)
     (is_some (position (is_sign_of a) e.steps))
     ((bytes_eq-Decides e.log store.log).1 log) counts
-    (found_place (is_sign_of a) e.steps (Sign index a.start a.end a.hash proof) there
+    (found_index (is_sign_of a) e.steps (Sign index a.start a.end a.hash proof) there
     (signed_hash a index proof))
 
 -- ---- the store counts the cosigner of an export
 
 some_there : {A : Type 0} (passes : ℕ → A → Bool) (place i : ℕ) (xs : List A) (x : A)
-    → slice_get xs i ≡ Some x → passes (place + i) x ≡ true → some_place passes place xs ≡ true
+    → slice_get xs i ≡ Some x → passes (place + i) x ≡ true → some_index passes place xs ≡ true
 some_there {A} passes place i [] x is passed = let wrong : None ≡ Some x = is in absurd cc
 some_there {A} passes place zero (y ∷ ys) x is passed =
     let same : y ≡ x = same_Some y x is in
     let here : place + 0 ≡ place = omega arith in
-    ap (λ (b : Bool). b || some_place passes (place + 1) ys)
+    ap (λ (b : Bool). b || some_index passes (place + 1) ys)
     (ap (passes place) same ∙ subst (λ (n : ℕ). passes n x ≡ true) here passed)
 some_there {A} passes place (suc i) (y ∷ ys) x is passed =
     let later : place + suc i ≡ place + 1 + i = omega arith in
-    or_right (passes place y) (some_place passes (place + 1) ys) (some_there passes (place + 1) i ys
+    or_right (passes place y) (some_index passes (place + 1) ys) (some_there passes (place + 1) i ys
     x is (subst (λ (n : ℕ). passes n x ≡ true) later passed))
 
 counted_so : (store : Store) (set : ℕ) (e : Export) (id key : List ℕ) → e.cosigner ≡ id
@@ -166,14 +166,14 @@ printed_text (Some xs) (Some ys) before kept text was is prints =
     ∙ ap (λ (l : List ℕ). l ++ text) (same_Some xs before was))
 
 module _ {R S D O E : Type 0} (h : HashFunction) (rooms : Rooms R S D) (disks : Disks D)
-    (outs : Sinks O) (errs : Sinks E) (image : ReadsImage disks) (only : OnlyNow disks)
+    (outs : Sinks O) (errs : Sinks E) (crash_state : ReadsCrashState disks) (only : OnlyNow disks)
     (contents : (room : R) (name : List ℕ) → rooms.is_modelled room
     → ModelsFile disks.contents (rooms.file room name) (rooms.device room name))
     (bytes : (d : D) (b : List ℕ) → disks.contents d ≡ Some b → IsBytes b) where
   signed : (x : AuditCase) (kept_text : List ℕ) → export_in h kept_text ≡ Ok x.kept
       → IsSignedInCourse h rooms disks outs errs x kept_text → is_supported x ≡ true
   signed x kept_text read by =
-      let e = exports_hold h rooms disks outs errs image only contents bytes by.name
+      let e = exports_hold h rooms disks outs errs crash_state only contents bytes by.name
       (Cosigner by.settings by.public) by.first by.begins by.old by.links by.begun by.course
       by.settings by.public refl by.turn by.turned by.spoken
       (done_heard by.turn.status (outs.taken by.turn.out) (outs.taken by.turn.out_after) by.done) in
@@ -213,7 +213,8 @@ module _ {R S D O E : Type 0} (h : HashFunction) (rooms : Rooms R S D) (disks : 
   by_reply x turn false has (refused why file reason) meets code text = absurd meets
 
   pub audits_stand : AuditsStand h rooms disks outs errs
-  audits_stand old turn cert store moment entries kept x is_modelled run spoken is own_list backed
+  audits_stand old turn cert store unix_time entries kept x is_modelled run spoken is own_list
+      backed
       not5
       not6 not8 =
       let a = answered h rooms disks outs errs turn.words old turn.room turn.out turn.out_after
@@ -221,8 +222,8 @@ module _ {R S D O E : Type 0} (h : HashFunction) (rooms : Rooms R S D) (disks : 
       let wrote = wrote_of outs errs (known_word turn.words) turn.out turn.out_after turn.err
       turn.err_after a.reply turn.status a.concludes not6 in
       let asked = ap (λ (q : Result CommandValue WordError). (facts h q).outcome (rooms.file old))
-      spoken ∙ sym (outcome_planned h (audit cert store moment entries kept) (rooms.file old))
-      ∙ audit_asked h (rooms.file old) cert store moment entries kept x is
+      spoken ∙ sym (outcome_planned h (audit cert store unix_time entries kept) (rooms.file old))
+      ∙ audit_asked h (rooms.file old) cert store unix_time entries kept x is
       ∙ ap (λ f. audit_by h x f (is_supported x) (has_own h x.items x.accepted x.cert)) own_list
       ∙ ap (λ (b : Bool). audit_by h x None b (has_own h x.items x.accepted x.cert))
       (supported x is.kept_text is.kept_read backed) in

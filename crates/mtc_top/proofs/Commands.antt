@@ -6,17 +6,17 @@ use Rattle.mtc_words.specs.Commands.{CommandValue}
 use Rattle.command_plans.specs.Plans.{Journal, makes, opens}
 use Rattle.command_plans.specs.Rules.{AreOfFirst, AreOfKind}
 use Rattle.mtc_plans.specs.Commands.{plan_of}
-use Rattle.mtc_plans.specs.NodeKinds.{NodeKind, cosigner, log, node_kinds}
-use Rattle.node_history.specs.Rules.{AreRecords}
+use Rattle.mtc_plans.specs.PartyKinds.{PartyKind, cosigner, log, party_kinds}
+use Rattle.party_history.specs.Rules.{AreRecords}
 use Rattle.mtc_top.specs.Facts.{facts}
 
-kind_records : (h : HashFunction) (kind : NodeKind) (list : List (List ℕ))
-    → AreOfKind (node_kinds h) kind list → AreRecords h list
+kind_records : (h : HashFunction) (kind : PartyKind) (list : List (List ℕ))
+    → AreOfKind (party_kinds h) kind list → AreRecords h list
 kind_records h log list is = inl is
 kind_records h cosigner list is = inr is
 
-first_records : (h : HashFunction) (journals : List (Journal (node_kinds h)))
-    (list : List (List ℕ)) → AreOfFirst (node_kinds h) journals list → AreRecords h list
+first_records : (h : HashFunction) (journals : List (Journal (party_kinds h)))
+    (list : List (List ℕ)) → AreOfFirst (party_kinds h) journals list → AreRecords h list
 first_records h [] list is = absurd is
 first_records h (opens kind beside name ∷ rest) list is = kind_records h kind list is
 first_records h (makes kind name ∷ rest) list is = kind_records h kind list is

@@ -1,7 +1,7 @@
 -- A run of `quarrel` over the export of a cosigner that signed one interval with two hashes.
 use Rattle.std.proofs.Common.{◌≡◌, inl, ℕ, List, Option, Some, Result, Ok, refl, sym, subst, ap}
 use Rattle.std.proofs.Common.{◌∙◌}
-use Rattle.byte_formats.specs.Places.{IsBytes}
+use Rattle.byte_formats.specs.Offsets.{IsBytes}
 use Rattle.byte_formats.specs.Types.{HashFunction}
 use Rattle.disk_core.specs.declared.disk.Disk.{Ghosts as Disks}
 use Rattle.mtc_io.specs.declared.sink.Sink.{Ghosts as Sinks}
@@ -17,12 +17,12 @@ use Rattle.cosigner_core.specs.declared.step.Step.{Step}
 use Rattle.cosigner_core.specs.declared.step.Step.TheVariants.{Sign}
 use Rattle.quarrel_core.proofs.FoundSigns.{HasQuarrel, signs_found}
 use Rattle.mtc_plans.proofs.Planned.{outcome_planned}
-use Rattle.node_history.specs.declared.start.NodeStart.TheVariants.{Cosigner}
+use Rattle.party_history.specs.declared.start.PartyStart.TheVariants.{Cosigner}
 use Rattle.mtc_command.specs.Answers.{Reply, said, refused, out_of, status_of}
 use Rattle.mtc_command.specs.Steps.{Files, Outcome, with_form}
 use Rattle.mtc_command.specs.Wanted.{Meets}
 use Rattle.mtc_command.proofs.Inputs.{bytes_read}
-use Rattle.mtc_command.proofs.Made.{OnlyNow, ReadsImage}
+use Rattle.mtc_command.proofs.Made.{OnlyNow, ReadsCrashState}
 use Rattle.mtc_monitor.specs.QuarrelOutcome.{quarrel_by, quarrel_kept, quarrel_outcome}
 use Rattle.mtc_monitor.specs.QuarrelOutcome.{quarrel_says}
 use Rattle.mtc_lines.specs.Reasons.{export_fault_text}
@@ -52,14 +52,14 @@ asked h files kept text holds is =
     ∙ ap (quarrel_by h is.export.steps) is.found.1
 
 module _ {R S D O E : Type 0} (h : HashFunction) (rooms : Rooms R S D) (disks : Disks D)
-    (outs : Sinks O) (errs : Sinks E) (image : ReadsImage disks) (only : OnlyNow disks)
+    (outs : Sinks O) (errs : Sinks E) (crash_state : ReadsCrashState disks) (only : OnlyNow disks)
     (contents : (room : R) (name : List ℕ) → rooms.is_modelled room
     → ModelsFile disks.contents (rooms.file room name) (rooms.device room name))
     (bytes : (d : D) (b : List ℕ) → disks.contents d ≡ Some b → IsBytes b) where
   in_conflict : (kept_text : List ℕ) → HasSignedTwice h rooms disks outs errs kept_text
       → IsInConflict h kept_text
   in_conflict kept_text by =
-      let e = exports_hold h rooms disks outs errs image only contents bytes by.name
+      let e = exports_hold h rooms disks outs errs crash_state only contents bytes by.name
       (Cosigner by.settings by.public) by.first by.begins by.old by.links by.begun by.course
       by.settings by.public refl by.turn by.turned by.spoken
       (done_heard by.turn.status (outs.taken by.turn.out) (outs.taken by.turn.out_after) by.done) in

@@ -4,7 +4,7 @@ use Rattle.std.proofs.Common.{Some, Result, Ok, refl, sym, subst, ap, ◌∙◌,
 use Rattle.std.proofs.Common.{append_assoc}
 use Rattle.std.proofs.lemmas.Option.{option_and_then_some, same_Some}
 use Rattle.std.specs.Prelude.{Contains, option_map}
-use Rattle.byte_formats.specs.Places.{IsBytes}
+use Rattle.byte_formats.specs.Offsets.{IsBytes}
 use Rattle.byte_formats.specs.Types.{HashFunction}
 use Rattle.byte_formats.proofs.Values.{map_some}
 use Rattle.disk_core.specs.declared.disk.Disk.{Ghosts as Disks}
@@ -26,20 +26,20 @@ use Rattle.cosigner_core.proofs.ExportAgain.{export_again}
 use Rattle.mtc_command.specs.Answers.{Reply, said}
 use Rattle.mtc_command.specs.Made.{reads}
 use Rattle.mtc_command.specs.declared.answer.Said.TheVariants.{Done}
-use Rattle.mtc_command.proofs.Made.{OnlyNow, ReadsImage}
+use Rattle.mtc_command.proofs.Made.{OnlyNow, ReadsCrashState}
 use Rattle.mtc_plans.specs.Heard.{ExportsSo}
 use Rattle.mtc_plans.proofs.Heard.{exported_so}
-use Rattle.node_history.specs.Rules.{IsReadAs, StartsWith}
-use Rattle.node_history.specs.declared.start.NodeStart.{NodeStart}
-use Rattle.node_history.specs.declared.start.NodeStart.TheVariants.{Cosigner}
-use Rattle.node_history.proofs.Cosigners.{of_first}
+use Rattle.party_history.specs.Rules.{IsReadAs, StartsWith}
+use Rattle.party_history.specs.declared.start.PartyStart.{PartyStart}
+use Rattle.party_history.specs.declared.start.PartyStart.TheVariants.{Cosigner}
+use Rattle.party_history.proofs.Cosigners.{of_first}
 use Rattle.mtc_top.specs.Courses.{Link, Turn, HasTurned, IsCourse, IsBegun, IsHeard}
 use Rattle.mtc_top.specs.Courses.{IsRecovered}
 use Rattle.mtc_top.specs.ExportLaws.{ExportsHoldTheSteps, HasExported}
 use Rattle.mtc_top.proofs.Printed.{did_so, heard_so}
 use Rattle.mtc_top.proofs.Recovered.{held_prefix, modelled_then, read_again}
 use Rattle.mtc_top.proofs.Turns.{file_bytes, heard_run, printed_so, modelled_file}
-use Rattle.mtc_top.proofs.Turns.{contents_image}
+use Rattle.mtc_top.proofs.Turns.{contents_crash_state}
 
 -- ---- the steps of records
 
@@ -66,10 +66,10 @@ step_there (z ∷ prefix) body rest steps step is read =
     subst (λ (l : List Step). Contains l step) tail.2
     (contains_more x step tail.0 (step_there prefix body rest tail.0 step tail.1 read)))
 
-behind_first : (first : List ℕ) (prefix more : List (List ℕ)) (body : List ℕ)
+following_first : (first : List ℕ) (prefix more : List (List ℕ)) (body : List ℕ)
     (rest list : List (List ℕ)) → (first ∷ (prefix ++ body ∷ more)) ++ rest ≡ list
     → drop 1 list ≡ prefix ++ body ∷ (more ++ rest)
-behind_first first prefix more body rest list is =
+following_first first prefix more body rest list is =
     ap (λ (l : List (List ℕ)). drop 1 l) (sym is) ∙ append_assoc prefix (body ∷ more) rest
 
 -- ---- what was read
@@ -79,19 +79,19 @@ same_found : {F E : Type 0} (r : Result F E) (one other : F) → r ≡ Ok one �
 same_found r one other is so = cc
 
 -- a party that began as a cosigner is read as one
-read_cosigner : (h : HashFunction) (start : NodeStart) (settings : CosignerSettings)
+read_cosigner : (h : HashFunction) (start : PartyStart) (settings : CosignerSettings)
     (public bytes : List ℕ) (list : List (List ℕ)) → start ≡ Cosigner settings public
     → IsReadAs h start bytes list → (s : CosignerState)
     × (cosigner_read h bytes ≡ Ok (record { records = list; state = s }))
 read_cosigner h start settings public bytes list is read =
-    subst (λ (n : NodeStart). IsReadAs h n bytes list) is read
+    subst (λ (n : PartyStart). IsReadAs h n bytes list) is read
 
 module _ {R S D O E : Type 0} (h : HashFunction) (rooms : Rooms R S D) (disks : Disks D)
-    (outs : Sinks O) (errs : Sinks E) (image : ReadsImage disks) (only : OnlyNow disks)
+    (outs : Sinks O) (errs : Sinks E) (crash_state : ReadsCrashState disks) (only : OnlyNow disks)
     (contents : (room : R) (name : List ℕ) → rooms.is_modelled room
     → ModelsFile disks.contents (rooms.file room name) (rooms.device room name))
     (bytes : (d : D) (b : List ℕ) → disks.contents d ≡ Some b → IsBytes b) where
-  module _ (name : List ℕ) (start : NodeStart) (first : List ℕ) (begins new : R)
+  module _ (name : List ℕ) (start : PartyStart) (first : List ℕ) (begins new : R)
       (links : List (Link R O E))
       (begun : IsBegun h rooms disks outs errs name start first begins links)
       (course : IsCourse h rooms disks outs errs name begins links new) (settings :
@@ -108,39 +108,39 @@ module _ {R S D O E : Type 0} (h : HashFunction) (rooms : Rooms R S D) (disks : 
     exported s =
         let c = s.held in
         let there = s.there in
-        let node =
-        read_again h rooms disks outs errs image only contents bytes name start first begins
+        let party =
+        read_again h rooms disks outs errs crash_state only contents bytes name start first begins
         new
         links begun course c (inr there) in
-        let opened = read_cosigner h start settings public c node.records is node.read in
+        let opened = read_cosigner h start settings public c party.records is party.read in
         let models_file = contents new name is_modelled in
         let are = file_bytes disks (rooms.file new name) (rooms.device new name) c bytes models_file
         there in
-        let found : FoundCosigner = record { records = node.records; state = opened.0 } in
+        let found : FoundCosigner = record { records = party.records; state = opened.0 } in
         let stands = found_stands (cosigner_fold h) c found are opened.1 in
-        let again = export_again h c node.records opened.0 are stands.0 stands.1 in
-        let own = of_first h settings public first node.of_party.others opened.0
-        (subst (λ (n : NodeStart). StartsWith n first) is begun.starts)
-        (subst (λ (l : List (List ℕ)). cosigner_of h l ≡ Ok opened.0) node.of_party.is stands.1) in
+        let again = export_again h c party.records opened.0 are stands.0 stands.1 in
+        let own = of_first h settings public first party.of_party.others opened.0
+        (subst (λ (n : PartyStart). StartsWith n first) is begun.starts)
+        (subst (λ (l : List (List ℕ)). cosigner_of h l ≡ Ok opened.0) party.of_party.is stands.1) in
         let same = same_found (cosigner_read h c) s.found found s.is_cosigner opened.1 in
         let meets = s.reply_is
         ∙ ap (λ (f : FoundCosigner). said Done (export_text f.state f.records)) same in
-        let text = export_text opened.0 node.records in
-        let recovered : IsRecovered h rooms disks outs errs name new node.records
+        let text = export_text opened.0 party.records in
+        let recovered : IsRecovered h rooms disks outs errs name new party.records
         = (
           c,
           (
-            contents_image disks (rooms.device new name) c image
+            contents_crash_state disks (rooms.device new name) c crash_state
                 (modelled_file disks (rooms.file new name) (rooms.device new name) models_file
                 ∙ there),
             stands.0,
           ),
         ) in
         record {
-          list = node.records;
+          list = party.records;
           recovered = recovered;
           was_read = did_so h rooms disks outs errs new turn (export name) spoken name
-              (reads node.records) refl
+              (reads party.records) refl
               (s.did ∙ ap (λ (f : FoundCosigner). reads f.records ∷ []) same);
           state = opened.0;
           state_is = stands.1;
@@ -157,20 +157,22 @@ module _ {R S D O E : Type 0} (h : HashFunction) (rooms : Rooms R S D) (disks : 
           steps = again.1;
           signed = λ record0 prefix more body step held says.
               let prefix_is =
-              held_prefix h rooms disks outs errs image only contents bytes name start
+              held_prefix h rooms disks outs errs crash_state only contents bytes name start
               first
-              begins new links begun course (record0 ∷ (prefix ++ body ∷ more)) node.records held
+              begins new links begun course (record0 ∷ (prefix ++ body ∷ more)) party.records held
               recovered in
               step_there prefix body (more ++ prefix_is.0) again.0 step
               (subst (λ (l : List (List ℕ)). steps_in l ≡ Some again.0)
-              (behind_first record0 prefix more body prefix_is.0 node.records prefix_is.1) again.1)
+              (following_first record0 prefix more body prefix_is.0 party.records prefix_is.1)
+              again.1)
               says;
         }
 
   pub exports_hold : ExportsHoldTheSteps h rooms disks outs errs
   exports_hold name start first begins new links begun course settings public is turn run spoken
       heard =
-      let is_modelled = modelled_then h rooms disks outs errs image only contents bytes name start
+      let is_modelled =
+      modelled_then h rooms disks outs errs crash_state only contents bytes name start
       first begins new links begun course in
       exported name start first begins new links begun course settings public is turn run spoken
       heard is_modelled

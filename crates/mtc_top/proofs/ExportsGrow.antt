@@ -1,6 +1,6 @@
 -- A run of `export` after an execution, and one in the execution.
 use Rattle.std.proofs.Common.{◌≡◌, ℕ, List, ◌++◌, Some, Ok, sym, subst, ap, ◌∙◌}
-use Rattle.byte_formats.specs.Places.{IsBytes}
+use Rattle.byte_formats.specs.Offsets.{IsBytes}
 use Rattle.byte_formats.specs.Types.{HashFunction}
 use Rattle.file_events.specs.Executions.{IsPrefix}
 use Rattle.disk_core.specs.declared.disk.Disk.{Ghosts as Disks}
@@ -13,8 +13,8 @@ use Rattle.cosigner_core.specs.Exports.{export_text, records_text}
 use Rattle.cosigner_core.specs.Folds.{cosigner_of}
 use Rattle.cosigner_core.specs.declared.settings.CosignerSettings.{CosignerSettings}
 use Rattle.mtc_command.specs.Made.{reads}
-use Rattle.mtc_command.proofs.Made.{OnlyNow, ReadsImage}
-use Rattle.node_history.proofs.Cosigners.{export_grows}
+use Rattle.mtc_command.proofs.Made.{OnlyNow, ReadsCrashState}
+use Rattle.party_history.proofs.Cosigners.{export_grows}
 use Rattle.mtc_top.specs.Courses.{DidWith, Link, Turn, HasHeld, HasPrinted, HasTurned}
 use Rattle.mtc_top.specs.Courses.{IsHeard}
 use Rattle.mtc_top.specs.ExportLaws.{ExportsOnlyGrow, HasExported, HasMoreThan}
@@ -25,7 +25,7 @@ use Rattle.mtc_top.proofs.Secrets.{says_so}
 use Rattle.mtc_top.proofs.Turns.{heard_read}
 
 module _ {R S D O E : Type 0} (h : HashFunction) (rooms : Rooms R S D) (disks : Disks D)
-    (outs : Sinks O) (errs : Sinks E) (image : ReadsImage disks) (only : OnlyNow disks)
+    (outs : Sinks O) (errs : Sinks E) (crash_state : ReadsCrashState disks) (only : OnlyNow disks)
     (contents : (room : R) (name : List ℕ) → rooms.is_modelled room
     → ModelsFile disks.contents (rooms.file room name) (rooms.device room name))
     (bytes : (d : D) (b : List ℕ) → disks.contents d ≡ Some b → IsBytes b) where
@@ -40,7 +40,8 @@ module _ {R S D O E : Type 0} (h : HashFunction) (rooms : Rooms R S D) (disks : 
         → IsPrefix list now.list)
         → HasMoreThan h rooms disks outs errs name old earlier new turn
     has_more old earlier is_modelled run heard spoken prefixes =
-        let said = says_so h rooms disks outs errs image only contents bytes old earlier is_modelled
+        let said = says_so h rooms disks outs errs crash_state only contents bytes old earlier
+        is_modelled
         run heard
         (export name) spoken in
         let list = said.0 in
@@ -69,13 +70,14 @@ module _ {R S D O E : Type 0} (h : HashFunction) (rooms : Rooms R S D) (disks : 
   exports_grow name start first begins new links begun course settings public is turn run spoken
       heard =
       let now =
-      exports_hold h rooms disks outs errs image only contents bytes name start first begins
+      exports_hold h rooms disks outs errs crash_state only contents bytes name start first begins
       new links begun course settings public is turn run spoken heard in
-      each_held h rooms disks outs errs image only contents bytes name start first begins new links
+      each_held h rooms disks outs errs crash_state only contents bytes name start first begins new
+      links
       begun course (λ list. IsPrefix list now.list)
       (OfHeard h rooms disks outs errs (export name) (λ old earlier.
       HasMoreThan h rooms disks outs errs name old earlier new turn))
-      (λ list held. held_prefix h rooms disks outs errs image only contents bytes name start
+      (λ list held. held_prefix h rooms disks outs errs crash_state only contents bytes name start
       first
       begins new links begun course list now.list held now.recovered)
       (λ old earlier is_modelled ran prefixes said heard'.

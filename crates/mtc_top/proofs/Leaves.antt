@@ -6,7 +6,7 @@ use Rattle.std.proofs.Common.{if◌then◌else◌}
 use Rattle.std.proofs.lemmas.Bool.{eq-eqb, ne_eqb, or_left, or_right}
 use Rattle.std.proofs.lemmas.Slice.Eq.{bytes_eq-Decides}
 use Rattle.std.specs.Str.{bytes_eq}
-use Rattle.byte_formats.specs.Places.{IsBytes}
+use Rattle.byte_formats.specs.Offsets.{IsBytes}
 use Rattle.byte_formats.specs.Types.{HashFunction}
 use Rattle.disk_core.specs.Disk.{NoNew}
 use Rattle.disk_core.specs.declared.disk.Disk.{Ghosts as Disks}
@@ -28,11 +28,12 @@ use Rattle.mtc_command.specs.Made.{device_contents, reads, started, untouched}
 use Rattle.mtc_command.specs.Served.{IsOther, Journals, LeavesEach, OfEach, done_with}
 use Rattle.mtc_command.specs.Served.{first_journaled, rest_journaled}
 use Rattle.mtc_command.specs.Valid.{LeavesValid}
-use Rattle.mtc_command.proofs.Made.{OnlyNow, ReadsImage}
+use Rattle.mtc_command.proofs.Made.{OnlyNow, ReadsCrashState}
 use Rattle.mtc_command.proofs.Served.{other_both}
-use Rattle.node_history.specs.Rules.{AreRecords}
-use Rattle.mtc_top.specs.Courses.{AreAmong, HasHeld, HasTurned, Link, Turn, events, images_from}
-use Rattle.mtc_top.specs.Courses.{images_in, owner, program}
+use Rattle.party_history.specs.Rules.{AreRecords}
+use Rattle.mtc_top.specs.Courses.{AreAmong, HasHeld, HasTurned, Link, Turn, events}
+use Rattle.mtc_top.specs.Courses.{crash_states_from}
+use Rattle.mtc_top.specs.Courses.{crash_states_in, owner, program}
 use Rattle.mtc_top.specs.Facts.{facts, facts_of}
 use Rattle.mtc_top.proofs.Beside.{IsOwn, journal_own, none_beside}
 use Rattle.mtc_top.proofs.Commands.{spoken_records}
@@ -118,11 +119,11 @@ did_so {R} {S} {D} {O} {E} h rooms disks outs errs name old turn did among =
 -- ---- files
 
 -- a file has a crash state
-pub some_image : {D : Type 0} (g : Disks D) (file : Option (List ℕ)) (x : Option D)
-    → ReadsImage g → ModelsFile g.contents file x → (c : List ℕ) × states_at g x c
-some_image g file None image models = ([], refl)
-some_image g None (Some d) image models = absurd (grind (rules, models))
-some_image g (Some b) (Some d) image models = (b, image d b models.0)
+pub some_crash_state : {D : Type 0} (g : Disks D) (file : Option (List ℕ)) (x : Option D)
+    → ReadsCrashState g → ModelsFile g.contents file x → (c : List ℕ) × states_at g x c
+some_crash_state g file None crash_state models = ([], refl)
+some_crash_state g None (Some d) crash_state models = absurd (grind (rules, models))
+some_crash_state g (Some b) (Some d) crash_state models = (b, crash_state d b models.0)
 
 -- where there is no file it is empty
 none_left : {D : Type 0} (g : Disks D) (file : Option (List ℕ)) (x : Option D) (c : List ℕ)
@@ -132,10 +133,11 @@ none_left g None (Some d) c models none is = absurd (grind (rules, models))
 none_left g (Some b) (Some d) c models none is = absurd cc
 
 -- the bytes of a device that the model knows are one, and so are those of the file
-pub contents_image : {D : Type 0} (g : Disks D) (x : Option D) (c : List ℕ) → ReadsImage g
+pub contents_crash_state : {D : Type 0} (g : Disks D) (x : Option D) (c : List ℕ)
+    → ReadsCrashState g
     → device_contents g x ≡ Some c → states_at g x c
-contents_image g None c image is = absurd cc
-contents_image g (Some d) c image is = image d c is
+contents_crash_state g None c crash_state is = absurd cc
+contents_crash_state g (Some d) c crash_state is = crash_state d c is
 
 pub modelled_file : {D : Type 0} (g : Disks D) (file : Option (List ℕ)) (x : Option D)
     → ModelsFile g.contents file x → device_contents g x ≡ file
@@ -171,7 +173,7 @@ idle_holds list true heard held = held
 idle_holds list false heard held = none_is list held
 
 module _ {R S D O E : Type 0} (h : HashFunction) (rooms : Rooms R S D) (disks : Disks D)
-    (outs : Sinks O) (errs : Sinks E) (image : ReadsImage disks) (only : OnlyNow disks)
+    (outs : Sinks O) (errs : Sinks E) (crash_state : ReadsCrashState disks) (only : OnlyNow disks)
     (contents : (room : R) (name : List ℕ) → rooms.is_modelled room
     → ModelsFile disks.contents (rooms.file room name) (rooms.device room name))
     (bytes : (d : D) (b : List ℕ) → disks.contents d ≡ Some b → IsBytes b) where
@@ -191,29 +193,31 @@ module _ {R S D O E : Type 0} (h : HashFunction) (rooms : Rooms R S D) (disks : 
       (run : HasTurned h rooms disks outs errs old turn) (Valid : List (List ℕ) → Type 0)
       (keeps : (list : List (List ℕ)) → Rules turn list → Valid list) where
     abbrev Before : CrashStates
-    Before = images_in h rooms disks outs errs old name
+    Before = crash_states_in h rooms disks outs errs old name
 
     abbrev Now : CrashStates
-    Now = images_in h rooms disks outs errs turn.room name
+    Now = crash_states_in h rooms disks outs errs turn.room name
 
     abbrev Between : CrashStates
-    Between = images_from h rooms disks outs errs old turn.room name
+    Between = crash_states_from h rooms disks outs errs old turn.room name
 
     some : (c : List ℕ) × Now c
-    some = some_image disks (rooms.file turn.room name) (rooms.device turn.room name) image
+    some =
+        some_crash_state disks (rooms.file turn.room name) (rooms.device turn.room name) crash_state
         (contents turn.room name (run.back.is_modelled is_modelled))
 
     -- the file that was read is a crash state
-    pub told : (c : List ℕ) → rooms.file old name ≡ Some c → device_contents disks
+    pub reported : (c : List ℕ) → rooms.file old name ≡ Some c → device_contents disks
         (rooms.device old name) ≡ Some c
-    told c there = modelled_file disks (rooms.file old name) (rooms.device old name)
+    reported c there = modelled_file disks (rooms.file old name) (rooms.device old name)
         (contents old name is_modelled) ∙ there
 
     pub found : (list : List (List ℕ)) → IsFound (Rules turn) (rooms.file old name) list
         → WasFound Valid Before list
     found list is = record {
       bytes = is.bytes;
-      state = contents_image disks (rooms.device old name) is.bytes image (told is.bytes is.there);
+      state = contents_crash_state disks (rooms.device old name) is.bytes crash_state
+          (reported is.bytes is.there);
       stands = is.stands;
       valid = keeps list is.valid;
     }
@@ -240,8 +244,9 @@ module _ {R S D O E : Type 0} (h : HashFunction) (rooms : Rooms R S D) (disks : 
         → Rules turn (list ++ body ∷ [])
     added_valid list body is valid now = elim valid [
       | inl kept ↦ absurd (one_longer list body (one_list is.bytes list (list ++ body ∷ [])
-          is.stands (now is.bytes (contents_image disks (rooms.device turn.room name) is.bytes image
-          (kept.1 ∙ told is.bytes is.there)))))
+          is.stands (now is.bytes
+          (contents_crash_state disks (rooms.device turn.room name) is.bytes crash_state
+          (kept.1 ∙ reported is.bytes is.there)))))
       | inr adds ↦ adds
     ]
 
@@ -250,7 +255,7 @@ module _ {R S D O E : Type 0} (h : HashFunction) (rooms : Rooms R S D) (disks : 
         → ((c : List ℕ) → Now c → Represents c (body ∷ [])) → Rules turn (body ∷ [])
     made_valid body empty valid now = elim valid [
       | inl kept ↦ absurd (no_records some.0 (body ∷ [])
-          (empty some.0 (kept.0.images.now_is some.0 some.1)) (now some.0 some.1))
+          (empty some.0 (kept.0.crash_states.now_is some.0 some.1)) (now some.0 some.1))
       | inr adds ↦ adds
     ]
 
@@ -304,7 +309,7 @@ module _ {R S D O E : Type 0} (h : HashFunction) (rooms : Rooms R S D) (disks : 
     half untouched knows made = inl made.now_is
     half (reads list) knows made = inl made.now_is
     half (appended list body) knows made = elim knows.valid [
-      | inl kept ↦ inl kept.0.images.now_is
+      | inl kept ↦ inl kept.0.crash_states.now_is
       | inr adds ↦ elim made [
         | inl kept ↦ inl kept.now_is
         | inr may ↦ inr (may_append list body knows.finds adds, may.now_is)
@@ -317,7 +322,7 @@ module _ {R S D O E : Type 0} (h : HashFunction) (rooms : Rooms R S D) (disks : 
     half_then untouched knows made c at = past c untouched (made.since_is c at)
     half_then (reads list) knows made c at = past c (reads list) (made.since_is c at)
     half_then (appended list body) knows made c at = elim knows.valid [
-      | inl kept ↦ past c (appended list body) (kept.0.images.since_is c at)
+      | inl kept ↦ past c (appended list body) (kept.0.crash_states.since_is c at)
       | inr adds ↦ elim made [
         | inl kept ↦ past c (appended list body) (kept.since_is c at)
         | inr may ↦ either c list body (may_append list body knows.finds adds) (may.since_is c at)
@@ -342,7 +347,7 @@ module _ {R S D O E : Type 0} (h : HashFunction) (rooms : Rooms R S D) (disks : 
       record Goes : Type 0 where
         pub happens : Happens Valid (event_with (breaks_off turn.status)
             (heard_of (program h rooms disks outs errs) turn) did) Before Now
-        pub moments : (c : List ℕ) → Between c → Left c did
+        pub times : (c : List ℕ) → Between c → Left c did
 
       abbrev Broken : Bool → Type 0
       Broken b = Happens Valid (event_with b (heard_of (program h rooms disks outs errs) turn) did)
@@ -351,7 +356,7 @@ module _ {R S D O E : Type 0} (h : HashFunction) (rooms : Rooms R S D) (disks : 
       left_so : (How : Journaled → CrashStates → CrashStates → CrashStates → Type 0)
           → LeavesEach rooms disks old turn.room (Js old turn) How → How did Before Now Between
       left_so How all = (of_each (λ n d. Leaves disks (How d) (rooms.device old n)
-          (rooms.device turn.room n)) (Js old turn) name did all among).images
+          (rooms.device turn.room n)) (Js old turn) name did all among).crash_states
 
       goes : Goes
       goes = elim (ended h rooms disks outs errs turn.words old turn.room turn.out turn.out_after
@@ -365,21 +370,21 @@ module _ {R S D O E : Type 0} (h : HashFunction) (rooms : Rooms R S D) (disks : 
                   happens = subst Broken (sym (ap (λ (b : Bool). b || (turn.status == 8))
                       (ne_eqb turn.status 5 not5) ∙ ne_eqb turn.status 8 not8))
                       (done did knows made);
-                  moments = done_then did knows made;
+                  times = done_then did knows made;
                 })
             | inr other ↦ elim other [
               | inl failed ↦
                   (let made = left_so MayHaveMade (failed.made is_modelled) in record {
                     happens = subst Broken (sym (or_left (turn.status == 5) (turn.status == 8)
                         (eq-eqb turn.status 5 failed.code))) (half did knows made);
-                    moments = half_then did knows made;
+                    times = half_then did knows made;
                   })
-              | inr starved ↦
+              | inr out_of_memory ↦
                   (let kept : Kept Before Now Between
-                  = left_so HasKept (starved.made is_modelled) in record {
+                  = left_so HasKept (out_of_memory.made is_modelled) in record {
                     happens = subst Broken (sym (or_right (turn.status == 5) (turn.status == 8)
-                        (eq-eqb turn.status 8 starved.code))) (inl kept.now_is);
-                    moments = λ c at. past c did (kept.since_is c at);
+                        (eq-eqb turn.status 8 out_of_memory.code))) (inl kept.now_is);
+                    times = λ c at. past c did (kept.since_is c at);
                   })
             ]
           ]
@@ -411,7 +416,7 @@ module _ {R S D O E : Type 0} (h : HashFunction) (rooms : Rooms R S D) (disks : 
                   (idle_happens Valid Before Now (breaks_off turn.status)
                   (heard_of (program h rooms disks outs errs) turn) (still_now beside none.0));
             };
-            moments = λ c at. record {
+            times = λ c at. record {
               some = (c, refl);
               happens = past c (Done' name old turn) (still_then beside none.0 c at);
             };
@@ -419,7 +424,7 @@ module _ {R S D O E : Type 0} (h : HashFunction) (rooms : Rooms R S D) (disks : 
           | inr among ↦
               (let is = goes (Done' name old turn) among in record {
                 leads = record { some = some; happens = is.happens };
-                moments = λ c at. record { some = (c, refl); happens = is.moments c at };
+                times = λ c at. record { some = (c, refl); happens = is.times c at };
               })
         ]
 
@@ -450,8 +455,8 @@ module _ {R S D O E : Type 0} (h : HashFunction) (rooms : Rooms R S D) (disks : 
         → HasHeld h rooms disks outs errs name old turn list → Rules turn list
     held_rules list is_modelled run held =
         held_valid (Rules turn) list ((owner h rooms disks outs errs name).run_event old turn)
-        (images_in h rooms disks outs errs old name)
-        (images_in h rooms disks outs errs turn.room name) held
+        (crash_states_in h rooms disks outs errs old name)
+        (crash_states_in h rooms disks outs errs turn.room name) held
         (leaves name old turn is_modelled run (Rules turn) (λ l is. is)
         (none_beside h (command_of turn.words) name (held_own list held))).leads
 
@@ -468,7 +473,8 @@ module _ {R S D O E : Type 0} (h : HashFunction) (rooms : Rooms R S D) (disks : 
   serves name own = record {
     rooms = record {
       modelled = λ old run is_modelled is. is.back.is_modelled is_modelled;
-      some = λ room n is_modelled. some_image disks (rooms.file room n) (rooms.device room n) image
+      some = λ room n is_modelled. some_crash_state disks (rooms.file room n) (rooms.device room n)
+          crash_state
           (contents room n is_modelled);
     };
     leaves = λ old turn is_modelled is. leaves name old turn is_modelled is (AreRecords h)

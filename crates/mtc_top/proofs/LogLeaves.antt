@@ -1,7 +1,7 @@
 -- What a run leaves of the journal of a log and of the file of its tiles, at once.
 use Rattle.std.proofs.Common.{◌≡◌, ◌⊎◌, inl, inr, ℕ, Bool, true, false, List, [], ◌∷◌, ◌++◌, Option}
 use Rattle.std.proofs.Common.{Some, subst, ◌∙◌}
-use Rattle.byte_formats.specs.Places.{IsBytes}
+use Rattle.byte_formats.specs.Offsets.{IsBytes}
 use Rattle.byte_formats.specs.Types.{HashFunction, Text}
 use Rattle.disk_core.specs.Disk.{NoNew}
 use Rattle.disk_core.specs.declared.disk.Disk.{Ghosts as Disks}
@@ -22,16 +22,17 @@ use Rattle.mtc_command.specs.Endings.{IsNamed}
 use Rattle.mtc_command.specs.Made.{Journaled, appended, reads, started, untouched}
 use Rattle.mtc_command.specs.Served.{IsOther, Journals}
 use Rattle.mtc_command.specs.Stored.{KeepsBoth, LeavesBoth, StoresBoth}
-use Rattle.mtc_command.proofs.Made.{OnlyNow, ReadsImage}
+use Rattle.mtc_command.proofs.Made.{OnlyNow, ReadsCrashState}
 use Rattle.mtc_command.proofs.Served.{other_both}
 use Rattle.mtc_authority.specs.StoredTiles.{HasTilesOf}
-use Rattle.node_history.specs.Rules.{AreRecords}
-use Rattle.mtc_top.specs.Courses.{AreAmong, HasTurned, Turn, images_in, program}
+use Rattle.party_history.specs.Rules.{AreRecords}
+use Rattle.mtc_top.specs.Courses.{AreAmong, HasTurned, Turn, crash_states_in, program}
 use Rattle.mtc_top.specs.Facts.{Facts, facts}
 use Rattle.mtc_top.proofs.Beside.{IsOwn, none_beside}
 use Rattle.mtc_top.proofs.Commands.{spoken_records}
-use Rattle.mtc_top.proofs.Leaves.{Knows, contents_image, empty_before, file_bytes, find_name, found}
-use Rattle.mtc_top.proofs.Leaves.{knows, leaves, may_append, of_each, one_longer, serves, told}
+use Rattle.mtc_top.proofs.Leaves.{Knows, contents_crash_state, empty_before, file_bytes, find_name}
+use Rattle.mtc_top.proofs.Leaves.{found}
+use Rattle.mtc_top.proofs.Leaves.{knows, leaves, may_append, of_each, one_longer, serves, reported}
 use Rattle.mtc_top.proofs.TilesBeside.{added_to, named_or_other, named_other, no_cosigner_log}
 use Rattle.mtc_top.proofs.TilesBeside.{tiles_no_journal, tiles_other}
 
@@ -52,23 +53,24 @@ still_kept Valid false heard did before now is happens =
 module _ (goes : List Text → Text → Type 0) (now before after : CrashStates)
     (kept : NoNew before after) where
   -- the tiles go with a record that is added
-  abbrev GoesOn : Journaled → Type 0
-  GoesOn untouched = Unit {0}
-  GoesOn (reads list) = Unit {0}
-  GoesOn (appended list body) = (c : Text) → now c → Represents c (list ++ body ∷ [])
+  abbrev Continues : Journaled → Type 0
+  Continues untouched = Unit {0}
+  Continues (reads list) = Unit {0}
+  Continues (appended list body) = (c : Text) → now c → Represents c (list ++ body ∷ [])
       → AllGo goes (list ++ body ∷ []) after
-  GoesOn (started body) = Unit {0}
+  Continues (started body) = Unit {0}
 
-  read_left : (did : Journaled) → GoesOn did
+  read_left : (did : Journaled) → Continues did
       → LeavesTiles goes (λ list body. ⊥) stored did before now after
   read_left untouched on = kept
   read_left (reads list) on = λ all c at. all c (kept c at)
   read_left (appended list body) on =
-      record { keeps = λ all c at. all c (kept c at); behind = λ all c at stands. on c at stands }
+      record
+      { keeps = λ all c at. all c (kept c at); following = λ all c at stands. on c at stands }
   read_left (started body) on = kept
 
 module _ {R S D O E : Type 0} (h : HashFunction) (rooms : Rooms R S D) (disks : Disks D)
-    (outs : Sinks O) (errs : Sinks E) (image : ReadsImage disks) (only : OnlyNow disks)
+    (outs : Sinks O) (errs : Sinks E) (crash_state : ReadsCrashState disks) (only : OnlyNow disks)
     (contents : (room : R) (name : List ℕ) → rooms.is_modelled room
     → ModelsFile disks.contents (rooms.file room name) (rooms.device room name))
     (bytes : (d : D) (b : List ℕ) → disks.contents d ≡ Some b → IsBytes b) where
@@ -93,19 +95,20 @@ module _ {R S D O E : Type 0} (h : HashFunction) (rooms : Rooms R S D) (disks : 
     heard = heard_of (program h rooms disks outs errs) turn
 
     abbrev Before : CrashStates
-    Before = images_in h rooms disks outs errs old name
+    Before = crash_states_in h rooms disks outs errs old name
 
     abbrev Now : CrashStates
-    Now = images_in h rooms disks outs errs turn.room name
+    Now = crash_states_in h rooms disks outs errs turn.room name
 
     abbrev TilesBefore : CrashStates
-    TilesBefore = images_in h rooms disks outs errs old beside
+    TilesBefore = crash_states_in h rooms disks outs errs old beside
 
     abbrev TilesNow : CrashStates
-    TilesNow = images_in h rooms disks outs errs turn.room beside
+    TilesNow = crash_states_in h rooms disks outs errs turn.room beside
 
     abbrev KnowsOf : Journaled → Type 0
-    KnowsOf = Knows h rooms disks outs errs image only contents bytes name old turn is_modelled run
+    KnowsOf =
+        Knows h rooms disks outs errs crash_state only contents bytes name old turn is_modelled run
         (AreRecords h) keeps
 
     abbrev Both : Journaled → Type 0
@@ -123,7 +126,8 @@ module _ {R S D O E : Type 0} (h : HashFunction) (rooms : Rooms R S D) (disks : 
         (all_states (program h rooms disks outs errs) turn.room)
 
     happens : Happens (AreRecords h) (event_with (breaks_off turn.status) heard did) Before Now
-    happens = (leaves h rooms disks outs errs image only contents bytes name old turn is_modelled
+    happens =
+        (leaves h rooms disks outs errs crash_state only contents bytes name old turn is_modelled
         run (AreRecords h) keeps (none_beside h (command_of turn.words) name own)).leads.happens
 
     -- ---- a log, with the file of its tiles
@@ -131,16 +135,18 @@ module _ {R S D O E : Type 0} (h : HashFunction) (rooms : Rooms R S D) (disks : 
     -- a run that came to its end and left nothing new has added nothing
     kept_left : (d : Journaled) → KnowsOf d → Done (AreRecords h) d Before Now
         → KeepsBoth (HasTilesOf h) asked.Valid rooms disks old turn.room name → Left d
-    kept_left untouched known done kept = kept.beside.images.now_is
+    kept_left untouched known done kept = kept.beside.crash_states.now_is
     kept_left (reads list) known done kept =
-        λ all c at. all c (kept.beside.images.now_is c at)
+        λ all c at. all c (kept.beside.crash_states.now_is c at)
     kept_left (appended list body) known done kept =
         let is = known.finds in
         absurd (one_longer list body (one_list is.bytes list (list ++ body ∷ []) is.stands
-        (done.1 is.bytes (contents_image disks (rooms.device turn.room name) is.bytes image
-        (kept.contents ∙ told h rooms disks outs errs image only contents bytes name old turn
+        (done.1 is.bytes
+        (contents_crash_state disks (rooms.device turn.room name) is.bytes crash_state
+        (kept.contents
+        ∙ reported h rooms disks outs errs crash_state only contents bytes name old turn
         is_modelled run (AreRecords h) keeps is.bytes is.there)))))
-    kept_left (started body) known done kept = kept.beside.images.now_is
+    kept_left (started body) known done kept = kept.beside.crash_states.now_is
 
     half_left : (d : Journaled) → KnowsOf d
         → NoNew Before Now ⊎ HalfDone (AreRecords h) d Before Now
@@ -148,17 +154,19 @@ module _ {R S D O E : Type 0} (h : HashFunction) (rooms : Rooms R S D) (disks : 
         → HalfDone (AreRecords h) d Before Now
     half_left untouched known is began = elim is [ inl kept ↦ kept | inr kept ↦ kept ]
     half_left (reads list) known is began = (
-      found h rooms disks outs errs image only contents bytes name old turn is_modelled run
+      found h rooms disks outs errs crash_state only contents bytes name old turn is_modelled run
           (AreRecords h) keeps list known.finds,
       began.stands,
     )
     half_left (appended list body) known is began = (
-      may_append h rooms disks outs errs image only contents bytes name old turn is_modelled run
+      may_append h rooms disks outs errs crash_state only contents bytes name old turn is_modelled
+          run
           (AreRecords h) keeps list body known.finds began.valid,
       began.stands,
     )
     half_left (started body) known is began =
-        empty_before h rooms disks outs errs image only contents bytes name old turn is_modelled run
+        empty_before h rooms disks outs errs crash_state only contents bytes name old turn
+        is_modelled run
         (AreRecords h) keeps body known.is_new
 
     both_left : (broken : Bool) (d : Journaled) → KnowsOf d
@@ -168,7 +176,7 @@ module _ {R S D O E : Type 0} (h : HashFunction) (rooms : Rooms R S D) (disks : 
       | inr began ↦ (is, (began.left, tt))
     ]
     both_left true d known is both = elim both [
-      | inl kept ↦ inl (kept.journal.images.now_is, (kept.beside.images.now_is, tt))
+      | inl kept ↦ inl (kept.journal.crash_states.now_is, (kept.beside.crash_states.now_is, tt))
       | inr began ↦ inr (half_left d known is began, (began.left, tt))
     ]
 
@@ -181,7 +189,7 @@ module _ {R S D O E : Type 0} (h : HashFunction) (rooms : Rooms R S D) (disks : 
           (tiles_no_journal h turn.words name))).disk at
 
       alone_left : (broken : Bool) (d : Journaled)
-          → GoesOn (HasTilesOf h) Now TilesBefore TilesNow still_tiles d
+          → Continues (HasTilesOf h) Now TilesBefore TilesNow still_tiles d
           → Happens (AreRecords h) (event_with broken heard d) Before Now → All broken d
       alone_left false d on is = (
         is,
@@ -197,7 +205,7 @@ module _ {R S D O E : Type 0} (h : HashFunction) (rooms : Rooms R S D) (disks : 
 
       -- a record is added to the journal of a cosigner
       cosigner_on : (d : Journaled) → AreAmong js name d
-          → GoesOn (HasTilesOf h) Now TilesBefore TilesNow still_tiles d
+          → Continues (HasTilesOf h) Now TilesBefore TilesNow still_tiles d
       cosigner_on untouched among = tt
       cosigner_on (reads list) among = tt
       cosigner_on (appended list body) among = λ c at stands t there s made.
@@ -210,7 +218,7 @@ module _ {R S D O E : Type 0} (h : HashFunction) (rooms : Rooms R S D) (disks : 
       cosigner_on (started body) among = tt
 
       untouched_on : (d : Journaled) → d ≡ untouched
-          → GoesOn (HasTilesOf h) Now TilesBefore TilesNow still_tiles d
+          → Continues (HasTilesOf h) Now TilesBefore TilesNow still_tiles d
       untouched_on untouched is = tt
       untouched_on (reads list) is = tt
       untouched_on (appended list body) is =
@@ -224,7 +232,8 @@ module _ {R S D O E : Type 0} (h : HashFunction) (rooms : Rooms R S D) (disks : 
           alone_left other (breaks_off turn.status) did (untouched_on other did none.1) happens)
       | inr among ↦ elim (named_or_other asked.besides beside) [
         | inl named ↦ both_left (breaks_off turn.status) did
-            (knows h rooms disks outs errs image only contents bytes name old turn is_modelled run
+            (knows h rooms disks outs errs crash_state only contents bytes name old turn is_modelled
+            run
             (AreRecords h) keeps did among) happens
             (of_each (λ n d. IsNamed asked.besides (tiles_name n)
             → LeavesBoth (HasTilesOf h) asked.Valid rooms disks old turn.room n d) js name did
@@ -238,6 +247,6 @@ module _ {R S D O E : Type 0} (h : HashFunction) (rooms : Rooms R S D) (disks : 
   pub serves_log : (name : Text) → IsOwn name → ServesLog (program h rooms disks outs errs)
       (HasTilesOf h) (λ list body. ⊥) (AreRecords h) name (tiles_name name) (λ old run. stored)
   serves_log name own = record {
-    rooms = (serves h rooms disks outs errs image only contents bytes name own).rooms;
+    rooms = (serves h rooms disks outs errs crash_state only contents bytes name own).rooms;
     leaves = λ old turn is_modelled run. log_leaves name own old turn is_modelled run;
   }

@@ -3,10 +3,10 @@
 use Rattle.std.proofs.Common.{◌≡◌, inl, inr, ℕ, List, [], ◌∷◌, Option, None, Some}
 use Rattle.std.proofs.Common.{Result, Ok, Err, IsOk, refl, sym, subst, ◌∙◌, arith}
 use Rattle.std.proofs.lemmas.Option.{same_Some}
-use Rattle.byte_formats.specs.Places.{IsBytes}
+use Rattle.byte_formats.specs.Offsets.{IsBytes}
 use Rattle.byte_formats.specs.Types.{HashFunction}
 use Rattle.disk_core.specs.declared.disk.Disk.{Ghosts as Disks}
-use Rattle.journal_core.specs.Folds.{read_by, state_behind}
+use Rattle.journal_core.specs.Folds.{read_by, state_after}
 use Rattle.journal_core.specs.Format.{Represents}
 use Rattle.journal_core.proofs.Found.{read_standing}
 use Rattle.journal_core.proofs.Standing.{found_stands}
@@ -23,7 +23,7 @@ use Rattle.mtc_command.specs.Lines.{line_of}
 use Rattle.mtc_command.specs.Steps.{Files, held_in}
 use Rattle.mtc_command.specs.Wanted.{Meets}
 use Rattle.mtc_command.specs.declared.answer.Stopped.TheVariants.{BadForm}
-use Rattle.mtc_command.proofs.Made.{OnlyNow, ReadsImage}
+use Rattle.mtc_command.proofs.Made.{OnlyNow, ReadsCrashState}
 use Rattle.mtc_authority.specs.BadTiles.{first_bad}
 use Rattle.command_plans.specs.Found.{AnyIsRefused, IsLacking, IsRefused}
 use Rattle.command_plans.specs.Kinds.{Kinds}
@@ -32,18 +32,18 @@ use Rattle.command_plans.specs.Plans.{Journal, makes, opens}
 use Rattle.command_plans.specs.Rules.{AreOfFirst, AreOfKind}
 use Rattle.command_plans.proofs.Facts.{misread_about}
 use Rattle.mtc_plans.specs.Commands.{plan_of}
-use Rattle.mtc_plans.specs.NodeKinds.{NodeKind, cosigner, log, missing_text, node_fold}
-use Rattle.mtc_plans.specs.NodeKinds.{node_kinds}
-use Rattle.node_history.specs.Rules.{IsReadAs}
-use Rattle.node_history.specs.declared.start.NodeStart.{NodeStart}
-use Rattle.node_history.specs.declared.start.NodeStart.TheVariants.{Cosigner, Log}
-use Rattle.node_history.proofs.Chains.{no_some}
+use Rattle.mtc_plans.specs.PartyKinds.{PartyKind, cosigner, log, missing_text, party_fold}
+use Rattle.mtc_plans.specs.PartyKinds.{party_kinds}
+use Rattle.party_history.specs.Rules.{IsReadAs}
+use Rattle.party_history.specs.declared.start.PartyStart.{PartyStart}
+use Rattle.party_history.specs.declared.start.PartyStart.TheVariants.{Cosigner, Log}
+use Rattle.party_history.proofs.Chains.{no_some}
 use Rattle.mtc_top.specs.Concluded.{Reports}
 use Rattle.mtc_top.specs.CourseLaws.{AreOfParty}
 use Rattle.mtc_top.specs.Courses.{Turn, HasTurned}
 use Rattle.mtc_top.specs.Facts.{facts, facts_of}
 use Rattle.mtc_top.specs.StatusLaws.{IsAboutInput, LacksTile, MisreadFilesAreInputs}
-use Rattle.node_history.proofs.Agreement.{made_so}
+use Rattle.party_history.proofs.Agreement.{made_so}
 use Rattle.mtc_top.proofs.Recovered.{modelled_then, read_again}
 use Rattle.mtc_top.proofs.Runs.{answered, wrote_of}
 use Rattle.mtc_top.proofs.Turns.{file_bytes}
@@ -74,23 +74,23 @@ none_refused k files (makes kind name ∷ rest) file reason none any = cc
 
 -- ---- a journal that represents the records of a party
 
-module _ (h : HashFunction) (start : NodeStart) (first name : List ℕ) (files : Files)
+module _ (h : HashFunction) (start : PartyStart) (first name : List ℕ) (files : Files)
     (stands : (c : List ℕ) → files name ≡ Some c
     → (list : List (List ℕ)) × (Represents c list × AreOfParty h start first list)) where
   abbrev KeepTo : (List (List ℕ) → Type 0) → Type 0
   KeepTo Valid = (list : List (List ℕ)) → AreOfParty h start first list → Valid list
 
   -- it is read, if the party is of this kind
-  is_read : (kind : NodeKind) → KeepTo (AreOfKind (node_kinds h) kind) → (c : List ℕ)
-      → files name ≡ Some c → IsOk (read_by (node_fold h kind) c)
+  is_read : (kind : PartyKind) → KeepTo (AreOfKind (party_kinds h) kind) → (c : List ℕ)
+      → files name ≡ Some c → IsOk (read_by (party_fold h kind) c)
   is_read kind keeps c is =
       let s = stands c is in
-      let made = made_so (state_behind (node_fold h kind) s.0) (keeps s.0 s.1.1) in
-      subst IsOk (sym (read_standing (node_fold h kind) c s.0 made.0 s.1.0 made.1)) refl
+      let made = made_so (state_after (party_fold h kind) s.0) (keeps s.0 s.1.1) in
+      subst IsOk (sym (read_standing (party_fold h kind) c s.0 made.0 s.1.0 made.1)) refl
 
   -- only a log has a file beside it
-  of_tiles : (kind : NodeKind) (file reason : List ℕ)
-      → IsLacking (node_kinds h) files kind name file reason → LacksTile h files name file reason
+  of_tiles : (kind : PartyKind) (file reason : List ℕ)
+      → IsLacking (party_kinds h) files kind name file reason → LacksTile h files name file reason
   of_tiles log file reason wants =
       let found = wants.found in
       let named : tiles_name name ≡ file = same_Some (tiles_name name) file wants.beside in
@@ -109,32 +109,32 @@ module _ (h : HashFunction) (start : NodeStart) (first name : List ℕ) (files :
       }
   of_tiles cosigner file reason wants = no_some file wants.beside
 
-  of_kind : (kind : NodeKind) (file reason : List ℕ) → KeepTo (AreOfKind (node_kinds h) kind)
-      → IsRefused (node_kinds h) files kind name file reason → LacksTile h files name file reason
+  of_kind : (kind : PartyKind) (file reason : List ℕ) → KeepTo (AreOfKind (party_kinds h) kind)
+      → IsRefused (party_kinds h) files kind name file reason → LacksTile h files name file reason
   of_kind kind file reason keeps (inl not) =
-      absurd (not_read (read_by (node_fold h kind) not.bytes) not.why
+      absurd (not_read (read_by (party_fold h kind) not.bytes) not.why
       (is_read kind keeps not.bytes not.there) not.is)
   of_kind kind file reason keeps (inr wants) = of_tiles kind file reason wants
 
   -- so only a tile is refused of a command on this journal
-  of_journals : (journals : List (Journal (node_kinds h))) (file reason : List ℕ)
-      → journal_names journals ≡ name ∷ [] → KeepTo (AreOfFirst (node_kinds h) journals)
-      → AnyIsRefused (node_kinds h) files journals file reason
+  of_journals : (journals : List (Journal (party_kinds h))) (file reason : List ℕ)
+      → journal_names journals ≡ name ∷ [] → KeepTo (AreOfFirst (party_kinds h) journals)
+      → AnyIsRefused (party_kinds h) files journals file reason
       → LacksTile h files name file reason
   of_journals [] file reason named keeps any = absurd any
   of_journals (opens kind beside journal ∷ rest) file reason named keeps (inl here) =
       of_kind kind file reason keeps
-      (subst (λ (n : List ℕ). IsRefused (node_kinds h) files kind n file reason)
+      (subst (λ (n : List ℕ). IsRefused (party_kinds h) files kind n file reason)
       (one_is journal name (journal_names rest) named) here)
   of_journals (opens kind beside journal ∷ rest) file reason named keeps (inr there) =
-      absurd (none_refused (node_kinds h) files rest file reason
+      absurd (none_refused (party_kinds h) files rest file reason
       (no_more journal name (journal_names rest) named) there)
   of_journals (makes kind journal ∷ rest) file reason named keeps any =
-      absurd (none_refused (node_kinds h) files rest file reason
+      absurd (none_refused (party_kinds h) files rest file reason
       (no_more journal name (journal_names rest) named) any)
 
 -- a file that is read as a party's
-stands_of : (h : HashFunction) (start : NodeStart) (c : List ℕ) (list : List (List ℕ))
+stands_of : (h : HashFunction) (start : PartyStart) (c : List ℕ) (list : List (List ℕ))
     → IsBytes c → IsReadAs h start c list → Represents c list
 stands_of h (Log settings) c list are read =
     (found_stands (log_fold h) c (record { records = list; state = read.0 }) are read.1).0
@@ -142,7 +142,7 @@ stands_of h (Cosigner settings public) c list are read =
     (found_stands (cosigner_fold h) c (record { records = list; state = read.0 }) are read.1).0
 
 module _ {R S D O E : Type 0} (h : HashFunction) (rooms : Rooms R S D) (disks : Disks D)
-    (outs : Sinks O) (errs : Sinks E) (image : ReadsImage disks) (only : OnlyNow disks)
+    (outs : Sinks O) (errs : Sinks E) (crash_state : ReadsCrashState disks) (only : OnlyNow disks)
     (contents : (room : R) (name : List ℕ) → rooms.is_modelled room
     → ModelsFile disks.contents (rooms.file room name) (rooms.device room name))
     (bytes : (d : D) (b : List ℕ) → disks.contents d ≡ Some b → IsBytes b) where
@@ -160,7 +160,7 @@ module _ {R S D O E : Type 0} (h : HashFunction) (rooms : Rooms R S D) (disks : 
       → HasTurned h rooms disks outs errs room turn → command_of turn.words ≡ Ok command
       → turn.status ≡ 2
       → ((file reason : List ℕ)
-      → AnyIsRefused (node_kinds h) (rooms.file room) (plan_of h command).journals file reason
+      → AnyIsRefused (party_kinds h) (rooms.file room) (plan_of h command).journals file reason
       → LacksTile h (rooms.file room) name file reason)
       → IsAboutInput h rooms disks outs errs name command room turn
   about_input name room command turn is_modelled run spoken two lacks =
@@ -172,7 +172,7 @@ module _ {R S D O E : Type 0} (h : HashFunction) (rooms : Rooms R S D) (disks : 
       let meets = subst (λ (r : Result CommandValue WordError).
       Meets ((facts h r).outcome (rooms.file room)).answer a.reply) spoken (a.is (inl is_modelled))
       in
-      let about = misread_about (node_kinds h) (plan_of h command) (rooms.file room) a.reply
+      let about = misread_about (party_kinds h) (plan_of h command) (rooms.file room) a.reply
       meets (sym wrote.code ∙ two) in
       record {
         file = about.file;
@@ -188,14 +188,15 @@ module _ {R S D O E : Type 0} (h : HashFunction) (rooms : Rooms R S D) (disks : 
 
   pub misread_inputs : MisreadFilesAreInputs h rooms disks outs errs
   misread_inputs name start first begins new links begun course command turn on run spoken two =
-      let is_modelled = modelled_then h rooms disks outs errs image only contents bytes name start
+      let is_modelled =
+      modelled_then h rooms disks outs errs crash_state only contents bytes name start
       first begins new links begun course in
       about_input name new command turn is_modelled run spoken two
       (λ file reason any. of_journals h start first name (rooms.file new) (λ c is.
-      let node =
-      read_again h rooms disks outs errs image only contents bytes name start first begins
+      let party =
+      read_again h rooms disks outs errs crash_state only contents bytes name start first begins
       new links begun course c (inr is) in
       let are = file_bytes disks (rooms.file new name) (rooms.device new name) c bytes
       (contents new name is_modelled) is in
-      (node.records, (stands_of h start c node.records are node.read, node.of_party)))
+      (party.records, (stands_of h start c party.records are party.read, party.of_party)))
       (plan_of h command).journals file reason on.works on.kind any)

@@ -1,7 +1,7 @@
 -- What a command finds in a journal that it opens, and where it makes one.
 use Rattle.std.proofs.Common.{◌≡◌, ◌⊎◌, inl, inr, ℕ, true, List, [], ◌∷◌, refl, sym, subst}
 use Rattle.std.proofs.Common.{Option, None, Some, Result, Ok, Err, IsOk, true≢false}
-use Rattle.byte_formats.specs.Places.{IsBytes}
+use Rattle.byte_formats.specs.Offsets.{IsBytes}
 use Rattle.byte_formats.specs.Types.{HashFunction}
 use Rattle.journal_core.specs.Format.{Represents}
 use Rattle.mtc_words.specs.declared.error.WordError.{WordError}
@@ -17,7 +17,7 @@ use Rattle.command_plans.specs.Plans.{Beside, Journal, Plan, makes, opens}
 use Rattle.command_plans.specs.Rules.{AreOfFirst, AreOfKind, has_one_at_most}
 use Rattle.command_plans.proofs.Facts.{found_valid, made_new}
 use Rattle.mtc_plans.specs.Commands.{plan_of}
-use Rattle.mtc_plans.specs.NodeKinds.{node_kinds}
+use Rattle.mtc_plans.specs.PartyKinds.{party_kinds}
 use Rattle.mtc_top.specs.Facts.{facts, facts_of}
 use Rattle.mtc_top.proofs.Planned.{one_planned}
 
@@ -120,8 +120,8 @@ pub spoken_finds : (h : HashFunction) (files : Files)
     → OfEach (λ name did. Finds (facts h r).Valid (files name) did)
     (done_with (facts h r).journals ((facts h r).outcome files).journals)
 spoken_finds h files are (Ok command) =
-    plan_finds (node_kinds h) files (facts_of h command).Valid (plan_of h command)
-    (first_keeps (node_kinds h) files (facts_of h command).Valid (plan_of h command).journals
+    plan_finds (party_kinds h) files (facts_of h command).Valid (plan_of h command)
+    (first_keeps (party_kinds h) files (facts_of h command).Valid (plan_of h command).journals
     (one_planned h command) (λ list is. is)) are
 spoken_finds h files are (Err why) = tt
 
@@ -130,5 +130,5 @@ spoken_finds h files are (Err why) = tt
 pub spoken_new : (h : HashFunction) (r : Result CommandValue WordError) (files : Files)
     → OfEach (IsNewAt files)
     (done_with (facts h r).journals ((facts h r).outcome files).journals)
-spoken_new h (Ok command) files = made_new (node_kinds h) (plan_of h command) files
+spoken_new h (Ok command) files = made_new (party_kinds h) (plan_of h command) files
 spoken_new h (Err why) files = tt

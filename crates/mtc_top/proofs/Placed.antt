@@ -7,9 +7,9 @@ use Rattle.std.proofs.lemmas.Slice.Eq.{bytes_eq-Decides}
 use Rattle.std.specs.Option.{IsSomeAnd}
 use Rattle.std.specs.Str.{bytes_eq}
 use Rattle.byte_formats.specs.Types.{HashFunction}
-use Rattle.disk_core.specs.Memory.{IsFresh, failing_of, first_of, images_of}
+use Rattle.disk_core.specs.Memory.{IsFresh, failing_of, first_of, crash_states_of}
 use Rattle.disk_core.specs.contracts.memory.mem_disk.MemDiskDisk.TheImpl.{ghosts}
-use Rattle.disk_core.specs.Replay.{IsImage, run, settled}
+use Rattle.disk_core.specs.Replay.{IsCrashState, run, synced}
 use Rattle.disk_core.specs.declared.disk.Disk.{Ghosts as Disks}
 use Rattle.disk_core.specs.declared.memory.call.Made.{Made}
 use Rattle.disk_core.specs.declared.memory.mem_disk.MemDisk.{MemDisk}
@@ -18,9 +18,9 @@ use Rattle.mtc_io.specs.declared.sink.Sink.{Ghosts as Sinks}
 use Rattle.mtc_room.specs.declared.room.Room.{Ghosts as Rooms}
 use Rattle.mtc_top.specs.Stops.{StopsLeaving}
 
-pub fresh_left : (left c : List ℕ) (d : MemDisk) → IsFresh left d → images_of d c → c ≡ left
+pub fresh_left : (left c : List ℕ) (d : MemDisk) → IsFresh left d → crash_states_of d c → c ≡ left
 fresh_left left c d fresh is =
-    subst (λ (calls : List Made). IsImage (run (settled (first_of d)) calls) c) fresh.calls is
+    subst (λ (calls : List Made). IsCrashState (run (synced (first_of d)) calls) c) fresh.calls is
     ∙ fresh.first
 
 -- what a crash may leave of a file that was placed
@@ -34,26 +34,26 @@ module _ {D : Type 0} (g : Disks D) (May : List ℕ → List ℕ → Type 0)
     (old new : List ℕ → Option D) (name left : List ℕ) (may : May name left)
     (one : (c : List ℕ) → states_at g (new name) c → c ≡ left)
     (others : (other : List ℕ) → other ≢ name → new other ≡ old other)
-    (settle : (other : List ℕ) → other ≢ name → (c : List ℕ) × (May other c
+    (decide : (other : List ℕ) → other ≢ name → (c : List ℕ) × (May other c
     × ((d : List ℕ) → states_at g (old other) d → d ≡ c))) where
   -- the one crash state of a file
   pub record IsLeft (n : List ℕ) : Type 0 where
-    pub image : List ℕ
-    pub was : May n image
-    pub only : (c : List ℕ) → states_at g (new n) c → c ≡ image
+    pub crash_state : List ℕ
+    pub was : May n crash_state
+    pub only : (c : List ℕ) → states_at g (new n) c → c ≡ crash_state
 
   pub left_at : (n : List ℕ) → IsLeft n
   left_at n = go (bytes_eq n name) refl
     where
       go : (b : Bool) → bytes_eq n name ≡ b → IsLeft n
       go true is = subst IsLeft (sym ((bytes_eq-Decides n name).0 is))
-          (record { image = left; was = may; only = one })
+          (record { crash_state = left; was = may; only = one })
       go false is =
           let differ : n ≢ name
           = λ same. absurd (true≢false (sym ((bytes_eq-Decides n name).1 same) ∙ is)) in
-          let found = settle n differ in
+          let found = decide n differ in
           record {
-            image = found.0;
+            crash_state = found.0;
             was = found.1.0;
             only = λ c there. found.1.1 c
                 (subst (λ (x : Option D). states_at g x c) (others n differ) there);
@@ -66,12 +66,12 @@ module _ {R S D O E : Type 0} (h : HashFunction) (rooms : Rooms R S D) (disks : 
     (others : (other : List ℕ) → other ≢ name
     → rooms.device new other ≡ rooms.device old other) where
   pub stopped : StopsLeaving h rooms disks outs errs May name left old new
-  stopped may settle =
+  stopped may decide =
       let at = left_at disks May (rooms.device old) (rooms.device new) name left may one others
-      settle in (
+      decide in (
         record {
           is_modelled = is_modelled;
-          image = λ n. (at n).image;
+          crash_state = λ n. (at n).crash_state;
           may = λ n. (at n).was;
           only = λ n is. (at n).only is;
         },

@@ -1,10 +1,10 @@
 -- What goes out of a run by a command, by what its text says.
 use Rattle.std.proofs.Common.{◌≡◌, inl, ℕ, false, List, [], ◌∷◌, length, Result, Ok, refl, sym}
 use Rattle.std.proofs.Common.{Some, subst, ap, ◌∙◌}
-use Rattle.byte_formats.specs.Places.{IsBytes}
+use Rattle.byte_formats.specs.Offsets.{IsBytes}
 use Rattle.byte_formats.specs.Types.{HashFunction}
 use Rattle.disk_core.specs.declared.disk.Disk.{Ghosts as Disks}
-use Rattle.journal_core.specs.Format.{end_behind}
+use Rattle.journal_core.specs.Format.{end_following}
 use Rattle.journal_core.proofs.Standing.{found_stands}
 use Rattle.mtc_io.specs.declared.sink.Sink.{Ghosts as Sinks}
 use Rattle.mtc_room.specs.Room.{ModelsFile}
@@ -28,8 +28,8 @@ use Rattle.mtc_authority.specs.IssueOutcome.{issued_text}
 use Rattle.mtc_plans.specs.Commands.{planned_outcome}
 use Rattle.mtc_plans.specs.Heard.{CosignsSo, IssuesSo, OfSaid}
 use Rattle.mtc_plans.proofs.Heard.{cosigned_so, issued_so}
-use Rattle.node_history.proofs.Cosigners.{number_added, sign_read}
-use Rattle.node_history.proofs.Entries.{item_read}
+use Rattle.party_history.proofs.Cosigners.{number_added, sign_read}
+use Rattle.party_history.proofs.Entries.{item_read}
 use Rattle.mtc_top.specs.Courses.{Turn, HasTurned, DidWith, AreAmong, IsHeard}
 use Rattle.mtc_top.specs.Facts.{facts, facts_of}
 use Rattle.mtc_top.specs.PrintLaws.{IndicesArePrinted, SignaturesArePrinted}
@@ -92,7 +92,7 @@ module _ {R S D O E : Type 0} (h : HashFunction) (rooms : Rooms R S D) (disks : 
       let asked = file_bytes disks (rooms.file old file) (rooms.device old file) s.bytes bytes
       (contents old file is_modelled) s.has_bytes.there in
       let body = sign_record state.key.next r.start r.end r.hash r.proof in
-      let signs = sign_read h state r false (end_behind list)
+      let signs = sign_read h state r false (end_following list)
       (subtree_only s.bytes r asked s.asked).1 s.fits in
       record {
         text = s.bytes;
@@ -133,7 +133,7 @@ module _ {R S D O E : Type 0} (h : HashFunction) (rooms : Rooms R S D) (disks : 
         body = body;
         did = did_so h rooms disks outs errs old turn command spoken name (appended list body) refl
             s.did;
-        item = item_read (view_in state) false (end_behind list)
+        item = item_read (view_in state) false (end_following list)
             (issued_entry h state.settings s.request) s.request.key s.fits;
         printed = printed_so h rooms disks outs errs old turn run heard
             (issued_text (length state.entries)) s.reply_is;

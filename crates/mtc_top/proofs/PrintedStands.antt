@@ -1,6 +1,6 @@
 -- What becomes of the records of what went out in an execution.
 use Rattle.std.proofs.Common.{◌≡◌, ℕ, List, [], ◌∷◌, ◌++◌, Some}
-use Rattle.byte_formats.specs.Places.{IsBytes}
+use Rattle.byte_formats.specs.Offsets.{IsBytes}
 use Rattle.byte_formats.specs.Types.{HashFunction}
 use Rattle.file_events.specs.Executions.{IsPrefix}
 use Rattle.disk_core.specs.declared.disk.Disk.{Ghosts as Disks}
@@ -9,34 +9,37 @@ use Rattle.mtc_room.specs.Room.{ModelsFile}
 use Rattle.mtc_room.specs.declared.room.Room.{Ghosts as Rooms}
 use Rattle.mtc_words.specs.Commands.{cosign, issue}
 use Rattle.authority_core.specs.Issues.{issued_entry}
-use Rattle.mtc_command.proofs.Made.{OnlyNow, ReadsImage}
+use Rattle.mtc_command.proofs.Made.{OnlyNow, ReadsCrashState}
 use Rattle.mtc_top.specs.Courses.{WasHeld}
 use Rattle.mtc_top.specs.PrintLaws.{HasCosigned, IsInLog, IssuedEntriesStand, OfHeard}
 use Rattle.mtc_top.specs.PrintLaws.{SignaturesStand}
 use Rattle.mtc_top.proofs.Printed.{indices_printed, signatures_printed}
-use Rattle.mtc_top.proofs.Recovered.{added_stand, each_held, held_prefix, image_list}
+use Rattle.mtc_top.proofs.Recovered.{added_stand, each_held, held_prefix, crash_state_list}
 use Rattle.mtc_top.proofs.Turns.{heard_held}
 
 module _ {R S D O E : Type 0} (h : HashFunction) (rooms : Rooms R S D) (disks : Disks D)
-    (outs : Sinks O) (errs : Sinks E) (image : ReadsImage disks) (only : OnlyNow disks)
+    (outs : Sinks O) (errs : Sinks E) (crash_state : ReadsCrashState disks) (only : OnlyNow disks)
     (contents : (room : R) (name : List ℕ) → rooms.is_modelled room
     → ModelsFile disks.contents (rooms.file room name) (rooms.device room name))
     (bytes : (d : D) (b : List ℕ) → disks.contents d ≡ Some b → IsBytes b) where
   pub signatures_stand : SignaturesStand h rooms disks outs errs
   signatures_stand name start first begins new links begun course file c at =
       let stands =
-      image_list h rooms disks outs errs image only contents bytes name start first begins
+      crash_state_list h rooms disks outs errs crash_state only contents bytes name start first
+      begins
       new links begun course c at in
       let found = stands.0 in (
         found,
         (
           stands.1,
-          each_held h rooms disks outs errs image only contents bytes name start first begins new
+          each_held h rooms disks outs errs crash_state only contents bytes name start first begins
+              new
               links begun course (λ list. IsPrefix list found)
               (OfHeard h rooms disks outs errs (cosign name file) (λ old turn.
               (signed : HasCosigned h rooms disks outs errs name file old turn)
               × IsPrefix (signed.list ++ signed.body ∷ []) found))
-              (λ list held. held_prefix h rooms disks outs errs image only contents bytes name start
+              (λ list held. held_prefix h rooms disks outs errs crash_state only contents bytes name
+              start
               first begins new links begun course list found held (c, (at, stands.1)))
               (λ old turn is_modelled run prefixes spoken heard.
               let s = signatures_printed h rooms disks outs errs contents bytes name file old turn
@@ -51,7 +54,8 @@ module _ {R S D O E : Type 0} (h : HashFunction) (rooms : Rooms R S D) (disks : 
 
   pub issued_stand : IssuedEntriesStand h rooms disks outs errs
   issued_stand name start first begins new links begun course settings file found is recovered =
-      each_held h rooms disks outs errs image only contents bytes name start first begins new links
+      each_held h rooms disks outs errs crash_state only contents bytes name start first begins new
+      links
       begun course (WasHeld h rooms disks outs errs name begins links)
       (OfHeard h rooms disks outs errs (issue name file) (λ old turn.
       IsInLog h rooms disks outs errs name file old turn found)) (λ list held. held)
@@ -60,7 +64,7 @@ module _ {R S D O E : Type 0} (h : HashFunction) (rooms : Rooms R S D) (disks : 
       run
       spoken heard in
       let log =
-      added_stand h rooms disks outs errs image only contents bytes name start first begins
+      added_stand h rooms disks outs errs crash_state only contents bytes name start first begins
       new
       links begun course settings i.list found i.body (issued_entry h i.state.settings i.request)
       i.request.key i.state is (held (i.list ++ i.body ∷ [])

@@ -2,13 +2,13 @@
 use Rattle.std.proofs.Common.{◌≡◌, ◌⊎◌, inl, inr, ℕ, true, List, [], ◌∷◌, ◌++◌, Option, None, Some}
 use Rattle.std.proofs.Common.{Result, Ok, refl, sym, subst, ap, ◌∙◌, append_assoc}
 use Rattle.std.specs.Prelude.{IsOk, is_ok}
-use Rattle.byte_formats.specs.Places.{IsBytes}
+use Rattle.byte_formats.specs.Offsets.{IsBytes}
 use Rattle.byte_formats.specs.Types.{HashFunction}
 use Rattle.disk_core.specs.declared.disk.Disk.{Ghosts as Disks}
 use Rattle.file_events.specs.Events.{Event, EventHolds, HasReleased, all_released, appended, ran}
 use Rattle.file_events.specs.Executions.{AnyEvent, IsPrefix}
 use Rattle.file_events.specs.Histories.{IsHistory, RepresentsPending}
-use Rattle.file_events.specs.Laws.{IsDurablePrefix, IsJournalExecution, IsReadBehind}
+use Rattle.file_events.specs.Laws.{IsDurablePrefix, IsJournalExecution, IsReadAfter}
 use Rattle.file_events.specs.Owners.{ServesJournal}
 use Rattle.file_events.specs.Worlds.{states_of}
 use Rattle.file_events.proofs.Histories.{executions_are_histories}
@@ -24,19 +24,19 @@ use Rattle.mtc_room.specs.declared.room.Room.{Ghosts as Rooms}
 use Rattle.mtc_words.specs.Words.{command_of}
 use Rattle.cosigner_core.specs.Counts.{AreCounted}
 use Rattle.cosigner_core.specs.declared.settings.CosignerSettings.{CosignerSettings}
-use Rattle.cosigner_core.proofs.Behind.{once_each}
+use Rattle.cosigner_core.proofs.After.{once_each}
 use Rattle.issuance_log.specs.Folds.{LogState, log_of}
 use Rattle.issuance_log.specs.Settings.{Settings}
-use Rattle.issuance_log.proofs.Behind.{begins_so}
-use Rattle.mtc_command.proofs.Made.{OnlyNow, ReadsImage}
-use Rattle.node_history.specs.Journals.{GoesOn, HasHistory}
-use Rattle.node_history.specs.Rules.{AreRecords, StartsWith, may_follow}
-use Rattle.node_history.specs.declared.start.NodeStart.{NodeStart}
-use Rattle.node_history.specs.declared.start.NodeStart.TheVariants.{Log, Cosigner}
-use Rattle.node_history.proofs.Agreement.{agree, cons_is, made_so, read, starts_so}
-use Rattle.node_history.proofs.Items.{item_added, items_kept}
-use Rattle.node_history.proofs.Keys.{one_record}
-use Rattle.node_history.proofs.Taking.{no_records, reaches_all, takes_steps}
+use Rattle.issuance_log.proofs.After.{begins_so}
+use Rattle.mtc_command.proofs.Made.{OnlyNow, ReadsCrashState}
+use Rattle.party_history.specs.Journals.{Continues, HasHistory}
+use Rattle.party_history.specs.Rules.{AreRecords, StartsWith, may_follow}
+use Rattle.party_history.specs.declared.start.PartyStart.{PartyStart}
+use Rattle.party_history.specs.declared.start.PartyStart.TheVariants.{Log, Cosigner}
+use Rattle.party_history.proofs.Agreement.{agree, cons_is, made_so, read, starts_so}
+use Rattle.party_history.proofs.Items.{item_added, items_kept}
+use Rattle.party_history.proofs.Keys.{one_record}
+use Rattle.party_history.proofs.Taking.{no_records, reaches_all, takes_steps}
 use Rattle.mtc_top.specs.CourseLaws.{AddedEntriesStand, AreOfParty, IsReadAsParty}
 use Rattle.mtc_top.specs.CourseLaws.{CoursesAreHistories, EntriesStand, ReleasedStand}
 use Rattle.mtc_top.specs.CourseLaws.{OfReleased, ReleasedWasHeld}
@@ -45,9 +45,10 @@ use Rattle.mtc_top.specs.CourseLaws.{KeysSignOneMessage}
 use Rattle.mtc_top.specs.CourseLaws.{RecoveredListsGrow}
 use Rattle.mtc_top.specs.Courses.{HasHeld, HasTurned, IsBegun, IsCourse, IsReached, IsRecovered}
 use Rattle.mtc_top.specs.Courses.{DidWith, IsHeard, Link, OfEachTurn, Turn, WasHeld, events}
-use Rattle.mtc_top.specs.Courses.{images_in, owner, program}
+use Rattle.mtc_top.specs.Courses.{crash_states_in, owner, program}
 use Rattle.mtc_top.proofs.Commands.{spoken_records}
-use Rattle.mtc_top.proofs.Leaves.{contents_image, first_own, held_rules, modelled_file, serves}
+use Rattle.mtc_top.proofs.Leaves.{contents_crash_state, first_own, held_rules, modelled_file}
+use Rattle.mtc_top.proofs.Leaves.{serves}
 use Rattle.mtc_top.proofs.Turns.{heard_event, heard_held}
 
 -- ---- lists
@@ -62,20 +63,20 @@ first_of_more list body more found prefix = (
 )
 
 -- bytes that represent durable records and a pending one begin with the first of them
-first_is : (first other c : List ℕ) (others settled list : List (List ℕ))
-    (pending : Option (List ℕ)) → RepresentsPending (other ∷ settled) pending c → Represents c list
+first_is : (first other c : List ℕ) (others durable list : List (List ℕ))
+    (pending : Option (List ℕ)) → RepresentsPending (other ∷ durable) pending c → Represents c list
     → first ∷ others ≡ list → other ≡ first
-first_is first other c others settled list None stands found is =
-    cons_is other first settled others (one_list c (other ∷ settled) list stands found ∙ sym is)
-first_is first other c others settled list (Some body) stands found is = elim stands [
-  | inl old ↦ cons_is other first settled others
-      (one_list c (other ∷ settled) list old found ∙ sym is)
-  | inr new ↦ cons_is other first (settled ++ body ∷ []) others
-      (one_list c (other ∷ (settled ++ body ∷ [])) list new found ∙ sym is)
+first_is first other c others durable list None stands found is =
+    cons_is other first durable others (one_list c (other ∷ durable) list stands found ∙ sym is)
+first_is first other c others durable list (Some body) stands found is = elim stands [
+  | inl old ↦ cons_is other first durable others
+      (one_list c (other ∷ durable) list old found ∙ sym is)
+  | inr new ↦ cons_is other first (durable ++ body ∷ []) others
+      (one_list c (other ∷ (durable ++ body ∷ [])) list new found ∙ sym is)
 ]
 
 -- a party that began as a log has one
-log_found : (h : HashFunction) (start : NodeStart) (settings : Settings) (first : List ℕ)
+log_found : (h : HashFunction) (start : PartyStart) (settings : Settings) (first : List ℕ)
     (list : List (List ℕ)) → start ≡ Log settings → StartsWith start first
     → AreOfParty h start first list → (t : LogState) × (log_of h list ≡ Ok t)
 log_found h (Log settings') settings first list is begins of =
@@ -84,22 +85,22 @@ log_found h (Log settings') settings first list is begins of =
     ∙ of.valid))
 log_found h (Cosigner settings' public) settings first list is begins of = absurd cc
 
-keys_of : (h : HashFunction) (start : NodeStart) (settings : CosignerSettings)
+keys_of : (h : HashFunction) (start : PartyStart) (settings : CosignerSettings)
     (public : List ℕ) (bodies : List (List ℕ)) → start ≡ Cosigner settings public
     → may_follow h start bodies ≡ true → AreCounted bodies
 keys_of h start settings public bodies is valid =
     once_each h settings bodies
-    (subst (λ (s : NodeStart). may_follow h s bodies ≡ true) is valid)
+    (subst (λ (s : PartyStart). may_follow h s bodies ≡ true) is valid)
 
 tail_is : (x y : List ℕ) (xs ys : List (List ℕ)) → x ∷ xs ≡ y ∷ ys → xs ≡ ys
 tail_is x y xs ys is = cc
 
 module _ {R S D O E : Type 0} (h : HashFunction) (rooms : Rooms R S D) (disks : Disks D)
-    (outs : Sinks O) (errs : Sinks E) (image : ReadsImage disks) (only : OnlyNow disks)
+    (outs : Sinks O) (errs : Sinks E) (crash_state : ReadsCrashState disks) (only : OnlyNow disks)
     (contents : (room : R) (name : List ℕ) → rooms.is_modelled room
     → ModelsFile disks.contents (rooms.file room name) (rooms.device room name))
     (bytes : (d : D) (b : List ℕ) → disks.contents d ≡ Some b → IsBytes b) where
-  module _ (name : List ℕ) (start : NodeStart) (first : List ℕ) (begins new : R)
+  module _ (name : List ℕ) (start : PartyStart) (first : List ℕ) (begins new : R)
       (links : List (Link R O E))
       (begun : IsBegun h rooms disks outs errs name start first begins links)
       (course : IsCourse h rooms disks outs errs name begins links new) where
@@ -110,8 +111,9 @@ module _ {R S D O E : Type 0} (h : HashFunction) (rooms : Rooms R S D) (disks : 
     States = states_of (program h rooms disks outs errs) name
 
     serves_so : ServesJournal (program h rooms disks outs errs) (AreRecords h) name
-    serves_so = serves h rooms disks outs errs image only contents bytes name
-        (first_own h rooms disks outs errs image only contents bytes name (first ∷ begun.others)
+    serves_so = serves h rooms disks outs errs crash_state only contents bytes name
+        (first_own h rooms disks outs errs crash_state only contents bytes name
+        (first ∷ begun.others)
         begins links begun.held)
 
     execution : IsJournalExecution States (AreRecords h) begins evs new
@@ -129,7 +131,7 @@ module _ {R S D O E : Type 0} (h : HashFunction) (rooms : Rooms R S D) (disks : 
     durable = held_stand States (AreRecords h) (first ∷ begun.others) begins new evs
         (first_held (first ∷ begun.others) evs begun.held) execution
 
-    party : (c : List ℕ) (b : IsReadBehind (AreRecords h) (first ∷ begun.others) c)
+    party : (c : List ℕ) (b : IsReadAfter (AreRecords h) (first ∷ begun.others) c)
         → AreOfParty h start first b.list
     party c b = record {
       others = begun.others ++ b.begins.0;
@@ -145,12 +147,12 @@ module _ {R S D O E : Type 0} (h : HashFunction) (rooms : Rooms R S D) (disks : 
         subst (AreOfParty h start first) (one_list found.0 b.list list b.stands found.1.1)
         (party found.0 b)
 
-    pub read_file : (c : List ℕ) → images_in h rooms disks outs errs new name c
+    pub read_file : (c : List ℕ) → crash_states_in h rooms disks outs errs new name c
         ⊎ (rooms.file new name ≡ Some c) → IsReadAsParty h start first c
     read_file c is =
         let b = durable.each c (elim is [
           | inl left ↦ left
-          | inr there ↦ contents_image disks (rooms.device new name) c image
+          | inr there ↦ contents_crash_state disks (rooms.device new name) c crash_state
               (modelled_file disks (rooms.file new name) (rooms.device new name)
               (contents new name modelled_then) ∙ there)
         ]) in
@@ -169,32 +171,32 @@ module _ {R S D O E : Type 0} (h : HashFunction) (rooms : Rooms R S D) (disks : 
     held_prefix list found held is =
         (recovered_valid States (AreRecords h) list found begins new evs held execution is).1
 
-    pub image_list : (c : List ℕ) → images_in h rooms disks outs errs new name c
+    pub crash_state_list : (c : List ℕ) → crash_states_in h rooms disks outs errs new name c
         → (found : List (List ℕ)) × Represents c found
-    image_list c at = let b = durable.each c at in (b.list, b.stands)
+    crash_state_list c at = let b = durable.each c at in (b.list, b.stands)
 
-    pub held_image : (list : List (List ℕ)) (c : List ℕ)
+    pub held_crash_state : (list : List (List ℕ)) (c : List ℕ)
         → WasHeld h rooms disks outs errs name begins links list
-        → images_in h rooms disks outs errs new name c
+        → crash_states_in h rooms disks outs errs new name c
         → (found : List (List ℕ)) × (Represents c found × IsPrefix list found)
-    held_image list c held at =
+    held_crash_state list c held at =
         let b = (held_stand States (AreRecords h) list begins new evs held execution).each c at in
         (b.list, (b.stands, b.begins))
 
     -- what holds of each run of the execution, where it holds by the records that it held
-    pub each_held : (Told : List (List ℕ) → Type 0) (P : R → Turn R O E → Type 0)
+    pub each_held : (IsSo : List (List ℕ) → Type 0) (P : R → Turn R O E → Type 0)
         → ((list : List (List ℕ)) → WasHeld h rooms disks outs errs name begins links list
-        → Told list)
+        → IsSo list)
         → ((room : R) (turn : Turn R O E) → rooms.is_modelled room
         → HasTurned h rooms disks outs errs room turn
-        → ((list : List (List ℕ)) → HasHeld h rooms disks outs errs name room turn list → Told list)
+        → ((list : List (List ℕ)) → HasHeld h rooms disks outs errs name room turn list → IsSo list)
         → P room turn)
         → OfEachTurn h rooms disks outs errs P begins links
-    each_held Told P told each =
+    each_held IsSo P reported each =
         let p = program h rooms disks outs errs in
         each_run p (owner h rooms disks outs errs name)
-        (journal_lead p (AreRecords h) name serves_so) (List (List ℕ)) EventHolds Told P each links
-        begins new begun.is_modelled course told
+        (journal_lead p (AreRecords h) name serves_so) (List (List ℕ)) EventHolds IsSo P each links
+        begins new begun.is_modelled course reported
 
     -- each record that was released
     pub released_so : OfReleased h rooms disks outs errs name (λ list body.
@@ -209,22 +211,22 @@ module _ {R S D O E : Type 0} (h : HashFunction) (rooms : Rooms R S D) (disks : 
         → DidWith h rooms disks outs errs old turn name (appended list body) → IsHeard outs turn
         → HasReleased evs list body
         × WasHeld h rooms disks outs errs name begins links (list ++ body ∷ []))
-        (λ old turn is_modelled run told list body did heard.
-        let released = told (ran true (appended list body))
+        (λ old turn is_modelled run reported list body did heard.
+        let released = reported (ran true (appended list body))
         (heard_event h rooms disks outs errs old turn run heard name (appended list body) did) in
         (released, was_held list body evs released)) links begins new begun.is_modelled course
         (λ x any. any)
 
-    pub released_image : (c : List ℕ) → images_in h rooms disks outs errs new name c
+    pub released_crash_state : (c : List ℕ) → crash_states_in h rooms disks outs errs new name c
         → OfReleased h rooms disks outs errs name (λ list body. (found : List (List ℕ))
         × (Represents c found × IsPrefix (list ++ body ∷ []) found)) begins links
-    released_image c at =
+    released_crash_state c at =
         each_held (λ list. (found : List (List ℕ)) × (Represents c found × IsPrefix list found))
         (λ old turn. (list : List (List ℕ)) (body : List ℕ)
         → DidWith h rooms disks outs errs old turn name (appended list body) → IsHeard outs turn
         → (found : List (List ℕ)) × (Represents c found × IsPrefix (list ++ body ∷ []) found))
-        (λ list held. held_image list c held at)
-        (λ old turn is_modelled run told list body did heard. told (list ++ body ∷ [])
+        (λ list held. held_crash_state list c held at)
+        (λ old turn is_modelled run reported list body did heard. reported (list ++ body ∷ [])
         (heard_held h rooms disks outs errs old turn run heard name list body did))
 
     -- ---- its history
@@ -238,12 +240,12 @@ module _ {R S D O E : Type 0} (h : HashFunction) (rooms : Rooms R S D) (disks : 
         let c = history.some in
         let b = durable.each c.0 c.1 in
         first_is first history.reaches.first c.0 (begun.others ++ b.begins.0)
-        history.reaches.settled b.list history.pending
+        history.reaches.durable b.list history.pending
         (subst (λ (l : List (List ℕ)). RepresentsPending l history.pending c.0)
         history.reaches.are (history.each c.0 c.1)) b.stands b.begins.1
 
-    goes : GoesOn h (start ∷ []) 0 first [] history.list history.pending (all_released evs)
-    goes = subst (λ (f : List ℕ). GoesOn h (start ∷ []) 0 f [] history.list history.pending
+    goes : Continues h (start ∷ []) 0 first [] history.list history.pending (all_released evs)
+    goes = subst (λ (f : List ℕ). Continues h (start ∷ []) 0 f [] history.list history.pending
         (all_released evs)) same_first (history.reaches.of_party start
         (subst (StartsWith start) (sym same_first) begun.starts))
 
@@ -253,10 +255,10 @@ module _ {R S D O E : Type 0} (h : HashFunction) (rooms : Rooms R S D) (disks : 
       state = goes.state;
       leads = goes.leads;
       stands = λ c at. subst (λ (p : Option (List ℕ)).
-          RepresentsPending (first ∷ goes.state.settled) p c) goes.pending_is
+          RepresentsPending (first ∷ goes.state.durable) p c) goes.pending_is
           (subst (λ (l : List (List ℕ)). RepresentsPending l history.pending c) goes.list_is
           (history.each c at));
-      handed = sym goes.out_is;
+      released = sym goes.out_is;
     }
 
   pub histories : CoursesAreHistories h rooms disks outs errs
@@ -266,13 +268,13 @@ module _ {R S D O E : Type 0} (h : HashFunction) (rooms : Rooms R S D) (disks : 
   read_again = read_file
 
   pub lists_grow : RecoveredListsGrow h rooms disks outs errs
-  lists_grow = held_image
+  lists_grow = held_crash_state
 
   pub released_was_held : ReleasedWasHeld h rooms disks outs errs
   released_was_held = released_so
 
   pub released_stand : ReleasedStand h rooms disks outs errs
-  released_stand = released_image
+  released_stand = released_crash_state
 
   pub keys_once : KeysSignOnce h rooms disks outs errs
   keys_once name start first begins new links begun course settings public is record0 bodies found =
@@ -286,10 +288,10 @@ module _ {R S D O E : Type 0} (h : HashFunction) (rooms : Rooms R S D) (disks : 
       others body message number held held' uses uses' =
       let all = durable name start first begins new links begun course in
       let c = all.some in
-      let behind = all.each c.0 c.1 in
-      let found = begun.others ++ behind.begins.0 in
+      let following = all.each c.0 c.1 in
+      let found = begun.others ++ following.begins.0 in
       let recovered : IsRecovered h rooms disks outs errs name new (first ∷ found)
-      = (c.0, (c.1, subst (Represents c.0) (sym behind.begins.1) behind.stands)) in
+      = (c.0, (c.1, subst (Represents c.0) (sym following.begins.1) following.stands)) in
       let prefix = first_of_more list body more (first ∷ found) (held_prefix name start first
       begins new links begun course (list ++ body ∷ more) (first ∷ found) held recovered) in
       let prefix' =
@@ -333,7 +335,7 @@ module _ {R S D O E : Type 0} (h : HashFunction) (rooms : Rooms R S D) (disks : 
       )
 
   -- records begin with a first one
-  split : (list : List (List ℕ)) → AreRecords h list → (start : NodeStart) × ((first : List ℕ)
+  split : (list : List (List ℕ)) → AreRecords h list → (start : PartyStart) × ((first : List ℕ)
       × (StartsWith start first × AreOfParty h start first list))
   split [] records = absurd (no_records h records)
   split (first ∷ others) records =
@@ -355,5 +357,6 @@ module _ {R S D O E : Type 0} (h : HashFunction) (rooms : Rooms R S D) (disks : 
   pub of_parties : JournalsAreOfParties h rooms disks outs errs
   of_parties name old turn list is_modelled run held =
       split list (spoken_records h (command_of turn.words) list
-      (held_rules h rooms disks outs errs image only contents bytes name old turn list is_modelled
+      (held_rules h rooms disks outs errs crash_state only contents bytes name old turn list
+      is_modelled
       run held))

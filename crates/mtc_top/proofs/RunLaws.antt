@@ -8,7 +8,7 @@ use Rattle.std.proofs.lemmas.Bool.{or_right}
 use Rattle.std.proofs.lemmas.Bool.Decides.{leb_tells}
 use Rattle.std.proofs.lemmas.List.{append_cancel_left, take-take}
 use Rattle.std.specs.Io.KnownBytes.{Appends}
-use Rattle.byte_formats.specs.Places.{IsBytes}
+use Rattle.byte_formats.specs.Offsets.{IsBytes}
 use Rattle.byte_formats.specs.Types.{HashFunction}
 use Rattle.disk_core.specs.declared.disk.Disk.{Ghosts as Disks}
 use Rattle.file_events.specs.Events.{CrashStates, Event, Leads, broke}
@@ -26,21 +26,23 @@ use Rattle.mtc_command.specs.Made.{HasKept, HasMade, Journaled, Leaves, Leaving,
 use Rattle.mtc_command.specs.Served.{IsOther, Journals, LeavesEach}
 use Rattle.mtc_command.specs.declared.answer.Said.TheVariants.{Done, Against, Collided}
 use Rattle.mtc_command.specs.Lines.{line_of}
-use Rattle.mtc_command.proofs.Made.{OnlyNow, ReadsImage}
+use Rattle.mtc_command.proofs.Made.{OnlyNow, ReadsCrashState}
 use Rattle.mtc_words.specs.Words.{command_of, known_word}
-use Rattle.node_history.specs.Journals.{GoesOn}
-use Rattle.node_history.specs.Rules.{AreRecords}
-use Rattle.node_history.proofs.Taking.{takes}
+use Rattle.party_history.specs.Journals.{Continues}
+use Rattle.party_history.specs.Rules.{AreRecords}
+use Rattle.party_history.proofs.Taking.{takes}
 use Rattle.mtc_top.specs.Concluded.{Concludes, Prints, PrintsPrefix, Reports}
-use Rattle.mtc_top.specs.Courses.{AreAmong, DidWith, HasTurned, Turn, images_in, owner, program}
+use Rattle.mtc_top.specs.Courses.{AreAmong, DidWith, HasTurned, Turn, crash_states_in, owner}
+use Rattle.mtc_top.specs.Courses.{program}
 use Rattle.mtc_top.specs.Facts.{Facts, facts}
 use Rattle.mtc_top.specs.Run.{Answered, HasRun}
 use Rattle.mtc_top.specs.RunLaws.{AllGoOn, PrefixesAreRuns, RunShows, RunSteps, RunsAreSteps}
 use Rattle.mtc_top.specs.RunLaws.{TookSome}
 use Rattle.mtc_top.proofs.Beside.{journal_own, none_beside}
 use Rattle.mtc_top.proofs.Commands.{spoken_records}
-use Rattle.mtc_top.proofs.Leaves.{contents_image, find_name, leaves, modelled_file, of_each, still}
-use Rattle.mtc_top.proofs.Runs.{HasFailed, HasStarved, all_early, answered, ended, first_words}
+use Rattle.mtc_top.proofs.Leaves.{contents_crash_state, find_name, leaves, modelled_file, of_each}
+use Rattle.mtc_top.proofs.Leaves.{still}
+use Rattle.mtc_top.proofs.Runs.{HasFailed, RanOutOfMemory, all_early, answered, ended, first_words}
 use Rattle.mtc_top.proofs.Runs.{lost_of, not5_of, not8_of, only_words, prefix_of, reply_code}
 use Rattle.mtc_top.proofs.Runs.{wrote_of}
 
@@ -140,11 +142,11 @@ module _ {R S D O E : Type 0} (h : List ℕ → List ℕ) (rooms : Rooms R S D) 
   abbrev Failed : Type 0
   Failed = HasFailed h rooms disks outs errs words old new out out' err err' status
 
-  abbrev Starved : Type 0
-  Starved = HasStarved h rooms disks outs errs words old new out out' err err' status
+  abbrev OutOfMemory : Type 0
+  OutOfMemory = RanOutOfMemory h rooms disks outs errs words old new out out' err err' status
 
   abbrev how : Answered h rooms disks outs errs words old new out out' err err' status
-      ⊎ (Failed ⊎ Starved)
+      ⊎ (Failed ⊎ OutOfMemory)
   how = ended h rooms disks outs errs words old new out out' err err' status run
 
   abbrev went : Type 0
@@ -155,9 +157,10 @@ module _ {R S D O E : Type 0} (h : List ℕ → List ℕ) (rooms : Rooms R S D) 
   not_failed failed any = unheard status 5 (outs.taken out) (outs.taken out') failed.code
       (omega arith) (λ six. omega (arith, six)) failed.text any
 
-  not_starved : Starved → went → ⊥
-  not_starved starved any = unheard status 8 (outs.taken out) (outs.taken out') starved.code
-      (omega arith) (λ six. omega (arith, six)) starved.text any
+  not_out_of_memory : OutOfMemory → went → ⊥
+  not_out_of_memory out_of_memory any =
+      unheard status 8 (outs.taken out) (outs.taken out') out_of_memory.code
+      (omega arith) (λ six. omega (arith, six)) out_of_memory.text any
 
   -- one that answered didn't break off
   whole_of : Answered h rooms disks outs errs words old new out out' err err' status
@@ -177,7 +180,7 @@ module _ {R S D O E : Type 0} (h : List ℕ → List ℕ) (rooms : Rooms R S D) 
       ]
       | inr other ↦ elim other [
         | inl failed ↦ omega (arith, failed.code)
-        | inr starved ↦ omega (arith, starved.code)
+        | inr out_of_memory ↦ omega (arith, out_of_memory.code)
       ]
     ];
     only = only_words h rooms disks outs errs words old new out out' err err' status run;
@@ -192,7 +195,7 @@ module _ {R S D O E : Type 0} (h : List ℕ → List ℕ) (rooms : Rooms R S D) 
       )
       | inr other ↦ elim other [
         | inl failed ↦ absurd (room failed.cause)
-        | inr starved ↦ absurd (memory starved.code)
+        | inr out_of_memory ↦ absurd (memory out_of_memory.code)
       ]
     ];
     silent = λ not0 not3 not6 not10. elim how [
@@ -201,21 +204,21 @@ module _ {R S D O E : Type 0} (h : List ℕ → List ℕ) (rooms : Rooms R S D) 
           silent_reply (Prints outs out out') a.reply status wrote.code not0 not3 not10 wrote.text)
       | inr other ↦ elim other [
         | inl failed ↦ failed.text
-        | inr starved ↦ starved.text
+        | inr out_of_memory ↦ out_of_memory.text
       ]
     ];
     heard = λ any. elim how [
       | inl a ↦ a
       | inr other ↦ elim other [
         | inl failed ↦ absurd (not_failed failed any)
-        | inr starved ↦ absurd (not_starved starved any)
+        | inr out_of_memory ↦ absurd (not_out_of_memory out_of_memory any)
       ]
     ];
     whole = λ any. elim how [
       | inl a ↦ whole_of a
       | inr other ↦ elim other [
         | inl failed ↦ absurd (not_failed failed any)
-        | inr starved ↦ absurd (not_starved starved any)
+        | inr out_of_memory ↦ absurd (not_out_of_memory out_of_memory any)
       ]
     ];
   }
@@ -266,14 +269,14 @@ prefixes_are_runs {R} {S} {D} {O} {E} h rooms disks outs errs words old new out 
 -- ---- a run is steps
 
 module _ {R S D O E : Type 0} (h : HashFunction) (rooms : Rooms R S D) (disks : Disks D)
-    (outs : Sinks O) (errs : Sinks E) (image : ReadsImage disks) (only : OnlyNow disks)
+    (outs : Sinks O) (errs : Sinks E) (crash_state : ReadsCrashState disks) (only : OnlyNow disks)
     (contents : (room : R) (name : List ℕ) → rooms.is_modelled room
     → ModelsFile disks.contents (rooms.file room name) (rooms.device room name))
     (bytes : (d : D) (b : List ℕ) → disks.contents d ≡ Some b → IsBytes b) where
   all_go_on : (event : Event) (before now : CrashStates) → Leads (AreRecords h) event before now
       → AllGoOn h event before now
   all_go_on event before now leads starts place start first steps out there begins history =
-      step (AreRecords h) (GoesOn h starts place first steps)
+      step (AreRecords h) (Continues h starts place first steps)
       (takes h starts place start there first begins steps) out before now event history leads
 
   module _ (old : R) (turn : Turn R O E) (is_modelled : rooms.is_modelled old)
@@ -297,7 +300,8 @@ module _ {R S D O E : Type 0} (h : HashFunction) (rooms : Rooms R S D) (disks : 
         → clock_of disks (rooms.device old name) ≤ clock_of disks (rooms.device turn.room name)
     later beside = elim (find_name asked.journals (asked.outcome (rooms.file old)).journals name) [
       | inl none ↦ subst (λ (x : Option D). clock_of disks (rooms.device old name)
-          ≤ clock_of disks x) (sym (still h rooms disks outs errs image only contents bytes name old
+          ≤ clock_of disks x)
+          (sym (still h rooms disks outs errs crash_state only contents bytes name old
           turn is_modelled run (AreRecords h) (spoken_records h (command_of turn.words)) beside
           none.0)) (omega arith)
       | inr among ↦ elim (ended h rooms disks outs errs turn.words old turn.room turn.out
@@ -305,7 +309,7 @@ module _ {R S D O E : Type 0} (h : HashFunction) (rooms : Rooms R S D) (disks : 
             | inl a ↦ at HasMade (a.made is_modelled) among
             | inr other ↦ elim other [
               | inl failed ↦ at MayHaveMade (failed.made is_modelled) among
-              | inr starved ↦ at HasKept (starved.made is_modelled) among
+              | inr out_of_memory ↦ at HasKept (out_of_memory.made is_modelled) among
             ]
           ]
     ]
@@ -320,17 +324,18 @@ module _ {R S D O E : Type 0} (h : HashFunction) (rooms : Rooms R S D) (disks : 
         ⊎ IsOther asked.besides name → RunSteps h rooms disks outs errs old turn name
     run_steps named =
         let beside = not_beside named in
-        let left = leaves h rooms disks outs errs image only contents bytes name old turn
+        let left = leaves h rooms disks outs errs crash_state only contents bytes name old turn
         is_modelled run (AreRecords h) (spoken_records h (command_of turn.words)) beside in
         record {
           leaves = left;
-          goes_on = all_go_on ((owner h rooms disks outs errs name).run_event old turn)
-              (images_in h rooms disks outs errs old name)
-              (images_in h rooms disks outs errs turn.room name) left.leads;
+          continues = all_go_on ((owner h rooms disks outs errs name).run_event old turn)
+              (crash_states_in h rooms disks outs errs old name)
+              (crash_states_in h rooms disks outs errs turn.room name) left.leads;
           stops = λ c at. all_go_on
               (broke (did_to (program h rooms disks outs errs) name old turn))
-              (images_in h rooms disks outs errs old name) (λ d. d ≡ c) (left.moments c at);
-          as_read = λ c there. contents_image disks (rooms.device turn.room name) c image
+              (crash_states_in h rooms disks outs errs old name) (λ d. d ≡ c) (left.times c at);
+          as_read =
+              λ c there. contents_crash_state disks (rooms.device turn.room name) c crash_state
               (modelled_file disks (rooms.file turn.room name) (rooms.device turn.room name)
               (contents turn.room name (run.back.is_modelled is_modelled)) ∙ there);
           later = later beside;

@@ -152,13 +152,13 @@ module _ {R S D O E : Type 0} (h : List ℕ → List ℕ) (rooms : Rooms R S D) 
     pub made : rooms.is_modelled old → LeavesEach rooms disks old new js MayHaveMade
 
   -- memory was refused
-  pub record HasStarved (status : ℕ) : Type 0 where
+  pub record RanOutOfMemory (status : ℕ) : Type 0 where
     pub code : status ≡ 8
     pub text : Prints outs out out' []
     pub made : rooms.is_modelled old → LeavesEach rooms disks old new js HasKept
 
   ended_by : (ending : Ending) (status : ℕ) → Ends ending → Out ending status → Left ending
-      → New ending → Answers status ⊎ (HasFailed status ⊎ HasStarved status)
+      → New ending → Answers status ⊎ (HasFailed status ⊎ RanOutOfMemory status)
   ended_by (replied reply) status ends gone left began = inl (record {
     reply = reply;
     is = λ where_. elim where_ [
@@ -218,7 +218,7 @@ module _ {R S D O E : Type 0} (h : List ℕ → List ℕ) (rooms : Rooms R S D) 
       (λ name did is. inr (inr (inr (inr (inl gone.is))))) js
 
   module _ (status : ℕ) (run : Run status) where
-    pub ended : Answers status ⊎ (HasFailed status ⊎ HasStarved status)
+    pub ended : Answers status ⊎ (HasFailed status ⊎ RanOutOfMemory status)
     ended = ended_by run.ending status run.ends run.concludes run.made run.began
 
     pub only_words : status ≡ 1 → Bad
@@ -236,7 +236,7 @@ module _ {R S D O E : Type 0} (h : List ℕ → List ℕ) (rooms : Rooms R S D) 
       | inl a ↦ a
       | inr other ↦ elim other [
         | inl failed ↦ absurd (not5 failed.code)
-        | inr starved ↦ absurd (not8 starved.code)
+        | inr out_of_memory ↦ absurd (not8 out_of_memory.code)
       ]
     ]
 

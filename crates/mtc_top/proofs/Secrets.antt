@@ -1,7 +1,7 @@
 -- What goes out of a command that is given a secret.
 use Rattle.std.proofs.Common.{◌≡◌, inl, ℕ, Bool, true, false, List, [], ◌∷◌, None, Some}
 use Rattle.std.proofs.Common.{Result, Ok, Err, refl, sym, subst, true≢false}
-use Rattle.byte_formats.specs.Places.{IsBytes}
+use Rattle.byte_formats.specs.Offsets.{IsBytes}
 use Rattle.byte_formats.specs.Types.{HashFunction}
 use Rattle.disk_core.specs.declared.disk.Disk.{Ghosts as Disks}
 use Rattle.journal_core.proofs.Standing.{found_stands}
@@ -17,7 +17,7 @@ use Rattle.mtc_command.specs.Answers.{Reply}
 use Rattle.mtc_command.specs.Made.{reads}
 use Rattle.mtc_command.specs.Wanted.{Meets}
 use Rattle.mtc_command.specs.declared.answer.Stopped.TheVariants.{BadWords}
-use Rattle.mtc_command.proofs.Made.{OnlyNow, ReadsImage}
+use Rattle.mtc_command.proofs.Made.{OnlyNow, ReadsCrashState}
 use Rattle.mtc_cosigner.specs.CosignerOutcomes.{advanced_text}
 use Rattle.mtc_cosigner.specs.KeygenOutcome.{lms_type, ots_type, public_line}
 use Rattle.mtc_authority.specs.Works.{IsLog}
@@ -25,7 +25,7 @@ use Rattle.command_plans.specs.Plans.{Journal, makes, opens}
 use Rattle.command_plans.specs.Rules.{AreOfFirst}
 use Rattle.mtc_plans.specs.Commands.{plan_of, planned_outcome}
 use Rattle.mtc_plans.specs.Heard.{AdvancesSo, BeginsSo, ExportsSo, KeysSo, OfSaid}
-use Rattle.mtc_plans.specs.NodeKinds.{cosigner, log, node_kinds}
+use Rattle.mtc_plans.specs.PartyKinds.{cosigner, log, party_kinds}
 use Rattle.mtc_plans.proofs.Heard.{advanced_so, begun_so, exported_so, keyed_so}
 use Rattle.mtc_top.specs.Courses.{Turn, HasHeld, HasTurned, IsHeard}
 use Rattle.mtc_top.specs.Facts.{facts}
@@ -35,15 +35,15 @@ use Rattle.mtc_top.proofs.Printed.{did_so, heard_so, signatures_printed}
 use Rattle.mtc_top.proofs.Turns.{file_bytes, heard_run, held_rules, not_refused, printed_so}
 
 -- each of these journals is a log's
-abbrev are_logs : (h : HashFunction) → List (Journal (node_kinds h)) → Bool
+abbrev are_logs : (h : HashFunction) → List (Journal (party_kinds h)) → Bool
 are_logs h [] = true
 are_logs h (opens log beside name ∷ rest) = are_logs h rest
 are_logs h (opens cosigner beside name ∷ rest) = false
 are_logs h (makes log name ∷ rest) = are_logs h rest
 are_logs h (makes cosigner name ∷ rest) = false
 
-first_log : (h : HashFunction) (journals : List (Journal (node_kinds h))) (list : List (List ℕ))
-    → are_logs h journals ≡ true → AreOfFirst (node_kinds h) journals list → IsLog h list
+first_log : (h : HashFunction) (journals : List (Journal (party_kinds h))) (list : List (List ℕ))
+    → are_logs h journals ≡ true → AreOfFirst (party_kinds h) journals list → IsLog h list
 first_log h [] list logs is = absurd is
 first_log h (opens log beside name ∷ rest) list logs is = is
 first_log h (opens cosigner beside name ∷ rest) list logs is = absurd (true≢false (sym logs))
@@ -51,7 +51,7 @@ first_log h (makes log name ∷ rest) list logs is = is
 first_log h (makes cosigner name ∷ rest) list logs is = absurd (true≢false (sym logs))
 
 module _ {R S D O E : Type 0} (h : HashFunction) (rooms : Rooms R S D) (disks : Disks D)
-    (outs : Sinks O) (errs : Sinks E) (image : ReadsImage disks) (only : OnlyNow disks)
+    (outs : Sinks O) (errs : Sinks E) (crash_state : ReadsCrashState disks) (only : OnlyNow disks)
     (contents : (room : R) (name : List ℕ) → rooms.is_modelled room
     → ModelsFile disks.contents (rooms.file room name) (rooms.device room name))
     (bytes : (d : D) (b : List ℕ) → disks.contents d ≡ Some b → IsBytes b) where
@@ -126,7 +126,8 @@ module _ {R S D O E : Type 0} (h : HashFunction) (rooms : Rooms R S D) (disks : 
     logs command spoken are name list held =
         first_log h (plan_of h command).journals list are
         (subst (λ (r : Result CommandValue WordError). (facts h r).Valid list) spoken
-        (held_rules h rooms disks outs errs image only contents bytes name old turn list is_modelled
+        (held_rules h rooms disks outs errs crash_state only contents bytes name old turn list
+        is_modelled
         run
         held))
 

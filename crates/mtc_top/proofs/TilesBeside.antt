@@ -7,13 +7,13 @@ use Rattle.std.proofs.lemmas.Slice.Eq.{bytes_eq-Decides}
 use Rattle.std.specs.Option.{option_to_list}
 use Rattle.std.specs.Prelude.{IfSome}
 use Rattle.std.specs.Str.{bytes_eq}
-use Rattle.byte_formats.specs.Places.{IsBytes}
+use Rattle.byte_formats.specs.Offsets.{IsBytes}
 use Rattle.byte_formats.specs.Types.{HashFunction, Text}
 use Rattle.cosigner_core.specs.Folds.{cosigner_of}
-use Rattle.cosigner_core.proofs.Behind.{only_begins as cosigner_begins}
+use Rattle.cosigner_core.proofs.After.{only_begins as cosigner_begins}
 use Rattle.issuance_log.specs.Folds.{LogState, log_of}
 use Rattle.issuance_log.specs.Records.{settings_in}
-use Rattle.issuance_log.proofs.Behind.{only_begins}
+use Rattle.issuance_log.proofs.After.{only_begins}
 use Rattle.mtc_words.specs.Commands.{CommandValue, journal_of}
 use Rattle.mtc_words.specs.Words.{command_of}
 use Rattle.mtc_words.specs.declared.error.WordError.{WordError}
@@ -28,9 +28,9 @@ use Rattle.command_plans.specs.Names.{beside_names, journal_names}
 use Rattle.command_plans.specs.Plans.{Journal, makes, opens}
 use Rattle.command_plans.proofs.Facts.{found_valid}
 use Rattle.mtc_plans.specs.Commands.{plan_of}
-use Rattle.mtc_plans.specs.NodeKinds.{cosigner, log, node_kinds}
+use Rattle.mtc_plans.specs.PartyKinds.{cosigner, log, party_kinds}
 use Rattle.mtc_plans.proofs.Names.{journals_named}
-use Rattle.node_history.proofs.Agreement.{apart, cons_is, made_so}
+use Rattle.party_history.proofs.Agreement.{apart, cons_is, made_so}
 use Rattle.mtc_top.specs.Courses.{AreAmong}
 use Rattle.mtc_top.specs.Facts.{facts}
 use Rattle.mtc_top.proofs.Beside.{IsOwn}
@@ -65,7 +65,7 @@ tiles_same : (one other : Text) → tiles_name one ≡ tiles_name other → one 
 tiles_same one other same = append_cancel_right one other (codes ".tiles") same
 
 -- the file beside another journal is another file
-beside_other : (h : HashFunction) (journals : List (Journal (node_kinds h))) (name : Text)
+beside_other : (h : HashFunction) (journals : List (Journal (party_kinds h))) (name : Text)
     → IsOther (journal_names journals) name → IsOther (beside_names journals) (tiles_name name)
 beside_other h [] name other = tt
 beside_other h (opens log beside journal ∷ rest) name other =
@@ -113,8 +113,8 @@ further first name names P is = elim is [ inl there ↦ inl (inr there) | inr ho
 
 module _ (h : HashFunction) (files : Files) (name : Text) (list : List Text) (body : Text) where
   -- it is added to a log, with the file of its tiles beside it, or to a cosigner
-  log_or_cosigner : (journals : List (Journal (node_kinds h))) (dids : List Journaled)
-      → AreSoundly (node_kinds h) files journals dids
+  log_or_cosigner : (journals : List (Journal (party_kinds h))) (dids : List Journaled)
+      → AreSoundly (party_kinds h) files journals dids
       → AreAmong (done_with (journal_names journals) dids) name (appended list body)
       → IsNamed (beside_names journals) (tiles_name name) ⊎ IsOk (cosigner_of h list)
   log_or_cosigner [] dids sound among = absurd among
@@ -127,13 +127,13 @@ module _ (h : HashFunction) (files : Files) (name : Text) (list : List Text) (bo
   ]
   log_or_cosigner (opens cosigner beside journal ∷ rest) (did ∷ dids) sound among = elim among [
     | inl here ↦
-        (let has = subst (IsSoundly (node_kinds h) files (opens cosigner beside journal)) here.1
+        (let has = subst (IsSoundly (party_kinds h) files (opens cosigner beside journal)) here.1
         sound.0 in
         inr (subst IsOk (sym has.is) refl))
     | inr there ↦ log_or_cosigner rest dids sound.1 there
   ]
   log_or_cosigner (makes kind journal ∷ rest) (did ∷ dids) sound among = elim among [
-    | inl here ↦ absurd (subst (IsSoundly (node_kinds h) files (makes kind journal)) here.1
+    | inl here ↦ absurd (subst (IsSoundly (party_kinds h) files (makes kind journal)) here.1
         sound.0)
     | inr there ↦ log_or_cosigner rest dids sound.1 there
   ]
@@ -146,7 +146,7 @@ module _ (h : HashFunction) (files : Files) (name : Text) (list : List Text) (bo
   added_to are (Err why) among = absurd among
   added_to are (Ok command) among =
       let journals = (plan_of h command).journals in
-      elim (found_valid (node_kinds h) (plan_of h command) files are) [
+      elim (found_valid (party_kinds h) (plan_of h command) files are) [
         | inl none ↦ absurd (none_added (journal_names journals) name list body
             (subst (λ (dids : List Journaled).
             AreAmong (done_with (journal_names journals) dids) name (appended list body)) none

@@ -3,7 +3,7 @@ use Rattle.std.proofs.Common.{◌≡◌, inl, inr, ℕ, List, [], ◌∷◌, ◌
 use Rattle.std.proofs.Common.{arith, rules, drop, sym, subst, ap, ◌∙◌}
 use Rattle.std.specs.Prelude.{map}
 use Rattle.std.proofs.lemmas.List.{length-drop, length-take}
-use Rattle.byte_formats.specs.Places.{IsBytes}
+use Rattle.byte_formats.specs.Offsets.{IsBytes}
 use Rattle.byte_formats.specs.Types.{Hash, HashFunction, Text}
 use Rattle.byte_formats.proofs.Steps.{ok_is}
 use Rattle.disk_core.specs.Disk.{part}
@@ -26,20 +26,20 @@ use Rattle.tile_store.specs.Causes.{StandsIn}
 use Rattle.tile_store.specs.Contents.{HoldsTiles, IsTile}
 use Rattle.tile_store.specs.Layout.{IsFull, tile_at}
 use Rattle.tree_core.specs.Tree.{leaf_hash}
-use Rattle.issuance_log.specs.Folds.{LogState, log_behind, log_fold, new_log}
+use Rattle.issuance_log.specs.Folds.{LogState, log_after, log_fold, new_log}
 use Rattle.issuance_log.specs.Openings.{HasItsTiles}
 use Rattle.issuance_log.specs.Settings.{Settings}
-use Rattle.issuance_log.proofs.Behind.{only_begins}
+use Rattle.issuance_log.proofs.After.{only_begins}
 use Rattle.mtc_command.specs.Answers.{tiles_name}
 use Rattle.mtc_command.specs.Steps.{held_in}
-use Rattle.mtc_command.proofs.Made.{OnlyNow, ReadsImage}
+use Rattle.mtc_command.proofs.Made.{OnlyNow, ReadsCrashState}
 use Rattle.mtc_authority.specs.StoredTiles.{HasTilesOf}
 use Rattle.mtc_authority.proofs.BadTiles.{none_bad, none_full}
 use Rattle.mtc_authority.proofs.Both.{CountsNow}
-use Rattle.node_history.specs.Rules.{AreRecords}
-use Rattle.mtc_top.specs.Courses.{IsBegun, IsCourse, Link, images_in, owner, program}
+use Rattle.party_history.specs.Rules.{AreRecords}
+use Rattle.mtc_top.specs.Courses.{IsBegun, IsCourse, Link, crash_states_in, owner, program}
 use Rattle.mtc_top.specs.TileLaws.{NoTileIsBad, TilesSurviveStops, tiled_log}
-use Rattle.mtc_top.proofs.Leaves.{contents_image, first_own, modelled_file, serves}
+use Rattle.mtc_top.proofs.Leaves.{contents_crash_state, first_own, modelled_file, serves}
 use Rattle.mtc_top.proofs.LogLeaves.{serves_log}
 use Rattle.mtc_top.proofs.Misread.{misread_inputs}
 use Rattle.mtc_top.proofs.Recovered.{modelled_then}
@@ -49,16 +49,16 @@ use Rattle.mtc_top.proofs.Recovered.{modelled_then}
 no_rest : (x y : Text) (ys : List Text) → x ∷ [] ≡ y ∷ ys → [] ≡ ys
 no_rest x y ys is = cc
 
-behind_none : (h : HashFunction) (s : Settings) (t : LogState) (bodies : List Text)
-    → [] ≡ bodies → log_behind h s bodies ≡ Ok t → new_log s ≡ t
+after_none : (h : HashFunction) (s : Settings) (t : LogState) (bodies : List Text)
+    → [] ≡ bodies → log_after h s bodies ≡ Ok t → new_log s ≡ t
 unfolding taken_from
-behind_none h s t bodies none is =
-    ok_is ℕ (new_log s) t (subst (λ (l : List Text). log_behind h s l ≡ Ok t) (sym none) is)
+after_none h s t bodies none is =
+    ok_is ℕ (new_log s) t (subst (λ (l : List Text). log_after h s l ≡ Ok t) (sym none) is)
 
 first_goes : (h : HashFunction) (first t : Text) → HasTilesOf h (first ∷ []) t
 first_goes h first t s made =
     let begins = only_begins h (first ∷ []) s made in
-    let same = behind_none h s.settings s begins.1.0
+    let same = after_none h s.settings s begins.1.0
     (no_rest first begins.0 begins.1.0 begins.1.1.0) begins.1.1.2 in
     let none : 0 ≡ s.tiled = ap (λ (u : LogState). u.tiled) same in
     λ level place full. absurd (none_full level place
@@ -108,51 +108,54 @@ has_its h s t holds = λ level place new.
     tile_there h (map (leaf_hash h) s.entries) t level place (holds level place new.full)
 
 -- the bytes of a file, or none, are one of its crash states
-held_image : {D : Type 0} (g : Disks D) (file : Option Text) (x : Option D) → ReadsImage g
+held_crash_state : {D : Type 0} (g : Disks D) (file : Option Text) (x : Option D)
+    → ReadsCrashState g
     → ModelsFile g.contents file x → states_at g x (held_in file)
-held_image g file None image models = ap held_in models
-held_image g None (Some d) image models = absurd (grind (rules, models))
-held_image g (Some b) (Some d) image models = image d b models.0
+held_crash_state g file None crash_state models = ap held_in models
+held_crash_state g None (Some d) crash_state models = absurd (grind (rules, models))
+held_crash_state g (Some b) (Some d) crash_state models = crash_state d b models.0
 
 no_none : (x : ℕ × ℕ) → None ≡ Some x → ⊥
 no_none x is = absurd cc
 
 module _ {R S D O E : Type 0} (h : HashFunction) (rooms : Rooms R S D) (disks : Disks D)
-    (outs : Sinks O) (errs : Sinks E) (image : ReadsImage disks) (only : OnlyNow disks)
+    (outs : Sinks O) (errs : Sinks E) (crash_state : ReadsCrashState disks) (only : OnlyNow disks)
     (contents : (room : R) (name : List ℕ) → rooms.is_modelled room
     → ModelsFile disks.contents (rooms.file room name) (rooms.device room name))
     (bytes : (d : D) (b : List ℕ) → disks.contents d ≡ Some b → IsBytes b)
     (counts : CountsNow disks)
     (left : (d : D) (t : ℕ) (c : List ℕ) → disks.left_since d t c → IsBytes c) where
   -- what a crash leaves are bytes
-  left_image : (x : Option D) (c : Text) → states_at disks x c → IsBytes c
-  left_image None c is = subst IsBytes (sym is) (λ i. omega arith)
-  left_image (Some d) c at =
-      left d (disks.moment d) c (counts d (disks.moment d) c (omega arith) at)
+  left_crash_state : (x : Option D) (c : Text) → states_at disks x c → IsBytes c
+  left_crash_state None c is = subst IsBytes (sym is) (λ i. omega arith)
+  left_crash_state (Some d) c at =
+      left d (disks.unix_time d) c (counts d (disks.unix_time d) c (omega arith) at)
 
   pub tiles_stay : TilesSurviveStops h rooms disks outs errs
   tiles_stay name first old new [] is_modelled holds course c t log at there read = absurd holds
   tiles_stay name first old new (turned turn ∷ links) is_modelled holds course c t log at there
       read =
       let p = program h rooms disks outs errs in
-      let own = first_own h rooms disks outs errs image only contents bytes name (first ∷ []) old
+      let own = first_own h rooms disks outs errs crash_state only contents bytes name (first ∷ [])
+      old
       (turned turn ∷ links) holds in
-      let leads = ((serves h rooms disks outs errs image only contents bytes name own).leaves old
+      let leads =
+      ((serves h rooms disks outs errs crash_state only contents bytes name own).leaves old
       turn is_modelled course.0).leads in
       let event = (owner h rooms disks outs errs name).run_event old turn in
-      let before = images_in h rooms disks outs errs old name in
-      let now = images_in h rooms disks outs errs turn.room name in
-      let tiles = images_in h rooms disks outs errs turn.room (tiles_name name) in
+      let before = crash_states_in h rooms disks outs errs old name in
+      let now = crash_states_in h rooms disks outs errs turn.room name in
+      let tiles = crash_states_in h rooms disks outs errs turn.room (tiles_name name) in
       let durable = held_durable (AreRecords h) (first ∷ []) event before now holds leads in
       let go = first_go h first now tiles
       (event_holds (AreRecords h) (first ∷ []) event before now holds leads.happens) in
       let stay = tiles_survive p (HasTilesOf h) (λ list body. ⊥) (AreRecords h) name
       (tiles_name name) (λ o r. stored)
-      (serves_log h rooms disks outs errs image only contents bytes name own)
+      (serves_log h rooms disks outs errs crash_state only contents bytes name own)
       (λ list body b plain. absurd plain) (first ∷ []) turn.room new links
       (course.0.back.is_modelled is_modelled) course.1 durable go in
       let stands = found_stands (log_fold h) c log
-      (left_image (rooms.device new name) c at) read in
+      (left_crash_state (rooms.device new name) c at) read in
       none_bad h log.state t (has_its h log.state t
       (stay c log.records at stands.0 t there log.state stands.1))
   tiles_stay name first old new (other ∷ links) is_modelled holds course c t log at there read =
@@ -189,19 +192,22 @@ module _ {R S D O E : Type 0} (h : HashFunction) (rooms : Rooms R S D) (disks : 
       let begun : IsBegun h rooms disks outs errs name start first old links
       = record { is_modelled = is_modelled; others = []; held = holds; starts = starts } in
       let journal = journal_course name links old new course in
-      let is = misread_inputs h rooms disks outs errs image only contents bytes name start first old
+      let is = misread_inputs h rooms disks outs errs crash_state only contents bytes name start
+      first old
       new links begun journal command turn on run spoken two in
-      let modelled = modelled_then h rooms disks outs errs image only contents bytes name start
+      let modelled =
+      modelled_then h rooms disks outs errs crash_state only contents bytes name start
       first old new links begun journal in
       elim is.input [
         | inl named ↦ (is, named)
         | inr lacks ↦ absurd (no_none lacks.missing (sym (tiles_stay name first old new links
             is_modelled holds course lacks.bytes (held_in (rooms.file new (tiles_name name)))
             lacks.found
-            (contents_image disks (rooms.device new name) lacks.bytes image
+            (contents_crash_state disks (rooms.device new name) lacks.bytes crash_state
             (modelled_file disks (rooms.file new name) (rooms.device new name)
             (contents new name modelled) ∙ lacks.there))
-            (held_image disks (rooms.file new (tiles_name name))
-            (rooms.device new (tiles_name name)) image (contents new (tiles_name name) modelled))
+            (held_crash_state disks (rooms.file new (tiles_name name))
+            (rooms.device new (tiles_name name)) crash_state
+            (contents new (tiles_name name) modelled))
             lacks.log_is) ∙ lacks.lacks))
       ]

@@ -4,7 +4,7 @@ use Rattle.std.proofs.Common.{Ok, refl, sym, subst, ap, ◌∙◌, option_map, o
 use Rattle.std.specs.Prelude.{slice_set}
 use Rattle.std.proofs.lemmas.Option.{same_Some}
 use Rattle.byte_formats.specs.Readings.{◌>>=◌, some_or}
-use Rattle.byte_formats.specs.Places.{IsBytes}
+use Rattle.byte_formats.specs.Offsets.{IsBytes}
 use Rattle.byte_formats.specs.Types.{HashFunction}
 use Rattle.byte_formats.proofs.Steps.{ok_is}
 use Rattle.byte_formats.proofs.Values.{map_some}
@@ -12,22 +12,23 @@ use Rattle.disk_core.specs.declared.disk.Disk.{Ghosts as Disks}
 use Rattle.mtc_io.specs.declared.sink.Sink.{Ghosts as Sinks}
 use Rattle.mtc_room.specs.Room.{ModelsFile}
 use Rattle.mtc_room.specs.declared.room.Room.{Ghosts as Rooms}
-use Rattle.mtc_command.proofs.Made.{OnlyNow, ReadsImage}
-use Rattle.node_history.specs.Histories.{Valid, moved, states_after, states_from}
-use Rattle.node_history.specs.Nodes.{HistoryState, fresh_party, party_of_step}
-use Rattle.node_history.specs.Rules.{may_follow}
-use Rattle.node_history.specs.declared.step.NodeStep.{NodeStep}
-use Rattle.node_history.specs.declared.step.NodeStep.TheVariants.{Begin, Settle, Hand, Stop}
-use Rattle.node_history.proofs.Chains.{first_step, no_some}
+use Rattle.mtc_command.proofs.Made.{OnlyNow, ReadsCrashState}
+use Rattle.party_history.specs.Histories.{Valid, moved, states_after, states_from}
+use Rattle.party_history.specs.Parties.{HistoryState, fresh_party, party_of_step}
+use Rattle.party_history.specs.Rules.{may_follow}
+use Rattle.party_history.specs.declared.step.PartyStep.{PartyStep}
+use Rattle.party_history.specs.declared.step.PartyStep.TheVariants.{Begin, MakeDurable, Release}
+use Rattle.party_history.specs.declared.step.PartyStep.TheVariants.{Stop}
+use Rattle.party_history.proofs.Chains.{first_step, no_some}
 use Rattle.mtc_top.specs.RoomLaws.{AreOneHistory, IsJournalOf, JournalsAreOneHistory}
 use Rattle.mtc_top.proofs.Recovered.{reached}
 
 -- the same step of the next party
-abbrev later : NodeStep → NodeStep
-later (Begin node body) = Begin (suc node) body
-later (Settle node) = Settle (suc node)
-later (Hand node) = Hand (suc node)
-later (Stop node kept) = Stop (suc node) kept
+abbrev later : PartyStep → PartyStep
+later (Begin party body) = Begin (suc party) body
+later (MakeDurable party) = MakeDurable (suc party)
+later (Release party) = Release (suc party)
+later (Stop party kept) = Stop (suc party) kept
 
 -- a party of the list is moved on
 abbrev moved_in : (HistoryState → Option HistoryState) → List HistoryState → ℕ
@@ -62,17 +63,18 @@ module _ (x : HistoryState) (xs : List HistoryState) where
   only_moved f (suc n) next is = no_some next is
 
 module _ (valid : Valid) where
-  later_after : (x : HistoryState) (xs : List HistoryState) (step : NodeStep)
+  later_after : (x : HistoryState) (xs : List HistoryState) (step : PartyStep)
       → states_after valid (x ∷ xs) (later step)
       ≡ option_map (λ l. x ∷ l) (states_after valid xs step)
-  later_after x xs (Begin node body) =
-      next_moved x xs (λ s. moved valid s (Begin node body)) node
-  later_after x xs (Settle node) = next_moved x xs (λ s. moved valid s (Settle node)) node
-  later_after x xs (Hand node) = next_moved x xs (λ s. moved valid s (Hand node)) node
-  later_after x xs (Stop node kept) = next_moved x xs (λ s. moved valid s (Stop node kept)) node
+  later_after x xs (Begin party body) =
+      next_moved x xs (λ s. moved valid s (Begin party body)) party
+  later_after x xs (MakeDurable party) =
+      next_moved x xs (λ s. moved valid s (MakeDurable party)) party
+  later_after x xs (Release party) = next_moved x xs (λ s. moved valid s (Release party)) party
+  later_after x xs (Stop party kept) = next_moved x xs (λ s. moved valid s (Stop party kept)) party
 
   -- the first step leads to these states, and then come the others
-  goes_first : (k : ℕ) (states : List HistoryState) (step : NodeStep) (steps : List NodeStep)
+  goes_first : (k : ℕ) (states : List HistoryState) (step : PartyStep) (steps : List PartyStep)
       (next ends : List HistoryState) → states_after valid states step ≡ Some next
       → states_from valid (k + 1) next steps ≡ Ok ends
       → states_from valid k states (step ∷ steps) ≡ Ok ends
@@ -92,7 +94,7 @@ module _ (valid : Valid) where
   none_is k states ends is = ok_is ℕ states ends is
 
   -- the number of the first step doesn't matter
-  any_number : (k j : ℕ) (states ends : List HistoryState) (steps : List NodeStep)
+  any_number : (k j : ℕ) (states ends : List HistoryState) (steps : List PartyStep)
       → states_from valid k states steps ≡ Ok ends → states_from valid j states steps ≡ Ok ends
   any_number k j states ends [] is =
       ap (λ (l : List HistoryState). states_from valid j l []) (none_is k states ends is)
@@ -103,20 +105,20 @@ module _ (valid : Valid) where
       (any_number (k + 1) (j + 1) first.0 ends steps first.2)
 
   -- steps after steps
-  goes_behind : (k : ℕ) (states mid ends : List HistoryState) (earlier more : List NodeStep)
+  goes_after : (k : ℕ) (states mid ends : List HistoryState) (earlier more : List PartyStep)
       → states_from valid k states earlier ≡ Ok mid → states_from valid 0 mid more ≡ Ok ends
       → states_from valid k states (earlier ++ more) ≡ Ok ends
-  goes_behind k states mid ends [] more is rest =
+  goes_after k states mid ends [] more is rest =
       ap (λ (l : List HistoryState). states_from valid k l more) (none_is k states mid is)
       ∙ any_number 0 k mid ends more rest
-  goes_behind k states mid ends (step ∷ earlier) more is rest =
+  goes_after k states mid ends (step ∷ earlier) more is rest =
       let first = first_step valid k states step earlier mid is in
       goes_first k states step (earlier ++ more) first.0 ends first.1
-      (goes_behind (k + 1) first.0 mid ends earlier more first.2 rest)
+      (goes_after (k + 1) first.0 mid ends earlier more first.2 rest)
 
   -- a history with a party before the others that takes no step
   with_first : (k : ℕ) (x : HistoryState) (states ends : List HistoryState)
-      (steps : List NodeStep) → states_from valid k states steps ≡ Ok ends
+      (steps : List PartyStep) → states_from valid k states steps ≡ Ok ends
       → states_from valid k (x ∷ states) (map later steps) ≡ Ok (x ∷ ends)
   with_first k x states ends [] is =
       none k (x ∷ states) ∙ ap (λ (l : List HistoryState). Ok (x ∷ l)) (none_is k states ends is)
@@ -129,7 +131,7 @@ module _ (valid : Valid) where
 
   -- a history of one party, with others after it that take no step
   with_others : (k : ℕ) (x : HistoryState) (others ends : List HistoryState)
-      (steps : List NodeStep) → states_from valid k (x ∷ []) steps ≡ Ok ends
+      (steps : List PartyStep) → states_from valid k (x ∷ []) steps ≡ Ok ends
       → (t : HistoryState) × (ends ≡ t ∷ [])
       × (states_from valid k (x ∷ others) steps ≡ Ok (t ∷ others))
   with_others k x others ends [] is =
@@ -148,7 +150,7 @@ module _ (valid : Valid) where
       )
 
 module _ {R S D O E : Type 0} (h : HashFunction) (rooms : Rooms R S D) (disks : Disks D)
-    (outs : Sinks O) (errs : Sinks E) (image : ReadsImage disks) (only : OnlyNow disks)
+    (outs : Sinks O) (errs : Sinks E) (crash_state : ReadsCrashState disks) (only : OnlyNow disks)
     (contents : (room : R) (name : List ℕ) → rooms.is_modelled room
     → ModelsFile disks.contents (rooms.file room name) (rooms.device room name))
     (bytes : (d : D) (b : List ℕ) → disks.contents d ≡ Some b → IsBytes b) where
@@ -162,7 +164,7 @@ module _ {R S D O E : Type 0} (h : HashFunction) (rooms : Rooms R S D) (disks : 
   one_history room (j ∷ js) =
       let rest = one_history room js in
       let own =
-      reached h rooms disks outs errs image only contents bytes j.name j.start j.first j.old
+      reached h rooms disks outs errs crash_state only contents bytes j.name j.start j.first j.old
       room j.links j.begun j.course in
       let others = map fresh_party (map (λ (i : Journal room). i.start) js) in
       let wide = with_others (may_follow h) 0 (fresh_party j.start) others own.leads.states
@@ -173,11 +175,11 @@ module _ {R S D O E : Type 0} (h : HashFunction) (rooms : Rooms R S D) (disks : 
       record {
         steps = own.steps ++ map later rest.steps;
         states = own.state ∷ rest.states;
-        allowed = goes_behind (may_follow h) 0 (fresh_party j.start ∷ others) (own.state ∷ others)
+        allowed = goes_after (may_follow h) 0 (fresh_party j.start ∷ others) (own.state ∷ others)
             (own.state ∷ rest.states) own.steps (map later rest.steps)
             (wide.2 ∙ ap (λ (s : HistoryState). Ok (s ∷ others)) state_is)
             (with_first (may_follow h) 0 own.state others rest.states rest.steps rest.allowed);
-        each = (record { stands = own.stands; handed = own.handed }, rest.each);
+        each = (record { stands = own.stands; released = own.released }, rest.each);
       }
 
   pub journals_together : JournalsAreOneHistory h rooms disks outs errs

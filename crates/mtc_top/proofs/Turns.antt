@@ -22,7 +22,7 @@ use Rattle.mtc_top.specs.Courses.{owner, program}
 use Rattle.mtc_top.specs.Run.{Answered}
 use Rattle.mtc_top.specs.RunLaws.{RunShows}
 use Rattle.mtc_top.proofs.Leaves.{did_so}
-pub use Rattle.mtc_top.proofs.Leaves.{contents_image, file_bytes, held_rules, modelled_file}
+pub use Rattle.mtc_top.proofs.Leaves.{contents_crash_state, file_bytes, held_rules, modelled_file}
 use Rattle.mtc_top.proofs.RunLaws.{heard_ways, prefix_none, run_shows}
 use Rattle.mtc_top.proofs.Runs.{lost_of, prefix_of, wrote_of}
 

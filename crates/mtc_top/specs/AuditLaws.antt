@@ -20,7 +20,7 @@ use Rattle.policy_core.specs.Files.{store_of}
 use Rattle.policy_core.specs.declared.answer.By.TheVariants.{Cosigners, Landmark}
 use Rattle.policy_core.specs.declared.cosigners.Known.{Known}
 use Rattle.policy_core.specs.declared.store.Store.{Store}
-use Rattle.node_history.specs.declared.start.NodeStart.TheVariants.{Cosigner}
+use Rattle.party_history.specs.declared.start.PartyStart.TheVariants.{Cosigner}
 use Rattle.world_core.specs.Audit.{AuditCase, HasInterval, HasOwn, firsts_of, foreign_of, has_own}
 use Rattle.world_core.specs.Audit.{seconds_of}
 use Rattle.mtc_command.specs.Steps.{Files}
@@ -36,7 +36,7 @@ pub record HoldsText (files : Files) (name : Text) (limit : ℕ) (text : Text) :
 
 -- The four files are read, each by its grammar, and the store accepts the certificate at that time:
 -- this is the case to be audited.
-pub record IsAuditOf (h : HashFunction) (files : Files) (cert store : Text) (moment : ℕ)
+pub record IsAuditOf (h : HashFunction) (files : Files) (cert store : Text) (unix_time : ℕ)
     (entries kept : Text) (x : AuditCase) : Type 0 where
   pub cert_text : Text
   pub has_cert : HoldsText files cert 16777216 cert_text
@@ -49,7 +49,7 @@ pub record IsAuditOf (h : HashFunction) (files : Files) (cert store : Text) (mom
   pub store_read : store_of store_text ≡ Ok x.store
   pub items_read : items_in h entries_text ≡ Ok x.items
   pub kept_read : export_in h kept_text ≡ Ok x.kept
-  pub judged : accepted_in h cert_text x.store (pos moment)
+  pub judged : accepted_in h cert_text x.store (pos unix_time)
       ≡ Ok (record { accepted = x.accepted; cert = x.cert; proof = x.proof })
 
 -- The store has a cosigner with this id and this public key, at an index of the set.
@@ -112,12 +112,12 @@ module _ {R S D O E : Type 0} (h : HashFunction) (rooms : Rooms R S D) (disks : 
   -- This holds of each run of `audit` that ends without a failure and without memory refused. A
   -- landmark backs the certificate, and the list has its hash in the accepted interval; or such a
   -- signature does, and the list begins with the entries of the last checkpoint of the export.
-  abbrev pub AuditsSettle : Type 0
-  AuditsSettle = (old : R) (turn : Turn R O E) (cert store : Text) (moment : ℕ)
+  abbrev pub AuditsDecide : Type 0
+  AuditsDecide = (old : R) (turn : Turn R O E) (cert store : Text) (unix_time : ℕ)
       (entries kept : Text) (x : AuditCase) → rooms.is_modelled old
       → HasTurned h rooms disks outs errs old turn
-      → command_of turn.words ≡ Ok (audit cert store moment entries kept)
-      → (is : IsAuditOf h (rooms.file old) cert store moment entries kept x)
+      → command_of turn.words ≡ Ok (audit cert store unix_time entries kept)
+      → (is : IsAuditOf h (rooms.file old) cert store unix_time entries kept x)
       → ((x.accepted.by ≡ Landmark) × HasInterval h x.items x.accepted)
       ⊎ (IsSignedInCourse x is.kept_text × ((export : Export)
       × ((x.kept ≡ Some export) × HasPrefix h x.items.entries (held_by h export.steps))))
@@ -135,11 +135,11 @@ module _ {R S D O E : Type 0} (h : HashFunction) (rooms : Rooms R S D) (disks : 
   -- This holds if a landmark or such a signature backs the certificate, and the list is the one
   -- that is wanted.
   abbrev pub AuditsStand : Type 0
-  AuditsStand = (old : R) (turn : Turn R O E) (cert store : Text) (moment : ℕ)
+  AuditsStand = (old : R) (turn : Turn R O E) (cert store : Text) (unix_time : ℕ)
       (entries kept : Text) (x : AuditCase) → rooms.is_modelled old
       → HasTurned h rooms disks outs errs old turn
-      → command_of turn.words ≡ Ok (audit cert store moment entries kept)
-      → (is : IsAuditOf h (rooms.file old) cert store moment entries kept x)
+      → command_of turn.words ≡ Ok (audit cert store unix_time entries kept)
+      → (is : IsAuditOf h (rooms.file old) cert store unix_time entries kept x)
       → foreign_of h x ≡ None
       → (x.accepted.by ≡ Landmark) ⊎ IsSignedInCourse x is.kept_text
       → turn.status ≢ 5 → turn.status ≢ 6 → turn.status ≢ 8 → StandsOrPair x turn

@@ -11,24 +11,25 @@ use Rattle.cosigner_core.specs.declared.settings.CosignerSettings.{CosignerSetti
 use Rattle.issuance_log.specs.Folds.{LogState, log_of}
 use Rattle.issuance_log.specs.Records.{item_in}
 use Rattle.issuance_log.specs.Settings.{Settings}
-use Rattle.node_history.specs.Laws.{HasItemAt, KeepsItems}
-use Rattle.node_history.specs.Rules.{IsReadAs, StartsWith, may_follow}
-use Rattle.node_history.specs.declared.start.NodeStart.{NodeStart}
-use Rattle.node_history.specs.declared.start.NodeStart.TheVariants.{Log, Cosigner}
+use Rattle.party_history.specs.Laws.{HasItemAt, KeepsItems}
+use Rattle.party_history.specs.Rules.{IsReadAs, StartsWith, may_follow}
+use Rattle.party_history.specs.declared.start.PartyStart.{PartyStart}
+use Rattle.party_history.specs.declared.start.PartyStart.TheVariants.{Log, Cosigner}
 use Rattle.file_events.specs.Events.{HasReleased}
 use Rattle.mtc_command.specs.Made.{appended}
 use Rattle.mtc_top.specs.Courses.{Link, IsBegun, IsCourse, IsReached, IsRecovered, HasHeld, WasHeld}
-use Rattle.mtc_top.specs.Courses.{DidWith, HasTurned, IsHeard, OfEachTurn, Turn, events, images_in}
+use Rattle.mtc_top.specs.Courses.{DidWith, HasTurned, IsHeard, OfEachTurn, Turn, events}
+use Rattle.mtc_top.specs.Courses.{crash_states_in}
 
 -- These records begin with the first one of the party's journal, and the others may follow it.
-pub record AreOfParty (h : HashFunction) (start : NodeStart) (first : Text)
+pub record AreOfParty (h : HashFunction) (start : PartyStart) (first : Text)
     (list : List Text) : Type 0 where
   pub others : List Text
   pub is : list ≡ first ∷ others
   pub valid : may_follow h start others ≡ true
 
 -- A file is read as the log or the cosigner that has these records, which are the party's.
-pub record IsReadAsParty (h : HashFunction) (start : NodeStart) (first c : Text) : Type 0 where
+pub record IsReadAsParty (h : HashFunction) (start : PartyStart) (first c : Text) : Type 0 where
   pub records : List Text
   pub of_party : AreOfParty h start first records
   pub read : IsReadAs h start c records
@@ -40,9 +41,9 @@ UsesKey list body number = indices_of (list ++ body ∷ []) ≡ indices_of list 
 module _ {R S D O E : Type 0} (h : HashFunction) (rooms : Rooms R S D) (disks : Disks D)
     (outs : Sinks O) (errs : Sinks E) where
   -- This holds of each execution that begins with a run that made or opened the journal.
-  abbrev pub OfCourses : (Text → NodeStart → Text → R → List (Link R O E) → R → Type 0)
+  abbrev pub OfCourses : (Text → PartyStart → Text → R → List (Link R O E) → R → Type 0)
       → Type 0
-  OfCourses P = (name : Text) (start : NodeStart) (first : Text) (old new : R)
+  OfCourses P = (name : Text) (start : PartyStart) (first : Text) (old new : R)
       (links : List (Link R O E)) → IsBegun h rooms disks outs errs name start first old links
       → IsCourse h rooms disks outs errs name old links new → P name start first old links new
 
@@ -55,7 +56,8 @@ module _ {R S D O E : Type 0} (h : HashFunction) (rooms : Rooms R S D) (disks : 
   -- as the model knows it, is read as the party.
   abbrev pub JournalsAreRead : Type 0
   JournalsAreRead = OfCourses (λ name start first old links new.
-      (c : Text) → images_in h rooms disks outs errs new name c ⊎ (rooms.file new name ≡ Some c)
+      (c : Text)
+      → crash_states_in h rooms disks outs errs new name c ⊎ (rooms.file new name ≡ Some c)
       → IsReadAsParty h start first c)
 
   -- The i-th Sign record of a cosigner, counted from 0, has the number i, so no number stands
@@ -80,7 +82,7 @@ module _ {R S D O E : Type 0} (h : HashFunction) (rooms : Rooms R S D) (disks : 
   abbrev pub RecoveredListsGrow : Type 0
   RecoveredListsGrow = OfCourses (λ name start first old links new. (list : List Text) (c : Text)
       → WasHeld h rooms disks outs errs name old links list
-      → images_in h rooms disks outs errs new name c
+      → crash_states_in h rooms disks outs errs new name c
       → (found : List Text) × (Represents c found × IsPrefix list found))
 
   -- This holds of each record that was released, with those before it: a run added it, and a byte
@@ -101,7 +103,7 @@ module _ {R S D O E : Type 0} (h : HashFunction) (rooms : Rooms R S D) (disks : 
   -- were there and that one.
   abbrev pub ReleasedStand : Type 0
   ReleasedStand = OfCourses (λ name start first old links new. (c : Text)
-      → images_in h rooms disks outs errs new name c → OfReleased name (λ list body.
+      → crash_states_in h rooms disks outs errs new name c → OfReleased name (λ list body.
       (found : List Text) × (Represents c found × IsPrefix (list ++ body ∷ []) found)) old links)
 
   -- Each entry that a log had where a run found or made its records has its index in each log that
@@ -130,5 +132,5 @@ module _ {R S D O E : Type 0} (h : HashFunction) (rooms : Rooms R S D) (disks : 
   JournalsAreOfParties = (name : Text) (old : R) (turn : Turn R O E) (list : List Text)
       → rooms.is_modelled old → HasTurned h rooms disks outs errs old turn
       → HasHeld h rooms disks outs errs name old turn list
-      → (start : NodeStart) × ((first : Text)
+      → (start : PartyStart) × ((first : Text)
       × (StartsWith start first × AreOfParty h start first list))

@@ -15,11 +15,11 @@ use Rattle.file_events.specs.Worlds.{is_heard, states_between, states_of}
 pub use Rattle.file_events.specs.Worlds.{Turn, Link}
 use Rattle.mtc_command.specs.Made.{Journaled}
 use Rattle.mtc_command.specs.Served.{Journals}
-use Rattle.node_history.specs.Laws.{LeadsTo, released_bodies}
-use Rattle.node_history.specs.Nodes.{HistoryState}
-use Rattle.node_history.specs.Rules.{AreRecords, StartsWith, may_follow}
-use Rattle.node_history.specs.declared.start.NodeStart.{NodeStart}
-use Rattle.node_history.specs.declared.step.NodeStep.{NodeStep}
+use Rattle.party_history.specs.Laws.{LeadsTo, released_bodies}
+use Rattle.party_history.specs.Parties.{HistoryState}
+use Rattle.party_history.specs.Rules.{AreRecords, StartsWith, may_follow}
+use Rattle.party_history.specs.declared.start.PartyStart.{PartyStart}
+use Rattle.party_history.specs.declared.step.PartyStep.{PartyStep}
 use Rattle.mtc_top.specs.Concluded.{Prints, PrintsPrefix}
 use Rattle.mtc_top.specs.Run.{HasRun, journals}
 
@@ -74,12 +74,12 @@ module _ {R S D O E : Type 0} (h : HashFunction) (rooms : Rooms R S D) (disks : 
   owner = journal_file program (AreRecords h)
 
   -- what a crash may leave of the file of a name
-  abbrev pub images_in : R → Text → CrashStates
-  images_in room name = states_of program name room
+  abbrev pub crash_states_in : R → Text → CrashStates
+  crash_states_in room name = states_of program name room
 
   -- what a crash may have left of it at some time since the files were so
-  abbrev pub images_from : R → R → Text → CrashStates
-  images_from old room name = states_between program name old room
+  abbrev pub crash_states_from : R → R → Text → CrashStates
+  crash_states_from old room name = states_between program name old room
 
   -- These events are an execution of the journal of this name.
   abbrev pub IsCourse : Text → R → List (Link R O E) → R → Type 0
@@ -100,7 +100,7 @@ module _ {R S D O E : Type 0} (h : HashFunction) (rooms : Rooms R S D) (disks : 
 
   -- The first event is a run that did so, and the first of the records is one with which such a
   -- party begins.
-  pub record IsBegun (name : Text) (start : NodeStart) (first : Text) (old : R)
+  pub record IsBegun (name : Text) (start : PartyStart) (first : Text) (old : R)
       (links : List (Link R O E)) : Type 0 where
     pub is_modelled : rooms.is_modelled old
     pub others : List Text
@@ -113,15 +113,15 @@ module _ {R S D O E : Type 0} (h : HashFunction) (rooms : Rooms R S D) (disks : 
 
   -- With these records the journal may be recovered: a crash may leave a file that represents them.
   abbrev pub IsRecovered : Text → R → List Text → Type 0
-  IsRecovered name room = MayRecover (images_in room name)
+  IsRecovered name room = MayRecover (crash_states_in room name)
 
   -- The journal of this name is that of a party at the end of a history, in which those records are
   -- released that the execution released, in their order.
-  pub record IsReached (name : Text) (start : NodeStart) (first : Text) (old : R)
+  pub record IsReached (name : Text) (start : PartyStart) (first : Text) (old : R)
       (links : List (Link R O E)) (room : R) : Type 0 where
-    pub steps : List NodeStep
+    pub steps : List PartyStep
     pub state : HistoryState
     pub leads : LeadsTo (may_follow h) (start ∷ []) steps 0 state
-    pub stands : (c : Text) → images_in room name c
-        → RepresentsPending (first ∷ state.settled) state.pending c
-    pub handed : released_bodies state ≡ all_released (events name old links)
+    pub stands : (c : Text) → crash_states_in room name c
+        → RepresentsPending (first ∷ state.durable) state.pending c
+    pub released : released_bodies state ≡ all_released (events name old links)

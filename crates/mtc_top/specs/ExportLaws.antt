@@ -16,7 +16,7 @@ use Rattle.cosigner_core.specs.declared.progress.Progress.{Progress}
 use Rattle.cosigner_core.specs.declared.settings.CosignerSettings.{CosignerSettings}
 use Rattle.cosigner_core.specs.declared.step.Step.{Step}
 use Rattle.mtc_command.specs.Made.{reads}
-use Rattle.node_history.specs.declared.start.NodeStart.TheVariants.{Cosigner}
+use Rattle.party_history.specs.declared.start.PartyStart.TheVariants.{Cosigner}
 use Rattle.mtc_top.specs.CourseLaws.{OfCourses}
 use Rattle.mtc_top.specs.Courses.{DidWith, Link, Turn, HasPrinted, HasTurned, IsHeard, IsRecovered}
 use Rattle.mtc_top.specs.Courses.{OfEachTurn, WasHeld}

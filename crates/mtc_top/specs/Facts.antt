@@ -9,7 +9,7 @@ use Rattle.command_plans.specs.Names.{beside_names, first_made, input_names, jou
 use Rattle.command_plans.specs.Names.{only_read_names}
 use Rattle.command_plans.specs.Rules.{AreOfFirst}
 use Rattle.mtc_plans.specs.Commands.{plan_of, planned_outcome}
-use Rattle.mtc_plans.specs.NodeKinds.{node_kinds}
+use Rattle.mtc_plans.specs.PartyKinds.{party_kinds}
 use Rattle.mtc_top.specs.WordsOutcome.{word_fault_text}
 
 -- What is to be known of a command: the journals that it works on, the files that it may make or
@@ -34,7 +34,7 @@ facts_of h command = record {
   only_reads = only_read_names (plan_of h command).journals;
   makes = first_made (plan_of h command).journals;
   inputs = input_names (plan_of h command).inputs;
-  Valid = AreOfFirst (node_kinds h) (plan_of h command).journals;
+  Valid = AreOfFirst (party_kinds h) (plan_of h command).journals;
   outcome = planned_outcome h command;
 }
 

@@ -27,12 +27,12 @@ use Rattle.mtc_cosigner.specs.CosignerOutcomes.{advanced_text, cosigned_text}
 use Rattle.mtc_cosigner.specs.KeygenOutcome.{lms_type, ots_type, public_line}
 use Rattle.mtc_authority.specs.IssueOutcome.{issued_text}
 use Rattle.mtc_authority.specs.Works.{IsLog}
-use Rattle.node_history.specs.Laws.{HasItemAt}
-use Rattle.node_history.specs.declared.start.NodeStart.TheVariants.{Log}
+use Rattle.party_history.specs.Laws.{HasItemAt}
+use Rattle.party_history.specs.declared.start.PartyStart.TheVariants.{Log}
 use Rattle.mtc_top.specs.AuditLaws.{HoldsText}
 use Rattle.mtc_top.specs.CourseLaws.{OfCourses, UsesKey}
 use Rattle.mtc_top.specs.Courses.{Turn, DidWith, HasHeld, HasPrinted, HasTurned, IsHeard}
-use Rattle.mtc_top.specs.Courses.{IsRecovered, OfEachTurn, images_in}
+use Rattle.mtc_top.specs.Courses.{IsRecovered, OfEachTurn, crash_states_in}
 
 module _ {R S D O E : Type 0} (h : HashFunction) (rooms : Rooms R S D) (disks : Disks D)
     (outs : Sinks O) (errs : Sinks E) where
@@ -141,7 +141,7 @@ module _ {R S D O E : Type 0} (h : HashFunction) (rooms : Rooms R S D) (disks : 
   -- with those that were there and the record of the signature.
   abbrev pub SignaturesStand : Type 0
   SignaturesStand = OfCourses h rooms disks outs errs (λ name start first old links new.
-      (file c : Text) → images_in h rooms disks outs errs new name c
+      (file c : Text) → crash_states_in h rooms disks outs errs new name c
       → (found : List Text) × (Represents c found
       × OfEachTurn h rooms disks outs errs (OfHeard (cosign name file) (λ old turn.
       (signed : HasCosigned name file old turn)

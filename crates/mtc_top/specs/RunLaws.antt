@@ -15,12 +15,13 @@ use Rattle.mtc_command.specs.Answers.{IsEarly}
 use Rattle.mtc_command.specs.Lines.{line_of}
 use Rattle.mtc_command.specs.Made.{Journaled, untouched}
 use Rattle.mtc_command.specs.Served.{IsOther, OfEach}
-use Rattle.node_history.specs.Journals.{GoesOn}
-use Rattle.node_history.specs.Rules.{AreRecords, StartsWith}
-use Rattle.node_history.specs.declared.start.NodeStart.{NodeStart}
-use Rattle.node_history.specs.declared.step.NodeStep.{NodeStep}
+use Rattle.party_history.specs.Journals.{Continues}
+use Rattle.party_history.specs.Rules.{AreRecords, StartsWith}
+use Rattle.party_history.specs.declared.start.PartyStart.{PartyStart}
+use Rattle.party_history.specs.declared.step.PartyStep.{PartyStep}
 use Rattle.mtc_top.specs.Concluded.{Prints, PrintsPrefix, Reports}
-use Rattle.mtc_top.specs.Courses.{DidWith, HasTurned, Turn, images_from, images_in, owner, program}
+use Rattle.mtc_top.specs.Courses.{DidWith, HasTurned, Turn, crash_states_from, crash_states_in}
+use Rattle.mtc_top.specs.Courses.{owner, program}
 use Rattle.mtc_top.specs.Facts.{facts}
 use Rattle.mtc_top.specs.Run.{Answered, HasRun, journals}
 
@@ -33,10 +34,10 @@ TookSome (Some old) (Some new) = length old < length new
 -- Each history that led to a journal with the crash states before continues to those now, and
 -- releases what the event releases.
 abbrev pub AllGoOn : HashFunction → Event → CrashStates → CrashStates → Type 0
-AllGoOn h event before now = (starts : List NodeStart) (place : ℕ) (start : NodeStart)
-    (first : Text) (steps : List NodeStep) (out : List Text) → slice_get starts place ≡ Some start
-    → StartsWith start first → IsHistory (GoesOn h starts place first steps) out before
-    → IsHistory (GoesOn h starts place first steps) (out ++ released_by event) now
+AllGoOn h event before now = (starts : List PartyStart) (place : ℕ) (start : PartyStart)
+    (first : Text) (steps : List PartyStep) (out : List Text) → slice_get starts place ≡ Some start
+    → StartsWith start first → IsHistory (Continues h starts place first steps) out before
+    → IsHistory (Continues h starts place first steps) (out ++ released_by event) now
 
 module _ {R S D O E : Type 0} (h : HashFunction) (rooms : Rooms R S D) (disks : Disks D)
     (outs : Sinks O) (errs : Sinks E) where
@@ -82,15 +83,15 @@ module _ {R S D O E : Type 0} (h : HashFunction) (rooms : Rooms R S D) (disks : 
     -- one of a run that broke off.
     pub leaves : LeavesJournal (program h rooms disks outs errs) (AreRecords h) name old turn
     -- So each history continues.
-    pub goes_on : AllGoOn h ((owner h rooms disks outs errs name).run_event old turn)
-        (images_in h rooms disks outs errs old name)
-        (images_in h rooms disks outs errs turn.room name)
-    pub stops : (c : Text) → images_from h rooms disks outs errs old turn.room name c
+    pub continues : AllGoOn h ((owner h rooms disks outs errs name).run_event old turn)
+        (crash_states_in h rooms disks outs errs old name)
+        (crash_states_in h rooms disks outs errs turn.room name)
+    pub stops : (c : Text) → crash_states_from h rooms disks outs errs old turn.room name c
         → AllGoOn h (broke (did_to (program h rooms disks outs errs) name old turn))
-        (images_in h rooms disks outs errs old name) (λ d. d ≡ c)
+        (crash_states_in h rooms disks outs errs old name) (λ d. d ≡ c)
     -- The bytes of the file that the model knows are a crash state.
     pub as_read : (c : Text) → rooms.file turn.room name ≡ Some c
-        → images_in h rooms disks outs errs turn.room name c
+        → crash_states_in h rooms disks outs errs turn.room name c
     -- The clock of the file's device doesn't go back.
     pub later : clock_of disks (rooms.device old name)
         ≤ clock_of disks (rooms.device turn.room name)

@@ -14,7 +14,7 @@ use Rattle.mtc_command.specs.Steps.{Files, held_in}
 use Rattle.mtc_command.specs.Wanted.{Meets}
 use Rattle.mtc_command.specs.declared.answer.Stopped.TheVariants.{BadForm}
 use Rattle.mtc_authority.specs.BadTiles.{first_bad}
-use Rattle.node_history.specs.declared.start.NodeStart.{NodeStart}
+use Rattle.party_history.specs.declared.start.PartyStart.{PartyStart}
 use Rattle.mtc_top.specs.Concluded.{Reports}
 use Rattle.mtc_top.specs.CourseLaws.{AreOfParty, OfCourses}
 use Rattle.mtc_top.specs.Courses.{Turn, HasTurned}
@@ -22,7 +22,7 @@ use Rattle.mtc_top.specs.Facts.{facts_of}
 
 -- The command works on the journal of this name, and takes it for one of such a party: each list of
 -- the party's records, of which this is the first, is one of the kind that it works on.
-pub record WorksOn (h : HashFunction) (start : NodeStart) (first name : Text)
+pub record WorksOn (h : HashFunction) (start : PartyStart) (first name : Text)
     (command : CommandValue) : Type 0 where
   pub works : (facts_of h command).journals ≡ name ∷ []
   pub kind : (list : List Text) → AreOfParty h start first list → (facts_of h command).Valid list

@@ -16,9 +16,9 @@ use Rattle.mtc_command.specs.Answers.{tiles_name}
 use Rattle.mtc_command.specs.Endings.{IsNamed}
 use Rattle.mtc_authority.specs.BadTiles.{first_bad}
 use Rattle.mtc_authority.specs.StoredTiles.{HasTilesOf}
-use Rattle.node_history.specs.Rules.{AreRecords, StartsWith}
-use Rattle.node_history.specs.declared.start.NodeStart.{NodeStart}
-use Rattle.mtc_top.specs.Courses.{Link, HasTurned, Turn, events, images_in, program}
+use Rattle.party_history.specs.Rules.{AreRecords, StartsWith}
+use Rattle.party_history.specs.declared.start.PartyStart.{PartyStart}
+use Rattle.mtc_top.specs.Courses.{Link, HasTurned, Turn, events, crash_states_in, program}
 use Rattle.mtc_top.specs.Facts.{facts_of}
 use Rattle.mtc_top.specs.StatusLaws.{IsAboutInput, WorksOn}
 
@@ -44,14 +44,14 @@ module _ {R S D O E : Type 0} (h : HashFunction) (rooms : Rooms R S D) (disks : 
   -- log, the other has all tiles of its last size.
   abbrev pub TilesSurviveStops : Type 0
   TilesSurviveStops = OfTiledLogs (λ name first new. (c t : Text) (found : FoundLog)
-      → images_in h rooms disks outs errs new name c
-      → images_in h rooms disks outs errs new (tiles_name name) t
+      → crash_states_in h rooms disks outs errs new name c
+      → crash_states_in h rooms disks outs errs new (tiles_name name) t
       → log_read h c ≡ Ok found → first_bad h found.state t ≡ None)
 
   -- So each run with status 2 that works on the log is about a file that the command reads: none
   -- reports a bad tile.
   abbrev pub NoTileIsBad : Type 0
-  NoTileIsBad = OfTiledLogs (λ name first new. (start : NodeStart) (command : CommandValue)
+  NoTileIsBad = OfTiledLogs (λ name first new. (start : PartyStart) (command : CommandValue)
       (turn : Turn R O E) → StartsWith start first → WorksOn h start first name command
       → HasTurned h rooms disks outs errs new turn → command_of turn.words ≡ Ok command
       → turn.status ≡ 2 → (is : IsAboutInput h rooms disks outs errs name command new turn)

@@ -106,13 +106,13 @@ fn write_pieces_of<'x, E: Sink>(
         ++ (file.entry.2.now ++ (name.now ++ (more.entry.0.now ++ (more.entry.1.now
         ++ (more.entry.2.now ++ (more.entry.3.now ++ codes "\n"))))))))) }
 {
-    let behind_command = if command.is_empty() { "" } else { ": " };
+    let after_command = if command.is_empty() { "" } else { ": " };
     let _ = write_pieces(
         err,
         &[
             b"mtc: ",
             command.as_bytes(),
-            behind_command.as_bytes(),
+            after_command.as_bytes(),
             file.0.as_bytes(),
             file.1.as_bytes(),
             file.2.as_bytes(),

@@ -1,7 +1,7 @@
 //! Laws of runs, and of executions of runs and stops: the clauses are the laws, and the functions
 //! do nothing.
 
-ghost use Rattle.mtc_top.specs.AuditLaws.{AuditsSettle, AuditsStand};
+ghost use Rattle.mtc_top.specs.AuditLaws.{AuditsDecide, AuditsStand};
 ghost use Rattle.mtc_top.specs.QuarrelLaws.{TwoSignaturesCollide};
 ghost use Rattle.mtc_top.specs.CourseLaws.{AddedEntriesStand, CoursesAreHistories, EntriesStand};
 ghost use Rattle.mtc_top.specs.CourseLaws.{ReleasedStand, ReleasedWasHeld, JournalsAreOfParties};
@@ -75,7 +75,7 @@ pub fn law_recovered_lists_only_grow<H: TreeHash, R: Room, O: Sink, E: Sink>()
 /// Each entry of a log that a run found or added keeps its index, with its key, in each log that
 /// may be recovered afterwards. The entry that a run added has as its index the number of entries
 /// before it.
-pub fn law_entries_keep_their_places<H: TreeHash, R: Room, O: Sink, E: Sink>()
+pub fn law_entries_keep_their_indices<H: TreeHash, R: Room, O: Sink, E: Sink>()
     ensures found { EntriesStand H.hash R.Room R.Dsk.Disk O.Sink E.Sink }
     ensures added { AddedEntriesStand H.hash R.Room R.Dsk.Disk O.Sink E.Sink }
 {}
@@ -139,7 +139,7 @@ pub fn law_exports_only_grow<H: TreeHash, R: Room, O: Sink, E: Sink>()
 /// says in addition of which lists the two strings are: the first is hashed for the list or a key
 /// of it, the second for the certificate or in the cosigner's proofs.
 pub fn law_audits_stand<H: TreeHash, R: Room, O: Sink, E: Sink>()
-    ensures settle { AuditsSettle H.hash R.Room R.Dsk.Disk O.Sink E.Sink }
+    ensures decide { AuditsDecide H.hash R.Room R.Dsk.Disk O.Sink E.Sink }
     ensures stand { AuditsStand H.hash R.Room R.Dsk.Disk O.Sink E.Sink }
 {}
 
@@ -195,5 +195,5 @@ pub fn law_the_whole_promise<H: TreeHash, R: Room, O: Sink, E: Sink>()
     ensures stand { RecoveredListsGrow H.hash R.Room R.Dsk.Disk O.Sink E.Sink }
     ensures read { JournalsAreRead H.hash R.Room R.Dsk.Disk O.Sink E.Sink }
     ensures signatures { OnlyCosignSigns H.hash R.Room R.Dsk.Disk O.Sink E.Sink }
-    ensures audits { AuditsSettle H.hash R.Room R.Dsk.Disk O.Sink E.Sink }
+    ensures audits { AuditsDecide H.hash R.Room R.Dsk.Disk O.Sink E.Sink }
 {}

@@ -7,7 +7,7 @@ use Rattle.mtc_command.specs.Answers.{Ending}
 use Rattle.mtc_command.specs.Served.{ClosesAll, HasAnswered}
 use Rattle.mtc_command.specs.Steps.{Outcome, with_bytes}
 use Rattle.mtc_command.specs.Endings.{Replies}
-use Rattle.mtc_command.proofs.Inputs.{behind_file, bytes_read}
+use Rattle.mtc_command.proofs.Inputs.{after_file, bytes_read}
 use Rattle.mtc_command.proofs.Made.{OnlyNow}
 use Rattle.mtc_command.proofs.Served.{answered}
 
@@ -50,30 +50,30 @@ module _ (says : Text → Text → Text → Text → Outcome) (one two three fou
     same : (name : Text) → rooms.file mid name ≡ rooms.file old name
     same name = (back.others name tt).bytes
 
-    pub behind_third : (a b c : Text) → Was 16777216 three c
+    pub after_third : (a b c : Text) → Was 16777216 three c
         → Ends (from_fourth (rooms.file mid four) a b c) mid
         → Ends (from_third (rooms.file old three) (rooms.file old four) a b) old
-    behind_third a b c is = behind_file rooms disks 16777216 three old mid new c back is
+    after_third a b c is = after_file rooms disks 16777216 three old mid new c back is
         names [] [] (λ y. from_fourth (rooms.file old four) a b y)
         (from_fourth (rooms.file mid four) a b c) ending
         (λ t. ap (λ f4. from_fourth f4 a b c) (same four))
 
-    pub behind_second : (a b : Text) → Was 16777216 two b
+    pub after_second : (a b : Text) → Was 16777216 two b
         → Ends (from_third (rooms.file mid three) (rooms.file mid four) a b) mid
         → Ends (from_second (rooms.file old two) (rooms.file old three) (rooms.file old four) a)
         old
-    behind_second a b is = behind_file rooms disks 16777216 two old mid new b back is names [] []
+    after_second a b is = after_file rooms disks 16777216 two old mid new b back is names [] []
         (λ y. from_third (rooms.file old three) (rooms.file old four) a y)
         (from_third (rooms.file mid three) (rooms.file mid four) a b) ending
         (λ t. ap (λ f3. from_third f3 (rooms.file mid four) a b) (same three)
         ∙ ap (λ f4. from_third (rooms.file old three) f4 a b) (same four))
 
-    pub behind_first : (a : Text) → Was 16777216 one a
+    pub following_first : (a : Text) → Was 16777216 one a
         → Ends (from_second (rooms.file mid two) (rooms.file mid three) (rooms.file mid four) a)
         mid
         → Ends (from_first (rooms.file old one) (rooms.file old two) (rooms.file old three)
         (rooms.file old four)) old
-    behind_first a is = behind_file rooms disks 16777216 one old mid new a back is names [] []
+    following_first a is = after_file rooms disks 16777216 one old mid new a back is names [] []
         (λ y. from_second (rooms.file old two) (rooms.file old three) (rooms.file old four) y)
         (from_second (rooms.file mid two) (rooms.file mid three) (rooms.file mid four) a) ending
         (λ t. ap (λ f2. from_second f2 (rooms.file mid three) (rooms.file mid four) a) (same two)
@@ -83,11 +83,11 @@ module _ (says : Text → Text → Text → Text → Outcome) (one two three fou
   -- the last file was read, and the answer given
   module _ {R S D : Type 0} (rooms : Rooms R S D) (disks : Disks D) (old new : R)
       (ending : Ending) (back : ClosesAll rooms old new []) (only_now : OnlyNow disks) where
-    pub behind_fourth : (sa sb sc sd a b c d : Text)
+    pub after_fourth : (sa sb sc sd a b c d : Text)
         → (rooms.is_modelled old → (rooms.file old four ≡ Some d) × (length d ≤ 1073741824))
         → sa ≡ a → sb ≡ b → sc ≡ c → sd ≡ d → Replies (says sa sb sc sd).answer ending
         → HasAnswered rooms disks names (from_fourth (rooms.file old four) a b c) old new ending
-    behind_fourth sa sb sc sd a b c d is is_a is_b is_c is_d replies =
+    after_fourth sa sb sc sd a b c d is is_a is_b is_c is_d replies =
         answered rooms disks names [] [] (from_fourth (rooms.file old four) a b c) old new back
         only_now ending (says a b c d).answer
         (λ t. ap (λ (w : Outcome). w.answer) (sym (bytes_read 1073741824 four

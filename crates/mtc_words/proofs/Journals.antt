@@ -24,10 +24,10 @@ use Rattle.mtc_words.specs.Words.{word, word_fault, journal_fault, command_from,
 use Rattle.mtc_words.specs.Words.{command_of, unless_fault, number_word, id_word}
 
 -- A value that a step gives is given after a value of the step before it.
-behind : {A B E : Type 0} (P : B → Type 0) (r : Result A E) (f : A → Result B E) (c : B)
+following : {A B E : Type 0} (P : B → Type 0) (r : Result A E) (f : A → Result B E) (c : B)
     → ((x : A) → f x ≡ Ok c → P c) → (r >>= f) ≡ Ok c → P c
-behind P (Ok x) f c next e = next x e
-behind P (Err why) f c next e = absurd (cc)
+following P (Ok x) f c next e = next x e
+following P (Err why) f c next e = absurd (cc)
 
 -- The journal that a command of this name has.
 abbrev first_word : Name → List Text → Option Text
@@ -40,67 +40,72 @@ Has name ws c = journal_of c ≡ first_word name ws
 abbrev alone : CommandValue → Result CommandValue WordError
 alone c = Ok c
 
-told : (c d : CommandValue) → alone c ≡ Ok d → journal_of d ≡ journal_of c
-told c d e = let same : c ≡ d = cc in ap journal_of (sym same)
+reported : (c d : CommandValue) → alone c ≡ Ok d → journal_of d ≡ journal_of c
+reported c d e = let same : c ≡ d = cc in ap journal_of (sym same)
 
 from_words : (name : Name) (ws : List Text) (c : CommandValue) → command_from name ws ≡ Ok c
     → Has name ws c
-from_words Member ws c e = told _ c e
-from_words Show ws c e = told _ c e
+from_words Member ws c e = reported _ c e
+from_words Show ws c e = reported _ c e
 from_words Verify ws c e =
-    behind (Has Verify ws) (number_word 3 is_time (word ws 2)) _ c (λ moment is. told _ c is) e
+    following (Has Verify ws) (number_word 3 is_time (word ws 2)) _ c
+    (λ unix_time is. reported _ c is) e
 from_words InitLog ws c e =
-    behind (Has InitLog ws) (number_word 3 is_active (word ws 2)) _ c (λ active first.
-    behind (Has InitLog ws) (number_word 4 is_limit (word ws 3)) _ c (λ limit second.
-    behind (Has InitLog ws) (id_word 2 (word ws 1)) _ c (λ id is. told _ c is) second) first) e
-from_words Issue ws c e = told _ c e
-from_words Checkpoint ws c e = told _ c e
+    following (Has InitLog ws) (number_word 3 is_active (word ws 2)) _ c (λ active first.
+    following (Has InitLog ws) (number_word 4 is_limit (word ws 3)) _ c (λ limit second.
+    following (Has InitLog ws) (id_word 2 (word ws 1)) _ c (λ id is. reported _ c is) second) first)
+    e
+from_words Issue ws c e = reported _ c e
+from_words Checkpoint ws c e = reported _ c e
 from_words Entries ws c e =
-    behind (Has Entries ws) (number_word 2 is_any (word ws 1)) _ c (λ size is. told _ c is) e
+    following (Has Entries ws) (number_word 2 is_any (word ws 1)) _ c (λ size is. reported _ c is) e
 from_words Consist ws c e =
-    behind (Has Consist ws) (number_word 2 is_any (word ws 1)) _ c (λ old first.
-    behind (Has Consist ws) (number_word 3 is_any (word ws 2)) _ c (λ new is. told _ c is) first) e
+    following (Has Consist ws) (number_word 2 is_any (word ws 1)) _ c (λ old first.
+    following (Has Consist ws) (number_word 3 is_any (word ws 2)) _ c (λ new is. reported _ c is)
+    first) e
 from_words Subtree ws c e =
-    behind (Has Subtree ws) (number_word 2 is_any (word ws 1)) _ c (λ start first.
-    behind (Has Subtree ws) (number_word 3 is_any (word ws 2)) _ c (λ end second.
-    behind (Has Subtree ws) (number_word 4 is_any (word ws 3)) _ c (λ size is.
-    told _ c is) second) first) e
+    following (Has Subtree ws) (number_word 2 is_any (word ws 1)) _ c (λ start first.
+    following (Has Subtree ws) (number_word 3 is_any (word ws 2)) _ c (λ end second.
+    following (Has Subtree ws) (number_word 4 is_any (word ws 3)) _ c (λ size is.
+    reported _ c is) second) first) e
 from_words Keygen ws c e =
-    behind (Has Keygen ws) (number_word 1 is_height (word ws 0)) _ c (λ height first.
-    behind (Has Keygen ws) (number_word 2 is_width (word ws 1)) _ c (λ width is.
-    told _ c is) first) e
+    following (Has Keygen ws) (number_word 1 is_height (word ws 0)) _ c (λ height first.
+    following (Has Keygen ws) (number_word 2 is_width (word ws 1)) _ c (λ width is.
+    reported _ c is) first) e
 from_words InitCosigner ws c e =
-    behind (Has InitCosigner ws) (number_word 4 is_height (word ws 3)) _ c (λ height first.
-    behind (Has InitCosigner ws) (number_word 5 is_width (word ws 4)) _ c (λ width second.
-    behind (Has InitCosigner ws) (id_word 2 (word ws 1)) _ c (λ id third.
-    behind (Has InitCosigner ws) (id_word 3 (word ws 2)) _ c (λ log is.
-    told _ c is) third) second) first) e
-from_words Advance ws c e = told _ c e
-from_words Cosign ws c e = told _ c e
-from_words Export ws c e = told _ c e
-from_words Landmark ws c e = told _ c e
-from_words Landmarks ws c e = told _ c e
+    following (Has InitCosigner ws) (number_word 4 is_height (word ws 3)) _ c (λ height first.
+    following (Has InitCosigner ws) (number_word 5 is_width (word ws 4)) _ c (λ width second.
+    following (Has InitCosigner ws) (id_word 2 (word ws 1)) _ c (λ id third.
+    following (Has InitCosigner ws) (id_word 3 (word ws 2)) _ c (λ log is.
+    reported _ c is) third) second) first) e
+from_words Advance ws c e = reported _ c e
+from_words Cosign ws c e = reported _ c e
+from_words Export ws c e = reported _ c e
+from_words Landmark ws c e = reported _ c e
+from_words Landmarks ws c e = reported _ c e
 from_words LightCert ws c e =
-    behind (Has LightCert ws) (number_word 2 is_any (word ws 1)) _ c (λ index is. told _ c is) e
+    following (Has LightCert ws) (number_word 2 is_any (word ws 1)) _ c
+    (λ index is. reported _ c is) e
 from_words TrustLandmarks ws c e =
-    behind (Has TrustLandmarks ws) (number_word 2 is_active (word ws 1)) _ c (λ active is.
-    told _ c is) e
+    following (Has TrustLandmarks ws) (number_word 2 is_active (word ws 1)) _ c (λ active is.
+    reported _ c is) e
 from_words Cert ws c e =
-    behind (Has Cert ws) (number_word 2 is_any (word ws 1)) _ c (λ index first.
-    behind (Has Cert ws) (number_word 3 is_any (word ws 2)) _ c (λ start second.
-    behind (Has Cert ws) (number_word 4 is_any (word ws 3)) _ c (λ end is.
-    told _ c is) second) first) e
+    following (Has Cert ws) (number_word 2 is_any (word ws 1)) _ c (λ index first.
+    following (Has Cert ws) (number_word 3 is_any (word ws 2)) _ c (λ start second.
+    following (Has Cert ws) (number_word 4 is_any (word ws 3)) _ c (λ end is.
+    reported _ c is) second) first) e
 from_words Audit ws c e =
-    behind (Has Audit ws) (number_word 3 is_time (word ws 2)) _ c (λ moment is. told _ c is) e
-from_words Quarrel ws c e = told _ c e
+    following (Has Audit ws) (number_word 3 is_time (word ws 2)) _ c
+    (λ unix_time is. reported _ c is) e
+from_words Quarrel ws c e = reported _ c e
 from_words Drill ws c e =
-    behind (Has Drill ws) (number_word 1 is_any (word ws 0)) _ c (λ number is. told _ c is) e
-from_words Tile ws c e = told _ c e
-from_words Root ws c e = told _ c e
-from_words Held ws c e = told _ c e
+    following (Has Drill ws) (number_word 1 is_any (word ws 0)) _ c (λ number is. reported _ c is) e
+from_words Tile ws c e = reported _ c e
+from_words Root ws c e = reported _ c e
+from_words Held ws c e = reported _ c e
 from_words MonitorInit ws c e =
-    behind (Has MonitorInit ws) (id_word 1 (word ws 0)) _ c (λ id is. told _ c is) e
-from_words Monitor ws c e = told _ c e
+    following (Has MonitorInit ws) (id_word 1 (word ws 0)) _ c (λ id is. reported _ c is) e
+from_words Monitor ws c e = reported _ c e
 
 -- The first argument passes the test, where the command has a journal.
 abbrev Own : Option Text → Type 0

@@ -49,7 +49,7 @@ pub data CommandValue : Type 0 where
 abbrev pub command_value : Command → CommandValue
 command_value (Member file) = member file.now
 command_value (Show file) = show file.now
-command_value (Verify certificate store moment) = verify certificate.now store.now moment
+command_value (Verify certificate store unix_time) = verify certificate.now store.now unix_time
 command_value (InitLog journal id active limit) = init_log journal.now id active limit
 command_value (Issue journal request) = issue journal.now request.now
 command_value (Checkpoint journal) = checkpoint journal.now
@@ -69,8 +69,8 @@ command_value (TrustLandmarks list active items) =
     trust_landmarks list.now active items.now
 command_value (Cert journal index start end signatures) =
     cert journal.now index start end signatures.now
-command_value (Audit certificate store moment items kept) =
-    audit certificate.now store.now moment items.now kept.now
+command_value (Audit certificate store unix_time items kept) =
+    audit certificate.now store.now unix_time items.now kept.now
 command_value (Quarrel kept) = quarrel kept.now
 command_value (Drill number) = drill number
 command_value (Tile journal) = tile journal.now
@@ -93,11 +93,11 @@ abbrev pub is_width : ℕ → Bool
 is_width n = (n == 1) || ((n == 2) || ((n == 4) || (n == 8)))
 
 -- The times up to the end of the year 9999, in seconds since 1970-01-01T00:00:00Z.
-abbrev pub last_moment : ℕ
-last_moment = 253402300799
+abbrev pub last_unix_time : ℕ
+last_unix_time = 253402300799
 
 abbrev pub is_time : ℕ → Bool
-is_time n = nat_le n last_moment
+is_time n = nat_le n last_unix_time
 
 -- The numbers of active landmarks that a log may have, and of entries.
 abbrev pub is_active : ℕ → Bool
@@ -114,7 +114,7 @@ is_any n = true
 abbrev pub IsInRange : CommandValue → Type 0
 IsInRange (member file) = Unit {0}
 IsInRange (show file) = Unit {0}
-IsInRange (verify certificate store moment) = is_time moment ≡ true
+IsInRange (verify certificate store unix_time) = is_time unix_time ≡ true
 IsInRange (init_log journal id active limit) = (is_active active ≡ true) × (is_limit limit ≡ true)
 IsInRange (issue journal request) = Unit {0}
 IsInRange (checkpoint journal) = Unit {0}
@@ -132,7 +132,7 @@ IsInRange (landmarks journal) = Unit {0}
 IsInRange (light_cert journal index) = Unit {0}
 IsInRange (trust_landmarks list active items) = is_active active ≡ true
 IsInRange (cert journal index start end signatures) = Unit {0}
-IsInRange (audit certificate store moment items kept) = is_time moment ≡ true
+IsInRange (audit certificate store unix_time items kept) = is_time unix_time ≡ true
 IsInRange (quarrel kept) = Unit {0}
 IsInRange (drill number) = Unit {0}
 IsInRange (tile journal) = Unit {0}
@@ -145,7 +145,7 @@ IsInRange (monitor state watch request items) = Unit {0}
 abbrev pub journal_of : CommandValue → Option Text
 journal_of (member file) = None
 journal_of (show file) = None
-journal_of (verify certificate store moment) = None
+journal_of (verify certificate store unix_time) = None
 journal_of (init_log journal id active limit) = Some journal
 journal_of (issue journal request) = Some journal
 journal_of (checkpoint journal) = Some journal
@@ -162,7 +162,7 @@ journal_of (landmarks journal) = Some journal
 journal_of (light_cert journal index) = Some journal
 journal_of (trust_landmarks list active items) = None
 journal_of (cert journal index start end signatures) = Some journal
-journal_of (audit certificate store moment items kept) = None
+journal_of (audit certificate store unix_time items kept) = None
 journal_of (quarrel kept) = None
 journal_of (drill number) = None
 journal_of (tile journal) = Some journal

@@ -74,8 +74,8 @@ abbrev pub command_from : Name → List Text → Result CommandValue WordError
 command_from Member ws = Ok (member (word ws 0))
 command_from Show ws = Ok (show (word ws 0))
 command_from Verify ws = do
-  moment ← number_word 3 is_time (word ws 2)
-  Ok (verify (word ws 0) (word ws 1) moment)
+  unix_time ← number_word 3 is_time (word ws 2)
+  Ok (verify (word ws 0) (word ws 1) unix_time)
 command_from InitLog ws = do
   active ← number_word 3 is_active (word ws 2)
   limit ← number_word 4 is_limit (word ws 3)
@@ -122,8 +122,8 @@ command_from Cert ws = do
   end ← number_word 4 is_any (word ws 3)
   Ok (cert (word ws 0) index start end (word ws 4))
 command_from Audit ws = do
-  moment ← number_word 3 is_time (word ws 2)
-  Ok (audit (word ws 0) (word ws 1) moment (word ws 3) (word ws 4))
+  unix_time ← number_word 3 is_time (word ws 2)
+  Ok (audit (word ws 0) (word ws 1) unix_time (word ws 3) (word ws 4))
 command_from Quarrel ws = Ok (quarrel (word ws 0))
 command_from Drill ws = do
   number ← number_word 1 is_any (word ws 0)

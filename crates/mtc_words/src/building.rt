@@ -16,7 +16,7 @@ use std::alloc::Global;
 use tls_wire::{AnchorError, AnchorId, read_number};
 
 // The last second of the year 9999.
-const LAST_MOMENT: u64 = 253_402_300_799;
+const LAST_UNIX_TIME: u64 = 253_402_300_799;
 
 // The argument with this number, counted from 0.
 fn text(words: &[String], at: usize) -> &str
@@ -62,7 +62,7 @@ fn time(words: &[String], at: usize) -> Result<u64, WordError>
     ensures { result ≡ number_word (at + 1) is_time (word (map string_bytes words.now) at) }
 {
     match number_at(words, at) {
-        Some(seconds) if seconds <= LAST_MOMENT => Ok(seconds),
+        Some(seconds) if seconds <= LAST_UNIX_TIME => Ok(seconds),
         _ => Err(WordError::BadNumber(at + 1)),
     }
 }

@@ -18,10 +18,10 @@ use Rattle.policy_core.specs.declared.error.Key.{Key}
 use Rattle.policy_core.specs.declared.error.Key.TheVariants.{Cosigners, Count}
 use Rattle.policy_core.specs.declared.error.StoreError.{StoreError}
 use Rattle.policy_core.specs.Fields.{store_field, table_with, id_data, each_of}
-use Rattle.policy_core.specs.CosignerFields.{rule_keys, rule_data, places_data, places_in}
-use Rattle.policy_core.specs.CosignerFields.{place_data, place_of, count_data, if_different}
+use Rattle.policy_core.specs.CosignerFields.{rule_keys, rule_data, indices_data, indices_among}
+use Rattle.policy_core.specs.CosignerFields.{index_data, index_found, count_data, if_different}
 use Rattle.policy_core.specs.CosignerFields.{if_counts}
-use Rattle.policy_core.specs.Stores.{has_repeat, is_same_place, IsRule}
+use Rattle.policy_core.specs.Stores.{has_repeat, is_same_index, IsRule}
 use Rattle.policy_core.proofs.Wholes.{different}
 
 -- ---- options and fields
@@ -60,28 +60,29 @@ position_below test xs n e = go (nat_lt (position_or_len test xs) (length xs)) r
         omega arith
     go false lt e = absurd cc
 
-place_below : (known : List Known) (d : Data) (n : ℕ) → place_data known d ≡ Some n
+index_below : (known : List Known) (d : Data) (n : ℕ) → index_data known d ≡ Some n
     → n < length known
-unfolding place_data
-place_below known d n e =
-    let c = came (place_of known) (id_data d) n e in
+unfolding index_data
+index_below known d n e =
+    let c = came (index_found known) (id_data d) n e in
     position_below (λ k. bytes_eq k.id c.value) known n c.made
 
-places_below : (known : List Known) (ds : Items) (ns : List ℕ) → places_in known ds ≡ Some ns
+indices_below : (known : List Known) (ds : Items) (ns : List ℕ) → indices_among known ds ≡ Some ns
     → AllByRecursion (λ n. n < length known) ns
-places_below known no_items ns e =
+indices_below known no_items ns e =
     let same : [] ≡ ns = cc in
     let P : List ℕ → Type 0 = AllByRecursion (λ n. n < length known) in
     subst P same tt
-places_below known (item d ds) ns e =
-    let c = came (λ n. option_map (λ more. n ∷ more) (places_in known ds)) (place_data known d) ns
+indices_below known (item d ds) ns e =
+    let c = came (λ n. option_map (λ more. n ∷ more) (indices_among known ds)) (index_data known d)
+    ns
     e in
-    go c.value (place_below known d c.value c.given) (places_in known ds) refl c.made
-    (λ more h. places_below known ds more h)
+    go c.value (index_below known d c.value c.given) (indices_among known ds) refl c.made
+    (λ more h. indices_below known ds more h)
   where
-    go : (n : ℕ) → n < length known → (o : Option (List ℕ)) → places_in known ds ≡ o
+    go : (n : ℕ) → n < length known → (o : Option (List ℕ)) → indices_among known ds ≡ o
         → option_map (λ more. n ∷ more) o ≡ Some ns
-        → ((more : List ℕ) → places_in known ds ≡ Some more
+        → ((more : List ℕ) → indices_among known ds ≡ Some more
         → AllByRecursion (λ n. n < length known) more)
         → AllByRecursion (λ n. n < length known) ns
     go n below None is e later = absurd cc
@@ -92,33 +93,34 @@ places_below known (item d ds) ns e =
 
 -- ---- rules
 
-pub record ArePlaces (known : ℕ) (ns : List ℕ) : Type 0 where
+pub record AreIndices (known : ℕ) (ns : List ℕ) : Type 0 where
   pub below : AllByRecursion (λ n. n < known) ns
-  pub differ : IsDistinct is_same_place ns
+  pub differ : IsDistinct is_same_index ns
 
 apart : (known : ℕ) (ns : List ℕ) (ms : List ℕ) → if_different known ns ≡ Some ms
-    → (ns ≡ ms) × IsDistinct is_same_place ns
+    → (ns ≡ ms) × IsDistinct is_same_index ns
 apart known ns ms e =
-    go (nat_le (length ns) known && not (has_repeat is_same_place ns)) refl e
+    go (nat_le (length ns) known && not (has_repeat is_same_index ns)) refl e
   where
-    go : (b : Bool) → (nat_le (length ns) known && not (has_repeat is_same_place ns)) ≡ b
-        → cond b (Some ns) None ≡ Some ms → (ns ≡ ms) × IsDistinct is_same_place ns
+    go : (b : Bool) → (nat_le (length ns) known && not (has_repeat is_same_index ns)) ≡ b
+        → cond b (Some ns) None ≡ Some ms → (ns ≡ ms) × IsDistinct is_same_index ns
     go true test e =
-        let parts = and_parts (nat_le (length ns) known) (not (has_repeat is_same_place ns)) test in
-        (cc, different is_same_place ns (not-true (has_repeat is_same_place ns) parts.1))
+        let parts = and_parts (nat_le (length ns) known) (not (has_repeat is_same_index ns)) test in
+        (cc, different is_same_index ns (not-true (has_repeat is_same_index ns) parts.1))
     go false test e = absurd cc
 
-places_are : (known : List Known) (d : Data) (ns : List ℕ) → places_data known d ≡ Some ns
-    → ArePlaces (length known) ns
-unfolding places_data
-places_are known d ns e =
-    let c = came (if_different (length known)) (option_and_then (places_in known) (as_array d)) ns
+indices_are : (known : List Known) (d : Data) (ns : List ℕ) → indices_data known d ≡ Some ns
+    → AreIndices (length known) ns
+unfolding indices_data
+indices_are known d ns e =
+    let c = came (if_different (length known)) (option_and_then (indices_among known) (as_array d))
+    ns
     e in
-    let b = came (places_in known) (as_array d) c.value c.given in
+    let b = came (indices_among known) (as_array d) c.value c.given in
     let a = apart (length known) c.value ns c.made in
-    let P : List ℕ → Type 0 = ArePlaces (length known) in
-    let found : ArePlaces (length known) c.value =
-    record { below = places_below known b.value c.value b.made; differ = a.1 } in
+    let P : List ℕ → Type 0 = AreIndices (length known) in
+    let found : AreIndices (length known) c.value =
+    record { below = indices_below known b.value c.value b.made; differ = a.1 } in
     subst P a.0 found
 
 count_is : (most : ℕ) (d : Data) (n : ℕ) → count_data most d ≡ Some n → (1 ≤ n) × (n ≤ most)
@@ -145,29 +147,29 @@ rule_is : (known : List Known) (d : Data) (r : Rule) → rule_data known d ≡ O
 unfolding rule_data
 rule_is known d r e =
     let a = bind_ok (table_with rule_keys d) (λ (ms : Members).
-    store_field Cosigners (places_data known) (get_member (codes "cosigners") ms) >>= λ places.
-    store_field Count (count_data (length places)) (get_member (codes "count") ms) >>= λ count.
-    Ok (record { count = count; cosigners = places })) r e in
+    store_field Cosigners (indices_data known) (get_member (codes "cosigners") ms) >>= λ indices.
+    store_field Count (count_data (length indices)) (get_member (codes "count") ms) >>= λ count.
+    Ok (record { count = count; cosigners = indices })) r e in
     let ms : Members = a.0 in
-    let b = bind_ok (store_field Cosigners (places_data known) (get_member (codes "cosigners") ms))
-    (λ (places : List ℕ).
-    store_field Count (count_data (length places)) (get_member (codes "count") ms) >>= λ count.
-    Ok (record { count = count; cosigners = places })) r a.2 in
-    let places : List ℕ = b.0 in
-    let g = bind_ok (store_field Count (count_data (length places))
+    let b = bind_ok (store_field Cosigners (indices_data known) (get_member (codes "cosigners") ms))
+    (λ (indices : List ℕ).
+    store_field Count (count_data (length indices)) (get_member (codes "count") ms) >>= λ count.
+    Ok (record { count = count; cosigners = indices })) r a.2 in
+    let indices : List ℕ = b.0 in
+    let g = bind_ok (store_field Count (count_data (length indices))
     (get_member (codes "count") ms)) (λ (count : ℕ).
-    Ok (record { count = count; cosigners = places })) r b.2 in
-    let from = field_is Cosigners (places_data known) (get_member (codes "cosigners") ms) places
+    Ok (record { count = count; cosigners = indices })) r b.2 in
+    let from = field_is Cosigners (indices_data known) (get_member (codes "cosigners") ms) indices
     b.1 in
-    let number = field_is Count (count_data (length places)) (get_member (codes "count") ms) g.0
+    let number = field_is Count (count_data (length indices)) (get_member (codes "count") ms) g.0
     g.1 in
-    let are = places_are known from.from places from.says in
-    let is = count_is (length places) number.from g.0 number.says in
-    let made : Rule = record { count = g.0; cosigners = places } in
+    let are = indices_are known from.from indices from.says in
+    let is = count_is (length indices) number.from g.0 number.says in
+    let made : Rule = record { count = g.0; cosigners = indices } in
     let same : made ≡ r = ok_is StoreError made r g.2 in
     let P : Rule → Type 0 = IsRule (length known) in
     let rule : IsRule (length known) made = record {
-      places = are.below;
+      indices = are.below;
       different = are.differ;
       some = is.0;
       most = is.1;

@@ -9,7 +9,8 @@ use Rattle.toml.specs.View.{items_view, view}
 use Rattle.toml.specs.declared.value.Value.{Value}
 use Rattle.policy_core.specs.declared.cosigners.Known.{Known}
 use Rattle.policy_core.specs.declared.error.StoreError.{StoreError}
-use Rattle.policy_core.specs.CosignerFields.{cosigner_data, cosigners_from, place_data, places_in}
+use Rattle.policy_core.specs.CosignerFields.{cosigner_data, cosigners_from, index_data}
+use Rattle.policy_core.specs.CosignerFields.{indices_among}
 use Rattle.policy_core.specs.Fields.{each_of}
 
 rest_item : (values : List Value) (i : ℕ) (v : Value) → i < length values → v ≡ get_or values i v
@@ -66,37 +67,38 @@ pub known_fault : (total : Result (List Known) StoreError) (values : List Value)
     → total ≡ Err e
 known_fault total values i v seen e less is step so_far =
     let cut = rest_item values i v less is in
-    let told : (cosigners_from (length seen) (items_view (drop i values)) >>= λ ks.
+    let reported : (cosigners_from (length seen) (items_view (drop i values)) >>= λ ks.
     Ok (seen ++ ks)) ≡ Err e = rw (cut, step) refl in
-    sym so_far ∙ told
+    sym so_far ∙ reported
 
-join_places : (seen : List ℕ) (n : ℕ) (o : Option (List ℕ))
+join_indices : (seen : List ℕ) (n : ℕ) (o : Option (List ℕ))
     → option_map (λ ns. (seen ++ n ∷ []) ++ ns) o
     ≡ option_map (λ ns. seen ++ ns) (option_map (λ ns. n ∷ ns) o)
-join_places seen n (Some ns) = ap (λ ms. Some ms) (append_assoc seen (n ∷ []) ns)
-join_places seen n None = refl
+join_indices seen n (Some ns) = ap (λ ms. Some ms) (append_assoc seen (n ∷ []) ns)
+join_indices seen n None = refl
 
 -- One more index.
-pub places_more : (known : List Known) (total : Option (List ℕ)) (values : List Value) (i : ℕ)
+pub indices_more : (known : List Known) (total : Option (List ℕ)) (values : List Value) (i : ℕ)
     (v : Value) (n : ℕ) (seen now : List ℕ) → i < length values → v ≡ get_or values i v
-    → place_data known (view v) ≡ Some n → now ≡ seen ++ n ∷ []
-    → option_map (λ ns. seen ++ ns) (places_in known (items_view (drop i values))) ≡ total
-    → option_map (λ ns. now ++ ns) (places_in known (items_view (drop (i + 1) values))) ≡ total
-places_more known total values i v n seen now less is step more so_far =
-    let rest : Option (List ℕ) = places_in known (items_view (drop (i + 1) values)) in
+    → index_data known (view v) ≡ Some n → now ≡ seen ++ n ∷ []
+    → option_map (λ ns. seen ++ ns) (indices_among known (items_view (drop i values))) ≡ total
+    → option_map (λ ns. now ++ ns) (indices_among known (items_view (drop (i + 1) values))) ≡ total
+indices_more known total values i v n seen now less is step more so_far =
+    let rest : Option (List ℕ) = indices_among known (items_view (drop (i + 1) values)) in
     let cut = rest_item values i v less is in
-    let before : option_map (λ ns. seen ++ ns) (places_in known (items_view (drop i values)))
+    let before : option_map (λ ns. seen ++ ns) (indices_among known (items_view (drop i values)))
     ≡ option_map (λ ns. seen ++ ns) (option_map (λ ns. n ∷ ns) rest) = rw (cut, step) refl in
-    rw more (join_places seen n rest ∙ (sym before ∙ so_far))
+    rw more (join_indices seen n rest ∙ (sym before ∙ so_far))
 
 -- A value that names no index.
-pub places_none : (known : List Known) (total : Option (List ℕ)) (values : List Value) (i : ℕ)
+pub indices_none : (known : List Known) (total : Option (List ℕ)) (values : List Value) (i : ℕ)
     (v : Value) (seen : List ℕ) → i < length values → v ≡ get_or values i v
-    → place_data known (view v) ≡ None
-    → option_map (λ ns. seen ++ ns) (places_in known (items_view (drop i values))) ≡ total
+    → index_data known (view v) ≡ None
+    → option_map (λ ns. seen ++ ns) (indices_among known (items_view (drop i values))) ≡ total
     → None ≡ total
-places_none known total values i v seen less is step so_far =
+indices_none known total values i v seen less is step so_far =
     let cut = rest_item values i v less is in
-    let told : None ≡ option_map (λ ns. seen ++ ns) (places_in known (items_view (drop i values))) =
+    let reported : None
+    ≡ option_map (λ ns. seen ++ ns) (indices_among known (items_view (drop i values))) =
     rw (cut, step) refl in
-    told ∙ so_far
+    reported ∙ so_far

@@ -5,7 +5,7 @@ use Rattle.std.specs.Prelude.{ℤ, if◌then◌else◌}
 use Rattle.std.specs.List.{find, list_any}
 use Rattle.std.specs.Str.{bytes_eq}
 use Rattle.std.proofs.lemmas.Slice.Eq.{bytes_eq-Decides}
-use Rattle.byte_formats.specs.Places.{IsBytes}
+use Rattle.byte_formats.specs.Offsets.{IsBytes}
 use Rattle.byte_formats.specs.Readings.{◌>>=◌, lifted}
 use Rattle.byte_formats.proofs.Steps.{bind_ok, lifted_ok, pass_ok, ok_is, IsBytes-rest}
 use Rattle.byte_formats.proofs.Steps.{IsBytes-back}
@@ -46,9 +46,9 @@ pub record IsDecided (store : Store) (index : ℕ) (p : ProofParts) (hash : List
   pub by : IsTrusted store p hash a.by ⊎ IsCosigned store p hash a.by
   pub known : a ≡ accepted a.by index p hash
 
-told : (by : By) (index : ℕ) (p : ProofParts) (hash : List ℕ) (a : Accepted)
+reported : (by : By) (index : ℕ) (p : ProofParts) (hash : List ℕ) (a : Accepted)
     → accepted by index p hash ≡ a → a ≡ accepted a.by index p hash
-told by index p hash a same =
+reported by index p hash a same =
     sym same ∙ ap (λ (b : By). accepted b index p hash) (ap (λ (x : Accepted). x.by) same)
 
 cosigned_only : (store : Store) (index : ℕ) (p : ProofParts) (hash : List ℕ) (a : Accepted)
@@ -72,7 +72,7 @@ cosigned_only store index p hash a none e =
             untrusted = find_none p.start p.end store.subtrees none;
             satisfied = record { some = all.0; met = all.1 };
           });
-          known = told (Cosigners set) index p hash a same;
+          known = reported (Cosigners set) index p hash a same;
         }
 
 pub decided_only : (store : Store) (index : ℕ) (p : ProofParts) (hash : List ℕ) (a : Accepted)
@@ -99,7 +99,7 @@ decided_only store index p hash a e = go (find (is_of p.start p.end) store.subtr
             landmark = sym (ap (λ (x : Accepted). x.by) same);
             among = subst P all f.among;
           });
-          known = told Landmark index p hash a same;
+          known = reported Landmark index p hash a same;
         }
 
 decided_again : (store : Store) (index : ℕ) (p : ProofParts) (hash : List ℕ) (by : By)

@@ -23,15 +23,15 @@ none_passes test (x ∷ xs) le = go (test x) refl le (λ h. none_passes test xs 
     go true is le later = absurd (omega arith)
     go false is le later = (is, later (omega arith))
 
-abbrev first_place : Bool → ℕ → Option ℕ
-first_place b n = cond b (Some n) None
+abbrev first_index : Bool → ℕ → Option ℕ
+first_index b n = cond b (Some n) None
 
 no_position : {A : Type 0} (test : A → Bool) (xs : List A) → position test xs ≡ None
     → AllByRecursion (λ x. test x ≡ false) xs
 no_position test xs e = go (nat_lt (position_or_len test xs) (length xs)) refl e
   where
     go : (b : Bool) → nat_lt (position_or_len test xs) (length xs) ≡ b
-        → first_place b (position_or_len test xs) ≡ None → AllByRecursion (λ x. test x ≡ false) xs
+        → first_index b (position_or_len test xs) ≡ None → AllByRecursion (λ x. test x ≡ false) xs
     go true is e = absurd cc
     go false is e = none_passes test xs (grind (arith, nat_tests, is))
 

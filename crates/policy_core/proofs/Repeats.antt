@@ -57,48 +57,48 @@ has_repeat-push (y ∷ ys) x =
     (list_any (has_interval (x.start, x.end)) ys))
 
 -- an interval among those that stand before it
-unfoldable pub repeats_behind : List Trusted → List Trusted → Bool
-repeats_behind seen [] = false
-repeats_behind seen (x ∷ xs) = list_any (has_interval (x.start, x.end)) seen || repeats_behind (seen
+unfoldable pub repeats_after : List Trusted → List Trusted → Bool
+repeats_after seen [] = false
+repeats_after seen (x ∷ xs) = list_any (has_interval (x.start, x.end)) seen || repeats_after (seen
     ++ x ∷ []) xs
 
-behind : (seen xs : List Trusted) → has_repeat has_same_interval (seen ++ xs)
-    ≡ (has_repeat has_same_interval seen || repeats_behind seen xs)
-unfolding repeats_behind
-behind seen [] = ap (has_repeat has_same_interval) (append-nil seen)
+following : (seen xs : List Trusted) → has_repeat has_same_interval (seen ++ xs)
+    ≡ (has_repeat has_same_interval seen || repeats_after seen xs)
+unfolding repeats_after
+following seen [] = ap (has_repeat has_same_interval) (append-nil seen)
     ∙ sym (or_nothing (has_repeat has_same_interval seen))
-behind seen (x ∷ xs) =
+following seen (x ∷ xs) =
     ap (has_repeat has_same_interval) (sym (append_assoc seen (x ∷ []) xs))
-    ∙ (behind (seen ++ x ∷ []) xs
-    ∙ (ap (λ (b : Bool). b || repeats_behind (seen ++ x ∷ []) xs) (has_repeat-push seen x)
+    ∙ (following (seen ++ x ∷ []) xs
+    ∙ (ap (λ (b : Bool). b || repeats_after (seen ++ x ∷ []) xs) (has_repeat-push seen x)
     ∙ or_joined (has_repeat has_same_interval seen) (list_any (has_interval (x.start, x.end)) seen)
-    (repeats_behind (seen ++ x ∷ []) xs)))
+    (repeats_after (seen ++ x ∷ []) xs)))
 
 -- at the start nothing is seen
-pub repeats_behind-nothing : (xs : List Trusted)
-    → repeats_behind [] xs ≡ has_repeat has_same_interval xs
+pub repeats_after-nothing : (xs : List Trusted)
+    → repeats_after [] xs ≡ has_repeat has_same_interval xs
 unfolding has_repeat
-repeats_behind-nothing xs = sym (behind [] xs)
+repeats_after-nothing xs = sym (following [] xs)
 
 -- one step on
-pub repeats_behind-step : (xs : List Trusted) (i : ℕ) (d : Trusted) → i < length xs
-    → repeats_behind (take i xs) (drop i xs)
+pub repeats_after-step : (xs : List Trusted) (i : ℕ) (d : Trusted) → i < length xs
+    → repeats_after (take i xs) (drop i xs)
     ≡ (list_any (has_interval ((get_or xs i d).start, (get_or xs i d).end))
-    (take i xs) || repeats_behind (take (i + 1) xs) (drop (i + 1) xs))
-unfolding repeats_behind
-repeats_behind-step xs i d lt =
-    ap (repeats_behind (take i xs)) (drop_more xs i d lt)
+    (take i xs) || repeats_after (take (i + 1) xs) (drop (i + 1) xs))
+unfolding repeats_after
+repeats_after-step xs i d lt =
+    ap (repeats_after (take i xs)) (drop_more xs i d lt)
     ∙ ap (λ (seen : List Trusted). list_any (has_interval (
       (get_or xs i d).start,
       (get_or xs i d).end,
-    )) (take i xs) || repeats_behind seen (drop (i + 1) xs))
+    )) (take i xs) || repeats_after seen (drop (i + 1) xs))
     (sym (take_more xs i d lt))
 
 -- at the end nothing is left
-pub repeats_behind-end : (seen xs : List Trusted) (n : ℕ) → length xs ≤ n
-    → repeats_behind seen (drop n xs) ≡ false
-unfolding repeats_behind
-repeats_behind-end seen xs n le = ap (repeats_behind seen) (drop_all n xs le)
+pub repeats_after-end : (seen xs : List Trusted) (n : ℕ) → length xs ≤ n
+    → repeats_after seen (drop n xs) ≡ false
+unfolding repeats_after
+repeats_after-end seen xs n le = ap (repeats_after seen) (drop_all n xs le)
 
 -- ---- the set
 
@@ -141,19 +141,19 @@ holds_more old new xs x holds updates = record {
 
 holds_next : (set : BTreeSet (ℕ × ℕ)) (xs : List Trusted) (i : ℕ) (d : Trusted) (b : Bool)
     → i < length xs → Holds set (take i xs)
-    → repeats_behind (take i xs) (drop i xs) ≡ has_repeat has_same_interval xs
+    → repeats_after (take i xs) (drop i xs) ≡ has_repeat has_same_interval xs
     → contains by_interval set ((get_or xs i d).start, (get_or xs i d).end) ≡ b
-    → (b || repeats_behind (take (i + 1) xs) (drop (i + 1) xs)) ≡ has_repeat has_same_interval xs
+    → (b || repeats_after (take (i + 1) xs) (drop (i + 1) xs)) ≡ has_repeat has_same_interval xs
 holds_next set xs i d b lt holds whole found =
     let key : ℕ × ℕ = ((get_or xs i d).start, (get_or xs i d).end) in
-    ap (λ (a : Bool). a || repeats_behind (take (i + 1) xs) (drop (i + 1) xs)) (sym found
+    ap (λ (a : Bool). a || repeats_after (take (i + 1) xs) (drop (i + 1) xs)) (sym found
     ∙ holds.each key)
-    ∙ (sym (repeats_behind-step xs i d lt) ∙ whole)
+    ∙ (sym (repeats_after-step xs i d lt) ∙ whole)
 
 -- an interval that is there already repeats
 pub repeats_there : (set : BTreeSet (ℕ × ℕ)) (xs : List Trusted) (i : ℕ) (d : Trusted)
     → i < length xs → Holds set (take i xs)
-    → repeats_behind (take i xs) (drop i xs) ≡ has_repeat has_same_interval xs
+    → repeats_after (take i xs) (drop i xs) ≡ has_repeat has_same_interval xs
     → not (contains by_interval set ((get_or xs i d).start, (get_or xs i d).end)) ≡ false
     → true ≡ has_repeat has_same_interval xs
 repeats_there set xs i d lt holds whole h =
@@ -162,9 +162,9 @@ repeats_there set xs i d lt holds whole h =
 -- a new one leaves the question to those after it
 pub repeats_later : (set : BTreeSet (ℕ × ℕ)) (xs : List Trusted) (i : ℕ) (d : Trusted)
     → i < length xs → Holds set (take i xs)
-    → repeats_behind (take i xs) (drop i xs) ≡ has_repeat has_same_interval xs
+    → repeats_after (take i xs) (drop i xs) ≡ has_repeat has_same_interval xs
     → not (contains by_interval set ((get_or xs i d).start, (get_or xs i d).end)) ≡ true
-    → repeats_behind (take (i + 1) xs) (drop (i + 1) xs) ≡ has_repeat has_same_interval xs
+    → repeats_after (take (i + 1) xs) (drop (i + 1) xs) ≡ has_repeat has_same_interval xs
 repeats_later set xs i d lt holds whole h =
     holds_next set xs i d false lt holds whole (not-true _ h)
 

@@ -16,7 +16,7 @@ use Rattle.policy_core.specs.declared.error.Key.TheVariants.{Cosigners}
 use Rattle.policy_core.specs.declared.error.StoreError.{StoreError}
 use Rattle.policy_core.specs.Fields.{table_with, store_field, id_data, items_at, list_at}
 use Rattle.policy_core.specs.Limits.{most_cosigners}
-use Rattle.policy_core.specs.Stores.{has_repeat, is_same_place}
+use Rattle.policy_core.specs.Stores.{has_repeat, is_same_index}
 
 -- ---- cosigners
 
@@ -59,27 +59,27 @@ abbrev pub rule_keys : List Text
 rule_keys = codes "cosigners" ∷ codes "count" ∷ []
 
 -- The index of the cosigner that a value names.
-abbrev pub place_of : List Known → Text → Option ℕ
-place_of known id = position (λ k. bytes_eq k.id id) known
+abbrev pub index_found : List Known → Text → Option ℕ
+index_found known id = position (λ k. bytes_eq k.id id) known
 
-unfoldable pub place_data : List Known → Data → Option ℕ
-place_data known d = option_and_then (place_of known) (id_data d)
+unfoldable pub index_data : List Known → Data → Option ℕ
+index_data known d = option_and_then (index_found known) (id_data d)
 
 -- The indices that all the items name.
-abbrev pub places_in : List Known → Items → Option (List ℕ)
-places_in known no_items = Some []
-places_in known (item d ds) =
-    option_and_then (λ n. option_map (λ ns. n ∷ ns) (places_in known ds)) (place_data known d)
+abbrev pub indices_among : List Known → Items → Option (List ℕ)
+indices_among known no_items = Some []
+indices_among known (item d ds) =
+    option_and_then (λ n. option_map (λ ns. n ∷ ns) (indices_among known ds)) (index_data known d)
 
 -- Indices of so many cosigners, none of which occurs twice.
 abbrev pub if_different : ℕ → List ℕ → Option (List ℕ)
 if_different known ns =
-    if nat_le (length ns) known && not (has_repeat is_same_place ns) then Some ns else None
+    if nat_le (length ns) known && not (has_repeat is_same_index ns) then Some ns else None
 
-unfoldable pub places_data : List Known → Data → Option (List ℕ)
-places_data known d =
+unfoldable pub indices_data : List Known → Data → Option (List ℕ)
+indices_data known d =
     option_and_then (if_different (length known))
-    (option_and_then (places_in known) (as_array d))
+    (option_and_then (indices_among known) (as_array d))
 
 -- A number from 1 to the most.
 abbrev pub if_counts : ℕ → ℕ → Option ℕ
@@ -93,9 +93,9 @@ count_data most d = option_and_then (if_counts most) (number_data d)
 unfoldable pub rule_data : List Known → Data → Result Rule StoreError
 rule_data known d = do
   ms ← table_with rule_keys d
-  places ← store_field Cosigners (places_data known) (get_member (codes "cosigners") ms)
-  count ← store_field Count (count_data (length places)) (get_member (codes "count") ms)
-  Ok (record { count = count; cosigners = places })
+  indices ← store_field Cosigners (indices_data known) (get_member (codes "cosigners") ms)
+  count ← store_field Count (count_data (length indices)) (get_member (codes "count") ms)
+  Ok (record { count = count; cosigners = indices })
 
 -- The rules of the list of tables; none where it is absent.
 abbrev pub rules_at : List Known → Option Data → Result (List Rule) StoreError

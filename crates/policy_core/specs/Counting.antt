@@ -5,7 +5,7 @@ use Rattle.std.specs.Int.{bit_at}
 use Rattle.std.specs.List.{list_any, count_by, position}
 use Rattle.std.specs.Option.{is_none}
 use Rattle.std.specs.Str.{bytes_eq}
-use Rattle.byte_formats.specs.Places.{at}
+use Rattle.byte_formats.specs.Offsets.{at}
 use Rattle.byte_formats.specs.Types.{Hash, Text}
 use Rattle.hss_core.specs.Hss.{hss_refusal}
 use Rattle.mtc_proof.specs.Inputs.{signed_text}

@@ -21,8 +21,8 @@ has_same_id a b = bytes_eq a.id b.id
 abbrev pub has_same_interval : Trusted → Trusted → Bool
 has_same_interval a b = (a.start == b.start) && (a.end == b.end)
 
-abbrev pub is_same_place : ℕ → ℕ → Bool
-is_same_place a b = a == b
+abbrev pub is_same_index : ℕ → ℕ → Bool
+is_same_index a b = a == b
 
 -- Two of these are the same.
 unfoldable pub has_repeat : {A : Type 0} → (A → A → Bool) → List A → Bool
@@ -31,8 +31,8 @@ has_repeat same (x ∷ xs) = list_any (same x) xs || has_repeat same xs
 
 -- The rule names different ones of so many cosigners, and asks for one at least and all at most.
 pub record IsRule (known : ℕ) (r : Rule) : Type 0 where
-  pub places : AllByRecursion (λ n. n < known) r.cosigners
-  pub different : IsDistinct is_same_place r.cosigners
+  pub indices : AllByRecursion (λ n. n < known) r.cosigners
+  pub different : IsDistinct is_same_index r.cosigners
   pub some : 1 ≤ r.count
   pub most : r.count ≤ length r.cosigners
 

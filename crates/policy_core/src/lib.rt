@@ -25,5 +25,5 @@ pub use cosigners::{Cosigners, Known, MOST_COSIGNERS};
 pub use error::{Key, StoreError};
 pub use lists::{Revoked, Subtrees, Trusted};
 pub use refusal::Refusal;
-pub use rules::{Places, Rule, Rules};
+pub use rules::{Indices, Rule, Rules};
 pub use store::Store;

@@ -9,14 +9,16 @@ ghost use Rattle.toml.specs.View.{items_view, table_view, view};
 ghost use Rattle.policy_core.specs.declared.error.StoreError.{StoreError};
 ghost use Rattle.policy_core.specs.Fields.{each_of, store_field};
 ghost use Rattle.policy_core.specs.Limits.{most_cosigners};
-ghost use Rattle.policy_core.specs.CosignerFields.{count_data, if_different, place_data, place_of};
-ghost use Rattle.policy_core.specs.CosignerFields.{places_data, places_in, rule_data, rules_at};
-ghost use Rattle.policy_core.specs.Stores.{has_repeat, is_same_place, IsRule};
+ghost use Rattle.policy_core.specs.CosignerFields.{count_data, if_different, index_data};
+ghost use Rattle.policy_core.specs.CosignerFields.{index_found};
+ghost use Rattle.policy_core.specs.CosignerFields.{indices_data, indices_among, rule_data};
+ghost use Rattle.policy_core.specs.CosignerFields.{rules_at};
+ghost use Rattle.policy_core.specs.Stores.{has_repeat, is_same_index, IsRule};
 
 use crate::cosigners::{Cosigners, Known};
 use crate::error::{Key, StoreError};
 use crate::fields::{id_of, items_at, table_with};
-use crate::rules::{Places, Rule, Rules};
+use crate::rules::{Indices, Rule, Rules};
 use mtc_io::Memory;
 use std::alloc::Global;
 use toml::{Table, Value};
@@ -24,16 +26,16 @@ use toml_fields::{number_of, value_at};
 
 // The index of the cosigner with this id.
 fn index_of(known: &[Known], id: &[u8]) -> Option<usize>
-    ensures { result ≡ place_of known.now id.now }
+    ensures { result ≡ index_found known.now id.now }
 {
     known.iter().position(|one| one.id.as_bytes() == id)
 }
 
 // The same, in the 32 bits in which a rule stores it: a store has few cosigners.
 #[tactic(auto, using(crate::proofs::FileRules::position_below))]
-fn place_of(known: &[Known], id: &[u8]) -> Option<u32>
+fn index_found(known: &[Known], id: &[u8]) -> Option<u32>
     requires { length known.now ≤ most_cosigners }
-    ensures { result ≡ place_of known.now id.now }
+    ensures { result ≡ index_found known.now id.now }
 {
     match index_of(known, id) {
         Some(place) => Some(place as u32),
@@ -42,102 +44,106 @@ fn place_of(known: &[Known], id: &[u8]) -> Option<u32>
 }
 
 // The index of the cosigner that a value names.
-#[tactic(auto, unfolding(crate::specs::CosignerFields::place_data))]
-fn place_at(alloc: Global, known: &[Known], value: &Value) -> Result<Option<u32>, Memory>
+#[tactic(auto, unfolding(crate::specs::CosignerFields::index_data))]
+fn index_at(alloc: Global, known: &[Known], value: &Value) -> Result<Option<u32>, Memory>
     requires { length known.now ≤ most_cosigners }
-    ensures { IfOk result (λ o. o ≡ place_data known.now (view value.now)) }
+    ensures { IfOk result (λ o. o ≡ index_data known.now (view value.now)) }
 {
     match id_of(alloc, value)? {
-        Some(id) => Ok(place_of(known, id.as_bytes())),
+        Some(id) => Ok(index_found(known, id.as_bytes())),
         None => Ok(None),
     }
 }
 
 // The indices that all the values name.
-fn places_in(alloc: Global, known: &[Known], values: &[Value]) -> Result<Option<Places>, Memory>
+fn indices_among(
+    alloc: Global,
+    known: &[Known],
+    values: &[Value],
+) -> Result<Option<Indices>, Memory>
     requires { length known.now ≤ most_cosigners }
-    ensures { IfOk result (λ o. o ≡ places_in known.now (items_view values.now)) }
+    ensures { IfOk result (λ o. o ≡ indices_among known.now (items_view values.now)) }
 {
-    let mut places = Vec::new(alloc);
+    let mut indices = Vec::new(alloc);
     for value in values {
-        let Some(place) = place_at(alloc, known, value)? else {
+        let Some(place) = index_at(alloc, known, value)? else {
             return Ok(None);
         };
-        places.push(place)?;
+        indices.push(place)?;
     }
-    Ok(Some(Places::from_vec(places)))
+    Ok(Some(Indices::from_vec(indices)))
 }
 
 // The index is one of these.
 fn is_among(place: u32, others: &[u32]) -> bool
-    ensures { result ≡ list_any (is_same_place place) others.now }
+    ensures { result ≡ list_any (is_same_index place) others.now }
 {
     others.iter().any(|other| place == *other)
 }
 
 // Two of the indices are the same.
 #[tactic(auto, unfolding(crate::specs::Stores::has_repeat))]
-fn repeats(places: &[u32]) -> bool
-    ensures { result ≡ has_repeat is_same_place places.now }
+fn repeats(indices: &[u32]) -> bool
+    ensures { result ≡ has_repeat is_same_index indices.now }
 {
-    let mut rest = places;
-    while let [place, behind @ ..] = rest {
-        if is_among(*place, behind) {
+    let mut rest = indices;
+    while let [place, following @ ..] = rest {
+        if is_among(*place, following) {
             return true;
         }
-        rest = behind;
+        rest = following;
     }
     false
 }
 
 // No index occurs twice, and there are no more than so many.
-fn are_different(places: &[u32], known: usize) -> bool
+fn are_different(indices: &[u32], known: usize) -> bool
     ensures { result
-        ≡ (nat_le (length places.now) known && not (has_repeat is_same_place places.now)) }
+        ≡ (nat_le (length indices.now) known && not (has_repeat is_same_index indices.now)) }
 {
-    places.len() <= known && !repeats(places)
+    indices.len() <= known && !repeats(indices)
 }
 
 // The indices, if they are of different cosigners, of whom there are so many.
-fn if_different(places: Places, known: usize) -> Option<Places>
-    ensures exact { result ≡ if_different known places }
+fn if_different(indices: Indices, known: usize) -> Option<Indices>
+    ensures exact { result ≡ if_different known indices }
     ensures few { IfSome result (λ ps. length ps ≤ known) }
 {
-    if are_different(places.as_slice(), known) {
-        Some(places)
+    if are_different(indices.as_slice(), known) {
+        Some(indices)
     } else {
         None
     }
 }
 
 // The indices that a value names, if it is a list of different cosigners.
-#[tactic(auto, unfolding(crate::specs::CosignerFields::places_data))]
-fn places_of(alloc: Global, known: &[Known], value: &Value) -> Result<Option<Places>, Memory>
+#[tactic(auto, unfolding(crate::specs::CosignerFields::indices_data))]
+fn indices_of(alloc: Global, known: &[Known], value: &Value) -> Result<Option<Indices>, Memory>
     requires { length known.now ≤ most_cosigners }
-    ensures exact { IfOk result (λ o. o ≡ places_data known.now (view value.now)) }
+    ensures exact { IfOk result (λ o. o ≡ indices_data known.now (view value.now)) }
     ensures few { IfOk result (λ o. IfSome o (λ ps. length ps ≤ most_cosigners)) }
 {
     let Some(items) = value.as_array() else {
         return Ok(None);
     };
-    match places_in(alloc, known, items.as_slice())? {
-        Some(places) => Ok(if_different(places, known.len())),
+    match indices_among(alloc, known, items.as_slice())? {
+        Some(indices) => Ok(if_different(indices, known.len())),
         None => Ok(None),
     }
 }
 
 // The cosigners of a rule.
-fn places_at(alloc: Global, known: &[Known], table: &Table) -> Result<Places, StoreError>
+fn indices_at(alloc: Global, known: &[Known], table: &Table) -> Result<Indices, StoreError>
     requires { length known.now ≤ most_cosigners }
-    ensures exact { Answers StoreError.Memory (store_field Key.Cosigners (places_data known.now)
+    ensures exact { Answers StoreError.Memory (store_field Key.Cosigners (indices_data known.now)
         (get_member (codes "cosigners") (table_view table.now))) result }
     ensures few { IfOk result (λ ps. length ps ≤ most_cosigners) }
 {
     let Some(value) = value_at(table, "cosigners") else {
         return Err(StoreError::Missing(Key::Cosigners));
     };
-    match places_of(alloc, known, value)? {
-        Some(places) => Ok(places),
+    match indices_of(alloc, known, value)? {
+        Some(indices) => Ok(indices),
         None => Err(StoreError::BadValue(Key::Cosigners)),
     }
 }
@@ -173,7 +179,7 @@ fn rule_of(alloc: Global, known: &[Known], value: &Value) -> Result<Rule, StoreE
     ensures { Answers StoreError.Memory (rule_data known.now (view value.now)) result }
 {
     let table = table_with(value, &["cosigners", "count"])?;
-    let cosigners = places_at(alloc, known, table)?;
+    let cosigners = indices_at(alloc, known, table)?;
     let count = count_at(table, cosigners.as_slice().len())?;
     Ok(Rule { count, cosigners })
 }

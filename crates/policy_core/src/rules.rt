@@ -4,11 +4,11 @@ use std::marker::Model;
 
 /// Indices of cosigners in the list of a store, from 0. Contracts see the list of them.
 #[derive(Debug, Drop)]
-pub struct Places {
+pub struct Indices {
     items: Vec<u32>,
 }
 
-impl Model for Places {
+impl Model for Indices {
     ghost use Rattle.std.specs.Prelude.{ℕ, List};
 
     ghost Value = { List ℕ };
@@ -16,14 +16,14 @@ impl Model for Places {
     ghost view = { λ p. p.items.items };
 }
 
-impl Places {
+impl Indices {
     ghost use Rattle.std.specs.Prelude.{◌≡◌};
 
     /// The indices of a vector, without a copy.
-    pub fn from_vec(items: Vec<u32>) -> Places
+    pub fn from_vec(items: Vec<u32>) -> Indices
         ensures { result ≡ items.items }
     {
-        Places { items }
+        Indices { items }
     }
 
     /// The indices as a vector, without a copy.
@@ -45,7 +45,7 @@ impl Places {
 #[derive(Debug, Drop)]
 pub struct Rule {
     pub count: u32,
-    pub cosigners: Places,
+    pub cosigners: Indices,
 }
 
 /// The rules of a store. Contracts see the list of them.

@@ -47,11 +47,11 @@ fn ids_repeat(known: &[Known]) -> bool
     ensures { result ≡ has_repeat has_same_id known.now }
 {
     let mut rest = known;
-    while let [one, behind @ ..] = rest {
-        if is_among(one, behind) {
+    while let [one, following @ ..] = rest {
+        if is_among(one, following) {
             return true;
         }
-        rest = behind;
+        rest = following;
     }
     false
 }
@@ -73,7 +73,7 @@ fn all_inhabited(ranges: &[Span]) -> bool
 // No fault is found in the store: no two cosigners have one id, no interval is trusted twice, each
 // is that of a subtree, and each range holds a number.
 #[tactic(auto, unfolding(crate::specs::Files::checked_store))]
-fn look_through(alloc: Global, store: &Store) -> Result<(), StoreError>
+fn check_values(alloc: Global, store: &Store) -> Result<(), StoreError>
     ensures ok { IfOk result (λ _. checked_store store.now ≡ Ok store.now) }
     ensures err { IfErr result (λ e. e ≢ StoreError.Memory → checked_store store.now ≡ Err e) }
     ensures valid { store.now.name ≡ name_with (text_of store.now.log)
@@ -102,6 +102,6 @@ pub fn check(alloc: Global, store: Store) -> Result<Store, StoreError>
     ensures valid { store.name ≡ name_with (text_of store.log)
         → AllByRecursion (IsRule (length store.cosigners)) store.rules → IfOk result IsValid }
 {
-    look_through(alloc, &store)?;
+    check_values(alloc, &store)?;
     Ok(store)
 }

@@ -23,11 +23,11 @@ use Rattle.collide.specs.Inputs.{inputs_over, inputs_right, open_inputs_from_roo
 use Rattle.collide.specs.Inputs.{open_inputs_of, pair_input}
 use Rattle.collide.specs.declared.finding.Finding.{Finding}
 use Rattle.collide.specs.declared.finding.Finding.TheVariants.{Pair, Same}
-use Rattle.quarrel_core.proofs.Levels.{tested, told_by_left, told_by_right}
+use Rattle.quarrel_core.proofs.Levels.{tested, separated_by_left, separated_by_right}
 use Rattle.quarrel_core.proofs.Openings.{IsStep, begins_first, not_whole, root_of_whole, step_left}
 use Rattle.quarrel_core.proofs.Openings.{over_root_in, step_over, step_right, whole_of_none}
 use Rattle.quarrel_core.specs.Sizes.{AreFullHashes}
-use Rattle.quarrel_core.specs.Contrasting.{contrast_behind, contrast_from_root, contrast_left}
+use Rattle.quarrel_core.specs.Contrasting.{contrast_after, contrast_from_root, contrast_left}
 use Rattle.quarrel_core.specs.Laws.{OneSubtree}
 
 -- The cases of contrasting.
@@ -64,7 +64,7 @@ contrast-left h s e n k known node other y z p q is inner left =
 pub contrast-right : (h : HashFunction) (s e n k : ℕ) (known : Bool) (node other y z : Hash)
     (p q : List Hash) → split_of n ≡ k → (0 < s) ⊎ (e < n) → k < e → k ≤ s
     → contrast_from_root h s e n known node other (y ∷ p) (z ∷ q)
-    ≡ contrast_behind y z (contrast_from_root h (s - k) (e - k) (n - k) known node other p q)
+    ≡ contrast_after y z (contrast_from_root h (s - k) (e - k) (n - k) known node other p q)
     (open_from_root h (s - k) (e - k) (n - k) known node p)
     (open_from_root h (s - k) (e - k) (n - k) known other q)
 unfolding contrast_from_root
@@ -72,7 +72,7 @@ contrast-right h s e n k known node other y z p q is inner past right =
     cond-false _ _ _ (other-whole s e n inner)
     ∙ cond-false _ _ _ (lt-leb e (split_of n) (omega arith))
     ∙ cond-true _ _ _ (le-leb (split_of n) s (omega arith))
-    ∙ ap (λ (k : ℕ). contrast_behind y z
+    ∙ ap (λ (k : ℕ). contrast_after y z
     (contrast_from_root h (s - k) (e - k) (n - k) known node other p q)
     (open_from_root h (s - k) (e - k) (n - k) known node p)
     (open_from_root h (s - k) (e - k) (n - k) known other q)) is
@@ -80,7 +80,7 @@ contrast-right h s e n k known node other y z p q is inner past right =
 pub contrast-over : (h : HashFunction) (s e n k : ℕ) (known : Bool) (node other y z : Hash)
     (p q : List Hash) → split_of n ≡ k → (0 < s) ⊎ (e < n) → k < e → s < k
     → contrast_from_root h s e n known node other (y ∷ p) (z ∷ q)
-    ≡ contrast_behind y z (contrast_from_root h 0 (e - k) (n - k) false node other p q)
+    ≡ contrast_after y z (contrast_from_root h 0 (e - k) (n - k) false node other p q)
     (open_from_root h 0 (e - k) (n - k) false node p)
     (open_from_root h 0 (e - k) (n - k) false other q)
 unfolding contrast_from_root
@@ -88,7 +88,7 @@ contrast-over h s e n k known node other y z p q is inner past before =
     cond-false _ _ _ (other-whole s e n inner)
     ∙ cond-false _ _ _ (lt-leb e (split_of n) (omega arith))
     ∙ cond-false _ _ _ (lt-leb (split_of n) s (omega arith))
-    ∙ ap (λ (k : ℕ). contrast_behind y z
+    ∙ ap (λ (k : ℕ). contrast_after y z
     (contrast_from_root h 0 (e - k) (n - k) false node other p q)
     (open_from_root h 0 (e - k) (n - k) false node p)
     (open_from_root h 0 (e - k) (n - k) false other q)) is
@@ -165,7 +165,7 @@ left_finds h s e n known node other y z p q one two are more left recurse =
     ∙ ap (contrast_left y z rest (Some own.below)) its.gives))
     (tested (Finds h one.subtree two.subtree xs ys) h xs ys own.below.root y its.below.root z rest
     (Pair (pair_input own.below.root y) (pair_input its.below.root z))
-    (told_by_right own.below.root y its.below.root z (are.firsts.0 ∙ sym are.seconds.0)) hashes
+    (separated_by_right own.below.root y its.below.root z (are.firsts.0 ∙ sym are.seconds.0)) hashes
     (own.tops _ (first_in _ [])) (its.tops _ (first_in _ []))
     (λ same beside.
     finds_wider h own.below.subtree its.below.subtree one.subtree two.subtree
@@ -185,7 +185,7 @@ left_finds h s e n known node other y z p q one two are more left recurse =
     (finds_pair h one.subtree two.subtree xs ys _ _))
 
 -- Both proofs hash the node by what they gave of its right part.
-behind_finds : (h : HashFunction) (from to size : ℕ) (still : Bool) (node other y z : Hash)
+after_finds : (h : HashFunction) (from to size : ℕ) (still : Bool) (node other y z : Hash)
     (p q : List Hash) (f g : Opened → Opened) (top more : Option Opened → List Text)
     (one two : Opened) (xs ys : List Text)
     → AreFullHashes (y ∷ p) → AreFullHashes (z ∷ q) → from < to
@@ -198,18 +198,18 @@ behind_finds : (h : HashFunction) (from to size : ℕ) (still : Bool) (node othe
     → ((a b : Opened) → AreOne h from to size still node other p q a b
     → OneFinds h from to size still node other p q a b)
     → Finds h one.subtree two.subtree xs ys
-    (contrast_behind y z (contrast_from_root h from to size still node other p q)
+    (contrast_after y z (contrast_from_root h from to size still node other p q)
     (open_from_root h from to size still node p) (open_from_root h from to size still other q))
-behind_finds h from to size still node other y z p q f g top more one two xs ys firsts seconds order
+after_finds h from to size still node other y z p q f g top more one two xs ys firsts seconds order
     within meet own its own_root its_root own_in its_in so recurse =
     let rest = contrast_from_root h from to size still node other p q in
     subst (Finds h one.subtree two.subtree xs ys)
-    (sym (ap (λ (o : Option Opened). contrast_behind y z rest o
+    (sym (ap (λ (o : Option Opened). contrast_after y z rest o
     (open_from_root h from to size still other q)) own.gives
-    ∙ ap (contrast_behind y z rest (Some own.below)) its.gives))
+    ∙ ap (contrast_after y z rest (Some own.below)) its.gives))
     (tested (Finds h one.subtree two.subtree xs ys) h xs ys y own.below.root z its.below.root rest
     (Pair (pair_input y own.below.root) (pair_input z its.below.root))
-    (told_by_left y own.below.root z its.below.root (firsts.0 ∙ sym seconds.0))
+    (separated_by_left y own.below.root z its.below.root (firsts.0 ∙ sym seconds.0))
     (own_root ∙ meet ∙ sym its_root) own_in its_in
     (λ beside same.
     finds_wider h own.below.subtree its.below.subtree one.subtree two.subtree
@@ -246,7 +246,7 @@ right_finds h s e n known node other y z p q one two are more right recurse =
     let its = step_right h s e n known other z q two more right order within are.second in
     subst (Finds h one.subtree two.subtree xs ys)
     (sym (contrast-right h s e n (split_of n) known node other y z p q refl inner past right))
-    (behind_finds h (s - split_of n) (e - split_of n) (n - split_of n) known node other y z p q
+    (after_finds h (s - split_of n) (e - split_of n) (n - split_of n) known node other y z p q
     (root_right_of h y) (root_right_of h z) (inputs_right y) (inputs_right z) one two xs ys
     are.firsts are.seconds (omega arith) (omega arith) are.meet own its
     (ap (λ (o : Opened). o.root) own.is) (ap (λ (o : Opened). o.root) its.is)
@@ -273,7 +273,7 @@ over_finds h s e n known node other y z p q one two are more inner before past r
     let its = step_over h s e n known other z q two more zeroth past part are.second in
     subst (Finds h one.subtree two.subtree xs ys)
     (sym (contrast-over h s e n (split_of n) known node other y z p q refl inner past before))
-    (behind_finds h 0 (e - split_of n) (n - split_of n) false node other y z p q
+    (after_finds h 0 (e - split_of n) (n - split_of n) false node other y z p q
     (both_right_of h y) (both_right_of h z) (inputs_over y) (inputs_over z) one two xs ys
     are.firsts are.seconds (omega arith) (omega arith) are.meet own its
     (ap (λ (o : Opened). o.root) own.is) (ap (λ (o : Opened). o.root) its.is)

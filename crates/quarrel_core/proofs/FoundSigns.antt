@@ -19,7 +19,7 @@ conflict_found : (steps : List Step) (i j : ℕ) → i < j → ConflictAt steps 
 conflict_found steps i j less at = by (conflict_in steps) refl
   where
     by : (o : Option (ℕ × ℕ)) → conflict_in steps ≡ o → HasQuarrel steps
-    by (Some places) is = (keys_at steps places, ap (option_map (keys_at steps)) is)
+    by (Some indices) is = (keys_at steps indices, ap (option_map (keys_at steps)) is)
     by None is = absurd (ConflictsAreFirst_always.none steps i j is less at)
 
 pub signs_found : (steps : List Step) (a b start end : ℕ) (one other : Hash) (p q : List Hash)

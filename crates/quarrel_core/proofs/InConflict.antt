@@ -13,8 +13,8 @@ use Rattle.std.proofs.lemmas.Option.{slice_get_within, some_pair_parts}
 use Rattle.std.proofs.lemmas.Slice.Eq.{bytes_eq-Decides}
 use Rattle.cosigner_core.specs.declared.step.Step.{Step}
 use Rattle.cosigner_core.specs.declared.step.Step.TheVariants.{Advance, Sign}
-use Rattle.quarrel_core.proofs.Places.{none_passes}
-use Rattle.quarrel_core.specs.Conflicts.{conflict_behind, conflict_in, conflicts, places_or}
+use Rattle.quarrel_core.proofs.Indices.{none_passes}
+use Rattle.quarrel_core.specs.Conflicts.{conflict_after, conflict_in, conflicts, indices_or}
 use Rattle.quarrel_core.specs.ConflictLaws.{AreInConflict, ConflictAt, ConflictsAreFirst}
 use Rattle.quarrel_core.specs.ConflictLaws.{IsFirstConflict}
 
@@ -65,22 +65,22 @@ get_here (x ∷ xs) y ys = get_here xs y ys
 
 pub conflict_here : (seen : List Step) (step : Step) (rest : List Step) (i : ℕ)
     → position (conflicts step) seen ≡ Some i
-    → conflict_behind seen (step ∷ rest) ≡ Some (i, length seen)
-unfolding conflict_behind
+    → conflict_after seen (step ∷ rest) ≡ Some (i, length seen)
+unfolding conflict_after
 conflict_here seen step rest i found =
-    ap (λ (o : Option ℕ). places_or o (length seen) (conflict_behind (seen ++ step ∷ []) rest))
+    ap (λ (o : Option ℕ). indices_or o (length seen) (conflict_after (seen ++ step ∷ []) rest))
     found
 
 pub conflict_next : (seen : List Step) (step : Step) (rest : List Step)
     → position (conflicts step) seen ≡ None
-    → conflict_behind seen (step ∷ rest) ≡ conflict_behind (seen ++ step ∷ []) rest
-unfolding conflict_behind
+    → conflict_after seen (step ∷ rest) ≡ conflict_after (seen ++ step ∷ []) rest
+unfolding conflict_after
 conflict_next seen step rest none =
-    ap (λ (o : Option ℕ). places_or o (length seen) (conflict_behind (seen ++ step ∷ []) rest))
+    ap (λ (o : Option ℕ). indices_or o (length seen) (conflict_after (seen ++ step ∷ []) rest))
     none
 
-pub conflict_end : (seen : List Step) → conflict_behind seen [] ≡ None
-unfolding conflict_behind
+pub conflict_end : (seen : List Step) → conflict_after seen [] ≡ None
+unfolding conflict_after
 conflict_end seen = refl
 
 -- No two steps up to an index are in conflict.
@@ -155,7 +155,7 @@ first_here seen step rest i j k before at first second =
     }
 
 is_first : (rest seen : List Step) (i j : ℕ) → NoneUpTo (seen ++ rest) (length seen)
-    → conflict_behind seen rest ≡ Some (i, j) → IsFirstConflict (seen ++ rest) i j
+    → conflict_after seen rest ≡ Some (i, j) → IsFirstConflict (seen ++ rest) i j
 is_first [] seen i j before found =
     absurd (none-some (i, j) (sym (conflict_end seen) ∙ found))
 is_first (step ∷ rest) seen i j before found =
@@ -173,7 +173,7 @@ is_first (step ∷ rest) seen i j before found =
     (found_or_none (position (conflicts step) seen))
 
 is_none : (rest seen : List Step) → NoneUpTo (seen ++ rest) (length seen)
-    → conflict_behind seen rest ≡ None → NoneUpTo (seen ++ rest) (length (seen ++ rest))
+    → conflict_after seen rest ≡ None → NoneUpTo (seen ++ rest) (length (seen ++ rest))
 is_none [] seen before found =
     let same : seen ≡ seen ++ [] = sym (append-nil seen) in
     subst (λ (all : List Step). NoneUpTo (seen ++ []) (length all)) same before

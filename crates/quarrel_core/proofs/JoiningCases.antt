@@ -7,10 +7,11 @@ use Rattle.byte_formats.specs.Types.{Hash, HashFunction}
 use Rattle.tree_core.specs.Split.{split_of}
 use Rattle.tree_proofs.specs.declared.outcome.Opened.{Opened}
 use Rattle.tree_proofs.specs.Open.{open_from_root, open_of}
-use Rattle.collide.specs.Behind.{IsBehind}
+use Rattle.collide.specs.After.{IsFollowing}
 use Rattle.quarrel_core.proofs.JoiningSteps.{joined-left, joined-over, joined-same, joined-short}
-use Rattle.quarrel_core.proofs.JoiningSteps.{joined-whole, joined_there, over-behind, over-left}
-use Rattle.quarrel_core.specs.Joining.{joined_behind, joined_from_root, joined_left, joined_turned}
+use Rattle.quarrel_core.proofs.JoiningSteps.{joined-whole, joined_there, over-following, over-left}
+use Rattle.quarrel_core.specs.Joining.{joined_following, joined_from_root, joined_left}
+use Rattle.quarrel_core.specs.Joining.{joined_turned}
 use Rattle.quarrel_core.specs.Joining.{joined_of, joined_with}
 use Rattle.quarrel_core.specs.declared.joined.Joined.{Joined}
 use Rattle.quarrel_core.specs.declared.joined.Joined.TheVariants.{Neither, Pair, Proof}
@@ -128,33 +129,33 @@ case_part h s e n m k known node prefix z y first less_first second rest part be
     (open_from_root h 0 (n - split_of m) (m - split_of m) false prefix q)
     (joined_there h n m node prefix q) p inside)
 
-pub case_behind : (h : HashFunction) (s e n m k from to : ℕ) (known still : Bool)
+pub case_after : (h : HashFunction) (s e n m k from to : ℕ) (known still : Bool)
     (node prefix z y : Hash) (first less_first second rest : List Hash)
     (part beside : Option Opened) (below j : Joined)
     → k ≡ split_of m → second ≡ rest ++ z ∷ [] → first ≡ less_first ++ y ∷ [] → n < m → k < n
-    → (0 < s) ⊎ (e < n) → k < e → IsBehind k s e known from to still
+    → (0 < s) ⊎ (e < n) → k < e → IsFollowing k s e known from to still
     → part ≡ open_of h from to (n - k) still node less_first
     → beside ≡ open_of h 0 (n - k) (m - k) false prefix rest
     → joined_turned below
     ≡ joined_from_root h from to (n - k) (m - k) still node prefix (reverse less_first)
     (reverse rest)
-    → joined_turned j ≡ joined_behind y z (joined_turned below) part beside
+    → joined_turned j ≡ joined_following y z (joined_turned below) part beside
     → joined_turned j
     ≡ joined_from_root h s e n m known node prefix (reverse first) (reverse second)
 unfolding open_of
-case_behind h s e n m k from to known still node prefix z y first less_first second rest part beside
-    below j k_is is first_is less above inner past behind part_is beside_is below_is j_is =
+case_after h s e n m k from to known still node prefix z y first less_first second rest part beside
+    below j k_is is first_is less above inner past following part_is beside_is below_is j_is =
     let over : split_of m < n = omega arith in
     let beyond : split_of m < e = omega arith in
     let p = reverse less_first in
     let q = reverse rest in
     j_is
-    ∙ ap (λ (b : Joined). joined_behind y z b part beside) below_is
-    ∙ ap (λ (o : Option Opened). joined_behind y z
+    ∙ ap (λ (b : Joined). joined_following y z b part beside) below_is
+    ∙ ap (λ (o : Option Opened). joined_following y z
     (joined_from_root h from to (n - k) (m - k) still node prefix p q) o beside) part_is
-    ∙ ap (joined_behind y z (joined_from_root h from to (n - k) (m - k) still node prefix p q)
+    ∙ ap (joined_following y z (joined_from_root h from to (n - k) (m - k) still node prefix p q)
     (open_from_root h from to (n - k) still node p)) beside_is
-    ∙ ap (λ (i : ℕ). joined_behind y z
+    ∙ ap (λ (i : ℕ). joined_following y z
     (joined_from_root h from to (n - i) (m - i) still node prefix p q)
     (open_from_root h from to (n - i) still node p)
     (open_from_root h 0 (n - i) (m - i) false prefix q)) k_is
@@ -162,7 +163,7 @@ case_behind h s e n m k from to known still node prefix z y first less_first sec
     (turned_last first less_first y first_is)
     ∙ ap (joined_from_root h s e n m known node prefix (y ∷ p)) (turned_last second rest z is)
     ∙ joined-over h s e n m known node prefix z (y ∷ p) q less over inner
-    ∙ over-behind h s e n (split_of m) from to known still node z y
+    ∙ over-following h s e n (split_of m) from to known still node z y
     (open_from_root h 0 (n - split_of m) (m - split_of m) false prefix q)
     (joined_there h n m node prefix q) p beyond
-    (subst (λ (i : ℕ). IsBehind i s e known from to still) k_is behind))
+    (subst (λ (i : ℕ). IsFollowing i s e known from to still) k_is following))

@@ -9,7 +9,7 @@ pub mod JoiningCases
 pub mod Contrasts
 pub mod ContrastingCases
 pub mod Joinable
-pub mod Places
+pub mod Indices
 pub mod InConflict
 pub mod Seeking
 pub mod Noting

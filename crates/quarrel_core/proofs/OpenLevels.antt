@@ -10,7 +10,7 @@ use Rattle.tree_proofs.proofs.Opens.{open_of-left, open_of-none, open_of-over, o
 use Rattle.tree_proofs.proofs.Opens.{part_more}
 use Rattle.tree_proofs.specs.declared.outcome.Opened.{Opened}
 use Rattle.tree_proofs.specs.Open.{both_right_of, open_of, root_left_of, root_right_of}
-use Rattle.collide.specs.Behind.{IsBehind}
+use Rattle.collide.specs.After.{IsFollowing}
 use Rattle.quarrel_core.proofs.Openings.{not_whole}
 use Rattle.quarrel_core.proofs.Parted.{prefix_split}
 use Rattle.quarrel_core.specs.OpenedParts.{opened_above}
@@ -28,22 +28,22 @@ above_left h s e n k known node z proof rest given below k_is is more left below
     ∙ open_of-left h s e n k known node z rest more (sym k_is) left)
 
 -- the interval ends in the right part
-pub above_behind : (h : HashFunction) (s e n k from to : ℕ) (known still : Bool) (node z : Hash)
+pub above_after : (h : HashFunction) (s e n k from to : ℕ) (known still : Bool) (node z : Hash)
     (proof rest : List Hash) (given below : Option Opened) → k ≡ split_of n
     → proof ≡ rest ++ z ∷ [] → s < e → e ≤ n → (0 < s) ⊎ (e < n) → k < e
-    → IsBehind k s e known from to still
+    → IsFollowing k s e known from to still
     → below ≡ open_of h from to (n - k) still node rest
     → given ≡ opened_above h k s e z below → given ≡ open_of h s e n known node proof
-above_behind h s e n k from to known still node z proof rest given below k_is is order within inner
-    past behind below_is given_is =
+above_after h s e n k from to known still node z proof rest given below k_is is order within inner
+    past following below_is given_is =
     let more = part_more s e n order within inner in
-    let last = behind.last in
+    let last = following.last in
     let size : n ≡ k + (n - k) = omega arith in
     given_is
     ∙ cond-false _ _ _ (lt-leb e k past)
     ∙ ⊎_elim
     (λ (before : s < k).
-    let over = behind.over before in
+    let over = following.over before in
     let moved : below ≡ open_of h 0 to (n - k) false node rest =
     below_is
     ∙ ap (λ (i : ℕ). open_of h i to (n - k) still node rest) over.0
@@ -63,7 +63,7 @@ above_behind h s e n k from to known still node z proof rest given below k_is is
     (omega arith) (not_whole s e n zeroth inner)))
     (cases_lt 0 s))
     (λ (right : k ≤ s).
-    let there = behind.behind right in
+    let there = following.following right in
     let moved : below ≡ open_of h from to (n - k) known node rest =
     below_is ∙ ap (λ (b : Bool). open_of h from to (n - k) b node rest) there.1 in
     cond-true _ _ _ (le-leb k s right)
@@ -83,11 +83,11 @@ above_first h n m k still prefix z proof rest given below k_is is less past belo
     let some = (split_bounds m).positive in
     let begun : 0 < n = omega arith in
     let within : n ≤ m = omega arith in
-    above_behind h 0 n m k 0 (n - k) still false prefix z proof rest given below k_is is begun
+    above_after h 0 n m k 0 (n - k) still false prefix z proof rest given below k_is is begun
     within (inr less) past
     (record {
       last = omega arith;
-      behind = λ none. let no : ⊥ = omega arith in absurd no;
+      following = λ none. let no : ⊥ = omega arith in absurd no;
       over = λ before. (refl, refl);
     })
     below_is given_is
@@ -111,12 +111,13 @@ above_lower h s e n m k known node z proof rest given below k_is is less past le
 pub above_upper : (h : HashFunction) (s e n m k from to : ℕ) (known still : Bool) (node z : Hash)
     (proof rest : List Hash) (given below : Option Opened) → k ≡ split_of m
     → proof ≡ rest ++ z ∷ [] → n < m → k < n → s < e → e ≤ n → (0 < s) ⊎ (e < n) → k < e
-    → IsBehind k s e known from to still
+    → IsFollowing k s e known from to still
     → below ≡ open_of h from to (n - k) still node rest
     → given ≡ opened_above h k s e z below → given ≡ open_of h s e n known node proof
 above_upper h s e n m k from to known still node z proof rest given below k_is is less over order
-    within inner past behind below_is given_is =
+    within inner past following below_is given_is =
     let above : split_of m < n = omega arith in
-    above_behind h s e n k from to known still node z proof rest given below
-    (k_is ∙ sym (prefix_split n m (omega arith) above)) is order within inner past behind below_is
+    above_after h s e n k from to known still node z proof rest given below
+    (k_is ∙ sym (prefix_split n m (omega arith) above)) is order within inner past following
+    below_is
     given_is

@@ -20,12 +20,12 @@ use Rattle.collide.proofs.Opening.{open_inputs_left, open_inputs_over, open_inpu
 use Rattle.collide.specs.Inputs.{inputs_left, inputs_over, inputs_right, open_inputs_from_root}
 use Rattle.collide.specs.Inputs.{pair_input}
 use Rattle.quarrel_core.proofs.JoiningSteps.{joined_there}
-use Rattle.quarrel_core.proofs.Levels.{tested, told_by_left, told_by_right}
+use Rattle.quarrel_core.proofs.Levels.{tested, separated_by_left, separated_by_right}
 use Rattle.quarrel_core.proofs.Openings.{AreOpened, IsStep, begins_first, not_whole, step_left}
 use Rattle.quarrel_core.proofs.Openings.{over_root_in, over_subtree_in}
 use Rattle.quarrel_core.proofs.Openings.{step_over, step_right, unknown_sized}
 use Rattle.quarrel_core.specs.Sizes.{AreFullHashes}
-use Rattle.quarrel_core.specs.Joining.{joined_behind, joined_left, joined_with}
+use Rattle.quarrel_core.specs.Joining.{joined_following, joined_left, joined_with}
 use Rattle.quarrel_core.specs.declared.joined.Joined.TheVariants.{Pair, Proof}
 use Rattle.quarrel_core.proofs.TwoProofs.{AreTwo, JoinsTo, TwoJoin, joins_pair, joins_proof, raised}
 
@@ -108,7 +108,8 @@ part_left h sized s e n m known still node prefix z y p q one other two less abo
     (tested (JoinsTo h s e m known node one.subtree other.root xs ys) h xs ys own.below.root y z
     step.below.subtree (Proof (step.below.root ∷ p))
     (Pair (pair_input own.below.root y) (pair_input z step.below.subtree))
-    (told_by_right own.below.root y z step.below.subtree (two.firsts.0 ∙ sym sizes.subtree)) hashes
+    (separated_by_right own.below.root y z step.below.subtree (two.firsts.0 ∙ sym sizes.subtree))
+    hashes
     (own.tops _ (first_in _ []))
     (step.tops _ (over_subtree_in z step.below))
     (λ same beside.
@@ -155,7 +156,7 @@ pub part_right : (h : HashFunction) → IsSized h → (s e n m : ℕ) (known sti
     → JoinsTo h s e m known node one.subtree other.root
     (open_inputs_from_root h s e n known node (y ∷ p))
     (open_inputs_from_root h 0 n m still prefix (z ∷ q))
-    (joined_behind y z
+    (joined_following y z
     (joined_there h n m node prefix q (s - split_of m) (e - split_of m) known p)
     (open_from_root h (s - split_of m) (e - split_of m) (n - split_of m) known node p)
     (open_from_root h 0 (n - split_of m) (m - split_of m) false prefix q))
@@ -185,18 +186,20 @@ part_right h sized s e n m known still node prefix z y p q one other two less ab
     let root : pair_hash h z step.below.root ≡ other.root =
     ap (λ (o : Opened). o.root) step.is in
     subst (λ (o : Option Opened). JoinsTo h s e m known node one.subtree other.root xs ys
-    (joined_behind y z
+    (joined_following y z
     (joined_there h n m node prefix q (s - split_of m) (e - split_of m) known p) o
     (open_from_root h 0 (n - split_of m) (m - split_of m) false prefix q)))
     (sym own.gives)
     (subst (λ (o : Option Opened). JoinsTo h s e m known node one.subtree other.root xs ys
-    (joined_behind y z (joined_there h n m node prefix q (s - split_of m) (e - split_of m) known p)
+    (joined_following y z
+    (joined_there h n m node prefix q (s - split_of m) (e - split_of m) known p)
     (Some own.below) o)) (sym step.gives)
     (tested (JoinsTo h s e m known node one.subtree other.root xs ys) h xs ys y own.below.root z
     step.below.subtree
     (joined_with z (joined_there h n m node prefix q (s - split_of m) (e - split_of m) known p))
     (Pair (pair_input y own.below.root) (pair_input z step.below.subtree))
-    (told_by_left y own.below.root z step.below.subtree (two.firsts.0 ∙ sym two.seconds.0)) hashes
+    (separated_by_left y own.below.root z step.below.subtree (two.firsts.0 ∙ sym two.seconds.0))
+    hashes
     (own.tops _ (first_in _ []))
     (step.tops _ (over_subtree_in z step.below))
     (λ same beside.
@@ -253,7 +256,7 @@ pub part_over : (h : HashFunction) → IsSized h → (s e n m : ℕ) (known stil
     → JoinsTo h s e m known node one.subtree other.root
     (open_inputs_from_root h s e n known node (y ∷ p))
     (open_inputs_from_root h 0 n m still prefix (z ∷ q))
-    (joined_behind y z
+    (joined_following y z
     (joined_there h n m node prefix q 0 (e - split_of m) false p)
     (open_from_root h 0 (e - split_of m) (n - split_of m) false node p)
     (open_from_root h 0 (n - split_of m) (m - split_of m) false prefix q))
@@ -286,17 +289,18 @@ part_over h sized s e n m known still node prefix z y p q one other two less abo
     let root : pair_hash h z step.below.root ≡ other.root =
     ap (λ (o : Opened). o.root) step.is in
     subst (λ (o : Option Opened). JoinsTo h s e m known node one.subtree other.root xs ys
-    (joined_behind y z (joined_there h n m node prefix q 0 (e - split_of m) false p) o
+    (joined_following y z (joined_there h n m node prefix q 0 (e - split_of m) false p) o
     (open_from_root h 0 (n - split_of m) (m - split_of m) false prefix q)))
     (sym own.gives)
     (subst (λ (o : Option Opened). JoinsTo h s e m known node one.subtree other.root xs ys
-    (joined_behind y z (joined_there h n m node prefix q 0 (e - split_of m) false p)
+    (joined_following y z (joined_there h n m node prefix q 0 (e - split_of m) false p)
     (Some own.below) o)) (sym step.gives)
     (tested (JoinsTo h s e m known node one.subtree other.root xs ys) h xs ys y own.below.root z
     step.below.subtree
     (joined_with z (joined_there h n m node prefix q 0 (e - split_of m) false p))
     (Pair (pair_input y own.below.root) (pair_input z step.below.subtree))
-    (told_by_left y own.below.root z step.below.subtree (two.firsts.0 ∙ sym two.seconds.0)) hashes
+    (separated_by_left y own.below.root z step.below.subtree (two.firsts.0 ∙ sym two.seconds.0))
+    hashes
     (own.tops _ (over_root_in y own.below))
     (step.tops _ (over_subtree_in z step.below))
     (λ same beside.

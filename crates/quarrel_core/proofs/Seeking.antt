@@ -18,9 +18,9 @@ use Rattle.byte_formats.specs.Types.{Hash}
 use Rattle.cosigner_core.specs.declared.step.Step.{Step}
 use Rattle.cosigner_core.specs.declared.step.Step.TheVariants.{Advance, Sign}
 use Rattle.quarrel_core.proofs.InConflict.{conflict_end, conflict_here, conflict_next}
-use Rattle.quarrel_core.proofs.Places.{last_fails, none_passes, passes_last, position_is}
-use Rattle.quarrel_core.proofs.Places.{position_none}
-use Rattle.quarrel_core.specs.Conflicts.{conflict_behind, conflict_in, conflicts}
+use Rattle.quarrel_core.proofs.Indices.{last_fails, none_passes, passes_last, position_is}
+use Rattle.quarrel_core.proofs.Indices.{position_none}
+use Rattle.quarrel_core.specs.Conflicts.{conflict_after, conflict_in, conflicts}
 use Rattle.quarrel_core.specs.Firsts.{interval_cmp, signs}
 
 -- Two intervals are one in the order of intervals where both ends are.
@@ -139,7 +139,7 @@ agrees_on i s e a p x f is none agree = by (signs (s, e) x) refl
 
 -- The state of the search before the step at an index.
 pub record IsSought (steps : List Step) (place : ℕ) (at : ℕ × ℕ → Option ℕ) : Type 0 where
-  pub whole : conflict_in steps ≡ conflict_behind (take place steps) (drop place steps)
+  pub whole : conflict_in steps ≡ conflict_after (take place steps) (drop place steps)
   pub firsts : (q : ℕ × ℕ) → at q ≡ position (signs q) (take place steps)
   pub quiet : (a b : ℕ) (d : Step) → a < b → b < place
       → conflicts (get_or steps b d) (get_or steps a d) ≡ false
@@ -156,7 +156,7 @@ pub sought_last : (steps : List Step) (at : ℕ × ℕ → Option ℕ) → IsSou
     → conflict_in steps ≡ None
 sought_last steps at is =
     is.whole
-    ∙ ap (conflict_behind (take (length steps) steps))
+    ∙ ap (conflict_after (take (length steps) steps))
     (drop_all (length steps) steps (omega arith))
     ∙ conflict_end (take (length steps) steps)
 
@@ -164,13 +164,13 @@ sought_last steps at is =
 next_whole : (steps : List Step) (place : ℕ) (at : ℕ × ℕ → Option ℕ) (step : Step)
     → place < length steps → get_or steps place step ≡ step → IsSought steps place at
     → position (conflicts step) (take place steps) ≡ None
-    → conflict_in steps ≡ conflict_behind (take (place + 1) steps) (drop (place + 1) steps)
+    → conflict_in steps ≡ conflict_after (take (place + 1) steps) (drop (place + 1) steps)
 next_whole steps place at step below here is none =
     is.whole
-    ∙ ap (conflict_behind (take place steps))
+    ∙ ap (conflict_after (take place steps))
     (drop_more steps place step below ∙ ap (λ (x : Step). x ∷ drop (place + 1) steps) here)
     ∙ conflict_next (take place steps) step (drop (place + 1) steps) none
-    ∙ ap (λ (seen : List Step). conflict_behind seen (drop (place + 1) steps))
+    ∙ ap (λ (seen : List Step). conflict_after seen (drop (place + 1) steps))
     (sym (take_more steps place step below ∙ ap (λ (x : Step). take place steps ++ x ∷ []) here))
 
 next_quiet : (steps : List Step) (place : ℕ) (at : ℕ × ℕ → Option ℕ) (step : Step)
@@ -357,7 +357,7 @@ sought_found steps place at i s e a p first f below here is first_is read confli
         (λ k less. no_conflict_apart i s e a p (get_or (take place steps) k f) (there.2 k less))
         (ap (conflicts (Sign i s e a p)) own ∙ conflict) in
         is.whole
-        ∙ ap (conflict_behind (take place steps))
+        ∙ ap (conflict_after (take place steps))
         (drop_more steps place (Sign i s e a p) below
         ∙ ap (λ (x : Step). x ∷ drop (place + 1) steps) here)
         ∙ conflict_here (take place steps) (Sign i s e a p) (drop (place + 1) steps) n at_n

@@ -15,7 +15,7 @@ use Rattle.collide.specs.declared.finding.Finding.{Finding}
 use Rattle.collide.specs.declared.finding.Finding.TheVariants.{Pair, Same}
 use Rattle.cosigner_core.specs.declared.step.Step.{Step}
 use Rattle.cosigner_core.specs.declared.step.Step.TheVariants.{Advance, Sign}
-use Rattle.cosigner_steps.specs.Steps.{AreSteps, Shows, held_behind, proof_inputs}
+use Rattle.cosigner_steps.specs.Steps.{AreSteps, Shows, held_following, proof_inputs}
 use Rattle.quarrel_core.proofs.Carries.{sign_carried}
 use Rattle.quarrel_core.proofs.InConflict.{first_conflict}
 use Rattle.quarrel_core.specs.Carrying.{CarriesTo, IsCarried}
@@ -25,14 +25,14 @@ use Rattle.quarrel_core.specs.Sizes.{AreFullHashes}
 use Rattle.quarrel_core.specs.Conflicts.{conflict_in, key_in, keys_at, quarrel_of}
 use Rattle.quarrel_core.specs.ConflictLaws.{AreInConflict}
 
-pub record ArePlaces (steps : List Step) (i j : ℕ) : Type 0 where
+pub record AreIndices (steps : List Step) (i j : ℕ) : Type 0 where
   pub order : i < j
   pub first : i < length steps
   pub second : j < length steps
 
-pub conflict_places : (steps : List Step) (i j : ℕ) → conflict_in steps ≡ Some (i, j)
-    → ArePlaces steps i j
-conflict_places steps i j found =
+pub conflict_indices : (steps : List Step) (i j : ℕ) → conflict_in steps ≡ Some (i, j)
+    → AreIndices steps i j
+conflict_indices steps i j found =
     let is = first_conflict steps i j found in
     let at = is.conflict in
     record {
@@ -46,12 +46,12 @@ pub conflict_steps : (steps : List Step) (i j : ℕ) (x y : Step)
     → AreInConflict x y
 conflict_steps steps i j x y found first second =
     let at = (first_conflict steps i j found).conflict in
-    let places = conflict_places steps i j found in
+    let indices = conflict_indices steps i j found in
     let one : at.one ≡ x =
-    same_Some at.one x (sym at.first ∙ slice_get-get_or steps i x places.first
+    same_Some at.one x (sym at.first ∙ slice_get-get_or steps i x indices.first
     ∙ ap (λ (s : Step). Some s) (sym first)) in
     let other : at.other ≡ y =
-    same_Some at.other y (sym at.second ∙ slice_get-get_or steps j y places.second
+    same_Some at.other y (sym at.second ∙ slice_get-get_or steps j y indices.second
     ∙ ap (λ (s : Step). Some s) (sym second)) in
     subst (λ (s : Step). AreInConflict s y) one (subst (AreInConflict at.one) other at.conflict)
 
@@ -90,9 +90,9 @@ pub first_carried : (h : HashFunction) (steps : List Step) (i index start end : 
     (proof read : List Hash) → AreSteps h steps → i < length steps
     → Sign index start end hash proof ≡ get_or steps i (Sign index start end hash proof)
     → read ≡ proof → AreFullHashes read
-    → IsCarried h start end hash (held_behind h steps i) (proof_inputs h steps) read
+    → IsCarried h start end hash (held_following h steps i) (proof_inputs h steps) read
 first_carried h steps i index start end hash proof read are below is same whole =
-    subst (λ (p : List Hash). IsCarried h start end hash (held_behind h steps i)
+    subst (λ (p : List Hash). IsCarried h start end hash (held_following h steps i)
     (proof_inputs h steps) p) (sym same)
     (sign_carried h steps i index start end hash proof are below is
     (subst AreFullHashes same whole))
@@ -101,12 +101,12 @@ pub second_carried : (h : HashFunction) (steps : List Step) (j index start end f
     (hash : Hash) (proof read : List Hash) → AreSteps h steps → j < length steps
     → Sign index from to hash proof ≡ get_or steps j (Sign index from to hash proof)
     → read ≡ proof → AreFullHashes read → start ≡ from → end ≡ to
-    → IsCarried h start end hash (held_behind h steps j) (proof_inputs h steps) read
+    → IsCarried h start end hash (held_following h steps j) (proof_inputs h steps) read
 second_carried h steps j index start end from to hash proof read are below is same whole first
     last =
-    subst (λ (x : ℕ). IsCarried h x end hash (held_behind h steps j) (proof_inputs h steps) read)
+    subst (λ (x : ℕ). IsCarried h x end hash (held_following h steps j) (proof_inputs h steps) read)
     (sym first)
-    (subst (λ (x : ℕ). IsCarried h from x hash (held_behind h steps j) (proof_inputs h steps)
+    (subst (λ (x : ℕ). IsCarried h from x hash (held_following h steps j) (proof_inputs h steps)
     read) (sym last)
     (first_carried h steps j index from to hash proof read are below is same whole))
 

@@ -13,21 +13,21 @@ conflicts (Sign index start end hash proof) (Advance size root shown) = false
 conflicts (Advance size root proof) step = false
 
 -- The two indices, where an earlier one was found.
-abbrev pub places_or : Option ℕ → ℕ → Option (ℕ × ℕ) → Option (ℕ × ℕ)
-places_or (Some earlier) place rest = Some (earlier, place)
-places_or None place rest = rest
+abbrev pub indices_or : Option ℕ → ℕ → Option (ℕ × ℕ) → Option (ℕ × ℕ)
+indices_or (Some earlier) place rest = Some (earlier, place)
+indices_or None place rest = rest
 
 -- The first of some steps that conflicts with an earlier one, or with one of those seen before.
-unfoldable pub conflict_behind : List Step → List Step → Option (ℕ × ℕ)
-conflict_behind seen [] = None
-conflict_behind seen (step ∷ rest) =
-    places_or (position (conflicts step) seen) (length seen)
-    (conflict_behind (seen ++ step ∷ []) rest)
+unfoldable pub conflict_after : List Step → List Step → Option (ℕ × ℕ)
+conflict_after seen [] = None
+conflict_after seen (step ∷ rest) =
+    indices_or (position (conflicts step) seen) (length seen)
+    (conflict_after (seen ++ step ∷ []) rest)
 
 -- The indices of two Signs in conflict: the first one that conflicts with an earlier one comes
 -- second, and the earliest of these first.
 abbrev pub conflict_in : List Step → Option (ℕ × ℕ)
-conflict_in steps = conflict_behind [] steps
+conflict_in steps = conflict_after [] steps
 
 -- The number of the one-time key of a Sign, and of the Sign at an index.
 abbrev pub key_number : Step → ℕ
@@ -39,7 +39,7 @@ key_in (Some step) = key_number step
 key_in None = 0
 
 abbrev pub keys_at : List Step → ℕ × ℕ → ℕ × ℕ
-keys_at steps places = (key_in (slice_get steps places.0), key_in (slice_get steps places.1))
+keys_at steps indices = (key_in (slice_get steps indices.0), key_in (slice_get steps indices.1))
 
 -- The numbers of the one-time keys that signed what is in conflict.
 abbrev pub quarrel_of : List Step → Option (ℕ × ℕ)

@@ -20,12 +20,12 @@ contrast_left y z rest (Some one) None = Same
 contrast_left y z rest None other = Same
 
 -- The same where the interval has entries in the right part.
-abbrev pub contrast_behind : Hash → Hash → Finding → Option Opened → Option Opened → Finding
-contrast_behind y z rest (Some one) (Some other) =
+abbrev pub contrast_after : Hash → Hash → Finding → Option Opened → Option Opened → Finding
+contrast_after y z rest (Some one) (Some other) =
     if same_pair y one.root z other.root then rest
     else Pair (pair_input y one.root) (pair_input z other.root)
-contrast_behind y z rest (Some one) None = Same
-contrast_behind y z rest None other = Same
+contrast_after y z rest (Some one) None = Same
+contrast_after y z rest None other = Same
 
 -- The strings of the topmost node that both proofs hash, by other hashes, or that there is none.
 unfoldable pub contrast_from_root : HashFunction → ℕ → ℕ → ℕ → Bool → Hash → Hash → List Hash
@@ -39,10 +39,10 @@ contrast_from_root h start end n known node other (y ∷ p) (z ∷ q) =
     then contrast_left y z (contrast_from_root h start end k known node other p q)
     (open_from_root h start end k known node p) (open_from_root h start end k known other q)
     else (if nat_le k start
-    then contrast_behind y z
+    then contrast_after y z
     (contrast_from_root h (start - k) (end - k) (n - k) known node other p q)
     (open_from_root h (start - k) (end - k) (n - k) known node p)
     (open_from_root h (start - k) (end - k) (n - k) known other q)
-    else contrast_behind y z (contrast_from_root h 0 (end - k) (n - k) false node other p q)
+    else contrast_after y z (contrast_from_root h 0 (end - k) (n - k) false node other p q)
     (open_from_root h 0 (end - k) (n - k) false node p)
     (open_from_root h 0 (end - k) (n - k) false other q)))

@@ -5,7 +5,7 @@ ghost use Rattle.tree_proofs.specs.Consistency.{Checks};
 ghost use Rattle.collide.specs.declared.finding.Finding.TheVariants.{Same};
 ghost use Rattle.collide.specs.Extraction.{Extracts};
 ghost use Rattle.collide.specs.Inputs.{open_inputs_of};
-ghost use Rattle.quarrel_core.specs.Contrasting.{contrast_behind, contrast_from_root};
+ghost use Rattle.quarrel_core.specs.Contrasting.{contrast_after, contrast_from_root};
 ghost use Rattle.quarrel_core.specs.Contrasting.{contrast_left};
 ghost use Rattle.quarrel_core.specs.OpenedParts.{IsContrast, opened_above};
 
@@ -53,7 +53,7 @@ fn right_of(
     given: BothOpened,
 ) -> Result<Finding, Memory>
     ensures { IfOk result (λ finding. finding
-        ≡ contrast_behind own.now sibling.now rest given.first given.second) }
+        ≡ contrast_after own.now sibling.now rest given.first given.second) }
 {
     let Some(one) = given.first else {
         return Ok(Finding::Same);

@@ -32,7 +32,7 @@ pub fn law_joined_proofs_are_made()
 /// steps are in conflict. Of steps that are allowed, the numbers of one-time keys are in the order
 /// of the steps.
 pub fn law_conflicts_are_first()
-    ensures places { ConflictsAreFirst }
+    ensures indices { ConflictsAreFirst }
     ensures keys { (h : HashFunction) → KeysRise h }
 {}
 

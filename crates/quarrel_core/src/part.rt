@@ -1,7 +1,7 @@
 //! An interval of a list, and what it is after the list's split.
 
 ghost use Rattle.std.specs.Prelude.{◌<◌};
-ghost use Rattle.collide.specs.Behind.{IsBehind};
+ghost use Rattle.collide.specs.After.{IsFollowing};
 
 // An interval of a list, and whether its hash is known.
 #[derive(Clone, Copy)]
@@ -14,7 +14,7 @@ pub(crate) struct Part {
 // What an interval that ends after a split is there, counted from the split.
 pub(crate) fn after(middle: u64, part: Part) -> Part
     requires { middle < part.end }
-    ensures { IsBehind middle part.start part.end part.known
+    ensures { IsFollowing middle part.start part.end part.known
         result.start result.end result.known }
 {
     if middle <= part.start {

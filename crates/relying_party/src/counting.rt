@@ -2,7 +2,7 @@
 
 ghost use Rattle.std.specs.Prelude.{◌≡◌};
 ghost use Rattle.std.specs.List.{list_any};
-ghost use Rattle.byte_formats.specs.Places.{at};
+ghost use Rattle.byte_formats.specs.Offsets.{at};
 ghost use Rattle.mtc_proof.specs.Reading.{signatures_left};
 ghost use Rattle.mtc_proof.specs.Views.{proof_parts, sig_parts};
 ghost use Rattle.policy_core.specs.Counting.{counted, counts, has_signed, is_named};

@@ -3,7 +3,7 @@
 ghost use Rattle.std.specs.Prelude.{◌≡◌, ◌⊎◌, ℕ, ◌<◌, ◌≤◌, true, false, ℤ, List, length, slice_get};
 ghost use Rattle.std.specs.Prelude.{slice_index_or, Some, Ok};
 ghost use Rattle.std.specs.List.{AllByRecursion, Contains, flat_map, list_any};
-ghost use Rattle.byte_formats.specs.Places.{IsBytes};
+ghost use Rattle.byte_formats.specs.Offsets.{IsBytes};
 ghost use Rattle.byte_formats.specs.Types.{Hash, HashFunction, Text};
 ghost use Rattle.hss_core.specs.Hss.{Verifies};
 ghost use Rattle.mtc_proof.specs.Inputs.{signed_text};

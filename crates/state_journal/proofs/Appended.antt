@@ -5,10 +5,10 @@ use Rattle.std.proofs.Common.{IsTrue, false, subst, arith}
 use Rattle.std.specs.Prelude.{is_some}
 use Rattle.std.proofs.lemmas.Option.{same_Some}
 use Rattle.byte_formats.specs.Types.{Text}
-use Rattle.disk_core.specs.Moments.{LeavesOnly}
+use Rattle.disk_core.specs.Times.{LeavesOnly}
 use Rattle.disk_core.specs.declared.disk.Disk.{Ghosts}
 use Rattle.journal_core.specs.Ends.{durable_records}
-use Rattle.journal_core.specs.Format.{RepresentsEither, behind}
+use Rattle.journal_core.specs.Format.{RepresentsEither, following}
 use Rattle.journal_core.specs.Words.{AllRepresent, disk_of, end_of, is_broken, records}
 use Rattle.journal_core.specs.declared.error.AppendError.{AppendError}
 use Rattle.journal_core.specs.declared.journal.Journal.{Journal}
@@ -28,7 +28,7 @@ is_allowed o t is = subst (λ p. IsTrue (is_some p)) (sym is) refl
 module _ {M X R : Type 0} (m : Machines M X R) where
   makes_next : (was now : M) (place : ℕ) (body : Text)
       → HasNextMachine m.takes m.state m.Keeps place body was now
-      → (list : List Text) → Makes m was list → place ≡ behind 16 list
+      → (list : List Text) → Makes m was list → place ≡ following 16 list
       → Makes m now (list ++ body ∷ [])
   makes_next was now place body next list makes there = record {
     made = state_next (fold_of m) list (m.state was) body (m.state now) makes.made next.next;
@@ -65,19 +65,19 @@ module _ {M X R : Type 0} (m : Machines M X R) where
         (stay_kept (Makes m it) old new body why did made.durable).1
 
     -- at any time of the call, and after it, of the durable records
-    moments : (old new : Journal D g) (body : Text) (result : Result (Unit {0}) AppendError)
+    times : (old new : Journal D g) (body : Text) (result : Result (Unit {0}) AppendError)
         → JournalAppends body old new result → is_broken old ≡ false
         → IfSome (durable_records old) (λ list.
         LeavesOnly g (disk_of old) (disk_of new) (RepresentsEither list body))
-    moments old new body result did sound =
+    times old new body result did sound =
         of_sound old (λ list. LeavesOnly g (disk_of old) (disk_of new) (RepresentsEither list body))
-        sound (did.any_moment sound)
+        sound (did.any_time sound)
 
-    behind_it : (old new : Journal D g) (body : Text) (result : Result (Unit {0}) AppendError)
+    following_it : (old new : Journal D g) (body : Text) (result : Result (Unit {0}) AppendError)
         → JournalAppends body old new result → is_broken old ≡ false
         → IfSome (durable_records old) (λ list.
         (c : Text) → g.may_leave (disk_of new) c → RepresentsEither list body c)
-    behind_it old new body result did sound =
+    following_it old new body result did sound =
         of_sound old (λ list. (c : Text) → g.may_leave (disk_of new) c
         → RepresentsEither list body c) sound (did.afterwards sound)
 
@@ -102,8 +102,8 @@ module _ {M X R : Type 0} (m : Machines M X R) where
               did.leaves.was_sound (all_kept g (disk_of new) (g.contents (disk_of new))
               (records old) body body did.leaves.records refl did.leaves.all);
           count = did.count;
-          any_moment = moments old new body (Ok tt) did;
-          afterwards = behind_it old new body (Ok tt) did;
+          any_time = times old new body (Ok tt) did;
+          afterwards = following_it old new body (Ok tt) did;
         }
 
     pub not_appended : (old new : Journal D g) (it : M) (body : Text) (why : AppendError)
@@ -114,6 +114,6 @@ module _ {M X R : Type 0} (m : Machines M X R) where
           (m.state it) refl why did.leaves did.broken;
       kept = tt;
       count = did.count;
-      any_moment = moments old new body (Err why) did;
-      afterwards = behind_it old new body (Err why) did;
+      any_time = times old new body (Err why) did;
+      afterwards = following_it old new body (Err why) did;
     }

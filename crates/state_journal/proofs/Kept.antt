@@ -7,12 +7,12 @@ use Rattle.byte_formats.specs.Types.{Text}
 use Rattle.disk_core.specs.declared.disk.Disk.{Ghosts}
 use Rattle.journal_core.specs.Durable.{IsDurable}
 use Rattle.journal_core.specs.Ends.{durable_of, durable_records}
-use Rattle.journal_core.specs.Format.{RepresentsEither, end_behind, records_of}
+use Rattle.journal_core.specs.Format.{RepresentsEither, end_following, records_of}
 use Rattle.journal_core.specs.Words.{IsUntouched, disk_of, end_of, is_broken, records}
 use Rattle.journal_core.specs.declared.error.AppendError.{AppendError}
 use Rattle.journal_core.specs.declared.error.AppendError.TheVariants.{Broken, Failed, Full}
 use Rattle.journal_core.specs.declared.journal.Journal.{Journal}
-use Rattle.journal_core.proofs.Ends.{HoldsUpTo, are_durable, of_either, of_durable, settled-are}
+use Rattle.journal_core.proofs.Ends.{HoldsUpTo, are_durable, of_either, of_durable, is_durable-are}
 use Rattle.journal_core.proofs.Owners.{was_sound}
 use Rattle.journal_core.specs.Appends.{JournalAppends}
 use Rattle.state_journal.specs.Durable.{IsDurableWith}
@@ -33,45 +33,46 @@ durable_with : (P : List Text → Type 0) (bytes : Text) (list : List Text) (end
     → HoldsUpTo bytes list end → P list → IsDurableWith P end bytes
 durable_with P bytes list end is holds = record {
   durable = are_durable bytes list end is;
-  holds = subst P (sym (settled-are bytes list end is)) holds;
+  holds = subst P (sym (is_durable-are bytes list end is)) holds;
 }
 
-module _ (end : ℕ) (images : Text → Type 0) where
-  same_records : (contents : Option Text) → Each contents (λ bytes. IsDurable bytes images end)
+module _ (end : ℕ) (crash_states : Text → Type 0) where
+  same_records : (contents : Option Text)
+      → Each contents (λ bytes. IsDurable bytes crash_states end)
       → option_map (durable_of end) contents ≡ option_map records_of contents
-  same_records None settled = refl
-  same_records (Some bytes) settled =
-      ap Some (settled-are bytes (records_of bytes) end
-      (of_durable bytes images end (settled bytes refl)))
+  same_records None is_durable = refl
+  same_records (Some bytes) is_durable =
+      ap Some (is_durable-are bytes (records_of bytes) end
+      (of_durable bytes crash_states end (is_durable bytes refl)))
 
   each_with : (P : List Text → Type 0) (contents : Option Text)
-      → Each contents (λ bytes. IsDurable bytes images end)
+      → Each contents (λ bytes. IsDurable bytes crash_states end)
       → IfSome (option_map records_of contents) P → Each contents (IsDurableWith P end)
-  each_with P None settled holds = none_modelled (IsDurableWith P end)
-  each_with P (Some bytes) settled holds = only_some (IsDurableWith P end) bytes
+  each_with P None is_durable holds = none_modelled (IsDurableWith P end)
+  each_with P (Some bytes) is_durable holds = only_some (IsDurableWith P end) bytes
       (durable_with P bytes (records_of bytes) end
-      (of_durable bytes images end (settled bytes refl)) holds)
+      (of_durable bytes crash_states end (is_durable bytes refl)) holds)
 
   -- an append that failed
   failed_each : (P : List Text → Type 0) (body : Text) (old new : Option Text)
-      → Each old (λ bytes. IsDurable bytes images end) → Each old (IsDurableWith P end)
+      → Each old (λ bytes. IsDurable bytes crash_states end) → Each old (IsDurableWith P end)
       → IfSome (option_map records_of old) (λ list. IfSome new (RepresentsEither list body))
       → is_some (option_map records_of new) ≡ is_some (option_map records_of old)
       → Each new (IsDurableWith P end)
       × (option_map (durable_of end) new ≡ option_map (durable_of end) old)
-  failed_each P body None None settled kept either same =
+  failed_each P body None None is_durable kept either same =
       (none_modelled (IsDurableWith P end), refl)
-  failed_each P body None (Some now) settled kept either same =
+  failed_each P body None (Some now) is_durable kept either same =
       let wrong : true ≡ false = same in absurd cc
-  failed_each P body (Some was) None settled kept either same =
+  failed_each P body (Some was) None is_durable kept either same =
       let wrong : false ≡ true = same in absurd cc
-  failed_each P body (Some was) (Some now) settled kept either same =
+  failed_each P body (Some was) (Some now) is_durable kept either same =
       let list = records_of was in
-      let held = of_durable was images end (settled was refl) in
+      let held = of_durable was crash_states end (is_durable was refl) in
       let holds = of_either now list body end held.last either in
-      let of_list : P list = subst P (settled-are was list end held) (kept was refl).holds in (
+      let of_list : P list = subst P (is_durable-are was list end held) (kept was refl).holds in (
         only_some (IsDurableWith P end) now (durable_with P now list end holds of_list),
-        ap Some (settled-are now list end holds ∙ sym (settled-are was list end held)),
+        ap Some (is_durable-are now list end holds ∙ sym (is_durable-are was list end held)),
       )
 
 -- what holds of both holds of other options that are equal to these
@@ -89,7 +90,7 @@ module _ {D : Type 0} {g : Ghosts D} where
       → durable_records journal ≡ records journal
   sound_records journal sound =
       same_records (end_of journal) (g.may_leave (disk_of journal)) (g.contents (disk_of journal))
-      (journal.settled sound)
+      (journal.is_durable sound)
 
   -- so what holds of all holds of them
   pub of_sound : (journal : Journal D g) (P : List Text → Type 0) → is_broken journal ≡ false
@@ -107,25 +108,25 @@ module _ {D : Type 0} {g : Ghosts D} where
         → IfSome (records journal) P → Keeps journal
     keeps_sound journal sound holds =
         each_with (end_of journal) (g.may_leave (disk_of journal)) P
-        (g.contents (disk_of journal)) (journal.settled sound) holds
+        (g.contents (disk_of journal)) (journal.is_durable sound) holds
 
     -- so it does with the offset where they end
     pub holds_of : (journal : Journal D g) → Keeps journal
-        → IfSome (durable_records journal) (λ list. P list × (end_of journal ≡ end_behind list))
+        → IfSome (durable_records journal) (λ list. P list × (end_of journal ≡ end_following list))
     holds_of journal keeps = go (g.contents (disk_of journal)) keeps
       where
         go : (contents : Option Text) → Each contents (IsDurableWith P (end_of journal))
             → IfSome (option_map (durable_of (end_of journal)) contents)
-            (λ list. P list × (end_of journal ≡ end_behind list))
+            (λ list. P list × (end_of journal ≡ end_following list))
         go None kept = tt
         go (Some bytes) kept =
             ((kept bytes refl).holds, (kept bytes refl).durable.last)
 
     pub holds_sound : (journal : Journal D g) → is_broken journal ≡ false → Keeps journal
-        → IfSome (records journal) (λ list. P list × (end_of journal ≡ end_behind list))
+        → IfSome (records journal) (λ list. P list × (end_of journal ≡ end_following list))
     holds_sound journal sound keeps =
         subst (λ (o : Option (List Text)). IfSome o (λ list. P list
-        × (end_of journal ≡ end_behind list))) (sound_records journal sound)
+        × (end_of journal ≡ end_following list))) (sound_records journal sound)
         (holds_of journal keeps)
 
     -- an append that failed leaves them as they were
@@ -137,7 +138,8 @@ module _ {D : Type 0} {g : Ghosts D} where
         → Keeps new × (durable_records new ≡ durable_records old)
     failed_keeps old new body sound end either same keeps =
         let is = failed_each (end_of old) (g.may_leave (disk_of old)) P body
-        (g.contents (disk_of old)) (g.contents (disk_of new)) (old.settled sound) keeps either same
+        (g.contents (disk_of old)) (g.contents (disk_of new)) (old.is_durable sound) keeps either
+        same
         in
         let back = sym end in (
           subst (λ (n : ℕ). Each (g.contents (disk_of new)) (IsDurableWith P n)) back is.0,
@@ -176,7 +178,7 @@ module _ {D : Type 0} {g : Ghosts D} where
   -- where the record was appended, this holds of the records with it
   pub appended_keeps : (P Q : List Text → Type 0) (old new : Journal D g) (body : Text)
       → JournalAppends body old new (Ok tt)
-      → ((list : List Text) → P list → end_of old ≡ end_behind list → Q (list ++ body ∷ []))
+      → ((list : List Text) → P list → end_of old ≡ end_following list → Q (list ++ body ∷ []))
       → Keeps P old → Keeps Q new
   appended_keeps P Q old new body did next keeps =
       keeps_sound Q new did.leaves.sound
@@ -184,7 +186,7 @@ module _ {D : Type 0} {g : Ghosts D} where
       (holds_sound P old did.leaves.was_sound keeps))
     where
       go : (was now : Option (List Text)) → now ≡ option_map (λ list. list ++ body ∷ []) was
-          → IfSome was (λ list. P list × (end_of old ≡ end_behind list)) → IfSome now Q
+          → IfSome was (λ list. P list × (end_of old ≡ end_following list)) → IfSome now Q
       go None now is holds = subst (λ (o : Option (List Text)). IfSome o Q) (sym is) tt
       go (Some list) now is holds =
           subst (λ (o : Option (List Text)). IfSome o Q) (sym is) (next list holds.0 holds.1)

@@ -1,7 +1,7 @@
 -- What a call leaves of the owner of a journal, in errors of its own.
 use Rattle.std.proofs.Common.{◌≡◌, Option, Some, None, Ok, Err, refl, subst, sym, arith}
 use Rattle.byte_formats.specs.Types.{Text}
-use Rattle.disk_core.specs.Moments.{LeavesOnly}
+use Rattle.disk_core.specs.Times.{LeavesOnly}
 use Rattle.disk_core.specs.declared.disk.Disk.{Ghosts}
 use Rattle.journal_core.specs.Ends.{durable_records}
 use Rattle.journal_core.specs.Format.{RepresentsEither}
@@ -9,14 +9,14 @@ use Rattle.journal_core.specs.Owners.{Owner, OwnerAppends, OwnerIsRefused, owner
 use Rattle.journal_core.specs.Words.{disk_of, end_of}
 use Rattle.journal_core.specs.declared.error.AppendError.{AppendError}
 use Rattle.journal_core.specs.declared.journal.Journal.{Journal}
-use Rattle.journal_core.proofs.Appends.{untouched_after, untouched_moment}
+use Rattle.journal_core.proofs.Appends.{untouched_after, untouched_time}
 use Rattle.state_journal.proofs.Kept.{of_sound}
 
 module _ {D S X E : Type 0} (g : Ghosts D) (of_journal : E → Option AppendError) (body : Text)
     (next : S) where
   -- a refusal before the append
   pub owner_stays : (journal : Journal D g) (s : S) (why : E) → of_journal why ≡ None
-      → ((c : Text) → g.left_since (disk_of journal) (g.moment (disk_of journal)) c
+      → ((c : Text) → g.left_since (disk_of journal) (g.clock_at (disk_of journal)) c
       → g.may_leave (disk_of journal) c)
       → OwnerAppends {X = X} g of_journal body next
       (owner_over journal (durable_records journal) s)
@@ -28,12 +28,12 @@ module _ {D S X E : Type 0} (g : Ghosts D) (of_journal : E → Option AppendErro
             (record { disk = refl; state = refl; end = refl; broken = refl });
         kept = tt;
         count = omega arith;
-        any_moment = λ sound. of_sound journal (λ list. LeavesOnly g (disk_of journal)
-            (disk_of journal) (RepresentsEither list body)) sound (untouched_moment g
-            (disk_of journal) (end_of journal) body (journal.settled sound) only_now);
+        any_time = λ sound. of_sound journal (λ list. LeavesOnly g (disk_of journal)
+            (disk_of journal) (RepresentsEither list body)) sound (untouched_time g
+            (disk_of journal) (end_of journal) body (journal.is_durable sound) only_now);
         afterwards = λ sound. of_sound journal (λ list. (c : Text)
             → g.may_leave (disk_of journal) c → RepresentsEither list body c) sound
-            (untouched_after g (disk_of journal) (end_of journal) body (journal.settled sound));
+            (untouched_after g (disk_of journal) (end_of journal) body (journal.is_durable sound));
       }
 
   -- what the append of the machine did, and where it was refused or failed
@@ -44,7 +44,7 @@ module _ {D S X E : Type 0} (g : Ghosts D) (of_journal : E → Option AppendErro
     leaves = did.leaves;
     kept = did.kept;
     count = did.count;
-    any_moment = did.any_moment;
+    any_time = did.any_time;
     afterwards = did.afterwards;
   }
 
@@ -56,6 +56,6 @@ module _ {D S X E : Type 0} (g : Ghosts D) (of_journal : E → Option AppendErro
     leaves = subst (λ o. OwnerIsRefused g o old new) (sym is) did.leaves;
     kept = tt;
     count = did.count;
-    any_moment = did.any_moment;
+    any_time = did.any_time;
     afterwards = did.afterwards;
   }

@@ -1,9 +1,9 @@
 -- What calls that read a journal leave, one after another.
 use Rattle.std.proofs.Common.{◌≡◌, ℕ, false, Bool, Some, None, Result, Ok, Err, IsErrAnd, OnErr, ap}
 use Rattle.std.proofs.Common.{refl, sym, ◌∙◌}
-use Rattle.disk_core.specs.Moments.{OnlyReads}
+use Rattle.disk_core.specs.Times.{OnlyReads}
 use Rattle.disk_core.specs.declared.disk.Disk.{Ghosts}
-use Rattle.disk_core.proofs.Moments.{only_read_on}
+use Rattle.disk_core.proofs.Times.{only_read_on}
 use Rattle.journal_core.specs.Folds.{Fold}
 use Rattle.journal_core.specs.Openings.{HasStepped, opening_disk}
 use Rattle.journal_core.specs.declared.error.OpenError.{OpenError}
@@ -30,15 +30,15 @@ left_at Becomes Stops was now stops k Memory is = (is, λ other. absurd (other r
 
 module _ {D S : Type 0} (g : Ghosts D) (fold : Fold S StateOpenError) (old mid new : D)
     (only_reads : OnlyReads g old mid) (fine : g.faults mid ≡ g.faults old) where
-  cause_behind : (why : StateOpenError) → HasStateCause g fold mid new why
+  cause_after : (why : StateOpenError) → HasStateCause g fold mid new why
       → HasStateCause g fold old new why
-  cause_behind (BadRecord k) cause = refused_later g fold old mid (BadRecord k) only_reads cause
-  cause_behind (Open why) cause = cause_later g fold old mid new why only_reads cause
+  cause_after (BadRecord k) cause = refused_later g fold old mid (BadRecord k) only_reads cause
+  cause_after (Open why) cause = cause_later g fold old mid new why only_reads cause
 
   -- a call that reads on after calls that only read and counted no failure
-  pub behind_ok : {X Y : Type 0} (x : X) (y : Y) → HasReadOn g fold mid new (Ok x)
+  pub after_ok : {X Y : Type 0} (x : X) (y : Y) → HasReadOn g fold mid new (Ok x)
       → HasReadOn g fold old new (Ok y)
-  behind_ok x y read = record {
+  after_ok x y read = record {
     only_reads = only_read_on g old mid new only_reads read.only_reads;
     fine = read.fine ∙ fine;
     fine_err = tt;
@@ -46,13 +46,13 @@ module _ {D S : Type 0} (g : Ghosts D) (fold : Fold S StateOpenError) (old mid n
   }
 
   -- and one that is refused
-  pub behind_err : {X Y : Type 0} (why : StateOpenError)
+  pub after_err : {X Y : Type 0} (why : StateOpenError)
       → HasReadOn {X = X} g fold mid new (Err why) → HasReadOn {X = Y} g fold old new (Err why)
-  behind_err why read = record {
+  after_err why read = record {
     only_reads = only_read_on g old mid new only_reads read.only_reads;
     fine = tt;
     fine_err = λ other. read.fine_err other ∙ fine;
-    cause = cause_behind why read.cause;
+    cause = cause_after why read.cause;
   }
 
 module _ {D S X : Type 0} {g : Ghosts D} (fold : Fold S StateOpenError) (old new : Opening D g)

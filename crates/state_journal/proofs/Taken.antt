@@ -2,12 +2,12 @@
 use Rattle.std.proofs.Common.{◌≡◌, ℕ, ◌+◌, List, [], length, Option, Some, None, IfSome}
 use Rattle.std.proofs.Common.{option_map, Ok, refl, sym, ap, subst, arith}
 use Rattle.byte_formats.specs.Types.{Text}
-use Rattle.disk_core.specs.Moments.{OnlyReads}
+use Rattle.disk_core.specs.Times.{OnlyReads}
 use Rattle.disk_core.specs.declared.disk.Disk.{Ghosts}
 use Rattle.journal_core.specs.Durable.{IsReading}
-use Rattle.journal_core.specs.Folds.{state_behind}
-use Rattle.journal_core.specs.Format.{behind, records_before}
-use Rattle.journal_core.specs.Openings.{HasEnded, HasRead, last_body, next_place, opening_disk}
+use Rattle.journal_core.specs.Folds.{state_after}
+use Rattle.journal_core.specs.Format.{following, records_before}
+use Rattle.journal_core.specs.Openings.{HasEnded, HasRead, last_body, next_offset, opening_disk}
 use Rattle.journal_core.specs.Openings.{read_list}
 use Rattle.journal_core.specs.Readings.{HasFolded}
 use Rattle.journal_core.specs.declared.opening.Opening.{Opening}
@@ -23,17 +23,17 @@ use Rattle.state_journal.specs.declared.machine.StateMachine.{Ghosts as Machines
 -- the records that were read end at the next commit byte
 placed : {D : Type 0} {g : Ghosts D} (P : List Text → Type 0) (opening : Opening D g)
     → IfSome (read_list opening) P
-    → IfSome (read_list opening) (λ list. P list × (next_place opening ≡ behind 16 list))
+    → IfSome (read_list opening) (λ list. P list × (next_offset opening ≡ following 16 list))
 placed {D} {g} P opening holds =
     go (g.contents (opening_disk opening)) opening.reading holds
   where
     go : (contents : Option Text) → ((b : Text) → contents ≡ Some b
-        → IsReading b (g.may_leave (opening_disk opening)) (next_place opening))
-        → IfSome (option_map (λ b. records_before b (next_place opening)) contents) P
-        → IfSome (option_map (λ b. records_before b (next_place opening)) contents)
-        (λ list. P list × (next_place opening ≡ behind 16 list))
+        → IsReading b (g.may_leave (opening_disk opening)) (next_offset opening))
+        → IfSome (option_map (λ b. records_before b (next_offset opening)) contents) P
+        → IfSome (option_map (λ b. records_before b (next_offset opening)) contents)
+        (λ list. P list × (next_offset opening ≡ following 16 list))
     go None reading is = tt
-    go (Some b) reading is = (is, (reading b refl).place_is)
+    go (Some b) reading is = (is, (reading b refl).offset_is)
 
 module _ {M X R : Type 0} (m : Machines M X R) {D : Type 0} {g : Ghosts D}
     (old new : Opening D g) where
@@ -41,7 +41,7 @@ module _ {M X R : Type 0} (m : Machines M X R) {D : Type 0} {g : Ghosts D}
     -- the first record begins the machine
     pub taken_first : (it : M)
         → read_list old ≡ option_map (λ _. []) (g.contents (opening_disk old))
-        → next_place old ≡ 16 → IsBegunMachine m.begins m.state m.Keeps body it
+        → next_offset old ≡ 16 → IsBegunMachine m.begins m.state m.Keeps body it
         → m.Within it (21 + length body) → HasTaken m it new
     taken_first it none place begun within = record {
       folded = folded_first (fold_of m) old new body last read (m.state it) none begun.begun;
@@ -53,14 +53,15 @@ module _ {M X R : Type 0} (m : Machines M X R) {D : Type 0} {g : Ghosts D}
     }
 
     -- the machine takes one record more
-    pub taken_next : (was now : M) (place : ℕ) → place ≡ next_place old → HasTaken m was old
+    pub taken_next : (was now : M) (place : ℕ) → place ≡ next_offset old → HasTaken m was old
         → HasNextMachine m.takes m.state m.Keeps place body was now
         → m.Within now (place + 5 + length body) → HasTaken m now new
     taken_next was now place there taken next within = record {
       folded = folded_next (fold_of m) old new body last read (m.state was) (m.state now)
           taken.folded next.next;
       keeps = if_pushed (λ (list : List Text). m.Keeps was list
-          × (next_place old ≡ behind 16 list)) (m.Keeps now) (read_list old) (read_list new) body
+          × (next_offset old ≡ following 16 list)) (m.Keeps now) (read_list old) (read_list new)
+          body
           (list_is (fold_of m) old new body last read)
           (λ list is. next.keeps list is.0 (omega (arith, there, is.1)))
           (placed (m.Keeps was) old taken.keeps);
@@ -104,7 +105,7 @@ pub makes_all : {M X R : Type 0} (m : Machines M X R) {D : Type 0} {g : Ghosts D
 makes_all m it opening all = go (read_list opening) all.found.made all.keeps
   where
     go : (list : Option (List Text))
-        → IfSome list (λ l. state_behind (fold_of m) l ≡ Ok (m.state it))
+        → IfSome list (λ l. state_after (fold_of m) l ≡ Ok (m.state it))
         → IfSome list (m.Keeps it) → IfSome list (Makes m it)
     go None made keeps = tt
     go (Some list) made keeps = record { made = made; keeps = keeps }

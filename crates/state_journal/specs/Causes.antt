@@ -1,6 +1,6 @@
 -- Why the journal of a state machine is not read, and what a call that reads it leaves.
 use Rattle.std.specs.Prelude.{◌≡◌, ◌≢◌, ℕ, Result, Ok, Err, OnOk, IfErr}
-use Rattle.disk_core.specs.Moments.{OnlyReads}
+use Rattle.disk_core.specs.Times.{OnlyReads}
 use Rattle.disk_core.specs.declared.disk.Disk.{Ghosts}
 use Rattle.journal_core.specs.Folds.{Fold, AreRefused, IsCauseOf}
 use Rattle.journal_core.specs.declared.error.OpenError.TheVariants as open_error
@@ -15,13 +15,13 @@ abbrev pub refusal_at : ℕ → Misfit → StateOpenError
 refusal_at number Unfit = BadRecord number
 refusal_at number Memory = Open open_error.Memory
 
--- What is handed back where a journal isn't read: it became so, unless a record could not be taken.
+-- What is returned where a journal isn't read: it became so, unless a record could not be taken.
 abbrev pub IsLeftAt : {R : Type 0} → (R → R → Type 0) → (R → R → Type 0) → R → R
     → StateOpenError → Type 0
 IsLeftAt Becomes Stops was now why =
     Stops was now × (why ≢ Open open_error.Memory → Becomes was now)
 
--- the answer, without what a refusal hands back of the seed
+-- the answer, without what a refusal returns of the seed
 abbrev pub why_of : {M R E : Type 0} → Result M (NotBegun R E) → Result M E
 why_of (Ok it) = Ok it
 why_of (Err e) = Err e.why

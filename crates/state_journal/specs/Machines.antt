@@ -1,12 +1,12 @@
 -- A state machine and the journal of its records.
 use Rattle.std.specs.Prelude.{◌≡◌, ◌-◌, false, List, Some, option_map, IfSome, Result, Ok}
 use Rattle.byte_formats.specs.Types.{Text}
-use Rattle.disk_core.specs.Moments.{OnlyReads}
+use Rattle.disk_core.specs.Times.{OnlyReads}
 use Rattle.disk_core.specs.declared.disk.Disk.{Ghosts}
 use Rattle.journal_core.specs.Ends.{durable_records}
-use Rattle.journal_core.specs.Folds.{Fold, state_behind, read_by}
-use Rattle.journal_core.specs.Format.{Represents, end_behind, records_of}
-use Rattle.journal_core.specs.Openings.{next_place, read_list}
+use Rattle.journal_core.specs.Folds.{Fold, state_after, read_by}
+use Rattle.journal_core.specs.Format.{Represents, end_following, records_of}
+use Rattle.journal_core.specs.Openings.{next_offset, read_list}
 use Rattle.journal_core.specs.Owners.{Owner, OwnerAppends, owner_over}
 use Rattle.journal_core.specs.Readings.{HasFolded, HasFound}
 use Rattle.journal_core.specs.Words.{AllRepresent, disk_of, end_of, is_broken}
@@ -26,7 +26,7 @@ module _ {M X R : Type 0} (m : Machines M X R) where
 
   -- these records make the machine
   pub record Makes (it : M) (list : List Text) : Type 0 where
-    pub made : state_behind fold_of list ≡ Ok (m.state it)
+    pub made : state_after fold_of list ≡ Ok (m.state it)
     pub keeps : m.Keeps it list
 
   module _ {D : Type 0} {g : Ghosts D} where
@@ -58,20 +58,20 @@ module _ {M X R : Type 0} (m : Machines M X R) where
       pub found : IfSome (g.contents disk) (λ b. IfSome (durable_records journal)
           (λ list. read_by fold_of b ≡ Ok (record { records = list; state = m.state it })))
       pub made : IfSome (durable_records journal)
-          (λ list. state_behind fold_of list ≡ Ok (m.state it))
+          (λ list. state_after fold_of list ≡ Ok (m.state it))
       pub stands : IfSome (g.contents (disk_of journal))
           (λ b. IfSome (durable_records journal) (Represents b))
       pub all : IfSome (durable_records journal) (AllRepresent g (disk_of journal))
-      pub end : IfSome (durable_records journal) (λ list. end_of journal ≡ end_behind list)
+      pub end : IfSome (durable_records journal) (λ list. end_of journal ≡ end_following list)
 
     -- the records that were read make the machine
     pub record HasTaken (it : M) (opening : Opening D g) : Type 0 where
       pub folded : HasFolded fold_of (m.state it) opening
       pub keeps : IfSome (read_list opening) (m.Keeps it)
-      pub within : m.Within it (next_place opening)
+      pub within : m.Within it (next_offset opening)
 
     -- all records were read up to the closed commit byte, and they make the machine
     pub record HasTakenAll (it : M) (opening : Opening D g) : Type 0 where
       pub found : HasFound fold_of (m.state it) opening
       pub keeps : IfSome (read_list opening) (m.Keeps it)
-      pub within : m.Within it (next_place opening)
+      pub within : m.Within it (next_offset opening)

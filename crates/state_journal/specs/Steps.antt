@@ -1,7 +1,7 @@
 -- What a state machine makes of a record.
 use Rattle.std.specs.Prelude.{◌≡◌, ℕ, List, [], ◌∷◌, ◌++◌, Option, Some, None, Result, Ok, Err}
 use Rattle.byte_formats.specs.Types.{Text}
-use Rattle.journal_core.specs.Format.{behind}
+use Rattle.journal_core.specs.Format.{following}
 use Rattle.state_journal.specs.declared.error.Misfit.{Misfit}
 use Rattle.state_journal.specs.declared.error.Misfit.TheVariants.{Unfit, Memory}
 use Rattle.state_journal.specs.declared.error.NotBegun.{NotBegun}
@@ -17,7 +17,7 @@ IsOutOfMemory (Ok done) = ⊥
 IsOutOfMemory (Err Unfit) = ⊥
 IsOutOfMemory (Err Memory) = Unit {0}
 
--- What is handed back where a record isn't taken: it became so, unless it could not be taken.
+-- What is returned where a record isn't taken: it became so, unless it could not be taken.
 abbrev pub IsLeftBy : {R : Type 0} → (R → R → Type 0) → (R → R → Type 0) → R → R → Misfit → Type 0
 IsLeftBy Becomes Stops was now Unfit = Becomes was now
 IsLeftBy Becomes Stops was now Memory = Stops was now
@@ -35,13 +35,13 @@ module _ {M S : Type 0} where
   BeginsMachine begins state Keeps body (Ok it) = IsBegunMachine begins state Keeps body it
   BeginsMachine begins state Keeps body (Err e) = IsMisfitOf (begins body) e.why
 
-  -- The record makes the new machine of the old one. If the old machine says something, beside its
-  -- state, of records after which this one's commit byte stands, the new one says it of these and
-  -- this one.
+  -- The record makes the new machine of the old one. If the old machine says something, in addition
+  -- to its state, of records after which this one's commit byte stands, the new one says it of
+  -- these and this one.
   pub record HasNextMachine (takes : S → Text → Option S) (state : M → S)
       (Keeps : M → List Text → Type 0) (place : ℕ) (body : Text) (old new : M) : Type 0 where
     pub next : takes (state old) body ≡ Some (state new)
-    pub keeps : (list : List Text) → Keeps old list → place ≡ behind 16 list
+    pub keeps : (list : List Text) → Keeps old list → place ≡ following 16 list
         → Keeps new (list ++ body ∷ [])
 
   -- what a later record makes, by the answer

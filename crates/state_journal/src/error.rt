@@ -7,8 +7,8 @@ use journal_core::OpenError;
 pub enum Misfit {
     /// It breaks the rules.
     Unfit,
-    /// It can't be taken now: memory was refused, or what the machine has beside its records
-    /// failed. What a refused opening hands back shows which.
+    /// It can't be taken now: memory was refused, or what the machine has in addition to its
+    /// records failed. What a refused opening returns shows which.
     Memory,
 }
 
@@ -23,14 +23,14 @@ pub enum StateOpenError {
     Open(OpenError),
 }
 
-/// A machine that isn't begun hands back what there is of its seed.
+/// A machine that isn't begun returns what there is of its seed.
 #[derive(Debug, Drop)]
 pub struct NotBegun<R, E> {
     pub rest: R,
     pub why: E,
 }
 
-/// A refused opening hands back the disk and what there is of the seed.
+/// A refused opening returns the disk and what there is of the seed.
 #[derive(Debug, Drop)]
 pub struct StateRefused<D, R> {
     pub disk: D,

@@ -6,8 +6,8 @@
 //! record more, which the machine takes where the append succeeds. So after each of these calls the
 //! machine is what the durable records make, also after an append that failed.
 //!
-//! The journal and the machine stay apart: their owner may call either without the other, and
-//! retains what binds them, [`append_to`]'s clause `made`, as a fact of its own.
+//! The journal and the machine stay apart: their owner may call either without the other, and keeps
+//! what binds them, [`append_to`]'s clause `made`, as a fact of its own.
 #![tactic(auto)]
 
 mod appending;

@@ -11,11 +11,11 @@ use std::alloc::Global;
 /// A state machine: the first record of a journal begins it, and it takes each later one. Its state
 /// is a function of the records alone.
 pub trait StateMachine: Sized {
-    /// What a machine is begun with beside its first record, as the disk of its tiles and frames
-    /// for them.
+    /// What a machine is begun with in addition to its first record, as the disk of its tiles and
+    /// frames for them.
     type Seed;
 
-    /// What of a seed a refused opening hands back, as that disk.
+    /// What of a seed a refused opening returns, as that disk.
     type Rest;
 
     // what contracts see of a machine
@@ -26,16 +26,16 @@ pub trait StateMachine: Sized {
     ghost takes: { State → Text → Option State };
     // the state of a machine
     ghost state: { Self → State };
-    // what it keeps beside its state, where the records are known
+    // what it keeps in addition to its state, where the records are known
     ghost Keeps: { Self → List Text → Type 0 } = { λ _ _. Unit {0} };
-    // what it keeps over any disk, of places in the journal too, where the next record's commit
+    // what it keeps over any disk, of offsets in the journal too, where the next record's commit
     // byte stands here
     ghost Within: { Self → ℕ → Type 0 } = { λ _ _. Unit {0} };
-    // this record is taken with what is there: memory isn't refused, and nothing beside is called
+    // this record is taken with what is there: memory isn't refused, and nothing else is called
     ghost HasCapacity: { Self → Text → Type 0 } = { λ _ _. Unit {0} };
     // a seed that a machine may begin with
     ghost IsBlank: { Self.Seed → Type 0 } = { λ _. Unit {0} };
-    // what of a seed is handed back
+    // what of a seed is returned
     ghost rest_of: { Self.Seed → Self.Rest };
     // what a machine has of it
     ghost rest: { Self → Self.Rest };
@@ -56,8 +56,8 @@ pub trait StateMachine: Sized {
         ensures rest { (was : Self.Rest) → Becomes was (rest_of seed) → MatchResult result
             (λ it. Becomes was (rest it)) (λ e. IsLeftBy Becomes Stops was e.rest e.why) };
 
-    /// Takes one record more, whose commit byte stands at a place. `Unfit` comes exactly if it
-    /// breaks the rules, but where it can't be taken for another reason.
+    /// Takes one record more, whose commit byte stands at an offset. `Unfit` comes exactly if it
+    /// breaks the rules, unless it can't be taken for another reason.
     fn take(&mut self, place: u64, body: &[u8]) -> Result<(), Misfit>
         requires { Within self.old place }
         ensures takes { TakesRecord takes state Keeps place body.now self.old self.new result }
@@ -68,8 +68,8 @@ pub trait StateMachine: Sized {
             why) }
         ensures still { HasCapacity self.old body.now → rest self.new ≡ rest self.old };
 
-    /// What of a seed is handed back, where no machine is begun.
-    fn hand_back(seed: Self::Seed) -> Self::Rest
+    /// What of a seed is returned, where no machine is begun.
+    fn return_rest(seed: Self::Seed) -> Self::Rest
         ensures { result ≡ rest_of seed };
 
     /// What a machine has of it.

@@ -3,7 +3,7 @@
 ghost use Rattle.std.specs.Prelude.{◌≡◌, ◌<◌, [], false, None, option_map, MatchBool, MatchResult};
 ghost use Rattle.std.specs.Prelude.{IfOk, IfErr, OnOk, Err, Ok};
 ghost use Rattle.journal_core.specs.Openings.{opening_disk, read_list, is_ended, refusal};
-ghost use Rattle.journal_core.specs.Openings.{bytes_left, next_place};
+ghost use Rattle.journal_core.specs.Openings.{bytes_left, next_offset};
 ghost use Rattle.state_journal.specs.Causes.{HasReadOn, IsLeftAt, refusal_at, why_of};
 ghost use Rattle.state_journal.specs.Machines.{HasOpenedMachine, HasTaken, HasTakenAll, IsMadeBy};
 ghost use Rattle.state_journal.specs.Machines.{fold_of};
@@ -32,8 +32,8 @@ fn read_first<M: StateMachine, D: Disk>(
 ) -> Result<M, NotBegun<M::Rest, StateOpenError>>
     requires list { read_list opening.old
         ≡ option_map (λ _. []) (D.contents (opening_disk opening.old)) }
-    requires place { next_place opening.old ≡ 16 }
-    requires goes_on { (is_ended opening.old ≡ false) × (refusal opening.old ≡ None) }
+    requires place { next_offset opening.old ≡ 16 }
+    requires continues { (is_ended opening.old ≡ false) × (refusal opening.old ≡ None) }
     requires blank { M.IsBlank seed }
     ensures taken { IfOk result (λ it. HasTaken M.StateMachine it opening.new) }
     ensures rest { (was : M.Rest) → M.Becomes was (M.rest_of seed) → MatchResult result
@@ -50,11 +50,11 @@ fn read_first<M: StateMachine, D: Disk>(
             }),
         },
         Ok(None) => Err(NotBegun {
-            rest: M::hand_back(seed),
+            rest: M::return_rest(seed),
             why: StateOpenError::BadRecord(0),
         }),
         Err(why) => Err(NotBegun {
-            rest: M::hand_back(seed),
+            rest: M::return_rest(seed),
             why: StateOpenError::Open(why),
         }),
     }
@@ -116,8 +116,8 @@ fn read_machine<M: StateMachine, D: Disk>(
 ) -> Result<M, NotBegun<M::Rest, StateOpenError>>
     requires list { read_list opening.old
         ≡ option_map (λ _. []) (D.contents (opening_disk opening.old)) }
-    requires place { next_place opening.old ≡ 16 }
-    requires goes_on { (is_ended opening.old ≡ false) × (refusal opening.old ≡ None) }
+    requires place { next_offset opening.old ≡ 16 }
+    requires continues { (is_ended opening.old ≡ false) × (refusal opening.old ≡ None) }
     requires blank { M.IsBlank seed }
     ensures all { IfOk result (λ it. HasTakenAll M.StateMachine it opening.new) }
     ensures rest { (was : M.Rest) → M.Becomes was (M.rest_of seed) → MatchResult result
@@ -142,9 +142,9 @@ fn read_machine<M: StateMachine, D: Disk>(
 ///
 /// Errors: what [`Opening::begin`] and [`Opening::next`] refuse; `BadRecord` at the first record
 /// that breaks the rules, or where there is none; `Open(Memory)` where the machine is refused
-/// memory, or stops for what it has beside its records. Of the faults of the file the first is
-/// answered. The disk is handed back, and was only read. What is handed back of the seed is what
-/// the records that were read made of it.
+/// memory, or stops for what it has in addition to its records. Of the faults of the file the first
+/// is answered. The disk is returned, and was only read. What is returned of the seed is what the
+/// records that were read made of it.
 pub fn open_state<M: StateMachine, D: Disk>(
     alloc: Global,
     disk: D,
@@ -163,7 +163,7 @@ pub fn open_state<M: StateMachine, D: Disk>(
         Err(Refused { disk, why }) => {
             return Err(StateRefused {
                 disk,
-                rest: M::hand_back(seed),
+                rest: M::return_rest(seed),
                 why: StateOpenError::Open(why),
             });
         }

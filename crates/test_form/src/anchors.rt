@@ -30,12 +30,12 @@ fn the_first_fault_of_a_number_is_answered(rt: HostRuntime) {
 }
 
 // A number, so many others, and this after them.
-fn long_text(alloc: Global, others: u32, behind: &str) -> Result<String, Fail> {
+fn long_text(alloc: Global, others: u32, following: &str) -> Result<String, Fail> {
     let mut text = String::from_str(alloc, "1")?;
     for _ in 0..others {
         text.push_str(".1")?;
     }
-    text.push_str(behind)?;
+    text.push_str(following)?;
     Ok(text)
 }
 

@@ -18,14 +18,14 @@ fn refused_sequence(input: &[u8]) -> Option<DerError> {
 }
 
 #[test]
-fn faults_of_a_tag_have_their_order_and_place(rt: HostRuntime) {
+fn faults_of_a_tag_have_their_order_and_offset(rt: HostRuntime) {
     assert!(rt; refused_sequence(&[5]) == Some(DerError::WrongTag(1)));
     assert!(rt; refused_sequence(&[5, 0x1f, 0]) == Some(DerError::HighTag(1)));
     assert!(rt; refused_sequence(&[5, 0x31, 0]) == Some(DerError::WrongTag(1)));
 }
 
 #[test]
-fn faults_of_a_length_have_their_order_and_place(rt: HostRuntime) {
+fn faults_of_a_length_have_their_order_and_offset(rt: HostRuntime) {
     let (long, cut) = (Some(DerError::LongForm(1)), Some(DerError::Truncated(1)));
     assert!(rt; refused_sequence(&[5, 0x30]) == cut);
     assert!(rt; refused_sequence(&[5, 0x30, 0x80]) == long);
@@ -49,7 +49,7 @@ fn sequence_of(input: &[u8]) -> Option<(usize, &[u8])> {
 }
 
 #[test]
-fn an_element_has_its_place_and_its_contents(rt: HostRuntime) {
+fn an_element_has_its_offset_and_its_contents(rt: HostRuntime) {
     assert!(rt; sequence_of(&[5, 0x30, 0x01, 7, 8]) == Some((1, [7].as_slice())));
 }
 
@@ -125,7 +125,7 @@ fn elements(alloc: Global) -> Result<Bytes, Memory> {
 }
 
 #[test]
-fn elements_are_written_one_behind_the_other(rt: HostRuntime) -> Result<(), Fail> {
+fn elements_are_written_one_after_the_other(rt: HostRuntime) -> Result<(), Fail> {
     let wanted = [
         4, 1, 9, 4, 1, 9, 2, 1, 0, 2, 1, 127, 2, 2, 0, 128, 2, 9, 0, 255, 255, 255, 255, 255, 255,
         255, 255,

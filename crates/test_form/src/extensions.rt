@@ -86,7 +86,7 @@ const LISTS: [Listed; 5] = [
 ];
 
 #[test]
-fn a_repetition_is_told_over_blocks_of_each_length(rt: HostRuntime) -> Result<(), Fail> {
+fn a_repetition_is_reported_over_blocks_of_each_length(rt: HostRuntime) -> Result<(), Fail> {
     for listed in &LISTS {
         let count = listed.count;
         let cases = [
@@ -98,7 +98,7 @@ fn a_repetition_is_told_over_blocks_of_each_length(rt: HostRuntime) -> Result<()
         for (last, wanted) in cases {
             assert!(rt;
                 end_of_long_field(rt.alloc(), listed, last)? == wanted,
-                "{count} extensions, behind {last}"
+                "{count} extensions, after {last}"
             );
         }
     }
@@ -150,10 +150,7 @@ fn a_repetition_among_many_is_reported_at_its_turn(rt: HostRuntime) -> Result<()
         ),
     ];
     for (last, wanted) in cases {
-        assert!(rt;
-            end_of_field(rt.alloc(), last)? == wanted,
-            "behind {last:?}"
-        );
+        assert!(rt; end_of_field(rt.alloc(), last)? == wanted, "after {last:?}");
     }
     Ok(())
 }

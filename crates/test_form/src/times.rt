@@ -22,14 +22,14 @@ const TEXTS: [(&str, i64); 10] = [
     ("2050-01-01T00:00:00Z", 2_524_608_000),
 ];
 
-fn moment_of(text: &str) -> Option<i64> {
+fn unix_time_of(text: &str) -> Option<i64> {
     text_to_seconds(text)
 }
 
 #[test]
-fn texts_name_moments(rt: HostRuntime) {
-    for (text, moment) in TEXTS {
-        assert!(rt; moment_of(text) == Some(moment), "of {text}");
+fn texts_name_times(rt: HostRuntime) {
+    for (text, unix_time) in TEXTS {
+        assert!(rt; unix_time_of(text) == Some(unix_time), "of {text}");
     }
 }
 
@@ -50,19 +50,21 @@ fn texts_outside_their_form_or_the_calendar_name_none(rt: HostRuntime) {
         "2026-1-01T00:00:00Z",
     ];
     for text in texts {
-        assert!(rt; moment_of(text) == None, "of {text}");
+        assert!(rt; unix_time_of(text) == None, "of {text}");
     }
 }
 
 // Whether the number is a time and has this text.
-fn has_text(moment: i64, text: &str) -> bool {
-    FIRST <= moment && moment <= LAST && seconds_to_text(moment).as_slice() == text.as_bytes()
+fn has_text(unix_time: i64, text: &str) -> bool {
+    FIRST <= unix_time
+        && unix_time <= LAST
+        && seconds_to_text(unix_time).as_slice() == text.as_bytes()
 }
 
 #[test]
-fn moments_have_their_texts(rt: HostRuntime) {
-    for (text, moment) in TEXTS {
-        assert!(rt; has_text(moment, text), "of {text}");
+fn times_have_their_texts(rt: HostRuntime) {
+    for (text, unix_time) in TEXTS {
+        assert!(rt; has_text(unix_time, text), "of {text}");
     }
 }
 
@@ -117,7 +119,7 @@ UTCTime 260101240000Z
 UTCTime 260101000000";
 
 #[test]
-fn times_of_a_certificate_name_moments(rt: HostRuntime) {
+fn times_of_a_certificate_are_unix_times(rt: HostRuntime) {
     assert!(rt; count_read(NAMED) == 16);
 }
 

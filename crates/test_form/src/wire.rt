@@ -39,7 +39,7 @@ fn forms_are_read_from_left_to_right(rt: HostRuntime) {
 }
 
 // The cursor within the vector that begins at offset 10, and the cursor after it.
-fn places_of_the_vector() -> Option<(usize, usize, usize)> {
+fn offsets_of_the_vector() -> Option<(usize, usize, usize)> {
     let mut cursor = Cursor::new(&FORMS);
     cursor.bytes(10).ok()?;
     match cursor.inner16() {
@@ -51,8 +51,8 @@ fn places_of_the_vector() -> Option<(usize, usize, usize)> {
 }
 
 #[test]
-fn a_cursor_within_a_vector_keeps_its_place(rt: HostRuntime) {
-    assert!(rt; places_of_the_vector() == Some((12, 1, 13)));
+fn a_cursor_within_a_vector_keeps_its_offset(rt: HostRuntime) {
+    assert!(rt; offsets_of_the_vector() == Some((12, 1, 13)));
 }
 
 // The hash at the beginning, and the fault of a second one.
@@ -68,7 +68,7 @@ fn a_hash_has_32_bytes(rt: HostRuntime) {
 }
 
 // Sixty-eight bytes that begin with this length in two bytes.
-fn behind_length(length: u8) -> [u8; 68] {
+fn after_length(length: u8) -> [u8; 68] {
     let mut input = [7; 68];
     input[0] = 0;
     input[1] = length;
@@ -76,7 +76,7 @@ fn behind_length(length: u8) -> [u8; 68] {
 }
 
 fn reads_two_hashes() -> bool {
-    let input = behind_length(64);
+    let input = after_length(64);
     let mut cursor = Cursor::new(&input);
     cursor.hashes() == Ok([[7; 32], [7; 32]].as_slice())
         && (cursor.place(), cursor.left()) == (66, 2)
@@ -84,7 +84,7 @@ fn reads_two_hashes() -> bool {
 
 // The refusal of hashes after this length, and where the cursor then stands.
 fn refused_hashes(length: u8) -> (Option<HashesError>, usize) {
-    let input = behind_length(length);
+    let input = after_length(length);
     let mut cursor = Cursor::new(&input);
     (cursor.hashes().err(), cursor.place())
 }
@@ -117,7 +117,7 @@ fn vectors(alloc: Global) -> Result<Bytes, Memory> {
 }
 
 #[test]
-fn forms_are_written_one_behind_the_other(rt: HostRuntime) -> Result<(), Fail> {
+fn forms_are_written_one_after_the_other(rt: HostRuntime) -> Result<(), Fail> {
     let numbers = [1, 2, 3, 0, 0, 0, 9, 0, 0, 0, 1, 0, 0, 0, 0, 7];
     assert!(rt; numbers_and_bytes(rt.alloc())?.as_slice() == numbers.as_slice());
     let encoded = [

@@ -1,7 +1,7 @@
 //! Disks in memory, and what a crash leaves of them.
 
 use crate::readings::{disk, empty};
-use disk_core::{Call, Change, Disk, Fuse, MemDisk, look_at, write_synced};
+use disk_core::{Call, Change, Disk, Fuse, MemDisk, read_part, write_synced};
 use mtc_io::{Failed, Memory};
 use std::alloc::Global;
 use std::test::Fail;
@@ -23,8 +23,8 @@ fn sync(disk: &mut MemDisk) -> Result<(), Failed> {
 }
 
 // Whether a crash leaves these bytes, by this pick.
-fn leaves(disk: MemDisk, pick: u64, image: &[u8]) -> Result<bool, Memory> {
-    Ok(disk.crash(pick)?.bytes() == image)
+fn leaves(disk: MemDisk, pick: u64, crash_state: &[u8]) -> Result<bool, Memory> {
+    Ok(disk.crash(pick)?.bytes() == crash_state)
 }
 
 // Whether eight bytes are written from the fourth on, and synced where that is asked.
@@ -34,15 +34,15 @@ fn is_written(disk: &mut MemDisk, synced: bool) -> bool {
 
 // Whether a crash leaves this crash state by this pick of eight bytes over which eight were
 // written.
-fn is_left(alloc: Global, pick: u64, synced: bool, image: &[u8]) -> Result<bool, Memory> {
+fn is_left(alloc: Global, pick: u64, synced: bool, crash_state: &[u8]) -> Result<bool, Memory> {
     let mut disk = disk(alloc, EIGHT, &[])?;
     let written = is_written(&mut disk, synced);
-    Ok(leaves(disk, pick, image)? && written)
+    Ok(leaves(disk, pick, crash_state)? && written)
 }
 
 #[test]
-fn a_crash_leaves_an_image(rt: HostRuntime) -> Result<(), Fail> {
-    let images: [(u64, &[u8]); 9] = [
+fn a_crash_leaves_one_of_its_states(rt: HostRuntime) -> Result<(), Fail> {
+    let crash_states: [(u64, &[u8]); 9] = [
         (0, b"abcdefgh"),
         (1, b"abcdWXYZ!?+-"),
         (2, b"abcdefgh"),
@@ -53,8 +53,11 @@ fn a_crash_leaves_an_image(rt: HostRuntime) -> Result<(), Fail> {
         (7, b"abcdWX\xa6\xa5\xde\xc0\xd4\xd2WX"),
         (15, b"abcdWXYZ!?\xd4\xd2WXYZ!?"),
     ];
-    for (pick, image) in images {
-        assert!(rt; is_left(rt.alloc(), pick, false, image)?, "by pick {pick}");
+    for (pick, crash_state) in crash_states {
+        assert!(rt;
+            is_left(rt.alloc(), pick, false, crash_state)?,
+            "by pick {pick}"
+        );
         assert!(rt; is_left(rt.alloc(), pick, true, b"abcdWXYZ!?+-")?);
     }
     Ok(())
@@ -66,16 +69,16 @@ fn is_left_of_four(
     alloc: Global,
     piece: &[u8; 4],
     pick: u64,
-    image: &[u8],
+    crash_state: &[u8],
 ) -> Result<bool, Memory> {
     let mut disk = disk(alloc, EIGHT, &[])?;
     let written = write(&mut disk, 4, piece) == Ok(());
-    Ok(leaves(disk, pick, image)? && written)
+    Ok(leaves(disk, pick, crash_state)? && written)
 }
 
 #[test]
 fn bytes_that_are_written_again_stay(rt: HostRuntime) -> Result<(), Fail> {
-    let images: [(u64, &[u8; 4], &[u8]); 6] = [
+    let crash_states: [(u64, &[u8; 4], &[u8]); 6] = [
         (1, b"eXgY", b"abcdeXgY"),
         (3, b"eXgY", b"abcde\xa7g\xa6"),
         (7, b"eXgY", b"abcde\xa7g\xa6e"),
@@ -83,9 +86,9 @@ fn bytes_that_are_written_again_stay(rt: HostRuntime) -> Result<(), Fail> {
         (3, b"efgh", EIGHT),
         (11, b"efgh", b"abcdefghef"),
     ];
-    for (pick, piece, image) in images {
+    for (pick, piece, crash_state) in crash_states {
         assert!(rt;
-            is_left_of_four(rt.alloc(), piece, pick, image)?,
+            is_left_of_four(rt.alloc(), piece, pick, crash_state)?,
             "by pick {pick}"
         );
     }
@@ -98,22 +101,25 @@ fn are_written(disk: &mut MemDisk) -> bool {
 }
 
 // The sync is call 2.
-fn is_left_of_two(alloc: Global, pick: u64, image: &[u8]) -> Result<bool, Memory> {
+fn is_left_of_two(alloc: Global, pick: u64, crash_state: &[u8]) -> Result<bool, Memory> {
     let mut disk = disk(alloc, EIGHT, &[2])?;
     let written = are_written(&mut disk);
-    Ok(leaves(disk, pick, image)? && written)
+    Ok(leaves(disk, pick, crash_state)? && written)
 }
 
 #[test]
 fn a_failed_sync_makes_nothing_durable(rt: HostRuntime) -> Result<(), Fail> {
-    let images: [(u64, &[u8]); 4] = [
+    let crash_states: [(u64, &[u8]); 4] = [
         (0, b"abcdefgh"),
         (1, b"Wbcdefgh"),
         (4, b"aXcdefgh"),
         (5, b"WXcdefgh"),
     ];
-    for (pick, image) in images {
-        assert!(rt; is_left_of_two(rt.alloc(), pick, image)?, "by pick {pick}");
+    for (pick, crash_state) in crash_states {
+        assert!(rt;
+            is_left_of_two(rt.alloc(), pick, crash_state)?,
+            "by pick {pick}"
+        );
     }
     Ok(())
 }
@@ -125,11 +131,11 @@ fn fails_to_write(disk: &mut MemDisk) -> bool {
 }
 
 fn counts(disk: &MemDisk) -> (u64, u64) {
-    (disk.faults(), disk.starved())
+    (disk.faults(), disk.failed_allocations())
 }
 
 fn opened_alike(disk: &MemDisk) -> Result<bool, Memory> {
-    let opened = disk.lend()?;
+    let opened = disk.open_copy()?;
     let counted = counts(disk).0 == 1 && counts(&opened) == (0, 0);
     Ok(leaves(opened, 1, b"abcd")? && counted)
 }
@@ -167,7 +173,7 @@ fn are_noted(disk: &MemDisk) -> bool {
 fn last_of_two(disk: &mut MemDisk) -> Result<[u8; 1], Failed> {
     write_synced(disk, 0, b"xy")?;
     let mut last = [0];
-    look_at(disk, 1, &mut last)?;
+    read_part(disk, 1, &mut last)?;
     Ok(last)
 }
 
@@ -199,7 +205,7 @@ fn blows(fuse: &mut Fused) -> bool {
 }
 
 // The disk inside the fuse after these calls, if they were refused.
-fn behind_the_fuse(alloc: Global) -> Option<MemDisk> {
+fn after_the_fuse(alloc: Global) -> Option<MemDisk> {
     let mut fuse = Fuse::new(MemDisk::new(alloc, Vec::new(alloc)), 1);
     let blown = blows(&mut fuse);
     let disk = fuse.into_inner();
@@ -208,7 +214,7 @@ fn behind_the_fuse(alloc: Global) -> Option<MemDisk> {
 
 #[test]
 fn a_fuse_blows_once(rt: HostRuntime) -> Result<(), Fail> {
-    let disk = behind_the_fuse(rt.alloc()).ok_or("calls were passed")?;
+    let disk = after_the_fuse(rt.alloc()).ok_or("calls were passed")?;
     assert!(rt; (disk.bytes(), disk.made()) == (b"abcd".as_slice(), 2));
     assert!(rt; leaves(disk, 0, b"")?);
     Ok(())

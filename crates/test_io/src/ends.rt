@@ -87,7 +87,7 @@ fn add_pieces(
 // before its bytes are touched; all are written before the folder is synced.
 fn add_calls(calls: &mut Vec<Call>, end: End) -> Result<(), AllocError> {
     let (_, from, pieces, last, first) = end;
-    calls.extend_from_slice(&[Call::Open, Call::Lock, Call::Look, Call::Find])?;
+    calls.extend_from_slice(&[Call::Open, Call::Lock, Call::Inspect, Call::Find])?;
     if first > 0 {
         calls.push(Call::Read(0, first))?;
     }
@@ -156,7 +156,7 @@ fn ended_and_held<R: Files<File = File> + Alloc>(
 }
 
 #[test]
-fn the_end_of_a_journal_is_written_behind_its_lock(rt: HostRuntime) -> Result<(), Fail> {
+fn the_end_of_a_journal_is_written_after_its_lock(rt: HostRuntime) -> Result<(), Fail> {
     let path = "mtc_files_end_test";
     for end in ENDS {
         let ((ended, count), held) = ended_and_held(&rt, rt.alloc(), path, &HEADER, end)?;
@@ -194,7 +194,7 @@ const NEW: [Call; 7] = [
     Call::Create,
     Call::Lock,
     Call::FindLink,
-    Call::Look,
+    Call::Inspect,
     Call::Sync,
     Call::OpenFolder,
     Call::SyncFolder,
@@ -205,7 +205,7 @@ const NEW_TILES: [Call; 8] = [
     Call::Create,
     Call::Lock,
     Call::FindLink,
-    Call::Look,
+    Call::Inspect,
     Call::Sync,
     Call::OpenFolder,
     Call::SyncFolder,
@@ -214,19 +214,19 @@ const NEW_TILES: [Call; 8] = [
 const EMPTY_TILES: [Call; 6] = [
     Call::FindLink,
     Call::Open,
-    Call::Look,
+    Call::Inspect,
     Call::Lock,
-    Call::Look,
+    Call::Inspect,
     Call::FindLink,
 ];
 
 const TILES: [Call; 8] = [
     Call::FindLink,
     Call::Open,
-    Call::Look,
+    Call::Inspect,
     Call::Read(0, 22),
     Call::Lock,
-    Call::Look,
+    Call::Inspect,
     Call::FindLink,
     Call::Read(0, 22),
 ];
@@ -302,15 +302,22 @@ fn tried<R: Files<File = File>>(
 
 // Whether a case makes its calls, and none after one that fails, or that finds another file by the
 // name. A new file's node is asked for after its name's.
-fn is_as_told<R: Files<File = File>>(files: &R, alloc: Global, case: &Case) -> io::Result<bool> {
+fn is_as_modelled<R: Files<File = File>>(
+    files: &R,
+    alloc: Global,
+    case: &Case,
+) -> io::Result<bool> {
     let (_, _, calls, found) = case;
     let mut right = tried(files, alloc, case, None, None)? == (None, Some(calls.len()));
     for failing in 0..calls.len() {
         let reported = (Some(RoomError::Failed), Some(failing.saturating_add(1)));
         right = right && tried(files, alloc, case, Some(failing), None)? == reported;
     }
-    let behind = if calls.contains(&Call::Create) { 2 } else { 1 };
-    let reported = (Some(RoomError::Failed), Some(found.saturating_add(behind)));
+    let following = if calls.contains(&Call::Create) { 2 } else { 1 };
+    let reported = (
+        Some(RoomError::Failed),
+        Some(found.saturating_add(following)),
+    );
     Ok(right && tried(files, alloc, case, None, Some(*found))? == reported)
 }
 
@@ -318,7 +325,7 @@ fn is_as_told<R: Files<File = File>>(files: &R, alloc: Global, case: &Case) -> i
 fn the_room_calls_the_system_in_its_order(rt: HostRuntime) -> Result<(), Fail> {
     for case in &cases(rt.alloc())? {
         assert!(rt;
-            is_as_told(&rt, rt.alloc(), case)?,
+            is_as_modelled(&rt, rt.alloc(), case)?,
             "{} calls",
             case.2.len()
         );
@@ -334,7 +341,7 @@ fn a_file_is_moved_off_the_streams(rt: HostRuntime) -> Result<(), Fail> {
         Call::Open,
         Call::Move,
         Call::Lock,
-        Call::Look,
+        Call::Inspect,
         Call::Find,
         Call::OpenFolder,
         Call::SyncFolder,

@@ -80,7 +80,7 @@ fn write_thrice(disk: &mut FileDisk<Counted>) -> Result<(), Failed> {
 
 // The calls that these make.
 fn calls_of_writes() -> u32 {
-    let mut disk = FileDisk::new(Counted::new(false));
+    let mut disk = FileDisk::unlocked(Counted::new(false));
     let written = write_thrice(&mut disk);
     let calls = disk.into_inner().calls.get();
     if written == Ok(()) { calls } else { 0 }
@@ -109,14 +109,14 @@ fn is_lost_by_a_sync(disk: &mut FileDisk<Counted>) -> bool {
 
 // The calls that reach a file whose first sync fails.
 fn calls_of_a_lost_file() -> u32 {
-    let mut disk = FileDisk::new(Counted::new(true));
+    let mut disk = FileDisk::unlocked(Counted::new(true));
     let lost = is_lost_by_a_sync(&mut disk);
     let calls = disk.into_inner().calls.get();
     if lost { calls } else { 0 }
 }
 
 #[test]
-fn behind_a_failed_sync_no_call_reaches_the_file(rt: HostRuntime) {
+fn after_a_failed_sync_no_call_reaches_the_file(rt: HostRuntime) {
     assert!(rt; calls_of_a_lost_file() == 12);
 }
 
@@ -140,7 +140,7 @@ fn written(disk: &mut FileDisk) -> Result<[u8; 5], Failed> {
 
 // Whether it is what was written.
 fn is_written(file: File) -> bool {
-    let mut disk = FileDisk::new(file);
+    let mut disk = FileDisk::unlocked(file);
     written(&mut disk) == Ok(*b"bWXYZ") && disk.faults() == 0
 }
 
@@ -150,7 +150,7 @@ fn refuses(disk: &mut FileDisk) -> bool {
 }
 
 fn is_shut(file: File) -> bool {
-    let mut shut = FileDisk::new(file);
+    let mut shut = FileDisk::unlocked(file);
     refuses(&mut shut)
 }
 

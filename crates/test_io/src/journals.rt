@@ -22,12 +22,12 @@ fn reads(alloc: Global, bytes: Bytes, records: &[u8], end: End) -> Result<bool, 
 fn reads_both(
     alloc: Global,
     prefix: &[u8],
-    behind: &[u8],
+    following: &[u8],
     records: &[u8],
     end: End,
 ) -> Result<bool, Memory> {
     let mut bytes = Bytes::copy_of(alloc, prefix)?;
-    bytes.append(behind)?;
+    bytes.append(following)?;
     reads(alloc, bytes, records, end)
 }
 
@@ -48,10 +48,10 @@ fn a_file_is_read_or_refused(rt: HostRuntime) -> Result<(), Fail> {
         (&[1, 0, 0, 0, 0, 5, 0], &[], Err(OpenError::BadLength(16))),
         (&[1, 0, 2, 0, 1], &[], Err(OpenError::BadLength(16))),
     ];
-    for (behind, records, end) in cases {
+    for (following, records, end) in cases {
         assert!(rt;
-            reads_both(rt.alloc(), HEADER, behind, records, end)?,
-            "for {behind:?}"
+            reads_both(rt.alloc(), HEADER, following, records, end)?,
+            "for {following:?}"
         );
     }
     let others: [&[u8]; 2] = [b"mtc-journal/v1\n", b"mtc-journal/v1\n\x01\0"];
@@ -67,7 +67,7 @@ fn begun_on(alloc: Global, failing: &[u64]) -> Result<Option<MemJournal>, Memory
     Ok(begun(alloc, disk, &[1]).ok())
 }
 
-fn disk_behind(journal: MemJournal) -> MemDisk {
+fn disk_after(journal: MemJournal) -> MemDisk {
     journal.into_disk()
 }
 
@@ -80,10 +80,10 @@ fn is_taken(alloc: Global, disk: MemDisk) -> bool {
 }
 
 // Whether a disk holds the header and these bytes.
-fn holds(disk: &MemDisk, behind: &[u8]) -> bool {
+fn holds(disk: &MemDisk, following: &[u8]) -> bool {
     let bytes = disk.bytes();
     let (prefix, back) = bytes.split_at(16.min(bytes.len()));
-    prefix == HEADER && back == behind
+    prefix == HEADER && back == following
 }
 
 // What a journal of two records reads at the offset of the second body.
@@ -124,7 +124,7 @@ fn reads_what_was_added(journal: &mut MemJournal) -> bool {
 fn records_are_appended(rt: HostRuntime) -> Result<(), Fail> {
     let mut journal = begun_on(rt.alloc(), &[])?.ok_or("refused")?;
     assert!(rt; reads_what_was_added(&mut journal));
-    let disk = disk_behind(journal);
+    let disk = disk_after(journal);
     assert!(rt; holds(&disk, &[1, 0, 0, 0, 1, 1, 1, 0, 0, 0, 2, 0xaa, 0xbb, 0]));
     assert!(rt; is_taken(rt.alloc(), disk));
     Ok(())
@@ -144,7 +144,7 @@ fn breaks(alloc: Global, call: u64) -> Result<bool, Memory> {
         return Ok(false);
     };
     let broken = is_broken(&mut journal);
-    Ok(disk_behind(journal).made() == call.saturating_add(1) && broken)
+    Ok(disk_after(journal).made() == call.saturating_add(1) && broken)
 }
 
 #[test]
@@ -159,7 +159,7 @@ fn a_broken_journal_calls_no_disk(rt: HostRuntime) -> Result<(), Fail> {
 
 // Whether a journal is begun on this file, and takes a record.
 fn begins(alloc: Global, file: fs::File) -> bool {
-    match begun(alloc, FileDisk::new(file), &[1]) {
+    match begun(alloc, FileDisk::unlocked(file), &[1]) {
         Ok(mut journal) => append(&mut journal, &[0xaa, 0xbb]) == Ok(()),
         Err(_) => false,
     }
@@ -172,14 +172,14 @@ fn takes_one_more(journal: &mut Journal<FileDisk>) -> bool {
 
 // The file of the journal in this file after a third record.
 fn gone_on(alloc: Global, file: fs::File) -> Option<FileDisk> {
-    let mut journal = opened(alloc, FileDisk::new(file))?;
+    let mut journal = opened(alloc, FileDisk::unlocked(file))?;
     let taken = takes_one_more(&mut journal);
     let disk = journal.into_disk();
     if taken { Some(disk) } else { None }
 }
 
 // Whether the journal in this file takes another one, and all three are read.
-fn goes_on(alloc: Global, file: fs::File) -> Result<bool, Memory> {
+fn continues(alloc: Global, file: fs::File) -> Result<bool, Memory> {
     let wanted = [0, 0, 0, 1, 1, 0, 0, 0, 2, 0xaa, 0xbb, 0, 0, 0, 1, 0xcc];
     match gone_on(alloc, file) {
         Some(disk) => Ok(is_read(&read_all(alloc, disk)?, &wanted, Ok(()))),
@@ -194,7 +194,7 @@ fn a_file_is_a_journal(rt: HostRuntime) -> Result<(), Fail> {
     let mut how = fs::OpenOptions::new();
     how.read(true).write(true).create(true);
     assert!(rt; begins(rt.alloc(), how.open(&rt, path)?));
-    assert!(rt; goes_on(rt.alloc(), how.open(&rt, path)?)?);
+    assert!(rt; continues(rt.alloc(), how.open(&rt, path)?)?);
     fs::remove_file(&rt, path)?;
     Ok(())
 }

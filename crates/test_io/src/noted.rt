@@ -23,7 +23,7 @@ pub enum Call {
     OpenFolder,
     Lock,
     Move,
-    Look,
+    Inspect,
     Read(u64, usize),
     Write(u64, usize),
     Sync,
@@ -175,7 +175,7 @@ impl<'a, R: Files<File = File>> Files for Noted<'a, R> {
 
 impl<'a> OpenFile for NotedFile<'a> {
     fn metadata(&self) -> io::Result<Metadata> {
-        self.wanted.note(Call::Look)?;
+        self.wanted.note(Call::Inspect)?;
         self.file.metadata()
     }
 

@@ -72,15 +72,15 @@ mtc_files_others/hard.tiles refused
 mtc_files_others/soft.tiles refused
 mtc_files_others/tiled.tiles refused
 mtc_files_others/dangling.tiles refused
-mtc_files_others/tiles lent
-mtc_files_others/new.tiles lent
+mtc_files_others/tiles opened
+mtc_files_others/new.tiles opened
 ";
 
 // Whether it answers as a line says.
 fn is_answered<R: Files<File = File>>(files: &R, line: &str) -> bool {
     match line.split_once(' ') {
         Some((name, "refused")) => scratch_refusal(files, name) == FAILED,
-        Some((name, "lent")) => scratch_refusal(files, name) == None,
+        Some((name, "opened")) => scratch_refusal(files, name) == None,
         _ => false,
     }
 }

@@ -77,10 +77,10 @@ fn is_ended<D: Disk>(
     end: End,
 ) -> Result<bool, Memory> {
     let again = step(opening, found)?;
-    let behind = (found.len() as u64)
+    let following = (found.len() as u64)
         .saturating_add(count)
         .saturating_add(16);
-    Ok(again == Some(end) && opening.read_count() == count && opening.place() == behind)
+    Ok(again == Some(end) && opening.read_count() == count && opening.place() == following)
 }
 
 // How the reading of fewer than a thousand records ends.

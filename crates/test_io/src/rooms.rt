@@ -77,7 +77,7 @@ fn open_file(alloc: Global, name: &str) -> Result<Opened, Memory> {
     let bytes = read(alloc, &mut source);
     room.done(source);
     let found = found(bytes);
-    Ok(if room.starved() == 0 {
+    Ok(if room.failed_allocations() == 0 {
         found
     } else {
         Opened::Other
@@ -88,7 +88,7 @@ fn open_file(alloc: Global, name: &str) -> Result<Opened, Memory> {
 fn a_room_opens_what_was_placed(rt: HostRuntime) -> Result<(), Fail> {
     let placed = room(rt.alloc())?;
     assert!(rt; holds(&placed, "f", b"two"));
-    assert!(rt; placed.bytes("g") == None && placed.starved() == 0);
+    assert!(rt; placed.bytes("g") == None && placed.failed_allocations() == 0);
     let cases: [(&str, Opened); 3] = [
         ("f", Opened::Read(*b"two")),
         ("bad", Opened::NotRead(ReadError::Failed)),

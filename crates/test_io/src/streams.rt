@@ -83,7 +83,7 @@ fn write(sink: &mut MemSink, pieces: &[&[u8]]) -> Result<(), Failed> {
 }
 
 fn has_taken(sink: &MemSink, taken: &[u8]) -> bool {
-    sink.taken() == taken && sink.starved() == 0
+    sink.taken() == taken && sink.failed_allocations() == 0
 }
 
 // Whether a sink that takes so much a call answers so, and has so much at the end.

@@ -187,15 +187,15 @@ fn makes_files_and_opens_them_again(rt: HostRuntime) -> Result<(), Fail> {
 // A name, and what is answered of an input file, of a journal and of a new journal. A folder opens
 // as a source, and fails where it is read.
 const REFUSALS: &str = "\
-mtc_file_room_refusals/folder lent failed exists
-mtc_file_room_refusals/file lent lent exists
-mtc_file_room_refusals/file/behind absent absent failed
+mtc_file_room_refusals/folder opened failed exists
+mtc_file_room_refusals/file opened opened exists
+mtc_file_room_refusals/file/below absent absent failed
 mtc_file_room_refusals/none/new absent absent failed
 ";
 
 fn is_word(answer: &Option<RoomError>, word: &str) -> bool {
     match word {
-        "lent" => *answer == None,
+        "opened" => *answer == None,
         "absent" => *answer == Some(RoomError::Absent),
         "exists" => *answer == Some(RoomError::Exists),
         "failed" => *answer == Some(RoomError::Failed),

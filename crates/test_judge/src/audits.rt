@@ -10,7 +10,7 @@ use entry_list::read_items;
 use hss_core::{Key, LmsType, OtsType, SECRET_LEN, Secret, SigBuf};
 use mtc_io::{Bytes, Memory};
 use mtc_proof::{InputBuf, read_proof, signature_input};
-use policy_core::{Cosigners, Known, Places, Revoked, Rule, Rules, Store, Subtrees, Trusted};
+use policy_core::{Cosigners, Indices, Known, Revoked, Rule, Rules, Store, Subtrees, Trusted};
 use relying_party::judge;
 use std::alloc::Global;
 use tls_wire::AnchorId;
@@ -134,7 +134,7 @@ fn cosigners(alloc: Global) -> Option<Cosigners> {
 fn rules(alloc: Global) -> Option<Rules> {
     let rule = Rule {
         count: 1,
-        cosigners: Places::from_vec(vec![in alloc; 0, 1].ok()?),
+        cosigners: Indices::from_vec(vec![in alloc; 0, 1].ok()?),
     };
     Some(Rules::from_vec(vec![in alloc; rule].ok()?))
 }

@@ -5,7 +5,7 @@ use crate::texts::joined_bytes;
 use hss_core::{Key, LmsType, OtsType, SECRET_LEN, Secret, SigBuf};
 use mtc_io::Memory;
 use mtc_proof::{InputBuf, signature_input};
-use policy_core::{By, Cosigners, Known, Places, Rule, Rules, Store};
+use policy_core::{By, Cosigners, Indices, Known, Rule, Rules, Store};
 use std::alloc::Global;
 use std::test::Fail;
 use tls_wire::AnchorId;
@@ -26,13 +26,13 @@ fn keys_of(alloc: Global) -> Result<Vec<Key>, Fail> {
 }
 
 // The index of the key of the cosigner with this number.
-fn place_of(number: u8) -> usize {
+fn index_of(number: u8) -> usize {
     usize::from(number.saturating_sub(2))
 }
 
 // Signs a text by the key of this number.
 fn sign(keys: &mut Vec<Key>, number: u8, text: &[u8], out: &mut SigBuf) {
-    if let Some(key) = keys.get_mut(place_of(number)) {
+    if let Some(key) = keys.get_mut(index_of(number)) {
         if key.left() > 0 {
             key.sign(text, out);
         }
@@ -226,14 +226,14 @@ fn cosigners_of(alloc: Global, keys: &[Key]) -> Result<Cosigners, Fail> {
 
 // A rule, as `COUNT:NUMBERS`, where the cosigners have the numbers 2 to 4.
 fn rule_of(alloc: Global, word: &str) -> Result<Rule, Fail> {
-    let mut places = Vec::new(alloc);
+    let mut indices = Vec::new(alloc);
     let (count, numbers) = word.split_once(':').unwrap_or((word, ""));
     for number in numbers.as_bytes() {
-        places.push(u32::from(number.saturating_sub(b'2')))?;
+        indices.push(u32::from(number.saturating_sub(b'2')))?;
     }
     Ok(Rule {
         count: count.parse::<u32>()?,
-        cosigners: Places::from_vec(places),
+        cosigners: Indices::from_vec(indices),
     })
 }
 

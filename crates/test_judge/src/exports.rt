@@ -186,7 +186,7 @@ fn is_reported(alloc: Global, line: &str) -> Option<bool> {
 }
 
 #[test]
-fn each_fault_of_an_export_is_reported_at_its_place(rt: HostRuntime) {
+fn each_fault_of_an_export_is_reported_at_its_offset(rt: HostRuntime) {
     let mut count = 0u64;
     for line in CHANGES.lines() {
         assert!(rt; is_reported(rt.alloc(), line) == Some(true), "{line}");
@@ -215,7 +215,7 @@ fn is_answered_so(alloc: Global, line: &str) -> Option<bool> {
 }
 
 #[test]
-fn steps_are_tested_behind_those_before_them(rt: HostRuntime) {
+fn steps_are_tested_after_those_before_them(rt: HostRuntime) {
     let mut count = 0u64;
     for line in RECORDS.lines() {
         assert!(rt; is_answered_so(rt.alloc(), line) == Some(true), "{line}");

@@ -94,11 +94,11 @@ fn wrong_item(letter: u8) -> (&'static [u8], &'static [u8]) {
 }
 
 // The items of the letters before a wrong one, the wrong one, and those after it.
-fn with_wrong(alloc: Global, before: &str, wrong: u8, behind: &str) -> Result<Bytes, Memory> {
+fn with_wrong(alloc: Global, before: &str, wrong: u8, following: &str) -> Result<Bytes, Memory> {
     let (entry, key) = wrong_item(wrong);
     let mut bytes = list_of(alloc, before)?;
     put_item(&mut bytes, entry, key)?;
-    put_items(&mut bytes, behind)?;
+    put_items(&mut bytes, following)?;
     Ok(bytes)
 }
 
@@ -119,9 +119,9 @@ const WRONG: &str = "\
 fn is_reported(alloc: Global, line: &str) -> Option<bool> {
     let (before, rest) = line.split_once(' ')?;
     let (wrong, rest) = rest.split_once(' ')?;
-    let (behind, number) = rest.split_once(' ')?;
+    let (following, number) = rest.split_once(' ')?;
     let number = number.parse::<u64>().ok()?;
-    let bytes = with_wrong(alloc, before, wrong.bytes().next()?, behind).ok()?;
+    let bytes = with_wrong(alloc, before, wrong.bytes().next()?, following).ok()?;
     Some(refusal(alloc, bytes.as_slice()) == Some(ItemsError::BadItem(number)))
 }
 

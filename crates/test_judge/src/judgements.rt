@@ -136,7 +136,7 @@ pub fn answer(certificate: &[u8], store: &Store, now: i64) -> Result<Accepted, R
 }
 
 #[test]
-fn a_certificate_is_accepted_from_its_first_to_its_last_moment(
+fn a_certificate_is_accepted_from_its_first_to_its_last_second(
     rt: HostRuntime,
 ) -> Result<(), Fail> {
     let store = store_of(rt.alloc(), "32473.1", &[subtree(TRUSTED)], &[])?;

@@ -80,7 +80,7 @@ not_before = "2026-01-01T00:00:00Z"
 not_after = "2026-01-08T00:00:00Z"
 dns = ["a.example"]
 key = "MCowBQYDK2VwAyEA"
-== BadValue(PublicKey): a byte behind the element
+== BadValue(PublicKey): a byte after the element
 not_before = "2026-01-01T00:00:00Z"
 not_after = "2026-01-08T00:00:00Z"
 dns = ["a.example"]

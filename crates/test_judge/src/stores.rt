@@ -447,8 +447,8 @@ fn cosigner_reported(alloc: Global, known: &Known) -> Result<String, Fail> {
 
 // A rule by its count and indices.
 fn rule_reported(alloc: Global, rule: &Rule) -> Result<String, Fail> {
-    let (count, places) = (rule.count, rule.cosigners.as_slice());
-    Ok(format!(in alloc; "{count} of {places:?}, ")?)
+    let (count, indices) = (rule.count, rule.cosigners.as_slice());
+    Ok(format!(in alloc; "{count} of {indices:?}, ")?)
 }
 
 // The cosigners, and then the rules.

@@ -179,7 +179,7 @@ fn last_two() -> Run<'static> {
 }
 
 #[test]
-fn a_run_goes_on_from_what_the_last_one_found(rt: HostRuntime) -> Result<(), Fail> {
+fn a_run_continues_from_what_the_last_one_found(rt: HostRuntime) -> Result<(), Fail> {
     let six = "unread 0\nunread 1\nunread 2\nunread 3\nunread 4\nunread 5\nstate 32473.1 6 \
 d37ee418976dd95753c1c73862b9398fa2a2cf9b4ff0fdfe8b30cd95209614b7 \
 0ebc5d3437fbe2db158b9f126a1d118e308181031d0a949f8dededebc558ef6a\n";

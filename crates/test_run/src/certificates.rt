@@ -20,7 +20,7 @@ name OTHER
   301b30190603551d1104123010820362206381036d407882047e216f6b300c060a2b0601040182da4b2f000335
   00000000000000000000000000000000020020709e80c88487a2411e1ee4dfb9f22a861492d20c4765150c0c79
   4abd70f8147c0000
-# Two signatures behind the proof.
+# Two signatures after the proof.
 name SIGNED 0481fd5902000301020301ff0000
 
 case a certificate
@@ -192,40 +192,40 @@ name DIFFERENT
 | end = 2
 | hash = "77566825cd25f263271e3fa5341db28ed2c87945ee98f731b2aa96b9e6b11cf7"
 
-case a moment before the first
+case a second before the first
 file c CERT
 file store LOG SUBTREE
 $ verify c store 1767225599
 status 3
 | refused NotYet
 
-case the first moment
+case the first second
 file c CERT
 file store LOG SUBTREE
 $ verify c store 1767225600
 | accepted 1
 
-case the last moment
+case the last second
 file c CERT
 file store LOG SUBTREE
 $ verify c store 1767830400
 | accepted 1
 
-case a moment behind the last
+case a second after the last
 file c CERT
 file store LOG SUBTREE
 $ verify c store 1767830401
 status 3
 | refused Expired
 
-case the last moment of all
+case the last second of all
 file c CERT
 file store LOG SUBTREE
 $ verify c store 253402300799
 status 3
 | refused Expired
 
-case a moment that there isn't
+case a time that there isn't
 file c CERT
 file store LOG SUBTREE
 $ verify c store 253402300800
@@ -239,7 +239,7 @@ $ verify c store 01
 status 1
 ! mtc: verify: BadNumber 3
 
-case a moment with a sign
+case a time with a sign
 file c CERT
 file store LOG SUBTREE
 $ verify c store -1

@@ -1,7 +1,7 @@
 //! What the commands of a cosigner answer, and what they leave of its journal.
 
 use crate::desk::{Answer, Desk};
-use crate::scripts::{Outcome, desk_behind, outcome_behind};
+use crate::scripts::{Outcome, desk_after, outcome_after};
 use std::alloc::Global;
 use tree_core::{Sha, TreeHash};
 
@@ -12,7 +12,7 @@ name SECRET
   000102030405060708090a0b0c0d0e0f
   101112131415161718191a1b1c1d1e1f202122232425262728292a2b2c2d2e2f
 # The journal of cosigner 32473.2 of log 32473.1, with height 5 and width 4: its header and its
-# first record without the gate behind it.
+# first record without the commit byte after it.
 name FOUNDED 6d74632d6a6f75726e616c2f76310a00
   0100000043110481fd59020481fd59010000000500000003 SECRET
 name ROOT 77566825cd25f263271e3fa5341db28ed2c87945ee98f731b2aa96b9e6b11cf6
@@ -118,7 +118,7 @@ status 7
 
 #[test]
 fn commands_of_a_cosigner(rt: HostRuntime) {
-    let outcome = outcome_behind(rt.alloc(), NAMES, CASES);
+    let outcome = outcome_after(rt.alloc(), NAMES, CASES);
     assert!(rt; outcome == Ok(Outcome::Passed(18)), "{outcome:?}");
 }
 
@@ -180,7 +180,7 @@ fn cosigns_more(alloc: Global, desk: &mut Desk) -> u64 {
 
 // A file system with a cosigner that holds 1,024 entries, and the request for a signature of all.
 fn ready(alloc: Global) -> Option<Desk> {
-    desk_behind(alloc, NAMES, "file t ALL\nfile s ADVANCED 00")
+    desk_after(alloc, NAMES, "file t ALL\nfile s ADVANCED 00")
 }
 
 // Whether a key of height 5 signs 32 times, and is refused then.
@@ -240,7 +240,7 @@ fn status_in(
     call: u64,
     lengths: [usize; 3],
 ) -> Option<u8> {
-    let mut desk = desk_behind(alloc, NAMES, journal)?;
+    let mut desk = desk_after(alloc, NAMES, journal)?;
     status_with(alloc, &mut desk, words, call, lengths)
 }
 

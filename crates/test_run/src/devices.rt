@@ -1,17 +1,17 @@
 //! What the commands on the journal of a log answer where a call of its device fails.
 
 use crate::desk::{Answer, Desk};
-use crate::scripts::{Outcome, desk_behind, outcome_of};
+use crate::scripts::{Outcome, desk_after, outcome_of};
 use std::alloc::Global;
 
 const SCRIPT: &str = r#"
-# A new journal, and that with its record's gate closed.
+# A new journal, and that with its record's commit byte closed.
 name NEW 6d74632d6a6f75726e616c2f76310a00010000000e010481fd59010000000200000040 00
 name CLOSED 6d74632d6a6f75726e616c2f76310a00000000000e010481fd59010000000200000040 00
 
 # The calls of a device that is made: the length is asked for; the record is written and synced;
-# the gate is written and synced.
-case the length can't be told
+# the commit byte is written and synced.
+case the length can't be read
 fresh 0
 $ init-log j 32473.1 2 64
 status 5
@@ -50,7 +50,7 @@ $ init-log j 32473.1 2 64
 status 7
 ! mtc: init-log: j: Exists
 
-case the gate can't be written
+case the commit byte can't be written
 fresh 3
 $ init-log j 32473.1 2 64
 status 5
@@ -63,7 +63,7 @@ $ init-log j 32473.1 2 64
 status 7
 ! mtc: init-log: j: Exists
 
-case the gate can't be synced
+case the commit byte can't be synced
 fresh 4
 $ init-log j 32473.1 2 64
 status 5
@@ -77,7 +77,7 @@ status 7
 ! mtc: init-log: j: Exists
 
 # The calls of a checkpoint: the length and the header; then a sync, the length, the header, and all
-# that stands behind it. One that has failed once fails no more. Those from the seventh on are of
+# that stands after it. One that has failed once fails no more. Those from the seventh on are of
 # the second time.
 case call 0 fails
 file j NEW
@@ -282,8 +282,8 @@ fn status_with(
 }
 
 fn put_calls(calls: &mut Vec<u64>, call: u64, count: u64) -> Option<()> {
-    for behind in 0..count {
-        calls.push(call.saturating_add(behind)).ok()?;
+    for following in 0..count {
+        calls.push(call.saturating_add(following)).ok()?;
     }
     Some(())
 }
@@ -297,7 +297,7 @@ fn calls_from(alloc: Global, call: u64, count: u64) -> Option<Vec<u64>> {
 
 // The status where so many calls from this one on fail, in a file system that is rebuilt.
 fn status_from(alloc: Global, appending: &Appending, call: u64, count: u64) -> Option<u8> {
-    let mut desk = desk_behind(alloc, READY, "")?;
+    let mut desk = desk_after(alloc, READY, "")?;
     status_with(alloc, &mut desk, appending, calls_from(alloc, call, count)?)
 }
 

@@ -19,7 +19,7 @@ pub enum Difference {
     /// A journal has other records than the state.
     Records,
     /// A crash may leave other records than those of the state.
-    Image,
+    CrashState,
     /// A run printed something else than what was released.
     Printed,
 }

@@ -1,7 +1,7 @@
 //! What is printed of drills.
 
 use crate::scripts::{Outcome, outcome_of};
-use drill_core::fleet;
+use drill_core::play_drill;
 use std::alloc::Global;
 use std::test::Fail;
 use tree_core::Sha;
@@ -46,9 +46,9 @@ fn a_drill_prints_eight_lines(rt: HostRuntime) -> Result<(), Fail> {
     Ok(())
 }
 
-// A script that plays a drill and wants the numbers of what `fleet` answers for it.
+// A script that plays a drill and wants the numbers of what `play_drill` answers for it.
 fn script_of(alloc: Global, number: u64) -> Result<String, Fail> {
-    let counts = fleet::<Sha>(alloc, number)?.counts;
+    let counts = play_drill::<Sha>(alloc, number)?.counts;
     let mut script = format!(in alloc; "$ drill {number}\n| drill {number}\n")?;
     for (name, count) in [
         ("entries", counts.entries),
@@ -66,7 +66,7 @@ fn script_of(alloc: Global, number: u64) -> Result<String, Fail> {
 
 // In each of these drills a record that was stopped is there when the party is opened again.
 #[test]
-fn the_numbers_are_those_of_what_is_handed_out(rt: HostRuntime) -> Result<(), Fail> {
+fn the_numbers_are_those_of_the_output(rt: HostRuntime) -> Result<(), Fail> {
     for number in [5, 48] {
         let script = script_of(rt.alloc(), number)?;
         let outcome = outcome_of(rt.alloc(), script.as_str())?;

@@ -1,7 +1,7 @@
 //! The command `export`, and `init-cosigner` over devices that fail.
 
 use crate::cosigners::NAMES;
-use crate::scripts::{Outcome, outcome_behind};
+use crate::scripts::{Outcome, outcome_after};
 
 const EXPORTS: &str = r#"
 # What stands before the records: the two ids and the public key.
@@ -25,7 +25,7 @@ $ export s
   FRONT ADVANCE SIGN
 left s ADVANCED 01 SIGN 00
 
-case what stands behind the closed gate is no record
+case what stands after the closed commit byte is no record
 file s ADVANCED 00 SIGN 00
 $ export s
   FRONT ADVANCE
@@ -61,17 +61,17 @@ status 2
 
 #[test]
 fn exports(rt: HostRuntime) {
-    let outcome = outcome_behind(rt.alloc(), NAMES, EXPORTS);
+    let outcome = outcome_after(rt.alloc(), NAMES, EXPORTS);
     assert!(rt; outcome == Ok(Outcome::Passed(8)), "{outcome:?}");
 }
 
 const FRESH: &str = r#"
 # The calls of a device that is made: the length is asked for; the record is written and synced;
-# the gate is written and synced.
+# the commit byte is written and synced.
 name CLOSED 6d74632d6a6f75726e616c2f76310a00
   0000000043110481fd59020481fd59010000000500000003 SECRET 00
 
-case the length can't be told
+case the length can't be read
 file f SECRET
 fresh 0
 $ init-cosigner s 32473.2 32473.1 5 4 f
@@ -98,7 +98,7 @@ status 5
 ! mtc: init-cosigner: s: Failed
 left s CLOSED
 
-case the gate can't be written
+case the commit byte can't be written
 file f SECRET
 fresh 3
 $ init-cosigner s 32473.2 32473.1 5 4 f
@@ -109,7 +109,7 @@ $ export s
 status 2
 ! mtc: export: s: BadRecord 0
 
-case the gate can't be synced
+case the commit byte can't be synced
 file f SECRET
 fresh 4
 $ init-cosigner s 32473.2 32473.1 5 4 f
@@ -123,6 +123,6 @@ status 7
 
 #[test]
 fn a_new_device_fails_a_cosigner(rt: HostRuntime) {
-    let outcome = outcome_behind(rt.alloc(), NAMES, FRESH);
+    let outcome = outcome_after(rt.alloc(), NAMES, FRESH);
     assert!(rt; outcome == Ok(Outcome::Passed(8)), "{outcome:?}");
 }

@@ -12,37 +12,37 @@ mod certificates;
 #[cfg(test)]
 mod cosigners;
 #[cfg(test)]
-mod course;
-#[cfg(test)]
-mod course_desk;
-#[cfg(test)]
-mod course_draws;
-#[cfg(test)]
-mod course_node;
-#[cfg(test)]
-mod course_plans;
-#[cfg(test)]
-mod course_records;
-#[cfg(test)]
-mod course_stops;
-#[cfg(test)]
-mod courses;
-#[cfg(test)]
 mod desk;
 #[cfg(test)]
 mod devices;
 #[cfg(test)]
 mod difference;
 #[cfg(test)]
+mod drill_audits;
+#[cfg(test)]
+mod drill_replays;
+#[cfg(test)]
+mod drill_summary;
+#[cfg(test)]
 mod drills;
 #[cfg(test)]
+mod execution;
+#[cfg(test)]
+mod execution_desk;
+#[cfg(test)]
+mod execution_draws;
+#[cfg(test)]
+mod execution_party;
+#[cfg(test)]
+mod execution_plans;
+#[cfg(test)]
+mod execution_records;
+#[cfg(test)]
+mod execution_stops;
+#[cfg(test)]
+mod executions;
+#[cfg(test)]
 mod exports;
-#[cfg(test)]
-mod fleet_audits;
-#[cfg(test)]
-mod fleet_drills;
-#[cfg(test)]
-mod fleet_summary;
 #[cfg(test)]
 mod hashes;
 #[cfg(test)]

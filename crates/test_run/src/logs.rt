@@ -4,7 +4,7 @@ use crate::scripts::{Outcome, outcome_of};
 
 const SCRIPT: &str = r#"
 # The journal of log 32473.1 with 2 active landmarks and at most 64 entries: its header and its
-# first record without the gate behind it; an entry, and its key.
+# first record without the commit byte after it; an entry, and its key.
 name SETTINGS 6d74632d6a6f75726e616c2f76310a00010000000e010481fd59010000000200000040
 name ENTRY
   0001a003020102301931173015060a2b0601040182da4b2f010c0733323437332e31301e170d32363031303130
@@ -205,21 +205,21 @@ status 1
 ! mtc: init-log: BadId 2
 gone j
 
-case another gate of the first record
+case another commit byte of the first record
 file j NEW
 byte 16 00
 $ checkpoint j
 status 2
 ! mtc: checkpoint: j: BadRecord 0
 
-case another bit of that gate
+case another bit of that commit byte
 file j NEW
 byte 16 80
 $ checkpoint j
 | size 1
 | root 709e80c88487a2411e1ee4dfb9f22a861492d20c4765150c0c794abd70f8147c
 
-case no gate behind the record
+case no commit byte after the record
 file j NEW
 cut 35
 $ checkpoint j
@@ -273,7 +273,7 @@ $ issue j r
 status 2
 ! mtc: issue: r: UnknownKey
 
-case a moment without a time
+case a date without a time
 file j NEW
 file r
 |= not_before = "2026-01-01"

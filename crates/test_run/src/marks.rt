@@ -1,12 +1,12 @@
 //! What the commands on landmarks answer: those that set and list them, and the one that writes
 //! certificates without signatures.
 
-use crate::scripts::{Outcome, outcome_behind, outcome_of};
+use crate::scripts::{Outcome, outcome_after, outcome_of};
 use crate::trust::TABLES;
 
 const SCRIPT: &str = r#"
 # The journal of log 32473.1 with 2 active landmarks and at most 64 entries: its header and its
-# first record without the gate behind it.
+# first record without the commit byte after it.
 name SETTINGS 6d74632d6a6f75726e616c2f76310a00010000000e010481fd59010000000200000040
 name REQUEST
 | not_before = "2026-01-01T00:00:00Z"
@@ -242,6 +242,6 @@ status 3
 
 #[test]
 fn certificates_without_signatures(rt: HostRuntime) {
-    let outcome = outcome_behind(rt.alloc(), TABLES, LIGHT);
+    let outcome = outcome_after(rt.alloc(), TABLES, LIGHT);
     assert!(rt; outcome == Ok(Outcome::Passed(22)), "{outcome:?}");
 }

@@ -224,7 +224,7 @@ $ keygen 5 3 f
 status 1
 ! mtc: keygen: BadNumber 2
 
-case a word with a hyphen behind bad numbers
+case a word with a hyphen after bad numbers
 file f SECRET
 $ keygen 6 4 -x
 status 1
@@ -243,7 +243,7 @@ $ show f
 status 2
 ! mtc: show: f: Truncated 0
 
-case a byte behind a certificate
+case a byte after a certificate
 file f CERT 00
 $ show f
 status 2

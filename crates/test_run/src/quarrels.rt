@@ -1,7 +1,7 @@
 //! What `quarrel` finds in exports.
 
 use crate::cosigners::NAMES;
-use crate::scripts::{Outcome, outcome_behind};
+use crate::scripts::{Outcome, outcome_after};
 
 // The expected values are those of an implementation that was written apart from the program.
 const QUARRELS: &str = r#"
@@ -145,6 +145,6 @@ status 1
 
 #[test]
 fn exports_with_signatures_in_conflict(rt: HostRuntime) {
-    let outcome = outcome_behind(rt.alloc(), NAMES, QUARRELS);
+    let outcome = outcome_after(rt.alloc(), NAMES, QUARRELS);
     assert!(rt; outcome == Ok(Outcome::Passed(20)), "{outcome:?}");
 }

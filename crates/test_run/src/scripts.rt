@@ -296,7 +296,7 @@ impl Script {
     }
 
     // A line that ends what was begun.
-    fn start_behind(&mut self, what: &str, words: &str) -> Option<bool> {
+    fn start_after(&mut self, what: &str, words: &str) -> Option<bool> {
         if self.end()? {
             self.start(what, words)
         } else {
@@ -312,7 +312,7 @@ impl Script {
             "out-fails" => self.streams.out_fails = numbers(self.alloc, words)?,
             "err-fails" => self.streams.err_fails = numbers(self.alloc, words)?,
             "status" => self.ran.status = words.parse::<u8>().ok()?,
-            _ => return self.start_behind(what, words),
+            _ => return self.start_after(what, words),
         }
         Some(true)
     }
@@ -367,7 +367,7 @@ pub fn outcome_of(alloc: Global, text: &str) -> Result<Outcome, Unread> {
 }
 
 /// How a script ends that continues after the names of another one.
-pub fn outcome_behind(alloc: Global, names: &str, text: &str) -> Result<Outcome, Unread> {
+pub fn outcome_after(alloc: Global, names: &str, text: &str) -> Result<Outcome, Unread> {
     let mut script = new_script(alloc);
     match script.play(names) {
         Some(Outcome::Passed(_)) => script.play(text).ok_or(Unread),
@@ -376,7 +376,7 @@ pub fn outcome_behind(alloc: Global, names: &str, text: &str) -> Result<Outcome,
 }
 
 /// The file system that a script leaves after the names of another one, if both pass.
-pub fn desk_behind(alloc: Global, names: &str, text: &str) -> Option<Desk> {
+pub fn desk_after(alloc: Global, names: &str, text: &str) -> Option<Desk> {
     let mut script = new_script(alloc);
     match (script.play(names), script.play(text)) {
         (Some(Outcome::Passed(_)), Some(Outcome::Passed(_))) => Some(script.desk),

@@ -1,6 +1,6 @@
 //! What `tile` answers, and what the commands on a log answer to the file of its tiles.
 
-use crate::scripts::{Outcome, outcome_behind};
+use crate::scripts::{Outcome, outcome_after};
 use crate::texts::Unread;
 use std::alloc::Global;
 
@@ -50,7 +50,7 @@ $ checkpoint j
 | size 256
 | root e789d24923f083dce0c8fdfa13328e704286fa7b60dff1e2f70a3e4763aa3391
 
-# Entries behind the tiles, up to the last one before the next tile is full, and that one.
+# Entries after the tiles, up to the last one before the next tile is full, and that one.
 file j SETTINGS
 times 255 ITEM
  TILED
@@ -78,7 +78,7 @@ $ checkpoint j
 | size 512
 | root 6d0a2d1ba4e0f5fa3da1d5f3a971f52138c7c8fe6a522849b21d16b7bedf720b
 
-# What stands behind the tiles means nothing. A file of tiles that is another one is refused.
+# What stands after the tiles means nothing. A file of tiles that is another one is refused.
 again j.tiles
  00
 $ checkpoint j
@@ -156,7 +156,7 @@ $ member j.tiles
 status 2
 ! mtc: member: j.tiles: Short 0
 
-# What stands behind the last full tile isn't stored.
+# What stands after the last full tile isn't stored.
 file n SETTINGS
 times 256 ITEM
  00
@@ -167,7 +167,7 @@ length n.tiles 8192
 
 #[test]
 fn tiles_are_stored_beside_a_log(rt: HostRuntime) {
-    let outcome = outcome_behind(rt.alloc(), NAMES, STORED);
+    let outcome = outcome_after(rt.alloc(), NAMES, STORED);
     assert!(rt; outcome == Ok(Outcome::Passed(30)), "{outcome:?}");
 }
 
@@ -206,7 +206,7 @@ fn passing(alloc: Global, (before, words, printed): Case, call: u64) -> Option<S
 
 fn outcome(alloc: Global, script: Option<String>) -> Result<Outcome, Unread> {
     match script {
-        Some(script) => outcome_behind(alloc, NAMES, script.as_str()),
+        Some(script) => outcome_after(alloc, NAMES, script.as_str()),
         None => Err(Unread),
     }
 }

@@ -1,7 +1,7 @@
 //! The stores that trust the subtrees of landmarks.
 
 use crate::desk::{Answer, Desk};
-use crate::scripts::{Outcome, outcome_behind};
+use crate::scripts::{Outcome, outcome_after};
 use mtc_io::{Bytes, Memory};
 use std::alloc::Global;
 
@@ -31,7 +31,7 @@ name TABLES
 "#;
 
 const SCRIPT: &str = r#"
-# Its entry and key, each behind its length of two bytes; and the item of the null entry.
+# Its entry and key, each after its length of two bytes; and the item of the null entry.
 name ENTRY
   00830001a003020102301931173015060a2b0601040182da4b2f010c0733323437332e31301e170d3236303130
   313030303030305a170d3236303130383030303030305a30000420722abd12e99a5367f375aeb9672a8e07712e
@@ -141,7 +141,7 @@ $ trust-landmarks l 1 e
 status 2
 ! mtc: trust-landmarks: l: TooManyActive
 
-case a landmark behind the entries
+case a landmark after the entries
 file l LIST
 file e NULL ITEM ITEM ITEM ITEM ITEM ITEM ITEM
 $ trust-landmarks l 2 e
@@ -267,7 +267,7 @@ $ verify cert store 1767225600
 #[test]
 fn subtrees_of_landmarks_are_trusted(rt: HostRuntime) {
     for (script, runs) in [(SCRIPT, 18), (COVERED, 30)] {
-        let outcome = outcome_behind(rt.alloc(), TABLES, script);
+        let outcome = outcome_after(rt.alloc(), TABLES, script);
         assert!(rt; outcome == Ok(Outcome::Passed(runs)), "{outcome:?}");
     }
 }

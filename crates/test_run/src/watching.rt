@@ -1,6 +1,6 @@
 //! What those who watch a log from outside are answered: `root`, `held`, `monitor-init`, `monitor`.
 
-use crate::scripts::{Outcome, outcome_behind};
+use crate::scripts::{Outcome, outcome_after};
 
 // The expected values are those of an implementation that was written apart from the program.
 const GIVEN: &str = r#"
@@ -75,7 +75,7 @@ status 2
 
 #[test]
 fn roots(rt: HostRuntime) {
-    let outcome = outcome_behind(rt.alloc(), GIVEN, ROOTS);
+    let outcome = outcome_after(rt.alloc(), GIVEN, ROOTS);
     assert!(rt; outcome == Ok(Outcome::Passed(6)), "{outcome:?}");
 }
 
@@ -143,7 +143,7 @@ status 2
 
 #[test]
 fn held(rt: HostRuntime) {
-    let outcome = outcome_behind(rt.alloc(), GIVEN, HELD);
+    let outcome = outcome_after(rt.alloc(), GIVEN, HELD);
     assert!(rt; outcome == Ok(Outcome::Passed(7)), "{outcome:?}");
 }
 
@@ -201,7 +201,7 @@ $ monitor s w r e
 
 #[test]
 fn monitors(rt: HostRuntime) {
-    let outcome = outcome_behind(rt.alloc(), GIVEN, MONITORS);
+    let outcome = outcome_after(rt.alloc(), GIVEN, MONITORS);
     assert!(rt; outcome == Ok(Outcome::Passed(7)), "{outcome:?}");
 }
 
@@ -279,6 +279,6 @@ left s KEPT
 
 #[test]
 fn refused(rt: HostRuntime) {
-    let outcome = outcome_behind(rt.alloc(), GIVEN, REFUSED);
+    let outcome = outcome_after(rt.alloc(), GIVEN, REFUSED);
     assert!(rt; outcome == Ok(Outcome::Passed(13)), "{outcome:?}");
 }

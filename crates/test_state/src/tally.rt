@@ -34,7 +34,7 @@ impl StateMachine for Tally {
 
     ghost Keeps = { λ it list. it.count ≡ length list };
 
-    ghost Within = { λ it gate. it.count < gate };
+    ghost Within = { λ it commit_offset. it.count < commit_offset };
 
     ghost rest_of = { λ disk. disk };
 
@@ -74,7 +74,7 @@ impl StateMachine for Tally {
         Ok(())
     }
 
-    fn hand_back(seed: MemDisk) -> MemDisk {
+    fn return_rest(seed: MemDisk) -> MemDisk {
         seed
     }
 

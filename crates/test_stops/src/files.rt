@@ -112,13 +112,13 @@ impl Files {
     // A copy of a file's device; none if there is no file.
     fn device(&mut self, name: &str) -> Option<MemDisk> {
         let opened = self.room.disk(name).ok()?;
-        let copy = opened.lend();
+        let copy = opened.open_copy();
         self.room.keep(name, opened);
         copy.ok()
     }
 
     /// What a crash leaves of a file, by the pick: nothing of a file that isn't there.
-    pub fn image(&mut self, name: &str, pick: u64) -> Option<Bytes> {
+    pub fn crash_state(&mut self, name: &str, pick: u64) -> Option<Bytes> {
         match self.device(name) {
             Some(device) => Bytes::copy_of(self.alloc, device.crash(pick).ok()?.bytes()).ok(),
             None => Some(Bytes::new(self.alloc)),

@@ -47,8 +47,8 @@ impl Allowed {
 
     // Whether a file represents the records with the new one: the commit byte before it is another
     // byte than 0, and the one after the last record is 0. None if it represents neither list.
-    fn keeps(&self, image: &[u8]) -> Option<bool> {
-        let (old, rest) = image.split_at_checked(self.old.len())?;
+    fn keeps(&self, crash_state: &[u8]) -> Option<bool> {
+        let (old, rest) = crash_state.split_at_checked(self.old.len())?;
         let (commit, body) = rest.split_first()?;
         if old != self.old.as_slice() {
             return None;
@@ -172,10 +172,10 @@ fn open_each(
     journal: &[u8],
     files: &mut Files,
 ) -> Option<()> {
-    let mut last = files.image("j.tiles", 0)?;
+    let mut last = files.crash_state("j.tiles", 0)?;
     is_opened(alloc, case, allowed, journal, last.as_slice())?;
     for pick in 1..16 {
-        let tiles = files.image("j.tiles", pick)?;
+        let tiles = files.crash_state("j.tiles", pick)?;
         if tiles.as_slice() != last.as_slice() {
             is_opened(alloc, case, allowed, journal, tiles.as_slice())?;
         }
@@ -199,11 +199,11 @@ fn has_record(
 // How many of sixteen crash states have the new record. One like the one before it isn't opened
 // again.
 fn count(alloc: Global, case: &str, allowed: &Allowed, files: &mut Files) -> Option<u64> {
-    let mut last = files.image(field(case, "journal"), 0)?;
+    let mut last = files.crash_state(field(case, "journal"), 0)?;
     let mut has = has_record(alloc, case, allowed, last.as_slice(), files)?;
     let mut count = if has { 1u64 } else { 0 };
     for pick in 1..16 {
-        let journal = files.image(field(case, "journal"), pick)?;
+        let journal = files.crash_state(field(case, "journal"), pick)?;
         if journal.as_slice() != last.as_slice() {
             has = has_record(alloc, case, allowed, journal.as_slice(), files)?;
         }

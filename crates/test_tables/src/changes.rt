@@ -4,7 +4,7 @@
 //! the offset, and `FROM-TO ANSWER` for each run of values of the byte there that have one answer.
 
 use crate::certificates::{Parsed, parsed, text_of_parsed};
-use crate::judgements::{CERTIFICATE, Judged, MOMENT, store_of, text_of_judged};
+use crate::judgements::{CERTIFICATE, Judged, UNIX_TIME, store_of, text_of_judged};
 use crate::words::{bytes_of, word};
 use anyhow::{Context, Result};
 use policy_core::Store;
@@ -141,7 +141,7 @@ pub(crate) fn of_certificate(alloc: Global, line: &str) -> Result<String> {
 // The lines for a judgement, by its store.
 fn by_store(alloc: Global, line: &str, store: &Store) -> Result<String> {
     let label = word(line, 0)?;
-    let now = word(line, MOMENT)?.parse::<i64>().context("no moment")?;
+    let now = word(line, UNIX_TIME)?.parse::<i64>().context("no time")?;
     let certificate = bytes_of(alloc, word(line, CERTIFICATE)?)?;
     table(
         alloc,

@@ -15,7 +15,7 @@ use tls_wire::AnchorId;
 use tree_core::Span;
 
 /// The index of the time in a line.
-pub(crate) const MOMENT: usize = 1;
+pub(crate) const UNIX_TIME: usize = 1;
 
 /// The index of the certificate in a line, its last word.
 pub(crate) const CERTIFICATE: usize = 8;

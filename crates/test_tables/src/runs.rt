@@ -4,9 +4,10 @@
 //! OUT is how many bytes a call the output takes, or `COUNT/CALL` where the call with this number
 //! on it fails, counted from 0. A FILE is `NAME=BYTES`, or `NAME=BYTES/CALL` where that call on it
 //! fails; `?NAME` asks what a file holds at the end. An answer has the status; what the output
-//! took; ` ! ` and the line on standard error; ` starved` where a file or an output found no
-//! memory; and ` NAME=BYTES` for each file that was asked for, or ` NAME` where there is none. What
-//! is empty is left out, `|` is the end of a line, and bytes that are no text follow `hex:`.
+//! took; ` ! ` and the line on standard error; ` failed_allocations` where a file or an output
+//! found no memory; and ` NAME=BYTES` for each file that was asked for, or ` NAME` where there is
+//! none. What is empty is left out, `|` is the end of a line, and bytes that are no text follow
+//! `hex:`.
 
 ghost use Rattle.std.specs.Prelude.{◌≡◌};
 
@@ -120,8 +121,10 @@ impl MemoryFiles {
     }
 
     // Whether a file or one of these outputs found no memory.
-    fn is_starved(&self, ended: &Ended) -> bool {
-        self.room.starved() > 0 || ended.out.starved() > 0 || ended.err.starved() > 0
+    fn has_failed_allocations(&self, ended: &Ended) -> bool {
+        self.room.failed_allocations() > 0
+            || ended.out.failed_allocations() > 0
+            || ended.err.failed_allocations() > 0
     }
 
     // Writes what a file holds, if it is there.
@@ -148,7 +151,7 @@ impl MemoryFiles {
 
     // Writes what a line asks for in addition to the status and the outputs.
     fn add_rest(&self, alloc: Global, text: &mut String, ended: &Ended, files: &str) -> Result<()> {
-        if self.is_starved(ended) {
+        if self.has_failed_allocations(ended) {
             text.push_str(" starved")?;
         }
         self.add_files(alloc, text, files)
@@ -227,8 +230,8 @@ fn answer_to(alloc: Global, line: Line<'_>, change: Option<Change<'_>>) -> Resul
 
 // The parts of `OUT FILE .. : WORD ..`.
 fn line_of(text: &str) -> Result<Line<'_>> {
-    let (front, words) = text.split_once(" : ").context("no words")?;
-    let (out, files) = front.split_once(' ').context("no files")?;
+    let (prefix, words) = text.split_once(" : ").context("no words")?;
+    let (out, files) = prefix.split_once(' ').context("no files")?;
     Ok(Line { out, files, words })
 }
 

@@ -187,7 +187,7 @@ fn differ_at(cache: &mut Cache<Sha>, listed: &mut Listed<Sha>) -> Result<Option<
 }
 
 #[test]
-fn proofs_are_those_of_nodes_made_anew(rt: HostRuntime) {
+fn proofs_are_those_of_rebuilt_nodes(rt: HostRuntime) {
     let mut cache = Cache::new(rt.alloc());
     let mut listed = Listed::new(rt.alloc());
     let found = differ_at(&mut cache, &mut listed);

@@ -108,7 +108,7 @@ fn of_second(alloc: Global, first: u64, second: u64) -> Result<Option<Cover>, Me
 }
 
 #[test]
-fn a_landmark_stands_for_the_cover_behind_the_one_before(rt: HostRuntime) -> Result<(), Fail> {
+fn a_landmark_is_the_cover_of_what_follows_the_one_before(rt: HostRuntime) -> Result<(), Fail> {
     let one = Cover {
         first: Span { start: 1, end: 2 },
         second: None,

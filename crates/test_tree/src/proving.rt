@@ -268,7 +268,7 @@ fn fails_from(calls: u64) -> Failing {
 }
 
 #[test]
-fn a_failure_is_handed_on(rt: HostRuntime) {
+fn a_failure_is_returned(rt: HostRuntime) {
     let mut path = Path::new();
     for calls in 0..4 {
         let wanted = Some(if calls < 3 { Err(Failed) } else { Ok(()) });

@@ -94,7 +94,7 @@ fn refused(place: usize, value: u8, count: usize) -> Option<FormError> {
 }
 
 #[test]
-fn an_advance_outside_the_form_is_reported_by_its_place(rt: HostRuntime) {
+fn an_advance_outside_the_form_is_reported_by_its_offset(rt: HostRuntime) {
     let cases = [
         (0, 4, 79, None),
         (0, 4, 0, Some(FormError::Short(0))),
@@ -123,6 +123,6 @@ fn subtree_refused(bytes: &[u8]) -> Option<FormError> {
 }
 
 #[test]
-fn a_subtree_cut_off_is_reported_by_its_place(rt: HostRuntime) {
+fn a_subtree_cut_off_is_reported_by_its_offset(rt: HostRuntime) {
     assert!(rt; subtree_refused(&[1, 9, 0, 0]) == Some(FormError::Short(2)));
 }

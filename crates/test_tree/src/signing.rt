@@ -65,7 +65,7 @@ fn fault(bytes: &[u8]) -> Option<ProofError> {
 }
 
 #[test]
-fn a_changed_byte_is_reported_by_its_place(rt: HostRuntime) {
+fn a_changed_byte_is_reported_by_its_offset(rt: HostRuntime) {
     let faults: [(usize, u8, ProofError); 9] = [
         (17, 0x1F, ProofError::HashLength),
         (17, 0x40, ProofError::Short(16)),

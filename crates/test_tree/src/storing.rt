@@ -380,7 +380,7 @@ fn an_adopted_node_is_read_through_a_frame(rt: HostRuntime) -> Result<(), Fail> 
 }
 
 // Whether a byte changed in the tile of level 1 is reported, if that tile is adopted.
-fn tells_the_next_level(alloc: Global, bytes: &[u8]) -> Result<bool, Memory> {
+fn gives_the_next_level(alloc: Global, bytes: &[u8]) -> Result<bool, Memory> {
     let mut tiles = grown(alloc, changed(alloc, bytes, "byte", 256 * 8192)?, 1, 65_536)?;
     let wanted = Err(TileError::BadTile { level: 1, place: 0 });
     Ok(adopted(&mut tiles, 65_536) == Some(wanted) && is_adopted(&mut tiles, 65_280))
@@ -390,7 +390,7 @@ fn tells_the_next_level(alloc: Global, bytes: &[u8]) -> Result<bool, Memory> {
 fn a_tile_of_the_next_level_is_compared(rt: HostRuntime) -> Result<(), Fail> {
     let bytes = file(rt.alloc(), 65_536)?;
     assert!(rt; bytes.len() == 257 * 8192);
-    assert!(rt; tells_the_next_level(rt.alloc(), bytes.as_slice())?);
+    assert!(rt; gives_the_next_level(rt.alloc(), bytes.as_slice())?);
     Ok(())
 }
 

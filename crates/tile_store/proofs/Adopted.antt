@@ -55,7 +55,7 @@ between adopted size level place few new =
         ⊎_elim
             (λ (before : tile_number level place < tiles_in adopted).
             absurd (new.other (number-full adopted level place (omega arith) before)))
-            (λ (behind : tiles_in adopted ≤ tile_number level place). behind)
+            (λ (following : tiles_in adopted ≤ tile_number level place). following)
             (cases_lt (tile_number level place) (tiles_in adopted)),
         below,
       ),
@@ -64,7 +64,7 @@ between adopted size level place few new =
 new-between : (adopted size level place : ℕ) → level ≤ 2
     → tiles_in adopted ≤ tile_number level place → tile_number level place < tiles_in size
     → IsNewTile adopted size level place
-new-between adopted size level place low behind below = record {
+new-between adopted size level place low following below = record {
   full = number-full size level place low below;
   other = λ full. let before = full-number adopted level place low full in omega arith;
 }
@@ -137,7 +137,7 @@ cause-from {hashes = hashes} {g = g} old rows disk size (BadTile level place) fe
       let h = hashes.hash in
       let leaves = leaves_with old.adopted old.rows b in
       record {
-        new = new-between old.adopted size level place is.low is.behind is.below;
+        new = new-between old.adopted size level place is.low is.following is.below;
         bad = λ standing.
             ⊎_elim
             (λ (short : length b < tile_at level place + 8192).

@@ -9,9 +9,9 @@ use Rattle.std.proofs.Math.ListN.{length-set}
 use Rattle.std.proofs.Math.Seq.{take-add}
 use Rattle.std.proofs.lemmas.Bool.{cases_lt}
 use Rattle.std.proofs.lemmas.List.{take_all}
-use Rattle.disk_core.proofs.Moments.{only_read_on}
+use Rattle.disk_core.proofs.Times.{only_read_on}
 use Rattle.disk_core.specs.Disk.{part}
-use Rattle.disk_core.specs.Moments.{OnlyReads}
+use Rattle.disk_core.specs.Times.{OnlyReads}
 use Rattle.disk_core.specs.declared.disk.Disk.{Ghosts}
 use Rattle.frame_pool.specs.Frames.{HoldsKey, IsUnheld, PoolState, released}
 use Rattle.frame_pool.specs.Sound.{IsSoundPool}
@@ -59,9 +59,9 @@ pub matched-more : (h : List ℕ → List ℕ) (leaves : List (List ℕ)) (from 
     → (level place : ℕ) → level ≤ 2 → from ≤ tile_number level place
     → tile_number level place < number + 1
     → IsTile h leaves level place (part (tile_at level place) 8192 b)
-matched-more h leaves from number l p b low is tile sofar level place less behind below =
+matched-more h leaves from number l p b low is tile sofar level place less following below =
     ⊎_elim
-    (λ (earlier : tile_number level place < number). sofar level place less behind earlier)
+    (λ (earlier : tile_number level place < number). sofar level place less following earlier)
     (λ (last : number ≤ tile_number level place).
     let same : tile_number l p ≡ tile_number level place = omega arith in
     let one = same-number l p level place low less same in
@@ -140,7 +140,7 @@ module _ {T : Type 0} (g : Ghosts T) where
   found-none h rows from old pool only_reads free = record {
     compared = compared-only_read old old pool only_reads free;
     faults = refl;
-    matched = λ b contents frames leaves are level place low behind below.
+    matched = λ b contents frames leaves are level place low following below.
         let no : ⊥ = omega arith in absurd no;
   }
 
@@ -170,10 +170,10 @@ module _ {T : Type 0} (g : Ghosts T) where
       → IsFirstOther g h rows from to old a l p
   first-other h rows from number to l p old mid a b low is order less sofar other = record {
     low = low;
-    behind = omega arith;
+    following = omega arith;
     below = omega arith;
-    before = λ bytes contents frames leaves are level place lower behind below.
-        sofar.matched bytes contents frames leaves are level place lower behind (omega arith);
+    before = λ bytes contents frames leaves are level place lower following below.
+        sofar.matched bytes contents frames leaves are level place lower following (omega arith);
     other = λ bytes contents frames leaves are.
         inr (other bytes (sofar.compared.only_reads.contents ∙ contents)
         (sofar.compared.frames bytes contents frames) leaves are);
@@ -197,7 +197,7 @@ module _ {T : Type 0} (g : Ghosts T) where
       let below = is.below in
       record {
         low = is.low;
-        behind = is.behind;
+        following = is.following;
         below = omega arith;
         before = λ b contents. is.before b (only_reads.contents ∙ contents);
         other = λ b contents. is.other b (only_reads.contents ∙ contents);
@@ -225,10 +225,10 @@ module _ {T : Type 0} (g : Ghosts T) where
   first-short h rows from to length_is whole l p old mid pool only_reads long is short order low
       number matched = record {
         low = low;
-        behind = omega arith;
+        following = omega arith;
         below = omega arith;
-        before = λ b contents frames leaves are level place lower behind below.
-            matched b (only_reads.contents ∙ contents) frames leaves are level place lower behind
+        before = λ b contents frames leaves are level place lower following below.
+            matched b (only_reads.contents ∙ contents) frames leaves are level place lower following
             (omega arith);
         other = λ b contents frames leaves are.
             let size : length_is ≡ length b =

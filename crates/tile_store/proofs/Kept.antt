@@ -44,21 +44,21 @@ leaf-tile adopted stored k whole within below =
     let number = full-number stored 0 (k / 256) (omega arith) (omega arith) in
     omega arith
 
-pub leaves-behind : (adopted stored : ℕ) (rows : RowsState) (b after : List ℕ)
+pub leaves-following : (adopted stored : ℕ) (rows : RowsState) (b after : List ℕ)
     → adopted % 256 ≡ 0 → adopted ≤ stored → tiles_end stored ≤ length b
     → KeepsPrefix (tiles_end stored) b after
     → leaves_with adopted rows after ≡ leaves_with adopted rows b
-leaves-behind adopted stored rows b after whole within there keeps =
+leaves-following adopted stored rows b after whole within there keeps =
     ap (λ l. l ++ first_row rows)
     (leaves-prefix adopted (tiles_end stored) after b
     (λ k below. leaf-tile adopted stored k whole within below)
     (whole-prefix (tiles_end stored) b after there keeps))
 
-tile-behind : (stored : ℕ) (b after : List ℕ) (level place : ℕ) → stored < 2 ^ 32
+tile-following : (stored : ℕ) (b after : List ℕ) (level place : ℕ) → stored < 2 ^ 32
     → tiles_end stored ≤ length b → KeepsPrefix (tiles_end stored) b after
     → IsFull stored level place
     → part (tile_at level place) 8192 b ≡ part (tile_at level place) 8192 after
-tile-behind stored b after level place few there keeps full =
+tile-following stored b after level place few there keeps full =
     part-prefix (tile_at level place) 8192 (tiles_end stored) b after
     (full-there stored stored (tiles_end stored) level place few (omega arith) (omega arith) full)
     (sym (whole-prefix (tiles_end stored) b after there keeps))
@@ -80,23 +80,23 @@ tiles-kept h leaves size b after few keeps holds level place full =
     (part-prefix begin 8192 (min (tiles_end size) (length b)) b after (omega arith)
     (take_min (tiles_end size) b ∙ sym keeps.prefix)) tile
 
-pub sound-behind : (h : List ℕ → List ℕ) (adopted stored : ℕ) (rows : RowsState)
+pub sound-following : (h : List ℕ → List ℕ) (adopted stored : ℕ) (rows : RowsState)
     (pool : PoolState) (b after : List ℕ) → adopted % 256 ≡ 0 → adopted ≤ stored
     → stored < 2 ^ 32 → tiles_end stored ≤ length b → KeepsPrefix (tiles_end stored) b after
     → ((slot : ℕ) (key : TileKey) → HoldsKey pool slot key → IsFull adopted key.level key.place)
     → IsSoundOver h adopted stored rows pool b → IsSoundOver h adopted stored rows pool after
-sound-behind h adopted stored rows pool b after whole within few there keeps keys is =
-    let same = leaves-behind adopted stored rows b after whole within there keeps in
+sound-following h adopted stored rows pool b after whole within few there keeps keys is =
+    let same = leaves-following adopted stored rows b after whole within there keeps in
     record {
       stands = subst (λ l. AreRowsOf h l rows) (sym same) is.stands;
       tiles = λ level place full.
           subst (λ l. IsTile h l level place (part (tile_at level place) 8192 after)) (sym same)
           (subst (IsTile h (leaves_with adopted rows b) level place)
-          (tile-behind stored b after level place few there keeps full)
+          (tile-following stored b after level place few there keeps full)
           (is.tiles level place full));
       frames = λ slot key holds.
           is.frames slot key holds
-          ∙ tile-behind stored b after key.level key.place few there keeps
+          ∙ tile-following stored b after key.level key.place few there keeps
           (full-more adopted stored key.level key.place within (keys slot key holds));
     }
 

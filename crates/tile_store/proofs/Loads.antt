@@ -9,7 +9,7 @@ use Rattle.std.proofs.lemmas.Bool.{cases_eq}
 use Rattle.std.proofs.lemmas.List.{get_or_past}
 use Rattle.disk_core.specs.Disk.{part}
 use Rattle.frame_pool.specs.Frames.{HoldsKey, PoolState, claimed, frame_at, released}
-use Rattle.frame_pool.specs.Lending.{with_frame}
+use Rattle.frame_pool.specs.Borrowing.{with_frame}
 use Rattle.frame_pool.specs.declared.key.TileKey.{TileKey}
 use Rattle.tile_store.specs.Frames.{FramesHold}
 use Rattle.tile_store.specs.Layout.{tile_at}

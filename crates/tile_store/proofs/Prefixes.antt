@@ -5,7 +5,7 @@ use Rattle.std.proofs.lemmas.List.{take_min, take-take}
 use Rattle.disk_core.specs.Disk.{Torn}
 use Rattle.disk_core.specs.declared.disk.Disk.{Ghosts}
 use Rattle.disk_core.proofs.Torn.{torn_before}
-use Rattle.tile_store.specs.Writing.{IsImageBehind, KeepsPrefix}
+use Rattle.tile_store.specs.Writing.{IsCrashStateAfter, KeepsPrefix}
 
 pub prefix-same : (place : ℕ) (bytes : List ℕ) → KeepsPrefix place bytes bytes
 prefix-same place bytes = record { no_shorter = omega arith; prefix = take_min place bytes }
@@ -46,10 +46,10 @@ prefix-on place old mid new first second =
 
 module _ {T : Type 0} (g : Ghosts T) where
   -- nothing was written yet
-  pub behind-now : (old : T) (place : ℕ) (image : List ℕ) → g.may_leave old image
-      → IsImageBehind g old place image
-  behind-now old place image left = record {
-    before = image;
+  pub following-now : (old : T) (place : ℕ) (crash_state : List ℕ) → g.may_leave old crash_state
+      → IsCrashStateAfter g old place crash_state
+  following-now old place crash_state left = record {
+    before = crash_state;
     left = left;
-    keeps = prefix-same place image;
+    keeps = prefix-same place crash_state;
   }

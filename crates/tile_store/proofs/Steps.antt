@@ -7,17 +7,17 @@ use Rattle.std.specs.Prelude.{IfSome, Option, is_some, option_map}
 use Rattle.std.proofs.Math.Seq.{drop-append_seam, take-append_seam}
 use Rattle.std.proofs.lemmas.Bool.{cases_lt}
 use Rattle.std.proofs.lemmas.List.{length-take}
-use Rattle.disk_core.proofs.Moments.{joined, left_now, started, weaker}
+use Rattle.disk_core.proofs.Times.{joined, left_now, started, weaker}
 use Rattle.disk_core.specs.Disk.{Only, overwritten, part}
-use Rattle.disk_core.specs.Moments.{LeavesOnly, OnlyReads}
+use Rattle.disk_core.specs.Times.{LeavesOnly, OnlyReads}
 use Rattle.disk_core.specs.declared.disk.Disk.{Ghosts}
 use Rattle.tile_store.proofs.Bytes.{part-prefix}
-use Rattle.tile_store.proofs.Prefixes.{behind-now, prefix-less, prefix-on}
+use Rattle.tile_store.proofs.Prefixes.{following-now, prefix-less, prefix-on}
 use Rattle.tile_store.proofs.Numbers.{same-number}
 use Rattle.tile_store.specs.Contents.{IsTile}
 use Rattle.tile_store.specs.Layout.{tile_at, tile_number}
-use Rattle.tile_store.specs.Writing.{HoldsFirst, IsImageBehind, IsTileWritten, KeepsPrefix}
-use Rattle.tile_store.specs.Writing.{TilesAreWritten, WritesBehind}
+use Rattle.tile_store.specs.Writing.{HoldsFirst, IsCrashStateAfter, IsTileWritten, KeepsPrefix}
+use Rattle.tile_store.specs.Writing.{TilesAreWritten, WritesAfter}
 use Rattle.tree_cache.specs.Rows.{RowsState}
 use Rattle.byte_formats.specs.Types.{HashFunction, Text}
 
@@ -83,19 +83,19 @@ module _ {T : Type 0} (g : Ghosts T) where
   pub record HavePut (h : HashFunction) (rows : RowsState) (from to number : ℕ) (old now : T)
       : Type 0 where
     pub most : number ≤ max from to
-    pub behind : WritesBehind g (8192 * from) old now
+    pub following : WritesAfter g (8192 * from) old now
     pub written : TilesAreWritten g h rows from number old now
     pub faults : g.faults now ≡ g.faults old
 
   -- nothing was written yet
   pub put-none : (h : HashFunction) (rows : RowsState) (from to : ℕ) (disk : T)
-      → ((c : Text) → g.left_since disk (g.moment disk) c → g.may_leave disk c)
+      → ((c : Text) → g.left_since disk (g.clock_at disk) c → g.may_leave disk c)
       → 8192 * from ≤ g.known disk → HavePut h rows from to from disk disk
   put-none h rows from to disk only_now reach = record {
     most = omega arith;
-    behind = record {
-      any_moment = started g disk (IsImageBehind g disk (8192 * from)) only_now
-          (behind-now g disk (8192 * from));
+    following = record {
+      any_time = started g disk (IsCrashStateAfter g disk (8192 * from)) only_now
+          (following-now g disk (8192 * from));
       contents = refl;
       known = omega arith;
     };
@@ -109,64 +109,65 @@ module _ {T : Type 0} (g : Ghosts T) where
   }
 
   -- crash states after one offset and then after a later one
-  behind-on : (old mid : T) (low high : ℕ) (image : List ℕ) → low ≤ high
-      → ((c : List ℕ) → g.may_leave mid c → IsImageBehind g old low c)
-      → IsImageBehind g mid high image → IsImageBehind g old low image
-  behind-on old mid low high image within earlier is =
+  following-on : (old mid : T) (low high : ℕ) (crash_state : List ℕ) → low ≤ high
+      → ((c : List ℕ) → g.may_leave mid c → IsCrashStateAfter g old low c)
+      → IsCrashStateAfter g mid high crash_state → IsCrashStateAfter g old low crash_state
+  following-on old mid low high crash_state within earlier is =
       let first = earlier is.before is.left in
       record {
         before = first.before;
         left = first.left;
-        keeps = prefix-on low first.before is.before image first.keeps
-            (prefix-less low high is.before image within is.keeps);
+        keeps = prefix-on low first.before is.before crash_state first.keeps
+            (prefix-less low high is.before crash_state within is.keeps);
       }
 
-  moments-on : (old mid new : T) (low high : ℕ)
-      → ((t : ℕ) (c : List ℕ) → t ≤ g.moment mid → g.may_leave mid c → g.left_since mid t c)
-      → low ≤ high → LeavesOnly g old mid (IsImageBehind g old low)
-      → LeavesOnly g mid new (IsImageBehind g mid high)
-      → LeavesOnly g old new (IsImageBehind g old low)
-  moments-on old mid new low high counts_now within first second =
-      joined g old mid new (IsImageBehind g old low) first
-      (weaker g mid new (IsImageBehind g mid high) (IsImageBehind g old low)
-      (λ c. behind-on old mid low high c within
-      (left_now g old mid (IsImageBehind g old low) counts_now first)) second)
+  times-on : (old mid new : T) (low high : ℕ)
+      → ((t : ℕ) (c : List ℕ) → t ≤ g.clock_at mid → g.may_leave mid c → g.left_since mid t c)
+      → low ≤ high → LeavesOnly g old mid (IsCrashStateAfter g old low)
+      → LeavesOnly g mid new (IsCrashStateAfter g mid high)
+      → LeavesOnly g old new (IsCrashStateAfter g old low)
+  times-on old mid new low high counts_now within first second =
+      joined g old mid new (IsCrashStateAfter g old low) first
+      (weaker g mid new (IsCrashStateAfter g mid high) (IsCrashStateAfter g old low)
+      (λ c. following-on old mid low high c within
+      (left_now g old mid (IsCrashStateAfter g old low) counts_now first)) second)
 
   -- what a write leaves after the others, even if it fails
-  pub behind-put : (old mid new : T) (from at : ℕ)
-      → ((t : ℕ) (c : List ℕ) → t ≤ g.moment mid → g.may_leave mid c → g.left_since mid t c)
-      → 8192 * from ≤ at → WritesBehind g (8192 * from) old mid
-      → LeavesOnly g mid new (IsImageBehind g mid at)
+  pub following-put : (old mid new : T) (from at : ℕ)
+      → ((t : ℕ) (c : List ℕ) → t ≤ g.clock_at mid → g.may_leave mid c → g.left_since mid t c)
+      → 8192 * from ≤ at → WritesAfter g (8192 * from) old mid
+      → LeavesOnly g mid new (IsCrashStateAfter g mid at)
       → is_some (g.contents new) ≡ is_some (g.contents mid) → g.known mid ≤ g.known new
-      → WritesBehind g (8192 * from) old new
-  behind-put old mid new from at counts_now order sofar moments contents known =
+      → WritesAfter g (8192 * from) old new
+  following-put old mid new from at counts_now order sofar times contents known =
       let before = sofar.known in
       record {
-        any_moment = moments-on old mid new (8192 * from) at counts_now order sofar.any_moment
-            moments;
+        any_time = times-on old mid new (8192 * from) at counts_now order sofar.any_time
+            times;
         contents = contents ∙ sofar.contents;
         known = omega arith;
       }
 
   pub put-on : (h : List ℕ → List ℕ) (rows : RowsState) (from to number l p : ℕ)
       (old mid new : T)
-      → ((t : ℕ) (c : List ℕ) → t ≤ g.moment mid → g.may_leave mid c → g.left_since mid t c)
+      → ((t : ℕ) (c : List ℕ) → t ≤ g.clock_at mid → g.may_leave mid c → g.left_since mid t c)
       → ((b : List ℕ) → g.contents mid ≡ Some b → g.known mid ≤ length b)
       → from ≤ number → number < to → l ≤ 2 → tile_number l p ≡ number
       → HavePut h rows from to number old mid
-      → LeavesOnly g mid new (IsImageBehind g mid (tile_at l p))
+      → LeavesOnly g mid new (IsCrashStateAfter g mid (tile_at l p))
       → is_some (g.contents new) ≡ is_some (g.contents mid)
       → g.known new ≡ max (tile_at l p + 8192) (g.known mid) → g.faults new ≡ g.faults mid
       → IsTileWritten h rows l p (g.contents mid) (g.contents new)
       → HavePut h rows from to (number + 1) old new
-  put-on h rows from to number l p old mid new counts_now there order less low is sofar moments
+  put-on h rows from to number l p old mid new counts_now there order less low is sofar times
       contents
       known faults written =
       let sofar_known = sofar.written.known in
       record {
         most = omega arith;
-        behind = behind-put old mid new from (tile_at l p) counts_now (omega arith) sofar.behind
-            moments contents (omega arith);
+        following =
+            following-put old mid new from (tile_at l p) counts_now (omega arith) sofar.following
+            times contents (omega arith);
         written = record {
           known = omega arith;
           holds = λ first after contents_old contents_new leaves are held.
@@ -182,39 +183,39 @@ module _ {T : Type 0} (g : Ghosts T) where
       }
 
   -- a read writes nothing, so it may stand before writing and after it
-  pub only_reads-behind : (old new : T) (place : ℕ) → OnlyReads g old new
-      → WritesBehind g place old new
-  only_reads-behind old new place only_reads = record {
-    any_moment = weaker g old new (g.may_leave old) (IsImageBehind g old place)
-        (behind-now g old place) only_reads.moments;
+  pub only_reads-following : (old new : T) (place : ℕ) → OnlyReads g old new
+      → WritesAfter g place old new
+  only_reads-following old new place only_reads = record {
+    any_time = weaker g old new (g.may_leave old) (IsCrashStateAfter g old place)
+        (following-now g old place) only_reads.times;
     contents = ap is_some only_reads.contents;
     known = only_reads.known;
   }
 
   pub writes-on : (old mid new : T) (place : ℕ)
-      → ((t : ℕ) (c : List ℕ) → t ≤ g.moment mid → g.may_leave mid c → g.left_since mid t c)
-      → WritesBehind g place old mid → WritesBehind g place mid new
-      → WritesBehind g place old new
+      → ((t : ℕ) (c : List ℕ) → t ≤ g.clock_at mid → g.may_leave mid c → g.left_since mid t c)
+      → WritesAfter g place old mid → WritesAfter g place mid new
+      → WritesAfter g place old new
   writes-on old mid new place counts_now first second =
       let before = first.known in
       let after = second.known in
       record {
-        any_moment = moments-on old mid new place place counts_now (omega arith)
-            first.any_moment second.any_moment;
+        any_time = times-on old mid new place place counts_now (omega arith)
+            first.any_time second.any_time;
         contents = second.contents ∙ first.contents;
         known = omega arith;
       }
 
   -- over known bytes, the bytes that the model knows after writing have the same prefix
   pub prefix-contents : (old new : T) (place : ℕ) (before after : List ℕ)
-      → ((t : ℕ) (c : List ℕ) → t ≤ g.moment new → g.may_leave new c → g.left_since new t c)
+      → ((t : ℕ) (c : List ℕ) → t ≤ g.clock_at new → g.may_leave new c → g.left_since new t c)
       → ((b : List ℕ) → g.contents new ≡ Some b → g.may_leave new b)
       → IfSome (g.contents old) (λ b. Only b (g.may_leave old)) → g.contents old ≡ Some before
-      → g.contents new ≡ Some after → LeavesOnly g old new (IsImageBehind g old place)
+      → g.contents new ≡ Some after → LeavesOnly g old new (IsCrashStateAfter g old place)
       → KeepsPrefix place before after
   prefix-contents old new place before after counts_now reads certain contents_old contents_new
-      moments =
-      let is = left_now g old new (IsImageBehind g old place) counts_now moments after
+      times =
+      let is = left_now g old new (IsCrashStateAfter g old place) counts_now times after
       (reads after contents_new) in
       let only : Only before (g.may_leave old) =
       subst (λ t. IfSome t (λ b. Only b (g.may_leave old))) contents_old certain in

@@ -2,7 +2,7 @@
 use Rattle.std.specs.Prelude.{◌≡◌, ℕ, ◌+◌, ◌≤◌, ◌<◌, ◌⊎◌, List, length, Some}
 use Rattle.byte_formats.specs.Types.{Hash, HashFunction, Text}
 use Rattle.disk_core.specs.Disk.{part}
-use Rattle.disk_core.specs.Moments.{OnlyReads}
+use Rattle.disk_core.specs.Times.{OnlyReads}
 use Rattle.disk_core.specs.declared.disk.Disk.{Ghosts}
 use Rattle.frame_pool.specs.Frames.{HoldsKey, PoolState}
 use Rattle.frame_pool.specs.declared.key.TileKey.{TileKey}
@@ -48,7 +48,7 @@ HaveMatched g h rows from to disk pool =
 pub record IsFirstOther {T : Type 0} (g : Ghosts T) (h : HashFunction) (rows : RowsState)
     (from to : ℕ) (disk : T) (pool : PoolState) (level place : ℕ) : Type 0 where
   pub low : level ≤ 2
-  pub behind : from ≤ tile_number level place
+  pub following : from ≤ tile_number level place
   pub below : tile_number level place < to
   pub before : HaveMatched g h rows from (tile_number level place) disk pool
   pub other : OverEach g h rows disk pool (λ b leaves. (length b < tile_at level place + 8192)

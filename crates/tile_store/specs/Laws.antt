@@ -1,7 +1,7 @@
 -- What holds of every store of tiles.
 use Rattle.std.proofs.Common.{◌≡◌, ℕ, List, length, Option, Some, None, option_map, IfSome, refl}
 use Rattle.std.proofs.Common.{◌∙◌}
-use Rattle.disk_core.proofs.Moments.{only_read_on, nothing_read}
+use Rattle.disk_core.proofs.Times.{only_read_on, nothing_read}
 use Rattle.disk_core.specs.declared.disk.Disk.{Ghosts}
 use Rattle.frame_pool.specs.Frames.{PoolState}
 use Rattle.tile_store.specs.Sound.{IsSoundOver, leaves_with}
@@ -30,7 +30,7 @@ module _ {H T : Type 0} {hashes : Hashes H} {g : Ghosts T} where
       (g.contents tiles.disk) tiles.contents
 
   pub stay-same : (tiles : Tiles H T hashes g)
-      → ((c : List ℕ) → g.left_since tiles.disk (g.moment tiles.disk) c
+      → ((c : List ℕ) → g.left_since tiles.disk (g.clock_at tiles.disk) c
       → g.may_leave tiles.disk c) → TilesStay tiles tiles
   stay-same tiles only_now = record {
     only_reads = nothing_read g tiles.disk only_now;

@@ -28,5 +28,5 @@ tiles_end size = 8192 * tiles_in size
 abbrev pub tile_level : ℕ → ℕ
 tile_level level = level / 8
 
-abbrev pub tile_place : ℕ → ℕ → ℕ
-tile_place level place = place / 2 ^ (8 - level % 8)
+abbrev pub tile_offset : ℕ → ℕ → ℕ
+tile_offset level place = place / 2 ^ (8 - level % 8)

@@ -1,11 +1,11 @@
 -- What a store of tiles shows.
 use Rattle.std.specs.Prelude.{◌≡◌, ℕ, List, Option, option_map}
 use Rattle.byte_formats.specs.Types.{Hash}
-use Rattle.disk_core.specs.Moments.{OnlyReads}
+use Rattle.disk_core.specs.Times.{OnlyReads}
 use Rattle.disk_core.specs.declared.disk.Disk.{Ghosts}
 use Rattle.frame_pool.specs.Frames.{PoolState}
 use Rattle.tile_store.specs.Frames.{IsHeld}
-use Rattle.tile_store.specs.Layout.{IsFull, tile_level, tile_place}
+use Rattle.tile_store.specs.Layout.{IsFull, tile_level, tile_offset}
 use Rattle.tile_store.specs.Sound.{leaves_with}
 use Rattle.tile_store.specs.declared.store.Tiles.{Tiles}
 use Rattle.tree_cache.specs.Rows.{HaveFilled, count_of, filled_of, filled_to, spare_of}
@@ -47,10 +47,10 @@ module _ {H T : Type 0} {hashes : Hashes H} {g : Ghosts T} where
   tiles_leaves tiles = option_map (leaves_with tiles.adopted tiles.rows) (g.contents tiles.disk)
 
   -- a node is in memory, or a frame holds its tile
-  abbrev pub IsAtHand : Tiles H T hashes g → ℕ → ℕ → Type 0
-  IsAtHand tiles level place =
-      IsFull tiles.adopted (tile_level level) (tile_place level place)
-      → IsHeld tiles.pool (tile_level level) (tile_place level place)
+  abbrev pub IsAvailable : Tiles H T hashes g → ℕ → ℕ → Type 0
+  IsAvailable tiles level place =
+      IsFull tiles.adopted (tile_level level) (tile_offset level place)
+      → IsHeld tiles.pool (tile_level level) (tile_offset level place)
 
   -- The device was only read, and all but it, the frames and the nodes that are made or retained of
   -- their tiles is as it was.

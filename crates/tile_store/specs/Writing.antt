@@ -3,7 +3,7 @@ use Rattle.std.specs.Prelude.{◌≡◌, ℕ, ◌*◌, ◌^◌, ◌≤◌, ◌<�
 use Rattle.std.specs.Prelude.{Some, is_some, option_map}
 use Rattle.byte_formats.specs.Types.{Hash, HashFunction, Text}
 use Rattle.disk_core.specs.Disk.{overwritten, part}
-use Rattle.disk_core.specs.Moments.{LeavesOnly}
+use Rattle.disk_core.specs.Times.{LeavesOnly}
 use Rattle.disk_core.specs.declared.disk.Disk.{Ghosts}
 use Rattle.tile_store.specs.Contents.{IsTile}
 use Rattle.tile_store.specs.Layout.{IsFull, tile_at, tile_number, tiles_in}
@@ -16,15 +16,15 @@ pub record KeepsPrefix (place : ℕ) (old new : Text) : Type 0 where
   pub prefix : take (min place (length old)) new ≡ take place old
 
 -- A crash state from before, but for what follows an offset.
-pub record IsImageBehind {T : Type 0} (g : Ghosts T) (old : T) (place : ℕ) (image : Text)
+pub record IsCrashStateAfter {T : Type 0} (g : Ghosts T) (old : T) (place : ℕ) (crash_state : Text)
     : Type 0 where
   pub before : Text
   pub left : g.may_leave old before
-  pub keeps : KeepsPrefix place before image
+  pub keeps : KeepsPrefix place before crash_state
 
 -- What writing from an offset on leaves of a disk, at any time, even if a call fails.
-pub record WritesBehind {T : Type 0} (g : Ghosts T) (place : ℕ) (old new : T) : Type 0 where
-  pub any_moment : LeavesOnly g old new (IsImageBehind g old place)
+pub record WritesAfter {T : Type 0} (g : Ghosts T) (place : ℕ) (old new : T) : Type 0 where
+  pub any_time : LeavesOnly g old new (IsCrashStateAfter g old place)
   pub contents : is_some (g.contents new) ≡ is_some (g.contents old)
   pub known : g.known old ≤ g.known new
 
@@ -34,7 +34,7 @@ pub record HaveTiles (rows : RowsState) (from to : ℕ) : Type 0 where
   pub few : count_of rows < 2 ^ 32
   pub full : to ≤ tiles_in (filled_of rows)
   pub adopted : ℕ
-  pub behind : tiles_in adopted ≤ from
+  pub following : tiles_in adopted ≤ from
   pub gone : (level : ℕ) → gone_at rows level ≡ gone_of adopted level
 
 -- The tile of each list for which the rows stand was written over the bytes.

@@ -18,13 +18,13 @@ use crate::TileError;
 use crate::layout::{TILE, tile_with};
 use crate::reading::load;
 use crate::writing::tile_bytes;
-use disk_core::{Disk, look_len};
+use disk_core::{Disk, read_len};
 use frame_pool::{Pool, TileKey};
 use mtc_io::Failed;
 use tree_cache::Rows;
 use tree_core::TreeHash;
 
-// That the file has not this tile.
+// That the file doesn't have this tile.
 fn bad(key: TileKey) -> TileError
     ensures { result ≡ BadTile key.level key.place }
 {
@@ -91,7 +91,7 @@ fn compare<H: TreeHash, T: Disk>(
     Ok(())
 }
 
-// Whether the file has the tiles of these numbers. The first that it has not is reported.
+// Whether the file has the tiles of these numbers. The first that it doesn't have is reported.
 pub(crate) fn check<H: TreeHash, T: Disk>(
     disk: &mut T,
     pool: &mut Pool,
@@ -112,7 +112,7 @@ pub(crate) fn check<H: TreeHash, T: Disk>(
     ensures err { IfErr result
         (HasTileReason T.Disk H.hash rows.now from to disk.old disk.new pool.old) }
 {
-    let whole = look_len(disk)? / TILE;
+    let whole = read_len(disk)? / TILE;
     compare::<H, T>(disk, pool, rows, from, to.min(whole))?;
     if whole < to {
         return Err(bad(tile_with(whole.max(from))));

@@ -1,7 +1,7 @@
 //! Where tiles stand in their file.
 
 ghost use Rattle.std.specs.Prelude.{◌≡◌, ◌↔◌, ◌+◌, ◌*◌, ◌^◌, ◌<◌, ◌≤◌, IsTrue};
-ghost use Rattle.tile_store.specs.Layout.{IsFull, tile_at, tile_level, tile_number, tile_place};
+ghost use Rattle.tile_store.specs.Layout.{IsFull, tile_at, tile_level, tile_number, tile_offset};
 ghost use Rattle.tile_store.specs.Layout.{tiles_in};
 
 use frame_pool::TileKey;
@@ -31,7 +31,7 @@ fn number_of(key: TileKey) -> u64
 }
 
 // Where the bytes of a tile begin.
-pub(crate) fn place_of(key: TileKey) -> u64
+pub(crate) fn offset_of(key: TileKey) -> u64
     requires low { key.level ≤ 2 }
     requires few { key.place < 2 ^ 24 }
     ensures { result ≡ tile_at key.level key.place }
@@ -89,7 +89,7 @@ pub(crate) fn is_full(size: u64, key: TileKey) -> bool
 pub(crate) fn tile_of(level: u32, place: u64) -> TileKey
     requires { level < 64 }
     ensures level { result.level ≡ tile_level level }
-    ensures place { result.place ≡ tile_place level place }
+    ensures place { result.place ≡ tile_offset level place }
 {
     TileKey {
         level: (level / 8) as u8,

@@ -3,7 +3,7 @@
 ghost use Rattle.std.specs.Prelude.{◌≡◌, ℕ, ◌+◌, ◌-◌, ◌*◌, ◌%◌, ◌^◌, ◌<◌, ◌≤◌, ◌⊎◌, List, length};
 ghost use Rattle.std.specs.Prelude.{Some, IfOk, IsOk, OnOk, OnErr};
 ghost use Rattle.byte_formats.specs.Types.{Hash, Text};
-ghost use Rattle.disk_core.specs.Moments.{OnlyReads};
+ghost use Rattle.disk_core.specs.Times.{OnlyReads};
 ghost use Rattle.frame_pool.specs.Frames.{HoldsKey, IsUnheld};
 ghost use Rattle.frame_pool.specs.declared.key.TileKey.{TileKey as Key};
 ghost use Rattle.mtc_io.specs.Counts.{HasCause, Rose};
@@ -14,8 +14,8 @@ ghost use Rattle.tile_store.specs.Layout.{tile_at};
 ghost use Rattle.tree_core.specs.Path.{part_of};
 ghost use Rattle.tree_core.specs.Tree.{root_of};
 
-use crate::layout::place_of;
-use disk_core::{Disk, look_at};
+use crate::layout::offset_of;
+use disk_core::{Disk, read_part};
 use frame_pool::{Pool, Slot, TileKey};
 use mtc_io::Failed;
 use tree_core::{TreeHash, pair};
@@ -32,7 +32,7 @@ pub(crate) fn load<T: Disk>(disk: &mut T, pool: &mut Pool, key: TileKey) -> Resu
     requires free { HasNoPins pool.old }
     ensures held { IfOk result (λ slot. HoldsKey pool.new slot.0 key) }
     ensures read { OnOk result (IsUnheld pool.old key
-        → Rose (T.moment disk.old) (T.moment disk.new)) }
+        → Rose (T.clock_at disk.old) (T.clock_at disk.new)) }
     ensures still { (IsUnheld pool.old key → ⊥) → disk.new ≡ disk.old }
     ensures same { (IsUnheld pool.old key → ⊥) → pool.new ≡ pool.old }
     ensures sure { (IsUnheld pool.old key → ⊥) → IsOk result }
@@ -51,7 +51,7 @@ pub(crate) fn load<T: Disk>(disk: &mut T, pool: &mut Pool, key: TileKey) -> Resu
         return Ok(slot);
     }
     let slot = pool.claim(key);
-    match look_at(disk, place_of(key), pool.frame_mut(slot)) {
+    match read_part(disk, offset_of(key), pool.frame_mut(slot)) {
         Ok(()) => Ok(slot),
         Err(Failed) => {
             pool.release(slot);

@@ -5,7 +5,7 @@ ghost use Rattle.std.specs.Prelude.{◌++◌, length, Some, option_map, IsSome, 
 ghost use Rattle.std.specs.Prelude.{IsOk, OnOk, OnErr};
 ghost use Rattle.std.proofs.Props.{props};
 ghost use Rattle.byte_formats.specs.Types.{Text};
-ghost use Rattle.disk_core.specs.Moments.{LeavesOnly, OnlyReads};
+ghost use Rattle.disk_core.specs.Times.{LeavesOnly, OnlyReads};
 ghost use Rattle.frame_pool.specs.Frames.{HoldsKey, IsUnheld};
 ghost use Rattle.frame_pool.specs.declared.key.TileKey.{TileKey as Key};
 ghost use Rattle.mtc_io.specs.Counts.{HasCause, Rose};
@@ -82,11 +82,11 @@ impl<H: TreeHash, T: Disk> Tiles<H, T> {
     ghost use Rattle.tile_store.specs.Causes.{HasCauseOf, IsNewTile, StandsIn};
     ghost use Rattle.tile_store.specs.Contents.{HoldsTiles, IsTile};
     ghost use Rattle.tile_store.specs.Frames.{IsHeld};
-    ghost use Rattle.tile_store.specs.Layout.{tile_level, tile_place};
-    ghost use Rattle.tile_store.specs.Store.{IsAtHand, TilesStay, tiles_adopted, tiles_count};
+    ghost use Rattle.tile_store.specs.Layout.{tile_level, tile_offset};
+    ghost use Rattle.tile_store.specs.Store.{IsAvailable, TilesStay, tiles_adopted, tiles_count};
     ghost use Rattle.tile_store.specs.Store.{tiles_disk, tiles_filled, tiles_filled_to};
     ghost use Rattle.tile_store.specs.Store.{tiles_leaves, tiles_pool, tiles_spare, tiles_stored};
-    ghost use Rattle.tile_store.specs.Writing.{IsImageBehind};
+    ghost use Rattle.tile_store.specs.Writing.{IsCrashStateAfter};
     ghost use Rattle.tree_proofs.specs.Modelled.{IsRootOf};
 
     /// No leaves, over a device and a pool whose frames hold no tile. It takes no memory.
@@ -152,7 +152,7 @@ impl<H: TreeHash, T: Disk> Tiles<H, T> {
         Ok(())
     }
 
-    /// The tiles that the first so many leaves fill were stored or adopted.
+    /// For how many leaves the tiles that they fill were stored or adopted.
     pub fn stored(&self) -> u64
         ensures { result ≡ tiles_stored self.now }
     {
@@ -174,15 +174,17 @@ impl<H: TreeHash, T: Disk> Tiles<H, T> {
             ((place + 1) * 2 ^ level)) }
         ensures list { tiles_leaves self.new ≡ tiles_leaves self.old }
         ensures held { OnOk result
-            (IsFull (tiles_adopted self.old) (tile_level level) (tile_place level place)
-            → IsHeld (tiles_pool self.new) (tile_level level) (tile_place level place)) }
+            (IsFull (tiles_adopted self.old) (tile_level level) (tile_offset level place)
+            → IsHeld (tiles_pool self.new) (tile_level level) (tile_offset level place)) }
         ensures read { OnOk result
-            (IsFull (tiles_adopted self.old) (tile_level level) (tile_place level place)
-            → (IsHeld (tiles_pool self.old) (tile_level level) (tile_place level place) → ⊥)
-            → Rose (T.moment (tiles_disk self.old)) (T.moment (tiles_disk self.new))) }
-        ensures still { IsAtHand self.old level place → tiles_disk self.new ≡ tiles_disk self.old }
-        ensures same { IsAtHand self.old level place → tiles_pool self.new ≡ tiles_pool self.old }
-        ensures sure { IsAtHand self.old level place → IsOk result }
+            (IsFull (tiles_adopted self.old) (tile_level level) (tile_offset level place)
+            → (IsHeld (tiles_pool self.old) (tile_level level) (tile_offset level place) → ⊥)
+            → Rose (T.clock_at (tiles_disk self.old)) (T.clock_at (tiles_disk self.new))) }
+        ensures still { IsAvailable self.old level place
+            → tiles_disk self.new ≡ tiles_disk self.old }
+        ensures same { IsAvailable self.old level place
+            → tiles_pool self.new ≡ tiles_pool self.old }
+        ensures sure { IsAvailable self.old level place → IsOk result }
         ensures stays { TilesStay self.old self.new }
         ensures cause { HasCause (T.faults (tiles_disk self.old)) (T.faults (tiles_disk self.new))
             result }
@@ -218,7 +220,7 @@ impl<H: TreeHash, T: Disk> Tiles<H, T> {
         requires { IsFull (tiles_adopted self.old) key.level key.place }
         ensures held { IfOk result (λ slot. HoldsKey (tiles_pool self.new) slot.0 key) }
         ensures read { OnOk result (IsUnheld (tiles_pool self.old) key
-            → Rose (T.moment (tiles_disk self.old)) (T.moment (tiles_disk self.new))) }
+            → Rose (T.clock_at (tiles_disk self.old)) (T.clock_at (tiles_disk self.new))) }
         ensures still { (IsUnheld (tiles_pool self.old) key → ⊥)
             → tiles_disk self.new ≡ tiles_disk self.old }
         ensures same { (IsUnheld (tiles_pool self.old) key → ⊥)
@@ -267,8 +269,8 @@ impl<H: TreeHash, T: Disk> Tiles<H, T> {
             ≤ max (tiles_end size) (T.known (tiles_disk self.old)) }
         ensures holds { OnOk result (IfSome (tiles_leaves self.old) (λ leaves. (c : Text)
             → T.may_leave (tiles_disk self.new) c → HoldsTiles H.hash leaves size c)) }
-        ensures any_moment { LeavesOnly T.Disk (tiles_disk self.old) (tiles_disk self.new)
-            (IsImageBehind T.Disk (tiles_disk self.old) (tiles_end (tiles_stored self.old))) }
+        ensures any_time { LeavesOnly T.Disk (tiles_disk self.old) (tiles_disk self.new)
+            (IsCrashStateAfter T.Disk (tiles_disk self.old) (tiles_end (tiles_stored self.old))) }
         ensures cause { HasCause (T.faults (tiles_disk self.old)) (T.faults (tiles_disk self.new))
             result }
     {
@@ -293,8 +295,8 @@ impl<H: TreeHash, T: Disk> Tiles<H, T> {
             ≤ max (tiles_end size) (T.known (tiles_disk self.old)) }
         ensures holds { OnOk result (IfSome (tiles_leaves self.old) (λ leaves. (c : Text)
             → T.may_leave (tiles_disk self.new) c → HoldsTiles H.hash leaves size c)) }
-        ensures any_moment { LeavesOnly T.Disk (tiles_disk self.old) (tiles_disk self.new)
-            (IsImageBehind T.Disk (tiles_disk self.old) (tiles_end (tiles_stored self.old))) }
+        ensures any_time { LeavesOnly T.Disk (tiles_disk self.old) (tiles_disk self.new)
+            (IsCrashStateAfter T.Disk (tiles_disk self.old) (tiles_end (tiles_stored self.old))) }
         ensures cause { HasCause (T.faults (tiles_disk self.old)) (T.faults (tiles_disk self.new))
             result }
     {

@@ -4,16 +4,17 @@ ghost use Rattle.std.specs.Prelude.{◌≡◌, ℕ, ◌+◌, ◌*◌, ◌^◌, �
 ghost use Rattle.std.specs.Prelude.{slice_index_or, Some, is_some, IfSome, OnOk, OnErr};
 ghost use Rattle.byte_formats.specs.Types.{Hash, HashFunction, Text};
 ghost use Rattle.disk_core.specs.Disk.{Only};
-ghost use Rattle.disk_core.specs.Moments.{LeavesOnly};
+ghost use Rattle.disk_core.specs.Times.{LeavesOnly};
 ghost use Rattle.mtc_io.specs.Counts.{HasCause};
 ghost use Rattle.tile_store.specs.Contents.{IsTile, hash_in};
 ghost use Rattle.tile_store.specs.Layout.{IsFull, tile_at};
-ghost use Rattle.tile_store.specs.Writing.{HaveTiles, IsImageBehind, IsTileWritten, KeepsPrefix};
-ghost use Rattle.tile_store.specs.Writing.{TilesAreWritten, WritesBehind};
+ghost use Rattle.tile_store.specs.Writing.{HaveTiles, IsCrashStateAfter, IsTileWritten};
+ghost use Rattle.tile_store.specs.Writing.{KeepsPrefix};
+ghost use Rattle.tile_store.specs.Writing.{TilesAreWritten, WritesAfter};
 ghost use Rattle.tree_cache.specs.Rows.{AreRowsOf, count_of, filled_of, gone_at};
 
-use crate::layout::{place_of, tile_with};
-use disk_core::{Disk, settle};
+use crate::layout::{offset_of, tile_with};
+use disk_core::{Disk, make_durable};
 use frame_pool::TileKey;
 use mtc_io::Failed;
 use tree_cache::Rows;
@@ -54,11 +55,11 @@ fn put<H: TreeHash, T: Disk>(disk: &mut T, rows: &Rows, key: TileKey) -> Result<
     ensures known { OnOk result (T.known disk.new
         ≡ max (tile_at key.level key.place + 8192) (T.known disk.old)) }
     ensures known_err { OnErr result (T.known disk.new ≡ T.known disk.old) }
-    ensures any_moment { LeavesOnly T.Disk disk.old disk.new
-        (IsImageBehind T.Disk disk.old (tile_at key.level key.place)) }
+    ensures any_time { LeavesOnly T.Disk disk.old disk.new
+        (IsCrashStateAfter T.Disk disk.old (tile_at key.level key.place)) }
     ensures cause { HasCause (T.faults disk.old) (T.faults disk.new) result }
 {
-    disk.write_at(place_of(key), tile_bytes(rows, key))
+    disk.write_at(offset_of(key), tile_bytes(rows, key))
 }
 
 // Writes the tiles of these numbers, from one on up to another.
@@ -72,7 +73,7 @@ fn put_all<H: TreeHash, T: Disk>(
     requires place { 8192 * from ≤ T.known disk.old }
     ensures written { OnOk result
         (TilesAreWritten T.Disk H.hash rows.now from to disk.old disk.new) }
-    ensures behind { WritesBehind T.Disk (8192 * from) disk.old disk.new }
+    ensures following { WritesAfter T.Disk (8192 * from) disk.old disk.new }
     ensures reach { T.known disk.new ≤ max (8192 * to) (T.known disk.old) }
     ensures cause { HasCause (T.faults disk.old) (T.faults disk.new) result }
 {
@@ -97,11 +98,11 @@ pub(crate) fn write_tiles<H: TreeHash, T: Disk>(
         (λ bytes. Only bytes (T.may_leave disk.new))) }
     ensures prefix { (before after : Text) → T.contents disk.old ≡ Some before
         → T.contents disk.new ≡ Some after → KeepsPrefix (8192 * from) before after }
-    ensures behind { WritesBehind T.Disk (8192 * from) disk.old disk.new }
+    ensures following { WritesAfter T.Disk (8192 * from) disk.old disk.new }
     ensures reach { T.known disk.new ≤ max (8192 * to) (T.known disk.old) }
     ensures cause { HasCause (T.faults disk.old) (T.faults disk.new) result }
 {
-    settle(disk)?;
+    make_durable(disk)?;
     put_all::<H, T>(disk, rows, from, to)?;
-    settle(disk)
+    make_durable(disk)
 }

@@ -6,7 +6,7 @@ use Rattle.std.specs.Prelude.{if◌then◌else◌, ◌==◌, nat_lt}
 use Rattle.std.specs.List.{AllByRecursion}
 use Rattle.std.proofs.lemmas.Fmt.{decimal_nonempty}
 use Rattle.std.proofs.lemmas.List.{length-append}
-use Rattle.byte_formats.specs.Places.{At, at, IsBytes}
+use Rattle.byte_formats.specs.Offsets.{At, at, IsBytes}
 use Rattle.byte_formats.specs.Readings.{◌>>=◌, discarded}
 use Rattle.byte_formats.specs.Lists.{up_to_end}
 use Rattle.byte_formats.proofs.Steps.{bind_ok, discarded_ok, guard_ok, ok_is}

@@ -7,7 +7,7 @@ use Rattle.std.specs.List.{AllByRecursion}
 use Rattle.std.proofs.lemmas.List.{length-append}
 use Rattle.std.proofs.lemmas.Fmt.{length-decimal-le}
 use Rattle.byte_formats.specs.Types.{Text}
-use Rattle.byte_formats.specs.Places.{At, at}
+use Rattle.byte_formats.specs.Offsets.{At, at}
 use Rattle.byte_formats.specs.Readings.{◌>>=◌, is_read}
 use Rattle.byte_formats.specs.Lists.{many_at}
 use Rattle.tls_wire.specs.declared.fault.AnchorError.{AnchorError}

@@ -17,7 +17,7 @@ use Rattle.std.proofs.lemmas.List.Sums.{take_while-cons}
 use Rattle.std.proofs.lemmas.Int.Digits.{digits_of_step, first_digits_of, all_below_base_digits_of}
 use Rattle.std.proofs.lemmas.Int.Digits.{number_digits_of, number_push, number_after_ge}
 use Rattle.byte_formats.specs.Types.{Text}
-use Rattle.byte_formats.specs.Places.{At, IsBytes, after, begins_with}
+use Rattle.byte_formats.specs.Offsets.{At, IsBytes, after, begins_with}
 use Rattle.byte_formats.specs.Forms.{Stands, IsForm, Anything, Nothing}
 use Rattle.byte_formats.specs.Lists.{up_to_end}
 use Rattle.byte_formats.proofs.Steps.{guard_ok, ok_is, IsBytes-rest, Stands-prefix}
@@ -48,10 +48,10 @@ record AreHigh (bytes : Text) : Type 0 where
   same : map high (map low bytes) ≡ bytes
   below : AllBelowBase 128 (map low bytes)
 
-high_front : (bytes : Text) → IsBytes bytes → AreHigh (take_while (λ b. nat_le 128 b) bytes)
-high_front [] h = record { same = refl; below = tt }
-high_front (b ∷ bytes) h = subst AreHigh (sym (take_while-cons (λ c. nat_le 128 c) b bytes))
-    (go (high_front bytes (IsBytes-rest b bytes h)) (nat_le 128 b) refl)
+high_prefix : (bytes : Text) → IsBytes bytes → AreHigh (take_while (λ b. nat_le 128 b) bytes)
+high_prefix [] h = record { same = refl; below = tt }
+high_prefix (b ∷ bytes) h = subst AreHigh (sym (take_while-cons (λ c. nat_le 128 c) b bytes))
+    (go (high_prefix bytes (IsBytes-rest b bytes h)) (nat_le 128 b) refl)
   where
     go : AreHigh (take_while (λ c. nat_le 128 c) bytes) → (test : Bool) → nat_le 128 b ≡ test
         → AreHigh (cond (nat_le 128 b) (b ∷ take_while (λ c. nat_le 128 c) bytes) [])
@@ -86,10 +86,10 @@ arc_is bytes l plain are digit =
     let number : base_128 (bytes ++ (l ∷ [])) ≡ n * 128 + l =
     ap (number_from_digits 128) (map_push low bytes l)
     ∙ (number_push 128 ds (l % 128) ∙ ap (λ (k : ℕ). n * 128 + k) (mod-eq_of_lt digit)) in
-    let front : high_digits n ≡ bytes =
+    let digits_are : high_digits n ≡ bytes =
     ap (map high) (digits_grow 128 0 ds (omega arith) (λ long. omega (arith, some long)) are.below)
     ∙ are.same in
-    rw (number, div-mul-add n 128 l digit, mod-mul-add n 128 l digit, front) refl
+    rw (number, div-mul-add n 128 l digit, mod-mul-add n 128 l digit, digits_are) refl
 
 arc_takes : (a : At) (m : ℕ) (b : At) → IsBytes a.rest → arc_at a ≡ Ok (m, b)
     → Stands a (arc m) b × IsArc m
@@ -113,7 +113,7 @@ arc_takes a m b h e =
     let digit : last < 128 = leb-false 128 last (prefix_len_stops (λ (c : ℕ). nat_le 128 c) a.rest 0
     less) in
     let parts : bytes ≡ take count a.rest ++ (last ∷ []) = take_more a.rest count 0 less in
-    let are = high_front a.rest h in
+    let are = high_prefix a.rest h in
     let same : arc (base_128 bytes) ≡ bytes = ap (λ (t : Text). arc (base_128 t)) parts
     ∙ (arc_is (take count a.rest) last (plain a.rest count g.0) are digit ∙ sym parts) in
     let P : ℕ × At → Type 0 = λ v. Stands a (arc v.0) v.1 × IsArc v.0 in
@@ -215,7 +215,7 @@ arc_again m place rest small =
     let bytes : take (high_count (arc m ++ rest) + 1) (arc m ++ rest) ≡ arc m =
     take_at (arc m) rest (high_count (arc m ++ rest) + 1) (sym count) in
     let other : length (arc m) ≢ high_count (arc m ++ rest) = omega arith in
-    let behind : drop (length (arc m)) (arc m ++ rest) ≡ rest = drop_at (arc m) rest
+    let following : drop (length (arc m)) (arc m ++ rest) ≡ rest = drop_at (arc m) rest
     (length (arc m)) refl in
     ap (λ (t : Text). arc_of t a) bytes
     ∙ rw (
@@ -223,7 +223,7 @@ arc_again m place rest small =
       arc_number m,
       lt-leb (2 ^ 64) m small,
       ne_eqb (length (arc m)) (high_count (arc m ++ rest)) other,
-      behind,
+      following,
     ) refl
 
 pub arc_form : IsForm arc IsArc Anything arc_at

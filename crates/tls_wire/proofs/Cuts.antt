@@ -64,12 +64,12 @@ cut_again mark prefix rest lacks =
     (sym (get_or_append_left prefix (mark ∷ rest) 0 k before) ∙ same)))
     (λ within. eq-eqb _ _ (get_or_at prefix mark rest 0 (length prefix) refl)) in
     let one : length (prefix ++ (mark ∷ [])) ≡ length prefix + 1 = length_push prefix mark in
-    let behind : drop (length prefix + 1) text ≡ rest =
+    let following : drop (length prefix + 1) text ≡ rest =
     ap (drop (length prefix + 1)) (sym (append_assoc prefix (mark ∷ []) rest))
     ∙ drop_at (prefix ++ (mark ∷ [])) rest (length prefix + 1) one in
     let before : take (length prefix) text ≡ prefix =
     take_at prefix (mark ∷ rest) (length prefix) refl in
-    rw (place, lt-ltb (length prefix) (length text) here, before, behind) refl
+    rw (place, lt-ltb (length prefix) (length text) here, before, following) refl
 
 pub decimal_lacks : (mark n : ℕ) → mark < 48 → n < 2 ^ 63 → Lacks mark (decimal n)
 decimal_lacks mark n low small i here =

@@ -13,7 +13,7 @@ use Rattle.std.proofs.lemmas.Fmt.{decimal_nonempty}
 use Rattle.std.proofs.lemmas.List.{length-append, length-take-le, drop_at, nil_from_length}
 use Rattle.std.proofs.lemmas.List.Sums.{prefix_len-le-length, take_while-cons}
 use Rattle.byte_formats.specs.Types.{Text}
-use Rattle.byte_formats.specs.Places.{At, IsBytes, at, after, begins_with}
+use Rattle.byte_formats.specs.Offsets.{At, IsBytes, at, after, begins_with}
 use Rattle.byte_formats.specs.Readings.{◌>>=◌}
 use Rattle.byte_formats.specs.Lists.{many_at, up_to_end}
 use Rattle.byte_formats.specs.Forms.{Stands}

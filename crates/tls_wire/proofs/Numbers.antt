@@ -5,7 +5,7 @@ use Rattle.std.specs.Int.{Width, w8, w16, w32, w64, byte_len, from_be_bytes}
 use Rattle.std.proofs.lemmas.List.{take_at, drop_at, length-append, length-take}
 use Rattle.std.proofs.lemmas.Nat.{be_bytes_2, be_bytes_4, be_bytes_8, from_be_bytes-to_be_bytes_2}
 use Rattle.std.proofs.lemmas.Nat.{from_be_bytes-to_be_bytes_4, from_be_bytes-to_be_bytes_8}
-use Rattle.byte_formats.specs.Places.{At, IsBytes, after}
+use Rattle.byte_formats.specs.Offsets.{At, IsBytes, after}
 use Rattle.byte_formats.specs.Forms.{Stands, IsForm, Anything, itself}
 use Rattle.byte_formats.proofs.Steps.{guard_ok, ok_is, IsBytes-take, Stands-prefix}
 use Rattle.tls_wire.specs.declared.cursor.Short.{Short}

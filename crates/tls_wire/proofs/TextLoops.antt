@@ -5,7 +5,7 @@ use Rattle.std.proofs.Common.{append-nil, arith, ne_eqb, eq-eqb, flat_map, decim
 use Rattle.std.specs.List.{AllByRecursion}
 use Rattle.std.proofs.lemmas.List.{length-append}
 use Rattle.byte_formats.specs.Types.{Text}
-use Rattle.byte_formats.specs.Places.{At, at}
+use Rattle.byte_formats.specs.Offsets.{At, at}
 use Rattle.byte_formats.specs.Readings.{◌>>=◌, is_read}
 use Rattle.byte_formats.specs.Lists.{many_at}
 use Rattle.byte_formats.proofs.Steps.{ok_is}

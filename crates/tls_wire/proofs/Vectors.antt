@@ -5,7 +5,7 @@ use Rattle.std.specs.Prelude.{nat_lt}
 use Rattle.std.specs.Int.{Width, byte_len, from_be_bytes}
 use Rattle.std.proofs.lemmas.List.{length-append, length-drop, length-take-le}
 use Rattle.byte_formats.specs.Types.{Text}
-use Rattle.byte_formats.specs.Places.{At, after}
+use Rattle.byte_formats.specs.Offsets.{At, after}
 use Rattle.byte_formats.specs.Readings.{blamed, Reads}
 use Rattle.byte_formats.specs.Forms.{Stands, IsForm, Anything, itself}
 use Rattle.byte_formats.proofs.Steps.{bind_ok, blamed_ok, guard_ok, ok_is, Stands-then}
@@ -98,9 +98,9 @@ pub inner_end : (w : Width) (a b : At) (r : Result At Short)
     → Reads (λ (inner : At). inner) (inner_at w) a r b
     → IfOk r (λ inner. b.place ≡ inner.place + length inner.rest)
 inner_end w a b (Ok inner) e =
-    let behind : Text × At → At × At =
+    let following : Text × At → At × At =
     λ v. (record { place = a.place + byte_len w; rest = v.0 }, v.1) in
-    let s = bind_ok (vector_at w a) (λ (v : Text × At). Ok (behind v)) (inner, b) e in
+    let s = bind_ok (vector_at w a) (λ (v : Text × At). Ok (following v)) (inner, b) e in
     let P : At × At → Type 0 = λ x. x.1.place ≡ x.0.place + length x.0.rest in
-    subst P (ok_is Short (behind s.0) (inner, b) s.2) (vector_moves w a s.0.0 s.0.1 s.1).place
+    subst P (ok_is Short (following s.0) (inner, b) s.2) (vector_moves w a s.0.0 s.0.1 s.1).place
 inner_end w a b (Err why) e = tt

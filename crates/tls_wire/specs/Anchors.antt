@@ -7,7 +7,7 @@ use Rattle.std.specs.List.{prefix_len, take_while}
 use Rattle.std.specs.Int.Digits.{number_from_digits}
 use Rattle.std.specs.Str.Parse.{digits_value}
 use Rattle.byte_formats.specs.Types.{Text}
-use Rattle.byte_formats.specs.Places.{At, at, after, begins_with}
+use Rattle.byte_formats.specs.Offsets.{At, at, after, begins_with}
 use Rattle.byte_formats.specs.Readings.{Reading, ◌>>=◌, is_read, discarded}
 use Rattle.byte_formats.specs.Lists.{up_to_end}
 use Rattle.tls_wire.specs.Arcs.{arc, dotted}

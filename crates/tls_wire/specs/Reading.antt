@@ -5,7 +5,7 @@ use Rattle.std.specs.Prelude.{if◌then◌else◌}
 use Rattle.std.specs.Simd.{first_chunks}
 use Rattle.std.specs.Int.{Width, w16, byte_len, from_be_bytes}
 use Rattle.byte_formats.specs.Types.{Text, Hash}
-use Rattle.byte_formats.specs.Places.{At, after}
+use Rattle.byte_formats.specs.Offsets.{At, after}
 use Rattle.byte_formats.specs.Readings.{Reading, ◌>>=◌, blamed, lifted}
 use Rattle.tls_wire.specs.declared.cursor.HashesError.{HashesError}
 use Rattle.tls_wire.specs.declared.cursor.HashesError.TheVariants.{HashLength, Short as NotFitting}

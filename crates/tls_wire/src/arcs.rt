@@ -18,12 +18,12 @@ fn high_count(bytes: &[u8]) -> usize
 {
     let mut count = 0;
     let mut rest = bytes;
-    while let [byte, behind @ ..] = rest {
+    while let [byte, following @ ..] = rest {
         if *byte < 128 {
             return count;
         }
         count += 1;
-        rest = behind;
+        rest = following;
     }
     count
 }
@@ -35,12 +35,12 @@ fn base_128(bytes: &[u8]) -> Option<u64>
 {
     let mut n: u64 = 0;
     let mut rest = bytes;
-    while let [byte, behind @ ..] = rest {
+    while let [byte, following @ ..] = rest {
         if n >= 1 << 57 {
             return None;
         }
         n = n * 128 + (*byte % 128) as u64;
-        rest = behind;
+        rest = following;
     }
     Some(n)
 }

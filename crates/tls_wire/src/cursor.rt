@@ -2,7 +2,7 @@
 
 ghost use Rattle.std.specs.Prelude.{◌≡◌, ◌≤◌, length};
 ghost use Rattle.std.specs.Int.{w8, w16, w32, w64};
-ghost use Rattle.byte_formats.specs.Places.{at, after};
+ghost use Rattle.byte_formats.specs.Offsets.{at, after};
 ghost use Rattle.byte_formats.specs.Readings.{Reads};
 ghost use Rattle.tls_wire.specs.Reading.{bytes_at, ahead_at, number_at, vector_at, inner_at};
 ghost use Rattle.tls_wire.specs.Reading.{hashes_at};
@@ -45,7 +45,7 @@ pub struct Cursor<'a> {
 
 impl<'a> Model for Cursor<'a> {
     ghost use Rattle.std.specs.Prelude.{◌+◌, ◌^◌, ◌<◌, length};
-    ghost use Rattle.byte_formats.specs.Places.{At};
+    ghost use Rattle.byte_formats.specs.Offsets.{At};
 
     ghost Value = { At };
 

@@ -22,12 +22,12 @@ fn digit_count(text: &[u8]) -> usize
 {
     let mut count = 0;
     let mut rest = text;
-    while let [c, behind @ ..] = rest {
+    while let [c, following @ ..] = rest {
         if !c.is_ascii_digit() {
             return count;
         }
         count += 1;
-        rest = behind;
+        rest = following;
     }
     count
 }

@@ -4,7 +4,7 @@ ghost use Rattle.std.specs.Prelude.{◌≡◌, ◌<◌, ◌^◌, ◌∷◌, ◌+
 ghost use Rattle.std.specs.List.{AllByRecursion};
 ghost use Rattle.std.specs.Int.{w8, w16, w32, w64};
 ghost use Rattle.byte_formats.specs.Types.{Text};
-ghost use Rattle.byte_formats.specs.Places.{IsBytes};
+ghost use Rattle.byte_formats.specs.Offsets.{IsBytes};
 ghost use Rattle.byte_formats.specs.Lists.{up_to_end};
 ghost use Rattle.byte_formats.specs.Forms.{IsForm, Anything, Nothing, itself};
 ghost use Rattle.tls_wire.specs.Reading.{bytes_at, number_at, vector_at, hashes_at};

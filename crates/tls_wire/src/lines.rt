@@ -5,7 +5,7 @@ ghost use Rattle.std.specs.List.{position};
 ghost use Rattle.tls_wire.specs.Lines.{cut_at, first_line};
 
 // The offset of the first such byte.
-fn place_of(text: &[u8], mark: u8) -> Option<usize>
+fn offset_of(text: &[u8], mark: u8) -> Option<usize>
     ensures place { result ≡ position (λ byte. byte == mark) text.now }
     ensures within { IfSome result (λ place. place < length text.now) }
 {
@@ -16,7 +16,7 @@ fn place_of(text: &[u8], mark: u8) -> Option<usize>
 pub fn cut_at(text: &[u8], mark: u8) -> Option<(&[u8], &[u8])>
     ensures { option_map (λ cut. (cut.0.now, cut.1.now)) result ≡ cut_at mark text.now }
 {
-    match place_of(text, mark) {
+    match offset_of(text, mark) {
         Some(place) => Some((&text[..place], &text[place + 1..])),
         None => None,
     }

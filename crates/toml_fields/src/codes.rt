@@ -3,7 +3,7 @@
 ghost use Rattle.std.specs.Prelude.{◌≡◌, Ok, IfOk, IfErr, IfSome};
 ghost use Rattle.base64.specs.Engines.{standard};
 ghost use Rattle.base64.specs.GeneralPurpose.{decode_of, IsDecodeFailure};
-ghost use Rattle.byte_formats.specs.Places.{IsBytes};
+ghost use Rattle.byte_formats.specs.Offsets.{IsBytes};
 ghost use Rattle.toml.specs.View.{view};
 ghost use Rattle.toml_fields.specs.Codes.{bytes_of_base64, bytes_data, hash_data, hash_of_hex};
 ghost use Rattle.toml_fields.specs.Codes.{number_data};

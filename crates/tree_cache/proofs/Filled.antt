@@ -119,11 +119,11 @@ pub filling-more : (h : List ℕ → List ℕ) (row : RowState) (from n : ℕ) (
     → parent ≡ pair_hash h (get_or row.kept (2 * n - row.gone) [])
     (get_or row.kept (2 * n - row.gone + 1) [])
     → HavePushed h parent mid new → ArePairsFilled h row from (n + 1) old new
-filling-more h row from n parent old mid new sofar behind within hash up =
+filling-more h row from n parent old mid new sofar following within hash up =
     record {
       filled = λ hashes is are.
           subst (λ l. AreFullRowsOf h l new)
-          (pair-filled h hashes row n parent is behind within hash)
+          (pair-filled h hashes row n parent is following within hash)
           (up.pushed (take n (paired h hashes)) (sofar.filled hashes is are));
       long = up.long n sofar.long;
       gone = λ level. up.gone level ∙ sofar.gone level;
@@ -176,7 +176,7 @@ sound-pushed old new leaf sound below gone more spare same capacity =
     let size = ap length more ∙ length_push old.first.kept leaf in
     let nodes = ap first_length same in
     let made = sound.made in
-    let behind = sound.behind in
+    let following = sound.following in
     let leaves = sound.leaves in
     let within = sound.within in
     record {
@@ -184,7 +184,7 @@ sound-pushed old new leaf sound below gone more spare same capacity =
       even = ap (λ g. g % 2) gone ∙ sound.even;
       long = subst (λ a. AreLong (first_length a) a) (sym same) sound.long;
       made = omega arith;
-      behind = omega arith;
+      following = omega arith;
       leaves = omega arith;
       nodes = subst (HoldUpTo (new.capacity / 2)) (sym same)
           (subst (λ n. HoldUpTo (n / 2) old.above) (sym capacity) sound.nodes);
@@ -213,14 +213,14 @@ filled-above : (h : List ℕ → List ℕ) (old : RowsState) (above : List RowSt
     → IsFilled h to old (record { first = old.first; above = above; capacity = old.capacity })
 filled-above h old above to sound from within count is =
     let nodes : first_length above ≡ to = count-long to above is.long in
-    let behind = sound.behind in
+    let following = sound.following in
     record {
       sound = record {
         levels = subst (λ n. (n ≡ 0) ⊎ (n ≡ 63)) (sym count) sound.levels;
         even = sound.even;
         long = subst (λ n. AreLong n above) (sym nodes) is.long;
         made = omega arith;
-        behind = omega arith;
+        following = omega arith;
         leaves = sound.leaves;
         nodes = is.holds (old.capacity / 2) sound.nodes;
         within = sound.within;

@@ -294,7 +294,7 @@ forgotten size old first above sound few within before done count rows long hold
         even = omega arith;
         long = subst (λ n. AreLong n above) (sym nodes) longer;
         made = omega arith;
-        behind = omega arith;
+        following = omega arith;
         leaves = omega arith;
         nodes = holds (old.capacity / 2) sound.nodes;
         within = omega arith;

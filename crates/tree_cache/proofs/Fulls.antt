@@ -178,7 +178,7 @@ row-root : (h : List ℕ → List ℕ) (level : ℕ) (hashes : List (List ℕ)) 
     → (place + 1) * 2 ^ level ≤ length hashes
     → get_or row.kept (place - row.gone) []
     ≡ root_of h (part_of hashes (place * 2 ^ level) ((place + 1) * 2 ^ level))
-row-root h level hashes row place is behind within =
+row-root h level hashes row place is following within =
     let sum : row.gone + (place - row.gone) ≡ place = omega arith in
     ap (λ l. get_or l (place - row.gone) []) is.kept
     ∙ get_or-drop row.gone (row_of h level hashes) (place - row.gone) []
@@ -191,11 +191,11 @@ kept-root : (h : List ℕ → List ℕ) (level : ℕ) (leaves : List (List ℕ))
     → get_or row.kept (place - row.gone) []
     ≡ root_of h (part_of leaves (place * 2 ^ level) ((place + 1) * 2 ^ level))
 unfolding row_of
-kept-root h zero leaves r row place at are behind within =
+kept-root h zero leaves r row place at are following within =
     let count = count-rows h leaves r are in
-    row-root h 0 leaves row place (subst (IsRowOf leaves) (sym at.is) are.first) behind
+    row-root h 0 leaves row place (subst (IsRowOf leaves) (sym at.is) are.first) following
     (omega arith)
-kept-root h (suc level) leaves r row place at are behind within =
+kept-root h (suc level) leaves r row place at are following within =
     let inside = at.inside in
     let pairs = take (first_length r.above) (paired h leaves) in
     let count = count-rows h leaves r are in
@@ -207,7 +207,7 @@ kept-root h (suc level) leaves r row place at are behind within =
     let order = mul-le-mul_right {m = place} {n = place + 1} (2 ^ level) (omega arith) in
     row-root h level (take (first_length r.above) (paired h leaves)) row place
     (row_at h level (take (first_length r.above) (paired h leaves)) r.above row are.above
-    (omega arith) at.is) behind (omega arith)
+    (omega arith) at.is) following (omega arith)
     ∙ ap (root_of h) (part_of-take (paired h leaves) (place * 2 ^ level)
     ((place + 1) * 2 ^ level) (first_length r.above) order (omega arith))
     ∙ root-pairs h level leaves place (omega arith)
@@ -219,7 +219,7 @@ pub kept-roots : (h : List ℕ → List ℕ) (level : ℕ) (leaves : List (List 
     → row.gone ≤ from → (from + count) * 2 ^ level ≤ filled_of r → place < count
     → get_or hashes place []
     ≡ root_of h (part_of leaves ((from + place) * 2 ^ level) ((from + place + 1) * 2 ^ level))
-kept-roots h level leaves r row from count place hashes at same are behind within below =
+kept-roots h level leaves r row from count place hashes at same are following within below =
     let up = mul-le-mul_right {m = from + place + 1} {n = from + count} (2 ^ level)
     (omega arith) in
     let sum : (from - row.gone) + place ≡ (from + place) - row.gone = omega arith in

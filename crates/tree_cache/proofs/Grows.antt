@@ -177,14 +177,14 @@ sound-grown old new sound gone kept up levels leaves nodes within =
     let size = ap length kept in
     let count = up.count in
     let made = sound.made in
-    let behind = sound.behind in
+    let following = sound.following in
     record {
       levels = levels;
       even = ap (λ g. g % 2) gone ∙ sound.even;
       long = subst (λ n. AreLong n new.above) (sym up.count)
           (up.long (first_length old.above) sound.long);
       made = omega arith;
-      behind = omega arith;
+      following = omega arith;
       leaves = leaves;
       nodes = nodes;
       within = omega arith;
@@ -220,7 +220,7 @@ sound-none r empty none capacity =
       even = ap (λ g. g % 2) empty.gone;
       long = subst (λ a. AreLong (first_length a) a) (sym none) refl;
       made = omega arith;
-      behind = omega arith;
+      following = omega arith;
       leaves = omega arith;
       nodes = subst (λ a. HoldUpTo (r.capacity / 2) a) (sym none) (ap (λ n. n / 2) capacity);
       within = omega arith;

@@ -13,7 +13,7 @@ pub record RowState : Type 0 where
   pub kept : List Hash
   pub spare : ℕ
 
--- How many hashes a row represents.
+-- How many hashes a row has, with those that are gone.
 abbrev pub row_count : RowState → ℕ
 row_count row = row.gone + length row.kept
 
@@ -35,12 +35,12 @@ unfoldable pub AreFullRowsOf : HashFunction → List Hash → List RowState → 
 AreFullRowsOf h hashes [] = hashes ≡ []
 AreFullRowsOf h hashes (row ∷ rows) = IsRowOf hashes row × AreFullRowsOf h (paired h hashes) rows
 
--- A row represents so many hashes, of which an even number is gone.
+-- A row has so many hashes, of which an even number is gone.
 pub record IsLong (count : ℕ) (row : RowState) : Type 0 where
   pub all : row_count row ≡ count
   pub even : row.gone % 2 ≡ 0
 
--- The first of these rows represents so many hashes, and each row half as many as the one below it.
+-- The first of these rows has so many hashes, and each row half as many as the one below it.
 unfoldable pub AreLong : ℕ → List RowState → Type 0
 AreLong count [] = count ≡ 0
 AreLong count (row ∷ rows) = IsLong count row × AreLong (count / 2) rows
@@ -98,7 +98,7 @@ pub record CanReach (from to : ℕ) (rows : List RowState) : Type 0 where
   pub holds : HoldUpTo capacity rows
   pub within : to ≤ capacity
 
--- How many hashes the first of some rows represents.
+-- How many hashes the first of some rows has, with those that are gone.
 abbrev pub first_length : List RowState → ℕ
 first_length [] = 0
 first_length (row ∷ rows) = row_count row
@@ -188,7 +188,7 @@ pub record AreSound (r : RowsState) : Type 0 where
   pub even : r.first.gone % 2 ≡ 0
   pub long : AreLong (first_length r.above) r.above
   pub made : 2 * first_length r.above ≤ count_of r
-  pub behind : r.first.gone ≤ 2 * first_length r.above
+  pub following : r.first.gone ≤ 2 * first_length r.above
   pub leaves : r.capacity ≤ count_of r + r.first.spare
   pub nodes : HoldUpTo (r.capacity / 2) r.above
   pub within : count_of r ≤ r.capacity

@@ -41,7 +41,7 @@ impl Row {
         }
     }
 
-    // How many hashes the row represents, with those that are gone.
+    // How many hashes the row has, with those that are gone.
     pub(crate) fn count(&self) -> u64
         requires { row_count self.now < 2 ^ 64 }
         ensures { result ≡ row_count self.now }

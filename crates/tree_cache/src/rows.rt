@@ -27,7 +27,7 @@ pub(crate) fn empty_rows(alloc: Global) -> Result<Vec<Row>, Memory>
     Ok(rows)
 }
 
-// How many hashes the first of some rows represents.
+// How many hashes the first of some rows has, with those that are gone.
 pub(crate) fn first_length(rows: &[Row]) -> u64
     requires { first_length rows.now < 2 ^ 64 }
     ensures { result ≡ first_length rows.now }

@@ -176,8 +176,7 @@ eval-step h r p up (z ∷ q) m n a c i j m_is n_is i_bit j_bit sibling left righ
     (λ (one : c ≤ 1). eval-long_step h r p up z q m n a c i j m_is n_is i_bit j_bit sibling one)
     (cases_lt 1 c)
 
--- The last node of a level with an even index has no sibling: it represents itself on the level
--- above
+-- The last node of a level with an even index has no sibling: it is a node of the level above, too
 pub eval-promoted : (h : List ℕ → List ℕ) (r : List ℕ) (w : List (List ℕ)) (m n a c : ℕ)
     → m ≡ 2 * a → n ≡ m + 1 → c ≡ a + 1 → 1 ≤ a
     → eval_from_root h m n r w ≡ eval_from_root h a c r w

@@ -7,7 +7,7 @@ use Rattle.tree_core.specs.Tree.{pair_hash}
 use Rattle.tree_peaks.proofs.Tops.{root_of_peaks-more, root_of_peaks-one}
 use Rattle.tree_peaks.specs.Peaks.{root_of_peaks}
 
--- The root is that of the peaks from this place on.
+-- The root is that of the peaks from this index on.
 pub record Folds (h : HashFunction) (peaks : List Hash) (index : ℕ) (root : Hash) : Type 0 where
   pub inside : index < length peaks
   pub rest : root ≡ root_of_peaks h (drop index peaks)

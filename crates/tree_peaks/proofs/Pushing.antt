@@ -60,20 +60,20 @@ even_blocks m q = ap (λ n. n * q) (mul_comm 2 m) ∙ mul_assoc m 2 q
 
 -- ---- a full tree after full trees that are larger
 
-pub peaks-behind : (h : HashFunction) (d e c : ℕ) (front last : List Hash) → length front ≤ d
-    → length front ≡ c * 2 ^ suc e → length last ≡ 2 ^ e
-    → peaks_of h (front ++ last) ≡ peaks_of h front ++ root_of h last ∷ []
-peaks-behind h d e c [] last small is one =
+pub peaks-following : (h : HashFunction) (d e c : ℕ) (prefix last : List Hash) → length prefix ≤ d
+    → length prefix ≡ c * 2 ^ suc e → length last ≡ 2 ^ e
+    → peaks_of h (prefix ++ last) ≡ peaks_of h prefix ++ root_of h last ∷ []
+peaks-following h d e c [] last small is one =
     let positive = pow_pos e in
     peaks-at h last e (omega arith) (omega arith)
     ∙ ap (λ xs. root_of h xs ∷ peaks_of h (drop (2 ^ e) last)) (take_all (2 ^ e) last (omega arith))
     ∙ ap (λ xs. root_of h last ∷ peaks_of h xs) (drop_all (2 ^ e) last (omega arith))
     ∙ ap (λ ps. root_of h last ∷ ps) (peaks-none h)
     ∙ ap (λ ps. ps ++ root_of h last ∷ []) (sym (peaks-none h))
-peaks-behind h zero e c (x ∷ rest) last small is one = let none : ⊥ = omega arith in absurd none
-peaks-behind h (suc d) e c (x ∷ rest) last small is one =
-    let front : List Hash = x ∷ rest in
-    let highest = top (length front) (omega arith) in
+peaks-following h zero e c (x ∷ rest) last small is one = let none : ⊥ = omega arith in absurd none
+peaks-following h (suc d) e c (x ∷ rest) last small is one =
+    let prefix : List Hash = x ∷ rest in
+    let highest = top (length prefix) (omega arith) in
     let f = highest.exponent in
     let r = highest.low in
     let whole = highest.whole in
@@ -90,18 +90,19 @@ peaks-behind h (suc d) e c (x ∷ rest) last small is one =
     let apart = multiples c (2 ^ (f - suc e)) (2 ^ suc e) r positive (omega arith) (omega arith) in
     let rest_is = apart.rest in
     let gap = apart.apart in
-    let both = length-append front last in
-    let back = length-drop (2 ^ f) front in
-    peaks-at h (front ++ last) f (omega arith) (omega arith)
-    ∙ ap (λ xs. root_of h xs ∷ peaks_of h (drop (2 ^ f) (front ++ last)))
-    (take-append-le (2 ^ f) front last (omega arith))
-    ∙ ap (λ xs. root_of h (take (2 ^ f) front) ∷ peaks_of h xs)
-    (drop-append-le (2 ^ f) front last (omega arith))
-    ∙ ap (λ ps. root_of h (take (2 ^ f) front) ∷ ps)
-    (peaks-behind h d e (c - 2 ^ (f - suc e)) (drop (2 ^ f) front) last (omega arith) (omega arith)
+    let both = length-append prefix last in
+    let back = length-drop (2 ^ f) prefix in
+    peaks-at h (prefix ++ last) f (omega arith) (omega arith)
+    ∙ ap (λ xs. root_of h xs ∷ peaks_of h (drop (2 ^ f) (prefix ++ last)))
+    (take-append-le (2 ^ f) prefix last (omega arith))
+    ∙ ap (λ xs. root_of h (take (2 ^ f) prefix) ∷ peaks_of h xs)
+    (drop-append-le (2 ^ f) prefix last (omega arith))
+    ∙ ap (λ ps. root_of h (take (2 ^ f) prefix) ∷ ps)
+    (peaks-following h d e (c - 2 ^ (f - suc e)) (drop (2 ^ f) prefix) last (omega arith)
+    (omega arith)
     one)
     ∙ ap (λ ps. ps ++ root_of h last ∷ [])
-    (sym (peaks-at h front f (omega arith) (omega arith)))
+    (sym (peaks-at h prefix f (omega arith) (omega arith)))
   where
     some_blocks : (c p : ℕ) → 0 < c * p → 1 ≤ c
     some_blocks zero p some = let none : ⊥ = omega arith in absurd none
@@ -127,12 +128,12 @@ root-joined h e left right one other =
 
 -- the last full tree of an odd number of them, and the peaks, the smallest first
 record HasLast (h : HashFunction) (e m : ℕ) (leaves : List Hash) : Type 0 where
-  front : List Hash
+  prefix : List Hash
   last : List Hash
-  parts : front ++ last ≡ leaves
-  before : length front ≡ m * 2 ^ suc e
+  parts : prefix ++ last ≡ leaves
+  before : length prefix ≡ m * 2 ^ suc e
   one : length last ≡ 2 ^ e
-  reversed : reverse (peaks_of h leaves) ≡ root_of h last ∷ reverse (peaks_of h front)
+  reversed : reverse (peaks_of h leaves) ≡ root_of h last ∷ reverse (peaks_of h prefix)
 
 last-of : (h : HashFunction) (e m : ℕ) (leaves : List Hash)
     → length leaves ≡ (2 * m + 1) * 2 ^ e → HasLast h e m leaves
@@ -141,20 +142,20 @@ last-of h e m leaves is =
     let turned : m * (2 * 2 ^ e) ≡ m * 2 ^ suc e = ap (λ q. m * q) (sym double) in
     let blocks = odd_blocks m (2 ^ e) in
     let cut : ℕ = m * 2 ^ suc e in
-    let front : List Hash = take cut leaves in
+    let prefix : List Hash = take cut leaves in
     let last : List Hash = drop cut leaves in
-    let before : length front ≡ cut = length-take cut leaves ∙ omega arith in
+    let before : length prefix ≡ cut = length-take cut leaves ∙ omega arith in
     let one : length last ≡ 2 ^ e = length-drop cut leaves ∙ omega arith in
-    let parts : front ++ last ≡ leaves = take-append-drop cut leaves in
+    let parts : prefix ++ last ≡ leaves = take-append-drop cut leaves in
     record {
-      front = front;
+      prefix = prefix;
       last = last;
       parts = parts;
       before = before;
       one = one;
       reversed = ap (λ xs. reverse (peaks_of h xs)) (sym parts)
-          ∙ ap reverse (peaks-behind h (length front) e m front last (omega arith) before one)
-          ∙ reverse-append (peaks_of h front) (root_of h last ∷ []);
+          ∙ ap reverse (peaks-following h (length prefix) e m prefix last (omega arith) before one)
+          ∙ reverse-append (peaks_of h prefix) (root_of h last ∷ []);
     }
 
 -- it stays where their number is even
@@ -189,7 +190,7 @@ carry-even h e n leaves block even is one =
     ap reverse (carried-even h n (root_of h block) (reverse (peaks_of h leaves)) even)
     ∙ reversed
     ∙ ap (λ ps. ps ++ root_of h block ∷ []) (reverse-reverse (peaks_of h leaves))
-    ∙ sym (peaks-behind h (length leaves) e (n / 2) leaves block (omega arith) (omega arith) one)
+    ∙ sym (peaks-following h (length leaves) e (n / 2) leaves block (omega arith) (omega arith) one)
 
 carry-peaks : (h : HashFunction) (d e n : ℕ) (leaves block : List Hash) → n ≤ d
     → length leaves ≡ n * 2 ^ e → length block ≡ 2 ^ e
@@ -204,18 +205,18 @@ carry-peaks h (suc d) e n leaves block within is one =
     let m : ℕ = n / 2 in
     let halves : n ≡ 2 * m + 1 = omega arith in
     let found = last-of h e m leaves (is ∙ ap (λ k. k * 2 ^ e) halves) in
-    let front : List Hash = found.front in
+    let prefix : List Hash = found.prefix in
     let last : List Hash = found.last in
     let double = pow-succ' 2 e in
     let last_one = found.one in
     let both = length-append last block in
     ap (λ ps. reverse (carried h n (root_of h block) ps)) found.reversed
-    ∙ ap reverse (carried-odd h n (root_of h block) (root_of h last) (reverse (peaks_of h front))
+    ∙ ap reverse (carried-odd h n (root_of h block) (root_of h last) (reverse (peaks_of h prefix))
     (omega arith))
-    ∙ ap (λ node. reverse (carried h m node (reverse (peaks_of h front))))
+    ∙ ap (λ node. reverse (carried h m node (reverse (peaks_of h prefix))))
     (sym (root-joined h e last block found.one one))
-    ∙ carry-peaks h d (suc e) m front (last ++ block) (omega arith) found.before (omega arith)
-    ∙ ap (peaks_of h) (sym (append_assoc front last block)
+    ∙ carry-peaks h d (suc e) m prefix (last ++ block) (omega arith) found.before (omega arith)
+    ∙ ap (peaks_of h) (sym (append_assoc prefix last block)
     ∙ ap (λ xs. xs ++ block) found.parts))
     (cases_lt (n % 2) 1)
 

@@ -113,7 +113,7 @@ IsAligned-halves low high is more =
 -- an interval that starts after a split, counted from there
 pub IsAligned-right : (start end n e : ℕ) → IsAligned start end → end ≤ n → n ≤ 2 * 2 ^ e
     → 2 ^ e ≤ start → IsAligned (start - 2 ^ e) (end - 2 ^ e)
-IsAligned-right start end n e is inside half behind =
+IsAligned-right start end n e is inside half following =
     let some = is.inhabited in
     let begins = is.begins in
     let within = is.within in
@@ -157,7 +157,7 @@ IsAligned-right start end n e is inside half behind =
 -- an interval that holds a split starts at 0
 pub IsAligned-over : (start end n e : ℕ) → IsAligned start end → end ≤ n → n ≤ 2 * 2 ^ e
     → start < 2 ^ e → 2 ^ e < end → start ≡ 0
-IsAligned-over start end n e is inside half before behind =
+IsAligned-over start end n e is inside half before following =
     let begins = is.begins in
     let within = is.within in
     ⊎_elim

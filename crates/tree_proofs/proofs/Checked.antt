@@ -39,7 +39,7 @@ use Rattle.tree_proofs.specs.ProofLaws.{PassesWhereChecks, ProofsCheck, WrongLen
 
 pub aligned_right : (s e n : ℕ) → IsAligned s e → e ≤ n → split_of n ≤ s
     → IsAligned (s - split_of n) (e - split_of n)
-aligned_right s e n aligned within behind =
+aligned_right s e n aligned within following =
     let power = split_power n in
     let is : split_of n ≡ 2 ^ power.0 = power.1 in
     let bounds = split_bounds n in
@@ -47,7 +47,7 @@ aligned_right s e n aligned within behind =
     (IsAligned-right s e n power.0 aligned within (omega arith) (omega arith))
 
 pub aligned_over : (s e n : ℕ) → IsAligned s e → e ≤ n → s < split_of n → split_of n < e → s ≡ 0
-aligned_over s e n aligned within before behind =
+aligned_over s e n aligned within before following =
     let power = split_power n in
     let is : split_of n ≡ 2 ^ power.0 = power.1 in
     let bounds = split_bounds n in
@@ -55,7 +55,7 @@ aligned_over s e n aligned within before behind =
 
 -- an interval that goes beyond a split is split there too
 split_same : (e n : ℕ) → e ≤ n → split_of n < e → split_of e ≡ split_of n
-split_same e n within behind =
+split_same e n within following =
     let power = split_power n in
     let is : split_of n ≡ 2 ^ power.0 = power.1 in
     let bounds = split_bounds n in
@@ -130,16 +130,16 @@ proof_opens (suc depth) h s e known node leaves bound aligned within is =
     ∙ ap (λ u. Some (opened_at u (pair_hash h z (root_of h (drop k leaves))))) (ap (root_of h) part)
     ∙ ap (λ r. Some (opened_at (root_of h (part_of leaves s e)) r))
     (sym (root_of-split h leaves more)))
-    (λ more inner before behind.
+    (λ more inner before following.
     let p = proof_of h 0 (e - k) false (drop k leaves) in
     let z = root_of h (take k leaves) in
-    let zeroth = aligned_over s e (length leaves) aligned within before behind in
+    let zeroth = aligned_over s e (length leaves) aligned within before following in
     let part_is : e < length leaves =
     ⊎_elim
     (λ (later : 0 < s). let none : ⊥ = omega arith in absurd none)
     (λ (less : e < length leaves). less)
     inner in
-    let same = split_same e (length leaves) within behind in
+    let same = split_same e (length leaves) within following in
     let last : e - 0 ≡ e = omega arith in
     let split_is : split_of (length leaves) ≡ split_of (e - 0) = sym (ap split_of last ∙ same) in
     let split : split_of (length leaves) ≡ 0 + split_of (e - 0) = omega arith in
@@ -155,7 +155,7 @@ proof_opens (suc depth) h s e known node leaves bound aligned within is =
     ∙ sym (part-root h leaves 0 k e within (omega arith) split)
     ∙ ap (λ i. root_of h (part_of leaves i e)) (sym zeroth) in
     ap (λ q. open_from_root h s e n known node (reverse q))
-    (proof_of-over h s e k known leaves refl within inner before behind)
+    (proof_of-over h s e k known leaves refl within inner before following)
     ∙ ap (open_from_root h s e n known node) (reverse-append p (z ∷ []))
     ∙ open-over h s e n k (e - k) (n - k) known node z (reverse p) more refl zeroth
     (omega arith) (omega arith) (omega arith) part_is
@@ -328,10 +328,10 @@ has_value (suc depth) h s e known node leaves [] bound aligned within =
     ap is_some (open-short h s e (length leaves) known node (inl (omega arith)))
     ∙ none_more _ _ _ (proof_of-right h s e (split_of (length leaves)) known leaves refl some
     within le))
-    (λ more inner before behind.
+    (λ more inner before following.
     ap is_some (open-short h s e (length leaves) known node inner)
     ∙ none_more _ _ _ (proof_of-over h s e (split_of (length leaves)) known leaves refl within inner
-    before behind))
+    before following))
 has_value (suc depth) h s e known node leaves (z ∷ q) bound aligned within =
     let n = length leaves in
     let k = split_of (length leaves) in
@@ -363,8 +363,8 @@ has_value (suc depth) h s e known node leaves (z ∷ q) bound aligned within =
     ∙ one_more _ _ _ (open_from_root h (s - k) (e - k) (n - k) known node q)
     (proof_of-right h s e k known leaves refl some within le) q
     (ap (λ i. is_some (open_from_root h (s - k) (e - k) i known node q)) (sym sizes.back) ∙ rest))
-    (λ more inner before behind.
-    let zeroth = aligned_over s e (length leaves) aligned within before behind in
+    (λ more inner before following.
+    let zeroth = aligned_over s e (length leaves) aligned within before following in
     let part : e < length leaves =
     ⊎_elim
     (λ (later : 0 < s). let none : ⊥ = omega arith in absurd none)
@@ -377,7 +377,7 @@ has_value (suc depth) h s e known node leaves (z ∷ q) bound aligned within =
     (omega arith) (omega arith) (omega arith) part)
     ∙ is_some-map (both_right_of h z) (open_from_root h 0 (e - k) (n - k) false node q)
     ∙ one_more _ _ _ (open_from_root h 0 (e - k) (n - k) false node q)
-    (proof_of-over h s e k known leaves refl within inner before behind) q
+    (proof_of-over h s e k known leaves refl within inner before following) q
     (ap (λ i. is_some (open_from_root h 0 (e - k) i false node q)) (sym sizes.back) ∙ rest))
 
 -- the answer of a value or none

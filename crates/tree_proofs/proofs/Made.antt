@@ -73,9 +73,9 @@ proof_within-over : (depth : ℕ) (h : List ℕ
     (drop (split_of (length leaves)) leaves)
     ++ root_of h (take (split_of (length leaves)) leaves) ∷ []
 unfolding proof_within
-proof_within-over depth h s e known leaves part before behind =
+proof_within-over depth h s e known leaves part before following =
     cond-false _ _ _ (other-whole s e (length leaves) part)
-    ∙ cond-false _ _ _ (lt-leb e (split_of (length leaves)) behind)
+    ∙ cond-false _ _ _ (lt-leb e (split_of (length leaves)) following)
     ∙ cond-false _ _ _ (lt-leb (split_of (length leaves)) s before)
 
 -- where an interval lies: it is the whole, or on one side of the split, or on both
@@ -98,9 +98,9 @@ cases_place {P = P} s e n some within whole left right over =
     part : (0 < s) ⊎ (e < n) → 1 < n → P
     part inner more =
         ⊎_elim
-        (λ (behind : split_of n < e).
+        (λ (following : split_of n < e).
         ⊎_elim
-        (λ (before : s < split_of n). over more inner before behind)
+        (λ (before : s < split_of n). over more inner before following)
         (λ (le : split_of n ≤ s). right more le)
         (cases_lt s (split_of n)))
         (λ (le : e ≤ split_of n). left more le)
@@ -135,13 +135,13 @@ proof_within_more (suc d) (suc f) h s e known leaves small same some within =
     (drop (split_of (length leaves)) leaves)
     (omega arith) (omega arith) (omega arith) (omega arith))
     ∙ sym (proof_within-right f h s e known leaves some le))
-    (λ more part before behind.
-    proof_within-over d h s e known leaves part before behind
+    (λ more part before following.
+    proof_within-over d h s e known leaves part before following
     ∙ ap (λ p. p ++ root_of h (take k leaves) ∷ [])
     (proof_within_more d f h 0 (e - split_of (length leaves)) false
     (drop (split_of (length leaves)) leaves)
     (omega arith) (omega arith) (omega arith) (omega arith))
-    ∙ sym (proof_within-over f h s e known leaves part before behind))
+    ∙ sym (proof_within-over f h s e known leaves part before following))
 
 -- The whole definition, which has no bound on the depth.
 
@@ -194,9 +194,9 @@ pub proof_of-over : (h : List ℕ → List ℕ) (s e k : ℕ) (known : Bool) (le
     → proof_of h s e known leaves
     ≡ proof_of h 0 (e - k) false (drop k leaves) ++ root_of h (take k leaves) ∷ []
 unfolding proof_of
-proof_of-over h s e k known [] is within part before behind = let none : ⊥ =
+proof_of-over h s e k known [] is within part before following = let none : ⊥ =
     omega arith in absurd none
-proof_of-over h s e k known (x ∷ rest) is within part before behind =
+proof_of-over h s e k known (x ∷ rest) is within part before following =
     let leaves : List (List ℕ) = x ∷ rest in
     let bounds = split_bounds (length (x ∷ rest)) in
     let size = length-drop (split_of (length (x ∷ rest))) (x ∷ rest) in
@@ -220,20 +220,20 @@ IsConsistencyProof_always h = record {
       ++ root_of h (drop k (map (leaf_hash h) entries)) ∷ []) (take-map (leaf_hash h) k entries)
       ∙ ap (λ r. consistency_proof h start end known (take k entries) ++ root_of h r ∷ [])
       (drop-map (leaf_hash h) k entries);
-  right = λ entries start end k known is some within behind.
+  right = λ entries start end k known is some within following.
       let split = split_of-entries h entries k is in
       let size = length-map entries (leaf_hash h) in
       proof_of-right h start end k known (map (leaf_hash h) entries) split.1 some
-      (omega arith) behind
+      (omega arith) following
       ∙ ap (λ l. proof_of h (start - k) (end - k) known l
       ++ root_of h (take k (map (leaf_hash h) entries)) ∷ []) (drop-map (leaf_hash h) k entries)
       ∙ ap (λ r. consistency_proof h (start - k) (end - k) known (drop k entries)
       ++ root_of h r ∷ []) (take-map (leaf_hash h) k entries);
-  over = λ entries end k known is behind part.
+  over = λ entries end k known is following part.
       let split = split_of-entries h entries k is in
       let size = length-map entries (leaf_hash h) in
       proof_of-over h 0 end k known (map (leaf_hash h) entries) split.1 (omega arith)
-      (inr (omega arith)) (let below = is.below in positive k is) behind
+      (inr (omega arith)) (let below = is.below in positive k is) following
       ∙ ap (λ l. proof_of h 0 (end - k) false l
       ++ root_of h (take k (map (leaf_hash h) entries)) ∷ []) (drop-map (leaf_hash h) k entries)
       ∙ ap (λ r. consistency_proof h 0 (end - k) false (drop k entries) ++ root_of h r ∷ [])
@@ -260,8 +260,8 @@ IsRfcProof_always h =
       whole = is.whole;
       left = λ entries m k known largest some within.
           is.left entries 0 m k known largest some within;
-      right = λ entries m k known largest behind part.
-          is.over entries m k known largest behind part;
+      right = λ entries m k known largest following part.
+          is.over entries m k known largest following part;
     }
 
 -- The proof in a part of a list, by the halves of its interval.
@@ -327,7 +327,8 @@ pub part_proof-over : (h : List ℕ → List ℕ) (xs : List (List ℕ)) (first 
     → proof_of h (first - low) (end - low) known (part_of xs low high)
     ≡ proof_of h (middle - middle) (end - middle) false (part_of xs middle high)
     ++ root_of h (part_of xs low middle) ∷ []
-part_proof-over h xs first end low middle high known within more is from part before behind inside =
+part_proof-over h xs first end low middle high known within more is from part before following
+    inside =
     let bounds = split_bounds (high - low) in
     let size = part-length xs low high within in
     let begin : 0 ≡ middle - middle = omega arith in

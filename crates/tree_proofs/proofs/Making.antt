@@ -13,7 +13,7 @@ use Rattle.tree_core.specs.Tree.{root_of}
 use Rattle.tree_proofs.proofs.Made.{part_proof-whole}
 use Rattle.tree_proofs.proofs.Parts.{path-one}
 use Rattle.tree_proofs.specs.Proof.{proof_of}
-use Rattle.tree_proofs.specs.Modelled.{HasRootBehind, IsPathOf, IsProofIn, IsProofOf, IsRootOf}
+use Rattle.tree_proofs.specs.Modelled.{HasRootAfter, IsPathOf, IsProofIn, IsProofOf, IsRootOf}
 
 -- the halves of an interval are not longer than its split
 pub split_left : (start middle end : ℕ) → middle ≡ start + split_of (end - start)
@@ -30,14 +30,14 @@ pub one_higher : {T E : Type 0} (r : Result T E) (h : List ℕ → List ℕ)
     (seen : Option (List (List ℕ))) (low high from to count more : ℕ) (out next : List (List ℕ))
     → low + 1 < high → count ≤ split_of (high - low)
     → ((height : ℕ) → count ≤ 2 ^ height → length out ≤ height + more)
-    → OnOk r (HasRootBehind h seen from to out next)
+    → OnOk r (HasRootAfter h seen from to out next)
     → OnOk r ((height : ℕ) → high - low ≤ 2 ^ height → length next ≤ height + more)
 one_higher r h seen low high from to count more out next large within short =
-    on_ok_weaker r behind
+    on_ok_weaker r following
   where
-    behind : HasRootBehind h seen from to out next
+    following : HasRootAfter h seen from to out next
         → (height : ℕ) → high - low ≤ 2 ^ height → length next ≤ height + more
-    behind pushed height near =
+    following pushed height near =
         let half = half_within (high - low) height (omega arith) near in
         let some = half.some in
         let fits = half.half in
@@ -50,7 +50,7 @@ pub not_higher : {T E : Type 0} (r : Result T E) (h : List ℕ → List ℕ)
     (seen : Option (List (List ℕ))) (low high from to count : ℕ) (out next : List (List ℕ))
     → low + 1 < high → count ≤ split_of (high - low)
     → ((height : ℕ) → count ≤ 2 ^ height → length out ≤ height)
-    → OnOk r (HasRootBehind h seen from to out next)
+    → OnOk r (HasRootAfter h seen from to out next)
     → OnOk r ((height : ℕ) → high - low ≤ 2 ^ height → length next ≤ height)
 not_higher r h seen low high from to count out next large within short pushed =
     on_ok_weaker r (λ (all : (height : ℕ) → high - low ≤ 2 ^ height → length next ≤ height + 0).
@@ -66,10 +66,10 @@ pub made_by : {T E : Type 0} (r : Result T E) (h : List ℕ → List ℕ)
     → all xs ≡ half xs ++ root_of h (part_of xs from to) ∷ [])
     → IfSome modelled (λ xs. end ≤ length xs) → seen ≡ modelled
     → IfSome modelled (λ xs. out ≡ half xs)
-    → OnOk r (HasRootBehind h seen from to out made)
+    → OnOk r (HasRootAfter h seen from to out made)
     → OnOk r (IfSome modelled (λ xs. made ≡ all xs))
 made_by r h modelled seen half all end from to out made split within seen_is out_is =
-    on_ok_weaker r (λ (pushed : HasRootBehind h seen from to out made). same modelled within out_is
+    on_ok_weaker r (λ (pushed : HasRootAfter h seen from to out made). same modelled within out_is
     pushed.node (subst (λ t. IsRootOf h t from to pushed.node) seen_is pushed.root) pushed.text)
   where
     same : (modelled : Option (List (List ℕ))) → IfSome modelled (λ xs. end ≤ length xs)
@@ -110,12 +110,12 @@ pub proof_of_root : {T E : Type 0} (r : Result T E) (h : List ℕ → List ℕ)
     (modelled : Option (List (List ℕ))) (low high start end : ℕ) (known : Bool)
     (cleared made : List (List ℕ)) → low < high → low ≡ start → high ≡ end
     → IfSome modelled (λ xs. high ≤ length xs) → known ≡ false → cleared ≡ []
-    → OnOk r (HasRootBehind h modelled low high cleared made)
+    → OnOk r (HasRootAfter h modelled low high cleared made)
     → OnOk r (IsProofIn h modelled low high start end known made)
 proof_of_root r h modelled low high start end known cleared made some first last within is_new
     none =
     on_ok_weaker r
-    (λ (pushed : HasRootBehind h modelled low high cleared made). same modelled within
+    (λ (pushed : HasRootAfter h modelled low high cleared made). same modelled within
     pushed.node pushed.root (pushed.text ∙ ap (λ o. o ++ pushed.node ∷ []) none))
   where
     same : (modelled : Option (List (List ℕ))) → IfSome modelled (λ xs. high ≤ length xs)
@@ -131,14 +131,14 @@ proof_of_root r h modelled low high start end known cleared made some first last
 -- one hash alone
 pub one_alone : {T E : Type 0} (r : Result T E) (h : List ℕ → List ℕ)
     (modelled : Option (List (List ℕ))) (from to size : ℕ) (cleared made : List (List ℕ))
-    → cleared ≡ [] → OnOk r (HasRootBehind h modelled from to cleared made)
+    → cleared ≡ [] → OnOk r (HasRootAfter h modelled from to cleared made)
     → OnOk r ((height : ℕ) → size ≤ 2 ^ height → length made ≤ height + 1)
 one_alone r h modelled from to size cleared made none =
-    on_ok_weaker r behind
+    on_ok_weaker r following
   where
-    behind : HasRootBehind h modelled from to cleared made
+    following : HasRootAfter h modelled from to cleared made
         → (height : ℕ) → size ≤ 2 ^ height → length made ≤ height + 1
-    behind pushed height near =
+    following pushed height near =
         let count = ap length pushed.text ∙ length_push cleared pushed.node in
         let empty = ap length none in
         omega arith

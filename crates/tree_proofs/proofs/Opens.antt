@@ -86,7 +86,7 @@ pub open-none : (h : List ℕ → List ℕ) (s e n k : ℕ) (known : Bool) (node
     (q : List (List ℕ)) → 1 < n → split_of n ≡ k → 0 < s → s < k → k < e
     → open_from_root h s e n known node (z ∷ q) ≡ None
 unfolding open_from_root
-open-none h s e n k known node z q more is later before behind =
+open-none h s e n k known node z q more is later before following =
     cond-false _ _ _ (other-whole s e n (inl later))
     ∙ cond-false _ _ _ (lt-leb n 1 more)
     ∙ cond-false _ _ _ (lt-leb e (split_of n) (omega arith))
@@ -168,9 +168,9 @@ pub open_of-none : (h : List ℕ → List ℕ) (s e n k : ℕ) (known : Bool) (n
     (p : List (List ℕ)) → 1 < n → split_of n ≡ k → 0 < s → s < k → k < e
     → open_of h s e n known node (p ++ z ∷ []) ≡ None
 unfolding open_of
-open_of-none h s e n k known node z p more is later before behind =
+open_of-none h s e n k known node z p more is later before following =
     ap (open_from_root h s e n known node) (reverse-append p (z ∷ []))
-    ∙ open-none h s e n k known node z (reverse p) more is later before behind
+    ∙ open-none h s e n k known node z (reverse p) more is later before following
 
 -- A proof that gives hashes has at most one more than the tree has levels.
 
@@ -207,14 +207,14 @@ open-height h (z ∷ q) s e n height known node some within near gives =
     ∙ ap is_some (sym (open-right h s e n k (s - k) (e - k) (n - k) known node z q more refl
     (omega arith) (omega arith) (omega arith) (omega arith))) ∙ gives) in
     omega arith)
-    (λ more inner before behind.
+    (λ more inner before following.
     let half = half_within n height more near in
     let high = half.some in
     let near_half = half.half in
     ⊎_elim
     (λ (later : 0 < s).
     absurd (false≢true (ap is_some (sym (open-none h s e n k known node z q more refl later before
-    behind)) ∙ gives)))
+    following)) ∙ gives)))
     (λ (first : s ≤ 0).
     let inside : e < n =
     ⊎_elim (λ (later : 0 < s). let none : ⊥ =

@@ -31,7 +31,7 @@ part_of-take xs s e k from to =
 
 pub part_of-drop : (xs : List (List ℕ)) (s e k : ℕ) → k ≤ s
     → part_of (drop k xs) (s - k) (e - k) ≡ part_of xs s e
-part_of-drop xs s e k behind =
+part_of-drop xs s e k following =
     let size : (e - k) - (s - k) ≡ e - s = omega arith in
     let place : k + (s - k) ≡ s = omega arith in
     ap (λ n. take n (drop (s - k) (drop k xs))) size

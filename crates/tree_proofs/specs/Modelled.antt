@@ -29,7 +29,7 @@ IsProofOf h modelled start end size proof =
 
 -- The hashes after the call are those before it, and after them the hash of the leaves from start
 -- up to end.
-pub record HasRootBehind (h : HashFunction) (modelled : Option (List Hash)) (start end : ℕ)
+pub record HasRootAfter (h : HashFunction) (modelled : Option (List Hash)) (start end : ℕ)
     (before after : List Hash) : Type 0 where
   pub node : Hash
   pub root : IsRootOf h modelled start end node

@@ -15,7 +15,7 @@ use std::marker::{Model, PhantomData};
 use tree_core::TreeHash;
 
 /// A list of leaf hashes as nodes, which computes the hash of a full subtree each time it is asked
-/// for, in the time of its size. It never fails.
+/// for, in time that grows with its size. It never fails.
 ///
 /// Contracts see the leaf hashes and a number of spare leaves: so many more need no memory.
 #[derive(Drop)]

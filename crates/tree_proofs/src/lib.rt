@@ -8,13 +8,13 @@
 //!
 //! ```rust
 //! use tree_core::Sha;
-//! use tree_proofs::{Path, check, consist, node_of};
+//! use tree_proofs::{Path, check, consist, party_of};
 //!
 //! // the proof that the first four entries of eight are still there
 //! let mut proof = Path::new();
 //! consist(nodes, 0, 4, 8, &mut proof)?;
-//! let subtree = node_of(nodes, 0, 4)?;
-//! let root = node_of(nodes, 0, 8)?;
+//! let subtree = party_of(nodes, 0, 4)?;
+//! let root = party_of(nodes, 0, 8)?;
 //! check::<Sha>(0, 4, 8, &subtree, &root, proof.as_slice())?;
 //! ```
 #![tactic(auto)]

@@ -6,7 +6,7 @@ ghost use Rattle.byte_formats.specs.Types.{Hash};
 ghost use Rattle.mtc_io.specs.Counts.{HasCause};
 ghost use Rattle.tree_core.specs.Subtree.{is_subtree};
 ghost use Rattle.tree_proofs.specs.Full.{BeginsFull};
-ghost use Rattle.tree_proofs.specs.Modelled.{HasRootBehind, IsRootOf};
+ghost use Rattle.tree_proofs.specs.Modelled.{HasRootAfter, IsRootOf};
 
 use crate::Path;
 use mtc_io::Failed;
@@ -94,7 +94,7 @@ pub(crate) fn push_node<N: Nodes>(
     requires within { end ≤ N.count nodes.old }
     requires capacity { length out.old < 128 }
     ensures pushed { OnOk result
-        (HasRootBehind N.H.hash (N.leaves nodes.old) start end out.old out.new) }
+        (HasRootAfter N.H.hash (N.leaves nodes.old) start end out.old out.new) }
     ensures list { N.leaves nodes.new ≡ N.leaves nodes.old }
     ensures count { N.count nodes.new ≡ N.count nodes.old }
     ensures stays { N.stays nodes.old nodes.new }

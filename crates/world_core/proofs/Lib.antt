@@ -1,4 +1,4 @@
 pub mod Walks
-pub mod Settled
+pub mod Decided
 pub mod Plain
 pub mod Premises

@@ -47,8 +47,8 @@ pub record WasJudged (h : HashFunction) (store : Store) (c : Parts) (p : ProofPa
     : Type 0 where
   pub certificate : IsCertificate c
   pub proof : proof_in c.proof ≡ Ok p
-  pub moment : ℤ
-  pub accepted : judged h store moment c ≡ Ok a
+  pub unix_time : ℤ
+  pub accepted : judged h store unix_time c ≡ Ok a
 
 -- ---- the list
 
@@ -93,13 +93,13 @@ is_counted_as set id key place k =
     is_in_set set place && (bytes_eq k.id id && bytes_eq k.key key)
 
 -- Some item passes, from this index on.
-abbrev pub some_place : {A : Type 0} → (ℕ → A → Bool) → ℕ → List A → Bool
-some_place passes place [] = false
-some_place passes place (x ∷ xs) = passes place x || some_place passes (place + 1) xs
+abbrev pub some_index : {A : Type 0} → (ℕ → A → Bool) → ℕ → List A → Bool
+some_index passes place [] = false
+some_index passes place (x ∷ xs) = passes place x || some_index passes (place + 1) xs
 
 -- A cosigner of the set has the id and the public key of the export.
 abbrev pub is_counted : Store → ℕ → Export → Bool
-is_counted store set e = some_place (is_counted_as set e.cosigner e.public) 0 store.cosigners
+is_counted store set e = some_index (is_counted_as set e.cosigner e.public) 0 store.cosigners
 
 -- A Sign of the accepted interval, with its hash.
 abbrev pub is_sign_of : Accepted → Step → Bool
@@ -180,28 +180,28 @@ pub record IsUnrecorded (h : HashFunction) (x : AuditCase) : Type 0 where
   pub lacks : is_supported x ≡ false
 
 -- The list has the entry with its key, or else two different strings have one hash.
-abbrev pub Settles : HashFunction → AuditCase → Audit → Type 0
-Settles h x (Foreign wanted found) = ⊥
-Settles h x Unrecorded = ⊥
-Settles h x (Stands index) =
+abbrev pub Decides : HashFunction → AuditCase → Audit → Type 0
+Decides h x (Foreign wanted found) = ⊥
+Decides h x Unrecorded = ⊥
+Decides h x (Stands index) =
     (has_own h x.items x.accepted x.cert ≡ true) × (index ≡ x.accepted.index)
-Settles h x (Pair one other) =
+Decides h x (Pair one other) =
     (has_own h x.items x.accepted x.cert ≡ false)
     × IsCollision h (firsts_of h x) (seconds_of h x) one other
 
--- The list is the one that is wanted, an export that is wanted supports it, and this answer settles
+-- The list is the one that is wanted, an export that is wanted supports it, and this answer decides
 -- the case.
-pub record IsSettledCase (h : HashFunction) (x : AuditCase) (answer : Audit) : Type 0 where
+pub record IsDecidedCase (h : HashFunction) (x : AuditCase) (answer : Audit) : Type 0 where
   pub list : foreign_of h x ≡ None
   pub supported : is_supported x ≡ true
-  pub settles : Settles h x answer
+  pub decides : Decides h x answer
 
 -- The answer of an audit: the first of these that applies.
 abbrev pub IsAudit : HashFunction → AuditCase → Audit → Type 0
 IsAudit h x (Foreign wanted found) = foreign_of h x ≡ Some (wanted, found)
 IsAudit h x Unrecorded = IsUnrecorded h x
-IsAudit h x (Stands index) = IsSettledCase h x (Stands index)
-IsAudit h x (Pair one other) = IsSettledCase h x (Pair one other)
+IsAudit h x (Stands index) = IsDecidedCase h x (Stands index)
+IsAudit h x (Pair one other) = IsDecidedCase h x (Pair one other)
 
 -- ---- steps of it
 
@@ -217,11 +217,11 @@ pub record HasInterval (h : HashFunction) (items : ItemLists) (a : Accepted) : T
   pub within : a.end ≤ length items.entries
   pub root : tree_hash h (part_of items.entries a.start a.end) ≡ a.hash
 
--- The export doesn't support the acceptance, or it does and this answer settles the case.
-abbrev pub SettlesRecorded : HashFunction → ℕ → Export → AuditCase → Audit → Type 0
-SettlesRecorded h set e x (Foreign wanted found) = ⊥
-SettlesRecorded h set e x Unrecorded = is_recorded x.store x.accepted set e ≡ false
-SettlesRecorded h set e x (Stands index) =
-    (is_recorded x.store x.accepted set e ≡ true) × Settles h x (Stands index)
-SettlesRecorded h set e x (Pair one other) =
-    (is_recorded x.store x.accepted set e ≡ true) × Settles h x (Pair one other)
+-- The export doesn't support the acceptance, or it does and this answer decides the case.
+abbrev pub DecidesRecorded : HashFunction → ℕ → Export → AuditCase → Audit → Type 0
+DecidesRecorded h set e x (Foreign wanted found) = ⊥
+DecidesRecorded h set e x Unrecorded = is_recorded x.store x.accepted set e ≡ false
+DecidesRecorded h set e x (Stands index) =
+    (is_recorded x.store x.accepted set e ≡ true) × Decides h x (Stands index)
+DecidesRecorded h set e x (Pair one other) =
+    (is_recorded x.store x.accepted set e ≡ true) × Decides h x (Pair one other)

@@ -8,7 +8,7 @@ ghost use Rattle.world_core.specs.Audit.{IsAudit, WasJudged};
 
 use crate::answer::Audit;
 use crate::by_cosigners::by_record;
-use crate::settling::settle;
+use crate::deciding::decide;
 use crate::wanted::{foreign, wanted_hash};
 use cert_fields::Cert;
 use cosigner_core::Export;
@@ -54,7 +54,7 @@ pub fn audit<H: TreeHash>(
         return Ok(answer);
     }
     match accepted.by {
-        By::Landmark => settle(alloc, accepted, cert, proof, items),
+        By::Landmark => decide(alloc, accepted, cert, proof, items),
         By::Cosigners(set) => match kept {
             Some(kept) => by_record(alloc, set, accepted, cert, proof, store, items, kept),
             None => Ok(Audit::Unrecorded),

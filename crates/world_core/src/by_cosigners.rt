@@ -10,10 +10,10 @@ ghost use Rattle.mtc_proof.specs.Views.{proof_parts};
 ghost use Rattle.cosigner_core.specs.declared.step.Step.{Step};
 ghost use Rattle.cosigner_steps.specs.Steps.{AreSteps, HasPrefix, held_by};
 ghost use Rattle.policy_core.specs.declared.store.Store.{Store};
-ghost use Rattle.world_core.specs.Audit.{Settles, SettlesRecorded, has_own, is_sign_of};
+ghost use Rattle.world_core.specs.Audit.{Decides, DecidesRecorded, has_own, is_sign_of};
 
 use crate::answer::Audit;
-use crate::settling::settle;
+use crate::deciding::decide;
 use crate::signed::find_signed;
 use crate::supporting::recorded_at;
 use cert_fields::Cert;
@@ -61,7 +61,7 @@ fn by_sign<H: TreeHash>(
     requires sign { (step : Step)
         → is_sign_of accepted.now (slice_index_or kept.now.steps place step) ≡ true }
     requires whole { HasPrefix H.hash items.now.entries (held_by H.hash kept.now.steps) }
-    ensures { IfOk result (λ answer. (store : Store) → Settles H.hash (record {
+    ensures { IfOk result (λ answer. (store : Store) → Decides H.hash (record {
       accepted = accepted.now;
       cert = parts cert.now;
       proof = proof_parts proof.now;
@@ -75,7 +75,7 @@ fn by_sign<H: TreeHash>(
     }
     let steps = kept.steps.as_slice();
     match find_signed::<H>(alloc, &items.entries(), steps, place, &steps[place])? {
-        Finding::Same => settle(alloc, accepted, cert, proof, items),
+        Finding::Same => decide(alloc, accepted, cert, proof, items),
         Finding::Pair(one, other) => Ok(Audit::Pair(one, other)),
     }
 }
@@ -97,7 +97,7 @@ pub(crate) fn by_record<H: TreeHash>(
         ≡ Ok accepted.now.hash }
     requires allowed { AreSteps H.hash kept.now.steps }
     requires whole { HasPrefix H.hash items.now.entries (held_by H.hash kept.now.steps) }
-    ensures { IfOk result (SettlesRecorded H.hash set kept.now (record {
+    ensures { IfOk result (DecidesRecorded H.hash set kept.now (record {
       accepted = accepted.now;
       cert = parts cert.now;
       proof = proof_parts proof.now;

@@ -11,9 +11,9 @@
 mod answer;
 mod auditing;
 mod by_cosigners;
+mod deciding;
 pub mod laws;
 mod prefix;
-mod settling;
 mod signed;
 mod supporting;
 mod wanted;

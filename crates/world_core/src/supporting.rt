@@ -54,7 +54,7 @@ fn is_sign_of(accepted: &Accepted, step: &Step) -> bool
 }
 
 // The index of such a step.
-fn sign_place(accepted: &Accepted, steps: &[Step]) -> Option<usize>
+fn sign_index(accepted: &Accepted, steps: &[Step]) -> Option<usize>
     ensures { result ≡ position (is_sign_of accepted.now) steps.now }
 {
     steps.iter().position(|step| is_sign_of(accepted, step))
@@ -77,5 +77,5 @@ pub(crate) fn recorded_at(
     if export.log.as_bytes() != store.log.as_bytes() || !is_counted(store, set, export) {
         return None;
     }
-    sign_place(accepted, export.steps.as_slice())
+    sign_index(accepted, export.steps.as_slice())
 }

@@ -3,7 +3,7 @@
 ghost use Rattle.std.specs.Prelude.{◌≡◌, ◌≤◌, length, codes, IfOk, IfSome};
 ghost use Rattle.byte_formats.specs.Readings.{Answers};
 ghost use Rattle.cert_fields.specs.Grammar.{IsPublicKey};
-ghost use Rattle.cert_time.specs.Calendar.{IsMoment};
+ghost use Rattle.cert_time.specs.Calendar.{IsUnixTime};
 ghost use Rattle.toml.specs.Data.{get_member};
 ghost use Rattle.toml.specs.View.{items_view, table_view, view};
 ghost use Rattle.authority_core.specs.Files.{common_name_data, field, field_or_none, host_data};
@@ -28,7 +28,7 @@ const MOST_NAMES: usize = 100;
 #[tactic(auto, unfolding(crate::specs::Files::time_data))]
 fn time_of(value: &Value) -> Option<i64>
     ensures value { result ≡ time_data (view value.now) }
-    ensures range { IfSome result IsMoment }
+    ensures range { IfSome result IsUnixTime }
 {
     match value.as_str() {
         Some(text) => text_to_seconds(text),
@@ -39,7 +39,7 @@ fn time_of(value: &Value) -> Option<i64>
 /// The time of a field.
 pub fn time_at(table: &Table, name: &str, which: Field) -> Result<i64, RequestError>
     ensures value { result ≡ field which time_data (get_member name.now (table_view table.now)) }
-    ensures range { IfOk result IsMoment }
+    ensures range { IfOk result IsUnixTime }
 {
     let Some(value) = value_at(table, name) else {
         return Err(RequestError::Missing(which));

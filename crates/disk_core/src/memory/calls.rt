@@ -67,7 +67,7 @@ impl Calls {
     }
 
     // A call that only reads. It is refused if no number is left for it.
-    pub(crate) fn look(&mut self) -> Result<(), Memory>
+    pub(crate) fn note_read(&mut self) -> Result<(), Memory>
         ensures calls { made_calls self.new
             ≡ noted (is_ok result) Call.Len true (made_calls self.old) }
         ensures changes { self.new.changes.items ≡ self.old.changes.items }

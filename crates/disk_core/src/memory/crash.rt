@@ -4,7 +4,7 @@ ghost use Rattle.std.specs.Prelude.{◌≡◌, ◌↔◌, ◌≤◌, ◌<◌, �
 ghost use Rattle.std.specs.Prelude.{IsTrue};
 ghost use Rattle.disk_core.specs.Calls.{calls_in};
 ghost use Rattle.disk_core.specs.Disk.{Torn};
-ghost use Rattle.disk_core.specs.Replay.{State, step, state_now, IsImage};
+ghost use Rattle.disk_core.specs.Replay.{State, step, state_now, IsCrashState};
 
 use crate::memory::call::{Call, Change, Made};
 use crate::memory::history::{law_known_bytes, overwrite};
@@ -14,49 +14,65 @@ use std::alloc::{AllocError, Global};
 // What becomes of a write, by the lowest bits of the choice: nothing of it is left, all, its prefix
 // alone, or its prefix with other bytes after it, but where it is written as it was. The next bits
 // say how long the prefix is, in quarters.
-fn tear(image: &mut Vec<u8>, place: u64, piece: &[u8], choice: u64) -> Result<(), Memory>
-    ensures { OnOk result (Torn place piece.now image.old.items image.new.items) }
+fn tear(crash_state: &mut Vec<u8>, place: u64, piece: &[u8], choice: u64) -> Result<(), Memory>
+    ensures { OnOk result (Torn place piece.now crash_state.old.items crash_state.new.items) }
 {
     let prefix = piece.len() / 4 * (choice / 4 % 4) as usize;
     match choice % 4 {
         0 => Ok(()),
-        1 => overwrite(image, place, piece),
-        2 => put_prefix(image, place, piece, prefix),
-        _ => spoil(image, place, piece, prefix),
+        1 => overwrite(crash_state, place, piece),
+        2 => put_prefix(crash_state, place, piece, prefix),
+        _ => spoil(crash_state, place, piece, prefix),
     }
 }
 
 // The prefix of the piece alone: if the piece reaches past the end, the file is cut short after the
 // prefix.
-fn put_prefix(image: &mut Vec<u8>, place: u64, piece: &[u8], prefix: usize) -> Result<(), Memory>
+fn put_prefix(
+    crash_state: &mut Vec<u8>,
+    place: u64,
+    piece: &[u8],
+    prefix: usize,
+) -> Result<(), Memory>
     requires { prefix ≤ length piece.now }
-    ensures { OnOk result (Torn place piece.now image.old.items image.new.items) }
+    ensures { OnOk result (Torn place piece.now crash_state.old.items crash_state.new.items) }
 {
-    overwrite(image, place, &piece[..prefix])?;
+    overwrite(crash_state, place, &piece[..prefix])?;
     Ok(())
 }
 
 // The prefix of the piece and other bytes after it, also past the end of the file if the piece
 // reaches it. A byte that is written as it was stays.
-fn spoil(image: &mut Vec<u8>, place: u64, piece: &[u8], prefix: usize) -> Result<(), Memory>
+fn spoil(crash_state: &mut Vec<u8>, place: u64, piece: &[u8], prefix: usize) -> Result<(), Memory>
     requires { prefix ≤ length piece.now }
-    ensures { OnOk result (Torn place piece.now image.old.items image.new.items) }
+    ensures { OnOk result (Torn place piece.now crash_state.old.items crash_state.new.items) }
 {
-    let reaches = image.len() <= piece.len() || place as usize >= image.len() - piece.len();
-    put_spoilt(image, place, piece, prefix)?;
+    let reaches = crash_state.len() <= piece.len()
+        || place as usize >= crash_state.len() - piece.len();
+    put_spoilt(crash_state, place, piece, prefix)?;
     if reaches {
-        image.extend_from_slice(&piece[..prefix])?;
+        crash_state.extend_from_slice(&piece[..prefix])?;
     }
     Ok(())
 }
 
 // The piece with other bytes after its prefix, over what is there.
-fn put_spoilt(image: &mut Vec<u8>, place: u64, piece: &[u8], prefix: usize) -> Result<(), Memory>
-    ensures { OnOk result (Torn place piece.now image.old.items image.new.items) }
+fn put_spoilt(
+    crash_state: &mut Vec<u8>,
+    place: u64,
+    piece: &[u8],
+    prefix: usize,
+) -> Result<(), Memory>
+    ensures { OnOk result (Torn place piece.now crash_state.old.items crash_state.new.items) }
 {
-    let start = image.len().min(place as usize);
-    let bytes = spoilt(*image.allocator(), &image[start..], piece, prefix)?;
-    overwrite(image, place, &bytes)?;
+    let start = crash_state.len().min(place as usize);
+    let bytes = spoilt(
+        *crash_state.allocator(),
+        &crash_state[start..],
+        piece,
+        prefix,
+    )?;
+    overwrite(crash_state, place, &bytes)?;
     Ok(())
 }
 
@@ -85,16 +101,23 @@ fn spoilt(alloc: Global, there: &[u8], piece: &[u8], prefix: usize) -> Result<Ve
 }
 
 // A copy of what is seen, for a sync; a torn write; or nothing.
-fn replay(seen: &mut Vec<u8>, image: &mut Vec<u8>, made: &Made, choice: u64) -> Result<(), Memory>
-    ensures { OnOk result ((s : State) → seen.old.items ≡ s.seen → IsImage s image.old.items
-        → (seen.new.items ≡ (step s made.now).seen) × IsImage (step s made.now) image.new.items) }
+fn replay(
+    seen: &mut Vec<u8>,
+    crash_state: &mut Vec<u8>,
+    made: &Made,
+    choice: u64,
+) -> Result<(), Memory>
+    ensures { OnOk result
+        ((s : State) → seen.old.items ≡ s.seen → IsCrashState s crash_state.old.items
+        → (seen.new.items ≡ (step s made.now).seen)
+        × IsCrashState (step s made.now) crash_state.new.items) }
 {
     match &made.call {
         Call::Len => Ok(()),
         Call::Read { .. } => Ok(()),
         Call::Write { place, piece } => {
-            tear(image, *place, piece.as_slice(), choice)?;
-            law_known_bytes(image);
+            tear(crash_state, *place, piece.as_slice(), choice)?;
+            law_known_bytes(crash_state);
             if made.ok {
                 overwrite(seen, *place, piece.as_slice())?;
             }
@@ -102,7 +125,7 @@ fn replay(seen: &mut Vec<u8>, image: &mut Vec<u8>, made: &Made, choice: u64) -> 
         }
         Call::Sync => {
             if made.ok {
-                *image = Vec::from_slice(*seen.allocator(), seen)?;
+                *crash_state = Vec::from_slice(*seen.allocator(), seen)?;
             }
             Ok(())
         }
@@ -116,19 +139,19 @@ pub(crate) fn left(
     changes: &[Change],
     pick: u64,
 ) -> Result<Vec<u8>, Memory>
-    ensures { IfOk result (λ image. (only_reads : ℕ)
-        → IsImage (state_now first.now (calls_in changes.now only_reads)) image.items) }
+    ensures { IfOk result (λ crash_state. (only_reads : ℕ)
+        → IsCrashState (state_now first.now (calls_in changes.now only_reads)) crash_state.items) }
 {
     let mut seen = Vec::from_slice(alloc, first)?;
-    let mut image = Vec::from_slice(alloc, first)?;
+    let mut crash_state = Vec::from_slice(alloc, first)?;
     let mut choice = pick;
     for change in changes {
-        replay(&mut seen, &mut image, &change.made, choice)?;
+        replay(&mut seen, &mut crash_state, &change.made, choice)?;
         choice = match change.made.call {
             Call::Write { .. } => choice / 4 + choice % 4 * (1 << 62),
             Call::Sync if change.made.ok => pick,
             _ => choice,
         };
     }
-    Ok(image)
+    Ok(crash_state)
 }

@@ -5,12 +5,13 @@ ghost use Rattle.std.specs.Prelude.{◌≡◌, ◌+◌, ◌<◌, [], length, tru
 ghost use Rattle.std.specs.Prelude.{IfOk, OnOk, OnErr, IsTrue};
 ghost use Rattle.std.proofs.Props.{props};
 ghost use Rattle.byte_formats.specs.Types.{Text};
-ghost use Rattle.byte_formats.specs.Places.{IsBytes};
+ghost use Rattle.byte_formats.specs.Offsets.{IsBytes};
 ghost use Rattle.disk_core.specs.Disk.{overwritten, Torn, Follows, NoNew, Only, Elapses};
 ghost use Rattle.mtc_io.specs.Counts.{last_count};
 ghost use Rattle.disk_core.specs.Fuse.{is_change};
 ghost use Rattle.disk_core.specs.Noted.{made_calls};
-ghost use Rattle.disk_core.specs.Replay.{State, after_call, state_now, IsImage, LeftSince, noted};
+ghost use Rattle.disk_core.specs.Replay.{State, after_call, state_now, IsCrashState, LeftSince};
+ghost use Rattle.disk_core.specs.Replay.{noted};
 ghost use Rattle.disk_core.specs.Replay.{HoldsBytes, HoldsBytes-prop};
 
 use crate::memory::call::Call;
@@ -69,12 +70,12 @@ fn write_noted(
     ensures seen { (first : Text) → live.old.items ≡ (state_now first (made_calls calls.old)).seen
         → live.new.items ≡ (state_now first (made_calls calls.new)).seen }
     ensures crash { (first : Text) → Follows (Torn place piece.now)
-        (IsImage (state_now first (made_calls calls.old)))
-        (IsImage (state_now first (made_calls calls.new))) }
+        (IsCrashState (state_now first (made_calls calls.old)))
+        (IsCrashState (state_now first (made_calls calls.new))) }
     ensures time { (first : Text) → Elapses (length (made_calls calls.old))
         (length (made_calls calls.new)) (LeftSince first (made_calls calls.old))
         (LeftSince first (made_calls calls.new))
-        (IsImage (state_now first (made_calls calls.new))) }
+        (IsCrashState (state_now first (made_calls calls.new))) }
     ensures clock { OnOk result (length (made_calls calls.old) < length (made_calls calls.new)) }
     ensures calls { made_calls calls.new
         ≡ noted (is_ok result) (Call.Write place piece.now) true (made_calls calls.old) }
@@ -94,7 +95,7 @@ pub(crate) fn law_known_bytes(bytes: &[u8])
 }
 
 impl History {
-    ghost use Rattle.disk_core.specs.History.{seen_of, left_of, moment_of, since_of};
+    ghost use Rattle.disk_core.specs.History.{seen_of, left_of, clock_in, since_of};
 
     pub(crate) fn new(alloc: Global, first: Bytes) -> History
         ensures first { result.first ≡ first }
@@ -136,24 +137,24 @@ impl History {
     pub(crate) fn left(&self, alloc: Global, pick: u64) -> Result<Bytes, Memory>
         ensures { IfOk result (left_of self.now) }
     {
-        let image = left(alloc, self.first.as_slice(), &self.calls.changes, pick)?;
-        Ok(Bytes::from_vec(image))
+        let crash_state = left(alloc, self.first.as_slice(), &self.calls.changes, pick)?;
+        Ok(Bytes::from_vec(crash_state))
     }
 
     // A call that only reads. The record of changes stays as it is.
-    pub(crate) fn look(&mut self) -> Result<(), Memory>
+    pub(crate) fn note_read(&mut self) -> Result<(), Memory>
         ensures first { self.new.first ≡ self.old.first }
         ensures calls { made_calls self.new.calls
             ≡ noted (is_ok result) Call.Len true (made_calls self.old.calls) }
         ensures changes { self.new.calls.changes.items ≡ self.old.calls.changes.items }
-        ensures full { OnErr result (moment_of self.old ≡ last_count) }
+        ensures full { OnErr result (clock_in self.old ≡ last_count) }
         ensures seen { seen_of self.new ≡ seen_of self.old }
         ensures crash { NoNew (left_of self.old) (left_of self.new) }
-        ensures time { Elapses (moment_of self.old) (moment_of self.new) (since_of self.old)
+        ensures time { Elapses (clock_in self.old) (clock_in self.new) (since_of self.old)
             (since_of self.new) (left_of self.new) }
-        ensures clock { OnOk result (moment_of self.old < moment_of self.new) }
+        ensures clock { OnOk result (clock_in self.old < clock_in self.new) }
     {
-        self.calls.look()?;
+        self.calls.note_read()?;
         Ok(())
     }
 
@@ -166,25 +167,25 @@ impl History {
             ≡ noted (is_ok result) call ok (made_calls self.old.calls) }
         ensures seen { seen_of self.new ≡ seen_of self.old }
         ensures crash { NoNew (left_of self.old) (left_of self.new) }
-        ensures time { Elapses (moment_of self.old) (moment_of self.new) (since_of self.old)
+        ensures time { Elapses (clock_in self.old) (clock_in self.new) (since_of self.old)
             (since_of self.new) (left_of self.new) }
-        ensures clock { OnOk result (moment_of self.old < moment_of self.new) }
+        ensures clock { OnOk result (clock_in self.old < clock_in self.new) }
     {
         self.calls.note(call, ok)?;
         Ok(())
     }
 
     // A sync that is done: all is on the disk.
-    pub(crate) fn settle(&mut self) -> Result<(), Memory>
+    pub(crate) fn make_durable(&mut self) -> Result<(), Memory>
         ensures first { self.new.first ≡ self.old.first }
         ensures calls { made_calls self.new.calls
             ≡ noted (is_ok result) Call.Sync true (made_calls self.old.calls) }
         ensures durable { OnOk result (Only (seen_of self.old) (left_of self.new)) }
         ensures seen { seen_of self.new ≡ seen_of self.old }
         ensures crash { NoNew (left_of self.old) (left_of self.new) }
-        ensures time { Elapses (moment_of self.old) (moment_of self.new) (since_of self.old)
+        ensures time { Elapses (clock_in self.old) (clock_in self.new) (since_of self.old)
             (since_of self.new) (left_of self.new) }
-        ensures clock { OnOk result (moment_of self.old < moment_of self.new) }
+        ensures clock { OnOk result (clock_in self.old < clock_in self.new) }
     {
         self.calls.note(Call::Sync, true)?;
         Ok(())
@@ -198,7 +199,7 @@ impl History {
         ensures seen { seen_of self.new ≡ seen_of self.old }
         ensures crash { Follows (Torn place piece.now) (left_of self.old)
             (left_of self.new) }
-        ensures time { Elapses (moment_of self.old) (moment_of self.new) (since_of self.old)
+        ensures time { Elapses (clock_in self.old) (clock_in self.new) (since_of self.old)
             (since_of self.new) (left_of self.new) }
     {
         let piece = Bytes::copy_of(*self.live.allocator(), piece)?;
@@ -215,9 +216,9 @@ impl History {
         ensures err { OnErr result (seen_of self.new ≡ seen_of self.old) }
         ensures crash { Follows (Torn place piece.now) (left_of self.old)
             (left_of self.new) }
-        ensures time { Elapses (moment_of self.old) (moment_of self.new) (since_of self.old)
+        ensures time { Elapses (clock_in self.old) (clock_in self.new) (since_of self.old)
             (since_of self.new) (left_of self.new) }
-        ensures clock { OnOk result (moment_of self.old < moment_of self.new) }
+        ensures clock { OnOk result (clock_in self.old < clock_in self.new) }
     {
         wake(&self.first, &mut self.live, &mut self.is_live)?;
         write_noted(&mut self.live, &mut self.calls, place, piece)

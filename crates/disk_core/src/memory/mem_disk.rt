@@ -5,10 +5,10 @@ ghost use Rattle.std.specs.Prelude.{◌≡◌, ◌+◌, ◌≤◌, ◌<◌, [], 
 ghost use Rattle.std.specs.Prelude.{if◌then◌else◌, OnOk, OnErr, IfOk, IsTrue};
 ghost use Rattle.mtc_io.specs.Counts.{HasCause};
 ghost use Rattle.disk_core.specs.Disk.{overwritten, Torn, Follows, NoNew, Only, Elapses};
-ghost use Rattle.disk_core.specs.History.{seen_of, left_of, moment_of, since_of};
+ghost use Rattle.disk_core.specs.History.{seen_of, left_of, clock_in, since_of};
 ghost use Rattle.disk_core.specs.Calls.{are_changes};
 ghost use Rattle.disk_core.specs.Noted.{made_calls};
-ghost use Rattle.disk_core.specs.Plan.{LookTurn, NotedTurn, PlanTurn};
+ghost use Rattle.disk_core.specs.Plan.{ReadTurn, NotedTurn, PlanTurn};
 ghost use Rattle.disk_core.specs.ReplayLaws.{contents_seen, contents_are, contents_length};
 ghost use Rattle.disk_core.specs.ReplayLaws.{now_since};
 ghost use Rattle.disk_core.specs.ReplayLaws.{since_now, since_bytes};
@@ -48,35 +48,35 @@ impl Drop for MemDisk {
 }
 
 // A call that only reads.
-fn look(plan: &mut Plan, past: &mut History) -> Result<(), Failed>
+fn note_read(plan: &mut Plan, past: &mut History) -> Result<(), Failed>
     ensures seen { seen_of past.new ≡ seen_of past.old }
     ensures crash { NoNew (left_of past.old) (left_of past.new) }
-    ensures time { Elapses (moment_of past.old) (moment_of past.new) (since_of past.old)
+    ensures time { Elapses (clock_in past.old) (clock_in past.new) (since_of past.old)
         (since_of past.new) (left_of past.new) }
-    ensures clock { OnOk result (moment_of past.old < moment_of past.new) }
+    ensures clock { OnOk result (clock_in past.old < clock_in past.new) }
     ensures cause { HasCause plan.old.faults plan.new.faults result }
-    ensures turn { LookTurn plan.old past.old (is_ok result) plan.new past.new }
+    ensures turn { ReadTurn plan.old past.old (is_ok result) plan.new past.new }
 {
     if plan.is_listed(past.calls.len()) {
-        return match past.look() {
+        return match past.note_read() {
             Ok(()) => Err(plan.fail()),
-            Err(Memory) => Err(plan.starve()),
+            Err(Memory) => Err(plan.fail_allocation()),
         };
     }
-    match past.look() {
+    match past.note_read() {
         Ok(()) => Ok(()),
-        Err(Memory) => Err(plan.starve()),
+        Err(Memory) => Err(plan.fail_allocation()),
     }
 }
 
 // A sync, noted with its answer.
-fn settle(plan: &mut Plan, past: &mut History) -> Result<(), Failed>
+fn make_durable(plan: &mut Plan, past: &mut History) -> Result<(), Failed>
     ensures durable { OnOk result (Only (seen_of past.old) (left_of past.new)) }
     ensures seen { seen_of past.new ≡ seen_of past.old }
     ensures crash { NoNew (left_of past.old) (left_of past.new) }
-    ensures time { Elapses (moment_of past.old) (moment_of past.new) (since_of past.old)
+    ensures time { Elapses (clock_in past.old) (clock_in past.new) (since_of past.old)
         (since_of past.new) (left_of past.new) }
-    ensures clock { OnOk result (moment_of past.old < moment_of past.new) }
+    ensures clock { OnOk result (clock_in past.old < clock_in past.new) }
     ensures cause { HasCause plan.old.faults plan.new.faults result }
     ensures turn { NotedTurn plan.old past.old
         (record { call = Call.Sync; ok = is_ok result }) (is_ok result) plan.new past.new }
@@ -84,12 +84,12 @@ fn settle(plan: &mut Plan, past: &mut History) -> Result<(), Failed>
     if plan.is_listed(past.calls.len()) {
         return match past.note(Call::Sync, false) {
             Ok(()) => Err(plan.fail()),
-            Err(Memory) => Err(plan.starve()),
+            Err(Memory) => Err(plan.fail_allocation()),
         };
     }
-    match past.settle() {
+    match past.make_durable() {
         Ok(()) => Ok(()),
-        Err(Memory) => Err(plan.starve()),
+        Err(Memory) => Err(plan.fail_allocation()),
     }
 }
 
@@ -98,9 +98,9 @@ fn write(plan: &mut Plan, past: &mut History, place: u64, piece: &[u8]) -> Resul
     ensures ok { OnOk result (seen_of past.new ≡ overwritten place piece.now (seen_of past.old)) }
     ensures err { OnErr result (seen_of past.new ≡ seen_of past.old) }
     ensures crash { Follows (Torn place piece.now) (left_of past.old) (left_of past.new) }
-    ensures time { Elapses (moment_of past.old) (moment_of past.new) (since_of past.old)
+    ensures time { Elapses (clock_in past.old) (clock_in past.new) (since_of past.old)
         (since_of past.new) (left_of past.new) }
-    ensures clock { OnOk result (moment_of past.old < moment_of past.new) }
+    ensures clock { OnOk result (clock_in past.old < clock_in past.new) }
     ensures cause { HasCause plan.old.faults plan.new.faults result }
     ensures turn { NotedTurn plan.old past.old
         (record { call = Call.Write place piece.now; ok = is_ok result }) (is_ok result) plan.new
@@ -109,18 +109,19 @@ fn write(plan: &mut Plan, past: &mut History, place: u64, piece: &[u8]) -> Resul
     if plan.is_listed(past.calls.len()) {
         return match past.fail_write(place, piece) {
             Ok(()) => Err(plan.fail()),
-            Err(Memory) => Err(plan.starve()),
+            Err(Memory) => Err(plan.fail_allocation()),
         };
     }
     match past.write(place, piece) {
         Ok(()) => Ok(()),
-        Err(Memory) => Err(plan.starve()),
+        Err(Memory) => Err(plan.fail_allocation()),
     }
 }
 
 impl MemDisk {
-    ghost use Rattle.disk_core.specs.Memory.{bytes_of, images_of, changes_of, known_of, made_of};
-    ghost use Rattle.disk_core.specs.Memory.{failing_of, faults_of, starved_of, IsFresh};
+    ghost use Rattle.disk_core.specs.Memory.{bytes_of, crash_states_of, changes_of, known_of};
+    ghost use Rattle.disk_core.specs.Memory.{made_of};
+    ghost use Rattle.disk_core.specs.Memory.{failing_of, faults_of, failed_allocations_of, IsFresh};
     ghost use Rattle.disk_core.specs.Same.{SameDevice};
 
     /// An empty disk that fails the calls with these numbers.
@@ -145,13 +146,13 @@ impl MemDisk {
 
     /// A copy that reads alike and leaves the same after a crash. Its count of failures and its
     /// known length begin at 0; the numbers of its calls continue.
-    pub fn lend(&self) -> Result<MemDisk, Memory>
+    pub fn open_copy(&self) -> Result<MemDisk, Memory>
         ensures same { IfOk result (λ it. SameDevice ⟦<MemDisk as Disk>⟧ self.now it) }
         ensures known { IfOk result (λ it. known_of it ≡ 0) }
         ensures made { IfOk result (λ it. made_of it ≡ made_of self.now) }
         ensures failing { IfOk result (λ it. failing_of it ≡ failing_of self.now) }
         ensures faults { IfOk result (λ it. faults_of it ≡ 0) }
-        ensures starved { IfOk result (λ it. starved_of it ≡ 0) }
+        ensures failed_allocations { IfOk result (λ it. failed_allocations_of it ≡ 0) }
     {
         let alloc = *self.plan.failing.allocator();
         let failing = Vec::from_slice(alloc, &self.plan.failing)?;
@@ -169,13 +170,13 @@ impl MemDisk {
     /// the length of the prefix, in quarters. They are those that choose for the next write. The
     /// same pick gives the same crash state.
     pub fn crash(self, pick: u64) -> Result<MemDisk, Memory>
-        ensures image { IfOk result (λ it. images_of self (bytes_of it)) }
+        ensures crash_state { IfOk result (λ it. crash_states_of self (bytes_of it)) }
         ensures fresh { IfOk result (λ it. IsFresh (bytes_of it) it) }
         ensures failing { IfOk result (λ it. failing_of it ≡ []) }
     {
         let alloc = *self.plan.failing.allocator();
-        let image = self.past.left(alloc, pick)?;
-        Ok(MemDisk::over(alloc, image, Vec::new(alloc)))
+        let crash_state = self.past.left(alloc, pick)?;
+        Ok(MemDisk::over(alloc, crash_state, Vec::new(alloc)))
     }
 
     /// What a read gives.
@@ -216,10 +217,10 @@ impl MemDisk {
     }
 
     /// The count of those that found no memory: each adds one, up to the last value.
-    pub fn starved(&self) -> u64
-        ensures { result ≡ starved_of self.now }
+    pub fn failed_allocations(&self) -> u64
+        ensures { result ≡ failed_allocations_of self.now }
     {
-        self.plan.starved
+        self.plan.failed_allocations
     }
 }
 
@@ -228,7 +229,7 @@ impl Disk for MemDisk {
 
     ghost known = { λ m. m.known };
 
-    ghost moment = { λ m. moment_of m.past };
+    ghost clock_at = { λ m. clock_in m.past };
 
     ghost may_leave = { λ m. left_of m.past };
 
@@ -239,7 +240,7 @@ impl Disk for MemDisk {
     ghost turn = { λ m call ok n. PlanTurn m.plan m.past call ok n.plan n.past };
 
     fn len(&mut self) -> Result<u64, Failed> {
-        look(&mut self.plan, &mut self.past)?;
+        note_read(&mut self.plan, &mut self.past)?;
         let length = self.past.bytes().len() as u64;
         self.known = self.known.max(length);
         Ok(length)
@@ -247,7 +248,7 @@ impl Disk for MemDisk {
 
     fn read_at(&mut self, place: u64, out: &mut [u8]) -> Result<(), Failed> {
         let size = out.len();
-        look(&mut self.plan, &mut self.past)?;
+        note_read(&mut self.plan, &mut self.past)?;
         let start = place as usize;
         out.copy_from_slice(&self.past.bytes()[start..start + size]);
         Ok(())
@@ -260,10 +261,10 @@ impl Disk for MemDisk {
     }
 
     fn sync(&mut self) -> Result<(), Failed> {
-        settle(&mut self.plan, &mut self.past)
+        make_durable(&mut self.plan, &mut self.past)
     }
 
-    ghost reads_image = { λ m b is. contents_seen m.past.first (made_calls m.past.calls) b
+    ghost reads_crash_state = { λ m b is. contents_seen m.past.first (made_calls m.past.calls) b
         m.past.are_bytes is };
 
     ghost contents_bytes = { λ m b is. contents_are m.past.first (made_calls m.past.calls) b

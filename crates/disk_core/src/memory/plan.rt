@@ -11,17 +11,17 @@ use mtc_io::Failed;
 pub(crate) struct Plan {
     pub(crate) failing: Vec<u64>,
     pub(crate) faults: u64,
-    pub(crate) starved: u64,
+    pub(crate) failed_allocations: u64,
 }
 
 impl Plan {
     pub(crate) fn new(failing: Vec<u64>) -> Plan
-        ensures { result ≡ record { failing = failing; faults = 0; starved = 0 } }
+        ensures { result ≡ record { failing = failing; faults = 0; failed_allocations = 0 } }
     {
         Plan {
             failing,
             faults: 0,
-            starved: 0,
+            failed_allocations: 0,
         }
     }
 
@@ -38,22 +38,23 @@ impl Plan {
         ensures later { self.old.faults ≤ self.new.faults }
         ensures failed { Rose self.old.faults self.new.faults }
         ensures faults { self.new.faults ≡ with_count self.old.faults 1 }
-        ensures starved { self.new.starved ≡ self.old.starved }
+        ensures failed_allocations { self.new.failed_allocations ≡ self.old.failed_allocations }
     {
         self.faults = self.faults.saturating_add(1);
         Failed
     }
 
     // The call finds no memory.
-    pub(crate) fn starve(&mut self) -> Failed
+    pub(crate) fn fail_allocation(&mut self) -> Failed
         ensures failing { self.new.failing ≡ self.old.failing }
         ensures later { self.old.faults ≤ self.new.faults }
         ensures failed { Rose self.old.faults self.new.faults }
         ensures faults { self.new.faults ≡ with_count self.old.faults 1 }
-        ensures starved { self.new.starved ≡ with_count self.old.starved 1 }
+        ensures failed_allocations { self.new.failed_allocations
+            ≡ with_count self.old.failed_allocations 1 }
     {
         self.faults = self.faults.saturating_add(1);
-        self.starved = self.starved.saturating_add(1);
+        self.failed_allocations = self.failed_allocations.saturating_add(1);
         Failed
     }
 }

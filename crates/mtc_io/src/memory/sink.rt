@@ -23,7 +23,7 @@ pub struct MemSink {
     calls: u64,
     failing: Vec<u64>,
     faults: u64,
-    starved: u64,
+    failed_allocations: u64,
 }
 
 impl Model for MemSink {
@@ -35,7 +35,7 @@ impl Model for MemSink {
       calls = s.calls;
       failing = s.failing.items;
       faults = s.faults;
-      starved = s.starved;
+      failed_allocations = s.failed_allocations;
     } };
 
     ghost invariant = { λ s. 0 < s.per_call };
@@ -51,7 +51,7 @@ impl MemSink {
           calls = 0;
           failing = failing.items;
           faults = 0;
-          starved = 0;
+          failed_allocations = 0;
         } }
     {
         MemSink {
@@ -60,7 +60,7 @@ impl MemSink {
             calls: 0,
             failing,
             faults: 0,
-            starved: 0,
+            failed_allocations: 0,
         }
     }
 
@@ -72,10 +72,10 @@ impl MemSink {
     }
 
     /// How often it found no memory.
-    pub fn starved(&self) -> u64
-        ensures { result ≡ self.now.starved }
+    pub fn failed_allocations(&self) -> u64
+        ensures { result ≡ self.now.failed_allocations }
     {
-        self.starved
+        self.failed_allocations
     }
 }
 
@@ -94,9 +94,9 @@ impl Sink for MemSink {
         ensures most { IfOk result (λ count. count ≡ min self.old.per_call (length piece.now)) }
         ensures listed { IsTrue (list_any (λ k. k == self.old.calls) self.old.failing)
             → IsTrue (is_err result) }
-        ensures starved { self.new.starved ≡ (if is_err result
+        ensures failed_allocations { self.new.failed_allocations ≡ (if is_err result
             && not (list_any (λ k. k == self.old.calls) self.old.failing)
-            then with_count self.old.starved 1 else self.old.starved) }
+            then with_count self.old.failed_allocations 1 else self.old.failed_allocations) }
         ensures calls { self.new.calls ≡ with_count self.old.calls 1 }
         ensures failing { self.new.failing ≡ self.old.failing }
         ensures per_call { self.new.per_call ≡ self.old.per_call }
@@ -110,7 +110,7 @@ impl Sink for MemSink {
         let count = self.per_call.min(piece.len());
         if self.bytes.append(&piece[..count]).is_err() {
             self.faults = self.faults.saturating_add(1);
-            self.starved = self.starved.saturating_add(1);
+            self.failed_allocations = self.failed_allocations.saturating_add(1);
             return Err(Failed);
         }
         Ok(count)

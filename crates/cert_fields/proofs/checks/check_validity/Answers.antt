@@ -11,7 +11,7 @@ returns-clause-within c =
     read_within (λ v. v.0) IsValidity Anything validity_at validity_form c.args.input.now
     c.args.place (λ i. (c.type_inv.input i).fits) c.requires
     c.at-reader.result (
-      c.in_ok-moments.field-0-0.now,
-      period c.in_ok-moments.moments,
+      c.in_ok-unix_times.field-0-0.now,
+      period c.in_ok-unix_times.unix_times,
     ) c.read_validity.new.reader c.place.result
-    c.at-reader.ensures c.in_ok-moments.ensures c.place.ensures
+    c.at-reader.ensures c.in_ok-unix_times.ensures c.place.ensures

@@ -3,7 +3,7 @@ use Rattle.cert_fields.specs.Extensions.{are_repeated, head_at, identifiers}
 use Rattle.cert_fields.specs.Views.{texts}
 use Rattle.byte_formats.proofs.Left.{first_none}
 use Rattle.cert_fields.proofs.Walks.{taken_of}
-use Rattle.cert_fields.proofs.Twice.{repeated_prefix, repeated_across, repeated_behind}
+use Rattle.cert_fields.proofs.Twice.{repeated_prefix, repeated_across, repeated_after}
 use Rattle.cert_fields.proofs.Twice.{among_prefix}
 use Rattle.cert_fields.proofs.repeats.has_repeats_by.Goals.{then-sort_block-via-then-sort_block}
 use Rattle.cert_fields.proofs.repeats.has_repeats_by.Goals.{then-sort_block-via-else-sort_block+then-is_met}
@@ -41,7 +41,7 @@ loop-left-preserved c =
     c.take_block-taken.ensures.within.1 c.sort_block.ensures.permutation in
     let none = sym c.sort_block.ensures.repeats ∙ c.if-sort_block.false in
     let apart = sym among ∙ (sym c.is_met.ensures ∙ c.if-is_met.false) in
-    sym (repeated_behind (texts (take taken block)) ids none apart)
+    sym (repeated_after (texts (take taken block)) ids none apart)
     ∙ (ap are_repeated (sym split) ∙ c.loop-left.invariant)
 
 pub returns : goal.returns

@@ -4,13 +4,13 @@ use Rattle.std.specs.Int.{w128}
 use Rattle.jiff_core.specs.declared.civil.datetime.DateTime.{DateTime}
 use Rattle.jiff_core.specs.DateTime.{civil_nanos, civil_seconds}
 use Rattle.jiff_core.proofs.SignedLemmas.{signed_arith}
-use Rattle.cert_time.specs.Calendar.{IsMoment}
-use Rattle.cert_time.proofs.Moments.{civil_seconds-nanos, year-from_1950, civil_of-parts}
-use Rattle.cert_time.proofs.Moments.{nonnegative}
+use Rattle.cert_time.specs.Calendar.{IsUnixTime}
+use Rattle.cert_time.proofs.UnixTimes.{civil_seconds-nanos, year-from_1950, civil_of-parts}
+use Rattle.cert_time.proofs.UnixTimes.{nonnegative}
 use Rattle.cert_time.proofs.calendar.civil_at.Goals as goal
 
 -- the code's product doesn't wrap
-seconds_is : (z : ℤ) (dt : DateTime) → FitsSigned w64 z → IsMoment z
+seconds_is : (z : ℤ) (dt : DateTime) → FitsSigned w64 z → IsUnixTime z
     → civil_nanos dt ≡ to_z w128 (of_z w128 (to_z w128 (of_z w128 (to_z w64 (of_z w64 z))) *ℤ pos
     1_000_000_000)) → civil_seconds dt ≡ z
 seconds_is z dt f64 h e =

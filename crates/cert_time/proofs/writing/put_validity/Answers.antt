@@ -1,10 +1,10 @@
 use Rattle.std.proofs.Common.{◌∙◌, ap, arith, w64, ℤ, FitsSigned, to_z-of_z}
 use Rattle.jiff_core.proofs.SignedLemmas.{signed_arith}
-use Rattle.cert_time.specs.Calendar.{civil_of, IsMoment}
+use Rattle.cert_time.specs.Calendar.{civil_of, IsUnixTime}
 use Rattle.cert_time.specs.Times.{validity_element, time_tag, time_contents}
 use Rattle.cert_time.proofs.writing.put_validity.Goals as goal
 
-fits : (z : ℤ) → IsMoment z → FitsSigned w64 z
+fits : (z : ℤ) → IsUnixTime z → FitsSigned w64 z
 fits z h = omega (arith, signed_arith)
 
 pub returns-else-is_err-clause-ok : goal.returns-else-is_err-clause-ok

@@ -4,9 +4,9 @@ use Rattle.std.specs.Prelude.{IsSome, is_some}
 use Rattle.std.proofs.lemmas.Bool.{false≢true}
 use Rattle.tree_proofs.proofs.Opens.{open_of-short}
 use Rattle.tree_proofs.specs.Open.{open_of}
-use Rattle.collide.proofs.OpenSteps.{ComparesProof, behind_order, part_counted, proof_found}
-use Rattle.collide.proofs.OpenSteps.{proof_left, proof_right, step_behind, step_left, step_some}
-use Rattle.collide.specs.Behind.{IsBehind}
+use Rattle.collide.proofs.OpenSteps.{ComparesProof, after_order, part_counted, proof_found}
+use Rattle.collide.proofs.OpenSteps.{proof_left, proof_right, step_following, step_left, step_some}
+use Rattle.collide.specs.After.{IsFollowing}
 use Rattle.collide.proofs.consistency.+compare_proof.Goals as goal
 
 pub unreachable-requires : goal.unreachable-requires
@@ -77,25 +77,26 @@ compare_proof-requires-2 g t c κs within =
     let part = part_counted c.args.start c.args.end _ (length items) c.len-count.ensures
     c.requires.within c.else-start-eq0.either in
     let all = c.halves-left.ensures.all in
-    let some : IsSome (open_of h c.behind-from.result.0 c.behind-from.result.1
-    (length right) c.behind-from.result.2 c.args.node.now
+    let some : IsSome (open_of h c.following-from.result.0 c.following-from.result.1
+    (length right) c.following-from.result.2 c.args.node.now
     c.in-Some.rest.now) =
     step_some _ _ (λ given gives.
-    let step = step_behind h _ _ _ c.args.start c.args.end (length items)
-    (length left) (length right) c.behind-from.result.0
-    c.behind-from.result.1 c.args.known c.behind-from.result.2 c.args.node.now
+    let step = step_following h _ _ _ c.args.start c.args.end (length items)
+    (length left) (length right) c.following-from.result.0
+    c.following-from.result.1 c.args.known c.following-from.result.2 c.args.node.now
     c.in-Some.sibling.now c.args.proof.now c.in-Some.rest.now
     c.halves-left.ensures
     c.in-Some.ensures.cases.0 refl
     refl refl
     c.requires.within (omega (arith, c.len-middle.ensures, c.if-end-middle.false)) part
-    (subst (λ (m : ℕ). IsBehind m c.args.start c.args.end c.args.known c.behind-from.result.0
-    c.behind-from.result.1 c.behind-from.result.2) c.len-middle.ensures c.behind-from.ensures)
+    (subst (λ (m : ℕ). IsFollowing m c.args.start c.args.end c.args.known c.following-from.result.0
+    c.following-from.result.1 c.following-from.result.2) c.len-middle.ensures
+    c.following-from.ensures)
     given gives in
     (step.below, step.gives)) c.requires.gives in
-    let last = c.behind-from.ensures.last in
-    let order : c.behind-from.result.0 < c.behind-from.result.1 =
-    behind_order c.behind-from.ensures c.requires.order
+    let last = c.following-from.ensures.last in
+    let order : c.following-from.result.0 < c.following-from.result.1 =
+    after_order c.following-from.ensures c.requires.order
     (omega (arith, c.len-middle.ensures, c.if-end-middle.false)) in
     search rules
 
@@ -112,16 +113,17 @@ returns-in_err-below-2 g t c =
     subst (ComparesProof h items c.args.start c.args.end
     (length items) c.args.known c.args.node.now c.args.proof.now) is
     (proof_found h _ _ _ _ _ _ _ _ _ _ _ _ _ _ _ _ _ c.in_err-below-2.field-0.0
-    (step_behind h _ _ _ c.args.start c.args.end (length items)
-    (length left) (length right) c.behind-from.result.0
-    c.behind-from.result.1 c.args.known c.behind-from.result.2 c.args.node.now
+    (step_following h _ _ _ c.args.start c.args.end (length items)
+    (length left) (length right) c.following-from.result.0
+    c.following-from.result.1 c.args.known c.following-from.result.2 c.args.node.now
     c.in-Some.sibling.now c.args.proof.now c.in-Some.rest.now
     c.halves-left.ensures
     c.in-Some.ensures.cases.0 refl
     refl refl
     c.requires.within (omega (arith, c.len-middle.ensures, c.if-end-middle.false)) part
-    (subst (λ (m : ℕ). IsBehind m c.args.start c.args.end c.args.known c.behind-from.result.0
-    c.behind-from.result.1 c.behind-from.result.2) c.len-middle.ensures c.behind-from.ensures))
+    (subst (λ (m : ℕ). IsFollowing m c.args.start c.args.end c.args.known c.following-from.result.0
+    c.following-from.result.1 c.following-from.result.2) c.len-middle.ensures
+    c.following-from.ensures))
     c.in_err-below-2.ensures)
 
 pub returns : goal.returns
@@ -134,14 +136,15 @@ returns g t c =
     c.requires.within c.else-start-eq0.either in
     proof_right h _ _ _ _ _ _ _ _ _ _ _ _ c.list_hash-2.result
     c.in-Some.sibling.now _ _ c.in_ok-below-2.below _
-    (step_behind h _ _ _ c.args.start c.args.end (length items)
-    (length left) (length right) c.behind-from.result.0
-    c.behind-from.result.1 c.args.known c.behind-from.result.2 c.args.node.now
+    (step_following h _ _ _ c.args.start c.args.end (length items)
+    (length left) (length right) c.following-from.result.0
+    c.following-from.result.1 c.args.known c.following-from.result.2 c.args.node.now
     c.in-Some.sibling.now c.args.proof.now c.in-Some.rest.now
     c.halves-left.ensures
     c.in-Some.ensures.cases.0 refl
     refl refl
     c.requires.within (omega (arith, c.len-middle.ensures, c.if-end-middle.false)) part
-    (subst (λ (m : ℕ). IsBehind m c.args.start c.args.end c.args.known c.behind-from.result.0
-    c.behind-from.result.1 c.behind-from.result.2) c.len-middle.ensures c.behind-from.ensures))
+    (subst (λ (m : ℕ). IsFollowing m c.args.start c.args.end c.args.known c.following-from.result.0
+    c.following-from.result.1 c.following-from.result.2) c.len-middle.ensures
+    c.following-from.ensures))
     c.list_hash-2.ensures c.in_ok-below-2.ensures c.compare_pairs-2.ensures

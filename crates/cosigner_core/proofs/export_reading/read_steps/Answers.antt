@@ -23,9 +23,9 @@ pub loop-cursor-preserved : goal.loop-cursor-preserved
 loop-cursor-preserved g c =
     let count : c.len.result + 1 ≡ length c.loop-cursor.steps.items + 1 = omega arith in
     steps_more g.H.TreeHash.hash c.args.keys _ c.loop-cursor.steps.items c.push.new.steps.items
-    c.loop-cursor.progress c.in_ok-step.behind c.loop-cursor.cursor (c.len.result + 1)
+    c.loop-cursor.progress c.in_ok-step.following c.loop-cursor.cursor (c.len.result + 1)
     (step_said c.in_ok-step.step) c.read_record.new.cursor count c.in_ok-step.ensures.exact
-    c.in_ok-step.ensures.forward (c.in_ok-push.ensures {u = tt}) c.in_ok-step.ensures.behind
+    c.in_ok-step.ensures.forward (c.in_ok-push.ensures {u = tt}) c.in_ok-step.ensures.following
     c.loop-cursor.invariant
 
 pub returns : goal.returns

@@ -3,7 +3,7 @@ use Rattle.byte_formats.specs.Types.{Text}
 use Rattle.cosigner_core.specs.Progress.{may_follow_cosigner, progress_after, progress_in}
 use Rattle.cosigner_core.specs.Records.{step_in}
 use Rattle.cosigner_core.specs.declared.progress.Progress.{Progress}
-use Rattle.cosigner_core.proofs.Behind.{begins_with, brought, follows_not, follows_on, last_follows}
+use Rattle.cosigner_core.proofs.After.{begins_with, brought, follows_not, follows_on, last_follows}
 use Rattle.cosigner_core.proofs.following.may_follow.Goals as goal
 
 pub loop-earlier-init : goal.loop-earlier-init
@@ -24,7 +24,7 @@ loop-earlier-preserved g c =
     c.earlier-item.result c.args.body.now c.loop-earlier-test.true c.earlier-item.is
     c.loop-earlier.invariant (ap (λ (body : Text). option_and_then
     (progress_after h keys c.loop-earlier.progress) (step_in body)) (sym c.as_slice.ensures)
-    ∙ sym c.behind.ensures ∙ c.in-Some.is)
+    ∙ sym c.next_progress.ensures ∙ c.in-Some.is)
 
 pub returns-in_default : goal.returns-in_default
 returns-in_default g c =
@@ -35,7 +35,7 @@ returns-in_default g c =
     c.loop-earlier.progress bodies c.loop-earlier.earlier-index c.earlier-item.result
     c.args.body.now c.loop-earlier-test.true c.earlier-item.is c.loop-earlier.invariant
     (ap (λ (body : Text). option_and_then (progress_after h keys c.loop-earlier.progress)
-    (step_in body)) (sym c.as_slice.ensures) ∙ sym c.behind.ensures ∙ c.in_default.is)
+    (step_in body)) (sym c.as_slice.ensures) ∙ sym c.next_progress.ensures ∙ c.in_default.is)
     ∙ ap (λ (n : ℕ). may_follow_cosigner h n (bodies ++ c.args.body.now ∷ [])) c.leaves-keys.ensures
 
 pub returns : goal.returns
@@ -44,6 +44,6 @@ returns g c =
     let keys = c.leaves-keys.result in
     let bodies = c.args.bodies.now in
     c.is_some.ensures ∙ last_follows h keys (progress_in h keys (bodies ++ c.args.body.now ∷ []))
-    c.behind-2.result c.loop-earlier.progress bodies c.loop-earlier.earlier-index
-    c.args.body.now c.loop-earlier-test.false c.loop-earlier.invariant c.behind-2.ensures
+    c.next_progress-2.result c.loop-earlier.progress bodies c.loop-earlier.earlier-index
+    c.args.body.now c.loop-earlier-test.false c.loop-earlier.invariant c.next_progress-2.ensures
     ∙ ap (λ (n : ℕ). may_follow_cosigner h n (bodies ++ c.args.body.now ∷ [])) c.leaves-keys.ensures

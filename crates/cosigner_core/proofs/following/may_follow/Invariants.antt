@@ -1,6 +1,6 @@
 use Rattle.std.proofs.Common.{◌≡◌, [], ◌∷◌, ◌++◌, drop}
 use Rattle.cosigner_core.specs.Progress.{progress_in}
-use Rattle.cosigner_core.proofs.Behind.{brought}
+use Rattle.cosigner_core.proofs.After.{brought}
 use Rattle.cosigner_core.proofs.following.may_follow.Given as goal
 
 -- the rest of the records and the last one decide

@@ -1,8 +1,8 @@
-use Rattle.cosigner_core.proofs.Behind.{begins_so, once_each, only_begins}
+use Rattle.cosigner_core.proofs.After.{begins_so, once_each, only_begins}
 use Rattle.cosigner_core.proofs.laws.law_cosigners_begin_with_their_settings.Goals as goal
 
-pub returns-clause-behind : goal.returns-clause-behind
-returns-clause-behind c = begins_so
+pub returns-clause-following : goal.returns-clause-following
+returns-clause-following c = begins_so
 
 pub returns-clause-only : goal.returns-clause-only
 returns-clause-only c = only_begins

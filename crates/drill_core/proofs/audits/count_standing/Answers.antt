@@ -2,7 +2,7 @@ use Rattle.std.proofs.Common.{◌≡◌, ◌+◌, ◌++◌, [], ◌∷◌, ℕ, 
 use Rattle.std.proofs.lemmas.List.{take_all}
 use Rattle.std.specs.Prelude.{◌↔◌}
 use Rattle.byte_formats.specs.Types.{Text}
-use Rattle.drill_nodes.proofs.Pairs.{prefix_more}
+use Rattle.drill_parties.proofs.Pairs.{prefix_more}
 use Rattle.drill_core.specs.Audits.{AllByExport, StandsByExport}
 use Rattle.drill_core.proofs.Turns.{counted_more}
 use Rattle.drill_core.proofs.audits.count_standing.Goals as goal

@@ -15,5 +15,5 @@ returns-in-Ok g c =
           (log_records c.in-Ok.log) (shown_with (view_of c.in-Ok.log))
           (opened.list ∙ ap (option_map records_of) opened.only_reads.contents) opened.found;
       valid = opened.valid;
-      images = opened.all;
+      crash_states = opened.all;
     }

@@ -3,7 +3,7 @@ use Rattle.tree_core.specs.declared.spans.Span.{Span}
 use Rattle.landmarks.specs.Landmarks.{active_of}
 use Rattle.issuance_log.specs.Staying.{stays_alone, stays_both}
 use Rattle.issuance_log.specs.Words.{log_disk, log_tiles_disk}
-use Rattle.drill_core.specs.Nodes.{log_seen}
+use Rattle.drill_core.specs.Parties.{log_seen}
 use Rattle.policy_core.specs.declared.lists.Trusted.{Trusted}
 use Rattle.drill_core.specs.LightStores.{AreOfLandmarks, cover_with}
 use Rattle.drill_core.proofs.OwnSubtrees.{next_landmark, none_of_landmarks}

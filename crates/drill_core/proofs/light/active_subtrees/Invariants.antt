@@ -1,6 +1,6 @@
 use Rattle.landmarks.specs.Landmarks.{active_of}
 use Rattle.issuance_log.specs.Words.{LogStays}
-use Rattle.drill_core.specs.Nodes.{log_seen}
+use Rattle.drill_core.specs.Parties.{log_seen}
 use Rattle.drill_core.specs.LightStores.{AreOfLandmarks}
 use Rattle.drill_core.proofs.light.active_subtrees.Given as goal
 

@@ -2,7 +2,7 @@ use Rattle.std.proofs.Common.{◌≡◌, ◌∙◌, ◌-◌, ℕ, length, Ok, Er
 use Rattle.std.specs.Prelude.{pos}
 use Rattle.byte_formats.specs.Types.{Text}
 use Rattle.issuance_log.specs.Folds.{LogState}
-use Rattle.drill_core.specs.Nodes.{log_seen}
+use Rattle.drill_core.specs.Parties.{log_seen}
 use Rattle.policy_core.specs.Judgement.{judgement}
 use Rattle.authority_core.specs.Acceptance.{StoresAcceptLightly}
 use Rattle.authority_core.specs.Certificates.{IsLightlyWritten}

@@ -1,7 +1,7 @@
 use Rattle.std.proofs.Common.{◌∙◌, ap}
 use Rattle.issuance_log.specs.Folds.{LogState}
 use Rattle.issuance_log.specs.Staying.{stays_both}
-use Rattle.drill_core.specs.Nodes.{log_seen}
+use Rattle.drill_core.specs.Parties.{log_seen}
 use Rattle.drill_core.specs.LightStores.{with_hash}
 use Rattle.drill_core.proofs.OwnSubtrees.{put_both}
 use Rattle.drill_core.proofs.OnlyRead.{seen_stays}

@@ -1,6 +1,6 @@
 use Rattle.std.proofs.Common.{ap, sym, ◌∙◌, ◌++◌}
 use Rattle.issuance_log.specs.Staying.{stays_both}
-use Rattle.drill_core.specs.Nodes.{log_seen}
+use Rattle.drill_core.specs.Parties.{log_seen}
 use Rattle.entry_list.specs.Items.{file_text, listed_text}
 use Rattle.drill_core.specs.Listed.{log_items}
 use Rattle.entry_list.proofs.OwnKeys.{items_more}

@@ -1,6 +1,6 @@
 use Rattle.std.proofs.Common.{◌≡◌}
 use Rattle.issuance_log.specs.Words.{LogStays}
-use Rattle.drill_core.specs.Nodes.{log_seen}
+use Rattle.drill_core.specs.Parties.{log_seen}
 use Rattle.entry_list.specs.Items.{file_text}
 use Rattle.drill_core.specs.Listed.{log_items}
 use Rattle.drill_core.proofs.listed.item_file.Given as goal

@@ -1,4 +1,4 @@
-use Rattle.drill_core.specs.Nodes.{log_seen}
+use Rattle.drill_core.specs.Parties.{log_seen}
 use Rattle.drill_core.proofs.ListedItems.{is_item}
 use Rattle.drill_core.proofs.listed.read_item.Goals as goal
 

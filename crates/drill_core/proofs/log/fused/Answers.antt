@@ -3,18 +3,18 @@ use Rattle.disk_core.specs.declared.memory.mem_disk.MemDisk.{MemDisk}
 use Rattle.std.specs.Prelude.{Option, IfSome}
 use Rattle.issuance_log.specs.Folds.{LogState, view_in}
 use Rattle.issuance_log.specs.Words.{view_of}
-use Rattle.drill_core.specs.LogNodes.{log_shown}
-use Rattle.drill_core.specs.Nodes.{IsLogDisk}
-use Rattle.drill_nodes.specs.Disks.{records_on}
+use Rattle.drill_core.specs.LogParties.{log_shown}
+use Rattle.drill_core.specs.Parties.{IsLogDisk}
+use Rattle.drill_parties.specs.Disks.{records_on}
 use Rattle.drill_core.proofs.log.fused.Goals as goal
 
 pub returns-clause-state : goal.returns-clause-state
 returns-clause-state g c =
-    let stands : IsLogDisk g.H.TreeHash.hash (log_shown c.args.node) c.new-fuse.result.disk =
-    subst (λ (d : MemDisk). IsLogDisk g.H.TreeHash.hash (log_shown c.args.node) d)
-    (sym (c.new-fuse.ensures.disk ∙ c.into_disks-disk.ensures.journal)) c.args.node.stands in
+    let stands : IsLogDisk g.H.TreeHash.hash (log_shown c.args.party) c.new-fuse.result.disk =
+    subst (λ (d : MemDisk). IsLogDisk g.H.TreeHash.hash (log_shown c.args.party) d)
+    (sym (c.new-fuse.ensures.disk ∙ c.into_disks-disk.ensures.journal)) c.args.party.stands in
     let found = c.in_ok-log.ensures.found (records_on c.new-fuse.result.disk)
-    (log_shown c.args.node) stands.holds stands.valid in
+    (log_shown c.args.party) stands.holds stands.valid in
     record {
       sound = c.in_ok-log.ensures.sound;
       state = found.1;

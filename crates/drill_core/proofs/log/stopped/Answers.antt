@@ -1,17 +1,17 @@
 use Rattle.std.proofs.Common.{arith}
 use Rattle.std.proofs.lemmas.List.{length-append}
 use Rattle.std.proofs.lemmas.Result.{IfOk-weaker}
-use Rattle.disk_core.specs.Memory.{bytes_of, images_of}
-use Rattle.drill_core.specs.LogNodes.{log_shown}
+use Rattle.disk_core.specs.Memory.{bytes_of, crash_states_of}
+use Rattle.drill_core.specs.LogParties.{log_shown}
 use Rattle.drill_core.proofs.Stops.{reopened}
 use Rattle.drill_core.proofs.log.stopped.Goals as goal
 
 pub returns-clause-state : goal.returns-clause-state
 returns-clause-state g c = IfOk-weaker c.opened.result _ _
-    (λ it is. reopened g.H.TreeHash.hash c.args.call.now (log_shown c.args.node) (log_shown it)
-    (images_of c.in_ok-left.left) (bytes_of c.in_ok-image.image)
-    (c.in_ok-left.ensures (log_shown c.args.node) c.in_ok-log.ensures.state)
-    c.in_ok-image.ensures.image is) c.opened.ensures.state
+    (λ it is. reopened g.H.TreeHash.hash c.args.call.now (log_shown c.args.party) (log_shown it)
+    (crash_states_of c.in_ok-left.left) (bytes_of c.in_ok-crash_state.crash_state)
+    (c.in_ok-left.ensures (log_shown c.args.party) c.in_ok-log.ensures.state)
+    c.in_ok-crash_state.ensures.crash_state is) c.opened.ensures.state
 
 pub returns-clause-stops : goal.returns-clause-stops
 returns-clause-stops g c =

@@ -1,7 +1,7 @@
 use Rattle.std.proofs.Common.{ℕ, subst}
 use Rattle.byte_formats.specs.Types.{Text}
 use Rattle.authority_core.specs.Certificates.{IsWritten}
-use Rattle.drill_core.specs.LogNodes.{log_shown}
+use Rattle.drill_core.specs.LogParties.{log_shown}
 use Rattle.drill_core.specs.Stores.{StoresAcceptNow}
 use Rattle.drill_core.proofs.Accepting.{accepts_now}
 use Rattle.drill_core.proofs.play.certificate.Goals as goal

@@ -1,7 +1,7 @@
 use Rattle.std.proofs.Common.{◌≡◌, ◌∙◌, ◌+◌, length, sym, ap, subst, arith}
 use Rattle.issuance_log.specs.Folds.{LogState}
-use Rattle.drill_nodes.specs.Cosigners.{IsAdvanced, Paired}
-use Rattle.drill_core.specs.LogNodes.{log_shown}
+use Rattle.drill_parties.specs.Cosigners.{IsAdvanced, Paired}
+use Rattle.drill_core.specs.LogParties.{log_shown}
 use Rattle.drill_core.specs.Played.{log_root}
 use Rattle.drill_core.proofs.EntryCounts.{issued_length}
 use Rattle.drill_core.proofs.Turns.{hold_less}
@@ -15,7 +15,7 @@ hold_all-requires-clause-larger g c =
     ∙ issued_length g.H.TreeHash.hash (length c.args.entries.now) (log_shown c.args.log) in
     let more = c.requires.more in
     hold_less (length (log_shown c.args.log).entries)
-    (length (log_shown c.in_ok-log.log).entries) c.args.cosigners.nodes.items
+    (length (log_shown c.in_ok-log.log).entries) c.args.cosigners.parties.items
     (omega (arith, longer, more)) c.requires.held
 
 pub returns-clause-log : goal.returns-clause-log
@@ -24,7 +24,7 @@ returns-clause-log g c = c.in_ok-hold_all.ensures.same.shown ∙ c.in_ok-log.ens
 pub returns-clause-each : goal.returns-clause-each
 returns-clause-each g c =
     subst (λ (l : LogState). Paired (IsAdvanced (length l.entries) (log_root g.H.TreeHash.hash l))
-    c.args.cosigners.nodes.items c.hold_all.new.cosigners.nodes.items)
+    c.args.cosigners.parties.items c.hold_all.new.cosigners.parties.items)
     (sym c.in_ok-hold_all.ensures.same.shown) c.in_ok-hold_all.ensures.each
 
 pub returns-clause-stops : goal.returns-clause-stops

@@ -2,9 +2,9 @@ use Rattle.std.proofs.Common.{◌<◌, ◌∙◌, ℕ, length, refl, sym, subst}
 use Rattle.std.specs.List.{AllByRecursion}
 use Rattle.std.specs.Prelude.{OnOk}
 use Rattle.byte_formats.specs.Types.{Hash}
-use Rattle.drill_nodes.specs.Cosigners.{IsAdvanced, Paired}
-use Rattle.drill_nodes.specs.CosignerViews.{cosigner_shown}
-use Rattle.drill_core.specs.LogNodes.{log_shown}
+use Rattle.drill_parties.specs.Cosigners.{IsAdvanced, Paired}
+use Rattle.drill_parties.specs.CosignerViews.{cosigner_shown}
+use Rattle.drill_core.specs.LogParties.{log_shown}
 use Rattle.drill_core.specs.Played.{log_root}
 use Rattle.drill_core.proofs.OnlyRead.{seen_stays, still_stands}
 use Rattle.drill_core.proofs.Turns.{first_few}
@@ -12,7 +12,7 @@ use Rattle.drill_core.proofs.play.hold_all.Goals as goal
 
 pub root_and_proof-requires : goal.root_and_proof-requires
 root_and_proof-requires g c =
-    first_few (length (log_shown c.args.log.now).entries) c.args.cosigners.now.nodes.items
+    first_few (length (log_shown c.args.log.now).entries) c.args.cosigners.now.parties.items
     c.held-held.result c.held-held.ensures c.requires.some c.requires.larger
 
 pub invariant_of-log : goal.invariant_of-log
@@ -35,14 +35,14 @@ returns-clause-stops g c = c.advance.ensures.stops
 
 pub advance-requires-clause-larger : goal.advance-requires-clause-larger
 advance-requires-clause-larger g c =
-    subst (λ (n : ℕ). AllByRecursion (λ node. (cosigner_shown node).held.size < n)
-    c.args.cosigners.now.nodes.items) (sym c.size_of-size.ensures.value) c.requires.larger
+    subst (λ (n : ℕ). AllByRecursion (λ party. (cosigner_shown party).held.size < n)
+    c.args.cosigners.now.parties.items) (sym c.size_of-size.ensures.value) c.requires.larger
 
 pub returns-clause-each : goal.returns-clause-each
 returns-clause-each g c =
     let h = g.H.TreeHash.hash in
-    let old = c.args.cosigners.now.nodes.items in
-    let new = c.advance.new.self.nodes.items in
+    let old = c.args.cosigners.now.parties.items in
+    let new = c.advance.new.self.parties.items in
     subst (λ (n : ℕ). OnOk c.advance.result
     (Paired (IsAdvanced n (log_root h (log_shown c.args.log.now))) old new))
     c.size_of-size.ensures.value

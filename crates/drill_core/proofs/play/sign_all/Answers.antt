@@ -1,8 +1,8 @@
 use Rattle.std.proofs.Common.{◌∙◌, ℕ, refl, subst}
 use Rattle.std.specs.Prelude.{OnOk}
 use Rattle.byte_formats.specs.Types.{Hash}
-use Rattle.drill_nodes.specs.Cosigners.{HaveSigned, IsSigned, Paired}
-use Rattle.drill_core.specs.LogNodes.{log_shown}
+use Rattle.drill_parties.specs.Cosigners.{HaveSigned, IsSigned, Paired}
+use Rattle.drill_core.specs.LogParties.{log_shown}
 use Rattle.drill_core.specs.Played.{log_root}
 use Rattle.drill_core.proofs.OnlyRead.{seen_stays, still_stands}
 use Rattle.drill_core.proofs.Numbers.{no_more}
@@ -41,8 +41,8 @@ returns-clause-stops g c = c.cosign.ensures.stops
 pub returns-clause-each : goal.returns-clause-each
 returns-clause-each g c =
     let h = g.H.TreeHash.hash in
-    let old = c.args.cosigners.now.nodes.items in
-    let new = c.cosign.new.self.nodes.items in
+    let old = c.args.cosigners.now.parties.items in
+    let new = c.cosign.new.self.parties.items in
     subst (λ (n : ℕ). OnOk c.cosign.result
     (Paired (IsSigned n (log_root h (log_shown c.args.log.now))) old new))
     c.size_of-size.ensures.value
@@ -53,7 +53,7 @@ returns-clause-each g c =
 pub returns-clause-signed : goal.returns-clause-signed
 returns-clause-signed g c =
     let h = g.H.TreeHash.hash in
-    let old = c.args.cosigners.now.nodes.items in
+    let old = c.args.cosigners.now.parties.items in
     let before = c.args.signatures.now in
     let after = c.cosign.new.signatures in
     subst (λ (n : ℕ). OnOk c.cosign.result

@@ -1,7 +1,7 @@
 use Rattle.std.proofs.Common.{◌∙◌, sym, ap}
 use Rattle.issuance_log.proofs.Leaves.{part_root}
 use Rattle.issuance_log.specs.Folds.{LogView}
-use Rattle.drill_core.specs.Nodes.{log_seen}
+use Rattle.drill_core.specs.Parties.{log_seen}
 use Rattle.drill_core.proofs.OnlyRead.{nodes_stay}
 use Rattle.drill_core.proofs.Numbers.{within_by}
 use Rattle.drill_core.proofs.tree.hash_of.Goals as goal

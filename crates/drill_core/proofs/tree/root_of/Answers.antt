@@ -3,7 +3,7 @@ use Rattle.std.proofs.lemmas.Result.{IfOk-weaker}
 use Rattle.tree_core.specs.Path.{part_of}
 use Rattle.tree_core.specs.Tree.{tree_hash}
 use Rattle.tree_proofs.proofs.Aligned.{first_valid}
-use Rattle.drill_core.specs.Nodes.{log_seen}
+use Rattle.drill_core.specs.Parties.{log_seen}
 use Rattle.drill_core.proofs.FirstEntries.{all_of}
 use Rattle.drill_core.proofs.Numbers.{no_more}
 use Rattle.drill_core.proofs.tree.root_of.Goals as goal

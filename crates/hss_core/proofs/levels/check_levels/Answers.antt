@@ -2,7 +2,7 @@ use Rattle.std.proofs.Common.{◌≡◌, ◌∙◌, suc, ◌+◌, ◌-◌, take,
 use Rattle.std.proofs.lemmas.List.{drop-drop}
 use Rattle.byte_formats.specs.Refusals.{answer_of}
 use Rattle.lms_core.specs.Refusals.{check_refusal}
-use Rattle.hss_core.specs.Hss.{behind_key, key_behind}
+use Rattle.hss_core.specs.Hss.{following_key, key_following}
 use Rattle.hss_core.proofs.Parts.{answer_of-err, answer_of-ok, levels_refusal-passed}
 use Rattle.hss_core.proofs.Parts.{levels_refusal-refused, parts_fit-more}
 use Rattle.hss_core.proofs.levels.check_levels.Goals as goal
@@ -21,7 +21,8 @@ returns-in-Err c =
     let size = c.in-Some.length in
     let more : c.args.count - c.loop-done.done ≡ suc (c.args.count - (c.loop-done.done + 1)) =
     omega arith in
-    let told : answer_of (check_refusal c.loop-done.key.now (key_behind size rest) (take size rest))
+    let reported : answer_of
+    (check_refusal c.loop-done.key.now (key_following size rest) (take size rest))
     ≡ Err c.in-Err.refusal =
     rw (
       ← c.split_at.ensures.front,
@@ -31,7 +32,7 @@ returns-in-Err c =
     )
     c.in-Err.is in
     let refused = levels_refusal-refused _ _ size c.loop-done.key.now c.args.message.now rest _ more
-    (sym c.in-Some.ensures.value) (answer_of-err _ _ told) in
+    (sym c.in-Some.ensures.value) (answer_of-err _ _ reported) in
     rw (c.loop-done.invariant.2, refused) refl
 
 pub loop-done-preserved : goal.loop-done-preserved
@@ -42,11 +43,12 @@ loop-done-preserved c =
     let more : c.args.count - c.loop-done.done ≡ suc (c.args.count - (c.loop-done.done + 1)) =
     omega arith in
     let fit = parts_fit-more _ _ size rest more found c.loop-done.invariant.1 in
-    let next : c.split_at-in-loop-done.result.0.now ≡ key_behind size rest =
+    let next : c.split_at-in-loop-done.result.0.now ≡ key_following size rest =
     rw (c.split_at-in-loop-done.ensures.front, c.split_at.ensures.back) refl in
-    let behind : c.split_at-in-loop-done.result.1.now ≡ behind_key size rest =
+    let following : c.split_at-in-loop-done.result.1.now ≡ following_key size rest =
     rw (c.split_at-in-loop-done.ensures.back, c.split_at.ensures.back) (drop-drop 56 size rest) in
-    let told : answer_of (check_refusal c.loop-done.key.now (key_behind size rest) (take size rest))
+    let reported : answer_of
+    (check_refusal c.loop-done.key.now (key_following size rest) (take size rest))
     ≡ Ok tt =
     rw (
       ← c.split_at.ensures.front,
@@ -56,8 +58,8 @@ loop-done-preserved c =
     )
     c.in-Ok.is in
     let passed = levels_refusal-passed _ _ size c.loop-done.key.now c.args.message.now rest more
-    found (answer_of-ok _ told) in (
-      omega (arith, c.split_at-in-loop-done.ensures.front_len),
-      rw behind fit.1,
-      rw (next, behind) (c.loop-done.invariant.2 ∙ passed),
+    found (answer_of-ok _ reported) in (
+      omega (arith, c.split_at-in-loop-done.ensures.prefix_len),
+      rw following fit.1,
+      rw (next, following) (c.loop-done.invariant.2 ∙ passed),
     )

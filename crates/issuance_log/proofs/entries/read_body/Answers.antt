@@ -1,5 +1,5 @@
 use Rattle.std.proofs.Common.{ap, ◌∙◌, length}
-use Rattle.disk_core.proofs.Moments.{only_read_on}
+use Rattle.disk_core.proofs.Times.{only_read_on}
 use Rattle.journal_core.specs.Words.{records}
 use Rattle.issuance_log.proofs.Rereading.{body_read}
 use Rattle.issuance_log.proofs.entries.read_body.Goals as goal

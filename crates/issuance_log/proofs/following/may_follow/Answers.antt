@@ -2,7 +2,7 @@ use Rattle.std.proofs.Common.{◌≡◌, ◌++◌, [], ◌∷◌, Bool, IfOk, ap
 use Rattle.mtc_io.specs.declared.fault.Memory.{Memory}
 use Rattle.journal_core.specs.Folds.{taken_from}
 use Rattle.issuance_log.specs.Folds.{new_log, next_view, view_in}
-use Rattle.issuance_log.proofs.Behind.{follows_on, follows_not}
+use Rattle.issuance_log.proofs.After.{follows_on, follows_not}
 use Rattle.issuance_log.proofs.Views.{last_tried, view_fold, views_taken, was_not, was_taken}
 use Rattle.issuance_log.proofs.following.may_follow.Goals as goal
 

@@ -25,7 +25,7 @@ returns-in_ok-add-in-Ok-clause-view g c =
     (sym c.takes.ensures.value ∙ c.if-not-takes.false) ∙ ap Some (sym c.add_item.ensures.view)
 
 pub returns-in_err-add-in-Ok-clause-capacity : goal.returns-in_err-add-in-Ok-clause-capacity
-returns-in_err-add-in-Ok-clause-capacity g c = λ capacity starved.
+returns-in_err-add-in-Ok-clause-capacity g c = λ capacity out_of_memory.
     c.in_err-add-in-Ok.ensures.full
     (capacity.item (c.in-Ok.entry.now, c.in-Ok.key.now) c.in-Ok.ensures.found)
 

@@ -1,5 +1,5 @@
 use Rattle.std.proofs.Common.{arith, ◌∙◌}
-use Rattle.disk_core.proofs.Moments.{only_read_on}
+use Rattle.disk_core.proofs.Times.{only_read_on}
 use Rattle.journal_core.specs.Words.{disk_of}
 use Rattle.journal_core.proofs.Copies.{contents_prefix, contents_whole}
 use Rattle.journal_core.proofs.copying.copy.Goals as goal

@@ -1,7 +1,7 @@
 use Rattle.std.proofs.Common.{◌∙◌}
 use Rattle.std.specs.Io.KnownBytes.{Appends}
 use Rattle.mtc_io.specs.Streams.{AppendsPrefix}
-use Rattle.disk_core.proofs.Moments.{only_read_on}
+use Rattle.disk_core.proofs.Times.{only_read_on}
 use Rattle.journal_core.specs.Words.{disk_of, end_of}
 use Rattle.journal_core.proofs.Copies.{record_none, record_of_part}
 use Rattle.journal_core.proofs.copying.copy_record.Goals as goal

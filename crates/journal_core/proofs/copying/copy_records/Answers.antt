@@ -1,6 +1,6 @@
 use Rattle.std.proofs.Common.{◌≡◌, ℕ, ◌+◌, ◌∙◌, length, arith, rules, subst}
 use Rattle.std.specs.Io.KnownBytes.{Appends}
-use Rattle.disk_core.proofs.Moments.{only_read_on}
+use Rattle.disk_core.proofs.Times.{only_read_on}
 use Rattle.mtc_io.specs.Streams.{AppendsPrefix}
 use Rattle.journal_core.specs.Copies.{sized}
 use Rattle.journal_core.specs.Words.{disk_of, end_of}

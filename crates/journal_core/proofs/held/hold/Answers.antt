@@ -1,4 +1,4 @@
-use Rattle.disk_core.proofs.Moments.{nothing_read}
+use Rattle.disk_core.proofs.Times.{nothing_read}
 use Rattle.journal_core.proofs.held.hold.Goals as goal
 
 pub returns-then-place-count-clause-only_reads : goal.returns-then-place-count-clause-only_reads

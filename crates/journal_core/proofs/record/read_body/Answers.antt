@@ -1,7 +1,7 @@
 use Rattle.std.proofs.Common.{◌≡◌, ◌≢◌, ◌+◌, ℕ, List, length, drop, slice_index, arith, ◌∙◌}
 use Rattle.std.specs.Int.{w32, to_be_bytes}
 use Rattle.disk_core.specs.Disk.{part}
-use Rattle.disk_core.proofs.Moments.{only_read_on, nothing_read}
+use Rattle.disk_core.proofs.Times.{only_read_on, nothing_read}
 use Rattle.journal_core.specs.Format.{IsRecordAt}
 use Rattle.journal_core.specs.Windows.{Holds}
 use Rattle.journal_core.proofs.Modelled.{if_modelled, at_contents}

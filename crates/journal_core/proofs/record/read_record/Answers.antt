@@ -1,4 +1,4 @@
-use Rattle.disk_core.proofs.Moments.{only_read_on, nothing_read}
+use Rattle.disk_core.proofs.Times.{only_read_on, nothing_read}
 use Rattle.journal_core.proofs.record.read_record.Goals as goal
 
 pub returns-then-place-size-clause-only_reads : goal.returns-then-place-size-clause-only_reads

@@ -20,13 +20,13 @@ loop-place-preserved c =
     let number : c.args.head.last - (place + 1) ≡ c.args.head.last - place - 1 = omega arith in
     let more : c.args.head.active + 1 - place ≡ suc left = omega arith in
     ap (λ xs. with_more xs (size_lines left (place + 1 + 1) (c.args.head.last - (place + 1))
-    c.in_ok-size.size c.in_ok-size.behind.now)) c.in_ok-push.ensures
+    c.in_ok-size.size c.in_ok-size.following.now)) c.in_ok-push.ensures
     ∙ ap (λ n. with_more (c.loop-place.sizes.items ++ c.in_ok-size.size ∷ [])
     (size_lines left (place + 1 + 1) n c.in_ok-size.size
-    c.in_ok-size.behind.now)) number
+    c.in_ok-size.following.now)) number
     ∙ sym (walk_more left (c.args.head.active + 1 - place) (place + 1)
     (c.args.head.last - place) c.loop-place.before c.loop-place.rest.now c.in_ok-size.size
-    c.in_ok-size.behind.now c.loop-place.sizes.items more c.in_ok-size.ensures)
+    c.in_ok-size.following.now c.loop-place.sizes.items more c.in_ok-size.ensures)
     ∙ c.loop-place.invariant
 
 pub returns-clause-ok : goal.returns-clause-ok

@@ -1,6 +1,6 @@
 use Rattle.std.proofs.Common.{refl, add-one}
 use Rattle.lms_core.specs.Trees.{climbed}
-use Rattle.lms_core.proofs.Places.{div_pow}
+use Rattle.lms_core.proofs.Indices.{div_pow}
 use Rattle.lms_core.proofs.climbing.climb.Goals as goal
 
 pub loop-i-preserved : goal.loop-i-preserved

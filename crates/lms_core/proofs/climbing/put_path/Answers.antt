@@ -2,7 +2,7 @@ use Rattle.std.proofs.Common.{◌+◌, ◌/◌, ◌^◌, ◌<◌, length-append,
 use Rattle.lmots_core.specs.Strings.{concatenated}
 use Rattle.lms_core.specs.Heights.{height}
 use Rattle.lms_core.specs.Trees.{sibling}
-use Rattle.lms_core.proofs.Places.{div_pow, pow_half}
+use Rattle.lms_core.proofs.Indices.{div_pow, pow_half}
 use Rattle.lms_core.proofs.Levels.{length-tree_value, path_node-held}
 use Rattle.lms_core.proofs.climbing.put_path.Goals as goal
 

@@ -17,7 +17,7 @@ returns-in_err-hash-clause-err c =
 
 pub peaks-preserved : goal.peaks-preserved
 peaks-preserved c =
-    sym (later_more c.peaks.left c.peaks.rest.now c.in_ok-hash.behind.now c.in_ok-hash.hash
+    sym (later_more c.peaks.left c.peaks.rest.now c.in_ok-hash.following.now c.in_ok-hash.hash
     c.peaks.peaks.items _ c.peaks-test.true (some_or_ok (BadLine c.args.n) _ _ c.in_ok-hash.ensures)
     c.in_ok-push.ensures)
     ∙ c.peaks.invariant

@@ -35,7 +35,7 @@ loop-n-preserved c =
     let some : (length c.loop-n.rest.now == 0) ≡ false =
     grind (arith, nat_tests, c.if-is_empty.ensures) in
     sym (domains_more (1000 - (n + 1)) (1000 - n) n c.loop-n.rest.now c.in_ok-domain.domain.now
-    c.in_ok-domain.behind.now c.loop-n.domains.items _ more some c.in_ok-domain.ensures
+    c.in_ok-domain.following.now c.loop-n.domains.items _ more some c.in_ok-domain.ensures
     c.in_ok-push_copy.ensures)
     ∙ c.loop-n.invariant
 

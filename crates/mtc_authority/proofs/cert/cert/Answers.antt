@@ -1,16 +1,16 @@
 use Rattle.std.proofs.Common.{[], ◌∷◌, inl, inr, refl}
 use Rattle.std.proofs.lemmas.Result.{err_from_is_err_and}
 use Rattle.mtc_command.specs.Answers.{ending_of, tiles_name}
-use Rattle.mtc_command.proofs.Served.{behind, beside}
-use Rattle.mtc_command.proofs.Stored.{behind_stored, kept_stored}
-use Rattle.mtc_command.proofs.Valid.{behind_valid, kept_valid}
+use Rattle.mtc_command.proofs.Served.{following, beside}
+use Rattle.mtc_command.proofs.Stored.{after_stored, kept_stored}
+use Rattle.mtc_command.proofs.Valid.{after_valid, kept_valid}
 use Rattle.mtc_authority.specs.CertCommand.{cert_outcome, signed_says}
 use Rattle.mtc_authority.specs.StoredTiles.{HasTilesOf}
 use Rattle.mtc_authority.specs.Works.{IsLog, log_outcome}
 use Rattle.mtc_authority.specs.declared.work.Work.TheVariants.{Cert}
 use Rattle.mtc_authority.proofs.Certified.{signed_so}
-use Rattle.mtc_authority.proofs.OnlyRead.{only_read_behind, only_read_kept}
-use Rattle.mtc_authority.proofs.OnlyRead.{spared_behind, spared_kept}
+use Rattle.mtc_authority.proofs.OnlyRead.{only_read_after, only_read_kept}
+use Rattle.mtc_authority.proofs.OnlyRead.{spared_after, spared_kept}
 use Rattle.mtc_authority.proofs.cert.cert.Goals as goal
 
 pub returns-in_err-bytes-clause-serves : goal.returns-in_err-bytes-clause-serves
@@ -37,16 +37,16 @@ returns-in-Ok-clause-serves g c =
     let old = c.args.room.now in
     let mid = c.read_input.new.room in
     let read = c.in_ok-bytes.ensures in
-    behind rooms g.R.Dsk.Disk (journal ∷ tiles ∷ file ∷ []) (journal ∷ tiles ∷ []) (journal ∷ [])
+    following rooms g.R.Dsk.Disk (journal ∷ tiles ∷ file ∷ []) (journal ∷ tiles ∷ []) (journal ∷ [])
     (tiles ∷ [])
     (cert_outcome h journal c.args.index c.args.start c.args.end file (rooms.file old))
     (log_outcome h journal (rooms.file mid journal) (rooms.file mid tiles)
     (Cert c.args.index c.args.start c.args.end c.in-Ok.signatures)) old mid
-    c.on_log.new.room (ending_of c.on_log.result) read.settled
+    c.on_log.new.room (ending_of c.on_log.result) read.all_closed
     (λ t. signed_so h journal c.args.index c.args.start c.args.end file (rooms.file old)
     c.in_ok-bytes.bytes (read.bytes t).0 (read.bytes t).1 (rooms.file mid journal)
     (rooms.file mid tiles) c.in-Ok.signatures c.in-Ok.ensures
-    (read.settled.others journal tt).bytes (read.settled.others tiles tt).bytes)
+    (read.all_closed.others journal tt).bytes (read.all_closed.others tiles tt).bytes)
     (λ name is. elim is [
       | inl same ↦ inl same
       | inr more ↦ elim more [ inl same ↦ inr (inl same) | inr never ↦ absurd never ]
@@ -58,7 +58,7 @@ returns-in_err-bytes-clause-valid g c =
     kept_valid g.R.Room g.R.Dsk.Disk (IsLog g.H.TreeHash.hash) (c.args.journal.now ∷ [])
     (cert_outcome g.H.TreeHash.hash c.args.journal.now c.args.index c.args.start c.args.end
     c.args.file.now (g.R.Room.file c.args.room.now)) c.args.room.now c.read_input.new.room
-    c.in_err-bytes.ensures.settled g.met.R.Dsk.Disk.only_now
+    c.in_err-bytes.ensures.all_closed g.met.R.Dsk.Disk.only_now
 
 pub returns-in-Ok-clause-valid : goal.returns-in-Ok-clause-valid
 returns-in-Ok-clause-valid g c =
@@ -70,15 +70,15 @@ returns-in-Ok-clause-valid g c =
     let old = c.args.room.now in
     let mid = c.read_input.new.room in
     let read = c.in_ok-bytes.ensures in
-    behind_valid rooms g.R.Dsk.Disk (IsLog h) (journal ∷ [])
+    after_valid rooms g.R.Dsk.Disk (IsLog h) (journal ∷ [])
     (cert_outcome h journal c.args.index c.args.start c.args.end file (rooms.file old))
     (log_outcome h journal (rooms.file mid journal) (rooms.file mid tiles)
     (Cert c.args.index c.args.start c.args.end c.in-Ok.signatures)) old mid
-    c.on_log.new.room read.settled
+    c.on_log.new.room read.all_closed
     (λ t. signed_so h journal c.args.index c.args.start c.args.end file (rooms.file old)
     c.in_ok-bytes.bytes (read.bytes t).0 (read.bytes t).1 (rooms.file mid journal)
     (rooms.file mid tiles) c.in-Ok.signatures c.in-Ok.ensures
-    (read.settled.others journal tt).bytes (read.settled.others tiles tt).bytes)
+    (read.all_closed.others journal tt).bytes (read.all_closed.others tiles tt).bytes)
     c.on_log.ensures.valid
 
 pub returns-in-Err-clause-valid : goal.returns-in-Err-clause-valid
@@ -86,38 +86,38 @@ returns-in-Err-clause-valid g c =
     kept_valid g.R.Room g.R.Dsk.Disk (IsLog g.H.TreeHash.hash) (c.args.journal.now ∷ [])
     (cert_outcome g.H.TreeHash.hash c.args.journal.now c.args.index c.args.start c.args.end
     c.args.file.now (g.R.Room.file c.args.room.now)) c.args.room.now c.read_input.new.room
-    c.in_ok-bytes.ensures.settled g.met.R.Dsk.Disk.only_now
+    c.in_ok-bytes.ensures.all_closed g.met.R.Dsk.Disk.only_now
 
 pub returns-in_err-bytes-clause-only_read : goal.returns-in_err-bytes-clause-only_read
 returns-in_err-bytes-clause-only_read g c =
     only_read_kept g.R.Room g.R.Dsk.Disk (tiles_name c.args.journal.now) c.args.room.now
-    c.read_input.new.room c.in_err-bytes.ensures.settled g.met.R.Dsk.Disk.only_now
+    c.read_input.new.room c.in_err-bytes.ensures.all_closed g.met.R.Dsk.Disk.only_now
 
 pub returns-in-Ok-clause-only_read : goal.returns-in-Ok-clause-only_read
 returns-in-Ok-clause-only_read g c =
-    only_read_behind g.R.Room g.R.Dsk.Disk (tiles_name c.args.journal.now) c.args.room.now
-    c.read_input.new.room c.on_log.new.room c.in_ok-bytes.ensures.settled
+    only_read_after g.R.Room g.R.Dsk.Disk (tiles_name c.args.journal.now) c.args.room.now
+    c.read_input.new.room c.on_log.new.room c.in_ok-bytes.ensures.all_closed
     (c.on_log.ensures.only_read (λ e. absurd cc))
 
 pub returns-in-Err-clause-only_read : goal.returns-in-Err-clause-only_read
 returns-in-Err-clause-only_read g c =
     only_read_kept g.R.Room g.R.Dsk.Disk (tiles_name c.args.journal.now) c.args.room.now
-    c.read_input.new.room c.in_ok-bytes.ensures.settled g.met.R.Dsk.Disk.only_now
+    c.read_input.new.room c.in_ok-bytes.ensures.all_closed g.met.R.Dsk.Disk.only_now
 
 pub returns-in_err-bytes-clause-spares : goal.returns-in_err-bytes-clause-spares
 returns-in_err-bytes-clause-spares g c =
     spared_kept g.R.Room c.args.journal.now c.args.room.now c.read_input.new.room
-    c.in_err-bytes.ensures.settled
+    c.in_err-bytes.ensures.all_closed
 
 pub returns-in-Ok-clause-spares : goal.returns-in-Ok-clause-spares
 returns-in-Ok-clause-spares g c =
-    spared_behind g.R.Room c.args.journal.now c.args.room.now c.read_input.new.room
-    c.on_log.new.room c.in_ok-bytes.ensures.settled c.on_log.ensures.spares
+    spared_after g.R.Room c.args.journal.now c.args.room.now c.read_input.new.room
+    c.on_log.new.room c.in_ok-bytes.ensures.all_closed c.on_log.ensures.spares
 
 pub returns-in-Err-clause-spares : goal.returns-in-Err-clause-spares
 returns-in-Err-clause-spares g c =
     spared_kept g.R.Room c.args.journal.now c.args.room.now c.read_input.new.room
-    c.in_ok-bytes.ensures.settled
+    c.in_ok-bytes.ensures.all_closed
 
 pub returns-in_err-bytes-clause-stores : goal.returns-in_err-bytes-clause-stores
 returns-in_err-bytes-clause-stores g c =
@@ -126,7 +126,7 @@ returns-in_err-bytes-clause-stores g c =
     kept_stored (HasTilesOf h) (IsLog h) g.R.Room g.R.Dsk.Disk (journal ∷ [])
     (tiles_name journal ∷ []) (cert_outcome h journal c.args.index c.args.start c.args.end
     c.args.file.now (g.R.Room.file c.args.room.now)) c.args.room.now c.read_input.new.room
-    c.in_err-bytes.ensures.settled g.met.R.Dsk.Disk.only_now
+    c.in_err-bytes.ensures.all_closed g.met.R.Dsk.Disk.only_now
 
 pub returns-in-Ok-clause-stores : goal.returns-in-Ok-clause-stores
 returns-in-Ok-clause-stores g c =
@@ -138,15 +138,15 @@ returns-in-Ok-clause-stores g c =
     let old = c.args.room.now in
     let mid = c.read_input.new.room in
     let read = c.in_ok-bytes.ensures in
-    behind_stored (HasTilesOf h) (IsLog h) rooms g.R.Dsk.Disk (journal ∷ []) (tiles ∷ [])
+    after_stored (HasTilesOf h) (IsLog h) rooms g.R.Dsk.Disk (journal ∷ []) (tiles ∷ [])
     (cert_outcome h journal c.args.index c.args.start c.args.end file (rooms.file old))
     (log_outcome h journal (rooms.file mid journal) (rooms.file mid tiles)
     (Cert c.args.index c.args.start c.args.end c.in-Ok.signatures)) old mid
-    c.on_log.new.room read.settled
+    c.on_log.new.room read.all_closed
     (λ t. signed_so h journal c.args.index c.args.start c.args.end file (rooms.file old)
     c.in_ok-bytes.bytes (read.bytes t).0 (read.bytes t).1 (rooms.file mid journal)
     (rooms.file mid tiles) c.in-Ok.signatures c.in-Ok.ensures
-    (read.settled.others journal tt).bytes (read.settled.others tiles tt).bytes)
+    (read.all_closed.others journal tt).bytes (read.all_closed.others tiles tt).bytes)
     c.on_log.ensures.stores
 
 pub returns-in-Err-clause-stores : goal.returns-in-Err-clause-stores
@@ -156,4 +156,4 @@ returns-in-Err-clause-stores g c =
     kept_stored (HasTilesOf h) (IsLog h) g.R.Room g.R.Dsk.Disk (journal ∷ [])
     (tiles_name journal ∷ []) (cert_outcome h journal c.args.index c.args.start c.args.end
     c.args.file.now (g.R.Room.file c.args.room.now)) c.args.room.now c.read_input.new.room
-    c.in_ok-bytes.ensures.settled g.met.R.Dsk.Disk.only_now
+    c.in_ok-bytes.ensures.all_closed g.met.R.Dsk.Disk.only_now

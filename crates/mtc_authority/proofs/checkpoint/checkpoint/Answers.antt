@@ -11,7 +11,7 @@ use Rattle.mtc_command.specs.Answers.{said}
 use Rattle.mtc_command.specs.declared.answer.Said.TheVariants.{Done}
 use Rattle.mtc_authority.specs.LogOutcomes.{checkpoint_reply}
 use Rattle.mtc_lines.specs.CheckpointLines.{checkpoint_lines}
-use Rattle.mtc_authority.proofs.Replied.{both_so, starved_so, modelled_both, modelled_so}
+use Rattle.mtc_authority.proofs.Replied.{both_so, out_of_memory_so, modelled_both, modelled_so}
 use Rattle.mtc_authority.proofs.checkpoint.checkpoint.Goals as goal
 
 hashed : (h : HashFunction) (s : LogState) (v : LogView) (size : ℕ) (root : Hash) (text : Text)
@@ -41,7 +41,7 @@ returns-in_err-checkpoint_text-in-Ok g c =
     let h = g.H.TreeHash.hash in
     let log = c.args.log.now in
     let refused = err_from_is_err_and c.from_residual.result c.from_residual.ensures.1 in
-    rw (refused.1, refused.2) (starved_so c.args.journal.now
+    rw (refused.1, refused.2) (out_of_memory_so c.args.journal.now
     (λ s. checkpoint_reply h s.entries) log c.root_of.new.log
     (asks_stays log c.root_of.new.log (g.met.D.Disk.only_now (log_disk log))
     c.root_of.ensures.asks))

@@ -4,7 +4,7 @@ use Rattle.std.proofs.lemmas.Result.{err_from_is_err_and}
 use Rattle.byte_formats.specs.Types.{Text}
 use Rattle.tls_wire.specs.Encoding.{vector}
 use Rattle.issuance_log.specs.Words.{modelled_state}
-use Rattle.mtc_authority.proofs.Items.{item_behind}
+use Rattle.mtc_authority.proofs.Items.{item_after}
 use Rattle.mtc_authority.proofs.checkpoint.put_item.Goals as goal
 
 pub returns-in_err-read_item : goal.returns-in_err-read_item
@@ -41,7 +41,7 @@ returns g c =
     let out = c.args.out.now in
     let mid = c.put_vec16.new.out in
     record {
-      text = item_behind (modelled_state c.args.log.now) c.args.index c.read_item.new.entry
+      text = item_after (modelled_state c.args.log.now) c.args.index c.read_item.new.entry
           c.read_item.new.key out mid c.put_vec16-2.new.out c.in_ok-read_item.ensures.item
           (c.in_ok-put_vec16.ensures.ok ∙ ap (λ (t : Text). out ++ vector w16 t)
           c.as_slice.ensures)

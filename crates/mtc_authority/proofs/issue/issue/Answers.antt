@@ -6,15 +6,15 @@ use Rattle.authority_core.specs.Files.{request_of}
 use Rattle.authority_core.specs.declared.requests.error.RequestError.TheVariants.{Memory}
 use Rattle.mtc_command.specs.Answers.{Ending, ending_of, tiles_name}
 use Rattle.mtc_command.specs.Served.{HasServedBeside}
-use Rattle.mtc_command.proofs.Served.{behind, beside}
-use Rattle.mtc_command.proofs.Stored.{behind_stored, kept_stored}
-use Rattle.mtc_command.proofs.Valid.{behind_valid, kept_valid}
+use Rattle.mtc_command.proofs.Served.{following, beside}
+use Rattle.mtc_command.proofs.Stored.{after_stored, kept_stored}
+use Rattle.mtc_command.proofs.Valid.{after_valid, kept_valid}
 use Rattle.mtc_authority.specs.IssueCommand.{issue_outcome, request_says}
 use Rattle.mtc_authority.specs.StoredTiles.{HasTilesOf}
 use Rattle.mtc_authority.specs.Works.{IsLog, log_outcome}
 use Rattle.mtc_authority.specs.declared.work.Work.TheVariants.{Issue}
-use Rattle.mtc_authority.proofs.OnlyRead.{only_read_behind, only_read_kept}
-use Rattle.mtc_authority.proofs.OnlyRead.{spared_behind, spared_kept}
+use Rattle.mtc_authority.proofs.OnlyRead.{only_read_after, only_read_kept}
+use Rattle.mtc_authority.proofs.OnlyRead.{spared_after, spared_kept}
 use Rattle.mtc_authority.proofs.Reading.{asked_so, unread}
 use Rattle.mtc_authority.proofs.issue.issue.Goals as goal
 
@@ -45,14 +45,14 @@ returns-in-Ok-clause-serves g c =
     let is : request_of c.in_ok-text.text ≡ Ok c.in-Ok.request =
     subst (λ (t : Text). request_of t ≡ Ok c.in-Ok.request) c.as_slice.ensures
     c.in-Ok.ensures.exact in
-    behind rooms g.R.Dsk.Disk (journal ∷ tiles ∷ file ∷ []) (journal ∷ tiles ∷ []) (journal ∷ [])
+    following rooms g.R.Dsk.Disk (journal ∷ tiles ∷ file ∷ []) (journal ∷ tiles ∷ []) (journal ∷ [])
     (tiles ∷ []) (issue_outcome h journal file (rooms.file old))
     (log_outcome h journal (rooms.file mid journal) (rooms.file mid tiles)
     (Issue c.in-Ok.request)) old mid
-    c.on_log.new.room (ending_of c.on_log.result) read.settled
+    c.on_log.new.room (ending_of c.on_log.result) read.all_closed
     (λ t. asked_so h journal file (rooms.file old) c.in_ok-text.text (read.bytes t).0
     (read.bytes t).1 (rooms.file mid journal) (rooms.file mid tiles) c.in-Ok.request is
-    (read.settled.others journal tt).bytes (read.settled.others tiles tt).bytes)
+    (read.all_closed.others journal tt).bytes (read.all_closed.others tiles tt).bytes)
     (λ name is. elim is [
       | inl same ↦ inl same
       | inr more ↦ elim more [ inl same ↦ inr (inl same) | inr never ↦ absurd never ]
@@ -73,14 +73,14 @@ returns-clause-serves g c =
     journal tiles (issue_outcome g.H.TreeHash.hash journal file (g.R.Room.file old)) old
     c.read_input.new.room e) (sym c.refuse_request.ensures)
     (unread g.R.Room g.R.Dsk.Disk g.H.TreeHash.hash journal file old c.read_input.new.room
-    c.in_ok-text.text read.settled g.met.R.Dsk.Disk.only_now read.bytes c.in-Err.why is)
+    c.in_ok-text.text read.all_closed g.met.R.Dsk.Disk.only_now read.bytes c.in-Err.why is)
 
 pub returns-in_err-text-clause-valid : goal.returns-in_err-text-clause-valid
 returns-in_err-text-clause-valid g c =
     kept_valid g.R.Room g.R.Dsk.Disk (IsLog g.H.TreeHash.hash) (c.args.journal.now ∷ [])
     (issue_outcome g.H.TreeHash.hash c.args.journal.now c.args.file.now
     (g.R.Room.file c.args.room.now)) c.args.room.now c.read_input.new.room
-    c.in_err-text.ensures.settled g.met.R.Dsk.Disk.only_now
+    c.in_err-text.ensures.all_closed g.met.R.Dsk.Disk.only_now
 
 pub returns-in-Ok-clause-valid : goal.returns-in-Ok-clause-valid
 returns-in-Ok-clause-valid g c =
@@ -95,14 +95,14 @@ returns-in-Ok-clause-valid g c =
     let is : request_of c.in_ok-text.text ≡ Ok c.in-Ok.request =
     subst (λ (t : Text). request_of t ≡ Ok c.in-Ok.request) c.as_slice.ensures
     c.in-Ok.ensures.exact in
-    behind_valid rooms g.R.Dsk.Disk (IsLog h) (journal ∷ [])
+    after_valid rooms g.R.Dsk.Disk (IsLog h) (journal ∷ [])
     (issue_outcome h journal file (rooms.file old))
     (log_outcome h journal (rooms.file mid journal) (rooms.file mid tiles)
     (Issue c.in-Ok.request)) old mid
-    c.on_log.new.room read.settled
+    c.on_log.new.room read.all_closed
     (λ t. asked_so h journal file (rooms.file old) c.in_ok-text.text (read.bytes t).0
     (read.bytes t).1 (rooms.file mid journal) (rooms.file mid tiles) c.in-Ok.request is
-    (read.settled.others journal tt).bytes (read.settled.others tiles tt).bytes)
+    (read.all_closed.others journal tt).bytes (read.all_closed.others tiles tt).bytes)
     c.on_log.ensures.valid
 
 pub returns-clause-valid : goal.returns-clause-valid
@@ -110,38 +110,38 @@ returns-clause-valid g c =
     kept_valid g.R.Room g.R.Dsk.Disk (IsLog g.H.TreeHash.hash) (c.args.journal.now ∷ [])
     (issue_outcome g.H.TreeHash.hash c.args.journal.now c.args.file.now
     (g.R.Room.file c.args.room.now)) c.args.room.now c.read_input.new.room
-    c.in_ok-text.ensures.settled g.met.R.Dsk.Disk.only_now
+    c.in_ok-text.ensures.all_closed g.met.R.Dsk.Disk.only_now
 
 pub returns-in_err-text-clause-only_read : goal.returns-in_err-text-clause-only_read
 returns-in_err-text-clause-only_read g c =
     only_read_kept g.R.Room g.R.Dsk.Disk (tiles_name c.args.journal.now) c.args.room.now
-    c.read_input.new.room c.in_err-text.ensures.settled g.met.R.Dsk.Disk.only_now
+    c.read_input.new.room c.in_err-text.ensures.all_closed g.met.R.Dsk.Disk.only_now
 
 pub returns-in-Ok-clause-only_read : goal.returns-in-Ok-clause-only_read
 returns-in-Ok-clause-only_read g c =
-    only_read_behind g.R.Room g.R.Dsk.Disk (tiles_name c.args.journal.now) c.args.room.now
-    c.read_input.new.room c.on_log.new.room c.in_ok-text.ensures.settled
+    only_read_after g.R.Room g.R.Dsk.Disk (tiles_name c.args.journal.now) c.args.room.now
+    c.read_input.new.room c.on_log.new.room c.in_ok-text.ensures.all_closed
     (c.on_log.ensures.only_read (λ e. absurd cc))
 
 pub returns-clause-only_read : goal.returns-clause-only_read
 returns-clause-only_read g c =
     only_read_kept g.R.Room g.R.Dsk.Disk (tiles_name c.args.journal.now) c.args.room.now
-    c.read_input.new.room c.in_ok-text.ensures.settled g.met.R.Dsk.Disk.only_now
+    c.read_input.new.room c.in_ok-text.ensures.all_closed g.met.R.Dsk.Disk.only_now
 
 pub returns-in_err-text-clause-spares : goal.returns-in_err-text-clause-spares
 returns-in_err-text-clause-spares g c =
     spared_kept g.R.Room c.args.journal.now c.args.room.now c.read_input.new.room
-    c.in_err-text.ensures.settled
+    c.in_err-text.ensures.all_closed
 
 pub returns-in-Ok-clause-spares : goal.returns-in-Ok-clause-spares
 returns-in-Ok-clause-spares g c =
-    spared_behind g.R.Room c.args.journal.now c.args.room.now c.read_input.new.room
-    c.on_log.new.room c.in_ok-text.ensures.settled c.on_log.ensures.spares
+    spared_after g.R.Room c.args.journal.now c.args.room.now c.read_input.new.room
+    c.on_log.new.room c.in_ok-text.ensures.all_closed c.on_log.ensures.spares
 
 pub returns-clause-spares : goal.returns-clause-spares
 returns-clause-spares g c =
     spared_kept g.R.Room c.args.journal.now c.args.room.now c.read_input.new.room
-    c.in_ok-text.ensures.settled
+    c.in_ok-text.ensures.all_closed
 
 pub returns-in_err-text-clause-stores : goal.returns-in_err-text-clause-stores
 returns-in_err-text-clause-stores g c =
@@ -150,7 +150,7 @@ returns-in_err-text-clause-stores g c =
     kept_stored (HasTilesOf h) (IsLog h) g.R.Room g.R.Dsk.Disk (journal ∷ [])
     (tiles_name journal ∷ [])
     (issue_outcome h journal c.args.file.now (g.R.Room.file c.args.room.now)) c.args.room.now
-    c.read_input.new.room c.in_err-text.ensures.settled g.met.R.Dsk.Disk.only_now
+    c.read_input.new.room c.in_err-text.ensures.all_closed g.met.R.Dsk.Disk.only_now
 
 pub returns-in-Ok-clause-stores : goal.returns-in-Ok-clause-stores
 returns-in-Ok-clause-stores g c =
@@ -165,14 +165,14 @@ returns-in-Ok-clause-stores g c =
     let is : request_of c.in_ok-text.text ≡ Ok c.in-Ok.request =
     subst (λ (t : Text). request_of t ≡ Ok c.in-Ok.request) c.as_slice.ensures
     c.in-Ok.ensures.exact in
-    behind_stored (HasTilesOf h) (IsLog h) rooms g.R.Dsk.Disk (journal ∷ []) (tiles ∷ [])
+    after_stored (HasTilesOf h) (IsLog h) rooms g.R.Dsk.Disk (journal ∷ []) (tiles ∷ [])
     (issue_outcome h journal file (rooms.file old))
     (log_outcome h journal (rooms.file mid journal) (rooms.file mid tiles)
     (Issue c.in-Ok.request)) old mid
-    c.on_log.new.room read.settled
+    c.on_log.new.room read.all_closed
     (λ t. asked_so h journal file (rooms.file old) c.in_ok-text.text (read.bytes t).0
     (read.bytes t).1 (rooms.file mid journal) (rooms.file mid tiles) c.in-Ok.request is
-    (read.settled.others journal tt).bytes (read.settled.others tiles tt).bytes)
+    (read.all_closed.others journal tt).bytes (read.all_closed.others tiles tt).bytes)
     c.on_log.ensures.stores
 
 pub returns-clause-stores : goal.returns-clause-stores
@@ -182,4 +182,4 @@ returns-clause-stores g c =
     kept_stored (HasTilesOf h) (IsLog h) g.R.Room g.R.Dsk.Disk (journal ∷ [])
     (tiles_name journal ∷ [])
     (issue_outcome h journal c.args.file.now (g.R.Room.file c.args.room.now)) c.args.room.now
-    c.read_input.new.room c.in_ok-text.ensures.settled g.met.R.Dsk.Disk.only_now
+    c.read_input.new.room c.in_ok-text.ensures.all_closed g.met.R.Dsk.Disk.only_now

@@ -2,7 +2,7 @@ use Rattle.std.proofs.Common.{◌∙◌, ◌≡◌, None, Some, Ok, Option, List
 use Rattle.std.proofs.Common.{inl, sym}
 use Rattle.std.specs.Prelude.{option_and_then}
 use Rattle.byte_formats.specs.Types.{HashFunction, Text}
-use Rattle.disk_core.specs.Moments.{OnlyReads}
+use Rattle.disk_core.specs.Times.{OnlyReads}
 use Rattle.disk_core.specs.declared.disk.Disk.{Ghosts}
 use Rattle.journal_core.specs.Format.{Represents, records_of}
 use Rattle.journal_core.specs.Words.{AllRepresent}
@@ -19,7 +19,7 @@ use Rattle.mtc_command.specs.Works.{HasWorkedTiled, HasWorkedTiledOn, journaled_
 use Rattle.mtc_command.proofs.Beside.{only_reads_of}
 use Rattle.mtc_command.proofs.Stored.{read_both, stored_on}
 use Rattle.mtc_command.proofs.Tiled.{tiled_on, valid_tiled_on}
-use Rattle.disk_core.proofs.Moments.{only_read_on}
+use Rattle.disk_core.proofs.Times.{only_read_on}
 use Rattle.mtc_authority.specs.StoredTiles.{HasTilesOf, StoresLog}
 use Rattle.mtc_authority.specs.Works.{IsLog, log_bytes_say, found_log, log_says}
 use Rattle.mtc_authority.specs.declared.work.Work.{Work}
@@ -44,9 +44,9 @@ found_since : {D : Type 0} (g : Ghosts D) (h : HashFunction) (name : Text) (work
     → IsFoundBeside g (log_bytes_say h name work)
     (λ l. log_says h work (found_log (state l) l)) old new tiles
     (option_map records_of (g.contents new))
-found_since g h name work old mid new tiles list state first told found held stands all =
+found_since g h name work old mid new tiles list state first reported found held stands all =
     subst (IsFoundBeside g (log_bytes_say h name work)
-    (λ l. log_says h work (found_log (state l) l)) old new tiles) told (record {
+    (λ l. log_says h work (found_log (state l) l)) old new tiles) reported (record {
       contents = found_tiles h name work (g.contents old) (g.contents tiles) list state
           (subst (λ (o : Option Text). IfSome o (λ b. IfSome list
           (λ l. log_read h b ≡ Ok (found_log (state l) l)))) first.contents found) held;
@@ -71,7 +71,7 @@ returns-in-Ok-clause-serves g c = λ opened first fine.
     (log_records log) (shown_with (view_of log)) first is.list is.found is.tiles is.stands is.all in
     rw (c.into_disks-disk.ensures.journal, c.into_disks-disk.ensures.tiles) (tiled_on d name
     (log_bytes_say h name c.args.work) next opened (log_disk log) new c.args.tiles tiles tiles'
-    ending g.met.D.Disk.reads_image
+    ending g.met.D.Disk.reads_crash_state
     (only_read_on d opened c.args.disk (log_disk log) first is.only_reads) (is.fine ∙ fine)
     is.only_reads_tiles is.fine_tiles found.contents found.stands found.all
     (subst (λ (o : Option (List Text)). HasWorkedTiled d name

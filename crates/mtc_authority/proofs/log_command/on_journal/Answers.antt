@@ -21,7 +21,7 @@ use Rattle.mtc_authority.proofs.log_command.on_journal.Goals as goal
 
 pub returns-in-Ok-clause-serves : goal.returns-in-Ok-clause-serves
 returns-in-Ok-clause-serves g c = c.on_open_journal.ensures.serves c.args.room.now (record {
-  lent = c.in_ok-disk.disk;
+  opened_disk = c.in_ok-disk.disk;
   opened = c.in_ok-disk.ensures.opened;
   only_reads = c.read_header.ensures.only_reads;
   fine = c.in-Ok.ensures.fine;
@@ -29,7 +29,7 @@ returns-in-Ok-clause-serves g c = c.on_open_journal.ensures.serves c.args.room.n
 
 pub returns-in-Ok-clause-valid : goal.returns-in-Ok-clause-valid
 returns-in-Ok-clause-valid g c = c.on_open_journal.ensures.valid c.args.room.now (record {
-  lent = c.in_ok-disk.disk;
+  opened_disk = c.in_ok-disk.disk;
   opened = c.in_ok-disk.ensures.opened;
   only_reads = c.read_header.ensures.only_reads;
   fine = c.in-Ok.ensures.fine;
@@ -38,7 +38,7 @@ returns-in-Ok-clause-valid g c = c.on_open_journal.ensures.valid c.args.room.now
 pub returns-in-Ok-clause-only_read : goal.returns-in-Ok-clause-only_read
 returns-in-Ok-clause-only_read g c = λ other.
     c.on_open_journal.ensures.only_read other c.args.room.now (record {
-      lent = c.in_ok-disk.disk;
+      opened_disk = c.in_ok-disk.disk;
       opened = c.in_ok-disk.ensures.opened;
       only_reads = c.read_header.ensures.only_reads;
       fine = c.in-Ok.ensures.fine;
@@ -57,7 +57,7 @@ returns-in-Err-clause-serves g c =
     let name = c.args.journal.now in
     let old = c.args.room.now in
     let why = c.in-Err.why in
-    let lent = c.in_ok-disk.disk in
+    let opened_disk = c.in_ok-disk.disk in
     let disk = c.read_header.new.disk in
     let held = held_in (g.R.Room.file old (tiles_name name)) in
     let wanted = log_outcome h name (g.R.Room.file old name)
@@ -67,10 +67,12 @@ returns-in-Err-clause-serves g c =
     (beside g.R.Room g.R.Dsk.Disk ⊥ (name ∷ tiles_name name ∷ []) (name ∷ [])
     (tiles_name name ∷ []) wanted old c.close.new.room (log_open_ending name (Open why))
     (served g.R.Room g.R.Dsk.Disk name (name ∷ tiles_name name ∷ [])
-    (λ b. log_bytes_say h name c.args.work b held) old c.open_file.new.room c.close.new.room lent
+    (λ b. log_bytes_say h name c.args.work b held) old c.open_file.new.room c.close.new.room
+    opened_disk
     disk (log_open_ending name (Open why)) c.in_ok-disk.ensures.opened
-    (header_says h name c.args.work g.R.Dsk.Disk lent disk held c.read_header.ensures.only_reads why
-    (cause_begin g.R.Dsk.Disk (log_fold h) lent disk why c.in-Err.ensures.reason
+    (header_says h name c.args.work g.R.Dsk.Disk opened_disk disk held
+    c.read_header.ensures.only_reads why
+    (cause_begin g.R.Dsk.Disk (log_fold h) opened_disk disk why c.in-Err.ensures.reason
     c.in-Err.ensures.kind)) c.close.ensures (inl refl)))
 
 pub returns-in-Err-clause-valid : goal.returns-in-Err-clause-valid
@@ -141,7 +143,7 @@ returns-in_err-disk-clause-spares g c =
 
 pub returns-in-Ok-clause-stores : goal.returns-in-Ok-clause-stores
 returns-in-Ok-clause-stores g c = c.on_open_journal.ensures.stores c.args.room.now (record {
-  lent = c.in_ok-disk.disk;
+  opened_disk = c.in_ok-disk.disk;
   opened = c.in_ok-disk.ensures.opened;
   only_reads = c.read_header.ensures.only_reads;
   fine = c.in-Ok.ensures.fine;

@@ -16,7 +16,7 @@ returns-in-Ok-clause-serves g c = λ old read.
     let name = c.args.journal.now in
     served_tiled g.R.Room g.R.Dsk.Disk name (name ∷ tiles_name name ∷ [])
     (log_bytes_say g.H.TreeHash.hash name c.args.work) old c.args.room.now
-    c.open_tiles.new.room c.close.new.room c.close-in-Ok.new.room read.lent
+    c.open_tiles.new.room c.close.new.room c.close-in-Ok.new.room read.opened_disk
     c.on_devices-disk.result.0 c.in-Ok.tiles c.on_devices-disk.result.1
     (ending_of c.on_devices-disk.result.2) read.opened
     (subst (λ (t : Text). HasOpenedBeside g.R.Room g.R.Dsk.Disk t c.args.room.now
@@ -24,7 +24,7 @@ returns-in-Ok-clause-serves g c = λ old read.
     (subst (λ (t : Text). HasClosed g.R.Room g.R.Dsk.Disk t c.open_tiles.new.room
     c.close.new.room c.on_devices-disk.result.1) c.requires.named c.close.ensures)
     c.close-in-Ok.ensures
-    (c.on_devices-disk.ensures.serves read.lent read.only_reads read.fine)
+    (c.on_devices-disk.ensures.serves read.opened_disk read.only_reads read.fine)
     (inl refl) (inr (inl refl))
 
 pub returns-in-Ok-clause-valid : goal.returns-in-Ok-clause-valid
@@ -34,7 +34,7 @@ returns-in-Ok-clause-valid g c = λ old read.
     let name = c.args.journal.now in
     valid_tiled g.R.Room g.R.Dsk.Disk name (name ∷ tiles_name name ∷ [])
     (log_bytes_say h name c.args.work) old c.args.room.now
-    c.open_tiles.new.room c.close.new.room c.close-in-Ok.new.room read.lent
+    c.open_tiles.new.room c.close.new.room c.close-in-Ok.new.room read.opened_disk
     c.on_devices-disk.result.0 c.in-Ok.tiles c.on_devices-disk.result.1
     (ending_of c.on_devices-disk.result.2) read.opened
     (subst (λ (t : Text). HasOpenedBeside g.R.Room g.R.Dsk.Disk t c.args.room.now
@@ -42,13 +42,13 @@ returns-in-Ok-clause-valid g c = λ old read.
     (subst (λ (t : Text). HasClosed g.R.Room g.R.Dsk.Disk t c.open_tiles.new.room
     c.close.new.room c.on_devices-disk.result.1) c.requires.named c.close.ensures)
     c.close-in-Ok.ensures (IsLog h)
-    (c.on_devices-disk.ensures.valid read.lent read.only_reads)
+    (c.on_devices-disk.ensures.valid read.opened_disk read.only_reads)
 
 pub returns-in-Ok-clause-only_read : goal.returns-in-Ok-clause-only_read
 returns-in-Ok-clause-only_read g c = λ other old read.
     let name = c.args.journal.now in
     only_read_tiled g.R.Room g.R.Dsk.Disk name old c.args.room.now
-    c.open_tiles.new.room c.close.new.room c.close-in-Ok.new.room read.lent
+    c.open_tiles.new.room c.close.new.room c.close-in-Ok.new.room read.opened_disk
     c.on_devices-disk.result.0 c.in-Ok.tiles c.on_devices-disk.result.1 read.opened
     (subst (λ (t : Text). HasOpenedBeside g.R.Room g.R.Dsk.Disk t c.args.room.now
     c.open_tiles.new.room c.in-Ok.tiles) c.requires.named c.in-Ok.ensures.opened)
@@ -66,7 +66,7 @@ returns-in-Err-clause-serves g c = λ old read.
     (tiles_name name) wanted old c.close-in-Err.new.room e)
     (sym c.in-Err.ensures.contents)
     (failed_tiled g.R.Room g.R.Dsk.Disk name old c.args.room.now c.open_tiles.new.room
-    c.close-in-Err.new.room read.lent c.args.disk read.opened
+    c.close-in-Err.new.room read.opened_disk c.args.disk read.opened
     (subst (λ (t : Text). HasFailedBeside g.R.Room t c.args.room.now c.open_tiles.new.room)
     c.requires.named c.in-Err.ensures.refused) c.close-in-Err.ensures read.only_reads
     (name ∷ tiles_name name ∷ []) wanted (inr (inl refl)))
@@ -76,7 +76,7 @@ returns-in-Err-clause-valid g c = λ old read.
     let h = g.H.TreeHash.hash in
     let name = c.args.journal.now in
     failed_valid g.R.Room g.R.Dsk.Disk name old c.args.room.now c.open_tiles.new.room
-    c.close-in-Err.new.room read.lent c.args.disk read.opened
+    c.close-in-Err.new.room read.opened_disk c.args.disk read.opened
     (subst (λ (t : Text). HasFailedBeside g.R.Room t c.args.room.now c.open_tiles.new.room)
     c.requires.named c.in-Err.ensures.refused) c.close-in-Err.ensures read.only_reads (IsLog h)
     (log_outcome h name (g.R.Room.file old name)
@@ -86,7 +86,7 @@ pub returns-in-Err-clause-only_read : goal.returns-in-Err-clause-only_read
 returns-in-Err-clause-only_read g c = λ other old read.
     let name = c.args.journal.now in
     failed_only_read g.R.Room g.R.Dsk.Disk name old c.args.room.now c.open_tiles.new.room
-    c.close-in-Err.new.room read.lent c.args.disk read.opened
+    c.close-in-Err.new.room read.opened_disk c.args.disk read.opened
     (subst (λ (t : Text). HasFailedBeside g.R.Room t c.args.room.now c.open_tiles.new.room)
     c.requires.named c.in-Err.ensures.refused) c.close-in-Err.ensures read.only_reads
     g.met.R.Dsk.Disk.only_now
@@ -98,21 +98,21 @@ returns-in-Ok-clause-stores g c = λ old read.
     let name = c.args.journal.now in
     stored_tiled (HasTilesOf h) (IsLog h) g.R.Room g.R.Dsk.Disk name
     (log_bytes_say h name c.args.work) old c.args.room.now
-    c.open_tiles.new.room c.close.new.room c.close-in-Ok.new.room read.lent
+    c.open_tiles.new.room c.close.new.room c.close-in-Ok.new.room read.opened_disk
     c.on_devices-disk.result.0 c.in-Ok.tiles c.on_devices-disk.result.1 read.opened
     (subst (λ (t : Text). HasOpenedBeside g.R.Room g.R.Dsk.Disk t c.args.room.now
     c.open_tiles.new.room c.in-Ok.tiles) c.requires.named c.in-Ok.ensures.opened)
     (subst (λ (t : Text). HasClosed g.R.Room g.R.Dsk.Disk t c.open_tiles.new.room
     c.close.new.room c.on_devices-disk.result.1) c.requires.named c.close.ensures)
     c.close-in-Ok.ensures g.met.R.Room.modelled_file
-    (c.on_devices-disk.ensures.stores read.lent read.only_reads)
+    (c.on_devices-disk.ensures.stores read.opened_disk read.only_reads)
 
 pub returns-in-Err-clause-stores : goal.returns-in-Err-clause-stores
 returns-in-Err-clause-stores g c = λ old read.
     let h = g.H.TreeHash.hash in
     let name = c.args.journal.now in
     failed_stored (HasTilesOf h) (IsLog h) g.R.Room g.R.Dsk.Disk name old c.args.room.now
-    c.open_tiles.new.room c.close-in-Err.new.room read.lent c.args.disk read.opened
+    c.open_tiles.new.room c.close-in-Err.new.room read.opened_disk c.args.disk read.opened
     (subst (λ (t : Text). HasFailedBeside g.R.Room t c.args.room.now c.open_tiles.new.room)
     c.requires.named c.in-Err.ensures.refused) c.close-in-Err.ensures read.only_reads
     (log_outcome h name (g.R.Room.file old name)

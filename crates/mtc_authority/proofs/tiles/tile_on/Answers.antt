@@ -63,11 +63,11 @@ returns-in_err-text-clause-stores g c = nothing_stored c.args.log.now g.met.D.Di
 pub returns-in-Ok-clause-stores : goal.returns-in-Ok-clause-stores
 returns-in-Ok-clause-stores g c =
     tiles_so c.args.log.now c.tile.new.self c.requires _ g.met.D.Disk.counts_now
-    c.in-Ok.ensures.appends c.in-Ok.ensures.answer c.tile.ensures.keeps c.tile.ensures.behind
+    c.in-Ok.ensures.appends c.in-Ok.ensures.answer c.tile.ensures.keeps c.tile.ensures.following
     c.law_unrefused_records_are_taken.ensures.tiled
 
 pub returns-in-Err-clause-stores : goal.returns-in-Err-clause-stores
 returns-in-Err-clause-stores g c =
     tiles_so c.args.log.now c.tile.new.self c.requires _ g.met.D.Disk.counts_now
-    c.in-Err.ensures.appends c.in-Err.ensures.answer c.tile.ensures.keeps c.tile.ensures.behind
+    c.in-Err.ensures.appends c.in-Err.ensures.answer c.tile.ensures.keeps c.tile.ensures.following
     c.law_unrefused_records_are_taken.ensures.tiled

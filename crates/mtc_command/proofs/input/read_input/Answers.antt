@@ -1,5 +1,5 @@
 use Rattle.std.proofs.Common.{rules}
-use Rattle.mtc_command.proofs.Inputs.{absent, too_long, failed, starved}
+use Rattle.mtc_command.proofs.Inputs.{absent, too_long, failed, out_of_memory}
 use Rattle.mtc_command.proofs.input.read_input.Goals as goal
 
 pub returns-in-Err-Absent-clause-stops : goal.returns-in-Err-Absent-clause-stops
@@ -22,4 +22,4 @@ returns-in-Err-Failed-read-clause-stops g c =
 
 pub returns-in-Err-Memory-clause-stops : goal.returns-in-Err-Memory-clause-stops
 returns-in-Err-Memory-clause-stops g c =
-    starved g.R.Room g.R.Dsk.Disk _ _ _ _ (search rules) g.met.R.Dsk.Disk.only_now
+    out_of_memory g.R.Room g.R.Dsk.Disk _ _ _ _ (search rules) g.met.R.Dsk.Disk.only_now

@@ -14,10 +14,10 @@ pub returns-in-Ok-clause-begins : goal.returns-in-Ok-clause-begins
 returns-in-Ok-clause-begins g c =
     let started = c.in-Ok.ensures.ok in (
       ap g.D.Disk.faults c.into_disk.ensures ∙ started.fine,
-      begun (g.D.Disk.contents c.args.disk) started.empty (λ bytes contents image left.
+      begun (g.D.Disk.contents c.args.disk) started.empty (λ bytes contents crash_state left.
           let all = subst (λ (list : Option (List (List ℕ))). IfSome list
           (AllRepresent g.D.Disk (disk_of c.in-Ok.journal)))
           (started.list ∙ ap (option_map (λ _. first_body c.args.first ∷ [])) contents) started.all
           in
-          all image (subst (λ d. g.D.Disk.may_leave d image) c.into_disk.ensures left)),
+          all crash_state (subst (λ d. g.D.Disk.may_leave d crash_state) c.into_disk.ensures left)),
     )

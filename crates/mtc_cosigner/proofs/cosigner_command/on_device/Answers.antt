@@ -35,7 +35,8 @@ returns-in-Ok-clause-serves g c =
       all = opened.all;
     }) in
     worked_on d name (cosigner_bytes_say h name says) next c.args.disk it.disk done ending
-    g.met.D.Disk.reads_image opened.only_reads opened.fine found.contents found.stands found.all
+    g.met.D.Disk.reads_crash_state opened.only_reads opened.fine found.contents found.stands
+    found.all
     (subst (λ (o : Option (List Text)). HasWorkedWith d name o next it.disk done ending)
     opened.list c.carry_out.ensures.works)
 

@@ -6,8 +6,8 @@ use Rattle.cosigner_core.specs.Requests.{SubtreeParts}
 use Rattle.cosigner_core.specs.Views.{subtree_parts}
 use Rattle.mtc_command.specs.Answers.{ending_of}
 use Rattle.mtc_command.specs.Steps.{with_form}
-use Rattle.mtc_command.proofs.Served.{behind}
-use Rattle.mtc_command.proofs.Valid.{behind_valid, kept_valid}
+use Rattle.mtc_command.proofs.Served.{following}
+use Rattle.mtc_command.proofs.Valid.{after_valid, kept_valid}
 use Rattle.mtc_cosigner.specs.CosignerOutcomes.{cosign_says}
 use Rattle.mtc_lines.specs.Reasons.{form_fault_text}
 use Rattle.mtc_cosigner.specs.Works.{IsCosigner, cosign_outcome, cosigner_outcome}
@@ -44,12 +44,12 @@ returns-in-Ok-clause-serves g c =
     let r = subtree_parts c.in-Ok.request in
     let is : subtree_in c.in_ok-bytes.bytes ≡ Ok r =
     subst (λ (t : Text). subtree_in t ≡ Ok r) c.as_slice.ensures c.in-Ok.ensures in
-    behind rooms g.R.Dsk.Disk (journal ∷ (file ∷ [])) (journal ∷ []) (journal ∷ []) []
+    following rooms g.R.Dsk.Disk (journal ∷ (file ∷ [])) (journal ∷ []) (journal ∷ []) []
     (cosign_outcome h journal file (rooms.file old))
     (cosigner_outcome h journal (rooms.file mid journal) (cosign_says h r)) old mid
-    c.on_cosigner.new.room (ending_of c.on_cosigner.result) read.settled
+    c.on_cosigner.new.room (ending_of c.on_cosigner.result) read.all_closed
     (λ t. ap (λ x. cosigner_outcome h journal x (cosign_says h r))
-    (read.settled.others journal tt).bytes
+    (read.all_closed.others journal tt).bytes
     ∙ sym (asked_so subtree_in
     wanted file (rooms.file old file) c.in_ok-bytes.bytes r (read.bytes t).0 (read.bytes t).1 is))
     (λ name among. elim among [ inl same ↦ inl same | inr never ↦ absurd never ])
@@ -70,7 +70,7 @@ returns-clause-serves g c =
     subst (λ (t : Text). subtree_in t ≡ Err c.in-Err.why) c.as_slice.ensures c.in-Err.ensures in
     no_request subtree_in wanted
     file rooms g.R.Dsk.Disk (journal ∷ (file ∷ [])) (journal ∷ []) old c.read_input.new.room
-    c.in_ok-bytes.bytes _ c.in-Err.why _ read.settled g.met.R.Dsk.Disk.only_now read.bytes is
+    c.in_ok-bytes.bytes _ c.in-Err.why _ read.all_closed g.met.R.Dsk.Disk.only_now read.bytes is
     c.form_reason.ensures c.refuse_file.ensures
 
 pub returns-in_err-bytes-clause-valid : goal.returns-in_err-bytes-clause-valid
@@ -78,7 +78,7 @@ returns-in_err-bytes-clause-valid g c =
     let h = g.H.TreeHash.hash in
     kept_valid g.R.Room g.R.Dsk.Disk (IsCosigner h) (c.args.journal.now ∷ [])
     (cosign_outcome h c.args.journal.now c.args.file.now (g.R.Room.file c.args.room.now))
-    c.args.room.now c.read_input.new.room c.in_err-bytes.ensures.settled
+    c.args.room.now c.read_input.new.room c.in_err-bytes.ensures.all_closed
     g.met.R.Dsk.Disk.only_now
 
 pub returns-in-Ok-clause-valid : goal.returns-in-Ok-clause-valid
@@ -97,12 +97,12 @@ returns-in-Ok-clause-valid g c =
     let r = subtree_parts c.in-Ok.request in
     let is : subtree_in c.in_ok-bytes.bytes ≡ Ok r =
     subst (λ (t : Text). subtree_in t ≡ Ok r) c.as_slice.ensures c.in-Ok.ensures in
-    behind_valid rooms g.R.Dsk.Disk (IsCosigner h) (journal ∷ [])
+    after_valid rooms g.R.Dsk.Disk (IsCosigner h) (journal ∷ [])
     (cosign_outcome h journal file (rooms.file old))
     (cosigner_outcome h journal (rooms.file mid journal) (cosign_says h r)) old mid
-    c.on_cosigner.new.room read.settled
+    c.on_cosigner.new.room read.all_closed
     (λ t. ap (λ x. cosigner_outcome h journal x (cosign_says h r))
-    (read.settled.others journal tt).bytes
+    (read.all_closed.others journal tt).bytes
     ∙ sym (asked_so subtree_in
     wanted file (rooms.file old file) c.in_ok-bytes.bytes r (read.bytes t).0 (read.bytes t).1 is))
     c.on_cosigner.ensures.valid
@@ -112,5 +112,5 @@ returns-clause-valid g c =
     let h = g.H.TreeHash.hash in
     kept_valid g.R.Room g.R.Dsk.Disk (IsCosigner h) (c.args.journal.now ∷ [])
     (cosign_outcome h c.args.journal.now c.args.file.now (g.R.Room.file c.args.room.now))
-    c.args.room.now c.read_input.new.room c.in_ok-bytes.ensures.settled
+    c.args.room.now c.read_input.new.room c.in_ok-bytes.ensures.all_closed
     g.met.R.Dsk.Disk.only_now

@@ -8,6 +8,6 @@ returns-clause-judged g c = record {
   certificate = (parts_only c.args.bytes.now (parts c.in_ok-cert.cert)
       (λ i. (c.type_inv.bytes i).fits) c.in_ok-cert.ensures.exact).1;
   proof = c.in_ok-proof.ensures.exact;
-  moment = _;
+  unix_time = _;
   accepted = sym c.in_ok-accepted.ensures;
 }

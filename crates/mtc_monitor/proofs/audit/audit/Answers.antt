@@ -1,7 +1,7 @@
 use Rattle.std.proofs.Common.{[], inl, inr, refl}
 use Rattle.std.proofs.lemmas.Result.{err_from_is_err_and}
-use Rattle.mtc_monitor.proofs.Behind.{behind_cert, behind_entries, behind_export, behind_store}
-use Rattle.mtc_monitor.proofs.Behind.{names, of_entries, of_export, of_store, says}
+use Rattle.mtc_monitor.proofs.After.{after_cert, after_entries, after_export, after_store}
+use Rattle.mtc_monitor.proofs.After.{names, of_entries, of_export, of_store, says}
 use Rattle.mtc_monitor.proofs.audit.audit.Goals as goal
 
 pub returns-in_err-certificate : goal.returns-in_err-certificate
@@ -20,9 +20,9 @@ returns-in_err-trusted g c =
     c.from_residual-in_err-trusted.ensures.1 in
     let a = c.args in
     let file = g.R.Room.file c.read_input.new.room in
-    rw (p.1, p.2) (behind_cert g.H.TreeHash.hash a.now a.cert.now a.store.now a.entries.now
+    rw (p.1, p.2) (after_cert g.H.TreeHash.hash a.now a.cert.now a.store.now a.entries.now
     a.export.now
-    g.R.Room g.R.Dsk.Disk _ _ _ _ c.in_ok-certificate.ensures.settled
+    g.R.Room g.R.Dsk.Disk _ _ _ _ c.in_ok-certificate.ensures.all_closed
     c.in_ok-certificate.certificate c.in_ok-certificate.ensures.bytes
     (c.in_err-trusted.ensures.stops
     (names g.H.TreeHash.hash a.now a.cert.now a.store.now a.entries.now a.export.now) []
@@ -34,12 +34,12 @@ returns-in_err-listed g c =
     let p = err_from_is_err_and c.from_residual-in_err-listed.result
     c.from_residual-in_err-listed.ensures.1 in
     let a = c.args in
-    rw (p.1, p.2) (behind_cert g.H.TreeHash.hash a.now a.cert.now a.store.now a.entries.now
+    rw (p.1, p.2) (after_cert g.H.TreeHash.hash a.now a.cert.now a.store.now a.entries.now
     a.export.now
-    g.R.Room g.R.Dsk.Disk _ _ _ _ c.in_ok-certificate.ensures.settled
+    g.R.Room g.R.Dsk.Disk _ _ _ _ c.in_ok-certificate.ensures.all_closed
     c.in_ok-certificate.certificate c.in_ok-certificate.ensures.bytes
-    (behind_store g.H.TreeHash.hash a.now a.cert.now a.store.now a.entries.now a.export.now
-    g.R.Room g.R.Dsk.Disk _ _ _ _ c.in_ok-trusted.ensures.settled
+    (after_store g.H.TreeHash.hash a.now a.cert.now a.store.now a.entries.now a.export.now
+    g.R.Room g.R.Dsk.Disk _ _ _ _ c.in_ok-trusted.ensures.all_closed
     c.in_ok-certificate.certificate c.in_ok-trusted.trusted c.in_ok-trusted.ensures.bytes
     (c.in_err-listed.ensures.stops
     (names g.H.TreeHash.hash a.now a.cert.now a.store.now a.entries.now a.export.now) []
@@ -52,15 +52,15 @@ returns-in_err-exported g c =
     let p = err_from_is_err_and c.from_residual-in_err-exported.result
     c.from_residual-in_err-exported.ensures.1 in
     let a = c.args in
-    rw (p.1, p.2) (behind_cert g.H.TreeHash.hash a.now a.cert.now a.store.now a.entries.now
+    rw (p.1, p.2) (after_cert g.H.TreeHash.hash a.now a.cert.now a.store.now a.entries.now
     a.export.now
-    g.R.Room g.R.Dsk.Disk _ _ _ _ c.in_ok-certificate.ensures.settled
+    g.R.Room g.R.Dsk.Disk _ _ _ _ c.in_ok-certificate.ensures.all_closed
     c.in_ok-certificate.certificate c.in_ok-certificate.ensures.bytes
-    (behind_store g.H.TreeHash.hash a.now a.cert.now a.store.now a.entries.now a.export.now
-    g.R.Room g.R.Dsk.Disk _ _ _ _ c.in_ok-trusted.ensures.settled
+    (after_store g.H.TreeHash.hash a.now a.cert.now a.store.now a.entries.now a.export.now
+    g.R.Room g.R.Dsk.Disk _ _ _ _ c.in_ok-trusted.ensures.all_closed
     c.in_ok-certificate.certificate c.in_ok-trusted.trusted c.in_ok-trusted.ensures.bytes
-    (behind_entries g.H.TreeHash.hash a.now a.cert.now a.store.now a.entries.now a.export.now
-    g.R.Room g.R.Dsk.Disk _ _ _ _ c.in_ok-listed.ensures.settled
+    (after_entries g.H.TreeHash.hash a.now a.cert.now a.store.now a.entries.now a.export.now
+    g.R.Room g.R.Dsk.Disk _ _ _ _ c.in_ok-listed.ensures.all_closed
     c.in_ok-certificate.certificate c.in_ok-trusted.trusted c.in_ok-listed.listed
     c.in_ok-listed.ensures.bytes
     (c.in_err-exported.ensures.stops
@@ -72,18 +72,19 @@ returns-in_err-exported g c =
 pub returns : goal.returns
 returns g c =
     let a = c.args in
-    behind_cert g.H.TreeHash.hash a.now a.cert.now a.store.now a.entries.now a.export.now
-    g.R.Room g.R.Dsk.Disk _ _ _ _ c.in_ok-certificate.ensures.settled
+    after_cert g.H.TreeHash.hash a.now a.cert.now a.store.now a.entries.now a.export.now
+    g.R.Room g.R.Dsk.Disk _ _ _ _ c.in_ok-certificate.ensures.all_closed
     c.in_ok-certificate.certificate c.in_ok-certificate.ensures.bytes
-    (behind_store g.H.TreeHash.hash a.now a.cert.now a.store.now a.entries.now a.export.now
-    g.R.Room g.R.Dsk.Disk _ _ _ _ c.in_ok-trusted.ensures.settled
+    (after_store g.H.TreeHash.hash a.now a.cert.now a.store.now a.entries.now a.export.now
+    g.R.Room g.R.Dsk.Disk _ _ _ _ c.in_ok-trusted.ensures.all_closed
     c.in_ok-certificate.certificate c.in_ok-trusted.trusted c.in_ok-trusted.ensures.bytes
-    (behind_entries g.H.TreeHash.hash a.now a.cert.now a.store.now a.entries.now a.export.now
-    g.R.Room g.R.Dsk.Disk _ _ _ _ c.in_ok-listed.ensures.settled
+    (after_entries g.H.TreeHash.hash a.now a.cert.now a.store.now a.entries.now a.export.now
+    g.R.Room g.R.Dsk.Disk _ _ _ _ c.in_ok-listed.ensures.all_closed
     c.in_ok-certificate.certificate c.in_ok-trusted.trusted c.in_ok-listed.listed
     c.in_ok-listed.ensures.bytes
-    (behind_export g.H.TreeHash.hash a.now a.cert.now a.store.now a.entries.now a.export.now
-    g.R.Room g.R.Dsk.Disk _ _ _ c.in_ok-exported.ensures.settled g.met.R.Dsk.Disk.only_now _ _ _ _
+    (after_export g.H.TreeHash.hash a.now a.cert.now a.store.now a.entries.now a.export.now
+    g.R.Room g.R.Dsk.Disk _ _ _ c.in_ok-exported.ensures.all_closed g.met.R.Dsk.Disk.only_now _ _ _
+    _
     c.in_ok-certificate.certificate c.in_ok-trusted.trusted c.in_ok-listed.listed
     c.in_ok-exported.exported c.in_ok-exported.ensures.bytes c.input.ensures c.input-2.ensures
     c.input-3.ensures c.input-4.ensures c.store_answer.ensures)))

@@ -3,7 +3,7 @@ use Rattle.landmarks.specs.Landmarks.{active_count, active_of}
 use Rattle.tree_core.specs.declared.spans.Cover.{Cover}
 use Rattle.tree_core.specs.declared.spans.Span.{Span}
 use Rattle.mtc_monitor.specs.TrustOutcome.{cover_tables, tables_of}
-use Rattle.mtc_monitor.proofs.Trusted.{places, tables_more}
+use Rattle.mtc_monitor.proofs.Trusted.{all_within, tables_more}
 use Rattle.mtc_monitor.proofs.tables.tables.Goals as goal
 
 pub put_cover-requires : goal.put_cover-requires
@@ -13,7 +13,7 @@ put_cover-requires g c =
     ap (λ (s : Span). s.start) c.active-numbers.ensures in
     let end : c.active-numbers.result.end ≡ l.last + 1 =
     ap (λ (s : Span). s.end) c.active-numbers.ensures in
-    places l c.loop-number.number (length c.args.entries.now) c.subtrees.result c.requires.known
+    all_within l c.loop-number.number (length c.args.entries.now) c.subtrees.result c.requires.known
     c.requires.within (record {
       from = omega (arith, start, end, c.requires.known.some, c.requires.known.numbered);
       below = omega (arith, end);

@@ -1,7 +1,7 @@
 use Rattle.std.proofs.Common.{[], ◌∷◌, inl, inr, refl, arith}
 use Rattle.std.proofs.lemmas.Result.{err_from_is_err_and}
 use Rattle.mtc_command.specs.Steps.{with_bytes}
-use Rattle.mtc_command.proofs.Served.{behind}
+use Rattle.mtc_command.proofs.Served.{following}
 use Rattle.mtc_monitor.specs.TrustOutcome.{trust_says}
 use Rattle.mtc_monitor.proofs.trust.trust_landmarks.Goals as goal
 
@@ -18,11 +18,12 @@ pub returns-in_err-bytes : goal.returns-in_err-bytes
 returns-in_err-bytes g c =
     let p = err_from_is_err_and c.from_residual-in_err-bytes.result
     c.from_residual-in_err-bytes.ensures.1 in
-    rw (p.1, p.2) (behind g.R.Room g.R.Dsk.Disk _ _ _ _ _ _ _ _ _ _ c.in_ok-text.ensures.settled
+    rw (p.1, p.2)
+    (following g.R.Room g.R.Dsk.Disk _ _ _ _ _ _ _ _ _ _ c.in_ok-text.ensures.all_closed
     (λ is_modelled. grind (
       arith,
       c.in_ok-text.ensures.bytes is_modelled,
-      (c.in_ok-text.ensures.settled.others c.args.entries.now tt).bytes,
+      (c.in_ok-text.ensures.all_closed.others c.args.entries.now tt).bytes,
     )) (λ file is. is)
     (c.in_err-bytes.ensures.stops (c.args.list.now ∷ c.args.entries.now ∷ []) []
     (λ bytes. trust_says g.H.TreeHash.hash c.args.list.now c.args.max_active c.args.entries.now

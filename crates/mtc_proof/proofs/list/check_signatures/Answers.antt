@@ -1,5 +1,5 @@
 use Rattle.std.proofs.Common.{subst}
-use Rattle.byte_formats.specs.Places.{At}
+use Rattle.byte_formats.specs.Offsets.{At}
 use Rattle.byte_formats.specs.Readings.{Gives}
 use Rattle.mtc_proof.specs.Reading.{checked_signatures}
 use Rattle.mtc_proof.proofs.Forms.{list_found, list_only}

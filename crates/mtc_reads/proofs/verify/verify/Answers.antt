@@ -1,7 +1,7 @@
 use Rattle.std.proofs.Common.{[], ◌∷◌, inl, inr, refl, arith}
 use Rattle.std.proofs.lemmas.Result.{err_from_is_err_and}
 use Rattle.mtc_command.specs.Steps.{with_bytes}
-use Rattle.mtc_command.proofs.Served.{behind}
+use Rattle.mtc_command.proofs.Served.{following}
 use Rattle.mtc_reads.specs.VerifyOutcome.{verify_says}
 use Rattle.mtc_reads.proofs.verify.verify.Goals as goal
 
@@ -16,11 +16,12 @@ pub returns-in_err-text : goal.returns-in_err-text
 returns-in_err-text g c =
     let p = err_from_is_err_and c.from_residual-in_err-text.result
     c.from_residual-in_err-text.ensures.1 in
-    rw (p.1, p.2) (behind g.R.Room g.R.Dsk.Disk _ _ _ _ _ _ _ _ _ _ c.in_ok-bytes.ensures.settled
+    rw (p.1, p.2)
+    (following g.R.Room g.R.Dsk.Disk _ _ _ _ _ _ _ _ _ _ c.in_ok-bytes.ensures.all_closed
     (λ is_modelled. grind (
       arith,
       c.in_ok-bytes.ensures.bytes is_modelled,
-      (c.in_ok-bytes.ensures.settled.others c.args.store.now tt).bytes,
+      (c.in_ok-bytes.ensures.all_closed.others c.args.store.now tt).bytes,
     )) (λ file is. is)
     (c.in_err-text.ensures.stops (c.args.cert.now ∷ c.args.store.now ∷ []) []
     (verify_says g.H.TreeHash.hash c.args.cert.now c.args.store.now c.args.now c.in_ok-bytes.bytes)

@@ -3,5 +3,5 @@ use Rattle.mtc_top.proofs.laws.law_courses_are_histories.Goals as goal
 
 pub returns : goal.returns
 returns g c = histories g.H.TreeHash.hash g.R.Room g.R.Dsk.Disk g.O.Sink g.E.Sink
-    g.met.R.Dsk.Disk.reads_image g.met.R.Dsk.Disk.only_now g.met.R.Room.modelled_file
+    g.met.R.Dsk.Disk.reads_crash_state g.met.R.Dsk.Disk.only_now g.met.R.Room.modelled_file
     g.met.R.Dsk.Disk.contents_bytes

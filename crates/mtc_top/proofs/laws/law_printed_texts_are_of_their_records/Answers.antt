@@ -12,5 +12,5 @@ returns-clause-signatures g c = signatures_printed g.H.TreeHash.hash g.R.Room g.
 
 pub returns-clause-secrets : goal.returns-clause-secrets
 returns-clause-secrets g c = only_cosign g.H.TreeHash.hash g.R.Room g.R.Dsk.Disk g.O.Sink g.E.Sink
-    g.met.R.Dsk.Disk.reads_image g.met.R.Dsk.Disk.only_now g.met.R.Room.modelled_file
+    g.met.R.Dsk.Disk.reads_crash_state g.met.R.Dsk.Disk.only_now g.met.R.Room.modelled_file
     g.met.R.Dsk.Disk.contents_bytes

@@ -1,34 +1,34 @@
-use Rattle.mtc_top.proofs.AuditsSettle.{audits_settle}
+use Rattle.mtc_top.proofs.AuditsDecide.{audits_decide}
 use Rattle.mtc_top.proofs.Recovered.{keys_once, lists_grow, one_message, read_again}
 use Rattle.mtc_top.proofs.Secrets.{only_cosign}
 use Rattle.mtc_top.proofs.laws.law_the_whole_promise.Goals as goal
 
 pub returns-clause-once : goal.returns-clause-once
 returns-clause-once g c = keys_once g.H.TreeHash.hash g.R.Room g.R.Dsk.Disk g.O.Sink g.E.Sink
-    g.met.R.Dsk.Disk.reads_image g.met.R.Dsk.Disk.only_now g.met.R.Room.modelled_file
+    g.met.R.Dsk.Disk.reads_crash_state g.met.R.Dsk.Disk.only_now g.met.R.Room.modelled_file
     g.met.R.Dsk.Disk.contents_bytes
 
 pub returns-clause-messages : goal.returns-clause-messages
 returns-clause-messages g c = one_message g.H.TreeHash.hash g.R.Room g.R.Dsk.Disk g.O.Sink g.E.Sink
-    g.met.R.Dsk.Disk.reads_image g.met.R.Dsk.Disk.only_now g.met.R.Room.modelled_file
+    g.met.R.Dsk.Disk.reads_crash_state g.met.R.Dsk.Disk.only_now g.met.R.Room.modelled_file
     g.met.R.Dsk.Disk.contents_bytes
 
 pub returns-clause-stand : goal.returns-clause-stand
 returns-clause-stand g c = lists_grow g.H.TreeHash.hash g.R.Room g.R.Dsk.Disk g.O.Sink g.E.Sink
-    g.met.R.Dsk.Disk.reads_image g.met.R.Dsk.Disk.only_now g.met.R.Room.modelled_file
+    g.met.R.Dsk.Disk.reads_crash_state g.met.R.Dsk.Disk.only_now g.met.R.Room.modelled_file
     g.met.R.Dsk.Disk.contents_bytes
 
 pub returns-clause-read : goal.returns-clause-read
 returns-clause-read g c = read_again g.H.TreeHash.hash g.R.Room g.R.Dsk.Disk g.O.Sink g.E.Sink
-    g.met.R.Dsk.Disk.reads_image g.met.R.Dsk.Disk.only_now g.met.R.Room.modelled_file
+    g.met.R.Dsk.Disk.reads_crash_state g.met.R.Dsk.Disk.only_now g.met.R.Room.modelled_file
     g.met.R.Dsk.Disk.contents_bytes
 
 pub returns-clause-signatures : goal.returns-clause-signatures
 returns-clause-signatures g c = only_cosign g.H.TreeHash.hash g.R.Room g.R.Dsk.Disk g.O.Sink
-    g.E.Sink g.met.R.Dsk.Disk.reads_image g.met.R.Dsk.Disk.only_now g.met.R.Room.modelled_file
+    g.E.Sink g.met.R.Dsk.Disk.reads_crash_state g.met.R.Dsk.Disk.only_now g.met.R.Room.modelled_file
     g.met.R.Dsk.Disk.contents_bytes
 
 pub returns-clause-audits : goal.returns-clause-audits
-returns-clause-audits g c = audits_settle g.H.TreeHash.hash g.R.Room g.R.Dsk.Disk g.O.Sink g.E.Sink
-    g.met.R.Dsk.Disk.reads_image g.met.R.Dsk.Disk.only_now g.met.R.Room.modelled_file
+returns-clause-audits g c = audits_decide g.H.TreeHash.hash g.R.Room g.R.Dsk.Disk g.O.Sink g.E.Sink
+    g.met.R.Dsk.Disk.reads_crash_state g.met.R.Dsk.Disk.only_now g.met.R.Room.modelled_file
     g.met.R.Dsk.Disk.contents_bytes

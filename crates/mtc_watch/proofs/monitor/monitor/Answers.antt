@@ -3,7 +3,7 @@ use Rattle.std.proofs.lemmas.Result.{err_from_is_err_and}
 use Rattle.byte_formats.specs.Types.{HashFunction, Text}
 use Rattle.mtc_command.specs.Steps.{Outcome}
 use Rattle.mtc_watch.specs.MonitorOutcome.{kept_says}
-use Rattle.mtc_watch.proofs.FourFiles.{behind_first, behind_fourth, behind_second, behind_third}
+use Rattle.mtc_watch.proofs.FourFiles.{following_first, after_fourth, after_second, after_third}
 use Rattle.mtc_watch.proofs.FourFiles.{from_fourth, from_second, from_third, names}
 use Rattle.mtc_watch.proofs.monitor.monitor.Goals as goal
 
@@ -29,8 +29,8 @@ returns-in_err-domains g c =
     let a = c.args in
     let f = says g.H.TreeHash.hash a.state.now a.watch.now a.request.now a.entries.now in
     let file = g.R.Room.file c.read_input.new.room in
-    rw (p.1, p.2) (behind_first f a.state.now a.watch.now a.request.now a.entries.now
-    g.R.Room g.R.Dsk.Disk _ _ _ _ c.in_ok-kept.ensures.settled c.in_ok-kept.kept
+    rw (p.1, p.2) (following_first f a.state.now a.watch.now a.request.now a.entries.now
+    g.R.Room g.R.Dsk.Disk _ _ _ _ c.in_ok-kept.ensures.all_closed c.in_ok-kept.kept
     c.in_ok-kept.ensures.bytes
     (c.in_err-domains.ensures.stops
     (names f a.state.now a.watch.now a.request.now a.entries.now) []
@@ -43,11 +43,11 @@ returns-in_err-asked g c =
     c.from_residual-in_err-asked.ensures.1 in
     let a = c.args in
     let f = says g.H.TreeHash.hash a.state.now a.watch.now a.request.now a.entries.now in
-    rw (p.1, p.2) (behind_first f a.state.now a.watch.now a.request.now a.entries.now
-    g.R.Room g.R.Dsk.Disk _ _ _ _ c.in_ok-kept.ensures.settled c.in_ok-kept.kept
+    rw (p.1, p.2) (following_first f a.state.now a.watch.now a.request.now a.entries.now
+    g.R.Room g.R.Dsk.Disk _ _ _ _ c.in_ok-kept.ensures.all_closed c.in_ok-kept.kept
     c.in_ok-kept.ensures.bytes
-    (behind_second f a.state.now a.watch.now a.request.now a.entries.now
-    g.R.Room g.R.Dsk.Disk _ _ _ _ c.in_ok-domains.ensures.settled c.in_ok-kept.kept
+    (after_second f a.state.now a.watch.now a.request.now a.entries.now
+    g.R.Room g.R.Dsk.Disk _ _ _ _ c.in_ok-domains.ensures.all_closed c.in_ok-kept.kept
     c.in_ok-domains.domains c.in_ok-domains.ensures.bytes
     (c.in_err-asked.ensures.stops
     (names f a.state.now a.watch.now a.request.now a.entries.now) []
@@ -61,14 +61,14 @@ returns-in_err-listed g c =
     c.from_residual-in_err-listed.ensures.1 in
     let a = c.args in
     let f = says g.H.TreeHash.hash a.state.now a.watch.now a.request.now a.entries.now in
-    rw (p.1, p.2) (behind_first f a.state.now a.watch.now a.request.now a.entries.now
-    g.R.Room g.R.Dsk.Disk _ _ _ _ c.in_ok-kept.ensures.settled c.in_ok-kept.kept
+    rw (p.1, p.2) (following_first f a.state.now a.watch.now a.request.now a.entries.now
+    g.R.Room g.R.Dsk.Disk _ _ _ _ c.in_ok-kept.ensures.all_closed c.in_ok-kept.kept
     c.in_ok-kept.ensures.bytes
-    (behind_second f a.state.now a.watch.now a.request.now a.entries.now
-    g.R.Room g.R.Dsk.Disk _ _ _ _ c.in_ok-domains.ensures.settled c.in_ok-kept.kept
+    (after_second f a.state.now a.watch.now a.request.now a.entries.now
+    g.R.Room g.R.Dsk.Disk _ _ _ _ c.in_ok-domains.ensures.all_closed c.in_ok-kept.kept
     c.in_ok-domains.domains c.in_ok-domains.ensures.bytes
-    (behind_third f a.state.now a.watch.now a.request.now a.entries.now
-    g.R.Room g.R.Dsk.Disk _ _ _ _ c.in_ok-asked.ensures.settled c.in_ok-kept.kept
+    (after_third f a.state.now a.watch.now a.request.now a.entries.now
+    g.R.Room g.R.Dsk.Disk _ _ _ _ c.in_ok-asked.ensures.all_closed c.in_ok-kept.kept
     c.in_ok-domains.domains c.in_ok-asked.asked c.in_ok-asked.ensures.bytes
     (c.in_err-listed.ensures.stops
     (names f a.state.now a.watch.now a.request.now a.entries.now) []
@@ -79,17 +79,17 @@ pub returns : goal.returns
 returns g c =
     let a = c.args in
     let f = says g.H.TreeHash.hash a.state.now a.watch.now a.request.now a.entries.now in
-    behind_first f a.state.now a.watch.now a.request.now a.entries.now
-    g.R.Room g.R.Dsk.Disk _ _ _ _ c.in_ok-kept.ensures.settled c.in_ok-kept.kept
+    following_first f a.state.now a.watch.now a.request.now a.entries.now
+    g.R.Room g.R.Dsk.Disk _ _ _ _ c.in_ok-kept.ensures.all_closed c.in_ok-kept.kept
     c.in_ok-kept.ensures.bytes
-    (behind_second f a.state.now a.watch.now a.request.now a.entries.now
-    g.R.Room g.R.Dsk.Disk _ _ _ _ c.in_ok-domains.ensures.settled c.in_ok-kept.kept
+    (after_second f a.state.now a.watch.now a.request.now a.entries.now
+    g.R.Room g.R.Dsk.Disk _ _ _ _ c.in_ok-domains.ensures.all_closed c.in_ok-kept.kept
     c.in_ok-domains.domains c.in_ok-domains.ensures.bytes
-    (behind_third f a.state.now a.watch.now a.request.now a.entries.now
-    g.R.Room g.R.Dsk.Disk _ _ _ _ c.in_ok-asked.ensures.settled c.in_ok-kept.kept
+    (after_third f a.state.now a.watch.now a.request.now a.entries.now
+    g.R.Room g.R.Dsk.Disk _ _ _ _ c.in_ok-asked.ensures.all_closed c.in_ok-kept.kept
     c.in_ok-domains.domains c.in_ok-asked.asked c.in_ok-asked.ensures.bytes
-    (behind_fourth f a.state.now a.watch.now a.request.now a.entries.now
-    g.R.Room g.R.Dsk.Disk _ _ _ c.in_ok-listed.ensures.settled g.met.R.Dsk.Disk.only_now _ _ _ _
+    (after_fourth f a.state.now a.watch.now a.request.now a.entries.now
+    g.R.Room g.R.Dsk.Disk _ _ _ c.in_ok-listed.ensures.all_closed g.met.R.Dsk.Disk.only_now _ _ _ _
     c.in_ok-kept.kept c.in_ok-domains.domains c.in_ok-asked.asked c.in_ok-listed.listed
     c.in_ok-listed.ensures.bytes c.as_slice.ensures c.as_slice-2.ensures c.as_slice-3.ensures
     c.as_slice-4.ensures c.kept_answer.ensures)))

@@ -1,5 +1,5 @@
 use Rattle.std.proofs.Common.{◌<◌, [], length, take, sym, ◌∙◌, arith}
-use Rattle.policy_core.proofs.Repeats.{repeats_behind-nothing, repeats_behind-end, holds_nothing}
+use Rattle.policy_core.proofs.Repeats.{repeats_after-nothing, repeats_after-end, holds_nothing}
 use Rattle.policy_core.proofs.Repeats.{holds_next_one, repeats_there, repeats_later}
 use Rattle.policy_core.specs.declared.lists.Trusted.{Trusted}
 use Rattle.policy_core.proofs.whole.repeats.Goals as goal
@@ -11,12 +11,12 @@ pub loop-one-init : goal.loop-one-init
 loop-one-init c = record {
   seen = holds_nothing c.new-seen.result c.new-seen.ensures.empty;
   whole =
-      repeats_behind-nothing c.args.subtrees.now;
+      repeats_after-nothing c.args.subtrees.now;
 }
 
 pub returns : goal.returns
 returns c =
-    sym (repeats_behind-end (take c.loop-one.one-index c.args.subtrees.now) c.args.subtrees.now
+    sym (repeats_after-end (take c.loop-one.one-index c.args.subtrees.now) c.args.subtrees.now
     c.loop-one.one-index (omega arith))
     ∙ c.loop-one.invariant.whole
 

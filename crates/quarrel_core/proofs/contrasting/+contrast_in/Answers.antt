@@ -1,8 +1,8 @@
 use Rattle.std.proofs.Common.{◌≡◌, length, rules}
 use Rattle.tree_proofs.proofs.Opens.{part_from, part_more}
-use Rattle.quarrel_core.proofs.ContrastingCases.{case_all, case_part_behind, case_part_left}
+use Rattle.quarrel_core.proofs.ContrastingCases.{case_all, case_part_after, case_part_left}
 use Rattle.quarrel_core.proofs.ContrastingCases.{first_short, second_short}
-use Rattle.quarrel_core.proofs.OpenLevels.{above_behind, above_left}
+use Rattle.quarrel_core.proofs.OpenLevels.{above_after, above_left}
 use Rattle.quarrel_core.proofs.contrasting.+contrast_in.Goals as goal
 
 pub alike-requires-clause-same : goal.alike-requires-clause-same
@@ -67,17 +67,17 @@ returns g t c =
     let was = c.in_ok-below-2.ensures in
     let given = c.in_ok-below-2.given in
     record {
-      finding = case_part_behind h a.part.start a.part.end a.size k there.start there.end
+      finding = case_part_after h a.part.start a.part.end a.size k there.start there.end
           a.part.known there.known a.node.now a.other.now c.in-Some.own.now
           c.in-Some-split_last.sibling.now a.first.now c.in-Some.less.now a.second.now
           c.in-Some-split_last.rest.now given.first given.second c.in_ok-below-2.below
           c.in_ok-finding-2.finding split begins ends inner c.if-part-k.false
           c.after-there.ensures was.first was.second was.finding c.in_ok-finding-2.ensures;
-      first = above_behind h a.part.start a.part.end a.size k there.start there.end a.part.known
+      first = above_after h a.part.start a.part.end a.size k there.start there.end a.part.known
           there.known a.node.now c.in-Some.own.now a.first.now c.in-Some.less.now
           c.both_above-2.result.first given.first split begins c.requires.order c.requires.within
           inner c.if-part-k.false c.after-there.ensures was.first c.both_above-2.ensures.first;
-      second = above_behind h a.part.start a.part.end a.size k there.start there.end a.part.known
+      second = above_after h a.part.start a.part.end a.size k there.start there.end a.part.known
           there.known a.other.now c.in-Some-split_last.sibling.now a.second.now
           c.in-Some-split_last.rest.now c.both_above-2.result.second given.second split ends
           c.requires.order c.requires.within inner c.if-part-k.false c.after-there.ensures

@@ -1,7 +1,7 @@
 use Rattle.std.proofs.Common.{◌≡◌, ◌∙◌, ◌<◌, length, ap, refl, arith, rules}
 use Rattle.std.proofs.lemmas.Result.{IfOk-weaker}
 use Rattle.tree_proofs.proofs.Opens.{part_from}
-use Rattle.quarrel_core.proofs.JoiningCases.{case_behind, case_left, case_none, case_part}
+use Rattle.quarrel_core.proofs.JoiningCases.{case_after, case_left, case_none, case_part}
 use Rattle.quarrel_core.proofs.JoiningCases.{case_same, case_short, case_whole}
 use Rattle.quarrel_core.proofs.OpenLevels.{above_first, above_left, above_lower, above_upper}
 use Rattle.quarrel_core.specs.declared.opened_parts.BothOpened.{BothOpened}
@@ -103,7 +103,7 @@ returns g t c =
     let inner = part_from p.part.start p.part.end p.old c.requires.within c.else-part-eq0.either in
     IfOk-weaker c.joined_after.result _ _
     (λ both is. record {
-      joined = case_behind h p.part.start p.part.end p.old p.new c.split-k.result
+      joined = case_after h p.part.start p.part.end p.old p.new c.split-k.result
           c.after.result.start c.after.result.end p.part.known c.after.result.known p.node.now
           p.prefix.now c.in-Some.sibling.now c.in-Some-split_last.own.now p.first.now
           c.in-Some-split_last.less.now p.second.now c.in-Some.rest.now below.1.first

@@ -1,6 +1,6 @@
 use Rattle.std.proofs.Common.{arith}
 use Rattle.cosigner_steps.proofs.Holding.{found_at}
-use Rattle.quarrel_core.proofs.Verdicts.{conflict_places, conflict_steps, first_carried}
+use Rattle.quarrel_core.proofs.Verdicts.{conflict_indices, conflict_steps, first_carried}
 use Rattle.quarrel_core.proofs.Verdicts.{first_no_advance, second_carried, second_no_advance}
 use Rattle.quarrel_core.proofs.quarrelling.pair_between.Goals as goal
 
@@ -19,7 +19,7 @@ unreachable-requires-in_default-steps g c =
 pub pair_of-requires-clause-order : goal.pair_of-requires-clause-order
 pair_of-requires-clause-order g c =
     let order =
-    (conflict_places c.args.steps.now c.args.one c.args.other c.requires.conflict).order in
+    (conflict_indices c.args.steps.now c.args.one c.args.other c.requires.conflict).order in
     omega arith
 
 pub pair_of-requires-clause-first : goal.pair_of-requires-clause-first

@@ -1,10 +1,10 @@
 use Rattle.std.proofs.Common.{◌≡◌, List, Option, IfSome, Ok, ap, subst, sym, ◌∙◌, arith}
 use Rattle.byte_formats.specs.Types.{Text}
-use Rattle.disk_core.specs.Moments.{OnlyReads}
-use Rattle.disk_core.proofs.Moments.{only_read_on}
+use Rattle.disk_core.specs.Times.{OnlyReads}
+use Rattle.disk_core.proofs.Times.{only_read_on}
 use Rattle.journal_core.specs.Ends.{durable_records}
-use Rattle.journal_core.specs.Folds.{read_by, state_behind}
-use Rattle.journal_core.specs.Format.{Represents, end_behind}
+use Rattle.journal_core.specs.Folds.{read_by, state_after}
+use Rattle.journal_core.specs.Format.{Represents, end_following}
 use Rattle.journal_core.specs.Openings.{opening_disk, read_list}
 use Rattle.journal_core.specs.Words.{AllRepresent, disk_of, end_of}
 use Rattle.journal_core.proofs.FoldSteps.{cause_begin}
@@ -12,7 +12,7 @@ use Rattle.state_journal.specs.Causes.{IsLeftAt}
 use Rattle.state_journal.specs.Machines.{Makes, fold_of}
 use Rattle.state_journal.specs.declared.error.StateOpenError.TheVariants.{Open}
 use Rattle.state_journal.proofs.Kept.{both_modelled, keeps_sound, of_sound, sound_records}
-use Rattle.state_journal.proofs.Refusals.{behind_err}
+use Rattle.state_journal.proofs.Refusals.{after_err}
 use Rattle.state_journal.proofs.Taken.{makes_all}
 use Rattle.state_journal.proofs.opening.open_state.Goals as goal
 
@@ -28,7 +28,7 @@ returns-in-Err-clause-err g c = record {
 pub returns-in-Err-read_machine-clause-err : goal.returns-in-Err-read_machine-clause-err
 returns-in-Err-read_machine-clause-err g c =
     rw c.into_disk.ensures
-    (behind_err g.D.Disk (fold_of g.M.StateMachine) c.args.disk (opening_disk c.in-Ok.opening)
+    (after_err g.D.Disk (fold_of g.M.StateMachine) c.args.disk (opening_disk c.in-Ok.opening)
     (opening_disk c.read_machine.new.opening) c.in-Ok.ensures.ok.only_reads
     c.in-Ok.ensures.ok.fine c.in-Err-read_machine.field-0.why c.in-Err-read_machine.ensures.read)
 
@@ -55,13 +55,13 @@ returns-in-Ok-read_machine-clause-opened g c =
           (read_list opening) (durable_records journal)
           (sym (read.only_reads.contents ∙ c.in-Ok.ensures.ok.only_reads.contents)) same
           all.found.found;
-      made = subst (λ (o : Option (List Text)). IfSome o (λ list. state_behind (fold_of m) list
+      made = subst (λ (o : Option (List Text)). IfSome o (λ list. state_after (fold_of m) list
           ≡ Ok (m.state it))) (sym same) all.found.made;
       stands = both_modelled Represents (g.D.Disk.contents (opening_disk opening))
           (g.D.Disk.contents (disk_of journal)) (read_list opening) (durable_records journal)
           (ap g.D.Disk.contents c.ready.ensures.disk) same all.found.stands;
       all = of_sound journal (AllRepresent g.D.Disk (disk_of journal)) sound c.ready.ensures.all;
-      end = of_sound journal (λ list. end_of journal ≡ end_behind list) sound
+      end = of_sound journal (λ list. end_of journal ≡ end_following list) sound
           c.ready.ensures.end;
     }
 
@@ -82,5 +82,5 @@ pub returns-in-Err-clause-rest : goal.returns-in-Err-clause-rest
 returns-in-Err-clause-rest g c = λ was is.
     let m = g.M.StateMachine in
     subst (λ rest. IsLeftAt m.Becomes m.Stops was rest (Open c.in-Err.field-0.why))
-    (sym c.hand_back.ensures)
+    (sym c.return_rest.ensures)
     (g.met.M.StateMachine.becomes_stops was (m.rest_of c.args.seed) is, λ other. is)

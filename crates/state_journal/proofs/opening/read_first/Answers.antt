@@ -54,7 +54,7 @@ returns-in-Err-clause-read g c =
     let refused = subst (Nexts old new) c.in-Err.is c.next.follows.holds-at-none in
     stopped (fold_of g.M.StateMachine) old new c.in-Err.why refused.1
     (cause_first (fold_of g.M.StateMachine) old new c.in-Err.why c.requires.list
-    c.requires.goes_on.1 refused.1)
+    c.requires.continues.1 refused.1)
 
 pub returns-in-Ok-clause-rest : goal.returns-in-Ok-clause-rest
 returns-in-Ok-clause-rest g c = c.in-Ok.ensures.rest
@@ -70,12 +70,12 @@ returns-in-Err-begin-clause-rest g c = λ was is.
 pub returns-in-Ok-None-clause-rest : goal.returns-in-Ok-None-clause-rest
 returns-in-Ok-None-clause-rest g c = λ was is.
     let m = g.M.StateMachine in
-    subst (λ rest. IsLeftAt m.Becomes m.Stops was rest (BadRecord 0)) (sym c.hand_back.ensures)
+    subst (λ rest. IsLeftAt m.Becomes m.Stops was rest (BadRecord 0)) (sym c.return_rest.ensures)
     (g.met.M.StateMachine.becomes_stops was (m.rest_of c.args.seed) is, λ other. is)
 
 pub returns-in-Err-clause-rest : goal.returns-in-Err-clause-rest
 returns-in-Err-clause-rest g c = λ was is.
     let m = g.M.StateMachine in
     subst (λ rest. IsLeftAt m.Becomes m.Stops was rest (Open c.in-Err.why))
-    (sym c.hand_back-in-Err.ensures)
+    (sym c.return_rest-in-Err.ensures)
     (g.met.M.StateMachine.becomes_stops was (m.rest_of c.args.seed) is, λ other. is)

@@ -1,12 +1,12 @@
 use Rattle.std.proofs.Common.{Result, refl, subst, ◌∙◌}
 use Rattle.std.specs.Prelude.{MatchResult}
 use Rattle.byte_formats.proofs.Values.{err_is}
-use Rattle.disk_core.proofs.Moments.{nothing_read, only_read_on}
+use Rattle.disk_core.proofs.Times.{nothing_read, only_read_on}
 use Rattle.journal_core.specs.Openings.{opening_disk}
 use Rattle.state_journal.specs.Causes.{HasReadOn, IsLeftAt}
 use Rattle.state_journal.specs.Machines.{fold_of}
 use Rattle.state_journal.specs.declared.error.StateOpenError.{StateOpenError}
-use Rattle.state_journal.proofs.Refusals.{behind_err, behind_ok}
+use Rattle.state_journal.proofs.Refusals.{after_err, after_ok}
 use Rattle.state_journal.proofs.opening.read_rest.Goals as goal
 
 pub records-init : goal.records-init
@@ -47,12 +47,12 @@ returns-in_err-read_next-clause-read g c =
     let new = opening_disk c.read_next.new.opening in
     subst (HasReadOn g.D.Disk (fold_of g.M.StateMachine) old new)
     (err_is c.from_residual.result c.in_err-read_next.field-0.0 c.from_residual.ensures.1)
-    (behind_err g.D.Disk (fold_of g.M.StateMachine) old (opening_disk c.records.opening) new
+    (after_err g.D.Disk (fold_of g.M.StateMachine) old (opening_disk c.records.opening) new
     c.records.invariant.only_reads c.records.invariant.fine c.in_err-read_next.field-0.0
     c.in_err-read_next.ensures.read)
 
 pub returns-then-not-branch-clause-read : goal.returns-then-not-branch-clause-read
 returns-then-not-branch-clause-read g c =
-    behind_ok g.D.Disk (fold_of g.M.StateMachine) (opening_disk c.args.opening.now)
+    after_ok g.D.Disk (fold_of g.M.StateMachine) (opening_disk c.args.opening.now)
     (opening_disk c.records.opening) (opening_disk c.read_next.new.opening)
     c.records.invariant.only_reads c.records.invariant.fine _ tt c.in_ok-read_next.ensures.read

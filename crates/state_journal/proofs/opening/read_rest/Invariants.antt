@@ -1,5 +1,5 @@
 use Rattle.std.proofs.Common.{◌≡◌}
-use Rattle.disk_core.specs.Moments.{OnlyReads}
+use Rattle.disk_core.specs.Times.{OnlyReads}
 use Rattle.journal_core.specs.Openings.{opening_disk, bytes_left}
 use Rattle.state_journal.specs.Machines.{HasTaken}
 use Rattle.state_journal.proofs.opening.read_rest.Given as goal

@@ -28,17 +28,18 @@ audit-requires-clause-judged c =
     (subst (λ r. Gives proof_parts r (proof_in c.in_ok-cert.cert.proof.now)) read
     c.read_proof.ensures.exact)
 
-lent_steps : (lent : Option (Bor Export)) (kept : Option Export) → option_copied lent ≡ kept
+borrowed_steps : (borrowed : Option (Bor Export)) (kept : Option Export)
+    → option_copied borrowed ≡ kept
     → IfSome kept (λ e. AreSteps toy_hash e.steps)
-    → IfSome lent (λ e. AreSteps toy_hash e.now.steps)
-lent_steps None kept is are = tt
-lent_steps (Some e) kept is are =
+    → IfSome borrowed (λ e. AreSteps toy_hash e.now.steps)
+borrowed_steps None kept is are = tt
+borrowed_steps (Some e) kept is are =
     subst (λ (k : Option Export). IfSome k (λ x. AreSteps toy_hash x.steps)) (sym is) are
 
 pub audit-requires-clause-allowed : goal.audit-requires-clause-allowed
 audit-requires-clause-allowed c =
     let read : c.read_export.result ≡ Ok c.in_ok-kept.kept = search rules in
-    lent_steps c.as_ref.result c.in_ok-kept.kept c.as_ref.ensures.value
+    borrowed_steps c.as_ref.result c.in_ok-kept.kept c.as_ref.ensures.value
     (export_steps toy_hash c.args.export.now c.in_ok-kept.kept (λ i. (c.type_inv.export i).fits)
     (subst (λ r. Answers Memory (export_in toy_hash c.args.export.now) r) read
     c.read_export.ensures))

@@ -9,12 +9,12 @@ use Rattle.test_tree.proofs.finding.traced.Goals as goal
 pub in_consistency-requires : goal.in_consistency-requires
 in_consistency-requires c =
     let passes : c.check.result ≡ Ok tt = search rules in
-    let lends : Bor Text → Text = λ x. x.now in
-    let size = length (map lends c.args.items.now) in
+    let borrowed : Bor Text → Text = λ x. x.now in
+    let size = length (map borrowed c.args.items.now) in
     let law = PassesWhereChecks_always toy_hash c.args.start c.args.end size c.args.node.now _
     c.args.proof.now in
     law.0 (ap (λ (root : Hash). consistency toy_hash c.args.start c.args.end size c.args.node.now
     root c.args.proof.now) (sym c.list_hash-root.ensures)
     ∙ ap (λ (n : ℕ). consistency toy_hash c.args.start c.args.end n c.args.node.now
-    c.list_hash-root.result c.args.proof.now) (length-map c.args.items.now lends)
+    c.list_hash-root.result c.args.proof.now) (length-map c.args.items.now borrowed)
     ∙ sym c.check.ensures.exact ∙ passes)

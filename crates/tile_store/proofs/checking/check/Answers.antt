@@ -10,8 +10,8 @@ returns-in_err-compare-clause-err g c =
     let reason : HasTileReason g.T.Disk g.H.TreeHash.hash c.args.rows.now c.args.from c.args.to
     c.args.disk.now c.compare.new.disk c.args.pool.now c.in_err-compare.field-0.0 =
     reason-only_read g.T.Disk g.H.TreeHash.hash c.args.rows.now c.args.from c.min.result c.args.to
-    c.args.disk.now c.look_len.new.disk c.compare.new.disk c.args.pool.now
-    c.in_err-compare.field-0.0 c.look_len.ensures.only_reads c.in_ok-whole.ensures.cause.fine within
+    c.args.disk.now c.read_len.new.disk c.compare.new.disk c.args.pool.now
+    c.in_err-compare.field-0.0 c.read_len.ensures.only_reads c.in_ok-whole.ensures.cause.fine within
     c.in_err-compare.ensures.err in
     let made = c.from_residual-in_err-compare.ensures in
     search rules

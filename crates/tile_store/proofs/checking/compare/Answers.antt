@@ -1,6 +1,6 @@
 use Rattle.std.proofs.Common.{◌≡◌, ◌*◌, ◌≤◌, true, false, sym, ◌∙◌, subst, arith, rules}
 use Rattle.std.proofs.lemmas.Bool.{false≢true}
-use Rattle.disk_core.proofs.Moments.{nothing_read}
+use Rattle.disk_core.proofs.Times.{nothing_read}
 use Rattle.tile_store.proofs.Compared.{compared-on, first-other, found-more, found-none}
 use Rattle.tile_store.proofs.Compared.{unheld-still}
 use Rattle.tile_store.proofs.Numbers.{full-number, gone-kept, number-full}
@@ -27,7 +27,7 @@ matches-requires-clause-kept g c =
     let rows = c.requires.rows in
     let number = c.tile_with-key.ensures.number in
     let order = c.loop-number.auto.number in
-    let behind = rows.behind in
+    let following = rows.following in
     subst (λ n. n ≤ 256 * key.place) (sym (rows.gone (8 * key.level)))
     (gone-kept rows.adopted key.level key.place
     (λ full.

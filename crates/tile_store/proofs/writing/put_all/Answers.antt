@@ -1,6 +1,6 @@
 use Rattle.std.proofs.Common.{◌*◌, ◌≤◌, sym, subst, arith}
 use Rattle.tile_store.proofs.Numbers.{full-number, gone-kept, number-full}
-use Rattle.tile_store.proofs.Steps.{behind-put, put-none, put-on}
+use Rattle.tile_store.proofs.Steps.{following-put, put-none, put-on}
 use Rattle.tile_store.specs.Layout.{tile_at}
 use Rattle.tree_cache.specs.Rows.{filled_of}
 use Rattle.tile_store.proofs.writing.put_all.Goals as goal
@@ -23,7 +23,7 @@ put-requires-clause-kept g c =
     let rows = c.requires.rows in
     let number = c.tile_with.ensures.number in
     let order = c.loop-number.auto.number in
-    let behind = rows.behind in
+    let following = rows.following in
     subst (λ n. n ≤ 256 * key.place) (sym (rows.gone (8 * key.level)))
     (gone-kept rows.adopted key.level key.place
     (λ full.
@@ -31,15 +31,15 @@ put-requires-clause-kept g c =
     let no : ⊥ = omega arith in
     absurd no))
 
-pub returns-in_err-put-clause-behind : goal.returns-in_err-put-clause-behind
-returns-in_err-put-clause-behind g c =
+pub returns-in_err-put-clause-following : goal.returns-in_err-put-clause-following
+returns-in_err-put-clause-following g c =
     let number = c.tile_with.ensures.number in
     let order = c.loop-number.auto.number in
     let known = c.in_err-put.ensures.known_err in
-    behind-put g.T.Disk c.args.disk.now c.loop-number.disk c.put.new.disk c.args.from
+    following-put g.T.Disk c.args.disk.now c.loop-number.disk c.put.new.disk c.args.from
     (tile_at c.tile_with.result.level c.tile_with.result.place)
-    (g.met.T.Disk.counts_now c.loop-number.disk) (omega arith) c.loop-number.invariant.behind
-    c.put.ensures.any_moment c.put.ensures.contents (omega arith)
+    (g.met.T.Disk.counts_now c.loop-number.disk) (omega arith) c.loop-number.invariant.following
+    c.put.ensures.any_time c.put.ensures.contents (omega arith)
 
 pub loop-number-preserved : goal.loop-number-preserved
 loop-number-preserved g c =
@@ -49,7 +49,7 @@ loop-number-preserved g c =
     (g.met.T.Disk.known_there c.loop-number.disk) c.loop-number.auto.number
     c.loop-number-test.true c.tile_with.ensures.low c.tile_with.ensures.number
     c.loop-number.invariant
-    c.put.ensures.any_moment c.put.ensures.contents c.in_ok-put.ensures.known
+    c.put.ensures.any_time c.put.ensures.contents c.in_ok-put.ensures.known
     c.in_ok-put.ensures.cause.fine c.in_ok-put.ensures.written
 
 pub returns-clause-written : goal.returns-clause-written

@@ -1,5 +1,5 @@
 use Rattle.std.proofs.Common.{length}
-use Rattle.byte_formats.specs.Places.{at}
+use Rattle.byte_formats.specs.Offsets.{at}
 use Rattle.byte_formats.specs.Readings.{discarded}
 use Rattle.byte_formats.specs.Lists.{up_to_end}
 use Rattle.byte_formats.proofs.Loops.{Walks}

@@ -43,7 +43,7 @@ returns-then-middle-start g t c =
     let h = g.H.TreeHash.hash in
     let split = sym c.split-middle.ensures.value in
     let inside = c.split-middle.ensures.inside in
-    let behind = c.if-middle-start.true in
+    let following = c.if-middle-start.true in
     c.root_right.ensures
     ∙ ap (option_map (root_right_of h c.in_ok-sibling.sibling.now))
     c.opened-then-middle-start.ensures

@@ -3,8 +3,8 @@ use Rattle.std.specs.Prelude.{IfSome, option_map, ◌≤◌, Option}
 use Rattle.cert_fields.specs.Views.{parts}
 use Rattle.mtc_proof.specs.Views.{proof_parts}
 use Rattle.world_core.specs.declared.wanted.WantedHash.{WantedHash}
-use Rattle.world_core.proofs.Settled.{interval_order, judged_path, landmark_supported, none_foreign}
-use Rattle.world_core.proofs.Settled.{settled_audit, wanted_order}
+use Rattle.world_core.proofs.Decided.{interval_order, judged_path, landmark_supported, none_foreign}
+use Rattle.world_core.proofs.Decided.{decided_audit, wanted_order}
 use Rattle.world_core.proofs.Walks.{ok_still}
 use Rattle.world_core.proofs.auditing.audit.Goals as goal
 
@@ -17,8 +17,8 @@ foreign-requires g c =
     (option_map (λ e. e.now) c.args.kept) c.args.accepted.now.by
     (interval_order g.H.TreeHash.hash _ c.args.accepted.now _ path))
 
-pub settle-requires-clause-path : goal.settle-requires-clause-path
-settle-requires-clause-path g c =
+pub decide-requires-clause-path : goal.decide-requires-clause-path
+decide-requires-clause-path g c =
     judged_path g.H.TreeHash.hash c.args.store.now (parts c.args.cert.now)
     (proof_parts c.args.proof.now) c.args.accepted.now c.requires.judged
 
@@ -29,7 +29,7 @@ by_record-requires-clause-path g c =
 
 pub returns-in-Landmark : goal.returns-in-Landmark
 returns-in-Landmark g c =
-    ok_still _ _ c.settle.result (λ answer settles. settled_audit g.H.TreeHash.hash (record {
+    ok_still _ _ c.decide.result (λ answer decides. decided_audit g.H.TreeHash.hash (record {
       accepted = c.args.accepted.now;
       cert = parts c.args.cert.now;
       proof = proof_parts c.args.proof.now;
@@ -44,5 +44,5 @@ returns-in-Landmark g c =
       store = c.args.store.now;
       items = c.args.items.now;
       kept = option_map (λ e. e.now) c.args.kept;
-    }) c.in-Landmark.is) (settles c.args.store.now (option_map (λ e. e.now) c.args.kept)))
-    c.settle.ensures
+    }) c.in-Landmark.is) (decides c.args.store.now (option_map (λ e. e.now) c.args.kept)))
+    c.decide.ensures

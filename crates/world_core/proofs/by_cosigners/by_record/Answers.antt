@@ -1,7 +1,7 @@
 use Rattle.std.proofs.Common.{Some}
 use Rattle.cert_fields.specs.Views.{parts}
 use Rattle.mtc_proof.specs.Views.{proof_parts}
-use Rattle.world_core.proofs.Settled.{recorded_settles, sign_at}
+use Rattle.world_core.proofs.Decided.{recorded_decides, sign_at}
 use Rattle.world_core.proofs.Walks.{ok_still}
 use Rattle.world_core.proofs.by_cosigners.by_record.Goals as goal
 
@@ -11,7 +11,7 @@ by_sign-requires-clause-sign g c =
 
 pub returns-in-Some : goal.returns-in-Some
 returns-in-Some g c =
-    ok_still _ _ c.by_sign.result (λ answer settles. recorded_settles g.H.TreeHash.hash c.args.set
+    ok_still _ _ c.by_sign.result (λ answer decides. recorded_decides g.H.TreeHash.hash c.args.set
     c.args.kept.now (record {
       accepted = c.args.accepted.now;
       cert = parts c.args.cert.now;
@@ -19,4 +19,4 @@ returns-in-Some g c =
       store = c.args.store.now;
       items = c.args.items.now;
       kept = Some c.args.kept.now;
-    }) answer c.in-Some.ensures.none (settles c.args.store.now)) c.by_sign.ensures
+    }) answer c.in-Some.ensures.none (decides c.args.store.now)) c.by_sign.ensures

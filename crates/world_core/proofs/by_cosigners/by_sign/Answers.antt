@@ -2,7 +2,7 @@ use Rattle.std.proofs.Common.{refl, sym, ◌∙◌}
 use Rattle.cert_fields.specs.Views.{parts}
 use Rattle.mtc_proof.specs.Views.{proof_parts}
 use Rattle.std.proofs.Common.{Some}
-use Rattle.world_core.proofs.Settled.{own_inside, same_interval, sign_settles}
+use Rattle.world_core.proofs.Decided.{own_inside, same_interval, sign_decides}
 use Rattle.world_core.proofs.by_cosigners.by_sign.Goals as goal
 
 pub is_own-requires : goal.is_own-requires
@@ -11,8 +11,8 @@ is_own-requires g c =
     c.args.accepted.now _ _ c.requires.path c.requires.allowed c.requires.within c.requires.sign
     c.requires.whole
 
-pub settle-requires-clause-interval : goal.settle-requires-clause-interval
-settle-requires-clause-interval g c =
+pub decide-requires-clause-interval : goal.decide-requires-clause-interval
+decide-requires-clause-interval g c =
     same_interval g.H.TreeHash.hash c.args.items.now c.args.accepted.now c.args.kept.now.steps
     c.as_slice-steps.result.now c.args.place c.index-steps-place.result
     c.entries.result _ _ c.in_ok-find_signed.field-0 c.requires.allowed
@@ -21,7 +21,7 @@ settle-requires-clause-interval g c =
 
 pub returns-in-Pair : goal.returns-in-Pair
 returns-in-Pair g c = λ store.
-    sign_settles g.H.TreeHash.hash (record {
+    sign_decides g.H.TreeHash.hash (record {
       accepted = c.args.accepted.now;
       cert = parts c.args.cert.now;
       proof = proof_parts c.args.proof.now;

@@ -1,6 +1,6 @@
 use Rattle.std.proofs.Common.{ℕ, ◌<◌, ap, subst, ◌∙◌}
 use Rattle.tree_core.specs.Tree.{tree_hash}
-use Rattle.world_core.proofs.Settled.{there_short}
+use Rattle.world_core.proofs.Decided.{there_short}
 use Rattle.world_core.proofs.wanted.hash_there.Goals as goal
 
 pub returns-then-wanted-size : goal.returns-then-wanted-size

@@ -1,7 +1,7 @@
 use Rattle.std.proofs.Common.{rules}
 use Rattle.issuance_log.specs.Staying.{stays_alone}
 use Rattle.authority_core.specs.Certificates.{cert_refusal}
-use Rattle.authority_core.proofs.Answered.{kept_behind}
+use Rattle.authority_core.proofs.Answered.{kept_after}
 use Rattle.authority_core.proofs.writing.certificate.cert.Goals as goal
 
 pub returns-then-size-index-clause-stays : goal.returns-then-size-index-clause-stays
@@ -32,4 +32,4 @@ returns-then-signatures-gt-MOST_SIGNATURES-clause-stays g c =
 pub returns-clause-answer : goal.returns-clause-answer
 unfolding cert_refusal
 returns-clause-answer g c =
-    kept_behind _ c.written.result (search rules) c.written.ensures.why
+    kept_after _ c.written.result (search rules) c.written.ensures.why

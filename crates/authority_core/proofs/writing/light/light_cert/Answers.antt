@@ -2,7 +2,7 @@ use Rattle.std.proofs.Common.{rules, sym, ◌∙◌}
 use Rattle.issuance_log.specs.Staying.{stays_alone}
 use Rattle.issuance_log.specs.Words.{log_records, log_tiles_disk, modelled_by_both, view_of}
 use Rattle.authority_core.specs.Certificates.{light_refusal}
-use Rattle.authority_core.proofs.Answered.{lightly_behind}
+use Rattle.authority_core.proofs.Answered.{lightly_after}
 use Rattle.authority_core.proofs.Modelled.{accepted_lightly, both_of, lightly_modelled}
 use Rattle.authority_core.proofs.writing.light.light_cert.Goals as goal
 
@@ -41,7 +41,7 @@ returns-in-None-clause-stays g c =
 pub returns-in-Some-clause-answer : goal.returns-in-Some-clause-answer
 unfolding light_refusal
 returns-in-Some-clause-answer g c =
-    lightly_behind _ c.written.result (search rules) c.written.ensures.why
+    lightly_after _ c.written.result (search rules) c.written.ensures.why
 
 pub returns-in-Some-clause-stays : goal.returns-in-Some-clause-stays
 returns-in-Some-clause-stays g c = c.written.ensures.stays

@@ -45,7 +45,7 @@ returns-in_err-append_to-clause-valid g c =
     let old = keyless_owner it in
     advance_valid g.H.TreeHash.hash old.state (advance_parts c.args.request.now)
     c.advance-body.ensures.fits old.records _
-    (made_of g.H.TreeHash.hash old.state it.journal it.settled)
+    (made_of g.H.TreeHash.hash old.state it.journal it.is_durable)
 
 pub returns-clause-valid : goal.returns-clause-valid
 returns-clause-valid g c =
@@ -53,7 +53,7 @@ returns-clause-valid g c =
     let old = keyless_owner it in
     advance_valid g.H.TreeHash.hash old.state (advance_parts c.args.request.now)
     c.advance-body.ensures.fits old.records _
-    (made_of g.H.TreeHash.hash old.state it.journal it.settled)
+    (made_of g.H.TreeHash.hash old.state it.journal it.is_durable)
 
 -- the record is a step that is allowed
 pub append_to-requires-clause-allowed : goal.append_to-requires-clause-allowed
@@ -97,7 +97,7 @@ returns-clause-key g c =
 pub invariant_of-self : goal.invariant_of-self
 invariant_of-self g c =
     record {
-      settled = λ b contents.
+      is_durable = λ b contents.
           let is = c.append_to.ensures.made.durable b contents in
-          record { settled = is.durable; made = is.holds.made };
+          record { is_durable = is.durable; made = is.holds.made };
     }

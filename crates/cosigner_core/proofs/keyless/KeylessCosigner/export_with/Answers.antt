@@ -1,5 +1,5 @@
 use Rattle.std.proofs.Common.{◌∙◌, sym}
-use Rattle.disk_core.proofs.Moments.{nothing_read}
+use Rattle.disk_core.proofs.Times.{nothing_read}
 use Rattle.journal_core.proofs.Copies.{when_ok}
 use Rattle.cosigner_core.specs.Keyless.{keyless_owner}
 use Rattle.cosigner_core.proofs.Exported.{export_begun, export_prefix, export_whole}
@@ -16,25 +16,25 @@ pub returns-clause-written : goal.returns-clause-written
 returns-clause-written g c =
     let it = c.args.self.now in
     let old = keyless_owner it in
-    when_ok c.copy_behind.result _ _ (export_whole g.H.TreeHash.hash old.state
-    c.end_behind_first-from.result old.end
-    (λ first long. c.end_behind_first-from.ensures.end first
+    when_ok c.copy_after.result _ _ (export_whole g.H.TreeHash.hash old.state
+    c.end_after_first-from.result old.end
+    (λ first long. c.end_after_first-from.ensures.end first
     (long ∙ sym c.first_size.ensures.value))
     (g.D.Disk.contents old.disk) (g.O.Sink.taken c.args.out.now)
-    (g.O.Sink.taken c.write_prefix.new.out) (g.O.Sink.taken c.copy_behind.new.out) it.settled
-    (g.met.D.Disk.contents_bytes old.disk) c.in-Ok.ensures.ok) c.copy_behind.ensures.ok
+    (g.O.Sink.taken c.write_prefix.new.out) (g.O.Sink.taken c.copy_after.new.out) it.is_durable
+    (g.met.D.Disk.contents_bytes old.disk) c.in-Ok.ensures.ok) c.copy_after.ensures.ok
 
 pub returns-clause-prefix : goal.returns-clause-prefix
 returns-clause-prefix g c =
     let it = c.args.self.now in
     let old = keyless_owner it in
-    export_prefix g.H.TreeHash.hash old.state c.end_behind_first-from.result
+    export_prefix g.H.TreeHash.hash old.state c.end_after_first-from.result
     old.end
-    (λ first long. c.end_behind_first-from.ensures.end first
+    (λ first long. c.end_after_first-from.ensures.end first
     (long ∙ sym c.first_size.ensures.value))
     (g.D.Disk.contents old.disk) (g.O.Sink.taken c.args.out.now)
-    (g.O.Sink.taken c.write_prefix.new.out) (g.O.Sink.taken c.copy_behind.new.out) it.settled
-    (g.met.D.Disk.contents_bytes old.disk) c.in-Ok.ensures.ok c.copy_behind.ensures.prefix
+    (g.O.Sink.taken c.write_prefix.new.out) (g.O.Sink.taken c.copy_after.new.out) it.is_durable
+    (g.met.D.Disk.contents_bytes old.disk) c.in-Ok.ensures.ok c.copy_after.ensures.prefix
 
 pub returns-in-Err-clause-only_reads : goal.returns-in-Err-clause-only_reads
 returns-in-Err-clause-only_reads g c = nothing_read g.D.Disk _ (g.met.D.Disk.only_now _)

@@ -26,10 +26,10 @@ spoilt_torn place start piece bytes over there old new start_is there_is over_is
 
 pub returns : goal.returns
 returns c =
-    let start_is : c.min-start.result ≡ min (length c.args.image.now.items) c.args.place =
+    let start_is : c.min-start.result ≡ min (length c.args.crash_state.now.items) c.args.place =
     search rules in
     spoilt_torn c.args.place c.min-start.result c.args.piece.now c.in_ok-bytes.bytes.items
-    c.deref-2.result.now _ c.args.image.now.items _ start_is
+    c.deref-2.result.now _ c.args.crash_state.now.items _ start_is
     (take_rest c.deref.result.now c.min-start.result
     ∙ ap (drop c.min-start.result) c.deref.ensures.value)
     c.deref-2.ensures.value c.in_ok-bytes.ensures.size c.in_ok-bytes.ensures.same

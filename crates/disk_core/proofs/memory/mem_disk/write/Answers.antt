@@ -8,18 +8,18 @@ returns-in-Ok-clause-turn c = record {
   failing = c.fail.ensures.failing;
   either = inl (listed_made _ _ _ _ _ c.len.result c.len.ensures
       (c.is_listed.ensures.0 c.if-is_listed.true) c.in-Ok.ensures.calls
-      c.fail.ensures.starved c.fail.ensures.faults);
+      c.fail.ensures.failed_allocations c.fail.ensures.faults);
 }
 
 pub returns-in-Err-clause-turn : goal.returns-in-Err-clause-turn
 returns-in-Err-clause-turn c = record {
   first = c.fail_write.ensures.first;
-  failing = c.starve.ensures.failing;
+  failing = c.fail_allocation.ensures.failing;
   either = inr (record {
     failed = refl;
     calls = c.in-Err.ensures.calls;
-    starved = c.starve.ensures.starved;
-    faults = c.starve.ensures.faults;
+    failed_allocations = c.fail_allocation.ensures.failed_allocations;
+    faults = c.fail_allocation.ensures.faults;
   });
 }
 
@@ -35,11 +35,11 @@ returns-in-Ok-write-clause-turn c = record {
 pub returns-in-Err-write-clause-turn : goal.returns-in-Err-write-clause-turn
 returns-in-Err-write-clause-turn c = record {
   first = c.write.ensures.first;
-  failing = c.starve-in-Err-write.ensures.failing;
+  failing = c.fail_allocation-in-Err-write.ensures.failing;
   either = inr (record {
     failed = refl;
     calls = c.in-Err-write.ensures.calls;
-    starved = c.starve-in-Err-write.ensures.starved;
-    faults = c.starve-in-Err-write.ensures.faults;
+    failed_allocations = c.fail_allocation-in-Err-write.ensures.failed_allocations;
+    faults = c.fail_allocation-in-Err-write.ensures.faults;
   });
 }

@@ -7,5 +7,5 @@ use Rattle.entry_list.proofs.items.EntriesEntryList.after.Goals as goal
 pub returns : goal.returns
 returns c =
     ap (map (entry_from c.self.inside.file.now)) c.split_at.ensures.back
-    ∙ sym (drop-map (entry_from c.self.inside.file.now) c.args.count c.self.inside.places.now)
+    ∙ sym (drop-map (entry_from c.self.inside.file.now) c.args.count c.self.inside.offsets.now)
     ∙ ap (drop c.args.count) c.self.view_is

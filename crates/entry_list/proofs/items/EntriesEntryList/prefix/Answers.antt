@@ -5,5 +5,5 @@ use Rattle.entry_list.proofs.items.EntriesEntryList.prefix.Goals as goal
 
 pub returns : goal.returns
 returns c =
-    sym (take-map (entry_from c.self.inside.file.now) c.args.count c.self.inside.places.now)
+    sym (take-map (entry_from c.self.inside.file.now) c.args.count c.self.inside.offsets.now)
     ∙ ap (take c.args.count) c.self.view_is

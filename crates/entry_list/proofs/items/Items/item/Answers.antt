@@ -7,8 +7,8 @@ use Rattle.entry_list.proofs.items.Items.item.Goals as goal
 pub returns-clause-own : goal.returns-clause-own
 returns-clause-own g c =
     let file = c.self.inside.file.now in
-    let places = c.self.inside.places.items in
-    let below : c.args.index < length (lists_at file places).entries =
+    let offsets = c.self.inside.offsets.items in
+    let below : c.args.index < length (lists_at file offsets).entries =
     subst (λ (l : ItemLists). c.args.index < length l.entries) (sym c.self.view_is) c.requires in
-    rw (c.entry_from.ensures, c.key_from.ensures) (kept_belongs g.H.TreeHash.hash file places
+    rw (c.entry_from.ensures, c.key_from.ensures) (kept_belongs g.H.TreeHash.hash file offsets
     c.args.index c.index-place.result.now c.self.invariant below c.index-place.ensures)

@@ -1,7 +1,7 @@
 use Rattle.std.proofs.Common.{◌≡◌, ◌<◌, [], get_or, length, refl, sym, ◌∙◌, ap, arith}
 use Rattle.std.proofs.lemmas.List.{get_or_default}
 use Rattle.frame_pool.specs.Frames.{frame_at}
-use Rattle.frame_pool.specs.Lending.{with_frame}
+use Rattle.frame_pool.specs.Borrowing.{with_frame}
 use Rattle.frame_pool.proofs.pool.Pool.frame_mut.Goals as goal
 
 pub returns : goal.returns

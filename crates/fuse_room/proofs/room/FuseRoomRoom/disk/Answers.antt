@@ -5,5 +5,5 @@ use Rattle.fuse_room.proofs.room.FuseRoomRoom.disk.Goals as goal
 
 pub returns-clause-device : goal.returns-clause-device
 returns-clause-device c = λ all. same_lent
-    (disk_in (inner_room c.args.self.now) c.args.name.now) c.in_ok-disk.disk c.lend.result _
-    c.lend.ensures (c.in_ok-disk.ensures.device all)
+    (disk_in (inner_room c.args.self.now) c.args.name.now) c.in_ok-disk.disk c.with_fuse.result _
+    c.with_fuse.ensures (c.in_ok-disk.ensures.device all)

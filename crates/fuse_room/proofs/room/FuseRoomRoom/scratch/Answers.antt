@@ -5,6 +5,6 @@ use Rattle.fuse_room.proofs.room.FuseRoomRoom.scratch.Goals as goal
 
 pub returns-clause-opened : goal.returns-clause-opened
 returns-clause-opened c = found_lent (disk_in c.scratch.new.self c.args.name.now)
-    c.in_ok-disk.disk c.lend.result _ c.lend.ensures
+    c.in_ok-disk.disk c.with_fuse.result _ c.with_fuse.ensures
     (bytes_in (inner_room c.args.self.now) c.args.name.now)
     (bytes_in c.scratch.new.self c.args.name.now) c.in_ok-disk.ensures.opened

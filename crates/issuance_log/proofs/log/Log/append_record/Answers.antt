@@ -3,7 +3,7 @@ use Rattle.std.specs.Prelude.{is_some}
 use Rattle.byte_formats.proofs.Values.{err_is}
 use Rattle.journal_core.specs.Words.{end_of}
 use Rattle.issuance_log.specs.Changes.{KeepsToJournal}
-use Rattle.issuance_log.specs.Items.{AreBelow, items_places}
+use Rattle.issuance_log.specs.Items.{AreBelow, items_offsets}
 use Rattle.issuance_log.specs.Refusals.{append_refusal}
 use Rattle.issuance_log.specs.Words.{log_broken, log_end, view_of}
 use Rattle.issuance_log.specs.declared.error.LogError.TheVariants.{Append}
@@ -94,7 +94,7 @@ invariant_of-self g c =
       counted = within.counted;
       adopted = adopted;
       stored = within.stored adopted;
-      below = subst (AreBelow (items_places it.items)) (omega arith) within.below;
+      below = subst (AreBelow (items_offsets it.items)) (omega arith) within.below;
       durable = λ b contents.
           let is = made.durable b contents in
           record { durable = is.durable; kept = is.holds.keeps };

@@ -1,7 +1,7 @@
 use Rattle.std.proofs.Common.{◌≡◌, ◌%◌, List, None, Ok, ℕ, ap, arith, length, refl, subst, sym, ◌∙◌}
 use Rattle.std.specs.Prelude.{IfSome, option_map}
 use Rattle.std.proofs.lemmas.Option.{IfSome_then}
-use Rattle.disk_core.proofs.Moments.{only_read_on}
+use Rattle.disk_core.proofs.Times.{only_read_on}
 use Rattle.journal_core.specs.Ends.{durable_of, durable_records}
 use Rattle.journal_core.specs.Words.{disk_of, end_of}
 use Rattle.tile_store.specs.Causes.{HasCauseOf}
@@ -9,7 +9,7 @@ use Rattle.tile_store.specs.Sound.{leaves_with}
 use Rattle.tile_store.specs.Store.{tiles_disk}
 use Rattle.tile_store.proofs.Bad.{all-stand, bad-of-all}
 use Rattle.issuance_log.specs.Counted.{kept_in}
-use Rattle.issuance_log.specs.Items.{AreBelow, items_leaves, items_places}
+use Rattle.issuance_log.specs.Items.{AreBelow, items_leaves, items_offsets}
 use Rattle.issuance_log.specs.Openings.{HasItsTiles, IsBadTile, log_read}
 use Rattle.issuance_log.specs.Shown.{shown_with}
 use Rattle.issuance_log.proofs.Opening.{bad_so, durable_as, found_so, refused_so, tile_refused}
@@ -37,14 +37,14 @@ invariant_of-result g c =
     let value = c.tiled-size.ensures.value in
     let stored = c.in-Ok-adopt.ensures.stored in
     record {
-      counted = ap (λ (l : List ℕ). length l) adopted.places ∙ made.within.counted;
+      counted = ap (λ (l : List ℕ). length l) adopted.offsets ∙ made.within.counted;
       adopted = refl;
       stored = omega arith;
-      below = subst (λ (l : List ℕ). AreBelow l (end_of journal)) (sym adopted.places)
-          (subst (AreBelow (items_places it.items)) (omega arith) made.within.below);
+      below = subst (λ (l : List ℕ). AreBelow l (end_of journal)) (sym adopted.offsets)
+          (subst (AreBelow (items_offsets it.items)) (omega arith) made.within.below);
       durable = λ b contents.
           let is = made.durable b contents in
-          durable_as g.H.TreeHash.hash it.numbers.view _ _ _ _ (end_of journal) b adopted.places
+          durable_as g.H.TreeHash.hash it.numbers.view _ _ _ _ (end_of journal) b adopted.offsets
           adopted.leaves is.durable is.holds.keeps;
     }
 
@@ -55,7 +55,7 @@ returns-in-Ok-adopt-clause-opened g c =
     let it = c.in-Ok.opened.1 in
     let v = it.numbers.view in
     let items = c.adopt.new.self in
-    let places = items_places items in
+    let offsets = items_offsets items in
     let leaves = items_leaves items in
     let tiles = items.nodes in
     let opened = c.in-Ok.ensures.opened in
@@ -65,13 +65,13 @@ returns-in-Ok-adopt-clause-opened g c =
     (tiles_there g.T.Disk c.args.tiles (g.met.T.Disk.only_now c.args.tiles)) in
     let value = c.tiled-size.ensures.value in
     let stored = c.in-Ok-adopt.ensures.stored in
-    let told = g.D.Disk.contents (disk_of journal) in
+    let reported = g.D.Disk.contents (disk_of journal) in
     let only_reads =
     only_read_on g.T.Disk c.args.tiles (tiles_disk it.items.nodes) (tiles_disk tiles)
     left.only_reads adopted.only_reads in
-    let kept = kept_in h v places leaves (end_of journal) told (λ b contents.
+    let kept = kept_in h v offsets leaves (end_of journal) reported (λ b contents.
     let is = made.durable b contents in
-    durable_as h v _ _ _ _ (end_of journal) b adopted.places adopted.leaves is.durable
+    durable_as h v _ _ _ _ (end_of journal) b adopted.offsets adopted.leaves is.durable
     is.holds.keeps) in
     record {
       sound = opened.sound;
@@ -82,12 +82,12 @@ returns-in-Ok-adopt-clause-opened g c =
       list = opened.list;
       found = subst (λ t. IfSome t (λ b. IfSome (durable_records journal) (λ list. log_read h b
           ≡ Ok (record { records = list; state = shown_with v list })))) opened.only_reads.contents
-          (found_so h v places (durable_of (end_of journal)) leaves told opened.stands kept);
+          (found_so h v offsets (durable_of (end_of journal)) leaves reported opened.stands kept);
       valid = IfSome_then (durable_records journal) kept (λ list is. is.made);
       tiles = subst (λ t. IfSome (option_map (shown_with v) (durable_records journal)) (λ s.
           IfSome t (HasItsTiles h s))) only_reads.contents
-          (tiles_so h v places (durable_of (end_of journal)) (leaves_with tiles.adopted tiles.rows)
-          told (g.T.Disk.contents (tiles_disk tiles)) kept
+          (tiles_so h v offsets (durable_of (end_of journal)) (leaves_with tiles.adopted tiles.rows)
+          reported (g.T.Disk.contents (tiles_disk tiles)) kept
           (all-stand tiles v.tiled (omega arith)));
       stands = opened.stands;
       all = opened.all;
@@ -100,7 +100,7 @@ returns-in-Err-adopt-clause-refused g c =
     let journal = c.in-Ok.opened.0 in
     let it = c.in-Ok.opened.1 in
     let v = it.numbers.view in
-    let places = items_places it.items in
+    let offsets = items_offsets it.items in
     let leaves = items_leaves it.items in
     let tiles = it.items.nodes in
     let opened = c.in-Ok.ensures.opened in
@@ -111,8 +111,8 @@ returns-in-Err-adopt-clause-refused g c =
     let fits = sound.allowed.few in
     let few = sound.few in
     let within = sound.tiled in
-    let told = g.D.Disk.contents (disk_of journal) in
-    let kept = kept_in h v places leaves (end_of journal) told (λ b contents.
+    let reported = g.D.Disk.contents (disk_of journal) in
+    let kept = kept_in h v offsets leaves (end_of journal) reported (λ b contents.
     let is = made.durable b contents in record { durable = is.durable; kept = is.holds.keeps }) in
     rw (c.into_disk.ensures, c.into_disk-in-Err-adopt.ensures) (tile_refused g.D.Disk c.args.disk
     (disk_of journal) (record { disk = c.args.tiles; refusal = None }) tiles it.refusal
@@ -120,12 +120,13 @@ returns-in-Err-adopt-clause-refused g c =
     opened.fine left c.adopt.ensures.only_reads c.in-Err-adopt.ensures.cause (λ level place bad.
     subst (λ t. IfSome t (λ b. IfSome (g.T.Disk.contents c.args.tiles) (λ bytes.
     IsBadTile h b bytes level place))) opened.only_reads.contents
-    (subst (λ t. IfSome told (λ b. IfSome t (λ bytes. IsBadTile h b bytes level place)))
+    (subst (λ t. IfSome reported (λ b. IfSome t (λ bytes. IsBadTile h b bytes level place)))
     left.only_reads.contents
-    (bad_so h v places (durable_of (end_of journal)) (leaves_with tiles.adopted tiles.rows) told
+    (bad_so h v offsets (durable_of (end_of journal)) (leaves_with tiles.adopted tiles.rows)
+    reported
     (g.T.Disk.contents (tiles_disk tiles)) c.tiled-size.result level place
     c.tiled-size.ensures.value (omega arith) kept
-    (found_so h v places (durable_of (end_of journal)) leaves told opened.stands kept)
+    (found_so h v offsets (durable_of (end_of journal)) leaves reported opened.stands kept)
     (bad-of-all tiles c.tiled-size.result level place
     (subst (HasCauseOf tiles (tiles_disk c.adopt.new.self.nodes) c.tiled-size.result) bad
     c.in-Err-adopt.ensures.cause).1)))))

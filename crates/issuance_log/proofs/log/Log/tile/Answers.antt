@@ -12,7 +12,7 @@ use Rattle.issuance_log.proofs.Telling.{some_modelled}
 use Rattle.issuance_log.proofs.Changes.{stored_by, tiles_ready, tiles_record_of, tiles_taken_as}
 use Rattle.issuance_log.proofs.Growth.{size_fits}
 use Rattle.issuance_log.proofs.Leaving.{appends_from, appends_not}
-use Rattle.issuance_log.proofs.Tiling.{behind_none, behind_stored, keeps_still, keeps_stored}
+use Rattle.issuance_log.proofs.Tiling.{after_none, after_stored, keeps_still, keeps_stored}
 use Rattle.issuance_log.proofs.Tiling.{reach_to}
 use Rattle.issuance_log.proofs.log.Log.tile.Goals as goal
 
@@ -65,9 +65,9 @@ returns-in_err-body-clause-answer g c =
 pub returns-in_err-body-clause-keeps : goal.returns-in_err-body-clause-keeps
 returns-in_err-body-clause-keeps g c = keeps_still c.args.self.now (g.met.T.Disk.only_now _) _
 
-pub returns-in_err-body-clause-behind : goal.returns-in_err-body-clause-behind
-returns-in_err-body-clause-behind g c =
-    behind_none c.args.self.now (g.met.D.Disk.only_now _) _ _ _
+pub returns-in_err-body-clause-following : goal.returns-in_err-body-clause-following
+returns-in_err-body-clause-following g c =
+    after_none c.args.self.now (g.met.D.Disk.only_now _) _ _ _
 
 pub returns-in_err-body-clause-cause : goal.returns-in_err-body-clause-cause
 returns-in_err-body-clause-cause g c =
@@ -95,11 +95,11 @@ returns-in_err-store-clause-answer g c =
 
 pub returns-in_err-store-clause-keeps : goal.returns-in_err-store-clause-keeps
 returns-in_err-store-clause-keeps g c =
-    keeps_stored c.args.self.now c.full_size-size.ensures.sound _ _ refl c.store.ensures.any_moment
+    keeps_stored c.args.self.now c.full_size-size.ensures.sound _ _ refl c.store.ensures.any_time
 
-pub returns-in_err-store-clause-behind : goal.returns-in_err-store-clause-behind
-returns-in_err-store-clause-behind g c =
-    behind_none c.args.self.now (g.met.D.Disk.only_now _) _ _ _
+pub returns-in_err-store-clause-following : goal.returns-in_err-store-clause-following
+returns-in_err-store-clause-following g c =
+    after_none c.args.self.now (g.met.D.Disk.only_now _) _ _ _
 
 pub returns-in_err-store-clause-cause : goal.returns-in_err-store-clause-cause
 returns-in_err-store-clause-cause g c =
@@ -139,12 +139,12 @@ returns-clause-answer g c =
 pub returns-clause-keeps : goal.returns-clause-keeps
 returns-clause-keeps g c =
     keeps_stored c.args.self.now c.full_size-size.ensures.sound _ _ c.append_record.ensures.tiles
-    c.store.ensures.any_moment
+    c.store.ensures.any_time
 
-pub returns-clause-behind : goal.returns-clause-behind
-returns-clause-behind g c = λ sound.
+pub returns-clause-following : goal.returns-clause-following
+returns-clause-following g c = λ sound.
     let log = c.args.self.now in
-    behind_stored log _ _ _ (full_size (view_of log)) _ _ c.append_record.ensures.tiles
+    after_stored log _ _ _ (full_size (view_of log)) _ _ c.append_record.ensures.tiles
     c.full_size-size.ensures.value c.in_ok-store.ensures.holds
 
 pub returns-clause-cause : goal.returns-clause-cause

@@ -1,5 +1,5 @@
 use Rattle.std.proofs.Common.{◌%◌, ℕ, ap, arith, refl, subst, ◌∙◌}
-use Rattle.disk_core.proofs.Moments.{nothing_read}
+use Rattle.disk_core.proofs.Times.{nothing_read}
 use Rattle.tile_store.specs.Causes.{HasCauseOf}
 use Rattle.tile_store.specs.Store.{tiles_disk}
 use Rattle.issuance_log.specs.Items.{items_tiles}

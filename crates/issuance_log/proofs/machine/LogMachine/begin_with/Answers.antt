@@ -2,7 +2,7 @@ use Rattle.std.proofs.Common.{ℕ, ◌+◌, List, [], ◌∷◌, ◌++◌, lengt
 use Rattle.std.proofs.Common.{Some, refl}
 use Rattle.state_journal.specs.Steps.{IsLeftBy}
 use Rattle.issuance_log.specs.Folds.{null_entry}
-use Rattle.issuance_log.specs.Items.{AreBelow, items_leaves, items_places}
+use Rattle.issuance_log.specs.Items.{AreBelow, items_leaves, items_offsets}
 use Rattle.issuance_log.specs.Machine.{TilesAreLeft, TilesAreRead, rest_of_seed}
 use Rattle.issuance_log.proofs.Keeping.{kept_first}
 use Rattle.issuance_log.proofs.Resting.{read_as, read_left}
@@ -12,11 +12,11 @@ use Rattle.issuance_log.proofs.machine.LogMachine.begin_with.Goals as goal
 pub returns-in-Ok-clause-begins : goal.returns-in-Ok-clause-begins
 returns-in-Ok-clause-begins g c =
     let is = c.in-Ok.ensures in
-    let places = items_places c.begin_items.new.items in
-    let one = is.taken.places ∙ ap (λ (l : List ℕ). l ++ 0 ∷ []) c.new-items.ensures.places in
+    let offsets = items_offsets c.begin_items.new.items in
+    let one = is.taken.offsets ∙ ap (λ (l : List ℕ). l ++ 0 ∷ []) c.new-items.ensures.offsets in
     record {
       begun = is.found;
-      keeps = (kept_first g.H.TreeHash.hash c.in-Ok.numbers.view c.args.body.now places
+      keeps = (kept_first g.H.TreeHash.hash c.in-Ok.numbers.view c.args.body.now offsets
           (items_leaves c.new-items.result) (items_leaves c.begin_items.new.items) is.found is.sound
           one c.new-items.ensures.leaves is.taken.leaves).1;
     }
@@ -24,15 +24,15 @@ returns-in-Ok-clause-begins g c =
 pub returns-in-Ok-clause-within : goal.returns-in-Ok-clause-within
 returns-in-Ok-clause-within g c =
     let is = c.in-Ok.ensures in
-    let gate = 21 + length c.args.body.now in
-    let places = items_places c.begin_items.new.items in
-    let one = is.taken.places ∙ ap (λ (l : List ℕ). l ++ 0 ∷ []) c.new-items.ensures.places in
+    let commit_offset = 21 + length c.args.body.now in
+    let offsets = items_offsets c.begin_items.new.items in
+    let one = is.taken.offsets ∙ ap (λ (l : List ℕ). l ++ 0 ∷ []) c.new-items.ensures.offsets in
     record {
       sound = is.sound;
-      below = subst (λ (l : List ℕ). AreBelow l (gate + 1)) (sym one)
-          (below_item (Some (null_entry, [])) 0 (gate + 1) (omega arith));
+      below = subst (λ (l : List ℕ). AreBelow l (commit_offset + 1)) (sym one)
+          (below_item (Some (null_entry, [])) 0 (commit_offset + 1) (omega arith));
       counted = ap (λ (l : List ℕ). length l) one
-          ∙ (kept_first g.H.TreeHash.hash c.in-Ok.numbers.view c.args.body.now places
+          ∙ (kept_first g.H.TreeHash.hash c.in-Ok.numbers.view c.args.body.now offsets
           (items_leaves c.new-items.result) (items_leaves c.begin_items.new.items) is.found is.sound
           one c.new-items.ensures.leaves is.taken.leaves).0;
       stored = λ none. let untiled = is.untiled in omega arith;

@@ -2,12 +2,12 @@ use Rattle.std.proofs.Common.{◌++◌, ℕ, Some, Err, ap, refl, sym, ◌∙◌
 use Rattle.std.specs.Prelude.{map, option_to_list}
 use Rattle.std.proofs.lemmas.Result.{on_ok_weaker}
 use Rattle.tile_store.specs.Store.{tiles_disk}
-use Rattle.issuance_log.specs.Items.{items_leaves, items_places, items_tiles}
+use Rattle.issuance_log.specs.Items.{items_leaves, items_offsets, items_tiles}
 use Rattle.issuance_log.specs.Machine.{HasStored, rest_in}
 use Rattle.issuance_log.specs.Records.{item_in}
 use Rattle.issuance_log.proofs.Keeping.{kept_more}
-use Rattle.issuance_log.proofs.Resting.{left_from, not_starved, read_as, read_left, rest_same}
-use Rattle.issuance_log.proofs.Resting.{starved_is}
+use Rattle.issuance_log.proofs.Resting.{left_from, not_out_of_memory, read_as, read_left, rest_same}
+use Rattle.issuance_log.proofs.Resting.{out_of_memory_is}
 use Rattle.issuance_log.proofs.Taking.{below_next, counted_next, taken_so}
 use Rattle.issuance_log.proofs.machine.LogMachine.take_next.Goals as goal
 
@@ -18,8 +18,8 @@ pub adopt_new-requires : goal.adopt_new-requires
 adopt_new-requires g c =
     let was = c.args.self.now in
     counted_next g.H.TreeHash.hash was.numbers.view c.take_record.new.numbers.view c.args.body.now
-    (items_places was.items) (items_places c.take_record.new.items) c.args.place
-    c.in-Ok.ensures.view c.requires.counted c.in-Ok.ensures.taken.places
+    (items_offsets was.items) (items_offsets c.take_record.new.items) c.args.place
+    c.in-Ok.ensures.view c.requires.counted c.in-Ok.ensures.taken.offsets
 
 -- the record makes the next log, and its items are retained
 pub returns-in-Ok-clause-takes : goal.returns-in-Ok-clause-takes
@@ -34,10 +34,10 @@ returns-in-Ok-clause-takes g c =
     taken_so _ _ _ c.args.place body was now c.adopt_new.result adopted.memory (record {
       next = next;
       keeps = λ list kept there.
-          kept_more h was.numbers.view now.numbers.view (items_places was.items)
-          (items_places now.items) (items_leaves was.items) (items_leaves now.items) list body kept
+          kept_more h was.numbers.view now.numbers.view (items_offsets was.items)
+          (items_offsets now.items) (items_leaves was.items) (items_leaves now.items) list body kept
           next c.take_record.ensures.short
-          (adopted.places ∙ taken.places ∙ ap (λ (n : ℕ). items_places was.items
+          (adopted.offsets ∙ taken.offsets ∙ ap (λ (n : ℕ). items_offsets was.items
           ++ map (λ x. n) (option_to_list (item_in body))) there)
           (adopted.leaves ∙ taken.leaves);
     })
@@ -48,20 +48,20 @@ returns-in-Ok-clause-within g c =
     let now = c.adopt_new.new.self in
     let adopted = c.adopt_new.ensures in
     let body = c.args.body.now in
-    let places = adopted.places ∙ c.in-Ok.ensures.taken.places in
+    let offsets = adopted.offsets ∙ c.in-Ok.ensures.taken.offsets in
     on_ok_weaker c.adopt_new.result (λ (stored : HasStored now). record {
       sound = adopted.sound;
-      below = below_next body (items_places was.items) (items_places now.items) c.args.place
-          c.requires.below places;
+      below = below_next body (items_offsets was.items) (items_offsets now.items) c.args.place
+          c.requires.below offsets;
       counted = counted_next g.H.TreeHash.hash was.numbers.view now.numbers.view body
-          (items_places was.items) (items_places now.items) c.args.place
-          (c.in-Ok.ensures.view ∙ ap Some (sym adopted.view)) c.requires.counted places;
+          (items_offsets was.items) (items_offsets now.items) c.args.place
+          (c.in-Ok.ensures.view ∙ ap Some (sym adopted.view)) c.requires.counted offsets;
       stored = stored;
     }) adopted.stored
 
 pub returns-in-Ok-clause-capacity : goal.returns-in-Ok-clause-capacity
 returns-in-Ok-clause-capacity g c = λ capacity.
-    not_starved c.adopt_new.result (c.adopt_new.ensures.still (λ none.
+    not_out_of_memory c.adopt_new.result (c.adopt_new.ensures.still (λ none.
     let stored = capacity.stored c.take_record.new.numbers.view c.in-Ok.ensures.view in
     let same = c.take_record.ensures.stored in
     omega arith)).1
@@ -102,6 +102,6 @@ returns-in-Err-Memory-clause-still g c = λ capacity.
     rest_same _ _ c.args.self.now.refusal c.take_record.ensures.disk
 
 pub returns-in-Err-Memory-clause-capacity : goal.returns-in-Err-Memory-clause-capacity
-returns-in-Err-Memory-clause-capacity g c = λ capacity starved.
+returns-in-Err-Memory-clause-capacity g c = λ capacity out_of_memory.
     c.take_record.ensures.capacity capacity.capacity
-    (starved_is c.take_record.result (c.in-Err-Memory.is ∙ ap Err c.in-Err-Memory.field-0-is))
+    (out_of_memory_is c.take_record.result (c.in-Err-Memory.is ∙ ap Err c.in-Err-Memory.field-0-is))

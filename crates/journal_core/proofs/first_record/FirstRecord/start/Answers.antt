@@ -34,14 +34,14 @@ some_body packed = let some = packed.some in let size = sized packed in omega ar
 few_body : (packed : FirstRecord) → length (first_body packed) ≤ 131072
 few_body packed = let few = packed.few in let size = sized packed in omega arith
 
-pub invariant_of-result-clause-settled : goal.invariant_of-result-clause-settled
-invariant_of-result-clause-settled g c = λ sound b contents.
+pub invariant_of-result-clause-is_durable : goal.invariant_of-result-clause-is_durable
+invariant_of-result-clause-is_durable g c = λ sound b contents.
     subst (λ (n : ℕ). IsDurable b (g.D.Disk.may_leave c.write_first.new.disk) (n + 22))
     (sized c.args.self)
-    (started_durable g.D.Disk c.look_len.new.disk c.write_first.new.disk (first_body c.args.self)
+    (started_durable g.D.Disk c.read_len.new.disk c.write_first.new.disk (first_body c.args.self)
     (take (c.args.self.size + 22) c.deref.result.now)
     (subst (λ (contents : Option (List ℕ)). IfSome contents (λ b. b ≡ []))
-    (sym c.look_len.ensures.only_reads.contents)
+    (sym c.read_len.ensures.only_reads.contents)
     (empty (g.D.Disk.contents c.args.disk) c.in-Ok.length c.if-length-ne0.false
     c.in-Ok.ensures.length))
     (piece_is c.args.self c.deref.result.now c.deref.ensures.value) (some_body c.args.self)
@@ -50,10 +50,10 @@ invariant_of-result-clause-settled g c = λ sound b contents.
 
 pub invariant_of-result-clause-stands : goal.invariant_of-result-clause-stands
 invariant_of-result-clause-stands g c = λ b contents.
-    (started_durable g.D.Disk c.look_len.new.disk c.write_first.new.disk (first_body c.args.self)
+    (started_durable g.D.Disk c.read_len.new.disk c.write_first.new.disk (first_body c.args.self)
     (take (c.args.self.size + 22) c.deref.result.now)
     (subst (λ (contents : Option (List ℕ)). IfSome contents (λ b. b ≡ []))
-    (sym c.look_len.ensures.only_reads.contents)
+    (sym c.read_len.ensures.only_reads.contents)
     (empty (g.D.Disk.contents c.args.disk) c.in-Ok.length c.if-length-ne0.false
     c.in-Ok.ensures.length))
     (piece_is c.args.self c.deref.result.now c.deref.ensures.value) (some_body c.args.self)
@@ -63,35 +63,35 @@ invariant_of-result-clause-stands g c = λ b contents.
 pub returns-in-Ok-write_first-clause-ok : goal.returns-in-Ok-write_first-clause-ok
 returns-in-Ok-write_first-clause-ok g c =
     let none = subst (λ (contents : Option (List ℕ)). IfSome contents (λ b. b ≡ []))
-    (sym c.look_len.ensures.only_reads.contents)
+    (sym c.read_len.ensures.only_reads.contents)
     (empty (g.D.Disk.contents c.args.disk) c.in-Ok.length c.if-length-ne0.false
     c.in-Ok.ensures.length) in
     let size = sized c.args.self in
     record {
       empty = empty (g.D.Disk.contents c.args.disk) c.in-Ok.length c.if-length-ne0.false
           c.in-Ok.ensures.length;
-      contents = c.write_first.ensures.contents ∙ ap is_some c.look_len.ensures.only_reads.contents;
-      list = started_records g.D.Disk c.look_len.new.disk c.write_first.new.disk
+      contents = c.write_first.ensures.contents ∙ ap is_some c.read_len.ensures.only_reads.contents;
+      list = started_records g.D.Disk c.read_len.new.disk c.write_first.new.disk
           (first_body c.args.self)
           (take (c.args.self.size + 22) c.deref.result.now) none
           (piece_is c.args.self c.deref.result.now c.deref.ensures.value) (some_body c.args.self)
           (few_body c.args.self)
           c.in-Ok-write_first.ensures.written c.in-Ok-write_first.ensures.durable
           ∙ ap (option_map (λ _. first_body c.args.self ∷ []))
-          c.look_len.ensures.only_reads.contents;
+          c.read_len.ensures.only_reads.contents;
       sound = refl;
       end = omega arith;
-      all = started_all g.D.Disk c.look_len.new.disk c.write_first.new.disk (first_body c.args.self)
+      all = started_all g.D.Disk c.read_len.new.disk c.write_first.new.disk (first_body c.args.self)
           (take (c.args.self.size + 22) c.deref.result.now) none
           (piece_is c.args.self c.deref.result.now c.deref.ensures.value) (some_body c.args.self)
           (few_body c.args.self)
           c.in-Ok-write_first.ensures.written c.in-Ok-write_first.ensures.durable;
       fine = c.in-Ok-write_first.ensures.cause.fine ∙ c.in-Ok.ensures.cause.fine;
-      written = started_written g.D.Disk c.look_len.new.disk c.write_first.new.disk
+      written = started_written g.D.Disk c.read_len.new.disk c.write_first.new.disk
           (first_body c.args.self) (take (c.args.self.size + 22) c.deref.result.now) none
           (piece_is c.args.self c.deref.result.now c.deref.ensures.value) (some_body c.args.self)
           (few_body c.args.self)
           c.in-Ok-write_first.ensures.written c.in-Ok-write_first.ensures.durable
           ∙ ap (option_map (λ _. header ++ record_bytes (first_body c.args.self)))
-          c.look_len.ensures.only_reads.contents;
+          c.read_len.ensures.only_reads.contents;
     }

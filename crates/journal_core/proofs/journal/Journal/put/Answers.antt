@@ -3,7 +3,7 @@ use Rattle.std.proofs.Common.{arith, rules, refl, le_trans, Option, Some, None, 
 use Rattle.journal_core.specs.Format.{tail_of, records_of}
 use Rattle.journal_core.proofs.Steps.{done_durable, done_all, done_records, done_written}
 use Rattle.journal_core.proofs.Steps.{one_step, both_steps, still_stands}
-use Rattle.journal_core.proofs.Appends.{untouched_moment}
+use Rattle.journal_core.proofs.Appends.{untouched_time}
 use Rattle.journal_core.proofs.journal.Journal.put.Goals as goal
 
 -- The piece that was written.
@@ -21,14 +21,14 @@ invariant_of-self g c = record {
   stands =
       still_stands g.D.Disk c.args.self.now.disk c.write_synced.new.disk c.args.body.now
       c.write_synced.ensures.contents
-      (g.met.D.Disk.reads_image _) (g.met.D.Disk.counts_now _)
+      (g.met.D.Disk.reads_crash_state _) (g.met.D.Disk.counts_now _)
       (one_step g.D.Disk c.args.self.now.disk c.write_synced.new.disk c.write_synced.new.disk
       c.args.body.now
       (take (length c.args.body.now + 5) c.deref.result.now) c.args.self.now.end
-      (c.args.self.now.settled c.if-self.false)
+      (c.args.self.now.is_durable c.if-self.false)
       (piece_is _ _ _ c.deref.ensures.value c.pack.ensures.tail) c.requires.some c.requires.few
-      c.write_synced.ensures.any_moment);
-  settled = λ sound. absurd (true≢false sound);
+      c.write_synced.ensures.any_time);
+  is_durable = λ sound. absurd (true≢false sound);
 }
 
 pub invariant_of-self-in-Break-branch-2 : goal.invariant_of-self-in-Break-branch-2
@@ -40,16 +40,16 @@ invariant_of-self-in-Break-branch-2 g c = record {
   stands =
       still_stands g.D.Disk c.args.self.now.disk c.write_synced-2.new.disk c.args.body.now
       (c.write_synced-2.ensures.contents ∙ c.write_synced.ensures.contents)
-      (g.met.D.Disk.reads_image _) (g.met.D.Disk.counts_now _)
+      (g.met.D.Disk.reads_crash_state _) (g.met.D.Disk.counts_now _)
       (both_steps g.D.Disk c.args.self.now.disk c.write_synced.new.disk c.write_synced-2.new.disk
       c.args.body.now
       (take (length c.args.body.now + 5) c.deref.result.now) c.args.self.now.end
-      (c.args.self.now.settled c.if-self.false)
+      (c.args.self.now.is_durable c.if-self.false)
       (piece_is _ _ _ c.deref.ensures.value c.pack.ensures.tail) c.requires.some c.requires.few
-      c.write_synced.ensures.any_moment
+      c.write_synced.ensures.any_time
       c.in_ok-write_synced.ensures.written c.in_ok-write_synced.ensures.durable
-      c.write_synced-2.ensures.any_moment);
-  settled = λ sound. absurd (true≢false sound);
+      c.write_synced-2.ensures.any_time);
+  is_durable = λ sound. absurd (true≢false sound);
 }
 
 pub invariant_of-self-2-clause-stands : goal.invariant_of-self-2-clause-stands
@@ -57,22 +57,22 @@ invariant_of-self-2-clause-stands g c = λ b contents.
     (done_durable g.D.Disk c.args.self.now.disk c.write_synced.new.disk c.write_synced-2.new.disk
     c.args.body.now
     (take (length c.args.body.now + 5) c.deref.result.now) c.args.self.now.end
-    (c.args.self.now.settled c.if-self.false)
+    (c.args.self.now.is_durable c.if-self.false)
     (piece_is _ _ _ c.deref.ensures.value c.pack.ensures.tail) c.requires.some c.requires.few
     c.in_ok-write_synced.ensures.written c.in_ok-write_synced-2.ensures.written
     c.in_ok-write_synced-2.ensures.durable b contents).stands
 
-pub returns-then-self-size-clause-any_moment : goal.returns-then-self-size-clause-any_moment
-returns-then-self-size-clause-any_moment g c = λ sound.
-    untouched_moment g.D.Disk c.args.self.now.disk c.args.self.now.end c.args.body.now
-    (c.args.self.now.settled sound) (g.met.D.Disk.only_now _)
+pub returns-then-self-size-clause-any_time : goal.returns-then-self-size-clause-any_time
+returns-then-self-size-clause-any_time g c = λ sound.
+    untouched_time g.D.Disk c.args.self.now.disk c.args.self.now.end c.args.body.now
+    (c.args.self.now.is_durable sound) (g.met.D.Disk.only_now _)
 
-pub invariant_of-self-2-clause-settled : goal.invariant_of-self-2-clause-settled
-invariant_of-self-2-clause-settled g c = λ sound b contents.
+pub invariant_of-self-2-clause-is_durable : goal.invariant_of-self-2-clause-is_durable
+invariant_of-self-2-clause-is_durable g c = λ sound b contents.
     done_durable g.D.Disk c.args.self.now.disk c.write_synced.new.disk c.write_synced-2.new.disk
     c.args.body.now
     (take (length c.args.body.now + 5) c.deref.result.now) c.args.self.now.end
-    (c.args.self.now.settled c.if-self.false)
+    (c.args.self.now.is_durable c.if-self.false)
     (piece_is _ _ _ c.deref.ensures.value c.pack.ensures.tail) c.requires.some c.requires.few
     c.in_ok-write_synced.ensures.written c.in_ok-write_synced-2.ensures.written
     c.in_ok-write_synced-2.ensures.durable b contents
@@ -82,7 +82,7 @@ returns-clause-leaves g c = record {
   records = done_records g.D.Disk c.args.self.now.disk c.write_synced.new.disk
       c.write_synced-2.new.disk c.args.body.now
       (take (length c.args.body.now + 5) c.deref.result.now) c.args.self.now.end
-      (c.args.self.now.settled c.if-self.false)
+      (c.args.self.now.is_durable c.if-self.false)
       (piece_is _ _ _ c.deref.ensures.value c.pack.ensures.tail) c.requires.some c.requires.few
       c.in_ok-write_synced.ensures.written c.in_ok-write_synced-2.ensures.written
       c.in_ok-write_synced-2.ensures.durable;
@@ -92,7 +92,7 @@ returns-clause-leaves g c = record {
   all = done_all g.D.Disk c.args.self.now.disk c.write_synced.new.disk c.write_synced-2.new.disk
       c.args.body.now
       (take (length c.args.body.now + 5) c.deref.result.now) c.args.self.now.end
-      (c.args.self.now.settled c.if-self.false)
+      (c.args.self.now.is_durable c.if-self.false)
       (piece_is _ _ _ c.deref.ensures.value c.pack.ensures.tail) c.requires.some c.requires.few
       c.in_ok-write_synced.ensures.written c.in_ok-write_synced-2.ensures.written
       c.in_ok-write_synced-2.ensures.durable;
@@ -100,44 +100,44 @@ returns-clause-leaves g c = record {
   written = done_written g.D.Disk c.args.self.now.disk c.write_synced.new.disk
       c.write_synced-2.new.disk c.args.body.now
       (take (length c.args.body.now + 5) c.deref.result.now) c.args.self.now.end
-      (c.args.self.now.settled c.if-self.false)
+      (c.args.self.now.is_durable c.if-self.false)
       (piece_is _ _ _ c.deref.ensures.value c.pack.ensures.tail) c.requires.some c.requires.few
       c.in_ok-write_synced.ensures.written c.in_ok-write_synced-2.ensures.written
       c.in_ok-write_synced-2.ensures.durable;
 }
 
-pub returns-in_err-write_synced-clause-any_moment
-    : goal.returns-in_err-write_synced-clause-any_moment
-returns-in_err-write_synced-clause-any_moment g c = λ sound.
+pub returns-in_err-write_synced-clause-any_time
+    : goal.returns-in_err-write_synced-clause-any_time
+returns-in_err-write_synced-clause-any_time g c = λ sound.
     one_step g.D.Disk c.args.self.now.disk c.write_synced.new.disk c.write_synced.new.disk
     c.args.body.now
     (take (length c.args.body.now + 5) c.deref.result.now) c.args.self.now.end
-    (c.args.self.now.settled c.if-self.false)
+    (c.args.self.now.is_durable c.if-self.false)
     (piece_is _ _ _ c.deref.ensures.value c.pack.ensures.tail) c.requires.some c.requires.few
-    c.write_synced.ensures.any_moment
+    c.write_synced.ensures.any_time
 
-pub returns-in_err-write_synced-2-clause-any_moment
-    : goal.returns-in_err-write_synced-2-clause-any_moment
-returns-in_err-write_synced-2-clause-any_moment g c = λ sound.
+pub returns-in_err-write_synced-2-clause-any_time
+    : goal.returns-in_err-write_synced-2-clause-any_time
+returns-in_err-write_synced-2-clause-any_time g c = λ sound.
     both_steps g.D.Disk c.args.self.now.disk c.write_synced.new.disk c.write_synced-2.new.disk
     c.args.body.now
     (take (length c.args.body.now + 5) c.deref.result.now) c.args.self.now.end
-    (c.args.self.now.settled c.if-self.false)
+    (c.args.self.now.is_durable c.if-self.false)
     (piece_is _ _ _ c.deref.ensures.value c.pack.ensures.tail) c.requires.some c.requires.few
-    c.write_synced.ensures.any_moment
+    c.write_synced.ensures.any_time
     c.in_ok-write_synced.ensures.written c.in_ok-write_synced.ensures.durable
-    c.write_synced-2.ensures.any_moment
+    c.write_synced-2.ensures.any_time
 
-pub returns-clause-any_moment : goal.returns-clause-any_moment
-returns-clause-any_moment g c = λ sound.
+pub returns-clause-any_time : goal.returns-clause-any_time
+returns-clause-any_time g c = λ sound.
     both_steps g.D.Disk c.args.self.now.disk c.write_synced.new.disk c.write_synced-2.new.disk
     c.args.body.now
     (take (length c.args.body.now + 5) c.deref.result.now) c.args.self.now.end
-    (c.args.self.now.settled c.if-self.false)
+    (c.args.self.now.is_durable c.if-self.false)
     (piece_is _ _ _ c.deref.ensures.value c.pack.ensures.tail) c.requires.some c.requires.few
-    c.write_synced.ensures.any_moment
+    c.write_synced.ensures.any_time
     c.in_ok-write_synced.ensures.written c.in_ok-write_synced.ensures.durable
-    c.write_synced-2.ensures.any_moment
+    c.write_synced-2.ensures.any_time
 
 -- whether the model knows the records
 some_records : (old new : Option (List ℕ)) → is_some new ≡ is_some old

@@ -14,12 +14,13 @@ read_is contents read place count size is =
 
 pub returns-clause-body : goal.returns-clause-body
 returns-clause-body g c =
-    read_body g.D.Disk c.args.self.now.disk c.args.place c.look_at.new.out c.args.self.now.stands
-    (read_is (g.D.Disk.contents c.args.self.now.disk) c.look_at.new.out c.args.place _
-    c.look_at.auto.out c.in_ok-look_at.ensures.read)
+    read_body g.D.Disk c.args.self.now.disk c.args.place c.read_part.new.out c.args.self.now.stands
+    (read_is (g.D.Disk.contents c.args.self.now.disk) c.read_part.new.out c.args.place _
+    c.read_part.auto.out c.in_ok-read_part.ensures.read)
 
 pub returns-clause-length : goal.returns-clause-length
 returns-clause-length g c =
-    read_length g.D.Disk c.args.self.now.disk c.args.place c.look_at.new.out c.args.self.now.stands
-    (read_is (g.D.Disk.contents c.args.self.now.disk) c.look_at.new.out c.args.place _
-    c.look_at.auto.out c.in_ok-look_at.ensures.read)
+    read_length g.D.Disk c.args.self.now.disk c.args.place c.read_part.new.out
+    c.args.self.now.stands
+    (read_is (g.D.Disk.contents c.args.self.now.disk) c.read_part.new.out c.args.place _
+    c.read_part.auto.out c.in_ok-read_part.ensures.read)

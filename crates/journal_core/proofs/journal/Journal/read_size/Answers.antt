@@ -1,4 +1,4 @@
-use Rattle.journal_core.proofs.Places.{size_read}
+use Rattle.journal_core.proofs.Offsets.{size_read}
 use Rattle.journal_core.proofs.journal.Journal.read_size.Goals as goal
 
 pub returns-clause-size : goal.returns-clause-size

@@ -1,8 +1,8 @@
-use Rattle.journal_core.proofs.OpeningSteps.{ended_durable, ended_records, ended_all, ended_place}
+use Rattle.journal_core.proofs.OpeningSteps.{ended_durable, ended_records, ended_all, ended_offset}
 use Rattle.journal_core.proofs.opening.Opening.ready.Goals as goal
 
-pub invariant_of-result-clause-settled : goal.invariant_of-result-clause-settled
-invariant_of-result-clause-settled g c = λ sound b contents.
+pub invariant_of-result-clause-is_durable : goal.invariant_of-result-clause-is_durable
+invariant_of-result-clause-is_durable g c = λ sound b contents.
     ended_durable g.D.Disk c.args.self.disk c.args.self.place c.args.self.reading
     (c.args.self.closed c.requires) b contents
 
@@ -20,5 +20,6 @@ returns-clause-all g c = ended_all g.D.Disk c.args.self.disk c.args.self.place c
     (c.args.self.closed c.requires)
 
 pub returns-clause-end : goal.returns-clause-end
-returns-clause-end g c = ended_place g.D.Disk c.args.self.disk c.args.self.place c.args.self.reading
+returns-clause-end g c =
+    ended_offset g.D.Disk c.args.self.disk c.args.self.place c.args.self.reading
     (c.args.self.closed c.requires)

@@ -6,7 +6,7 @@ use Rattle.journal_core.specs.Format.{IsClosedAt}
 use Rattle.journal_core.proofs.OpeningSteps.{step_reading, step_list, step_count, same_reading}
 use Rattle.journal_core.proofs.OpeningSteps.{same_list, only_fails, refused_walk, ended_stands}
 use Rattle.journal_core.proofs.OpeningSteps.{ended_walk}
-use Rattle.disk_core.proofs.Moments.{nothing_read}
+use Rattle.disk_core.proofs.Times.{nothing_read}
 use Rattle.journal_core.proofs.Modelled.{at_contents}
 use Rattle.journal_core.proofs.opening.Opening.step.Goals as goal
 
@@ -74,7 +74,7 @@ returns-in-Ok-Some g c =
         few = omega arith;
         place = omega arith;
         shorter = omega arith;
-        goes_on = (c.if-self.false, c.in-None.is);
+        continues = (c.if-self.false, c.in-None.is);
       },
       record {
         again = rw c.in-None.is tt;
@@ -94,7 +94,7 @@ returns-in-Err g c = (
     list = same_list g.D.Disk c.args.self.now.disk c.read_record.new.disk
         c.read_record.ensures.only_reads c.args.self.now.place c.args.self.now.reading;
     kept = refl;
-    goes_on = refl;
+    continues = refl;
   },
   record {
     again = rw c.in-None.is tt;
@@ -119,7 +119,7 @@ returns-then-self g c =
         list = refl;
         ended = c.if-self.true;
         place = refl;
-        goes_on = c.in-None.is;
+        continues = c.in-None.is;
         stands = ended_stands g.D.Disk c.args.self.now.disk c.args.self.now.place
             c.args.self.now.reading closed;
         walk = ended_walk g.D.Disk c.args.self.now.disk c.args.self.now.place
@@ -154,7 +154,7 @@ returns-in-Ok-None g c =
             c.args.self.now.reading;
         ended = refl;
         place = refl;
-        goes_on = c.in-None.is;
+        continues = c.in-None.is;
         stands = ended_stands g.D.Disk c.read_record.new.disk place reading closed;
         walk = ended_walk g.D.Disk c.read_record.new.disk place reading closed;
       },

@@ -1,6 +1,6 @@
 use Rattle.std.proofs.Common.{◌≡◌, Ok, refl, subst}
 use Rattle.std.specs.Int.{w64}
-use Rattle.byte_formats.specs.Places.{At, at}
+use Rattle.byte_formats.specs.Offsets.{At, at}
 use Rattle.tls_wire.specs.Reading.{number_at, bytes_at, hashes_at}
 use Rattle.mtc_reads.specs.Member.{member_file}
 use Rattle.mtc_reads.proofs.member.file.read_member.Goals as goal

@@ -4,8 +4,8 @@ use Rattle.std.specs.Option.{IsSomeAnd}
 use Rattle.std.specs.BTreeMap.{get_by_text}
 use Rattle.byte_formats.specs.Types.{Text}
 use Rattle.mtc_io.specs.declared.fault.Memory.{Memory}
-use Rattle.disk_core.specs.Memory.{bytes_of, images_of, IsFresh}
-use Rattle.disk_core.specs.Replay.{state_now, IsImage}
+use Rattle.disk_core.specs.Memory.{bytes_of, crash_states_of, IsFresh}
+use Rattle.disk_core.specs.Replay.{state_now, IsCrashState}
 use Rattle.disk_core.specs.Same.{SameDevice}
 use Rattle.disk_core.specs.contracts.memory.mem_disk.MemDiskDisk.TheImpl.{ghosts}
 use Rattle.disk_core.specs.declared.memory.call.Made.{Made}
@@ -39,11 +39,11 @@ empty_in (Some e) d is =
 
 only_in : (o : Option MemDisk) (d : MemDisk)
     → IsSomeAnd o (λ e. IsFresh [] e × SameDevice ghosts e d)
-    → (c : Text) → images_of d c → c ≡ []
+    → (c : Text) → crash_states_of d c → c ≡ []
 only_in None d is c left = absurd is
 only_in (Some e) d is c left =
     let was : c ≡ e.past.first = subst (λ (calls : List Made).
-    IsImage (state_now e.past.first calls) c) is.0.calls ((is.1.leaves c).0 left) in
+    IsCrashState (state_now e.past.first calls) c) is.0.calls ((is.1.leaves c).0 left) in
     was ∙ is.0.first
 
 -- the device of the new file after it is opened

@@ -20,12 +20,12 @@ check-requires-clause-rows g c =
       few = let few = tiles.few in omega arith;
       full = omega arith;
       adopted = tiles.adopted;
-      behind = omega arith;
+      following = omega arith;
       gone = λ level. filled.gone level ∙ tiles.gone level;
     }
 
 pub check-requires-clause-unheld : goal.check-requires-clause-unheld
-check-requires-clause-unheld g c = λ key behind slot there held.
+check-requires-clause-unheld g c = λ key following slot there held.
     let tiles = c.args.self.now in
     let few = tiles.few in
     let within = tiles.within in

@@ -43,10 +43,11 @@ invariant_of-self g c =
           sound-stored h tiles.adopted tiles.stored c.args.size c.max-self.result tiles.rows
           tiles.pool b most
           (when-these (g.T.Disk.contents tiles.disk) (leaves_with tiles.adopted tiles.rows)
-          (λ leaves. (image : Text) → g.T.Disk.may_leave tiles.disk image
-          → HoldsTiles h leaves c.args.size image) b contents
-          (subst (λ o. IfSome o (λ leaves. (image : Text) → g.T.Disk.may_leave tiles.disk image
-          → HoldsTiles h leaves c.args.size image)) (sym c.write.ensures.list)
-          c.in_ok-write.ensures.holds) b (g.met.T.Disk.reads_image tiles.disk b contents))
+          (λ leaves. (crash_state : Text) → g.T.Disk.may_leave tiles.disk crash_state
+          → HoldsTiles h leaves c.args.size crash_state) b contents
+          (subst (λ o. IfSome o
+          (λ leaves. (crash_state : Text) → g.T.Disk.may_leave tiles.disk crash_state
+          → HoldsTiles h leaves c.args.size crash_state)) (sym c.write.ensures.list)
+          c.in_ok-write.ensures.holds) b (g.met.T.Disk.reads_crash_state tiles.disk b contents))
           (tiles.contents b contents);
     }

@@ -3,7 +3,8 @@ use Rattle.disk_core.specs.Disk.{Only}
 use Rattle.std.specs.Prelude.{IfSome, option_map}
 use Rattle.byte_formats.specs.Types.{Text}
 use Rattle.tile_store.proofs.Grown.{sound-still}
-use Rattle.tile_store.proofs.Kept.{first-of, leaves-behind, on-ok-from, sound-behind, tiles-of}
+use Rattle.tile_store.proofs.Kept.{first-of, leaves-following, on-ok-from, sound-following}
+use Rattle.tile_store.proofs.Kept.{tiles-of}
 use Rattle.tile_store.proofs.Kept.{contents-before, contents-both}
 use Rattle.tile_store.proofs.NodeValues.{when-contents}
 use Rattle.tile_store.specs.Contents.{HoldsTiles, stored_leaves}
@@ -25,14 +26,14 @@ write_tiles-requires-clause-rows g c =
       few = let few = tiles.few in omega arith;
       full = omega arith;
       adopted = tiles.adopted;
-      behind = omega arith;
+      following = omega arith;
       gone = λ level. filled.gone level ∙ tiles.gone level;
     }
 
 pub invariant_of-self : goal.invariant_of-self
 invariant_of-self g c =
     let tiles = c.args.self.now in
-    let known = c.write_tiles.ensures.behind.known in
+    let known = c.write_tiles.ensures.following.known in
     let reach = tiles.reach in
     let filled = c.fill.ensures.rows in
     let count = filled.count in
@@ -52,10 +53,10 @@ invariant_of-self g c =
           let few = tiles.few in
           let within = tiles.within in
           let before = contents-before (g.T.Disk.contents tiles.disk)
-          (g.T.Disk.contents c.write_tiles.new.disk) after c.write_tiles.ensures.behind.contents
+          (g.T.Disk.contents c.write_tiles.new.disk) after c.write_tiles.ensures.following.contents
           contents in
           let there = g.met.T.Disk.known_there tiles.disk before.0 before.1 in
-          sound-behind g.H.TreeHash.hash tiles.adopted tiles.stored c.fill.new.self tiles.pool
+          sound-following g.H.TreeHash.hash tiles.adopted tiles.stored c.fill.new.self tiles.pool
           before.0 after tiles.whole tiles.written (omega arith) (omega arith)
           (subst (λ n. KeepsPrefix (8192 * n) before.0 after) c.count_tiles-from.ensures
           (c.write_tiles.ensures.prefix before.0 after before.1 contents)) tiles.keys
@@ -70,10 +71,10 @@ returns-clause-list g c =
     ap (λ first. option_map (λ b. stored_leaves tiles.adopted b ++ first)
     (g.T.Disk.contents c.write_tiles.new.disk)) c.fill.ensures.rows.first
     ∙ contents-both (g.T.Disk.contents tiles.disk) (g.T.Disk.contents c.write_tiles.new.disk)
-    (leaves_with tiles.adopted tiles.rows) c.write_tiles.ensures.behind.contents
+    (leaves_with tiles.adopted tiles.rows) c.write_tiles.ensures.following.contents
     (λ b after contents_old contents_new.
     let there = g.met.T.Disk.known_there tiles.disk b contents_old in
-    leaves-behind tiles.adopted tiles.stored tiles.rows b after tiles.whole tiles.written
+    leaves-following tiles.adopted tiles.stored tiles.rows b after tiles.whole tiles.written
     (omega arith)
     (subst (λ n. KeepsPrefix (8192 * n) b after) c.count_tiles-from.ensures
     (c.write_tiles.ensures.prefix b after contents_old contents_new)))
@@ -86,8 +87,8 @@ returns-clause-holds g c =
     on-ok-from c.write_tiles.result c.write_tiles.ensures.written c.write_tiles.ensures.durable
     (λ written durable.
     when-contents (g.T.Disk.contents tiles.disk) (leaves_with tiles.adopted tiles.rows)
-    (λ leaves. (image : Text) → g.T.Disk.may_leave new image
-    → HoldsTiles h leaves c.args.size image)
+    (λ leaves. (crash_state : Text) → g.T.Disk.may_leave new crash_state
+    → HoldsTiles h leaves c.args.size crash_state)
     (λ b contents.
     let leaves = leaves_with tiles.adopted tiles.rows b in
     let sound = tiles.contents b contents in
@@ -98,11 +99,11 @@ returns-clause-holds g c =
     let stands = c.fill.ensures.rows.same (leaves_with tiles.adopted tiles.rows b)
     sound.stands in
     let later = contents-before (g.T.Disk.contents new) (g.T.Disk.contents tiles.disk) b
-    (sym c.write_tiles.ensures.behind.contents) contents in
+    (sym c.write_tiles.ensures.following.contents) contents in
     let only : Only later.0 (g.T.Disk.may_leave new) =
     subst (λ t. IfSome t (λ bytes. Only bytes (g.T.Disk.may_leave new))) later.1 durable in
-    λ image left.
-    subst (HoldsTiles h leaves c.args.size) (sym (only image left))
+    λ crash_state left.
+    subst (HoldsTiles h leaves c.args.size) (sym (only crash_state left))
     (tiles-of h leaves c.args.size later.0 (omega arith) (omega arith)
     (subst (λ n. HoldsFirst h leaves n later.0) c.count_tiles-to.ensures
     (written.holds b later.0 contents later.1 leaves stands

@@ -1,5 +1,5 @@
 use Rattle.std.proofs.Common.{arith}
-use Rattle.byte_formats.specs.Places.{IsBytes}
+use Rattle.byte_formats.specs.Offsets.{IsBytes}
 use Rattle.tls_wire.proofs.AnchorForm.{arcs_in_is_id}
 use Rattle.tls_wire.proofs.anchor.AnchorId.from_text.Goals as goal
 

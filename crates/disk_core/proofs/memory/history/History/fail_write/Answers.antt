@@ -1,9 +1,9 @@
 use Rattle.std.proofs.Common.{refl, sym, false, is_ok, subst, List, ℕ, ◌∙◌}
-use Rattle.byte_formats.specs.Places.{IsBytes}
+use Rattle.byte_formats.specs.Offsets.{IsBytes}
 use Rattle.disk_core.specs.Disk.{Torn, Follows}
 use Rattle.disk_core.specs.History.{left_of}
 use Rattle.disk_core.specs.Noted.{made_calls}
-use Rattle.disk_core.specs.Replay.{IsImage, state_now}
+use Rattle.disk_core.specs.Replay.{IsCrashState, state_now}
 use Rattle.disk_core.specs.declared.memory.call.Call.TheVariants.{Write}
 use Rattle.disk_core.proofs.Replay.{torn_pushed, torn_same, bytes_noted, seen_kept, time_pushed}
 use Rattle.disk_core.proofs.memory.history.History.fail_write.Goals as goal
@@ -28,7 +28,7 @@ returns-in_err-note-clause-crash c = torn_same _ _ _ _ _ c.in_err-note.ensures
 pub returns-clause-crash : goal.returns-clause-crash
 returns-clause-crash c =
     subst (λ (piece : List ℕ). Follows (Torn c.args.place piece) (left_of c.args.self.now)
-    (IsImage (state_now c.args.self.now.first (made_calls c.note.new.self))))
+    (IsCrashState (state_now c.args.self.now.first (made_calls c.note.new.self))))
     c.in_ok-piece.ensures (torn_pushed _ _ _ _ _ _ c.in_ok-note.ensures)
 
 pub returns-clause-time : goal.returns-clause-time

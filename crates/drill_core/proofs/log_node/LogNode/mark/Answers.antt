@@ -1,4 +1,0 @@
-use Rattle.drill_core.proofs.log_node.LogNode.mark.Goals as goal
-
-pub returns : goal.returns
-returns g c = record { state = c.asked.ensures.state; stops = c.asked.ensures.stops }

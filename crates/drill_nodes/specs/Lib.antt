@@ -1,8 +1,0 @@
-pub mod Draws
-pub mod Rounds
-pub mod Ids
-pub mod Disks
-pub mod CosignerCalls
-pub mod CosignerNodes
-pub mod CosignerViews
-pub mod Cosigners

@@ -1,0 +1,42 @@
+use Rattle.cosigner_core.specs.Records.{sign_record}
+use Rattle.cosigner_core.specs.Refusals.{journal_refusal}
+use Rattle.cosigner_core.specs.Views.{subtree_parts}
+use Rattle.cosigner_core.specs.Words.{cosigner_broken, cosigner_disk, cosigner_end, cosigner_state}
+use Rattle.drill_parties.proofs.FailedCalls.{failed_none}
+use Rattle.drill_parties.proofs.Numbered.{numbered}
+use Rattle.drill_parties.proofs.ReadCrashStates.{contents_read}
+use Rattle.drill_parties.proofs.cosigner_calls.cosign_on.Goals as goal
+
+pub returns-in-Ok : goal.returns-in-Ok
+returns-in-Ok g c = record {
+  valid = c.in-Ok.ensures.valid c.in-Ok.ensures.answer;
+  crash_states = c.in-Ok.ensures.appends.afterwards;
+  grown = λ is. c.in-Ok.ensures.appends.leaves;
+  kept = λ is. c.in-Ok.ensures.appends.kept;
+  signed = λ is. (c.in-Ok.ensures.verifies, c.in-Ok.ensures.short);
+  numbered = λ is.
+      let it = c.args.cosigner.now in
+      let r = subtree_parts c.args.request.now in
+      numbered g.H.TreeHash.hash (cosigner_state it) r (journal_refusal (cosigner_broken it)
+      (cosigner_end it) (sign_record (cosigner_state it).key.next r.start r.end r.hash r.proof))
+      c.in-Ok.ensures.answer;
+  reads = contents_read (g.D.Disk.contents (cosigner_disk c.cosign.new.self))
+      (g.D.Disk.may_leave (cosigner_disk c.cosign.new.self))
+      (g.met.D.Disk.reads_crash_state (cosigner_disk c.cosign.new.self));
+}
+
+pub returns-in-Err-Append-Failed : goal.returns-in-Err-Append-Failed
+returns-in-Err-Append-Failed g c = record {
+  valid = c.in-Err-Append-Failed.ensures.valid (failed_none _
+      c.in-Err-Append-Failed.field-0 c.in-Err-Append-Failed.field-0-0
+      c.in-Err-Append-Failed.field-0-is c.in-Err-Append-Failed.field-0-0-is
+      c.in-Err-Append-Failed.ensures.answer);
+  crash_states = c.in-Err-Append-Failed.ensures.appends.afterwards;
+  grown = λ is. absurd cc;
+  kept = λ is. absurd cc;
+  signed = λ is. absurd cc;
+  numbered = λ is. absurd cc;
+  reads = contents_read (g.D.Disk.contents (cosigner_disk c.cosign.new.self))
+      (g.D.Disk.may_leave (cosigner_disk c.cosign.new.self))
+      (g.met.D.Disk.reads_crash_state (cosigner_disk c.cosign.new.self));
+}

@@ -1,6 +1,0 @@
-pub mod Nodes
-pub mod Histories
-pub mod Rules
-pub mod Laws
-pub mod Journals
-pub mod Results

@@ -1,0 +1,160 @@
+-- The rules of a history and those of the journals are the same.
+use Rattle.std.proofs.Common.{◌≡◌, inl, inr, ℕ, ◌==◌, true, false, List, [], ◌∷◌, ◌++◌, Some}
+use Rattle.std.proofs.Common.{IfSome, Result, Ok, Err, is_ok, refl, ap, sym, ◌∙◌, subst}
+use Rattle.std.proofs.Common.{option_and_then, arith}
+use Rattle.std.proofs.lemmas.Bool.{eqb-true}
+use Rattle.std.proofs.lemmas.Option.{IfSome_then}
+use Rattle.std.specs.Prelude.{IsOk}
+use Rattle.byte_formats.specs.Types.{HashFunction, Text}
+use Rattle.byte_formats.specs.Offsets.{At, at}
+use Rattle.byte_formats.proofs.Values.{then_some, when_some}
+use Rattle.tls_wire.specs.Reading.{number_at}
+use Rattle.tls_wire.specs.declared.cursor.Short.{Short}
+use Rattle.std.specs.Int.{w8}
+use Rattle.journal_core.specs.Folds.{Fold, read_by, state_after, taken_from}
+use Rattle.journal_core.specs.Format.{Represents}
+use Rattle.journal_core.proofs.Found.{read_standing}
+use Rattle.issuance_log.specs.Folds.{LogState, log_fold, log_of}
+use Rattle.issuance_log.specs.Records.{settings_at, settings_in, log_settings_with, tagged}
+use Rattle.issuance_log.specs.Settings.{Settings}
+use Rattle.issuance_log.proofs.After as logs
+use Rattle.cosigner_core.specs.Counts.{AreCounted}
+use Rattle.cosigner_core.specs.Folds.{cosigner_fold, cosigner_of}
+use Rattle.cosigner_core.specs.Progress.{progress_by, progress_in, steps_in}
+use Rattle.cosigner_core.specs.Records.{cosigner_in, first_by_tag}
+use Rattle.cosigner_core.specs.declared.settings.CosignerSettings.{CosignerSettings}
+use Rattle.cosigner_core.proofs.After as cosigners
+use Rattle.hss_core.specs.Hss.{one_level_public}
+use Rattle.lms_core.specs.Trees.{private_key}
+use Rattle.party_history.specs.Laws.{IsSoundParty}
+use Rattle.party_history.specs.Parties.{HistoryState}
+use Rattle.party_history.specs.Rules.{AreRecords, IsReadAs, StartsWith, may_follow}
+use Rattle.party_history.specs.declared.start.PartyStart.{PartyStart}
+use Rattle.party_history.specs.declared.start.PartyStart.TheVariants.{Log, Cosigner}
+use Rattle.party_history.proofs.Chains.{no_some}
+
+-- no record at all follows each start
+pub alone : (h : HashFunction) (start : PartyStart) → may_follow h start [] ≡ true
+unfolding taken_from progress_in steps_in progress_by
+alone h (Log settings) = refl
+alone h (Cosigner settings public) = refl
+
+-- a first record is not one of both kinds
+pub apart : (first : Text) (s : Settings) (x : CosignerSettings × Text) → settings_in first ≡ Some s
+    → cosigner_in first ≡ Some x → ⊥
+unfolding settings_in cosigner_in
+apart first s x = by_tag (number_at w8 (at first 0))
+  where
+    by_tag : (r : Result (ℕ × At) Short)
+        → option_and_then log_settings_with (tagged 1 settings_at r) ≡ Some s
+        → first_by_tag r ≡ Some x → ⊥
+    by_tag (Err short) log cosigner = no_some s log
+    by_tag (Ok tag) log cosigner =
+        let some = then_some log_settings_with (tagged 1 settings_at (Ok tag)) s log in
+        let one = when_some (tag.0 == 1) _ some.0 some.1 in
+        let two = when_some (tag.0 == 17) _ x cosigner in
+        absurd (omega (arith, eqb-true tag.0 1 one.0, eqb-true tag.0 17 two.0))
+
+-- ---- valid records
+
+pub made_so : {S : Type 0} (r : Result S ℕ) → IsOk r → (s : S) × (r ≡ Ok s)
+made_so (Ok s) is = (s, refl)
+made_so (Err k) is = let wrong : false ≡ true = is in absurd cc
+
+pub cons_is : (x y : Text) (xs ys : List Text) → x ∷ xs ≡ y ∷ ys → x ≡ y
+cons_is x y xs ys is = cc
+
+first_of_log : (h : HashFunction) (first : Text) (bodies : List Text)
+    → IsOk (log_of h (first ∷ bodies)) → (s : Settings) × (settings_in first ≡ Some s)
+first_of_log h first bodies is =
+    let made = made_so (log_of h (first ∷ bodies)) is in
+    let found = logs.only_begins h (first ∷ bodies) made.0 made.1 in
+    let same = cons_is first found.0 bodies found.1.0 found.1.1.0 in
+    (made.0.settings, ap settings_in same ∙ found.1.1.1)
+
+first_of_cosigner : (h : HashFunction) (first : Text) (bodies : List Text)
+    → IsOk (cosigner_of h (first ∷ bodies))
+    → (x : CosignerSettings × Text) × (cosigner_in first ≡ Some x)
+first_of_cosigner h first bodies is =
+    let made = made_so (cosigner_of h (first ∷ bodies)) is in
+    let found = cosigners.only_begins h (first ∷ bodies) made.0 made.1 in
+    let same = cons_is first found.0 bodies found.1.0 found.1.1.1.1.0 in
+    ((found.1.1.0, found.1.1.1.0), ap cosigner_in same ∙ found.1.1.1.1.1)
+
+-- each journal of a log or a cosigner is that of a party
+pub starts_so : (h : HashFunction) (first : Text) (bodies : List Text)
+    → AreRecords h (first ∷ bodies) → (start : PartyStart) × StartsWith start first
+starts_so h first bodies (inl is) =
+    let found = first_of_log h first bodies is in (Log found.0, found.1)
+starts_so h first bodies (inr is) =
+    let found = first_of_cosigner h first bodies is in
+    let s = found.0.0 in
+    let secret = found.0.1 in (
+      Cosigner s (one_level_public (private_key s.lms s.ots secret)),
+      (secret, (found.1, refl)),
+    )
+
+-- ---- records make something exactly if they may follow
+
+log_follows : (h : HashFunction) (settings : Settings) (first : Text) (bodies : List Text)
+    → settings_in first ≡ Some settings
+    → is_ok (log_of h (first ∷ bodies)) ≡ may_follow h (Log settings) bodies
+log_follows h settings first bodies starts =
+    ap (λ (r : Result LogState ℕ). is_ok r) (logs.begins_so h first settings bodies starts)
+
+pub back : (h : HashFunction) (start : PartyStart) (first : Text) (bodies : List Text)
+    → StartsWith start first → may_follow h start bodies ≡ true → AreRecords h (first ∷ bodies)
+back h (Log settings) first bodies starts may =
+    inl (log_follows h settings first bodies starts ∙ may)
+back h (Cosigner settings public) first bodies starts may =
+    inr (cosigners.begins_so h first settings starts.0 bodies starts.1.0 ∙ may)
+
+pub agree : (h : HashFunction) (start : PartyStart) (first : Text) (bodies : List Text)
+    → StartsWith start first → AreRecords h (first ∷ bodies) → may_follow h start bodies ≡ true
+agree h (Log settings) first bodies starts (inl is) =
+    sym (log_follows h settings first bodies starts) ∙ is
+agree h (Log settings) first bodies starts (inr is) =
+    let other = first_of_cosigner h first bodies is in
+    absurd (apart first settings other.0 starts other.1)
+agree h (Cosigner settings public) first bodies starts (inl is) =
+    let other = first_of_log h first bodies is in
+    absurd (apart first other.0 (settings, starts.0) other.1 starts.1.0)
+agree h (Cosigner settings public) first bodies starts (inr is) =
+    sym (cosigners.begins_so h first settings starts.0 bodies starts.1.0) ∙ is
+
+-- a file that represents records is read with them, whatever they make
+read_so : {S E : Type 0} (fold : Fold S E) (list : List Text) (bytes : Text)
+    → Represents bytes list → IsOk (state_after fold list)
+    → (s : S) × (read_by fold bytes ≡ Ok (record { records = list; state = s }))
+read_so fold list bytes stands is =
+    let made = made_so (state_after fold list) is in
+    (made.0, read_standing fold bytes list made.0 stands made.1)
+
+pub read : (h : HashFunction) (start : PartyStart) (first : Text) (bodies : List Text)
+    (bytes : Text) → StartsWith start first → may_follow h start bodies ≡ true
+    → Represents bytes (first ∷ bodies) → IsReadAs h start bytes (first ∷ bodies)
+read h (Log settings) first bodies bytes starts may stands =
+    read_so (log_fold h) (first ∷ bodies) bytes stands
+    (log_follows h settings first bodies starts ∙ may)
+read h (Cosigner settings public) first bodies bytes starts may stands =
+    read_so (cosigner_fold h) (first ∷ bodies) bytes stands
+    (cosigners.begins_so h first settings starts.0 bodies starts.1.0 ∙ may)
+
+-- ---- one-time keys
+
+of_valid : (h : HashFunction) (start : PartyStart) (settings : CosignerSettings) (public : Text)
+    (bodies : List Text) → start ≡ Cosigner settings public → may_follow h start bodies ≡ true
+    → AreCounted bodies
+of_valid h start settings public bodies is may =
+    let same : may_follow h (Cosigner settings public) bodies ≡ true
+    = subst (λ (s : PartyStart). may_follow h s bodies ≡ true) is may in
+    cosigners.once_each h settings bodies same
+
+pub once_used : (h : HashFunction) (s : HistoryState) (settings : CosignerSettings)
+    (public : Text) → IsSoundParty (may_follow h) s → s.start ≡ Cosigner settings public
+    → AreCounted s.durable × IfSome s.pending (λ body. AreCounted (s.durable ++ body ∷ []))
+once_used h s settings public sound is = (
+  of_valid h s.start settings public s.durable is sound.durable,
+  IfSome_then s.pending sound.pending (λ body.
+      of_valid h s.start settings public (s.durable ++ body ∷ []) is),
+)

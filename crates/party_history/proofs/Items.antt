@@ -1,0 +1,59 @@
+-- A log keeps its items whatever records follow its own.
+use Rattle.std.proofs.Common.{◌≡◌, List, [], ◌∷◌, ◌++◌, length, slice_get, Some, Ok, ap, sym}
+use Rattle.std.proofs.Common.{◌∙◌, subst, append_assoc}
+use Rattle.std.specs.Prelude.{option_to_list}
+use Rattle.std.proofs.lemmas.List.{length-map}
+use Rattle.byte_formats.specs.Types.{HashFunction, Text}
+use Rattle.journal_core.proofs.Folds.{state_more}
+use Rattle.issuance_log.specs.Folds.{LogState, log_fold, log_of, new_log}
+use Rattle.issuance_log.specs.Records.{item_in}
+use Rattle.issuance_log.specs.Shown.{recorded_items}
+use Rattle.issuance_log.proofs.After.{HasItems, following_items, entries_of, keys_of, later_items}
+use Rattle.issuance_log.proofs.After.{only_begins}
+use Rattle.party_history.specs.Laws.{HasItemAt, KeepsItems}
+use Rattle.party_history.proofs.Chains.{at_seam}
+
+-- the items of the records that follow stand after its own
+items_after : (h : HashFunction) (list more : List Text) (s t : LogState)
+    → log_of h list ≡ Ok s → log_of h (list ++ more) ≡ Ok t → HasItems s t (later_items more)
+items_after h list more s t is whole =
+    following_items h (length list) s t more (sym (state_more (log_fold h) list more s is) ∙ whole)
+
+pub items_kept : (h : HashFunction) (list more : List Text) (s t : LogState)
+    → log_of h list ≡ Ok s → log_of h (list ++ more) ≡ Ok t → KeepsItems s t
+items_kept h list more s t is whole =
+    let has = items_after h list more s t is whole in record {
+      entries = (entries_of (later_items more), sym has.entries);
+      keys = (keys_of (later_items more), sym has.keys);
+    }
+
+-- each item has a key
+even_log : (h : HashFunction) (list : List Text) (s : LogState) → log_of h list ≡ Ok s
+    → length s.keys ≡ length s.entries
+even_log h list s is =
+    let begun = only_begins h list s is in
+    let items : List (Text × Text) = recorded_items (begun.0 ∷ begun.1.0) in
+    let has = following_items h 1 (new_log s.settings) s begun.1.0 begun.1.1.2 in
+    let entries : s.entries ≡ entries_of items = has.entries in
+    let keys : s.keys ≡ keys_of items = has.keys in
+    ap (λ (l : List Text). length l) keys ∙ length-map items (λ item. item.1)
+    ∙ sym (ap (λ (l : List Text). length l) entries ∙ length-map items (λ item. item.0))
+
+-- an item that is added stands right after those before it
+pub item_added : (h : HashFunction) (list : List Text) (body : Text) (more : List Text)
+    (entry key : Text) (s t : LogState) → log_of h list ≡ Ok s → item_in body ≡ Some (entry, key)
+    → log_of h ((list ++ body ∷ []) ++ more) ≡ Ok t → HasItemAt (length s.entries) entry key t
+item_added h list body more entry key s t is same whole =
+    let joined = ap (λ (l : List Text). log_of h l) (append_assoc list (body ∷ []) more) in
+    let has = items_after h list (body ∷ more) s t is (sym joined ∙ whole) in
+    let items : later_items (body ∷ more) ≡ (entry, key) ∷ later_items more
+    = ap (λ o. option_to_list o ++ later_items more) same in
+    record {
+      entry_is = ap (λ (l : List Text). slice_get l (length s.entries))
+          (has.entries ∙ ap (λ i. s.entries ++ entries_of i) items)
+          ∙ at_seam s.entries entry (entries_of (later_items more));
+      key_is = subst (λ n. slice_get t.keys n ≡ Some key) (even_log h list s is)
+          (ap (λ (l : List Text). slice_get l (length s.keys))
+          (has.keys ∙ ap (λ i. s.keys ++ keys_of i) items)
+          ∙ at_seam s.keys key (keys_of (later_items more)));
+    }

@@ -1,0 +1,6 @@
+pub mod Parties
+pub mod Histories
+pub mod Rules
+pub mod Laws
+pub mod Journals
+pub mod Results

@@ -1,0 +1,40 @@
+-- The rules of the records of logs and cosigners, by what begins them.
+use Rattle.std.specs.Prelude.{◌≡◌, ◌⊎◌, ◌^◌, Bool, List, Some, Ok, IsOk}
+use Rattle.byte_formats.specs.Types.{Text, HashFunction}
+use Rattle.cosigner_core.specs.Folds.{CosignerState, cosigner_of}
+use Rattle.cosigner_core.specs.Openings.{cosigner_read}
+use Rattle.cosigner_core.specs.Progress.{may_follow_cosigner}
+use Rattle.cosigner_core.specs.Records.{cosigner_in}
+use Rattle.hss_core.specs.Hss.{one_level_public}
+use Rattle.issuance_log.specs.Folds.{LogState, log_of, may_follow_log}
+use Rattle.issuance_log.specs.Openings.{log_read}
+use Rattle.issuance_log.specs.Records.{settings_in}
+use Rattle.lms_core.specs.Heights.{height}
+use Rattle.lms_core.specs.Trees.{private_key}
+use Rattle.party_history.specs.declared.start.PartyStart.{PartyStart}
+use Rattle.party_history.specs.declared.start.PartyStart.TheVariants.{Log, Cosigner}
+
+-- These bodies may follow the record with which a party begins.
+abbrev pub may_follow : HashFunction → PartyStart → List Text → Bool
+may_follow h (Log settings) bodies = may_follow_log h settings bodies
+may_follow h (Cosigner settings public) bodies =
+    may_follow_cosigner h (2 ^ height settings.lms) bodies
+
+-- The first record of a party's journal says how it began: the settings of a log, or the settings
+-- of a cosigner and a secret, to which its public key belongs.
+abbrev pub StartsWith : PartyStart → Text → Type 0
+StartsWith (Log settings) first = settings_in first ≡ Some settings
+StartsWith (Cosigner settings public) first = (secret : Text)
+    × ((cosigner_in first ≡ Some (settings, secret))
+    × (one_level_public (private_key settings.lms settings.ots secret) ≡ public))
+
+-- A journal may hold these records: they make a log or a cosigner.
+abbrev pub AreRecords : HashFunction → List Text → Type 0
+AreRecords h list = IsOk (log_of h list) ⊎ IsOk (cosigner_of h list)
+
+-- A file with these bytes is opened as the log or the cosigner that has these records.
+abbrev pub IsReadAs : HashFunction → PartyStart → Text → List Text → Type 0
+IsReadAs h (Log settings) bytes list =
+    (s : LogState) × (log_read h bytes ≡ Ok (record { records = list; state = s }))
+IsReadAs h (Cosigner settings public) bytes list =
+    (s : CosignerState) × (cosigner_read h bytes ≡ Ok (record { records = list; state = s }))

@@ -1,0 +1,200 @@
+//! Histories of a log and a cosigner, step by step.
+
+use cosigner_core::CosignerSettings;
+use hss_core::{LmsType, OtsType};
+use issuance_log::LogSettings;
+use mtc_io::{Bytes, Memory};
+use party_history::{HistoryError, PartyStart, PartyState, PartyStep, history};
+use std::alloc::Global;
+use std::test::Fail;
+use tls_wire::AnchorId;
+use tree_core::Sha;
+
+// A Landmark at size 1, that of a new log.
+const MARK: [u8; 9] = [3, 0, 0, 0, 0, 0, 0, 0, 1];
+
+// An Advance to size 1, which a new cosigner holds without a proof.
+const ADVANCE: [u8; 43] = [
+    0x12, 0, 0, 0, 0, 0, 0, 0, 1, 7, 7, 7, 7, 7, 7, 7, 7, 7, 7, 7, 7, 7, 7, 7, 7, 7, 7, 7, 7, 7, 7,
+    7, 7, 7, 7, 7, 7, 7, 7, 7, 7, 0, 0,
+];
+
+// What a party does.
+#[derive(Clone, Copy)]
+enum Turn {
+    Mark,
+    Advance,
+    MakeDurable,
+    Release,
+    Stop(bool),
+}
+
+fn step_of(alloc: Global, party: u32, turn: Turn) -> Result<PartyStep, Memory> {
+    Ok(match turn {
+        Turn::Mark => PartyStep::Begin {
+            party,
+            body: Bytes::copy_of(alloc, &MARK)?,
+        },
+        Turn::Advance => PartyStep::Begin {
+            party,
+            body: Bytes::copy_of(alloc, &ADVANCE)?,
+        },
+        Turn::MakeDurable => PartyStep::MakeDurable { party },
+        Turn::Release => PartyStep::Release { party },
+        Turn::Stop(kept) => PartyStep::Stop { party, kept },
+    })
+}
+
+fn id(alloc: Global, text: &str) -> Result<AnchorId, Fail> {
+    Ok(AnchorId::from_text(alloc, text)?)
+}
+
+fn log(alloc: Global) -> Result<PartyStart, Fail> {
+    Ok(PartyStart::Log(LogSettings {
+        id: id(alloc, "32473.1")?,
+        max_active: 2,
+        limit: 64,
+    }))
+}
+
+fn cosigner(alloc: Global) -> Result<PartyStart, Fail> {
+    Ok(PartyStart::Cosigner {
+        settings: CosignerSettings {
+            id: id(alloc, "32473.2")?,
+            log: id(alloc, "32473.1")?,
+            lms: LmsType::H5,
+            ots: OtsType::W4,
+        },
+        public: [0; 60],
+    })
+}
+
+fn steps_of(alloc: Global, turns: &[(u32, Turn)]) -> Result<Vec<PartyStep>, Memory> {
+    let mut steps = Vec::new(alloc);
+    for (party, turn) in turns {
+        steps.push(step_of(alloc, *party, *turn)?)?;
+    }
+    Ok(steps)
+}
+
+// What a history of these steps answers.
+fn reported(
+    alloc: Global,
+    starts: &[PartyStart],
+    steps: &[PartyStep],
+) -> Result<Vec<PartyState>, HistoryError> {
+    history::<Sha>(alloc, starts, steps)
+}
+
+fn states(
+    alloc: Global,
+    starts: &[PartyStart],
+    turns: &[(u32, Turn)],
+) -> Result<Result<Vec<PartyState>, HistoryError>, Fail> {
+    let steps = steps_of(alloc, turns)?;
+    Ok(reported(alloc, starts, steps.as_slice()))
+}
+
+// Of each party, how many records are durable, how many were released, and the number of the last
+// of these; party 0 is a log, and party 1 a cosigner.
+type Counts = (usize, usize, u64);
+
+fn counts_of(state: &PartyState) -> Counts {
+    let last = match state.released.as_slice().last() {
+        Some(number) => *number,
+        None => 0,
+    };
+    (state.durable.len(), state.released.len(), last)
+}
+
+fn counts(
+    alloc: Global,
+    turns: &[(u32, Turn)],
+) -> Result<Result<(Counts, Counts), HistoryError>, Fail> {
+    let starts = [log(alloc)?, cosigner(alloc)?];
+    match states(alloc, &starts, turns)? {
+        Err(why) => Ok(Err(why)),
+        Ok(states) => match states.as_slice() {
+            [first, second] => Ok(Ok((counts_of(first), counts_of(second)))),
+            _ => Err(Fail::from("nodes are missing")),
+        },
+    }
+}
+
+#[test]
+fn steps_are_allowed_or_reported(rt: HostRuntime) -> Result<(), Fail> {
+    let cases: [(&[(u32, Turn)], Result<(Counts, Counts), HistoryError>); 12] = [
+        (&[], Ok(((0, 0, 0), (0, 0, 0)))),
+        (&[(2, Turn::Stop(true))], Err(HistoryError::NotAStep(0))),
+        (&[(0, Turn::Release)], Err(HistoryError::NotAStep(0))),
+        (&[(0, Turn::Advance)], Err(HistoryError::NotAStep(0))),
+        (
+            &[(0, Turn::Mark), (0, Turn::Mark)],
+            Err(HistoryError::NotAStep(1)),
+        ),
+        (
+            &[(0, Turn::Mark), (0, Turn::MakeDurable), (0, Turn::Mark)],
+            Err(HistoryError::NotAStep(2)),
+        ),
+        (
+            &[
+                (0, Turn::Mark),
+                (0, Turn::MakeDurable),
+                (0, Turn::Release),
+                (0, Turn::Release),
+            ],
+            Err(HistoryError::NotAStep(3)),
+        ),
+        (
+            &[(0, Turn::Mark), (0, Turn::Stop(true)), (0, Turn::Release)],
+            Err(HistoryError::NotAStep(2)),
+        ),
+        (
+            &[(0, Turn::Mark), (0, Turn::Stop(true))],
+            Ok(((1, 0, 0), (0, 0, 0))),
+        ),
+        (
+            &[
+                (0, Turn::Mark),
+                (0, Turn::Stop(false)),
+                (0, Turn::Mark),
+                (0, Turn::MakeDurable),
+                (0, Turn::Release),
+            ],
+            Ok(((1, 1, 1), (0, 0, 0))),
+        ),
+        (
+            &[
+                (1, Turn::Advance),
+                (0, Turn::Mark),
+                (1, Turn::MakeDurable),
+                (1, Turn::Release),
+            ],
+            Ok(((0, 0, 0), (1, 1, 1))),
+        ),
+        (
+            &[
+                (1, Turn::Advance),
+                (1, Turn::MakeDurable),
+                (1, Turn::Advance),
+            ],
+            Err(HistoryError::NotAStep(2)),
+        ),
+    ];
+    for (turns, wanted) in cases {
+        assert!(rt;
+            counts(rt.alloc(), turns)? == wanted,
+            "{} steps",
+            turns.len()
+        );
+    }
+    Ok(())
+}
+
+#[test]
+fn one_cosigner_has_nothing_pending(rt: HostRuntime) -> Result<(), Fail> {
+    let starts = [cosigner(rt.alloc())?];
+    let ends = states(rt.alloc(), &starts, &[(0, Turn::MakeDurable)])?;
+    assert!(rt; ends.err() == Some(HistoryError::NotAStep(0)));
+    Ok(())
+}

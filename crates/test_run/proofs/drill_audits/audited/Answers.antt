@@ -1,0 +1,44 @@
+use denote.Ref.{Bor}
+use Rattle.std.proofs.Common.{◌≡◌, Option, Some, None, Ok, sym, ◌∙◌, rules, subst}
+use Rattle.std.specs.Prelude.{IfSome, option_copied}
+use Rattle.byte_formats.specs.Readings.{Answers, Gives}
+use Rattle.cert_fields.specs.Certificate.{parts_of}
+use Rattle.cert_fields.specs.Views.{parts}
+use Rattle.mtc_proof.specs.Reading.{proof_in}
+use Rattle.mtc_proof.specs.Views.{proof_parts}
+use Rattle.sha2.specs.Sha256.{sha256}
+use Rattle.cosigner_core.specs.ExportReading.{export_in}
+use Rattle.cosigner_core.specs.declared.error.ReadExportError.TheVariants.{Memory}
+use Rattle.cosigner_core.specs.declared.lists.Export.{Export}
+use Rattle.cosigner_steps.specs.Steps.{AreSteps}
+use Rattle.cosigner_steps.proofs.Exported.{export_steps}
+use Rattle.world_core.proofs.Premises.{was_judged}
+use Rattle.test_run.proofs.drill_audits.audited.Goals as goal
+
+pub audit-requires-clause-judged : goal.audit-requires-clause-judged
+audit-requires-clause-judged c =
+    let accepted : c.judge.result ≡ Ok c.in_ok-accepted.accepted = search rules in
+    let parsed : c.parse.result ≡ Ok c.in_ok-cert.cert = search rules in
+    let read : c.read_proof.result ≡ Ok c.in_ok-proof.proof = search rules in
+    was_judged sha256 c.args.certificate.now c.args.store.now _ c.in_ok-accepted.accepted
+    (parts c.in_ok-cert.cert) (proof_parts c.in_ok-proof.proof)
+    (λ i. (c.type_inv.certificate i).fits)
+    (sym c.judge.ensures ∙ accepted)
+    (subst (λ r. Gives parts r (parts_of c.args.certificate.now)) parsed c.parse.ensures.exact)
+    (subst (λ r. Gives proof_parts r (proof_in c.in_ok-cert.cert.proof.now)) read
+    c.read_proof.ensures.exact)
+
+borrowed_steps : (opened : Option (Bor Export)) (kept : Option Export) → option_copied opened ≡ kept
+    → IfSome kept (λ e. AreSteps sha256 e.steps)
+    → IfSome opened (λ e. AreSteps sha256 e.now.steps)
+borrowed_steps None kept is are = tt
+borrowed_steps (Some e) kept is are =
+    subst (λ (k : Option Export). IfSome k (λ x. AreSteps sha256 x.steps)) (sym is) are
+
+pub audit-requires-clause-allowed : goal.audit-requires-clause-allowed
+audit-requires-clause-allowed c =
+    let read : c.read_export.result ≡ Ok c.in_ok-kept.kept = search rules in
+    borrowed_steps c.as_ref.result c.in_ok-kept.kept c.as_ref.ensures.value
+    (export_steps sha256 c.args.export.now c.in_ok-kept.kept (λ i. (c.type_inv.export i).fits)
+    (subst (λ r. Answers Memory (export_in sha256 c.args.export.now) r) read
+    c.read_export.ensures))
