@@ -282,7 +282,7 @@ module _ (base crash_state : List ℕ) (writes : List (ℕ × List ℕ)) where
             following_it write keeps i within (same_leaves crash_state_before i write there same);
       }
 
--- what retains the other bytes is a crash state
+-- bytes that have the others as they were are a crash state
 pub keeps_crash_state : (base : List ℕ) (write : ℕ × List ℕ) (writes : List (ℕ × List ℕ))
     (crash_state : List ℕ)
     → IsBytes base → IsBytes crash_state → KeepsOthers (write ∷ writes) base crash_state

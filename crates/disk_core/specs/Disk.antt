@@ -32,8 +32,8 @@ NoNew old new = (c : Text) → new c → old c
 abbrev pub Only : Text → (Text → Type 0) → Type 0
 Only bytes crash_states = (c : Text) → crash_states c → c ≡ bytes
 
--- Time continues: a crash since a time might have left what it might have left before, or what it
--- may leave now.
+-- The clock of a disk doesn't go back. What a crash since an earlier time might have left stays
+-- that, and nothing joins it but what a crash may leave now.
 pub record Elapses (before now : ℕ) (past since : ℕ → Text → Type 0)
     (may_leave : Text → Type 0) : Type 0 where
   pub later : before ≤ now

@@ -13,7 +13,7 @@ seen_of h = (state_now h.first (made_calls h.calls)).seen
 abbrev pub left_of : History → Text → Type 0
 left_of h = IsCrashState (state_now h.first (made_calls h.calls))
 
--- the number of calls
+-- the number of calls in the record
 abbrev pub clock_in : History → ℕ
 clock_in h = length (made_calls h.calls)
 

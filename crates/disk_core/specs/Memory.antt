@@ -32,7 +32,7 @@ crash_states_of m = left_of m.past
 abbrev pub known_of : MemDisk → ℕ
 known_of m = m.known
 
--- how many calls there were, which is the number of the next one
+-- how many calls its record has, which is the number of the next one
 abbrev pub made_of : MemDisk → ℕ
 made_of m = length (calls_of m)
 
@@ -44,7 +44,7 @@ failing_of m = m.plan.failing.items
 abbrev pub faults_of : MemDisk → ℕ
 faults_of m = m.plan.faults
 
--- the count of those that found no memory
+-- the count of the failures that found no memory or no number
 abbrev pub failed_allocations_of : MemDisk → ℕ
 failed_allocations_of m = m.plan.failed_allocations
 

@@ -65,7 +65,7 @@ new-more count keys pins order frames frame are =
       counted = counted-push order count are.counted (sym o_count);
     }
 
--- what holds of each element, and of what represents those past the end
+-- what holds of each element, and of the default for those past the end
 each_or : {X : Type 0} (xs : List X) (d : X) (slot : ℕ) → All (λ x. x ≡ d) xs → get_or xs slot d ≡ d
 each_or xs d slot all =
     ⊎_elim

@@ -71,8 +71,8 @@ read_by fold bytes =
 abbrev pub AreRefused : {S E : Type 0} → Fold S E → Option Text → E → Type 0
 AreRefused fold contents why = IfSome contents (λ bytes. read_by fold bytes ≡ Err why)
 
--- the cause of a file that is no journal, over the disk before the call and after it: the bytes, a
--- failure, or that memory ran out
+-- the cause of a file that is no journal, over the disk before the call and after it: the bytes, or
+-- a failure; of memory that ran out it says nothing
 abbrev pub IsCauseOf : {D S E : Type 0} → Ghosts D → Fold S E → D → D → OpenError → Type 0
 IsCauseOf g fold old new NotJournal = AreRefused fold (g.contents old) (fold.not_read NotJournal)
 IsCauseOf g fold old new (BadLength place) =

@@ -11,7 +11,7 @@ use Rattle.journal_core.specs.declared.error.AppendError.{AppendError}
 use Rattle.journal_core.specs.declared.error.AppendError.TheVariants.{Failed, Broken, Full}
 use Rattle.journal_core.specs.declared.journal.Journal.{Journal}
 
--- each crash state that a crash now may leave represents these records
+-- each crash state represents these records
 abbrev pub AllRepresent : {D : Type 0} → Ghosts D → D → List Text → Type 0
 AllRepresent g disk list = (c : Text) → g.may_leave disk c → Represents c list
 

@@ -1,4 +1,4 @@
-//! What the active landmarks represent.
+//! Which landmarks are active, and which subtrees cover the entries since the one before each.
 
 ghost use Rattle.std.specs.Prelude.{◌≡◌, ℕ, ◌-◌, MatchOption};
 ghost use Rattle.tree_core.specs.Cover.{CoversInterval};

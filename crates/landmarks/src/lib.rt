@@ -1,7 +1,7 @@
 //! The landmarks of a log, by which a certificate needs no signature (the draft on Merkle Tree
-//! Certificates, where it defines landmarks): which of them are active, which subtrees they
-//! represent, and the text in which they are published, both ways. [`MOST_ACTIVE`] and
-//! [`MOST_ENTRIES`] are the most of them, and of entries, that a log may allow.
+//! Certificates, where it defines landmarks): which of them are active, which subtrees cover the
+//! entries since the landmark before each, and the text in which they are published, both ways.
+//! [`MOST_ACTIVE`] and [`MOST_ENTRIES`] are the most of them, and of entries, that a log may allow.
 #![tactic(auto)]
 
 mod covers;

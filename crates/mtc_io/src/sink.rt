@@ -42,7 +42,7 @@ pub fn write_all<O: Sink>(sink: &mut O, piece: &[u8]) -> Result<(), Failed>
     Ok(())
 }
 
-/// Writes pieces, one after the other. `Failed` comes only with a fault of the sink, and then a
+/// Writes pieces, one after the other. `Failed` comes only with a failure of the sink, and then a
 /// prefix of the whole was taken.
 pub fn write_pieces<O: Sink>(sink: &mut O, pieces: &[&[u8]]) -> Result<(), Failed>
     ensures ok { OnOk result (Appends (O.taken sink.old) (O.taken sink.new) (joined pieces.now)) }

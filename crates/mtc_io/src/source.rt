@@ -59,9 +59,9 @@ impl From<Memory> for ReadError {
 // So many bytes are asked for at a time.
 const CHUNK: usize = 4096;
 
-/// Reads to the end of input. Refuses with `TooLong` exactly if the source gives more than `limit`
-/// bytes; that is tested before memory is taken for them. `Failed` comes only with a failure of the
-/// source, and no other answer counts one.
+/// Reads to the end of input. `TooLong` comes only if the source gives more than `limit` bytes, and
+/// Ok only if it gives no more; the length is tested before memory is taken for the bytes. `Failed`
+/// comes only with a failure of the source, and no other answer counts one.
 pub fn read_all<S: Source>(alloc: Global, source: &mut S, limit: u64) -> Result<Bytes, ReadError>
     ensures whole { IfOk result (Consumes (S.left source.old) (S.left source.new)) }
     ensures spent { OnOk result (IsAtEnd (S.left source.new)) }

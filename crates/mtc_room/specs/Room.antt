@@ -64,7 +64,8 @@ pub record LeavesOthers {D T E : Type 0} (Models Models' : Type 0) (file file' :
   pub is_modelled : Models → Models'
 
 -- What a call that only makes files answers, by the file of the name and its device before the
--- call: Ok where there is none, and `Exists` where there is one. `Absent` never comes.
+-- call, if the model knows the files: Ok only if there is none, and `Exists` only if there is one.
+-- `Absent` never comes.
 pub record MakesOnly {D T : Type 0} (Models : Type 0) (file : Option Text) (device : Option D)
     (result : Result T RoomError) : Type 0 where
   pub was_absent : OnOk result (Models → file ≡ None)

@@ -120,7 +120,8 @@ impl MemRoom {
         }
     }
 
-    /// How often the file system, or a device that it closed, found no memory.
+    /// How often the file system found no memory, with the failed allocations of the devices that
+    /// it closed.
     pub fn failed_allocations(&self) -> u64
         ensures { result ≡ (state self.now).failed_allocations }
     {

@@ -43,9 +43,10 @@ pub trait Room {
     /// What it says of its last failure.
     ghost why: { Self → Cause };
 
-    /// Opens a file that exists, as a source of its bytes. `Absent` comes exactly if there is none,
-    /// and `Failed` only with a failure of the file system; `Exists` never comes. The source has no
-    /// failure so far, and gives the file's bytes.
+    /// Opens a file that exists, as a source of its bytes. If the model knows the files, `Absent`
+    /// comes only if there is none, and Ok only if there is one. `Failed` comes only with a failure
+    /// of the file system; `Exists` never comes. The source has no failure so far, and gives the
+    /// file's bytes.
     fn source(&mut self, name: &str) -> Result<Self::Src, RoomError>
         requires { opened self.old < 2 ^ 32 }
         ensures opens { Opens (opened self.old) (opened self.new)
@@ -78,9 +79,9 @@ pub trait Room {
         ensures never { IsErrOf result RoomError.Exists → ⊥ };
 
     /// Makes an empty file and opens its device, which has no failure so far, and of which a crash
-    /// leaves nothing. `Exists` comes exactly if the name has a file, and `Failed` only with a
-    /// failure of the file system; `Absent` never comes. A refusal makes no file, if the model
-    /// knows the files.
+    /// leaves nothing. If the model knows the files, `Exists` comes only if the name has a file,
+    /// and Ok only if it has none; and a refusal makes no file. `Failed` comes only with a failure
+    /// of the file system; `Absent` never comes.
     fn fresh(&mut self, name: &str) -> Result<Self::Dsk, RoomError>
         requires { opened self.old < 2 ^ 32 }
         ensures opens { Opens (opened self.old) (opened self.new)

@@ -26,8 +26,8 @@ abbrev pub why_of : {M R E : Type 0} → Result M (NotBegun R E) → Result M E
 why_of (Ok it) = Ok it
 why_of (Err e) = Err e.why
 
--- the cause of a refusal, over the disk before the call and after it: the bytes, a failure, or that
--- memory ran out
+-- the cause of a refusal, over the disk before the call and after it: the bytes, or a failure; of a
+-- record that can't be taken now it says nothing
 abbrev pub HasStateCause : {D S : Type 0} → Ghosts D → Fold S StateOpenError → D → D
     → StateOpenError → Type 0
 HasStateCause g fold old new (BadRecord k) = AreRefused fold (g.contents old) (BadRecord k)

@@ -6,12 +6,12 @@ use Rattle.state_journal.specs.declared.error.Misfit.{Misfit}
 use Rattle.state_journal.specs.declared.error.Misfit.TheVariants.{Unfit, Memory}
 use Rattle.state_journal.specs.declared.error.NotBegun.{NotBegun}
 
--- a record that isn't taken breaks the rules, or memory was refused
+-- a record that isn't taken breaks the rules, or it can't be taken now
 abbrev pub IsMisfitOf : {S : Type 0} → Option S → Misfit → Type 0
 IsMisfitOf wanted Unfit = wanted ≡ None
 IsMisfitOf wanted Memory = Unit {0}
 
--- memory was refused
+-- the record can't be taken now
 abbrev pub IsOutOfMemory : {X : Type 0} → Result X Misfit → Type 0
 IsOutOfMemory (Ok done) = ⊥
 IsOutOfMemory (Err Unfit) = ⊥

@@ -31,7 +31,7 @@ pub trait StateMachine: Sized {
     // what it keeps over any disk, of offsets in the journal too, where the next record's commit
     // byte stands here
     ghost Within: { Self → ℕ → Type 0 } = { λ _ _. Unit {0} };
-    // this record is taken with what is there: memory isn't refused, and nothing else is called
+    // this record needs nothing that isn't there: it is taken if it keeps to the rules
     ghost HasCapacity: { Self → Text → Type 0 } = { λ _ _. Unit {0} };
     // a seed that a machine may begin with
     ghost IsBlank: { Self.Seed → Type 0 } = { λ _. Unit {0} };

@@ -20,7 +20,7 @@ stored-stand h leaves stored size b tiles within adopted level place new =
     stands h leaves b level place
     (tiles level place (full-more size stored level place within new.full))
 
--- Where the adopted tiles stand, the first new one that the file has not is the first of all.
+-- Where the adopted tiles stand, the first new one that the file doesn't have is the first of all.
 pub first-of-all : (h : List ℕ → List ℕ) (leaves : List (List ℕ)) (adopted stored size : ℕ)
     (b : List ℕ) (level place : ℕ) → HoldsTiles h leaves stored b → adopted ≤ stored
     → IsFirstBad h leaves b adopted size level place → IsFirstBad h leaves b 0 size level place

@@ -15,7 +15,7 @@ use Rattle.tree_cache.specs.Rows.{RowsState, count_of, filled_of, first_row, gon
 use Rattle.tree_cache.specs.Rows.{first_length, paired, row_count}
 use Rattle.tree_core.specs.Tree.{pair_hash}
 
--- the rows of some leaves represent so many
+-- the rows of some leaves have so many hashes, with those that are gone
 pub count-rows : (h : List ℕ → List ℕ) (leaves : List (List ℕ)) (r : RowsState)
     → AreRowsOf h leaves r → count_of r ≡ length leaves
 count-rows h leaves r are = let long = is-long leaves r.first are.first in long.all

@@ -45,7 +45,7 @@ unfoldable pub AreLong : ℕ → List RowState → Type 0
 AreLong count [] = count ≡ 0
 AreLong count (row ∷ rows) = IsLong count row × AreLong (count / 2) rows
 
--- The rows represent some number of hashes below 2^64.
+-- The rows have some number of hashes below 2^64, with those that are gone.
 pub record HaveCount (rows : List RowState) : Type 0 where
   pub count : ℕ
   pub few : count < 2 ^ 64

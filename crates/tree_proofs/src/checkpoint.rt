@@ -24,8 +24,8 @@ impl Checkpoint {
         }
     }
 
-    /// The proof shows that these entries are the first ones of the list that has this size and
-    /// root. For no entries it is the proof of no hashes.
+    /// Whether the proof checks: that these entries are the first ones of the list that has this
+    /// size and root. For no entries it is the proof of no hashes.
     pub fn is_prefix_of<H: TreeHash>(&self, size: u64, root: &[u8; 32], proof: &[[u8; 32]]) -> bool
         ensures exact { result ≡ is_prefix_of H.hash self.now size root.now proof.now }
         ensures short { result ≡ true → length proof.now ≤ 65 }
@@ -36,7 +36,7 @@ impl Checkpoint {
         check::<H>(0, self.size, size, &self.root, root, proof).is_ok()
     }
 
-    /// The proof shows that this is the hash of a subtree of these entries.
+    /// Whether the proof checks: that this is the hash of a subtree of these entries.
     pub fn has_subtree<H: TreeHash>(
         &self,
         start: u64,

@@ -17,9 +17,9 @@ pub fn law_consistency_proofs_check()
     ensures wrong_length { (h : HashFunction) → WrongLengthByProof h }
 {}
 
-/// What a proof shows of a checkpoint, for every hash function. Its entries are the first ones of
-/// another list exactly if there are none and the proof has no hash, or the proof checks. A hash is
-/// that of a subtree of them exactly if the proof checks.
+/// What the two tests of a checkpoint answer, for every hash function. `Checkpoint::is_prefix_of`
+/// answers true exactly if there are no entries and the proof has no hash, or there are some and
+/// the proof checks; `Checkpoint::has_subtree` exactly if the proof checks.
 pub fn law_checkpoints_are_shown()
     ensures { (h : HashFunction) → CheckpointsAreShown h }
 {}

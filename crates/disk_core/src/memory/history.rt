@@ -133,7 +133,7 @@ impl History {
         })
     }
 
-    // One of the crash states that a crash now may leave.
+    // One of the crash states.
     pub(crate) fn left(&self, alloc: Global, pick: u64) -> Result<Bytes, Memory>
         ensures { IfOk result (left_of self.now) }
     {

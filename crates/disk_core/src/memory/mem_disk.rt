@@ -163,12 +163,12 @@ impl MemDisk {
         })
     }
 
-    /// A disk over one crash state that a crash now may leave, chosen by `pick`. Of each write
-    /// since the last sync that was answered Ok nothing is left, all of it, its prefix alone, or
-    /// its prefix with other bytes after it, but where it wrote what was there: two bits of `pick`
-    /// choose, for each write the two above those of the one before it, and the two above these say
-    /// the length of the prefix, in quarters. They are those that choose for the next write. The
-    /// same pick gives the same crash state.
+    /// A disk over one of its crash states, chosen by `pick`. Of each write since the last sync
+    /// that was answered Ok nothing is left, all of it, its prefix alone, or its prefix with other
+    /// bytes after it, but where it wrote what was there: two bits of `pick` choose, for each write
+    /// the two above those of the one before it, and the two above these say the length of the
+    /// prefix, in quarters. They are those that choose for the next write. The same pick gives the
+    /// same crash state.
     pub fn crash(self, pick: u64) -> Result<MemDisk, Memory>
         ensures crash_state { IfOk result (λ it. crash_states_of self (bytes_of it)) }
         ensures fresh { IfOk result (λ it. IsFresh (bytes_of it) it) }
@@ -195,7 +195,7 @@ impl MemDisk {
         self.past.calls.changes.as_slice()
     }
 
-    /// How many calls there were, which is the number of the next one.
+    /// How many calls its record has, which is the number of the next one.
     pub fn made(&self) -> u64
         ensures { result ≡ made_of self.now }
     {
@@ -216,7 +216,8 @@ impl MemDisk {
         self.plan.faults
     }
 
-    /// The count of those that found no memory: each adds one, up to the last value.
+    /// The count of the failures that found no memory or no number: each adds one, up to the last
+    /// value.
     pub fn failed_allocations(&self) -> u64
         ensures { result ≡ failed_allocations_of self.now }
     {

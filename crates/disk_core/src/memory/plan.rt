@@ -5,8 +5,8 @@ ghost use Rattle.mtc_io.specs.Counts.{Rose, with_count};
 
 use mtc_io::Failed;
 
-/// The numbers of the calls that fail, the failures so far, and those of them that came because
-/// memory ran out.
+/// The numbers of the calls that fail, the failures so far, and those of them that found no memory
+/// or no number.
 #[derive(Debug, Drop)]
 pub(crate) struct Plan {
     pub(crate) failing: Vec<u64>,
@@ -44,7 +44,7 @@ impl Plan {
         Failed
     }
 
-    // The call finds no memory.
+    // The call finds no memory, or no number is left.
     pub(crate) fn fail_allocation(&mut self) -> Failed
         ensures failing { self.new.failing ≡ self.old.failing }
         ensures later { self.old.faults ≤ self.new.faults }
