@@ -4,7 +4,7 @@ use Rattle.tls_wire.specs.declared.fault.AnchorBytesError.TheVariants as id
 use Rattle.cosigner_core.specs.declared.error.RecordError.{RecordError}
 use Rattle.cosigner_core.specs.declared.error.RecordError.TheVariants.{Unfit, Memory}
 
--- an id that is none, or that memory ran out for it
+-- an id that is none, or memory that ran out for it
 abbrev pub cosigner_id_fault : AnchorBytesError → RecordError
 cosigner_id_fault id.Empty = Unfit
 cosigner_id_fault (id.Padding place) = Unfit

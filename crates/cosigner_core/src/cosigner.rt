@@ -198,9 +198,10 @@ impl<H: TreeHash, D: Disk> Cosigner<H, D> {
 
     /// Writes what others may know of the cosigner: its id and that of its log, each after its
     /// length of one byte, its public key after its length of two bytes, and each record but the
-    /// first after its length of four bytes. It never writes the secret. It writes while it reads,
-    /// takes no memory, and leaves the cosigner as it was. If an append has failed, it writes the
-    /// records without the one that failed, even if that one is on the disk.
+    /// first after its length of four bytes. No clause says what it writes over a disk whose bytes
+    /// the model doesn't know: that it doesn't write the secret then is read off the program. It
+    /// writes while it reads, takes no memory, and leaves the cosigner as it was. If an append has
+    /// failed, it writes the records without the one that failed, even if that one is on the disk.
     ///
     /// Errors: `Read` where the disk fails, and `Write` where the sink does. A prefix of the export
     /// is written then.

@@ -8,7 +8,7 @@ use Rattle.file_events.specs.Executions.{IsPrefix}
 use Rattle.file_events.specs.Mirrors.{Agree, KeepsAgreement, MayDo}
 use Rattle.file_events.specs.Tiles.{Goes, LogLeads, stored, ran as ran_log}
 
--- A crash leaves this text; or it leaves one of two.
+-- A crash leaves these bytes; or it leaves one of two such.
 abbrev pub only_state : Text → CrashStates
 only_state a c = c ≡ a
 
@@ -50,7 +50,7 @@ module _ (items steps : List Text) (batch body : Text) where
     pub apart : Agree agrees_after computed_after never_neutral (two_states m m')
         (only_state s') → ⊥
 
--- So it is of all texts that represent these records.
+-- So it is of all bytes that represent these records.
 abbrev pub OneByOneFails : Type 0
 OneByOneFails = (items steps : List Text) (batch body m m' s s' : Text) → Represents m items
     → Represents m' (items ++ batch ∷ []) → Represents s steps
@@ -76,7 +76,7 @@ module _ (list : List Text) (body t t' : Text) where
     pub at_once : Leads AnyRecords (broke (appended list body)) (only_state c) (only_state c')
     pub apart : Goes goes_after (only_state c') (only_state t) → ⊥
 
--- So it is of all texts that represent these records, and of all bytes of tiles.
+-- So it is of all bytes that represent these records, and of all bytes of tiles.
 abbrev pub ClocksGoApart : Type 0
 ClocksGoApart = (list : List Text) (body c c' t t' : Text) → Represents c list
     → Represents c' (list ++ body ∷ []) → t ≢ t' → GoesApart list body t t' c c'

@@ -8,7 +8,7 @@ use Rattle.journal_core.specs.Format.{Represents, RepresentsEither}
 use Rattle.file_events.specs.Executions.{AnyEvent}
 
 -- The crash states of a file: what a crash may leave of it on the disk. Of a file that isn't there
--- it is the empty text.
+-- it leaves no bytes.
 abbrev pub CrashStates : Type 1
 CrashStates = Text → Type 0
 

@@ -20,7 +20,7 @@ abbrev pub ReachesAll : (List Text → Type 0) → History → Type 0
 ReachesAll Valid Reaches = (list : List Text) → Valid list → Reaches list None []
 
 -- The steps of a history, by the rules of the journal: a stop keeps a pending record, or not; where
--- none is pending a record may be begun; and it becomes durable, and then may be released.
+-- none is pending a record may be appended; and it becomes durable, and then may be released.
 pub record TakesSteps (Valid : List Text → Type 0) (Reaches : History) : Type 0 where
   pub stops : (kept : Bool) (list : List Text) (pending : Option Text) (out : List Text)
       → Reaches list pending out → Reaches (recovered kept list pending) None out

@@ -8,7 +8,7 @@ use Rattle.file_events.specs.Executions.{IsExecution, IsPrefix}
 use Rattle.file_events.specs.Keys.{KeyUse, UsesOnce}
 
 module _ (Valid : List Text → Type 0) where
-  -- The text represents valid records, and these are the first of them.
+  -- The bytes represent valid records, and these are the first of them.
   pub record IsReadAfter (prefix : List Text) (c : Text) : Type 0 where
     pub list : List Text
     pub stands : Represents c list

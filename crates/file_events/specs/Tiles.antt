@@ -34,8 +34,8 @@ module _ (goes : List Text → Text → Type 0) where
   Goes journal tiles = (c : Text) (list : List Text) → journal c → Represents c list
       → AllGo list tiles
 
-  -- Tiles are stored, and after that a record is added: at each time the tiles go with the records
-  -- that were there, and with the new one wherever it is there.
+  -- Tiles are stored, and after that a record is added: what is left of the tiles goes with the
+  -- records that were there, and with the new one wherever it is there.
   pub record Stores (list : List Text) (body : Text) (tiles journal' tiles' : CrashStates)
       : Type 0 where
     pub keeps : AllGo list tiles → AllGo list tiles'

@@ -88,8 +88,8 @@ pub data Link (R O E : Type 0) : Type 0 where
   -- a run
   turned : Turn R O E → Link R O E
   -- The program is killed in the middle of a run, before a byte of it went out, and the machine
-  -- continues: of the run only the words count. A kill after the first byte is a run whose standard
-  -- output failed there.
+  -- continues: of the run only the arguments count. A kill after the first byte is a run whose
+  -- standard output failed there.
   died : Turn R O E → R → Link R O E
   -- The machine stops in the middle of a run, before a byte of it went out: the run as it would
   -- have ended, and the files that the stop leaves. A stop after the first byte is a run whose
@@ -140,8 +140,8 @@ module _ (p : Program) where
   EachRun P old [] = Unit {0}
   EachRun P old (link ∷ links) = IfSome (run_of link) (P old) × EachRun P (files_after link) links
 
-  -- A stop leaves of each file one text that it may leave, and a crash right after it leaves the
-  -- same.
+  -- A stop leaves each file with bytes that a crash may leave of it, and a crash right after it
+  -- leaves the same bytes.
   pub record LeavesStopped (May : Text → CrashStates) (old new : p.R) : Type 0 where
     pub is_modelled : p.rooms.is_modelled old → p.rooms.is_modelled new
     pub crash_state : Text → Text
@@ -183,7 +183,7 @@ module _ (p : Program) (o : FileOwner p) where
   IsFileCourse old (link ∷ links) new =
       IsLink old link × IsFileCourse (files_after p link) links new
 
-  -- The event of each is computed, and so are those of an execution.
+  -- The event of each is computed, and so are the events of a list of them.
   abbrev pub event_of : p.R → Link p.R p.O p.E → o.EventOf
   event_of old (turned run) = o.run_event old run
   event_of old (died run room) = o.broken_event old run

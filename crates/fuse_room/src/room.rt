@@ -11,8 +11,8 @@ use mtc_room::{Cause, MemRoom, Room, RoomError};
 
 /// A file system in memory of which one device stops. It opens each device of the file system
 /// inside over a fuse: that of one name passes so many calls of `write_at` and `sync` and fails
-/// each call from the next one of these on, and the devices of other names pass all. Each opening
-/// begins anew. What a fuse fails doesn't reach the file system inside.
+/// each call from the next one of these on, and the devices of other names pass all. The count
+/// begins again with each opening. What a fuse fails doesn't reach the file system inside.
 #[derive(Debug)]
 pub struct FuseRoom {
     room: MemRoom,

@@ -12,7 +12,7 @@ use Rattle.issuance_log.specs.declared.error.LogOpenError.TheVariants.{BadRecord
 use Rattle.issuance_log.specs.declared.error.RecordError.{RecordError}
 use Rattle.issuance_log.specs.declared.error.RecordError.TheVariants.{Unfit, Memory}
 
--- an id that is none, or that memory ran out for it
+-- an id that is none, or memory that ran out for it
 abbrev pub log_id_fault : AnchorBytesError → RecordError
 log_id_fault id.Empty = Unfit
 log_id_fault (id.Padding place) = Unfit

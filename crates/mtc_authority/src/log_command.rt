@@ -205,9 +205,9 @@ fn on_journal<'a, H: TreeHash, R: Room>(
 }
 
 /// Opens a journal and the file of its tiles, which is made if it isn't there, opens the log and
-/// works on it. Whatever comes of it, the devices are closed. The memory for the tiles is taken
-/// before any file is opened, so that no file is made without it. The journal's header is read
-/// before the file of the tiles is opened: no such file is made beside a file that is no journal.
+/// works on it. Whatever comes of it, the devices are closed. No file of tiles is made beside a
+/// file that is no journal, since the journal's header is read first. That the memory for the tiles
+/// is taken before any file is opened is read off the program.
 pub fn on_log<'a, H: TreeHash, R: Room>(
     alloc: Global,
     room: &mut R,

@@ -18,8 +18,8 @@ use std::rt::Files;
 /// which has a secret in it, is refused where its mode lets others than its owner do anything; its
 /// last bytes, all that the last command may have written, are written again as they are read, so
 /// that the next sync carries them to the disk also where an earlier sync failed; and the folder of
-/// the name is synced. [`FileDisk::unlocked`] does none of this: two processes that open one cosigner by
-/// it sign with the same one-time keys.
+/// the name is synced. [`FileDisk::unlocked`] does none of this: two processes that open one
+/// cosigner by it sign with the same one-time keys.
 ///
 /// A file that doesn't begin as a journal is neither written nor refused: opening a log or a
 /// cosigner on the device refuses it. After a call of the device that fails in a sync, each later
