@@ -30,8 +30,7 @@ pub struct FileDisk<F = File> {
 
 impl<F: OpenFile + FileExt> FileDisk<F> {
     /// The file as it stands, with a known length of 0, no failure so far, not lost, and the clock
-    /// at its start. It takes no lock and syncs nothing: whoever else opens the file is not kept
-    /// out.
+    /// at its start. It takes no lock and syncs nothing: others may open the file and write to it.
     pub fn unlocked(file: F) -> FileDisk<F>
         ensures file { open_file result ≡ file }
         ensures known { file_known result ≡ 0 }
