@@ -28,23 +28,23 @@ same_fuse a b passes others same = record {
 }
 
 -- a device that was opened of the file system inside is opened of this one as a fuse
-pub same_lent : (stored : Option MemDisk) (opened : MemDisk) (fuse : Fuse MemDisk) (passes : ℕ)
+pub same_opened : (stored : Option MemDisk) (opened : MemDisk) (fuse : Fuse MemDisk) (passes : ℕ)
     → fuse ≡ fused opened passes → IsSomeAnd stored (λ d. SameDevice disks d opened)
     → IsSomeAnd (option_map (λ d. fused d last_count) stored) (λ d. SameDevice fuses d fuse)
-same_lent None opened fuse passes is same = absurd same
-same_lent (Some d) opened fuse passes is same =
+same_opened None opened fuse passes is same = absurd same
+same_opened (Some d) opened fuse passes is same =
     subst (λ (f : Fuse MemDisk). SameDevice fuses (fused d last_count) f) (sym is)
     (same_fuse d opened last_count passes same)
 
-pub found_lent : (stored : Option MemDisk) (opened : MemDisk) (fuse : Fuse MemDisk) (passes : ℕ)
+pub found_opened : (stored : Option MemDisk) (opened : MemDisk) (fuse : Fuse MemDisk) (passes : ℕ)
     → fuse ≡ fused opened passes → (before file : Option Text)
     → IsFoundOrNew disks ⊤ before file stored opened
     → IsFoundOrNew fuses ⊤ before file (option_map (λ d. fused d last_count) stored) fuse
-found_lent stored opened fuse passes is before file found = record {
+found_opened stored opened fuse passes is before file found = record {
   made = found.made;
   bytes = subst (λ (f : Fuse MemDisk). ⊤ → OpensBytes file (fuses.contents f)) (sym is)
       found.bytes;
-  device = λ all. same_lent stored opened fuse passes is (found.device all);
+  device = λ all. same_opened stored opened fuse passes is (found.device all);
   only = subst (λ (f : Fuse MemDisk). ⊤ → before ≡ None → (c : Text) → fuses.may_leave f c
       → c ≡ []) (sym is) found.only;
   time = subst (λ (f : Fuse MemDisk). ⊤ → before ≡ None → fuses.clock_at f ≡ 0) (sym is)

@@ -150,7 +150,7 @@ impl Room for FuseRoom {
             → bytes_in (inner_room self.old) name.now ≡ None }
         ensures never { IsErrOf result RoomError.Exists → ⊥ }
         ensures alike { StopsAlike self.old self.new }
-        ensures lends { IfOk result (λ f. f
+        ensures as_fuse { IfOk result (λ f. f
             ≡ fused (inner_of f) (passes_under self.old name.now)) }
     {
         let disk = self.room.disk(name)?;
@@ -169,7 +169,7 @@ impl Room for FuseRoom {
         ensures new { IfOk result (IsMadeEmpty ⟦<Fuse<MemDisk> as Disk>⟧ ⊤
             (bytes_in (inner_room self.new) name.now) (fuse_in self.new name.now)) }
         ensures alike { StopsAlike self.old self.new }
-        ensures lends { IfOk result (λ f. f
+        ensures as_fuse { IfOk result (λ f. f
             ≡ fused (inner_of f) (passes_under self.old name.now)) }
     {
         let disk = self.room.fresh(name)?;
@@ -190,7 +190,7 @@ impl Room for FuseRoom {
             (bytes_in (inner_room self.old) name.now) (bytes_in (inner_room self.new) name.now)
             (fuse_in self.new name.now)) }
         ensures alike { StopsAlike self.old self.new }
-        ensures lends { IfOk result (λ f. f
+        ensures as_fuse { IfOk result (λ f. f
             ≡ fused (inner_of f) (passes_under self.old name.now)) }
     {
         let disk = self.room.scratch(name)?;

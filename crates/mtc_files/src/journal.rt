@@ -52,7 +52,7 @@ pub fn open_to_write<R: Files>(files: &R, name: &str) -> io::Result<R::File> {
 /// Makes the empty file of a new journal. A name that has a file, or a link, is refused, and so is
 /// one that is too long for the name of its file of tiles.
 pub fn create_journal<R: Files>(files: &R, name: &str) -> io::Result<R::File> {
-    if leaves_room_for_tiles(name) {
+    if leaves_space_for_tiles(name) {
         return create_empty(files, name);
     }
     fs::symlink_metadata(files, name)?;
@@ -137,7 +137,7 @@ where
 }
 
 // Whether a name is short enough that `.tiles` can follow it.
-fn leaves_room_for_tiles(name: &str) -> bool {
+fn leaves_space_for_tiles(name: &str) -> bool {
     match Path::new(name).file_name() {
         Some(last) => last.len() <= LONGEST_NAME - TILES_END,
         None => true,
