@@ -19,19 +19,19 @@ from cosignatures import KEY, ROOT, Folder
 from cosigned_log import DATES, FIRST
 
 LOG, COSIGNER = "32473.1", "32473.2"
-MOMENT = str(FIRST)
+NOW = str(FIRST)
 REQUEST = f'{DATES}dns = ["{{}}.example", "*.b.example"]\ncommon_name = "b"\nkey = "{KEY}"\n'
 
 # The arguments of each command, over the files that `make_files` makes.
 COMMANDS = [
-    "frob", "member first.member", "member absent", "show cert", "verify cert store " + MOMENT,
-    "verify light trusting " + MOMENT, "verify cert trusting " + MOMENT, "init-log new 32473.1 2 32",
+    "frob", "member first.member", "member absent", "show cert", "verify cert store " + NOW,
+    "verify light trusting " + NOW, "verify cert trusting " + NOW, "init-log new 32473.1 2 32",
     "init-log log 32473.1 2 32", "issue log request", "issue log wrong", "checkpoint log", "entries log 5",
     "consist log 3 5", "subtree log 0 4 5", "keygen 5 4 secret", "init-cosigner new 32473.2 32473.1 5 4 secret",
     "advance early advance", "cosign cosigner subtree", "cosign early subtree", "export cosigner", "landmark log",
     "landmarks log", "light-cert log 2", "light-cert log 4", "trust-landmarks list 2 entries",
-    "cert log 2 0 4 signatures", "audit cert store " + MOMENT + " entries export",
-    "audit light trusting " + MOMENT + " entries empty", "audit light trusting " + MOMENT + " few empty", "quarrel export", "quarrel empty",
+    "cert log 2 0 4 signatures", "audit cert store " + NOW + " entries export",
+    "audit light trusting " + NOW + " entries empty", "audit light trusting " + NOW + " few empty", "quarrel export", "quarrel empty",
     "quarrel entries", "drill 7", "root entries", "root export", "held export", "held empty", "held entries",
     "monitor-init 32473.1", "monitor state watch advance entries", "monitor state watch advance few", "monitor watch watch advance entries",
     "monitor state state advance entries", "monitor state watch subtree entries", "monitor state watch advance export",
@@ -104,7 +104,7 @@ class Refusals:
         """Whether that allocation came, and how the command ended over the same files as ever."""
         write_files(self.folder.path, self.files)
         reported, reporting = os.pipe()
-        extra = {"LD_PRELOAD": str(self.library), "REFUSED": str(number), "TOLD": str(reporting)}
+        extra = {"LD_PRELOAD": str(self.library), "REFUSED": str(number), "REPORT": str(reporting)}
         ended = subprocess.run([self.folder.program, *words.split()], cwd=self.folder.path, pass_fds=[reporting],
                                env={**os.environ, **extra}, capture_output=True)
         os.close(reporting)
@@ -115,14 +115,14 @@ class Refusals:
     def faults(self, words):
         """How many allocations of the command were refused, and what is wrong where one of them was."""
         wanted, number, wrong, step = self.ended(words, 0)[1], 0, [], STEPS.get(words, 1)
-        # The command isn't known before its words are kept.
+        # The command isn't known before its arguments are copied.
         lines = ["mtc: Memory\n", f"mtc: {words.split()[0]}: Memory\n"]
         made = {**self.files, "bare.tiles": b""} if words == "checkpoint bare" else self.files
         allowed = [wanted, *((8, b"", line, files) for line in lines for files in (self.files, made))]
         while True:
             came, found = self.ended(words, number + step)
             if not came:
-                # A command keeps its words, so one that asks for nothing isn't watched.
+                # A command copies its arguments, so one that asks for nothing isn't watched.
                 same = number > 0 and found == wanted
                 return number // step, wrong if same else [*wrong, f"{words}: {number} allocations, {found[:3]}"]
             number += step

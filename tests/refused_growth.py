@@ -64,7 +64,7 @@ def run_of(words, files):
 def ended_of(run, text):
     """How a command ended, by the line that the tables answer."""
     names = b"".join(rb" %s(?:=([0-9a-f]*))?" % re.escape(name.encode()) for name in run.reported)
-    found = re.fullmatch(rb"x (\d+)(.*?)( starved)?" + names + rb"\n", text, re.DOTALL)
+    found = re.fullmatch(rb"x (\d+)(.*?)( out-of-memory)?" + names + rb"\n", text, re.DOTALL)
     out, _, err = found[2].partition(b" ! ")
     left = {name: bytes.fromhex(digits.decode()) for name, digits in zip(run.reported, found.groups()[3:])
             if digits is not None}
@@ -74,7 +74,7 @@ def ended_of(run, text):
 def refused(library, run, number):
     """Whether an allocation of this number came, and how the command ended; none where the tables gave no answer."""
     reported, reporting = os.pipe()
-    extra = {"LD_PRELOAD": str(library), "REFUSED": str(number), "TOLD": str(reporting)}
+    extra = {"LD_PRELOAD": str(library), "REFUSED": str(number), "REPORT": str(reporting)}
     made = subprocess.run([TABLES], input=run.line, pass_fds=[reporting], env={**os.environ, **extra}, capture_output=True)
     os.close(reporting)
     came = os.read(reported, 1) != b""

@@ -1,5 +1,5 @@
 /* Refuses one allocation of a program that is run with this library preloaded: that whose number REFUSED has, counted from
-   1. When it comes, a byte is written to the descriptor that TOLD has. */
+   1. When it comes, a byte is written to the descriptor that REPORT names. */
 #include <errno.h>
 #include <stddef.h>
 #include <stdlib.h>
@@ -21,8 +21,8 @@ static int is_refused(void)
     }
     if (++count != refused)
         return 0;
-    const char *told = getenv("TOLD");
-    if (told && write(atoi(told), "x", 1) != 1)
+    const char *report = getenv("REPORT");
+    if (report && write(atoi(report), "x", 1) != 1)
         abort();
     errno = ENOMEM;
     return 1;

@@ -34,7 +34,7 @@ CERTIFICATES = {
 HEAD = f'[log]\nid = "{LOG}"\n'.encode()
 STORES = {
     "empty": b"", "no-toml": b"[log", "no-table": b"log = 1", "another-key": b"x = 1",
-    "a-zero-in-front": b'[log]\nid = "32473.01"\n', "an-interval-twice": trusting() + trusting().removeprefix(HEAD),
+    "a-leading-zero": b'[log]\nid = "32473.01"\n', "an-interval-twice": trusting() + trusting().removeprefix(HEAD),
     "nothing-revoked": HEAD + b"[[revoked]]\nstart = 5\nend = 5\n",
 }
 

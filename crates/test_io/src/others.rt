@@ -162,7 +162,7 @@ fn long_name(alloc: Global, length: usize) -> Result<String, AllocError> {
 // A new journal's name is short enough that `.tiles` can follow it. One that has a file is reported
 // as such.
 #[test]
-fn a_new_name_leaves_room_for_its_tiles(rt: HostRuntime) -> Result<(), Fail> {
+fn a_new_name_leaves_space_for_its_tiles(rt: HostRuntime) -> Result<(), Fail> {
     for (length, wanted) in [(249, None), (250, FAILED), (255, FAILED), (256, FAILED)] {
         let name = long_name(rt.alloc(), length)?;
         let _ = fs::remove_file(&rt, &name);

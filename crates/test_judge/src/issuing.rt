@@ -131,7 +131,7 @@ fn filled(alloc: Global, lines: &[&str]) -> Result<Option<(MemDisk, MemDisk)>, F
 }
 
 #[test]
-fn a_request_is_issued_where_there_is_room(rt: HostRuntime) -> Result<(), Fail> {
+fn a_request_is_issued_until_the_log_is_full(rt: HostRuntime) -> Result<(), Fail> {
     let alloc = rt.alloc();
     let lines = [DATES, DNS, KEY];
     let (disk, tiles) = filled(alloc, &lines)?.ok_or("not issued once")?;

@@ -21,7 +21,7 @@ const ADVANCE: [u8; 43] = [
 
 // What a party does.
 #[derive(Clone, Copy)]
-enum Turn {
+enum Action {
     Mark,
     Advance,
     MakeDurable,
@@ -29,19 +29,19 @@ enum Turn {
     Stop(bool),
 }
 
-fn step_of(alloc: Global, party: u32, turn: Turn) -> Result<PartyStep, Memory> {
-    Ok(match turn {
-        Turn::Mark => PartyStep::Begin {
+fn step_of(alloc: Global, party: u32, action: Action) -> Result<PartyStep, Memory> {
+    Ok(match action {
+        Action::Mark => PartyStep::Begin {
             party,
             body: Bytes::copy_of(alloc, &MARK)?,
         },
-        Turn::Advance => PartyStep::Begin {
+        Action::Advance => PartyStep::Begin {
             party,
             body: Bytes::copy_of(alloc, &ADVANCE)?,
         },
-        Turn::MakeDurable => PartyStep::MakeDurable { party },
-        Turn::Release => PartyStep::Release { party },
-        Turn::Stop(kept) => PartyStep::Stop { party, kept },
+        Action::MakeDurable => PartyStep::MakeDurable { party },
+        Action::Release => PartyStep::Release { party },
+        Action::Stop(kept) => PartyStep::Stop { party, kept },
     })
 }
 
@@ -69,10 +69,10 @@ fn cosigner(alloc: Global) -> Result<PartyStart, Fail> {
     })
 }
 
-fn steps_of(alloc: Global, turns: &[(u32, Turn)]) -> Result<Vec<PartyStep>, Memory> {
+fn steps_of(alloc: Global, actions: &[(u32, Action)]) -> Result<Vec<PartyStep>, Memory> {
     let mut steps = Vec::new(alloc);
-    for (party, turn) in turns {
-        steps.push(step_of(alloc, *party, *turn)?)?;
+    for (party, action) in actions {
+        steps.push(step_of(alloc, *party, *action)?)?;
     }
     Ok(steps)
 }
@@ -89,9 +89,9 @@ fn reported(
 fn states(
     alloc: Global,
     starts: &[PartyStart],
-    turns: &[(u32, Turn)],
+    actions: &[(u32, Action)],
 ) -> Result<Result<Vec<PartyState>, HistoryError>, Fail> {
-    let steps = steps_of(alloc, turns)?;
+    let steps = steps_of(alloc, actions)?;
     Ok(reported(alloc, starts, steps.as_slice()))
 }
 
@@ -109,10 +109,10 @@ fn counts_of(state: &PartyState) -> Counts {
 
 fn counts(
     alloc: Global,
-    turns: &[(u32, Turn)],
+    actions: &[(u32, Action)],
 ) -> Result<Result<(Counts, Counts), HistoryError>, Fail> {
     let starts = [log(alloc)?, cosigner(alloc)?];
-    match states(alloc, &starts, turns)? {
+    match states(alloc, &starts, actions)? {
         Err(why) => Ok(Err(why)),
         Ok(states) => match states.as_slice() {
             [first, second] => Ok(Ok((counts_of(first), counts_of(second)))),
@@ -123,69 +123,77 @@ fn counts(
 
 #[test]
 fn steps_are_allowed_or_reported(rt: HostRuntime) -> Result<(), Fail> {
-    let cases: [(&[(u32, Turn)], Result<(Counts, Counts), HistoryError>); 12] = [
+    let cases: [(&[(u32, Action)], Result<(Counts, Counts), HistoryError>); 12] = [
         (&[], Ok(((0, 0, 0), (0, 0, 0)))),
-        (&[(2, Turn::Stop(true))], Err(HistoryError::NotAStep(0))),
-        (&[(0, Turn::Release)], Err(HistoryError::NotAStep(0))),
-        (&[(0, Turn::Advance)], Err(HistoryError::NotAStep(0))),
+        (&[(2, Action::Stop(true))], Err(HistoryError::NotAStep(0))),
+        (&[(0, Action::Release)], Err(HistoryError::NotAStep(0))),
+        (&[(0, Action::Advance)], Err(HistoryError::NotAStep(0))),
         (
-            &[(0, Turn::Mark), (0, Turn::Mark)],
+            &[(0, Action::Mark), (0, Action::Mark)],
             Err(HistoryError::NotAStep(1)),
         ),
         (
-            &[(0, Turn::Mark), (0, Turn::MakeDurable), (0, Turn::Mark)],
+            &[
+                (0, Action::Mark),
+                (0, Action::MakeDurable),
+                (0, Action::Mark),
+            ],
             Err(HistoryError::NotAStep(2)),
         ),
         (
             &[
-                (0, Turn::Mark),
-                (0, Turn::MakeDurable),
-                (0, Turn::Release),
-                (0, Turn::Release),
+                (0, Action::Mark),
+                (0, Action::MakeDurable),
+                (0, Action::Release),
+                (0, Action::Release),
             ],
             Err(HistoryError::NotAStep(3)),
         ),
         (
-            &[(0, Turn::Mark), (0, Turn::Stop(true)), (0, Turn::Release)],
+            &[
+                (0, Action::Mark),
+                (0, Action::Stop(true)),
+                (0, Action::Release),
+            ],
             Err(HistoryError::NotAStep(2)),
         ),
         (
-            &[(0, Turn::Mark), (0, Turn::Stop(true))],
+            &[(0, Action::Mark), (0, Action::Stop(true))],
             Ok(((1, 0, 0), (0, 0, 0))),
         ),
         (
             &[
-                (0, Turn::Mark),
-                (0, Turn::Stop(false)),
-                (0, Turn::Mark),
-                (0, Turn::MakeDurable),
-                (0, Turn::Release),
+                (0, Action::Mark),
+                (0, Action::Stop(false)),
+                (0, Action::Mark),
+                (0, Action::MakeDurable),
+                (0, Action::Release),
             ],
             Ok(((1, 1, 1), (0, 0, 0))),
         ),
         (
             &[
-                (1, Turn::Advance),
-                (0, Turn::Mark),
-                (1, Turn::MakeDurable),
-                (1, Turn::Release),
+                (1, Action::Advance),
+                (0, Action::Mark),
+                (1, Action::MakeDurable),
+                (1, Action::Release),
             ],
             Ok(((0, 0, 0), (1, 1, 1))),
         ),
         (
             &[
-                (1, Turn::Advance),
-                (1, Turn::MakeDurable),
-                (1, Turn::Advance),
+                (1, Action::Advance),
+                (1, Action::MakeDurable),
+                (1, Action::Advance),
             ],
             Err(HistoryError::NotAStep(2)),
         ),
     ];
-    for (turns, wanted) in cases {
+    for (actions, wanted) in cases {
         assert!(rt;
-            counts(rt.alloc(), turns)? == wanted,
+            counts(rt.alloc(), actions)? == wanted,
             "{} steps",
-            turns.len()
+            actions.len()
         );
     }
     Ok(())
@@ -194,7 +202,7 @@ fn steps_are_allowed_or_reported(rt: HostRuntime) -> Result<(), Fail> {
 #[test]
 fn one_cosigner_has_nothing_pending(rt: HostRuntime) -> Result<(), Fail> {
     let starts = [cosigner(rt.alloc())?];
-    let ends = states(rt.alloc(), &starts, &[(0, Turn::MakeDurable)])?;
+    let ends = states(rt.alloc(), &starts, &[(0, Action::MakeDurable)])?;
     assert!(rt; ends.err() == Some(HistoryError::NotAStep(0)));
     Ok(())
 }

@@ -5,7 +5,7 @@ use crate::scripts::{Outcome, outcome_after};
 
 const EXPORTS: &str = r#"
 # What stands before the records: the two ids and the public key.
-name FRONT 0481fd59020481fd5901003c
+name HEAD 0481fd59020481fd5901003c
   0000000100000005 00000003000102030405060708090a0b0c0d0e0f
   661aeb1d85e6a993e0e55bbbad2564f1b45e3e1ba8b9b4c917e993ebbdaf19e2
 # The records of the Advance and of a Sign of all entries.
@@ -15,20 +15,20 @@ name SIGN 00000037130000000000000000000000000000000000000400 ROOT 0000
 case what others may know of a new cosigner
 file s FOUNDED 00
 $ export s
-  FRONT
+  HEAD
 left s FOUNDED 00
 
 case what others may know of one that has signed
 file s ADVANCED 01 SIGN 00
 takes 7
 $ export s
-  FRONT ADVANCE SIGN
+  HEAD ADVANCE SIGN
 left s ADVANCED 01 SIGN 00
 
 case what stands after the closed commit byte is no record
 file s ADVANCED 00 SIGN 00
 $ export s
-  FRONT ADVANCE
+  HEAD ADVANCE
 left s ADVANCED 00 SIGN 00
 
 case an export doesn't go out
@@ -37,7 +37,7 @@ takes 100
 out-fails 1
 $ export s
 status 6
-  FRONT 0000002b12000000000000040077566825cd25f263271e3fa5341db2
+  HEAD 0000002b12000000000000040077566825cd25f263271e3fa5341db2
 ! mtc: export: OutputFailed
 left s ADVANCED 00
 

@@ -279,7 +279,7 @@ status 1
 "#;
 
 #[test]
-fn answers_words_and_a_file(rt: HostRuntime) {
+fn answers_arguments_and_a_file(rt: HostRuntime) {
     let outcome = outcome_of(rt.alloc(), SCRIPT);
     assert!(rt; outcome == Ok(Outcome::Passed(40)), "{outcome:?}");
 }

@@ -6,7 +6,7 @@ use crate::scripts::{Outcome, outcome_after};
 // The expected values are those of an implementation that was written apart from the program.
 const QUARRELS: &str = r#"
 # What stands before the records: the two ids and the public key.
-name FRONT 0481fd59020481fd5901003c
+name HEAD 0481fd59020481fd5901003c
   0000000100000005 00000003000102030405060708090a0b0c0d0e0f
   661aeb1d85e6a993e0e55bbbad2564f1b45e3e1ba8b9b4c917e993ebbdaf19e2
 # A hash is its first byte and these.
@@ -27,7 +27,7 @@ name THERE 00000077 13 00000001 0000000000000000 0000000000000001 04 Z 0040 02 Z
 
 case two signatures of one entry with different hashes
 toy
-file e FRONT TWO FIRST OTHER
+file e HEAD TWO FIRST OTHER
 $ quarrel e
 status 10
 | quarrel 0 1
@@ -37,11 +37,11 @@ status 10
 |= 010400000000000000000000000000000000000000000000000000000000000000
 |= 0300000000000000000000000000000000000000000000000000000000000000
 |
-left e FRONT TWO FIRST OTHER
+left e HEAD TWO FIRST OTHER
 
-case they are told by their keys
+case they are named by their keys
 toy
-file e FRONT TWO FIRST BOTH THIRD FOURTH
+file e HEAD TWO FIRST BOTH THIRD FOURTH
 $ quarrel e
 status 10
 | quarrel 0 3
@@ -54,7 +54,7 @@ status 10
 
 case the first is carried to four entries
 toy
-file e FRONT TWO FIRST FOUR THERE
+file e HEAD TWO FIRST FOUR THERE
 $ quarrel e
 status 10
 | quarrel 0 1
@@ -67,14 +67,14 @@ status 10
 
 case two signatures of one hash agree
 toy
-file e FRONT TWO FIRST AGAIN
+file e HEAD TWO FIRST AGAIN
 takes 2
 $ quarrel e
 | agree
 
 case an export of no bytes agrees, and one of no records
 file e
-file f FRONT
+file f HEAD
 $ quarrel e
 | agree
 $ quarrel f
@@ -94,12 +94,12 @@ $ quarrel e
 
 case what is no export
 toy
-file e FRONT TWO FIRST
+file e HEAD TWO FIRST
 cut 209
 $ quarrel e
 status 2
 ! mtc: quarrel: e: Short 119
-file e FRONT TWO FIRST OTHER
+file e HEAD TWO FIRST OTHER
 byte 300 01
 $ quarrel e
 status 2
@@ -112,7 +112,7 @@ file e 00
 $ quarrel e
 status 2
 ! mtc: quarrel: e: BadId
-file e FRONT TWO
+file e HEAD TWO
 byte 19 09
 $ quarrel e
 status 2
@@ -120,12 +120,12 @@ status 2
 
 case the file, and the output
 toy
-file e FRONT TWO FIRST AGAIN
+file e HEAD TWO FIRST AGAIN
 fails 0
 $ quarrel e
 status 5
 ! mtc: quarrel: e: Failed
-file f FRONT TWO FIRST AGAIN
+file f HEAD TWO FIRST AGAIN
 takes 4
 out-fails 1
 $ quarrel f

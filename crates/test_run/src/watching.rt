@@ -82,7 +82,7 @@ fn roots(rt: HostRuntime) {
 const HELD: &str = r#"
 # What stands before the records: the two ids and the public key; and the records of an Advance and
 # of a Sign of all entries.
-name FRONT 0481fd59020481fd5901003c
+name HEAD 0481fd59020481fd5901003c
   0000000100000005 00000003000102030405060708090a0b0c0d0e0f
   661aeb1d85e6a993e0e55bbbad2564f1b45e3e1ba8b9b4c917e993ebbdaf19e2
 name ADVANCE 0000002b120000000000000400 ROOT 0000
@@ -98,7 +98,7 @@ $ held x
 | nothing
 
 case a cosigner that holds nothing
-file x FRONT
+file x HEAD
 $ held x
   PARTY
 | size 0
@@ -107,7 +107,7 @@ $ held x
 | left 32
 
 case a cosigner that holds a list
-file x FRONT ADVANCE
+file x HEAD ADVANCE
 $ held x
   PARTY
 | size 1024
@@ -116,7 +116,7 @@ $ held x
 | left 32
 
 case a cosigner that has signed
-file x FRONT ADVANCE SIGN
+file x HEAD ADVANCE SIGN
 takes 3
 $ held x
   PARTY
@@ -125,7 +125,7 @@ $ held x
 | signs 1
 | left 31
 | signed 0 0 1024 77566825cd25f263271e3fa5341db28ed2c87945ee98f731b2aa96b9e6b11cf6
-left x FRONT ADVANCE SIGN
+left x HEAD ADVANCE SIGN
 
 case what is no export says nothing
 $ held x
@@ -135,7 +135,7 @@ file x 04
 $ held x
 status 2
 ! mtc: held: x: Short 0
-file x FRONT SIGN
+file x HEAD SIGN
 $ held x
 status 2
 ! mtc: held: x: BadRecord 1

@@ -105,7 +105,7 @@ fn is_member_of_f(alloc: Global) -> Option<bool> {
 }
 
 #[test]
-fn words_are_refused_by_their_first_fault(rt: HostRuntime) {
+fn arguments_are_refused_by_their_first_fault(rt: HostRuntime) {
     let mut count = 0u64;
     for line in CASES.lines() {
         assert!(rt; is_refused(rt.alloc(), line) == Some(true), "{line}");
@@ -115,6 +115,6 @@ fn words_are_refused_by_their_first_fault(rt: HostRuntime) {
 }
 
 #[test]
-fn a_command_has_its_words(rt: HostRuntime) {
+fn a_command_has_its_arguments(rt: HostRuntime) {
     assert!(rt; is_member_of_f(rt.alloc()) == Some(true));
 }

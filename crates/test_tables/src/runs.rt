@@ -152,7 +152,7 @@ impl MemoryFiles {
     // Writes what a line asks for in addition to the status and the outputs.
     fn add_rest(&self, alloc: Global, text: &mut String, ended: &Ended, files: &str) -> Result<()> {
         if self.has_failed_allocations(ended) {
-            text.push_str(" starved")?;
+            text.push_str(" out-of-memory")?;
         }
         self.add_files(alloc, text, files)
     }
