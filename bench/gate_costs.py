@@ -3,7 +3,7 @@
 
 Usage: bench/gate_costs.py [COMMAND WORD..]              runs rt ci, or this command, and prints the table
        bench/gate_costs.py --write rt ci --anew          puts it into bench/COSTS.md, and its sums into README
-       bench/gate_costs.py --write rt ci                 the same, where the kit keeps nothing and knows no --anew
+       bench/gate_costs.py --write rt ci                 the same, where the kit stores nothing and knows no --anew
        bench/gate_costs.py --above NAME                  what a change of a crate costs, by the table of COSTS
        bench/gate_costs.py --again                       makes what follows from that table's numbers again
 
@@ -227,7 +227,7 @@ def above(crate):
         sys.exit(f"{crate}: no row of COSTS")
     checks = sum(proofs.get(it, 0) for it in over)
     print(f"{crate}, in processor minutes of the machine of the last whole run:")
-    print(f"{spent[crate] / 60:5.0f}  its proof, its tests and its edits: rt ci {crate}, where those below it are kept")
+    print(f"{spent[crate] / 60:5.0f}  its proof, its tests and its edits: rt ci {crate}, where those below it are stored")
     print(f"{checks / 60:5.0f}  the proofs of the {len(over)} crates that stand on it: rt check")
     print(f"{(spent[crate] + sum(spent.get(it, 0) for it in over)) / 60:5.0f}  both, with the tests and the edits of these: the gate")
 
@@ -256,14 +256,14 @@ def run(command):
 
 
 def from_nothing():
-    """The words of the whole gate from nothing: a kit that keeps what has passed has a word for it."""
+    """The command of the whole gate from nothing: a kit that stores what has passed has an option for it."""
     reported = subprocess.run(["rt", "help"], stdout=subprocess.PIPE, stderr=subprocess.STDOUT, text=True, check=False).stdout
     return ["rt", "ci", "--anew"] if "--anew" in reported else ["rt", "ci"]
 
 
 def main(command, writes):
     if writes and command != from_nothing():
-        sys.exit(f"only the run of {' '.join(from_nothing())} is written: it takes nothing that is kept, and leaves no crate out")
+        sys.exit(f"only the run of {' '.join(from_nothing())} is written: it takes nothing that is stored, and leaves no crate out")
     status, costs, whole, clock = run(command)
     rows = list(measured_rows(costs))
     reported = "\n".join([*table(rows), "", summary(rows, whole, clock)])

@@ -4,9 +4,10 @@
 # the right edge aren't full; making consistency proofs over 65,536; evaluating and checking a path and a proof of these. Then
 # the same leaves in `Tiles` over a file: writing, reading back and adopting each tile (tile), paths of leaves whose tiles are
 # in frames (held), and of leaves all over the list, for most of which a tile is read (read). Each is reported in nanoseconds and
-# in hashes of a pair of nodes, measured in the same run. The same paths over `Listed`, which rebuilds each node, stand in the rows of `anew-`. Times are processor times of one thread. Beside them stands the same work by Go's package sumdb/tlog, where it is
-# installed (Debian's golang-go and golang-golang-x-mod-dev): it too keeps the hash of each full subtree, and it reads tiles
-# that are in memory. Usage: bench/proofs.sh [--write]   with --write the figures go into bench/proofs/figures.txt
+# in hashes of a pair of nodes, measured in the same run. The same paths over `Listed`, which rebuilds each node, stand in the
+# rows of `rebuilt-`. Times are processor times of one thread. Beside them stands the same work by Go's package sumdb/tlog,
+# where it is installed (Debian's golang-go and golang-golang-x-mod-dev): it too keeps the hash of each full subtree, and it
+# reads tiles that are in memory. Usage: bench/proofs.sh [--write]   with --write the figures go into bench/proofs/figures.txt
 set -eu
 root=$(cd "$(dirname "$0")/.." && pwd)
 work=$(mktemp -d)
@@ -15,13 +16,13 @@ trap 'rm -rf "$work"' EXIT
 # shellcheck source=bench/program.sh
 . "$root/bench/program.sh"
 build_and_run proofs tile_store frame_pool disk_core tree_cache tree_proofs tree_core mtc_io anyhow
-tell() {
+report() {
     grep -E '^[a-z]+(-[0-9]+)? [0-9]+ [0-9]+$' "$1" >"$work/lines"
     awk '
         FNR == NR { if ($1 == "pair") one = $2 / $3; next }
         { printf "%-12s %12.0f ns, %9.1f hashes of a pair\n", $1, $2 / $3, $2 / $3 / one }' "$work/lines" "$work/lines"
 }
-tell "$work/printed"
+report "$work/printed"
 
 packages=/usr/share/gocode/src/golang.org/x/mod
 if ! command -v go >/dev/null || [ ! -d "$packages/sumdb/tlog" ]; then
@@ -34,7 +35,7 @@ printf 'module peer\n\ngo 1.19\n' > "$work/peer/go.mod"
 cp "$root/bench/proofs/peer.go" "$work/peer/main.go"
 echo "Go's sumdb/tlog"
 (cd "$work/peer" && GOFLAGS=-mod=mod GO111MODULE=on GOPROXY=off GOCACHE="$work/cache" GOMAXPROCS=1 go run . > "$work/peer.txt")
-tell "$work/peer.txt"
+report "$work/peer.txt"
 
 # The ratios of processor times.
 awk '

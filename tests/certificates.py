@@ -19,7 +19,7 @@ from cosigned_log import DATES, FIRST, LAST, LOG, CosignedLog, p256_keys, parts,
 
 ALGORITHM, ISSUER = "1.3.6.1.4.1.44363.47.0", "1.3.6.1.4.1.44363.47.1"
 NAMES = "X509v3 Subject Alternative Name"
-MOMENTS = ["notBefore=Jan  1 00:00:00 2026 GMT", "notAfter=Jan  8 00:00:00 2026 GMT"]
+TIMES = ["notBefore=Jan  1 00:00:00 2026 GMT", "notAfter=Jan  8 00:00:00 2026 GMT"]
 
 
 class Wanted:
@@ -92,7 +92,7 @@ def by_openssl(cert, wanted):
     signature = "".join(text[text.index("Signature Value:") + 1:])
     yield "bytes", read("-outform", "DER"), cert
     names = [f"serial={serial}", f"issuer={ISSUER}={LOG}", "subject="]
-    yield "fields", lines(*fields), [*names, *MOMENTS]
+    yield "fields", lines(*fields), [*names, *TIMES]
     yield "names", lines("-ext", "subjectAltName"), [f"{NAMES}: critical", hosts]
     yield "key", base64.b64decode(key), wanted.key
     yield "algorithms", text.count(f"Signature Algorithm: {ALGORITHM}"), 2

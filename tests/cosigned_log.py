@@ -24,7 +24,7 @@ COSIGNATURE, MOST = 2519, 65535
 PRIME = 2**256 - 2**224 + 2**192 + 2**96 - 1
 GENERATOR = (0x6B17D1F2E12C4247F8BCE6E563A440F277037D812DEB33A0F4A13945D898C296,
              0x4FE342E2FE1A7F9B8EE7EB4A7C0F9E162BCE33576B315ECECBB6406837BF51F5)
-KEY_FRONT = bytes.fromhex("3059301306072a8648ce3d020106082a8648ce3d03010703420004")
+KEY_HEAD = bytes.fromhex("3059301306072a8648ce3d020106082a8648ce3d03010703420004")
 
 
 def added(one, other):
@@ -40,7 +40,7 @@ def p256_keys():
     """The public keys of the secrets 1, 2 and so on."""
     point = GENERATOR
     while True:
-        yield KEY_FRONT + point[0].to_bytes(32, "big") + point[1].to_bytes(32, "big")
+        yield KEY_HEAD + point[0].to_bytes(32, "big") + point[1].to_bytes(32, "big")
         point = added(point, GENERATOR)
 
 

@@ -63,7 +63,7 @@ def listed(check):
 
 
 def main(words):
-    other = {"command": places.tell, "--write": reference_pages.write, "--order": order, "--list": listed, "--limits": house.lower_limits}
+    other = {"command": places.report, "--write": reference_pages.write, "--order": order, "--list": listed, "--limits": house.lower_limits}
     if words[:1] and words[0] in other:
         return other[words[0]](*words[1:])
     known = {check.__name__.removeprefix("check_") for check in CHECKS}

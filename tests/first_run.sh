@@ -209,7 +209,7 @@ grep -q "run=none" "$folder/crates/mtc_main/out/build.log" || complain "the log 
 touch "$folder/tries_hang"
 MTC_TRY_SECONDS=1 run_first member x
 grep -q "gave no answer" "$folder/said" && ! grep -q "not proved yet" "$folder/said" || complain "a try that runs for ever isn't reported"
-# Whether what was asked of rt still runs; one that ended, and that nobody has waited for, doesn't.
+# Whether what was asked of rt still runs; one that ended, and for which no process has waited, doesn't.
 is_hanging() {
     local pid
     for pid in $(cat "$folder/hanging"); do grep -qsE '^State:[[:space:]]+[^ZX[:space:]]' "/proc/$pid/status" && return; done

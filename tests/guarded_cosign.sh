@@ -75,7 +75,7 @@ guarded "21 0 *kept/s isn't there*" cosign s kept/s subtree
 guarded "21 0 *kept/s isn't there*" advance s kept/s advance
 : >kept/s
 guarded "21 0 *kept/s isn't there*" cosign s kept/s subtree
-same s before "without a kept export nothing is done"
+same s before "without a stored export nothing is done"
 rm kept/s
 guarded "0 0 " begin s kept/s
 guarded "21 0 *kept/s is there*" begin s kept/s
@@ -86,7 +86,7 @@ same out advanced "what advance prints"
 guarded "0 $(wc -c <signature0) " cosign s kept/s subtree
 same out signature0 "the first signature"
 log export s >export
-same kept/s export "the kept export"
+same kept/s export "the stored export"
 cp s old
 guarded "4 0 mtc: advance: NotNewer 4" advance s kept/s advance
 guarded "7 0 mtc: cosign: none: Absent" cosign s kept/s none
@@ -100,7 +100,7 @@ cp old s
 guarded "20 0 *has lost records*" cosign s kept/s subtree
 guarded "20 0 *has lost records*" advance s kept/s advance
 same s old "a journal that was put back gets no record"
-same kept/s newest "the kept export stays"
+same kept/s newest "the stored export stays"
 cp new s
 commit_byte=$((16 + 5 + $(od -An -tu4 --endian=big -j17 -N4 s)))
 same "$(od -An -tu1 -j$commit_byte -N1 s | tr -d ' ')" 1 "the commit byte of record 1 is open"
@@ -124,7 +124,7 @@ cp s new
 stand_in '[ "$1" != cosign ] || cat old >s'
 guarded "20 0 *has lost records*" cosign s kept/s subtree
 cp new s
-# What is kept is taken away or emptied meanwhile: nothing is released either.
+# The stored export is taken away or emptied meanwhile: nothing is released either.
 cp s new
 cp kept/s newest
 for line in '[ "$1" != cosign ] || rm kept/s' '[ "$1" != cosign ] || : >kept/s'; do
@@ -161,7 +161,7 @@ wait $holder 2>/dev/null
 mkdir kept/s.new
 guarded "23 0 *s.new*" cosign s kept/s subtree
 rmdir kept/s.new
-same s new "nothing is signed where no export can be kept"
+same s new "nothing is signed where no export can be stored"
 
 [ $wrong -ne 0 ] || echo "ok: tools/guarded_cosign.sh keeps what it promises: $count comparisons"
 exit $wrong

@@ -97,7 +97,7 @@ if command -v groff >"$folder/void"; then
     said=$(groff -man -ww -z docs/mtc.1 2>&1)
     [ -z "$said" ] || complain "docs/mtc.1: $said"
 else
-    echo "left out: manual: groff isn't here, so nobody looks whether the man page is in its form"
+    echo "left out: manual: groff isn't here, so the form of the man page isn't tested"
 fi
 [ "$(offers ver)" = verify ] || complain "the completion of ver"
 [ "$(offers keygen 5 '')" = "1 2 4 8" ] || complain "the completion of a width"

@@ -58,7 +58,7 @@ func nanoseconds() int64 {
 	return use.Utime.Nano() + use.Stime.Nano()
 }
 
-func told(what string, start int64, count int) {
+func printed(what string, start int64, count int) {
 	fmt.Println(what, nanoseconds()-start, count)
 }
 
@@ -69,7 +69,7 @@ func paths(what string, hashes tlog.HashReader, size, among int64, count int) {
 		_, err := tlog.ProveRecord(size, i*300007%among, hashes)
 		need(err)
 	}
-	told(what, start, count)
+	printed(what, start, count)
 }
 
 func main() {
@@ -86,7 +86,7 @@ func main() {
 		}
 		all = append(all, hashes...)
 	}
-	told("push", start, kept)
+	printed("push", start, kept)
 	whole, err := tlog.TreeHash(leaves, all)
 	need(err)
 	most, err := tlog.TreeHash(leaves-1, all)
@@ -97,7 +97,7 @@ func main() {
 	for i := 0; i < 1000000; i++ {
 		joined = tlog.NodeHash(joined, first)
 	}
-	told("pair", start, 1000000)
+	printed("pair", start, 1000000)
 
 	for _, size := range []int64{1 << 10, leaves, kept, kept - 1} {
 		paths(fmt.Sprint("path-", size), all, size, size, 200000)
@@ -108,7 +108,7 @@ func main() {
 		_, err = tlog.ProveTree(leaves, leaves-1-i%20, all)
 		need(err)
 	}
-	told("consist", start, 200000)
+	printed("consist", start, 200000)
 
 	path, err := tlog.ProveRecord(leaves, 0, all)
 	need(err)
@@ -116,7 +116,7 @@ func main() {
 	for i := 0; i < 20000; i++ {
 		need(tlog.CheckRecord(path, leaves, whole, 0, first))
 	}
-	told("evaluate", start, 20000)
+	printed("evaluate", start, 20000)
 
 	proof, err := tlog.ProveTree(leaves, leaves-1, all)
 	need(err)
@@ -124,7 +124,7 @@ func main() {
 	for i := 0; i < 20000; i++ {
 		need(tlog.CheckTree(proof, leaves, whole, leaves-1, most))
 	}
-	told("check", start, 20000)
+	printed("check", start, 20000)
 
 	start = nanoseconds()
 	tiles := tiled{}
@@ -133,7 +133,7 @@ func main() {
 		tiles[tile], err = tlog.ReadTileData(tile, all)
 		need(err)
 	}
-	told("tile", start, len(made))
+	printed("tile", start, len(made))
 	root, err := tlog.TreeHash(kept, all)
 	need(err)
 	through := tlog.TileHashReader(tlog.Tree{N: kept, Hash: root}, tiles)

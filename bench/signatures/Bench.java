@@ -11,7 +11,7 @@ class Bench {
         return java.lang.management.ManagementFactory.getThreadMXBean().getCurrentThreadCpuTime();
     }
 
-    static void measured(int width, LMOtsParameters ots, boolean told) throws Exception {
+    static void measured(int width, LMOtsParameters ots, boolean printed) throws Exception {
         LMSKeyPairGenerator maker = new LMSKeyPairGenerator();
         maker.init(new LMSKeyGenerationParameters(new LMSParameters(LMSigParameters.lms_sha256_n32_h10, ots), new SecureRandom()));
         long start = now();
@@ -32,7 +32,7 @@ class Bench {
             sign += middle - start;
             check += now() - middle;
         }
-        if (told) System.out.printf("make %d %d 1%nsign %d %d 500%nverify %d %d 500%n", width, made, width, sign, width, check);
+        if (printed) System.out.printf("make %d %d 1%nsign %d %d 500%nverify %d %d 500%n", width, made, width, sign, width, check);
     }
 
     public static void main(String[] words) throws Exception {

@@ -4,13 +4,13 @@
 #include <stdlib.h>
 
 static uint8_t *bytes_of(const char *name, size_t *length) {
-    size_t room = 1 << 16;
-    uint8_t *bytes = malloc(room);
+    size_t capacity = 1 << 16;
+    uint8_t *bytes = malloc(capacity);
     FILE *file = fopen(name, "rb");
     if (!file) { perror(name); exit(5); }
     *length = 0;
-    while (bytes && (*length += fread(bytes + *length, 1, room - *length, file)) == room)
-        bytes = realloc(bytes, room *= 2);
+    while (bytes && (*length += fread(bytes + *length, 1, capacity - *length, file)) == capacity)
+        bytes = realloc(bytes, capacity *= 2);
     if (!bytes) exit(8);
     /* A store that is cut may lack what it says is revoked. */
     if (ferror(file)) { perror(name); exit(5); }
@@ -18,12 +18,13 @@ static uint8_t *bytes_of(const char *name, size_t *length) {
     return bytes;
 }
 
-int main(int count, char **words) {
+int main(int count, char **arguments) {
     if (count != 4) { fprintf(stderr, "judge CERT STORE NOW\n"); return 1; }
     size_t cert_length, store_length;
-    uint8_t *cert = bytes_of(words[1], &cert_length), *store = bytes_of(words[2], &store_length);
+    uint8_t *cert = bytes_of(arguments[1], &cert_length);
+    uint8_t *store = bytes_of(arguments[2], &store_length);
     struct mtc_verdict verdict;
-    uint32_t status = mtc_judge(cert, cert_length, store, store_length, atoll(words[3]), &verdict);
+    uint32_t status = mtc_judge(cert, cert_length, store, store_length, atoll(arguments[3]), &verdict);
     if (status == MTC_DONE)
         printf("accepted %llu\n", (unsigned long long)verdict.index);
     else

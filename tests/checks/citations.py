@@ -197,8 +197,8 @@ NEVER = {"Broken"}
 
 
 def printed_names():
-    """The names of refusals and failures in the texts that contracts and definitions spell."""
-    found = {"NotUtf8"}  # told by `main`, of which no clause speaks
+    """The names of refusals and failures in the texts that contracts and definitions write."""
+    found = {"NotUtf8"}  # printed by `main`, of which no clause speaks
     for name, crate in CRATES.items():
         if name.startswith("mtc_"):
             texts = [path.read_text() for path in (crate.folder / "specs").rglob("*.antt")]

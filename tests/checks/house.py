@@ -85,7 +85,7 @@ def strays():
     """What stands beside the edits: a file that is none, or the folder of no crate."""
     for folder in (folder for name in CRATES for folder in ledger.folders_of(name) if folder.is_dir()):
         yield from (path for path in sorted(folder.iterdir()) if path.suffix != ".edit" or not path.is_file())
-    for path in sorted(ledger.TOLD.iterdir()):
+    for path in sorted(ledger.EDITS.iterdir()):
         if path != ledger.LEDGER and not (path.is_dir() and path.name in CRATES):
             yield path
 

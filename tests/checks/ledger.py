@@ -11,7 +11,7 @@ from .citations import CRATES
 from .sources import CLAUSE, ROOT, WHERE, behind_braces, behind_head, blanked, FUNCTION
 
 LEDGER = ROOT / "tests" / "edits" / "tried.txt"
-TOLD = ROOT / "tests" / "edits"
+EDITS = ROOT / "tests" / "edits"
 TOKEN = re.compile(r"""b?"(?:\\.|[^"\\])*"|b?'(?:\\.[^']*|[^'\\])'|//[^\n]*|/\*.*?\*/""", re.S)
 HINT = re.compile(r"#!?\[(?:tactic|inline|cycle|allow|must_use)\b[^\]]*\]")
 IMPORT = re.compile(r"^[ \t]*(pub(?:\([a-z]+\))? +)?(?:ghost )?use ([^;]+);", re.M)
@@ -24,7 +24,7 @@ MOST, MOST_IN_THE_GATE = 16, 1
 
 def folders_of(name):
     """The two folders in which edits of a crate stand: those that the gate tries, and those that it does not."""
-    return ROOT / "crates" / name / "must-fail", TOLD / name
+    return ROOT / "crates" / name / "must-fail", EDITS / name
 
 
 def edits_of(name):

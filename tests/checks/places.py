@@ -93,7 +93,7 @@ def table():
     return "\n".join(["| Where | What |", "|---|---|", *(f"| `{place.where}` | {place.what} |" for place in PLACES)])
 
 
-def tell(word):
+def report(word):
     """Prints which places lack a command, and how many do."""
     found = list(lacking(word))
     for place, why in found:

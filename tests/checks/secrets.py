@@ -8,7 +8,7 @@ from .sources import NAME, behind_braces
 
 # The types that a private key is made of. Each type that has one of them in it holds a secret too.
 SECRETS = {("lms_core", "Secret"), ("lms_core", "PrivateKey")}
-# What would copy a secret, print it, or tell something of it by the time that it takes.
+# What would copy a secret, print it, or show something of it by the time that it takes.
 FORBIDDEN = {"Clone", "Copy", "Debug", "Display", "PartialEq", "Eq", "PartialOrd", "Ord", "Hash", "Serialize"}
 TYPE = re.compile(rf"((?:#\[[^\]]*\]\s*)*)(?:pub(?:\([a-z]+\))? +)?(?:struct|enum) +({NAME})[^{{;(]*([{{(])")
 IMPL = re.compile(rf"\bimpl\b(?:<[^{{]*?>)? +(?:{NAME}::)*({NAME})(?:<[^{{]*?>)? +for +({NAME})")
@@ -26,7 +26,7 @@ def imports_of(crate, file):
 
 
 def home_of(name, home):
-    """The crate and the name of a type, after what a crate hands on of others."""
+    """The crate and the name of a type, after what a crate re-exports of others."""
     root = next((file for file in CRATES[home].files if file.path.stem in ("lib", "main")), None)
     further = imports_of(CRATES[home], root).get(name, home) if root else home
     return (home, name) if further == home else home_of(name, further)

@@ -83,7 +83,7 @@ LENT_SLICE = re.compile(r"&(?:'\w+ +)?\[")
 
 
 def owner_name(kind, head):
-    """The type of an impl, `RefSlice` for a slice that is lent, or the name of a trait."""
+    """The type of an impl, `RefSlice` for a borrowed slice, or the name of a trait."""
     head = re.sub(r"\bwhere\b.*", "", head, flags=re.S).strip()
     while head.startswith("<"):
         depth = 0

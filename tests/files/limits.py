@@ -7,7 +7,7 @@ import sys
 
 from .commands import LOG
 from .folder import DATES, KEY, NEW_LOG, ROOT, unlike
-from .streams import MOMENT
+from .streams import NOW
 
 # An input file has at most so many bytes (docs/COMMANDS.md, "Status").
 MOST = 16_777_216
@@ -72,10 +72,10 @@ def longest(scene, size):
     scene.write("long.request", padded(request, size))
     # No certificate begins with a byte of 0.
     scene.write("long.cert", bytes(size))
-    yield f"verify light long.store {MOMENT}", "long.store", (0, "accepted 1\n", "")
+    yield f"verify light long.store {NOW}", "long.store", (0, "accepted 1\n", "")
     yield "issue j long.request", "long.request", (0, "issued 257\n", "")
     yield "show long.cert", "long.cert", (2, "", "mtc: show: long.cert: WrongTag 0\n")
-    yield f"verify long.cert trusting {MOMENT}", "long.cert", (2, "", "mtc: verify: long.cert: WrongTag 0\n")
+    yield f"verify long.cert trusting {NOW}", "long.cert", (2, "", "mtc: verify: long.cert: WrongTag 0\n")
     yield "keygen 5 4 long.cert", "long.cert", (2, "", "mtc: keygen: long.cert: Trailing\n")
 
 
@@ -113,12 +113,12 @@ def check_long_entries(scene, _kills):
     more = b"\xff\xff" + b"\xff" * 0xFFFF + b"\0\0"
     scene.write("long", scene.bytes("entries") + more * (MOST // len(more) + 1))
     yield from unlike("they are longer", len(scene.bytes("long")) > MOST, True)
-    yield from unlike("audit", scene.run(f"audit light trusting {MOMENT} long none"), (0, "stands 1\n", ""))
+    yield from unlike("audit", scene.run(f"audit light trusting {NOW} long none"), (0, "stands 1\n", ""))
     # The store of the scene has the tables of the same log's first entries.
     head, tables = f'[log]\nid = "{LOG}"\n', scene.bytes("trusting").decode()
     yield from unlike("trust-landmarks", scene.run("trust-landmarks list 2 long"), (0, tables.removeprefix(head), ""))
     yield from unlike("cert", scene.run("cert j 1 0 4 long"), (9, "", "mtc: cert: long: TooLong\n"))
-    yield from unlike("a certificate", scene.run(f"audit long trusting {MOMENT} entries none"),
+    yield from unlike("a certificate", scene.run(f"audit long trusting {NOW} entries none"),
                       (9, "", "mtc: audit: long: TooLong\n"))
 
 
@@ -127,6 +127,6 @@ def check_many_items(scene, _kills):
     # Items without an entry and a key, of which each is as small as an item can be. At 32 bytes for each it would be more.
     scene.write("many", scene.bytes("entries") + bytes(2 * MOST))
     limit = 1 << 28
-    found = scene.run(f"audit light trusting {MOMENT} many none",
+    found = scene.run(f"audit light trusting {NOW} many none",
                       preexec_fn=lambda: resource.setrlimit(resource.RLIMIT_AS, (limit, limit)))
     yield from unlike("audit", found, (0, "stands 1\n", ""))

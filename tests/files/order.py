@@ -12,7 +12,7 @@ from .tracing import PIECE, TAIL, appending, new_trace, opening, read_trace, tai
 # Programs that change a folder or a file, each by a call that no command makes.
 CHANGING = ["mv r q", "ln r q", "ln -s r q", "rm r", "mkdir d", "truncate -s 1 r", "cp r q"]
 # What a trace may have, and what none of ours has: no line of it is passed over.
-TOLD = """rename("j", "k") = 0
+REPORTED = """rename("j", "k") = 0
 renameat(AT_FDCWD</x>, "j", AT_FDCWD</x>, "k") = 0
 renameat2(3</x>, "j", 3</x>, "k", RENAME_NOREPLACE) = 0
 unlink("j") = 0
@@ -26,9 +26,9 @@ fsync 3</x/j>) = 0
 """
 
 
-def untold(scene):
+def unreported(scene):
     """Calls and spoilt lines that are in a trace, and that aren't reported of it, or are reported as others."""
-    for line in TOLD.splitlines():
+    for line in REPORTED.splitlines():
         found = [call for call, _ in read_trace(scene, f"{line}\nfsync(3</x/j>) = 0\n")]
         wanted = {"renameat2(3": "renameat2 x", "copy_file_range": "copy_file_range j", "ftruncate": "ftruncate j"}
         reported = next((call for prefix, call in wanted.items() if line.startswith(prefix)), line)
@@ -42,7 +42,7 @@ def untold(scene):
 def check_order(scene, _kills):
     """Each command locks and syncs its files before it reads them, has its record on the disk, and only then writes its answer"""
     wants_trace(scene)
-    yield from untold(scene)
+    yield from unreported(scene)
     shell = ["sh", "-c", 'exec "$0" "$@" <&- >&- 2>&-']
     for command in COMMANDS:
         scene.restore()

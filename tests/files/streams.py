@@ -10,7 +10,7 @@ from .folder import ROOT, failed, unlike
 
 # More than a pipe holds.
 LONG, PIPE = 1000, 65536
-MOMENT = "1767225600"
+NOW = "1767225600"
 
 
 def closed(*descriptors):
@@ -21,7 +21,7 @@ def closed(*descriptors):
 
 
 def broken_pipe():
-    """The end of a pipe that nobody reads."""
+    """The end of a pipe that has no reader."""
     reader, writer = os.pipe()
     os.close(reader)
     return writer
@@ -126,10 +126,10 @@ class Judged(Scene):
 # The words of docs/COMMANDS.md that are inputs, and commands with such words and what they print where that is a line.
 INPUTS = ["FILE", "CERT", "STORE", "REQUEST", "SECRET", "SIGNATURES", "LIST", "ENTRIES", "EXPORT"]
 READING = [
-    ("member member", "member 0\n"), ("show light", None), (f"verify light trusting {MOMENT}", "accepted 1\n"),
+    ("member member", "member 0\n"), ("show light", None), (f"verify light trusting {NOW}", "accepted 1\n"),
     ("keygen 5 4 secret", None), (f"init-cosigner new {COSIGNER} {LOG} 5 4 secret", None), ("issue j r", "issued 257\n"),
     ("advance s forward", "advanced 257\n"), ("cosign s part", None), ("cert j 1 0 4 none", None),
-    ("trust-landmarks list 2 entries", None), (f"audit light trusting {MOMENT} entries none", "stands 1\n"),
+    ("trust-landmarks list 2 entries", None), (f"audit light trusting {NOW} entries none", "stands 1\n"),
 ]
 # A file given as a pipe, in a shell. Where the program doesn't open it, the writer waits for ever: so many seconds are enough.
 AWAITED = 120

@@ -14,8 +14,8 @@ CALLS = ("flock,fsync,fdatasync,sync_file_range,syncfs,sync,pwrite64,pwritev,pwr
 # The last bytes of a journal are written again in pieces.
 PIECE, PIECES = 4096, 33
 TAIL = PIECES * PIECE
-# So many of the first bytes tell whose journal a file is.
-FRONT_BYTES = 22
+# So many of the first bytes say whose journal a file is.
+HEAD_BYTES = 22
 
 
 def wants_trace(folder):
@@ -73,7 +73,7 @@ def tail_pages(length):
 
 def tail_calls(length):
     """The calls that write the end of a journal of so many bytes again, piece by piece."""
-    yield "pread64", min(FRONT_BYTES, length), 0
+    yield "pread64", min(HEAD_BYTES, length), 0
     for place in tail_pages(length):
         size = min(PIECE, length - place)
         yield "pread64", size, place

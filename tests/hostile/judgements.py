@@ -17,7 +17,7 @@ WITH_PARAMETERS = encoded(SEQUENCE, judging.MTC_PROOF[2:] + b"\x05\0")
 # So many pairs of changes are tried.
 PAIRS = 400
 # Times at the ends of what there is, and such as there aren't.
-EARLIEST, LATEST, MOST_MOMENT = encoded(0x17, b"500101000000Z"), encoded(0x18, b"99991231235959Z"), 253402300799
+EARLIEST, LATEST, LAST_SECOND = encoded(0x17, b"500101000000Z"), encoded(0x18, b"99991231235959Z"), 253402300799
 TIMES = b"""
 260101000000Z 491231235959Z 500101000000Z 991231235959Z 000229120000Z 240229000000Z 250229000000Z 260431000000Z
 260630235959Z 261301000000Z 260001000000Z 260100000000Z 260132000000Z 260101240000Z 260101006000Z 260101000060Z
@@ -65,7 +65,7 @@ def unix_times():
         validity = encoded(SEQUENCE, EARLIEST + one if is_last else one + LATEST)
         changed, unix_time = rebuilt(judging.MTC_PROOF, b"", signature, validity), times.unix_time(tag, text)
         about = [FIRST] if unix_time is None else [unix_time - 1, unix_time, unix_time + 1]
-        yield from ((changed, known, now) for now in about if 0 <= now <= MOST_MOMENT)
+        yield from ((changed, known, now) for now in about if 0 <= now <= LAST_SECOND)
 
 
 def reasons():

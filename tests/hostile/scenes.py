@@ -12,7 +12,7 @@ from reference.hss import u32
 from .files import COSIGNERS, FIRST, LAST, LOG, asked, root_of, signed, signers, text_of, trusted
 
 NOW = FIRST
-KEY_FRONT = bytes.fromhex("302a300506032b6570032100")
+KEY_HEAD = bytes.fromhex("302a300506032b6570032100")
 HEIGHT_5, WIDTH_1 = 5, 1
 # The sizes at which the cosigner has advanced, and the subtree that it has signed.
 HELD, LATER, SPAN = 3, 5, (0, 2)
@@ -26,7 +26,7 @@ def items():
     read = certificate.read(asked()["small"])
     found = [(bytes(2), b""), (entry.of_certificate(read), read.key)]
     for number in range(2, LARGER):
-        key = KEY_FRONT + number.to_bytes(32, "big")
+        key = KEY_HEAD + number.to_bytes(32, "big")
         asked_for = request.Request([FIRST, LAST], [f"n{number}.example"], None, key)
         found.append((request.entry(asked_for, LOG), key))
     return found
