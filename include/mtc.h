@@ -4,7 +4,7 @@
  * The library behind it is the crate mtc_c: each function keeps its contract, which is proved.
  * docs/LIBRARY.md says how to build libmtc.a and libmtc.so, and shows callers.
  *
- * A caller owes: each pointer leads to as many bytes as its length says, which nobody changes
+ * A caller owes: each pointer leads to as many bytes as its length says, which no one changes
  * during the call; no two buffers that the call writes lie over one another or over what it reads.
  * Where a length is 0 the pointer may be any but a null pointer, also that of a buffer to write.
  * malloc, realloc and free are of one allocator. No function is called in a signal handler, or in
@@ -27,11 +27,11 @@ enum {
     MTC_BAD_FORM = 2,     /* the certificate or the store isn't in its form */
     MTC_REFUSED = 3,      /* the certificate is refused */
     MTC_NO_SUCH_NAME = 4, /* the certificate has no dNSName with this number */
-    MTC_NO_MEMORY = 8,    /* memory was refused, and nothing is told of the certificate */
+    MTC_NO_MEMORY = 8,    /* memory was refused, and nothing is said of the certificate */
     MTC_TOO_LONG = 9      /* the buffer is too short, and isn't written */
 };
 
-/* Why a certificate isn't accepted. Behind each stands what `number` then is. */
+/* Why a certificate isn't accepted. After each stands what `number` then is. */
 enum {
     MTC_NO_REFUSAL = 0,
 
@@ -97,7 +97,7 @@ enum {
     MTC_FIELD_TABLE = 8
 };
 
-/* What is told of a certificate. */
+/* What is judged of a certificate. */
 struct mtc_verdict {
     uint32_t status;    /* MTC_DONE, MTC_BAD_FORM, MTC_REFUSED or MTC_NO_MEMORY */
     uint32_t refusal;   /* why it isn't accepted, or 0 */
@@ -106,14 +106,14 @@ struct mtc_verdict {
                            isn't accepted */
     uint64_t start;     /* the subtree [start, end) that its proof names */
     uint64_t end;
-    uint64_t cosigners; /* bit i is set where the cosigner at place i of the store counts; 0 where
+    uint64_t cosigners; /* bit i is set where the cosigner with index i in the store counts; 0 where
                            the store trusts the hash of the subtree itself */
 };
 
 /*
- * Judges a certificate (DER) by a store file (TOML) at a moment, in seconds since
+ * Judges a certificate (DER) by a store file (TOML) at a time, in seconds since
  * 1970-01-01T00:00:00Z. Writes the verdict, and answers its status. The first refusal in the order
- * of `mtc verify` is told. MTC_DONE says nothing of whom the caller wants to reach, nor for
+ * of `mtc verify` is reported. MTC_DONE says nothing of whom the caller wants to reach, nor for
  * what the key may be used: compare the names (mtc_dns_name).
  */
 uint32_t mtc_judge(const uint8_t *cert, size_t cert_length, const uint8_t *store,
@@ -121,9 +121,9 @@ uint32_t mtc_judge(const uint8_t *cert, size_t cert_length, const uint8_t *store
 
 /*
  * The three calls that follow want the bytes of a certificate that mtc_judge has accepted: they
- * read it, and judge nothing. Each writes the length of what it has to hand out, and puts that at
- * the front of the buffer where it fits. They answer MTC_DONE, MTC_BAD_FORM where the bytes are no
- * certificate, MTC_NO_SUCH_NAME or MTC_TOO_LONG. The length is 0 where there is nothing to hand out.
+ * read it, and judge nothing. Each writes the length of what it copies out, and puts that at
+ * the start of the buffer where it fits. They answer MTC_DONE, MTC_BAD_FORM where the bytes are no
+ * certificate, MTC_NO_SUCH_NAME or MTC_TOO_LONG. The length is 0 where there is nothing to copy out.
  */
 
 /* The SubjectPublicKeyInfo of the certificate (DER). */
