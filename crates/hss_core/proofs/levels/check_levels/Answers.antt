@@ -59,7 +59,7 @@ loop-done-preserved c =
     c.in-Ok.is in
     let passed = levels_refusal-passed _ _ size c.loop-done.key.now c.args.message.now rest more
     found (answer_of-ok _ reported) in (
-      omega (arith, c.split_at-in-loop-done.ensures.prefix_len),
+      omega (arith, c.split_at-in-loop-done.ensures.front_len),
       rw following fit.1,
       rw (next, following) (c.loop-done.invariant.2 ∙ passed),
     )
