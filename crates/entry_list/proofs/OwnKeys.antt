@@ -12,16 +12,23 @@ use Rattle.log_entry.specs.Entries.{TbsParts}
 use Rattle.log_entry.specs.Matching.{holds, matches}
 use Rattle.log_entry.specs.Reading.{entry_in}
 use Rattle.log_entry.specs.declared.fault.EntryError.{EntryError}
-use Rattle.entry_list.specs.Items.{ItemLists, file_text, has_key, is_key_of, listed_text}
+use Rattle.entry_list.specs.Items.{ItemLists, file_part, file_text, has_key}
+use Rattle.entry_list.specs.Items.{is_key_of, listed_text}
 
 -- One item more in the file.
+pub part_more : (items : ItemLists) (first count : ℕ)
+    → file_part items first (count + 1)
+    ≡ file_part items first count ++ listed_text items (first + count)
+part_more items first count =
+    let before = map (listed_text items) (range_with_len first count) in
+    let last = listed_text items (first + count) in
+    ap concat (map-range_with_len_more (listed_text items) first count (first + count) refl)
+    ∙ concat-append before (last ∷ [])
+    ∙ ap (λ text. concat before ++ text) (append-nil last)
+
 pub items_more : (items : ItemLists) (count : ℕ)
     → file_text items (count + 1) ≡ file_text items count ++ listed_text items count
-items_more items count =
-    let before = map (listed_text items) (range_with_len 0 count) in
-    ap concat (map-range_with_len_more (listed_text items) 0 count count (omega arith))
-    ∙ concat-append before (listed_text items count ∷ [])
-    ∙ ap (λ last. concat before ++ last) (append-nil (listed_text items count))
+items_more items count = part_more items 0 count
 
 has_hash : (hash : Hash) (key : Text) (read : Result (Option TbsParts) EntryError)
     → (holds hash read && is_public_key key) ≡ true → has_key read ≡ true

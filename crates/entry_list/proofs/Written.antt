@@ -1,11 +1,11 @@
 -- Files of entries: what is read is the encoding of its items, and that encoding is read as them.
 use Rattle.std.proofs.Common.{◌≡◌, ℕ, zero, suc, ◌+◌, ◌<◌, ◌≤◌, true, List, [], ◌∷◌, ◌++◌, length}
-use Rattle.std.proofs.Common.{get_or, map, take, Result, Ok, refl, sym, ap, subst, ◌∙◌}
+use Rattle.std.proofs.Common.{drop, get_or, map, take, Result, Ok, refl, sym, ap, subst, ◌∙◌}
 use Rattle.std.proofs.Common.{arith}
 use Rattle.std.specs.Int.{w16, to_be_bytes}
 use Rattle.std.specs.List.{concat, range_with_len, flat_map}
-use Rattle.std.proofs.lemmas.List.{get_or-map, get_or-take, length-append, length-map}
-use Rattle.std.proofs.lemmas.List.{length-take-le, take-map}
+use Rattle.std.proofs.lemmas.List.{drop-map, get_or-drop, get_or-map, get_or-take, length-append}
+use Rattle.std.proofs.lemmas.List.{length-drop, length-map, length-take-le, take-map}
 use Rattle.std.proofs.Math.Seq.{take-length}
 use Rattle.byte_formats.specs.Types.{HashFunction, Text}
 use Rattle.byte_formats.specs.Offsets.{At, IsBytes, at}
@@ -19,8 +19,8 @@ use Rattle.byte_formats.proofs.Steps.{bind_ok, ok_is}
 use Rattle.tls_wire.specs.Encoding.{vector}
 use Rattle.tls_wire.proofs.Numbers.{wide16}
 use Rattle.tls_wire.proofs.Vectors.{vector_form}
-use Rattle.entry_list.specs.Items.{AreItems, FitsFile, ItemLists, file_text, first_items}
-use Rattle.entry_list.specs.Items.{is_key_of, listed_text, lists_of}
+use Rattle.entry_list.specs.Items.{AreItems, FitsFile, ItemLists, file_part, file_text, first_items}
+use Rattle.entry_list.specs.Items.{is_key_of, later_items, listed_text, lists_of}
 use Rattle.entry_list.specs.Reading.{listed_at, item_after, all_listed_at, items_in, short_item}
 use Rattle.entry_list.specs.Reading.{vector_item}
 use Rattle.entry_list.specs.declared.error.ItemsError.{ItemsError}
@@ -120,21 +120,21 @@ text_from items (x ∷ xs) k each =
     ap (λ (t : Text). t ++ following) one
     ∙ ap (λ (t : Text). pair_text x ++ t) (text_from items xs (k + 1) others)
 
-text_is : (pairs : List Pair) (count : ℕ) → count ≤ length pairs
-    → file_text (lists_of pairs) count ≡ flat_map pair_text (take count pairs)
-text_is pairs count le =
-    let long : length (take count pairs) ≡ count = length-take-le count pairs le in
-    let each : (i : ℕ) → i < length (take count pairs)
-    → listed_text (lists_of pairs) (0 + i) ≡ pair_text (get_or (take count pairs) i none) =
+text_is : (pairs : List Pair) (first count : ℕ) → first + count ≤ length pairs
+    → file_part (lists_of pairs) first count ≡ flat_map pair_text (take count (drop first pairs))
+text_is pairs first count le =
+    let part : List Pair = drop first pairs in
+    let enough : count ≤ length part = omega (arith, length-drop first pairs) in
+    let long : length (take count part) ≡ count = length-take-le count part enough in
+    let each : (i : ℕ) → i < length (take count part)
+    → listed_text (lists_of pairs) (first + i) ≡ pair_text (get_or (take count part) i none) =
     λ i below.
     let small : i < count = omega arith in
-    let here : 0 + i ≡ i = omega arith in
-    let inside : i < length pairs = omega arith in
-    ap (listed_text (lists_of pairs)) here
-    ∙ (listed_text_is pairs i inside
-    ∙ ap pair_text (sym (get_or-take count pairs i none small))) in
-    ap (λ (n : ℕ). concat (map (listed_text (lists_of pairs)) (range_with_len 0 n))) (sym long)
-    ∙ text_from (lists_of pairs) (take count pairs) 0 each
+    let inside : first + i < length pairs = omega arith in
+    listed_text_is pairs (first + i) inside
+    ∙ ap pair_text (sym (get_or-take count part i none small ∙ get_or-drop first pairs i none)) in
+    ap (λ (n : ℕ). concat (map (listed_text (lists_of pairs)) (range_with_len first n))) (sym long)
+    ∙ text_from (lists_of pairs) (take count part) first each
 
 -- ---- what fits
 
@@ -198,7 +198,7 @@ items_only h bytes items are e =
     let text : file_text (lists_of pairs) (length (lists_of pairs).entries)
     ≡ flat_map pair_text pairs =
     ap (λ (n : ℕ). file_text (lists_of pairs) n) count
-    ∙ (text_is pairs (length pairs) (omega arith)
+    ∙ (text_is pairs 0 (length pairs) (omega arith)
     ∙ ap (flat_map pair_text) (take-length pairs)) in
     let P : ItemLists → Type 0 = λ l. (bytes ≡ file_text l (length l.entries))
     × (AreItems h l × FitsFile l) in
@@ -220,37 +220,50 @@ fits_all h pairs are short i below =
           (are.each i inside)),
     )
 
-again_pairs : (h : HashFunction) (pairs : List Pair) (count : ℕ) → AreItems h (lists_of pairs)
-    → FitsFile (lists_of pairs) → count ≤ length pairs
-    → items_in h (file_text (lists_of pairs) count) ≡ Ok (first_items count (lists_of pairs))
+again_pairs : (h : HashFunction) (pairs : List Pair) (first count : ℕ)
+    → AreItems h (lists_of pairs) → FitsFile (lists_of pairs) → first + count ≤ length pairs
+    → items_in h (file_part (lists_of pairs) first count)
+    ≡ Ok (first_items count (later_items first (lists_of pairs)))
 unfolding items_in all_listed_at
-again_pairs h pairs count are short le =
-    let first : List Pair = take count pairs in
-    let long : length first ≡ count = length-take-le count pairs le in
-    let fits : EachFits h [] first = each_fits h [] first (λ i below.
+again_pairs h pairs first count are short le =
+    let part : List Pair = drop first pairs in
+    let some : List Pair = take count part in
+    let enough : count ≤ length part = omega (arith, length-drop first pairs) in
+    let long : length some ≡ count = length-take-le count part enough in
+    let fits : EachFits h [] some = each_fits h [] some (λ i below.
     let small : i < count = omega arith in
-    let inside : i < length pairs = omega arith in
-    subst (Fits h) (sym (get_or-take count pairs i none small))
-    (fits_all h pairs are short i inside)) in
+    let inside : first + i < length pairs = omega arith in
+    subst (Fits h) (sym (get_or-take count part i none small ∙ get_or-drop first pairs i none))
+    (fits_all h pairs are short (first + i) inside)) in
     let whole = ap (λ (t : Text). each_at itself (item_after h) (length t) [] (record {
       place = 0;
       rest = t;
-    })) (text_is pairs count le) ∙ to_end_again (items_form h) refl first 0 fits in
+    })) (text_is pairs first count le) ∙ to_end_again (items_form h) refl some 0 fits in
     ap (λ (r : Result (List Pair × At) ItemsError). r >>= λ (x : List Pair
     × At). Ok (lists_of x.0)) whole
-    ∙ rw (take-map (λ (x : Pair). x.0) count pairs, take-map (λ (x : Pair). x.1) count pairs) refl
+    ∙ rw (
+      drop-map (λ (x : Pair). x.0) first pairs,
+      drop-map (λ (x : Pair). x.1) first pairs,
+      take-map (λ (x : Pair). x.0) count part,
+      take-map (λ (x : Pair). x.1) count part,
+    ) refl
 
-pub items_again : (h : HashFunction) (items : ItemLists) (count : ℕ) → AreItems h items
-    → FitsFile items → count ≤ length items.entries
-    → items_in h (file_text items count) ≡ Ok (first_items count items)
-items_again h items count are short le =
+pub part_again : (h : HashFunction) (items : ItemLists) (first count : ℕ) → AreItems h items
+    → FitsFile items → first + count ≤ length items.entries
+    → items_in h (file_part items first count) ≡ Ok (first_items count (later_items first items))
+part_again h items first count are short le =
     let pairs = pairs_of items.entries items.keys in
     let same = lists_again items.entries items.keys are.even in
-    let long : count ≤ length pairs = omega (
+    let long : first + count ≤ length pairs = omega (
       arith,
       length-map pairs (λ (x : Pair). x.0),
       ap (λ (l : ItemLists). length l.entries) same,
     ) in
     let P : ItemLists → Type 0 = λ l. AreItems h l → FitsFile l
-    → items_in h (file_text l count) ≡ Ok (first_items count l) in
-    subst P same (λ a s. again_pairs h pairs count a s long) are short
+    → items_in h (file_part l first count) ≡ Ok (first_items count (later_items first l)) in
+    subst P same (λ a s. again_pairs h pairs first count a s long) are short
+
+pub items_again : (h : HashFunction) (items : ItemLists) (count : ℕ) → AreItems h items
+    → FitsFile items → count ≤ length items.entries
+    → items_in h (file_text items count) ≡ Ok (first_items count items)
+items_again h items count are short le = part_again h items 0 count are short le

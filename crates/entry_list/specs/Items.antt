@@ -1,7 +1,7 @@
 -- Entries of a log with their keys, and the file that holds them, in the presentation language of
 -- TLS (RFC 8446, section 3.4).
 use Rattle.std.specs.Prelude.{◌≡◌, ℕ, ◌<◌, ◌==◌, Bool, true, false, List, [], ◌++◌, length, map}
-use Rattle.std.specs.Prelude.{take, slice_index_or, Option, Some, None, Result, Ok, Err}
+use Rattle.std.specs.Prelude.{drop, take, slice_index_or, Option, Some, None, Result, Ok, Err}
 use Rattle.std.specs.Prelude.{if◌then◌else◌}
 use Rattle.std.specs.Int.{w16}
 use Rattle.std.specs.List.{concat, range_with_len}
@@ -53,12 +53,21 @@ abbrev pub first_items : ℕ → ItemLists → ItemLists
 first_items count items =
     record { entries = take count items.entries; keys = take count items.keys }
 
+-- The items from an index on.
+abbrev pub later_items : ℕ → ItemLists → ItemLists
+later_items first items =
+    record { entries = drop first items.entries; keys = drop first items.keys }
+
 -- An item in a file: the entry, and its key, each after its length of two bytes.
 abbrev pub listed_text : ItemLists → ℕ → Text
 listed_text items index =
     vector w16 (slice_index_or items.entries index []) ++ vector w16
     (slice_index_or items.keys index [])
 
+-- The file of so many of the items from an index on.
+abbrev pub file_part : ItemLists → ℕ → ℕ → Text
+file_part items first count = concat (map (listed_text items) (range_with_len first count))
+
 -- The file of so many of the first items.
 abbrev pub file_text : ItemLists → ℕ → Text
-file_text items count = concat (map (listed_text items) (range_with_len 0 count))
+file_text items count = file_part items 0 count
