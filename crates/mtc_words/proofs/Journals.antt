@@ -11,7 +11,8 @@ use Rattle.mtc_words.specs.declared.error.WordError.{WordError}
 use Rattle.mtc_words.specs.declared.error.WordError.TheVariants.{TilesName}
 use Rattle.mtc_words.specs.declared.name.Name.{Name}
 use Rattle.mtc_words.specs.declared.name.Name.TheVariants.{Member, Show, Verify, InitLog, Issue}
-use Rattle.mtc_words.specs.declared.name.Name.TheVariants.{Checkpoint, Entries, Consist, Subtree}
+use Rattle.mtc_words.specs.declared.name.Name.TheVariants.{Checkpoint, Entries, EntriesFrom}
+use Rattle.mtc_words.specs.declared.name.Name.TheVariants.{Consist, Subtree}
 use Rattle.mtc_words.specs.declared.name.Name.TheVariants.{Keygen, InitCosigner, Advance, Cosign}
 use Rattle.mtc_words.specs.declared.name.Name.TheVariants.{Export, Landmark, Landmarks, LightCert}
 use Rattle.mtc_words.specs.declared.name.Name.TheVariants.{TrustLandmarks, Cert, Audit, Drill}
@@ -59,6 +60,10 @@ from_words Issue ws c e = reported _ c e
 from_words Checkpoint ws c e = reported _ c e
 from_words Entries ws c e =
     following (Has Entries ws) (number_word 2 is_any (word ws 1)) _ c (λ size is. reported _ c is) e
+from_words EntriesFrom ws c e =
+    following (Has EntriesFrom ws) (number_word 2 is_any (word ws 1)) _ c (λ from first.
+    following (Has EntriesFrom ws) (number_word 3 is_any (word ws 2)) _ c (λ size is.
+    reported _ c is) first) e
 from_words Consist ws c e =
     following (Has Consist ws) (number_word 2 is_any (word ws 1)) _ c (λ old first.
     following (Has Consist ws) (number_word 3 is_any (word ws 2)) _ c (λ new is. reported _ c is)

@@ -6,6 +6,7 @@ use Rattle.landmarks.specs.Limits.{most_active, most_entries}
 use Rattle.mtc_words.specs.declared.command.Command.{Command}
 use Rattle.mtc_words.specs.declared.command.Command.TheVariants.{Member, Show, Verify, InitLog}
 use Rattle.mtc_words.specs.declared.command.Command.TheVariants.{Issue, Checkpoint, Entries}
+use Rattle.mtc_words.specs.declared.command.Command.TheVariants.{EntriesFrom}
 use Rattle.mtc_words.specs.declared.command.Command.TheVariants.{Consist, Subtree, Keygen}
 use Rattle.mtc_words.specs.declared.command.Command.TheVariants.{InitCosigner, Advance, Cosign}
 use Rattle.mtc_words.specs.declared.command.Command.TheVariants.{Export, Quarrel}
@@ -24,6 +25,7 @@ pub data CommandValue : Type 0 where
   issue : Text → Text → CommandValue
   checkpoint : Text → CommandValue
   entries : Text → ℕ → CommandValue
+  entries_from : Text → ℕ → ℕ → CommandValue
   consist : Text → ℕ → ℕ → CommandValue
   subtree : Text → ℕ → ℕ → ℕ → CommandValue
   keygen : ℕ → ℕ → Text → CommandValue
@@ -54,6 +56,7 @@ command_value (InitLog journal id active limit) = init_log journal.now id active
 command_value (Issue journal request) = issue journal.now request.now
 command_value (Checkpoint journal) = checkpoint journal.now
 command_value (Entries journal size) = entries journal.now size
+command_value (EntriesFrom journal first size) = entries_from journal.now first size
 command_value (Consist journal old new) = consist journal.now old new
 command_value (Subtree journal start end size) = subtree journal.now start end size
 command_value (Keygen height width secret) = keygen height width secret.now
@@ -119,6 +122,7 @@ IsInRange (init_log journal id active limit) = (is_active active ≡ true) × (i
 IsInRange (issue journal request) = Unit {0}
 IsInRange (checkpoint journal) = Unit {0}
 IsInRange (entries journal size) = Unit {0}
+IsInRange (entries_from journal first size) = Unit {0}
 IsInRange (consist journal old new) = Unit {0}
 IsInRange (subtree journal start end size) = Unit {0}
 IsInRange (keygen height width secret) = (is_height height ≡ true) × (is_width width ≡ true)
@@ -150,6 +154,7 @@ journal_of (init_log journal id active limit) = Some journal
 journal_of (issue journal request) = Some journal
 journal_of (checkpoint journal) = Some journal
 journal_of (entries journal size) = Some journal
+journal_of (entries_from journal first size) = Some journal
 journal_of (consist journal old new) = Some journal
 journal_of (subtree journal start end size) = Some journal
 journal_of (keygen height width secret) = None

@@ -6,7 +6,8 @@ use Rattle.std.specs.List.{ends_with}
 use Rattle.byte_formats.specs.Types.{Text}
 use Rattle.mtc_words.specs.declared.name.Name.{Name}
 use Rattle.mtc_words.specs.declared.name.Name.TheVariants.{Member, Show, Verify, InitLog, Issue}
-use Rattle.mtc_words.specs.declared.name.Name.TheVariants.{Checkpoint, Entries, Consist, Subtree}
+use Rattle.mtc_words.specs.declared.name.Name.TheVariants.{Checkpoint, Entries, EntriesFrom}
+use Rattle.mtc_words.specs.declared.name.Name.TheVariants.{Consist, Subtree}
 use Rattle.mtc_words.specs.declared.name.Name.TheVariants.{Keygen, InitCosigner, Advance, Cosign}
 use Rattle.mtc_words.specs.declared.name.Name.TheVariants.{Export, Quarrel}
 use Rattle.mtc_words.specs.declared.name.Name.TheVariants.{Landmark, Landmarks, LightCert}
@@ -57,9 +58,10 @@ named_command word =
     else (if bytes_eq word (codes "issue") then Some Issue
     else (if bytes_eq word (codes "checkpoint") then Some Checkpoint
     else (if bytes_eq word (codes "entries") then Some Entries
+    else (if bytes_eq word (codes "entries-from") then Some EntriesFrom
     else (if bytes_eq word (codes "consist") then Some Consist
     else (if bytes_eq word (codes "subtree") then Some Subtree
-    else named_from_cosigner word))))))))
+    else named_from_cosigner word)))))))))
 
 -- How many arguments follow a command.
 abbrev pub word_count : Name → ℕ
@@ -70,6 +72,7 @@ word_count InitLog = 4
 word_count Issue = 2
 word_count Checkpoint = 1
 word_count Entries = 2
+word_count EntriesFrom = 3
 word_count Consist = 3
 word_count Subtree = 4
 word_count Keygen = 3
@@ -100,6 +103,7 @@ takes_journal InitLog = true
 takes_journal Issue = true
 takes_journal Checkpoint = true
 takes_journal Entries = true
+takes_journal EntriesFrom = true
 takes_journal Consist = true
 takes_journal Subtree = true
 takes_journal Keygen = false

@@ -12,7 +12,8 @@ use Rattle.mtc_words.specs.declared.error.WordError.TheVariants.{WrongCount, Til
 use Rattle.mtc_words.specs.declared.error.WordError.TheVariants.{BadId}
 use Rattle.mtc_words.specs.declared.name.Name.{Name}
 use Rattle.mtc_words.specs.declared.name.Name.TheVariants.{Member, Show, Verify, InitLog, Issue}
-use Rattle.mtc_words.specs.declared.name.Name.TheVariants.{Checkpoint, Entries, Consist, Subtree}
+use Rattle.mtc_words.specs.declared.name.Name.TheVariants.{Checkpoint, Entries, EntriesFrom}
+use Rattle.mtc_words.specs.declared.name.Name.TheVariants.{Consist, Subtree}
 use Rattle.mtc_words.specs.declared.name.Name.TheVariants.{Keygen, InitCosigner, Advance, Cosign}
 use Rattle.mtc_words.specs.declared.name.Name.TheVariants.{Export, Quarrel}
 use Rattle.mtc_words.specs.declared.name.Name.TheVariants.{Landmark, Landmarks, LightCert}
@@ -20,7 +21,8 @@ use Rattle.mtc_words.specs.declared.name.Name.TheVariants.{TrustLandmarks, Cert,
 use Rattle.mtc_words.specs.declared.name.Name.TheVariants.{Tile}
 use Rattle.mtc_words.specs.declared.name.Name.TheVariants.{Root, Held, MonitorInit, Monitor}
 use Rattle.mtc_words.specs.Commands.{CommandValue, member, show, verify, init_log, issue}
-use Rattle.mtc_words.specs.Commands.{checkpoint, entries, consist, subtree, keygen, is_height}
+use Rattle.mtc_words.specs.Commands.{checkpoint, entries, entries_from, consist, subtree, keygen}
+use Rattle.mtc_words.specs.Commands.{is_height}
 use Rattle.mtc_words.specs.Commands.{is_width, is_time, is_active, is_limit, is_any}
 use Rattle.mtc_words.specs.Commands.{init_cosigner, advance, cosign, landmark, landmarks}
 use Rattle.mtc_words.specs.Commands.{export, light_cert, trust_landmarks, cert, audit, drill}
@@ -86,6 +88,10 @@ command_from Checkpoint ws = Ok (checkpoint (word ws 0))
 command_from Entries ws = do
   size ← number_word 2 is_any (word ws 1)
   Ok (entries (word ws 0) size)
+command_from EntriesFrom ws = do
+  first ← number_word 2 is_any (word ws 1)
+  size ← number_word 3 is_any (word ws 2)
+  Ok (entries_from (word ws 0) first size)
 command_from Consist ws = do
   old ← number_word 2 is_any (word ws 1)
   new ← number_word 3 is_any (word ws 2)

@@ -175,6 +175,16 @@ fn entries<'a>(words: &'a [String]) -> Result<Command<'a>, WordError>
     Ok(Command::Entries(text(words, 0), size))
 }
 
+fn entries_from<'a>(words: &'a [String]) -> Result<Command<'a>, WordError>
+    requires { length words.now ≡ word_count Name.EntriesFrom }
+    ensures exact { said result ≡ command_from Name.EntriesFrom (map string_bytes words.now) }
+    ensures range { IfOk result (λ command. IsInRange (command_value command)) }
+{
+    let first = number(words, 1)?;
+    let size = number(words, 2)?;
+    Ok(Command::EntriesFrom(text(words, 0), first, size))
+}
+
 fn light_cert<'a>(words: &'a [String]) -> Result<Command<'a>, WordError>
     requires { length words.now ≡ word_count Name.LightCert }
     ensures exact { said result ≡ command_from Name.LightCert (map string_bytes words.now) }
@@ -267,6 +277,7 @@ pub fn build<'a>(alloc: Global, name: Name, words: &'a [String]) -> Result<Comma
         Name::Issue => Ok(Command::Issue(text(words, 0), text(words, 1))),
         Name::Checkpoint => Ok(Command::Checkpoint(text(words, 0))),
         Name::Entries => entries(words),
+        Name::EntriesFrom => entries_from(words),
         Name::Consist => consist(words),
         Name::Subtree => subtree(words),
         Name::Keygen => keygen(words),
