@@ -5,10 +5,11 @@ use Rattle.std.proofs.Common.{append_assoc, arith}
 use Rattle.std.specs.Int.{w16}
 use Rattle.byte_formats.specs.Types.{HashFunction, Text}
 use Rattle.tls_wire.specs.Encoding.{vector}
-use Rattle.entry_list.specs.Items.{file_text, first_items, is_key_of, listed_text}
+use Rattle.entry_list.specs.Items.{file_part, file_text, first_items, is_key_of}
+use Rattle.entry_list.specs.Items.{later_items, listed_text}
 use Rattle.entry_list.specs.Reading.{items_in}
 use Rattle.entry_list.proofs.OwnKeys.{own_key, no_key}
-use Rattle.entry_list.proofs.Written.{items_again}
+use Rattle.entry_list.proofs.Written.{part_again}
 use Rattle.issuance_log.specs.Folds.{LogState, LogView, view_in}
 use Rattle.issuance_log.specs.Refusals.{item_at}
 use Rattle.issuance_log.specs.Sound.{IsSound}
@@ -47,18 +48,24 @@ key_at h s (suc i) sound below =
     let item = sound.items (suc i) (omega arith) below in
     own_key h (slice_index_or s.entries (suc i) []) (slice_index_or s.keys (suc i) []) item.belongs
 
--- What is printed of a log is read as its first items.
-pub printed_again : (h : HashFunction) (s : LogState) (count : ℕ) → IsSound h s
-    → count ≤ length s.entries
-    → items_in h (file_text (items_of s) count) ≡ Ok (first_items count (items_of s))
-printed_again h s count sound le =
-    items_again h (items_of s) count
+-- What is printed of a log is read as its items.
+pub part_printed_again : (h : HashFunction) (s : LogState) (first count : ℕ) → IsSound h s
+    → first + count ≤ length s.entries
+    → items_in h (file_part (items_of s) first count)
+    ≡ Ok (first_items count (later_items first (items_of s)))
+part_printed_again h s first count sound le =
+    part_again h (items_of s) first count
     (record { even = sound.even; each = λ i below. key_at h s i sound below })
     (record {
       entries = λ i below. (items_short h s i sound below).0;
       keys = λ i below. (items_short h s i sound below).1;
     })
     le
+
+pub printed_again : (h : HashFunction) (s : LogState) (count : ℕ) → IsSound h s
+    → count ≤ length s.entries
+    → items_in h (file_text (items_of s) count) ≡ Ok (first_items count (items_of s))
+printed_again h s count sound le = part_printed_again h s 0 count sound le
 
 -- an item after the bytes
 pub item_after : (contents : Option LogState) (index : ℕ) (entry key out mid new : Text)

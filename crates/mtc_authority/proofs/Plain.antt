@@ -31,6 +31,7 @@ use Rattle.mtc_authority.specs.StoredTiles.{HasTilesOf}
 use Rattle.mtc_authority.specs.Works.{found_log, log_says}
 use Rattle.mtc_authority.specs.declared.work.Work.{Work}
 use Rattle.mtc_authority.specs.declared.work.Work.TheVariants.{Cert, Checkpoint, Consist, Entries}
+use Rattle.mtc_authority.specs.declared.work.Work.TheVariants.{EntriesFrom}
 use Rattle.mtc_authority.specs.declared.work.Work.TheVariants.{Issue, Landmark, Landmarks}
 use Rattle.mtc_authority.specs.declared.work.Work.TheVariants.{LightCert, Subtree, Tile}
 
@@ -117,6 +118,7 @@ module _ (h : HashFunction) where
     unfolding log_says
     says_plain Checkpoint other = tt
     says_plain (Entries size) other = tt
+    says_plain (EntriesFrom first size) other = tt
     says_plain (Issue request) other = issue_plain _ (view_in s) _
     says_plain (Consist old new) other = tt
     says_plain (Subtree start end size) other = tt

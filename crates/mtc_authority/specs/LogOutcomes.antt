@@ -1,11 +1,11 @@
--- The outcomes of the commands on a log: `init-log`, `checkpoint` and `entries`.
-use Rattle.std.specs.Prelude.{ℕ, nat_lt, List, [], ◌++◌, length, slice_index_or, codes, None}
+-- The outcomes of the commands on a log: `init-log`, `checkpoint`, `entries` and `entries-from`.
+use Rattle.std.specs.Prelude.{ℕ, ◌-◌, nat_le, nat_lt, List, [], ◌++◌, length, slice_index_or, codes, None}
 use Rattle.std.specs.Prelude.{◌≡◌, ◌<◌, if◌then◌else◌}
 use Rattle.std.specs.Fmt.{decimal}
 use Rattle.byte_formats.specs.Types.{HashFunction, Text}
 use Rattle.tls_wire.specs.Anchors.{text_of}
 use Rattle.tree_core.specs.Tree.{tree_hash}
-use Rattle.entry_list.specs.Items.{ItemLists, file_text}
+use Rattle.entry_list.specs.Items.{ItemLists, file_part, file_text}
 use Rattle.issuance_log.specs.Folds.{LogState}
 use Rattle.issuance_log.specs.Records.{settings_record}
 use Rattle.issuance_log.specs.Settings.{Settings}
@@ -54,6 +54,14 @@ abbrev pub entries_reply : ℕ → LogState → Reply
 entries_reply size s =
     if nat_lt (length s.entries) size then beyond (length s.entries)
     else said Done (file_text (items_of s) size)
+
+-- The items from the first index up to a size, without it: there must be some, and the log must
+-- have them.
+abbrev pub entries_from_reply : ℕ → ℕ → LogState → Reply
+entries_from_reply first size s =
+    if nat_le size first then not_allowed (codes "NothingNew")
+    else (if nat_lt (length s.entries) size then beyond (length s.entries)
+    else said Done (file_part (items_of s) first (size - first)))
 
 -- These are the entry and the key at an index, and both have fewer than 2^16 bytes.
 pub record IsItemAt (s : LogState) (index : ℕ) (entry key : Text) : Type 0 where

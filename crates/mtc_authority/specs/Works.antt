@@ -31,11 +31,13 @@ use Rattle.mtc_authority.specs.BadTiles.{first_bad}
 use Rattle.mtc_authority.specs.CertOutcome.{cert_reply, light_reply}
 use Rattle.mtc_authority.specs.IssueOutcome.{issue_says}
 use Rattle.mtc_authority.specs.LandmarkOutcomes.{landmark_says, landmarks_reply}
-use Rattle.mtc_authority.specs.LogOutcomes.{checkpoint_reply, entries_reply}
+use Rattle.mtc_authority.specs.LogOutcomes.{checkpoint_reply, entries_from_reply}
+use Rattle.mtc_authority.specs.LogOutcomes.{entries_reply}
 use Rattle.mtc_authority.specs.RequestOutcomes.{consist_reply, subtree_reply}
 use Rattle.mtc_authority.specs.TileOutcome.{tile_says}
 use Rattle.mtc_authority.specs.declared.work.Work.{Work}
-use Rattle.mtc_authority.specs.declared.work.Work.TheVariants.{Checkpoint, Entries, Issue, Consist}
+use Rattle.mtc_authority.specs.declared.work.Work.TheVariants.{Checkpoint, Entries}
+use Rattle.mtc_authority.specs.declared.work.Work.TheVariants.{EntriesFrom, Issue, Consist}
 use Rattle.mtc_authority.specs.declared.work.Work.TheVariants.{Subtree, Landmark, Landmarks}
 use Rattle.mtc_authority.specs.declared.work.Work.TheVariants.{LightCert}
 use Rattle.mtc_authority.specs.declared.work.Work.TheVariants.{Cert, Tile}
@@ -69,6 +71,8 @@ found_log state list = record { records = list; state = state }
 unfoldable pub log_says : HashFunction → Work → FoundLog → Outcome
 log_says h Checkpoint found = answers_on found.records (checkpoint_reply h found.state.entries)
 log_says h (Entries size) found = answers_on found.records (entries_reply size found.state)
+log_says h (EntriesFrom first size) found =
+    answers_on found.records (entries_from_reply first size found.state)
 log_says h (Issue request) found = issue_says h request found
 log_says h (Consist old new) found =
     answers_on found.records (consist_reply h old new found.state)

@@ -1,13 +1,13 @@
-//! The commands `checkpoint` and `entries`: what a log holds.
+//! The commands `checkpoint`, `entries` and `entries-from`: what a log holds.
 
-ghost use Rattle.std.specs.Prelude.{◌≡◌, ◌<◌, ◌≤◌, ◌++◌, length, IfErr, IfOk, IfSome, OnOk};
+ghost use Rattle.std.specs.Prelude.{◌≡◌, ◌<◌, ◌≤◌, ◌+◌, ◌++◌, length, IfErr, IfOk, IfSome, OnOk};
 ghost use Rattle.issuance_log.specs.Records.{IsShort};
 ghost use Rattle.issuance_log.specs.Words.{LogStays, log_disk, modelled_state, view_of};
 ghost use Rattle.mtc_io.specs.Counts.{Rose};
 ghost use Rattle.mtc_command.specs.Answers.{stop_ending, ending_of, replied};
-ghost use Rattle.entry_list.specs.Items.{file_text, listed_text};
+ghost use Rattle.entry_list.specs.Items.{file_part, listed_text};
 ghost use Rattle.mtc_authority.specs.LogOutcomes.{IsItemAt, beyond, checkpoint_reply};
-ghost use Rattle.mtc_authority.specs.LogOutcomes.{entries_reply};
+ghost use Rattle.mtc_authority.specs.LogOutcomes.{entries_from_reply, entries_reply};
 ghost use Rattle.mtc_authority.specs.LogOutcomes.{StopsAt, items_of};
 ghost use Rattle.mtc_authority.specs.Works.{RepliesOnLog};
 
@@ -96,16 +96,17 @@ fn put_item<'a, H: TreeHash, D: Disk>(
     Ok(())
 }
 
-// The first items.
+// So many of the items from an index on.
 fn items<'a, H: TreeHash, D: Disk>(
     alloc: Global,
     journal: &'a str,
     log: &mut Log<H, D, D>,
+    first: u64,
     count: u64,
 ) -> Result<Bytes, Stop<'a>>
-    requires { count ≤ (view_of log.old).size }
+    requires { first + count ≤ (view_of log.old).size }
     ensures text { IfOk result (λ text. IfSome (modelled_state log.old)
-        (λ s. text ≡ file_text (items_of s) count)) }
+        (λ s. text ≡ file_part (items_of s) first count)) }
     ensures stops { IfErr result (λ stop. StopsAt (Rose (D.faults (log_disk log.old))
         (D.faults (log_disk log.new))) journal.now (stop_ending stop)) }
     ensures stays { LogStays log.old log.new }
@@ -113,8 +114,8 @@ fn items<'a, H: TreeHash, D: Disk>(
     let mut out = Bytes::new(alloc);
     let mut entry = Bytes::new(alloc);
     let mut key = Bytes::new(alloc);
-    for index in 0..count {
-        put_item(journal, log, index, &mut entry, &mut key, &mut out)?;
+    for number in 0..count {
+        put_item(journal, log, first + number, &mut entry, &mut key, &mut out)?;
     }
     Ok(out)
 }
@@ -134,6 +135,30 @@ pub fn entries<'a, H: TreeHash, D: Disk>(
     }
     Ok(Answer {
         status: Said::Done,
-        text: items(alloc, journal, log, size)?,
+        text: items(alloc, journal, log, 0, size)?,
+    })
+}
+
+/// The work of `entries-from J FIRST SIZE`.
+pub fn entries_from<'a, H: TreeHash, D: Disk>(
+    alloc: Global,
+    journal: &'a str,
+    log: &mut Log<H, D, D>,
+    first: u64,
+    size: u64,
+) -> Result<Answer, Stop<'a>>
+    ensures { RepliesOnLog journal.now (entries_from_reply first size) log.old log.new
+        (ending_of result) }
+{
+    log.law_sound();
+    if size <= first {
+        return Err(refuse(Stopped::NotAllowed, Reason::named("NothingNew")));
+    }
+    if log.size() < size {
+        return Err(too_many(log.size()));
+    }
+    Ok(Answer {
+        status: Said::Done,
+        text: items(alloc, journal, log, first, size - first)?,
     })
 }

@@ -1,8 +1,8 @@
 //! Laws of what is printed of a log: the clauses are the laws, and the functions do nothing.
 
-ghost use Rattle.std.specs.Prelude.{◌≡◌, ◌≤◌, ◌<◌, ◌^◌, ℕ, length, map, Ok, None, Some};
+ghost use Rattle.std.specs.Prelude.{◌≡◌, ◌≤◌, ◌<◌, ◌+◌, ◌^◌, ℕ, length, map, Ok, None, Some};
 ghost use Rattle.byte_formats.specs.Types.{HashFunction, Text};
-ghost use Rattle.entry_list.specs.Items.{file_text, first_items};
+ghost use Rattle.entry_list.specs.Items.{file_part, file_text, first_items, later_items};
 ghost use Rattle.entry_list.specs.Reading.{items_in};
 ghost use Rattle.issuance_log.specs.Folds.{LogState};
 ghost use Rattle.issuance_log.specs.Openings.{HasItsTiles};
@@ -12,11 +12,16 @@ ghost use Rattle.tree_core.specs.Tree.{leaf_hash};
 ghost use Rattle.mtc_authority.specs.BadTiles.{first_bad};
 ghost use Rattle.mtc_authority.specs.LogOutcomes.{items_of};
 
-/// What `entries` prints is a file of entries, which is read as so many of the log's first items.
+/// What `entries` prints is a file of entries, which is read as so many of the log's first items;
+/// and what `entries-from` prints is read as so many of its items from an index on.
 pub fn law_printed_entries_are_read()
-    ensures { (h : HashFunction) (s : LogState) (count : ℕ) → IsSound h s
+    ensures first { (h : HashFunction) (s : LogState) (count : ℕ) → IsSound h s
         → count ≤ length s.entries
         → items_in h (file_text (items_of s) count) ≡ Ok (first_items count (items_of s)) }
+    ensures part { (h : HashFunction) (s : LogState) (first count : ℕ) → IsSound h s
+        → first + count ≤ length s.entries
+        → items_in h (file_part (items_of s) first count)
+        ≡ Ok (first_items count (later_items first (items_of s))) }
 {}
 
 /// A command on a log reports no bad tile exactly if the file of its tiles has those of its last

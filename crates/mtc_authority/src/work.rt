@@ -7,7 +7,7 @@ ghost use Rattle.mtc_authority.specs.Works.{log_says};
 ghost use Rattle.mtc_command.specs.Answers.{ending_of};
 
 use crate::cert::{Signatures, certificate, light_certificate};
-use crate::checkpoint::{checkpoint, entries};
+use crate::checkpoint::{checkpoint, entries, entries_from};
 use crate::issue::issue_on;
 use crate::marks::{list_landmarks, set_landmark};
 use crate::requests::{consist, subtree};
@@ -26,6 +26,8 @@ pub enum Work {
     Checkpoint,
     /// So many of the first entries.
     Entries(u64),
+    /// The entries from the first number up to the second one, without it.
+    EntriesFrom(u64, u64),
     /// One entry more: that of a request.
     Issue(Request),
     /// The request to hold the first `.1` entries, of a cosigner that holds the first `.0`.
@@ -66,6 +68,7 @@ pub fn carry_out<'a, H: TreeHash, D: Disk>(
     match work {
         Work::Checkpoint => checkpoint(alloc, journal, log),
         Work::Entries(size) => entries(alloc, journal, log, size),
+        Work::EntriesFrom(first, size) => entries_from(alloc, journal, log, first, size),
         Work::Issue(request) => issue_on(alloc, journal, log, &request),
         Work::Consist(old, new) => consist(alloc, journal, log, old, new),
         Work::Subtree(start, end, size) => subtree(alloc, journal, log, start, end, size),
