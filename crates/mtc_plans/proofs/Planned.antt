@@ -2,12 +2,14 @@
 use Rattle.std.proofs.Common.{◌≡◌}
 use Rattle.byte_formats.specs.Types.{HashFunction}
 use Rattle.mtc_words.specs.Commands.{CommandValue, member, show, verify, init_log, issue}
-use Rattle.mtc_words.specs.Commands.{checkpoint, entries, consist, subtree, keygen}
+use Rattle.mtc_words.specs.Commands.{checkpoint, entries, entries_from, consist, subtree}
+use Rattle.mtc_words.specs.Commands.{keygen}
 use Rattle.mtc_words.specs.Commands.{init_cosigner, advance, cosign, export, landmark, landmarks}
 use Rattle.mtc_words.specs.Commands.{light_cert, trust_landmarks, cert, audit, drill, tile}
 use Rattle.mtc_words.specs.Commands.{quarrel, root, held, monitor_init, monitor}
 use Rattle.mtc_command.specs.Steps.{Files}
 use Rattle.mtc_authority.specs.declared.work.Work.TheVariants.{Checkpoint, Consist, Entries}
+use Rattle.mtc_authority.specs.declared.work.Work.TheVariants.{EntriesFrom}
 use Rattle.mtc_authority.specs.declared.work.Work.TheVariants.{Landmark, Landmarks, LightCert}
 use Rattle.mtc_authority.specs.declared.work.Work.TheVariants.{Subtree, Tile}
 use Rattle.command_plans.specs.Plans.{changes, only_reads}
@@ -35,6 +37,8 @@ module _ (h : HashFunction) where
   outcome_planned (checkpoint journal) files = work_plans h files only_reads journal Checkpoint
   outcome_planned (entries journal size) files =
       work_plans h files only_reads journal (Entries size)
+  outcome_planned (entries_from journal first size) files =
+      work_plans h files only_reads journal (EntriesFrom first size)
   outcome_planned (consist journal old new) files =
       work_plans h files only_reads journal (Consist old new)
   outcome_planned (subtree journal start end size) files =

@@ -19,16 +19,18 @@ use Rattle.mtc_authority.specs.CertOutcome.{cert_refused, cert_replies, certific
 use Rattle.mtc_authority.specs.CertOutcome.{light_text}
 use Rattle.mtc_authority.specs.IssueOutcome.{issued}
 use Rattle.mtc_authority.specs.LandmarkOutcomes.{mark_refused, marked}
-use Rattle.mtc_authority.specs.LogOutcomes.{entries_reply}
+use Rattle.mtc_authority.specs.LogOutcomes.{entries_from_reply, entries_reply}
 use Rattle.mtc_authority.specs.RequestOutcomes.{consist_reply, subtree_reply}
 use Rattle.mtc_authority.specs.TileOutcome.{tiled_by, tiles_refused}
 use Rattle.mtc_authority.specs.Works.{log_says}
 use Rattle.mtc_authority.specs.declared.work.Work.{Work}
 use Rattle.mtc_authority.specs.declared.work.Work.TheVariants.{Cert, Checkpoint, Consist, Entries}
+use Rattle.mtc_authority.specs.declared.work.Work.TheVariants.{EntriesFrom}
 use Rattle.mtc_authority.specs.declared.work.Work.TheVariants.{Issue, Landmark, Landmarks}
 use Rattle.mtc_authority.specs.declared.work.Work.TheVariants.{LightCert, Subtree, Tile}
 use Rattle.command_plans.specs.Outcomes.{wanted_of}
-use Rattle.mtc_plans.specs.LogWork.{cert_judged, consist_judged, entries_judged}
+use Rattle.mtc_plans.specs.LogWork.{cert_judged, consist_judged, entries_from_judged}
+use Rattle.mtc_plans.specs.LogWork.{entries_judged}
 use Rattle.mtc_plans.specs.LogWork.{issue_reported, log_judged, mark_reported, subtree_judged}
 use Rattle.mtc_plans.specs.LogWork.{tile_reported}
 use Rattle.mtc_plans.specs.LogWork.{work_reported, write_judged}
@@ -63,6 +65,11 @@ module _ (h : HashFunction) where
   entries_same : (size : ℕ) (s : LogState)
       → exactly (entries_reply size s) ≡ wanted_of (entries_judged size s)
   entries_same size s = either_same (nat_lt (length s.entries) size) _ _ _ _ refl refl
+
+  entries_from_same : (first size : ℕ) (s : LogState)
+      → exactly (entries_from_reply first size s) ≡ wanted_of (entries_from_judged first size s)
+  entries_from_same first size s = either_same (nat_le size first) _ _ _ _ refl
+      (either_same (nat_lt (length s.entries) size) _ _ _ _ refl refl)
 
   consist_same : (old new : ℕ) (s : LogState)
       → exactly (consist_reply h old new s) ≡ wanted_of (consist_judged h old new s)
@@ -100,6 +107,9 @@ module _ (h : HashFunction) where
   work_same Checkpoint found = refl
   work_same (Entries size) found = on_list found.records (entries_reply size found.state)
       (entries_judged size found.state) (entries_same size found.state)
+  work_same (EntriesFrom first size) found =
+      on_list found.records (entries_from_reply first size found.state)
+      (entries_from_judged first size found.state) (entries_from_same first size found.state)
   work_same (Issue request) found = issued_same request found
       (add_refusal (view_in found.state) false (end_following found.records)
       (issued_entry h found.state.settings request) request.key)

@@ -2,7 +2,8 @@
 -- its own, in mtc_reads, mtc_authority, mtc_cosigner, mtc_monitor or mtc_drill.
 use Rattle.byte_formats.specs.Types.{HashFunction, Text}
 use Rattle.mtc_words.specs.Commands.{CommandValue, member, show, verify, init_log, issue}
-use Rattle.mtc_words.specs.Commands.{checkpoint, entries, consist, subtree, keygen}
+use Rattle.mtc_words.specs.Commands.{checkpoint, entries, entries_from, consist, subtree}
+use Rattle.mtc_words.specs.Commands.{keygen}
 use Rattle.mtc_words.specs.Commands.{init_cosigner, advance, cosign, export, landmark, landmarks}
 use Rattle.mtc_words.specs.Commands.{light_cert, trust_landmarks, cert, audit, drill, tile}
 use Rattle.mtc_words.specs.Commands.{quarrel, root, held, monitor_init, monitor}
@@ -17,7 +18,8 @@ use Rattle.mtc_authority.specs.IssueCommand.{issue_outcome}
 use Rattle.mtc_authority.specs.LogOutcomes.{init_log_outcome}
 use Rattle.mtc_authority.specs.Works.{log_outcome}
 use Rattle.mtc_authority.specs.declared.work.Work.{Work}
-use Rattle.mtc_authority.specs.declared.work.Work.TheVariants.{Checkpoint, Entries, Consist}
+use Rattle.mtc_authority.specs.declared.work.Work.TheVariants.{Checkpoint, Consist, Entries}
+use Rattle.mtc_authority.specs.declared.work.Work.TheVariants.{EntriesFrom}
 use Rattle.mtc_authority.specs.declared.work.Work.TheVariants.{Subtree}
 use Rattle.mtc_authority.specs.declared.work.Work.TheVariants.{Landmark, Landmarks, LightCert, Tile}
 use Rattle.mtc_monitor.specs.AuditOutcome.{audit_outcome}
@@ -45,6 +47,8 @@ command_outcome h (init_log journal id active limit) = init_log_outcome journal 
 command_outcome h (issue journal request) = issue_outcome h journal request
 command_outcome h (checkpoint journal) = outcome_on_log h journal Checkpoint
 command_outcome h (entries journal size) = outcome_on_log h journal (Entries size)
+command_outcome h (entries_from journal first size) =
+    outcome_on_log h journal (EntriesFrom first size)
 command_outcome h (consist journal old new) = outcome_on_log h journal (Consist old new)
 command_outcome h (subtree journal start end size) =
     outcome_on_log h journal (Subtree start end size)

@@ -1,12 +1,14 @@
 -- The plan of each command.
 use Rattle.byte_formats.specs.Types.{HashFunction}
 use Rattle.mtc_words.specs.Commands.{CommandValue, member, show, verify, init_log, issue}
-use Rattle.mtc_words.specs.Commands.{checkpoint, entries, consist, subtree, keygen}
+use Rattle.mtc_words.specs.Commands.{checkpoint, entries, entries_from, consist, subtree}
+use Rattle.mtc_words.specs.Commands.{keygen}
 use Rattle.mtc_words.specs.Commands.{init_cosigner, advance, cosign, export, landmark, landmarks}
 use Rattle.mtc_words.specs.Commands.{light_cert, trust_landmarks, cert, audit, drill, tile}
 use Rattle.mtc_words.specs.Commands.{quarrel, root, held, monitor_init, monitor}
 use Rattle.mtc_command.specs.Steps.{Files, Outcome}
 use Rattle.mtc_authority.specs.declared.work.Work.TheVariants.{Checkpoint, Consist, Entries}
+use Rattle.mtc_authority.specs.declared.work.Work.TheVariants.{EntriesFrom}
 use Rattle.mtc_authority.specs.declared.work.Work.TheVariants.{Landmark, Landmarks, LightCert}
 use Rattle.mtc_authority.specs.declared.work.Work.TheVariants.{Subtree, Tile}
 use Rattle.command_plans.specs.Outcomes.{outcome_of}
@@ -29,6 +31,8 @@ plan_of h (init_log journal id active limit) = init_log_plan h journal id active
 plan_of h (issue journal request) = issue_plan h journal request
 plan_of h (checkpoint journal) = work_plan h only_reads journal Checkpoint
 plan_of h (entries journal size) = work_plan h only_reads journal (Entries size)
+plan_of h (entries_from journal first size) =
+    work_plan h only_reads journal (EntriesFrom first size)
 plan_of h (consist journal old new) = work_plan h only_reads journal (Consist old new)
 plan_of h (subtree journal start end size) =
     work_plan h only_reads journal (Subtree start end size)

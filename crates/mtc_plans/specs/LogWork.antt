@@ -1,5 +1,5 @@
 -- What a command prints over a log that was found, and which record it adds.
-use Rattle.std.specs.Prelude.{ℕ, false, nat_le, nat_lt, not, List, length, codes, Option}
+use Rattle.std.specs.Prelude.{ℕ, ◌-◌, false, nat_le, nat_lt, not, List, length, codes, Option}
 use Rattle.std.specs.Prelude.{None, Some, if◌then◌else◌}
 use Rattle.byte_formats.specs.Types.{HashFunction, Text}
 use Rattle.journal_core.specs.Format.{end_following}
@@ -9,7 +9,7 @@ use Rattle.authority_core.specs.Requests.{RequestParts}
 use Rattle.authority_core.specs.declared.writing.error.WriteError.{WriteError}
 use Rattle.authority_core.specs.declared.writing.error.WriteError.TheVariants as write_error
 use Rattle.cosigner_core.specs.Requests.{advance_text, subtree_text}
-use Rattle.entry_list.specs.Items.{file_text}
+use Rattle.entry_list.specs.Items.{file_part, file_text}
 use Rattle.issuance_log.specs.Folds.{LogState, LogView, view_in}
 use Rattle.issuance_log.specs.Openings.{FoundLog}
 use Rattle.issuance_log.specs.Records.{landmark_record, tiles_record}
@@ -29,6 +29,7 @@ use Rattle.mtc_authority.specs.RequestOutcomes.{advance_by_log, subtree_of}
 use Rattle.mtc_authority.specs.TileOutcome.{tiled_line}
 use Rattle.mtc_authority.specs.declared.work.Work.{Work}
 use Rattle.mtc_authority.specs.declared.work.Work.TheVariants.{Cert, Checkpoint, Consist, Entries}
+use Rattle.mtc_authority.specs.declared.work.Work.TheVariants.{EntriesFrom}
 use Rattle.mtc_authority.specs.declared.work.Work.TheVariants.{Issue, Landmark, Landmarks}
 use Rattle.mtc_authority.specs.declared.work.Work.TheVariants.{LightCert, Subtree, Tile}
 use Rattle.command_plans.specs.Plans.{Judged, exceeds, forbids, prints}
@@ -45,6 +46,14 @@ abbrev pub entries_judged : ℕ → LogState → Judged
 entries_judged size s =
     if nat_lt (length s.entries) size then beyond_size (length s.entries)
     else prints Done (file_text (items_of s) size)
+
+-- The items from the first index up to a size, without it: there must be some, and the log must
+-- have them.
+abbrev pub entries_from_judged : ℕ → ℕ → LogState → Judged
+entries_from_judged first size s =
+    if nat_le size first then forbids (codes "NothingNew")
+    else (if nat_lt (length s.entries) size then beyond_size (length s.entries)
+    else prints Done (file_part (items_of s) first (size - first)))
 
 -- The log must have more entries than the old ones, and as many as the new ones.
 abbrev pub consist_judged : HashFunction → ℕ → ℕ → LogState → Judged
@@ -106,6 +115,7 @@ tile_reported v (Some why) = (log_judged why, None)
 abbrev pub work_reported : HashFunction → Work → FoundLog → StepReport
 work_reported h Checkpoint found = (checkpoint_judged h found.state.entries, None)
 work_reported h (Entries size) found = (entries_judged size found.state, None)
+work_reported h (EntriesFrom first size) found = (entries_from_judged first size found.state, None)
 work_reported h (Issue request) found = issue_reported h request (view_in found.state)
     (add_refusal (view_in found.state) false (end_following found.records)
     (issued_entry h found.state.settings request) request.key)
