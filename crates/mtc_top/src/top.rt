@@ -82,6 +82,9 @@ fn perform<'a, H: TreeHash, R: Room>(
         Command::Issue(journal, request) => issue::<H, R>(alloc, room, journal, request),
         Command::Checkpoint(log) => on_log::<H, R>(alloc, room, log, Work::Checkpoint),
         Command::Entries(log, size) => on_log::<H, R>(alloc, room, log, Work::Entries(size)),
+        Command::EntriesFrom(log, first, to) => {
+            on_log::<H, R>(alloc, room, log, Work::EntriesFrom(first, to))
+        }
         Command::Consist(log, old, to) => on_log::<H, R>(alloc, room, log, Work::Consist(old, to)),
         Command::Subtree(log, start, end, size) => {
             on_log::<H, R>(alloc, room, log, Work::Subtree(start, end, size))
