@@ -84,6 +84,51 @@ $ entries j 2
 $ entries j 3
 status 4
 ! mtc: entries: Beyond 2
+$ entries-from j 1 2
+  00830001a003020102301931173015060a2b0601040182da4b2f010c0733323437332e31301e170d3236303130
+  313030303030305a170d3236303130383030303030305a30000420722abd12e99a5367f375aeb9672a8e07712e
+  03c2add16fa8d6914d1cfa2efe0ca31b301930170603551d110101ff040d300b8209612e6578616d706c65002c
+  302a300506032b65700321000000000000000000000000000000000000000000000000000000000000000000
+$ entries-from j 0 1
+  000200000000
+$ entries-from j 2 2
+status 4
+! mtc: entries-from: NothingNew
+$ entries-from j 3 3
+status 4
+! mtc: entries-from: NothingNew
+$ entries-from j 2 1
+status 4
+! mtc: entries-from: NothingNew
+$ entries-from j 1 3
+status 4
+! mtc: entries-from: Beyond 2
+$ entries-from j 9223372036854775806 9223372036854775807
+status 4
+! mtc: entries-from: Beyond 2
+left j ISSUED
+
+case a monitor is given the later entries alone
+file j ISSUED
+file w
+| example
+$ monitor-init 32473.1
+> s
+$ consist j 0 1
+> r
+$ entries-from j 0 1
+> e
+$ monitor s w r e
+| state 32473.1 1 709e80c88487a2411e1ee4dfb9f22a861492d20c4765150c0c794abd70f8147c
+file t
+| state 32473.1 1 709e80c88487a2411e1ee4dfb9f22a861492d20c4765150c0c794abd70f8147c
+$ consist j 1 2
+> q
+$ entries-from j 1 2
+> f
+$ monitor t w q f
+| match 1 a.example
+| state 32473.1 2 77566825cd25f263271e3fa5341db28ed2c87945ee98f731b2aa96b9e6b11cf6
 
 case an entry is issued
 file j NEW
@@ -292,5 +337,5 @@ status 2
 #[test]
 fn commands_on_a_log(rt: HostRuntime) {
     let outcome = outcome_of(rt.alloc(), SCRIPT);
-    assert!(rt; outcome == Ok(Outcome::Passed(53)), "{outcome:?}");
+    assert!(rt; outcome == Ok(Outcome::Passed(67)), "{outcome:?}");
 }

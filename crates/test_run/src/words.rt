@@ -32,6 +32,10 @@ init-log j 01 2 64 => BadId 2
 init-log j 01 2 1 => BadNumber 4
 init-log j 32473.1 10001 1048577 => BadNumber 3
 entries j x => BadNumber 2
+entries-from j 1 => WrongCount 2 3
+entries-from j x 01 => BadNumber 2
+entries-from j 1 01 => BadNumber 3
+entries-from j.tiles 1 2 => TilesName 1
 subtree j 1 2 '' => BadWord 4
 init-cosigner s 01 32473.1 6 4 k => BadNumber 4
 init-cosigner s 01 01 5 3 k => BadNumber 5
@@ -111,7 +115,7 @@ fn arguments_are_refused_by_their_first_fault(rt: HostRuntime) {
         assert!(rt; is_refused(rt.alloc(), line) == Some(true), "{line}");
         count = count.saturating_add(1);
     }
-    assert!(rt; count == 56);
+    assert!(rt; count == 60);
 }
 
 #[test]
