@@ -41,11 +41,11 @@ module _ {R S D O E : Type 0} (h : HashFunction) (rooms : Rooms R S D) (disks : 
     (contents : (room : R) (name : List ℕ) → rooms.is_modelled room
     → ModelsFile disks.contents (rooms.file room name) (rooms.device room name))
     (bytes : (d : D) (b : List ℕ) → disks.contents d ≡ Some b → IsBytes b) where
-  pub journals_may_break : JournalsMayBreak h rooms disks outs errs
+  pub journals_may_break : JournalsMayBreak h (program h rooms disks outs errs)
   journals_may_break name own = journal_breaks (program h rooms disks outs errs) (AreRecords h) name
       (serves h rooms disks outs errs crash_state only contents bytes name own)
 
-  pub logs_may_break : LogsMayBreak h rooms disks outs errs
+  pub logs_may_break : LogsMayBreak h (program h rooms disks outs errs)
   logs_may_break name own = log_runs_break (program h rooms disks outs errs) (HasTilesOf h)
       (λ list body. ⊥) (AreRecords h) name (tiles_name name) (λ old run. stored)
       (serves_log h rooms disks outs errs crash_state only contents bytes name own)
@@ -95,9 +95,9 @@ module _ {O E : Type 0} (h : HashFunction) (outs : Sinks O) (errs : Sinks E) whe
       (subst (λ (s : CrashStates). Both did (over_fuse before) (over_fuse tiles) (over_fuse now)
       s) (same_inside tiles') left)))
 
-  pub journals_die : JournalsMayBreak h fused_rooms fuses outs errs → (name : Text)
+  pub journals_die : JournalsMayBreak h (program h fused_rooms fuses outs errs) → (name : Text)
       → is_tiles_name name ≡ false → DiesOverFuses h fused_rooms fuses mem_rooms mem_disks outs errs
-      (owner h mem_rooms mem_disks outs errs name)
+      (owner h (program h mem_rooms mem_disks outs errs) name)
   journals_die breaks name own old run killed is same =
       let before = disk_in (inner_room old) name in
       let now = disk_in (inner_room run.room) name in
@@ -107,9 +107,9 @@ module _ {O E : Type 0} (h : HashFunction) (outs : Sinks O) (errs : Sinks E) whe
             (half_inside (did run.words) before now (breaks name own old run tt is)),
       )
 
-  pub logs_die : LogsMayBreak h fused_rooms fuses outs errs → (name : Text)
+  pub logs_die : LogsMayBreak h (program h fused_rooms fuses outs errs) → (name : Text)
       → is_tiles_name name ≡ false → DiesOverFuses h fused_rooms fuses mem_rooms mem_disks outs errs
-      (tiled_log h mem_rooms mem_disks outs errs name)
+      (tiled_log h (program h mem_rooms mem_disks outs errs) name)
   logs_die breaks name own old run killed is same =
       let before = disk_in (inner_room old) name in
       let tiles = disk_in (inner_room old) (tiles_name name) in

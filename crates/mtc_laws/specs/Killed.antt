@@ -11,23 +11,21 @@ use Rattle.mtc_room.specs.declared.room.Room.{Ghosts as Rooms}
 use Rattle.fuse_room.specs.Fused.{inner_room}
 use Rattle.fuse_room.specs.declared.room.FuseRoom.{FuseRoom}
 use Rattle.file_events.specs.Owners.{RunsMayBreak}
-use Rattle.file_events.specs.Worlds.{FileOwner, IsLink, died}
+use Rattle.file_events.specs.Worlds.{FileOwner, IsLink, Program, died}
 use Rattle.mtc_words.specs.Names.{is_tiles_name}
-use Rattle.mtc_top.specs.Courses.{HasTurned, Turn, owner, program}
+use Rattle.mtc_top.specs.Courses.{Turn, owner, program}
 use Rattle.mtc_top.specs.TileLaws.{tiled_log}
 
-module _ {R S D O E : Type 0} (h : HashFunction) (rooms : Rooms R S D) (disks : Disks D)
-    (outs : Sinks O) (errs : Sinks E) where
+module _ (h : HashFunction) (p : Program) where
   -- Each run leaves of a journal what a run leaves that broke off. The name of a journal isn't that
   -- of a file of tiles.
   abbrev pub JournalsMayBreak : Type 0
-  JournalsMayBreak = (name : Text) → is_tiles_name name ≡ false
-      → RunsMayBreak (program h rooms disks outs errs) (owner h rooms disks outs errs name)
+  JournalsMayBreak = (name : Text) → is_tiles_name name ≡ false → RunsMayBreak p (owner h p name)
 
   -- the same of a journal with the file of its tiles
   abbrev pub LogsMayBreak : Type 0
   LogsMayBreak = (name : Text) → is_tiles_name name ≡ false
-      → RunsMayBreak (program h rooms disks outs errs) (tiled_log h rooms disks outs errs name)
+      → RunsMayBreak p (tiled_log h p name)
 
 module _ {O E : Type 0} (h : HashFunction) (fused_rooms : Rooms FuseRoom MemSource (Fuse MemDisk))
     (fuses : Disks (Fuse MemDisk)) (rooms : Rooms MemRoom MemSource MemDisk) (disks : Disks MemDisk)
@@ -35,6 +33,6 @@ module _ {O E : Type 0} (h : HashFunction) (fused_rooms : Rooms FuseRoom MemSour
   -- A run over fuses is a kill, with the same words, of a program over the files inside.
   abbrev pub DiesOverFuses : Type 0
   DiesOverFuses = (old : FuseRoom) (run : Turn FuseRoom O E) (killed : Turn MemRoom O E)
-      → HasTurned h fused_rooms fuses outs errs old run → killed.words ≡ run.words
+      → (program h fused_rooms fuses outs errs).HasRun old run → killed.words ≡ run.words
       → IsLink (program h rooms disks outs errs) o (inner_room old)
       (died killed (inner_room run.room))

@@ -3,7 +3,7 @@
 ghost use Rattle.std.specs.Prelude.{◌≡◌, false};
 ghost use Rattle.byte_formats.specs.Types.{Text};
 ghost use Rattle.mtc_words.specs.Names.{is_tiles_name};
-ghost use Rattle.mtc_top.specs.Courses.{owner};
+ghost use Rattle.mtc_top.specs.Courses.{owner, program};
 ghost use Rattle.mtc_top.specs.TileLaws.{tiled_log};
 ghost use Rattle.mtc_laws.specs.Killed.{DiesOverFuses, JournalsMayBreak, LogsMayBreak};
 
@@ -18,8 +18,8 @@ use tree_core::TreeHash;
 /// log with the file of its tiles, at once. So over files that stop taking calls at some call of
 /// the run, a kill at that call leaves it.
 pub fn law_runs_may_be_killed<H: TreeHash, R: Room, O: Sink, E: Sink>()
-    ensures journals { JournalsMayBreak H.hash R.Room R.Dsk.Disk O.Sink E.Sink }
-    ensures logs { LogsMayBreak H.hash R.Room R.Dsk.Disk O.Sink E.Sink }
+    ensures journals { JournalsMayBreak H.hash (program H.hash R.Room R.Dsk.Disk O.Sink E.Sink) }
+    ensures logs { LogsMayBreak H.hash (program H.hash R.Room R.Dsk.Disk O.Sink E.Sink) }
 {}
 
 /// A program that is killed at a call of a device makes no further call, as if the device had
@@ -30,11 +30,12 @@ pub fn law_killed_runs_have_died<H: TreeHash, O: Sink, E: Sink>()
     ensures journals { (name : Text) → is_tiles_name name ≡ false → DiesOverFuses H.hash
         ⟦<FuseRoom as Room>⟧ ⟦<Fuse<MemDisk> as Disk>⟧ ⟦<MemRoom as Room>⟧ ⟦<MemDisk as Disk>⟧
         O.Sink E.Sink
-        (owner H.hash ⟦<MemRoom as Room>⟧ ⟦<MemDisk as Disk>⟧ O.Sink E.Sink name) }
+        (owner H.hash (program H.hash ⟦<MemRoom as Room>⟧ ⟦<MemDisk as Disk>⟧ O.Sink E.Sink) name) }
     ensures logs { (name : Text) → is_tiles_name name ≡ false → DiesOverFuses H.hash
         ⟦<FuseRoom as Room>⟧ ⟦<Fuse<MemDisk> as Disk>⟧ ⟦<MemRoom as Room>⟧ ⟦<MemDisk as Disk>⟧
         O.Sink E.Sink
-        (tiled_log H.hash ⟦<MemRoom as Room>⟧ ⟦<MemDisk as Disk>⟧ O.Sink E.Sink name) }
+        (tiled_log H.hash (program H.hash ⟦<MemRoom as Room>⟧ ⟦<MemDisk as Disk>⟧ O.Sink E.Sink)
+        name) }
 {
     law_runs_may_be_killed::<H, FuseRoom, O, E>();
 }

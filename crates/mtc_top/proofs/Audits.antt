@@ -50,11 +50,11 @@ use Rattle.mtc_reads.specs.Reasons.{store_fault_text}
 use Rattle.mtc_top.specs.AuditLaws.{AuditsStand, HasCounted, HoldsText, IsAuditOf}
 use Rattle.mtc_top.specs.AuditLaws.{IsSignedInCourse, StandsOrPair}
 use Rattle.mtc_top.specs.Concluded.{Prints}
-use Rattle.mtc_top.specs.Courses.{Turn}
 use Rattle.mtc_top.specs.Facts.{facts}
 use Rattle.mtc_top.proofs.Exports.{exports_hold}
 use Rattle.mtc_top.proofs.RunLaws.{done_heard}
 use Rattle.mtc_top.proofs.Runs.{answered, wrote_of}
+use Rattle.mtc_top.specs.Courses.{program, Turn}
 
 -- ---- what is asked for
 
@@ -170,8 +170,23 @@ module _ {R S D O E : Type 0} (h : HashFunction) (rooms : Rooms R S D) (disks : 
     (contents : (room : R) (name : List ℕ) → rooms.is_modelled room
     → ModelsFile disks.contents (rooms.file room name) (rooms.device room name))
     (bytes : (d : D) (b : List ℕ) → disks.contents d ≡ Some b → IsBytes b) where
+  -- the export that is audited was read
+  pub kept_there : (x : AuditCase) (kept_text : List ℕ) → export_in h kept_text ≡ Ok x.kept
+      → IsSignedInCourse h (program h rooms disks outs errs) x kept_text
+      → (e : Export) × (x.kept ≡ Some e)
+  kept_there x kept_text read by =
+      let e = exports_hold h rooms disks outs errs crash_state only contents bytes by.name
+      (Cosigner by.settings by.public) by.first by.begins by.old by.links by.begun by.course
+      by.settings by.public refl by.turn by.turned by.spoken
+      (done_heard by.turn.status (outs.taken by.turn.out) (outs.taken by.turn.out_after) by.done) in
+      let same = printed_text (outs.taken by.turn.out) (outs.taken by.turn.out_after) by.before
+      kept_text e.text by.contents by.printed (e.printed.whole by.done) in (
+        e.export,
+        ok_is ReadExportError x.kept (Some e.export) (sym read ∙ ap (export_in h) same ∙ e.read),
+      )
+
   signed : (x : AuditCase) (kept_text : List ℕ) → export_in h kept_text ≡ Ok x.kept
-      → IsSignedInCourse h rooms disks outs errs x kept_text → is_supported x ≡ true
+      → IsSignedInCourse h (program h rooms disks outs errs) x kept_text → is_supported x ≡ true
   signed x kept_text read by =
       let e = exports_hold h rooms disks outs errs crash_state only contents bytes by.name
       (Cosigner by.settings by.public) by.first by.begins by.old by.links by.begun by.course
@@ -190,7 +205,8 @@ module _ {R S D O E : Type 0} (h : HashFunction) (rooms : Rooms R S D) (disks : 
       by.counts) there
 
   supported : (x : AuditCase) (kept_text : List ℕ) → export_in h kept_text ≡ Ok x.kept
-      → (x.accepted.by ≡ Landmark) ⊎ IsSignedInCourse h rooms disks outs errs x kept_text
+      → (x.accepted.by ≡ Landmark)
+      ⊎ IsSignedInCourse h (program h rooms disks outs errs) x kept_text
       → is_supported x ≡ true
   supported x kept_text read backed = elim backed [
     | inl landmark ↦ ap (λ (b : By). is_recorded_by x.store x.accepted b x.kept) landmark
@@ -202,7 +218,7 @@ module _ {R S D O E : Type 0} (h : HashFunction) (rooms : Rooms R S D) (disks : 
       → has_own h x.items x.accepted x.cert ≡ own → (reply : Reply)
       → Meets (audit_by h x None true own).answer reply → turn.status ≡ status_of reply
       → Prints outs turn.out turn.out_after (out_of reply)
-      → StandsOrPair h rooms disks outs errs x turn
+      → StandsOrPair h (program h rooms disks outs errs) x turn
   by_reply x turn true has reply meets code text = inl (
     code ∙ ap status_of meets,
     has,
@@ -212,7 +228,7 @@ module _ {R S D O E : Type 0} (h : HashFunction) (rooms : Rooms R S D) (disks : 
       inr (out, (code ∙ ap (λ k. status_of (said k out)) meets.0, meets.1, text))
   by_reply x turn false has (refused why file reason) meets code text = absurd meets
 
-  pub audits_stand : AuditsStand h rooms disks outs errs
+  pub audits_stand : AuditsStand h (program h rooms disks outs errs)
   audits_stand old turn cert store unix_time entries kept x is_modelled run spoken is own_list
       backed
       not5

@@ -14,8 +14,8 @@ use Rattle.mtc_command.specs.Served.{IsOther, done_with}
 use Rattle.mtc_command.proofs.Served.{other_both}
 use Rattle.mtc_plans.specs.Commands.{plan_of}
 use Rattle.mtc_plans.proofs.Names.{journals_named, no_journal_beside}
-use Rattle.mtc_top.specs.Courses.{AreAmong}
 use Rattle.mtc_top.specs.Facts.{facts}
+use Rattle.mtc_top.specs.RunLaws.{AreAmong}
 
 -- the name isn't that of a tile file
 abbrev pub IsOwn : List ℕ → Type 0

@@ -28,13 +28,13 @@ use Rattle.mtc_monitor.specs.QuarrelOutcome.{quarrel_says}
 use Rattle.mtc_lines.specs.Reasons.{export_fault_text}
 use Rattle.mtc_top.specs.AuditLaws.{HoldsText}
 use Rattle.mtc_top.specs.Concluded.{Prints}
-use Rattle.mtc_top.specs.Courses.{Turn}
 use Rattle.mtc_top.specs.Facts.{facts}
 use Rattle.mtc_top.specs.QuarrelLaws.{Convicts, HasSignedTwice, TwoSignaturesCollide}
 use Rattle.mtc_top.proofs.Audits.{printed_text}
 use Rattle.mtc_top.proofs.Exports.{exports_hold}
 use Rattle.mtc_top.proofs.RunLaws.{done_heard}
 use Rattle.mtc_top.proofs.Runs.{answered, wrote_of}
+use Rattle.mtc_top.specs.Courses.{program, Turn}
 
 -- An export in which two signatures are in conflict.
 record IsInConflict (h : HashFunction) (text : List ℕ) : Type 0 where
@@ -56,7 +56,7 @@ module _ {R S D O E : Type 0} (h : HashFunction) (rooms : Rooms R S D) (disks : 
     (contents : (room : R) (name : List ℕ) → rooms.is_modelled room
     → ModelsFile disks.contents (rooms.file room name) (rooms.device room name))
     (bytes : (d : D) (b : List ℕ) → disks.contents d ≡ Some b → IsBytes b) where
-  in_conflict : (kept_text : List ℕ) → HasSignedTwice h rooms disks outs errs kept_text
+  in_conflict : (kept_text : List ℕ) → HasSignedTwice h (program h rooms disks outs errs) kept_text
       → IsInConflict h kept_text
   in_conflict kept_text by =
       let e = exports_hold h rooms disks outs errs crash_state only contents bytes by.name
@@ -82,7 +82,7 @@ module _ {R S D O E : Type 0} (h : HashFunction) (rooms : Rooms R S D) (disks : 
   by_reply : (turn : Turn R O E) (steps : List Step) (keys : ℕ × ℕ) (reply : Reply)
       → Meets (quarrel_by h steps (Some keys)).answer reply → turn.status ≡ status_of reply
       → Prints outs turn.out turn.out_after (out_of reply)
-      → Convicts h rooms disks outs errs turn
+      → Convicts h (program h rooms disks outs errs) turn
   by_reply turn steps keys (said kind out) meets code text = record {
     keys = keys;
     one = meets.1.x;
@@ -94,7 +94,7 @@ module _ {R S D O E : Type 0} (h : HashFunction) (rooms : Rooms R S D) (disks : 
   }
   by_reply turn steps keys (refused why file reason) meets code text = absurd meets
 
-  pub two_signatures_collide : TwoSignaturesCollide h rooms disks outs errs
+  pub two_signatures_collide : TwoSignaturesCollide h (program h rooms disks outs errs)
   two_signatures_collide old turn kept kept_text is_modelled run spoken holds by not5 not6 not8 =
       let is = in_conflict kept_text by in
       let a = answered h rooms disks outs errs turn.words old turn.room turn.out turn.out_after

@@ -33,13 +33,13 @@ use Rattle.party_history.specs.Rules.{IsReadAs, StartsWith}
 use Rattle.party_history.specs.declared.start.PartyStart.{PartyStart}
 use Rattle.party_history.specs.declared.start.PartyStart.TheVariants.{Cosigner}
 use Rattle.party_history.proofs.Cosigners.{of_first}
-use Rattle.mtc_top.specs.Courses.{Link, Turn, HasTurned, IsCourse, IsBegun, IsHeard}
-use Rattle.mtc_top.specs.Courses.{IsRecovered}
 use Rattle.mtc_top.specs.ExportLaws.{ExportsHoldTheSteps, HasExported}
 use Rattle.mtc_top.proofs.Printed.{did_so, heard_so}
 use Rattle.mtc_top.proofs.Recovered.{held_prefix, modelled_then, read_again}
 use Rattle.mtc_top.proofs.Turns.{file_bytes, heard_run, printed_so, modelled_file}
 use Rattle.mtc_top.proofs.Turns.{contents_crash_state}
+use Rattle.mtc_top.specs.Courses.{program, IsBegun, Turn, Link}
+use Rattle.mtc_top.proofs.Aliases.{HasTurned, IsCourse, IsRecovered, IsHeard}
 
 -- ---- the steps of records
 
@@ -93,7 +93,7 @@ module _ {R S D O E : Type 0} (h : HashFunction) (rooms : Rooms R S D) (disks : 
     (bytes : (d : D) (b : List ℕ) → disks.contents d ≡ Some b → IsBytes b) where
   module _ (name : List ℕ) (start : PartyStart) (first : List ℕ) (begins new : R)
       (links : List (Link R O E))
-      (begun : IsBegun h rooms disks outs errs name start first begins links)
+      (begun : IsBegun h (program h rooms disks outs errs) name start first begins links)
       (course : IsCourse h rooms disks outs errs name begins links new) (settings :
       CosignerSettings)
       (public : List ℕ) (is : start ≡ Cosigner settings public) (turn : Turn R O E)
@@ -104,7 +104,7 @@ module _ {R S D O E : Type 0} (h : HashFunction) (rooms : Rooms R S D) (disks : 
     SaysSo = ExportsSo h (rooms.file new) name
 
     exported : SaysSo (heard_run h rooms disks outs errs new turn run heard).reply
-        → HasExported h rooms disks outs errs settings public name begins links new turn
+        → HasExported h (program h rooms disks outs errs) settings public name begins links new turn
     exported s =
         let c = s.held in
         let there = s.there in
@@ -168,7 +168,7 @@ module _ {R S D O E : Type 0} (h : HashFunction) (rooms : Rooms R S D) (disks : 
               says;
         }
 
-  pub exports_hold : ExportsHoldTheSteps h rooms disks outs errs
+  pub exports_hold : ExportsHoldTheSteps h (program h rooms disks outs errs)
   exports_hold name start first begins new links begun course settings public is turn run spoken
       heard =
       let is_modelled =

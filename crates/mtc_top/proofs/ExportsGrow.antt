@@ -15,14 +15,14 @@ use Rattle.cosigner_core.specs.declared.settings.CosignerSettings.{CosignerSetti
 use Rattle.mtc_command.specs.Made.{reads}
 use Rattle.mtc_command.proofs.Made.{OnlyNow, ReadsCrashState}
 use Rattle.party_history.proofs.Cosigners.{export_grows}
-use Rattle.mtc_top.specs.Courses.{DidWith, Link, Turn, HasHeld, HasPrinted, HasTurned}
-use Rattle.mtc_top.specs.Courses.{IsHeard}
 use Rattle.mtc_top.specs.ExportLaws.{ExportsOnlyGrow, HasExported, HasMoreThan}
 use Rattle.mtc_top.specs.PrintLaws.{OfHeard}
 use Rattle.mtc_top.proofs.Exports.{exports_hold}
 use Rattle.mtc_top.proofs.Recovered.{each_held, held_prefix}
 use Rattle.mtc_top.proofs.Secrets.{says_so}
 use Rattle.mtc_top.proofs.Turns.{heard_read}
+use Rattle.mtc_top.specs.Courses.{program, HasPrinted, Turn, Link}
+use Rattle.mtc_top.proofs.Aliases.{HasTurned, DidWith, HasHeld, IsHeard}
 
 module _ {R S D O E : Type 0} (h : HashFunction) (rooms : Rooms R S D) (disks : Disks D)
     (outs : Sinks O) (errs : Sinks E) (crash_state : ReadsCrashState disks) (only : OnlyNow disks)
@@ -31,14 +31,15 @@ module _ {R S D O E : Type 0} (h : HashFunction) (rooms : Rooms R S D) (disks : 
     (bytes : (d : D) (b : List ℕ) → disks.contents d ≡ Some b → IsBytes b) where
   module _ (name : List ℕ) (begins new : R) (links : List (Link R O E))
       (settings : CosignerSettings) (public : List ℕ) (turn : Turn R O E)
-      (now : HasExported h rooms disks outs errs settings public name begins links new turn) where
+      (now : HasExported h (program h rooms disks outs errs) settings public name begins links new
+      turn) where
     -- the earlier run read a prefix of the records
     has_more : (old : R) (earlier : Turn R O E) → rooms.is_modelled old
         → HasTurned h rooms disks outs errs old earlier → IsHeard outs earlier
         → command_of earlier.words ≡ Ok (export name)
         → ((list : List (List ℕ)) → HasHeld h rooms disks outs errs name old earlier list
         → IsPrefix list now.list)
-        → HasMoreThan h rooms disks outs errs name old earlier new turn
+        → HasMoreThan h (program h rooms disks outs errs) name old earlier new turn
     has_more old earlier is_modelled run heard spoken prefixes =
         let said = says_so h rooms disks outs errs crash_state only contents bytes old earlier
         is_modelled
@@ -63,10 +64,10 @@ module _ {R S D O E : Type 0} (h : HashFunction) (rooms : Rooms R S D) (disks : 
           state = state;
           state_is = said.1.1.0;
           before = said.1.1.2;
-          now = subst (HasPrinted outs turn) same now.printed;
+          now = subst (HasPrinted (program h rooms disks outs errs) turn) same now.printed;
         }
 
-  pub exports_grow : ExportsOnlyGrow h rooms disks outs errs
+  pub exports_grow : ExportsOnlyGrow h (program h rooms disks outs errs)
   exports_grow name start first begins new links begun course settings public is turn run spoken
       heard =
       let now =
@@ -75,8 +76,8 @@ module _ {R S D O E : Type 0} (h : HashFunction) (rooms : Rooms R S D) (disks : 
       each_held h rooms disks outs errs crash_state only contents bytes name start first begins new
       links
       begun course (λ list. IsPrefix list now.list)
-      (OfHeard h rooms disks outs errs (export name) (λ old earlier.
-      HasMoreThan h rooms disks outs errs name old earlier new turn))
+      (OfHeard h (program h rooms disks outs errs) (export name) (λ old earlier.
+      HasMoreThan h (program h rooms disks outs errs) name old earlier new turn))
       (λ list held. held_prefix h rooms disks outs errs crash_state only contents bytes name start
       first
       begins new links begun course list now.list held now.recovered)

@@ -10,19 +10,17 @@ use Rattle.byte_formats.specs.Offsets.{IsBytes}
 use Rattle.byte_formats.specs.Types.{HashFunction}
 use Rattle.disk_core.specs.Disk.{NoNew}
 use Rattle.disk_core.specs.declared.disk.Disk.{Ghosts as Disks}
-use Rattle.file_events.specs.Events.{CrashStates, Done, EventHolds, FirstHolds, HalfDone, Happens}
-use Rattle.file_events.specs.Events.{MayAppend, WasFound}
+use Rattle.file_events.specs.Events.{CrashStates, Done, HalfDone, Happens}
+use Rattle.file_events.specs.Events.{MayAppend, WasFound, EventHolds, FirstHolds}
 use Rattle.file_events.specs.Owners.{LeavesJournal, ServesJournal}
-use Rattle.file_events.specs.Worlds.{breaks_off, clock_of, done_to, event_with, heard_of}
-use Rattle.file_events.specs.Worlds.{states_at, states_since, turned}
+use Rattle.file_events.specs.Worlds.{breaks_off, clock_of, done_to, event_with}
+use Rattle.file_events.specs.Worlds.{states_at, states_since, turned, heard_of}
 use Rattle.file_events.proofs.Records.{held_valid, no_records, none_is, one_list}
 use Rattle.journal_core.specs.Format.{Represents, RepresentsEither}
 use Rattle.mtc_io.specs.declared.sink.Sink.{Ghosts as Sinks}
 use Rattle.mtc_room.specs.Room.{ModelsFile}
 use Rattle.mtc_room.specs.declared.room.Room.{Ghosts as Rooms}
-use Rattle.mtc_words.specs.Commands.{CommandValue, member}
 use Rattle.mtc_words.specs.Words.{command_of, known_word}
-use Rattle.mtc_words.specs.declared.error.WordError.{WordError}
 use Rattle.mtc_command.specs.Made.{HasKept, HasMade, Journaled, Kept, Leaves, MayHaveMade, appended}
 use Rattle.mtc_command.specs.Made.{device_contents, reads, started, untouched}
 use Rattle.mtc_command.specs.Served.{IsOther, Journals, LeavesEach, OfEach, done_with}
@@ -31,14 +29,15 @@ use Rattle.mtc_command.specs.Valid.{LeavesValid}
 use Rattle.mtc_command.proofs.Made.{OnlyNow, ReadsCrashState}
 use Rattle.mtc_command.proofs.Served.{other_both}
 use Rattle.party_history.specs.Rules.{AreRecords}
-use Rattle.mtc_top.specs.Courses.{AreAmong, HasHeld, HasTurned, Link, Turn, events}
-use Rattle.mtc_top.specs.Courses.{crash_states_from}
-use Rattle.mtc_top.specs.Courses.{crash_states_in, owner, program}
-use Rattle.mtc_top.specs.Facts.{facts, facts_of}
+use Rattle.mtc_top.specs.Facts.{facts}
 use Rattle.mtc_top.proofs.Beside.{IsOwn, journal_own, none_beside}
 use Rattle.mtc_top.proofs.Commands.{spoken_records}
 use Rattle.mtc_top.proofs.Opened.{Finds, IsFound, IsNewAt, spoken_finds, spoken_new}
 use Rattle.mtc_top.proofs.Runs.{ended, not5_of, not8_of}
+use Rattle.mtc_top.specs.Courses.{program, Turn, Link}
+use Rattle.mtc_top.specs.RunLaws.{AreAmong}
+use Rattle.mtc_top.proofs.Aliases.{HasTurned, owner_of, crash_states_in, crash_states_from, events}
+use Rattle.mtc_top.proofs.Aliases.{HasHeld}
 
 -- ---- the journals of a run
 
@@ -79,42 +78,6 @@ of_each P (j ∷ js) name did all among = elim among [
       (subst (λ (n : List ℕ). P n j.1) here.0 all.0)
   | inr there ↦ of_each P js name did all.1 there
 ]
-
--- a command works on one journal at most, so what is done with a journal is one thing
-abbrev HasOneAtMost : List (List ℕ) → Type 0
-HasOneAtMost [] = Unit {0}
-HasOneAtMost (name ∷ []) = Unit {0}
-HasOneAtMost (name ∷ (other ∷ rest)) = ⊥
-
-one_named : (h : HashFunction) (command : CommandValue)
-    → HasOneAtMost (facts_of h command).journals
-one_named h (member file) = tt
-one_named h other = tt
-
-one_spoken : (h : HashFunction) (r : Result CommandValue WordError)
-    → HasOneAtMost (facts h r).journals
-one_spoken h (Ok command) = one_named h command
-one_spoken h (Err why) = tt
-
-one_done : (names : List (List ℕ)) (dids : List Journaled) (name : List ℕ) (did : Journaled)
-    → HasOneAtMost names → AreAmong (done_with names dids) name did
-    → done_to (done_with names dids) name ≡ did
-one_done [] dids name did one among = absurd among
-one_done (other ∷ []) dids name did one among = elim among [
-  | inl here ↦ ap (λ (b : Bool). if b then first_journaled dids else untouched)
-      ((bytes_eq-Decides other name).1 here.0) ∙ here.1
-  | inr there ↦ absurd there
-]
-one_done (other ∷ (next ∷ rest)) dids name did one among = absurd one
-
-pub did_so : {R S D O E : Type 0} (h : HashFunction) (rooms : Rooms R S D) (disks : Disks D)
-    (outs : Sinks O) (errs : Sinks E) (name : List ℕ) (old : R) (turn : Turn R O E)
-    (did : Journaled) → AreAmong ((program h rooms disks outs errs).journals old turn) name did
-    → done_to ((program h rooms disks outs errs).journals old turn) name ≡ did
-did_so {R} {S} {D} {O} {E} h rooms disks outs errs name old turn did among =
-    one_done (facts h (command_of turn.words)).journals
-    ((facts h (command_of turn.words)).outcome (rooms.file old)).journals name did
-    (one_spoken h (command_of turn.words)) among
 
 -- ---- files
 
@@ -454,7 +417,7 @@ module _ {R S D O E : Type 0} (h : HashFunction) (rooms : Rooms R S D) (disks : 
         → HasTurned h rooms disks outs errs old turn
         → HasHeld h rooms disks outs errs name old turn list → Rules turn list
     held_rules list is_modelled run held =
-        held_valid (Rules turn) list ((owner h rooms disks outs errs name).run_event old turn)
+        held_valid (Rules turn) list ((owner_of h rooms disks outs errs name).run_event old turn)
         (crash_states_in h rooms disks outs errs old name)
         (crash_states_in h rooms disks outs errs turn.room name) held
         (leaves name old turn is_modelled run (Rules turn) (λ l is. is)

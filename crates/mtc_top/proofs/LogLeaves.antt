@@ -9,8 +9,8 @@ use Rattle.file_events.specs.Events.{CrashStates, Done, HalfDone, Happens}
 use Rattle.file_events.specs.Owners.{ServesLog}
 use Rattle.file_events.specs.Tiles.{AllGo, LeavesTiles, stored}
 use Rattle.file_events.specs.Works.{LeavesAll, Work, journal_work, tiles_work}
-use Rattle.file_events.specs.Worlds.{all_states, breaks_off, done_to, event_with, heard_of}
-use Rattle.file_events.specs.Worlds.{states_at}
+use Rattle.file_events.specs.Worlds.{all_states, breaks_off, done_to, event_with}
+use Rattle.file_events.specs.Worlds.{states_at, heard_of}
 use Rattle.file_events.proofs.Records.{one_list}
 use Rattle.journal_core.specs.Format.{Represents}
 use Rattle.mtc_io.specs.declared.sink.Sink.{Ghosts as Sinks}
@@ -26,7 +26,6 @@ use Rattle.mtc_command.proofs.Made.{OnlyNow, ReadsCrashState}
 use Rattle.mtc_command.proofs.Served.{other_both}
 use Rattle.mtc_authority.specs.StoredTiles.{HasTilesOf}
 use Rattle.party_history.specs.Rules.{AreRecords}
-use Rattle.mtc_top.specs.Courses.{AreAmong, HasTurned, Turn, crash_states_in, program}
 use Rattle.mtc_top.specs.Facts.{Facts, facts}
 use Rattle.mtc_top.proofs.Beside.{IsOwn, none_beside}
 use Rattle.mtc_top.proofs.Commands.{spoken_records}
@@ -35,6 +34,9 @@ use Rattle.mtc_top.proofs.Leaves.{found}
 use Rattle.mtc_top.proofs.Leaves.{knows, leaves, may_append, of_each, one_longer, serves, reported}
 use Rattle.mtc_top.proofs.TilesBeside.{added_to, named_or_other, named_other, no_cosigner_log}
 use Rattle.mtc_top.proofs.TilesBeside.{tiles_no_journal, tiles_other}
+use Rattle.mtc_top.specs.Courses.{program, Turn}
+use Rattle.mtc_top.specs.RunLaws.{AreAmong}
+use Rattle.mtc_top.proofs.Aliases.{HasTurned, crash_states_in}
 
 -- a run that isn't about the journal leaves nothing new of it
 still_kept : (Valid : List Text → Type 0) (broken heard : Bool) (did : Journaled)

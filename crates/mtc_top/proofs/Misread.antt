@@ -40,13 +40,14 @@ use Rattle.party_history.specs.declared.start.PartyStart.TheVariants.{Cosigner, 
 use Rattle.party_history.proofs.Chains.{no_some}
 use Rattle.mtc_top.specs.Concluded.{Reports}
 use Rattle.mtc_top.specs.CourseLaws.{AreOfParty}
-use Rattle.mtc_top.specs.Courses.{Turn, HasTurned}
 use Rattle.mtc_top.specs.Facts.{facts, facts_of}
 use Rattle.mtc_top.specs.StatusLaws.{IsAboutInput, LacksTile, MisreadFilesAreInputs}
 use Rattle.party_history.proofs.Agreement.{made_so}
 use Rattle.mtc_top.proofs.Recovered.{modelled_then, read_again}
 use Rattle.mtc_top.proofs.Runs.{answered, wrote_of}
 use Rattle.mtc_top.proofs.Turns.{file_bytes}
+use Rattle.mtc_top.specs.Courses.{program, Turn}
+use Rattle.mtc_top.proofs.Aliases.{HasTurned}
 
 one_is : (x y : List ℕ) (xs : List (List ℕ)) → x ∷ xs ≡ y ∷ [] → x ≡ y
 one_is x y xs is = cc
@@ -162,7 +163,7 @@ module _ {R S D O E : Type 0} (h : HashFunction) (rooms : Rooms R S D) (disks : 
       → ((file reason : List ℕ)
       → AnyIsRefused (party_kinds h) (rooms.file room) (plan_of h command).journals file reason
       → LacksTile h (rooms.file room) name file reason)
-      → IsAboutInput h rooms disks outs errs name command room turn
+      → IsAboutInput h (program h rooms disks outs errs) errs name command room turn
   about_input name room command turn is_modelled run spoken two lacks =
       let a = answered h rooms disks outs errs turn.words room turn.room turn.out turn.out_after
       turn.err turn.err_after turn.status run (λ five. omega (arith, two, five))
@@ -186,7 +187,7 @@ module _ {R S D O E : Type 0} (h : HashFunction) (rooms : Rooms R S D) (disks : 
         line = refused_line turn a.reply about.file about.reason about.is wrote.line;
       }
 
-  pub misread_inputs : MisreadFilesAreInputs h rooms disks outs errs
+  pub misread_inputs : MisreadFilesAreInputs h (program h rooms disks outs errs) errs
   misread_inputs name start first begins new links begun course command turn on run spoken two =
       let is_modelled =
       modelled_then h rooms disks outs errs crash_state only contents bytes name start

@@ -1,11 +1,13 @@
 -- What goes out of a run by a command, by what its text says.
 use Rattle.std.proofs.Common.{◌≡◌, inl, ℕ, false, List, [], ◌∷◌, length, Result, Ok, refl, sym}
-use Rattle.std.proofs.Common.{Some, subst, ap, ◌∙◌}
+use Rattle.std.proofs.Common.{Some, Bool, if◌then◌else◌, subst, ap, ◌∙◌}
+use Rattle.std.proofs.lemmas.Slice.Eq.{bytes_eq-Decides}
 use Rattle.byte_formats.specs.Offsets.{IsBytes}
 use Rattle.byte_formats.specs.Types.{HashFunction}
 use Rattle.disk_core.specs.declared.disk.Disk.{Ghosts as Disks}
 use Rattle.journal_core.specs.Format.{end_following}
 use Rattle.journal_core.proofs.Standing.{found_stands}
+use Rattle.file_events.specs.Worlds.{done_to}
 use Rattle.mtc_io.specs.declared.sink.Sink.{Ghosts as Sinks}
 use Rattle.mtc_room.specs.Room.{ModelsFile}
 use Rattle.mtc_room.specs.declared.room.Room.{Ghosts as Rooms}
@@ -18,7 +20,7 @@ use Rattle.cosigner_core.specs.Records.{sign_record}
 use Rattle.cosigner_core.proofs.Forms.{subtree_only}
 use Rattle.issuance_log.specs.Folds.{log_fold, view_in}
 use Rattle.mtc_command.specs.Answers.{Reply, refused, said}
-use Rattle.mtc_command.specs.Made.{Journaled, appended}
+use Rattle.mtc_command.specs.Made.{Journaled, appended, untouched}
 use Rattle.mtc_command.specs.Served.{Journals, done_with}
 use Rattle.mtc_command.specs.Steps.{Outcome}
 use Rattle.mtc_command.specs.Wanted.{Meets}
@@ -30,10 +32,11 @@ use Rattle.mtc_plans.specs.Heard.{CosignsSo, IssuesSo, OfSaid}
 use Rattle.mtc_plans.proofs.Heard.{cosigned_so, issued_so}
 use Rattle.party_history.proofs.Cosigners.{number_added, sign_read}
 use Rattle.party_history.proofs.Entries.{item_read}
-use Rattle.mtc_top.specs.Courses.{Turn, HasTurned, DidWith, AreAmong, IsHeard}
 use Rattle.mtc_top.specs.Facts.{facts, facts_of}
 use Rattle.mtc_top.specs.PrintLaws.{IndicesArePrinted, SignaturesArePrinted}
 use Rattle.mtc_top.proofs.Turns.{file_bytes, heard_run, not_refused, printed_so}
+use Rattle.mtc_top.specs.Courses.{program, Turn}
+use Rattle.mtc_top.proofs.Aliases.{HasTurned, DidWith, IsHeard}
 
 module _ {R S D O E : Type 0} (h : HashFunction) (rooms : Rooms R S D) (disks : Disks D)
     (outs : Sinks O) (errs : Sinks E) (old : R) (turn : Turn R O E) (command : CommandValue)
@@ -49,7 +52,8 @@ module _ {R S D O E : Type 0} (h : HashFunction) (rooms : Rooms R S D) (disks : 
       done_with (facts h r).journals ((facts h r).outcome (rooms.file old)).journals) spoken
       ∙ (ap (λ (names : List (List ℕ)). done_with names planned.journals) named
       ∙ ap (λ (dids : List Journaled). done_with (name ∷ []) dids) is) in
-      subst (λ (js : Journals). AreAmong js name did) (sym are) (inl (refl, refl))
+      subst (λ (js : Journals). done_to js name ≡ did) (sym are)
+      (ap (λ (b : Bool). if b then did else untouched) ((bytes_eq-Decides name name).1 refl))
 
   module _ (is_modelled : rooms.is_modelled old)
       (run : HasTurned h rooms disks outs errs old turn) (heard : IsHeard outs turn) where
@@ -78,7 +82,7 @@ module _ {R S D O E : Type 0} (h : HashFunction) (rooms : Rooms R S D) (disks : 
     (contents : (room : R) (name : List ℕ) → rooms.is_modelled room
     → ModelsFile disks.contents (rooms.file room name) (rooms.device room name))
     (bytes : (d : D) (b : List ℕ) → disks.contents d ≡ Some b → IsBytes b) where
-  pub signatures_printed : SignaturesArePrinted h rooms disks outs errs
+  pub signatures_printed : SignaturesArePrinted h (program h rooms disks outs errs)
   signatures_printed name file old turn is_modelled run spoken heard =
       let command = cosign name file in
       let s = heard_so h rooms disks outs errs old turn command spoken is_modelled run heard
@@ -112,7 +116,7 @@ module _ {R S D O E : Type 0} (h : HashFunction) (rooms : Rooms R S D) (disks : 
             s.reply_is;
       }
 
-  pub indices_printed : IndicesArePrinted h rooms disks outs errs
+  pub indices_printed : IndicesArePrinted h (program h rooms disks outs errs)
   indices_printed name file old turn is_modelled run spoken heard =
       let command = issue name file in
       let s = heard_so h rooms disks outs errs old turn command spoken is_modelled run heard

@@ -10,19 +10,19 @@ use Rattle.mtc_room.specs.declared.room.Room.{Ghosts as Rooms}
 use Rattle.mtc_words.specs.Commands.{cosign, issue}
 use Rattle.authority_core.specs.Issues.{issued_entry}
 use Rattle.mtc_command.proofs.Made.{OnlyNow, ReadsCrashState}
-use Rattle.mtc_top.specs.Courses.{WasHeld}
 use Rattle.mtc_top.specs.PrintLaws.{HasCosigned, IsInLog, IssuedEntriesStand, OfHeard}
 use Rattle.mtc_top.specs.PrintLaws.{SignaturesStand}
 use Rattle.mtc_top.proofs.Printed.{indices_printed, signatures_printed}
 use Rattle.mtc_top.proofs.Recovered.{added_stand, each_held, held_prefix, crash_state_list}
 use Rattle.mtc_top.proofs.Turns.{heard_held}
+use Rattle.mtc_top.specs.Courses.{program, WasHeld}
 
 module _ {R S D O E : Type 0} (h : HashFunction) (rooms : Rooms R S D) (disks : Disks D)
     (outs : Sinks O) (errs : Sinks E) (crash_state : ReadsCrashState disks) (only : OnlyNow disks)
     (contents : (room : R) (name : List ℕ) → rooms.is_modelled room
     → ModelsFile disks.contents (rooms.file room name) (rooms.device room name))
     (bytes : (d : D) (b : List ℕ) → disks.contents d ≡ Some b → IsBytes b) where
-  pub signatures_stand : SignaturesStand h rooms disks outs errs
+  pub signatures_stand : SignaturesStand h (program h rooms disks outs errs)
   signatures_stand name start first begins new links begun course file c at =
       let stands =
       crash_state_list h rooms disks outs errs crash_state only contents bytes name start first
@@ -35,8 +35,8 @@ module _ {R S D O E : Type 0} (h : HashFunction) (rooms : Rooms R S D) (disks : 
           each_held h rooms disks outs errs crash_state only contents bytes name start first begins
               new
               links begun course (λ list. IsPrefix list found)
-              (OfHeard h rooms disks outs errs (cosign name file) (λ old turn.
-              (signed : HasCosigned h rooms disks outs errs name file old turn)
+              (OfHeard h (program h rooms disks outs errs) (cosign name file) (λ old turn.
+              (signed : HasCosigned h (program h rooms disks outs errs) name file old turn)
               × IsPrefix (signed.list ++ signed.body ∷ []) found))
               (λ list held. held_prefix h rooms disks outs errs crash_state only contents bytes name
               start
@@ -52,13 +52,13 @@ module _ {R S D O E : Type 0} (h : HashFunction) (rooms : Rooms R S D) (disks : 
         ),
       )
 
-  pub issued_stand : IssuedEntriesStand h rooms disks outs errs
+  pub issued_stand : IssuedEntriesStand h (program h rooms disks outs errs)
   issued_stand name start first begins new links begun course settings file found is recovered =
       each_held h rooms disks outs errs crash_state only contents bytes name start first begins new
       links
-      begun course (WasHeld h rooms disks outs errs name begins links)
-      (OfHeard h rooms disks outs errs (issue name file) (λ old turn.
-      IsInLog h rooms disks outs errs name file old turn found)) (λ list held. held)
+      begun course (WasHeld h (program h rooms disks outs errs) name begins links)
+      (OfHeard h (program h rooms disks outs errs) (issue name file) (λ old turn.
+      IsInLog h (program h rooms disks outs errs) name file old turn found)) (λ list held. held)
       (λ old turn is_modelled run held spoken heard.
       let i = indices_printed h rooms disks outs errs contents bytes name file old turn is_modelled
       run

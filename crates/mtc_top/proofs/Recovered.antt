@@ -5,18 +5,18 @@ use Rattle.std.specs.Prelude.{IsOk, is_ok}
 use Rattle.byte_formats.specs.Offsets.{IsBytes}
 use Rattle.byte_formats.specs.Types.{HashFunction}
 use Rattle.disk_core.specs.declared.disk.Disk.{Ghosts as Disks}
-use Rattle.file_events.specs.Events.{Event, EventHolds, HasReleased, all_released, appended, ran}
+use Rattle.file_events.specs.Events.{Event, HasReleased, all_released, appended, ran, EventHolds}
 use Rattle.file_events.specs.Executions.{AnyEvent, IsPrefix}
 use Rattle.file_events.specs.Histories.{IsHistory, RepresentsPending}
 use Rattle.file_events.specs.Laws.{IsDurablePrefix, IsJournalExecution, IsReadAfter}
 use Rattle.file_events.specs.Owners.{ServesJournal}
-use Rattle.file_events.specs.Worlds.{states_of}
 use Rattle.file_events.proofs.Histories.{executions_are_histories}
 use Rattle.file_events.proofs.Links.{each_run, stays_modelled}
 use Rattle.file_events.proofs.Owners.{journal_courses, journal_lead}
 use Rattle.file_events.proofs.Records.{one_list}
 use Rattle.file_events.proofs.Stays.{first_held, held_stand, recovered_valid}
 use Rattle.file_events.proofs.Stays.{released_held as was_held}
+use Rattle.file_events.specs.Worlds.{states_of}
 use Rattle.journal_core.specs.Format.{Represents}
 use Rattle.mtc_io.specs.declared.sink.Sink.{Ghosts as Sinks}
 use Rattle.mtc_room.specs.Room.{ModelsFile}
@@ -43,13 +43,13 @@ use Rattle.mtc_top.specs.CourseLaws.{OfReleased, ReleasedWasHeld}
 use Rattle.mtc_top.specs.CourseLaws.{JournalsAreOfParties, JournalsAreRead, KeysSignOnce}
 use Rattle.mtc_top.specs.CourseLaws.{KeysSignOneMessage}
 use Rattle.mtc_top.specs.CourseLaws.{RecoveredListsGrow}
-use Rattle.mtc_top.specs.Courses.{HasHeld, HasTurned, IsBegun, IsCourse, IsReached, IsRecovered}
-use Rattle.mtc_top.specs.Courses.{DidWith, IsHeard, Link, OfEachTurn, Turn, WasHeld, events}
-use Rattle.mtc_top.specs.Courses.{crash_states_in, owner, program}
 use Rattle.mtc_top.proofs.Commands.{spoken_records}
 use Rattle.mtc_top.proofs.Leaves.{contents_crash_state, first_own, held_rules, modelled_file}
 use Rattle.mtc_top.proofs.Leaves.{serves}
 use Rattle.mtc_top.proofs.Turns.{heard_event, heard_held}
+use Rattle.mtc_top.specs.Courses.{program, WasHeld, IsBegun, IsReached, Turn, Link}
+use Rattle.mtc_top.proofs.Aliases.{HasTurned, DidWith, owner_of, crash_states_in, IsCourse, events}
+use Rattle.mtc_top.proofs.Aliases.{HasHeld, OfEachTurn, IsRecovered, IsHeard}
 
 -- ---- lists
 
@@ -102,7 +102,7 @@ module _ {R S D O E : Type 0} (h : HashFunction) (rooms : Rooms R S D) (disks : 
     (bytes : (d : D) (b : List ℕ) → disks.contents d ≡ Some b → IsBytes b) where
   module _ (name : List ℕ) (start : PartyStart) (first : List ℕ) (begins new : R)
       (links : List (Link R O E))
-      (begun : IsBegun h rooms disks outs errs name start first begins links)
+      (begun : IsBegun h (program h rooms disks outs errs) name start first begins links)
       (course : IsCourse h rooms disks outs errs name begins links new) where
     abbrev evs : List Event
     evs = events h rooms disks outs errs name begins links
@@ -122,7 +122,7 @@ module _ {R S D O E : Type 0} (h : HashFunction) (rooms : Rooms R S D) (disks : 
 
     pub modelled_then : rooms.is_modelled new
     modelled_then = stays_modelled (program h rooms disks outs errs)
-        (owner h rooms disks outs errs name)
+        (owner_of h rooms disks outs errs name)
         (journal_lead (program h rooms disks outs errs) (AreRecords h) name serves_so) links begins
         new begun.is_modelled course
 
@@ -166,7 +166,7 @@ module _ {R S D O E : Type 0} (h : HashFunction) (rooms : Rooms R S D) (disks : 
 
     -- what was held is a prefix of what is recovered
     pub held_prefix : (list found : List (List ℕ))
-        → WasHeld h rooms disks outs errs name begins links list
+        → WasHeld h (program h rooms disks outs errs) name begins links list
         → IsRecovered h rooms disks outs errs name new found → IsPrefix list found
     held_prefix list found held is =
         (recovered_valid States (AreRecords h) list found begins new evs held execution is).1
@@ -176,7 +176,7 @@ module _ {R S D O E : Type 0} (h : HashFunction) (rooms : Rooms R S D) (disks : 
     crash_state_list c at = let b = durable.each c at in (b.list, b.stands)
 
     pub held_crash_state : (list : List (List ℕ)) (c : List ℕ)
-        → WasHeld h rooms disks outs errs name begins links list
+        → WasHeld h (program h rooms disks outs errs) name begins links list
         → crash_states_in h rooms disks outs errs new name c
         → (found : List (List ℕ)) × (Represents c found × IsPrefix list found)
     held_crash_state list c held at =
@@ -185,7 +185,8 @@ module _ {R S D O E : Type 0} (h : HashFunction) (rooms : Rooms R S D) (disks : 
 
     -- what holds of each run of the execution, where it holds by the records that it held
     pub each_held : (IsSo : List (List ℕ) → Type 0) (P : R → Turn R O E → Type 0)
-        → ((list : List (List ℕ)) → WasHeld h rooms disks outs errs name begins links list
+        → ((list : List (List ℕ))
+        → WasHeld h (program h rooms disks outs errs) name begins links list
         → IsSo list)
         → ((room : R) (turn : Turn R O E) → rooms.is_modelled room
         → HasTurned h rooms disks outs errs room turn
@@ -194,23 +195,24 @@ module _ {R S D O E : Type 0} (h : HashFunction) (rooms : Rooms R S D) (disks : 
         → OfEachTurn h rooms disks outs errs P begins links
     each_held IsSo P reported each =
         let p = program h rooms disks outs errs in
-        each_run p (owner h rooms disks outs errs name)
+        each_run p (owner_of h rooms disks outs errs name)
         (journal_lead p (AreRecords h) name serves_so) (List (List ℕ)) EventHolds IsSo P each links
         begins new begun.is_modelled course reported
 
     -- each record that was released
-    pub released_so : OfReleased h rooms disks outs errs name (λ list body.
+    pub released_so : OfReleased h (program h rooms disks outs errs) name (λ list body.
         HasReleased evs list body
-        × WasHeld h rooms disks outs errs name begins links (list ++ body ∷ [])) begins links
+        × WasHeld h (program h rooms disks outs errs) name begins links (list ++ body ∷ []))
+        begins links
     released_so =
         let p = program h rooms disks outs errs in
-        each_run p (owner h rooms disks outs errs name)
+        each_run p (owner_of h rooms disks outs errs name)
         (journal_lead p (AreRecords h) name serves_so) Event (λ (x event : Event). event ≡ x)
         (λ (x : Event). AnyEvent (λ (event : Event). event ≡ x) evs)
         (λ old turn. (list : List (List ℕ)) (body : List ℕ)
         → DidWith h rooms disks outs errs old turn name (appended list body) → IsHeard outs turn
         → HasReleased evs list body
-        × WasHeld h rooms disks outs errs name begins links (list ++ body ∷ []))
+        × WasHeld h (program h rooms disks outs errs) name begins links (list ++ body ∷ []))
         (λ old turn is_modelled run reported list body did heard.
         let released = reported (ran true (appended list body))
         (heard_event h rooms disks outs errs old turn run heard name (appended list body) did) in
@@ -218,7 +220,7 @@ module _ {R S D O E : Type 0} (h : HashFunction) (rooms : Rooms R S D) (disks : 
         (λ x any. any)
 
     pub released_crash_state : (c : List ℕ) → crash_states_in h rooms disks outs errs new name c
-        → OfReleased h rooms disks outs errs name (λ list body. (found : List (List ℕ))
+        → OfReleased h (program h rooms disks outs errs) name (λ list body. (found : List (List ℕ))
         × (Represents c found × IsPrefix (list ++ body ∷ []) found)) begins links
     released_crash_state c at =
         each_held (λ list. (found : List (List ℕ)) × (Represents c found × IsPrefix list found))
@@ -249,7 +251,7 @@ module _ {R S D O E : Type 0} (h : HashFunction) (rooms : Rooms R S D) (disks : 
         (all_released evs)) same_first (history.reaches.of_party start
         (subst (StartsWith start) (sym same_first) begun.starts))
 
-    pub reached : IsReached h rooms disks outs errs name start first begins links new
+    pub reached : IsReached h (program h rooms disks outs errs) name start first begins links new
     reached = record {
       steps = goes.more;
       state = goes.state;
@@ -261,29 +263,29 @@ module _ {R S D O E : Type 0} (h : HashFunction) (rooms : Rooms R S D) (disks : 
       released = sym goes.out_is;
     }
 
-  pub histories : CoursesAreHistories h rooms disks outs errs
+  pub histories : CoursesAreHistories h (program h rooms disks outs errs)
   histories = reached
 
-  pub read_again : JournalsAreRead h rooms disks outs errs
+  pub read_again : JournalsAreRead h (program h rooms disks outs errs)
   read_again = read_file
 
-  pub lists_grow : RecoveredListsGrow h rooms disks outs errs
+  pub lists_grow : RecoveredListsGrow h (program h rooms disks outs errs)
   lists_grow = held_crash_state
 
-  pub released_was_held : ReleasedWasHeld h rooms disks outs errs
+  pub released_was_held : ReleasedWasHeld h (program h rooms disks outs errs)
   released_was_held = released_so
 
-  pub released_stand : ReleasedStand h rooms disks outs errs
+  pub released_stand : ReleasedStand h (program h rooms disks outs errs)
   released_stand = released_crash_state
 
-  pub keys_once : KeysSignOnce h rooms disks outs errs
+  pub keys_once : KeysSignOnce h (program h rooms disks outs errs)
   keys_once name start first begins new links begun course settings public is record0 bodies found =
       let of = party_list name start first begins new links begun course (record0 ∷ bodies) found in
       keys_of h start settings public bodies is
       (subst (λ (l : List (List ℕ)). may_follow h start l ≡ true)
       (sym (tail_is record0 first bodies of.others of.is)) of.valid)
 
-  pub one_message : KeysSignOneMessage h rooms disks outs errs
+  pub one_message : KeysSignOneMessage h (program h rooms disks outs errs)
   one_message name start first begins new links begun course settings public is list other more
       others body message number held held' uses uses' =
       let all = durable name start first begins new links begun course in
@@ -302,7 +304,7 @@ module _ {R S D O E : Type 0} (h : HashFunction) (rooms : Rooms R S D) (disks : 
       (keys_once name start first begins new links begun course settings public is first found
       recovered) prefix.1 prefix'.1 uses uses'
 
-  pub entries_stand : EntriesStand h rooms disks outs errs
+  pub entries_stand : EntriesStand h (program h rooms disks outs errs)
   entries_stand name start first begins new links begun course settings list found s is held log
       recovered =
       let of = party_list name start first begins new links begun course found recovered in
@@ -318,7 +320,7 @@ module _ {R S D O E : Type 0} (h : HashFunction) (rooms : Rooms R S D) (disks : 
         ),
       )
 
-  pub added_stand : AddedEntriesStand h rooms disks outs errs
+  pub added_stand : AddedEntriesStand h (program h rooms disks outs errs)
   added_stand name start first begins new links begun course settings list found body entry key s is
       held log item recovered =
       let of = party_list name start first begins new links begun course found recovered in
@@ -354,7 +356,7 @@ module _ {R S D O E : Type 0} (h : HashFunction) (rooms : Rooms R S D) (disks : 
         ),
       )
 
-  pub of_parties : JournalsAreOfParties h rooms disks outs errs
+  pub of_parties : JournalsAreOfParties h (program h rooms disks outs errs)
   of_parties name old turn list is_modelled run held =
       split list (spoken_records h (command_of turn.words) list
       (held_rules h rooms disks outs errs crash_state only contents bytes name old turn list

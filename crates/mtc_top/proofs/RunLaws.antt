@@ -12,9 +12,9 @@ use Rattle.byte_formats.specs.Offsets.{IsBytes}
 use Rattle.byte_formats.specs.Types.{HashFunction}
 use Rattle.disk_core.specs.declared.disk.Disk.{Ghosts as Disks}
 use Rattle.file_events.specs.Events.{CrashStates, Event, Leads, broke}
-use Rattle.file_events.specs.Owners.{did_to}
 use Rattle.file_events.specs.Worlds.{breaks_off, clock_of, done_to, is_heard}
 use Rattle.file_events.proofs.Histories.{step}
+use Rattle.file_events.specs.Owners.{did_to}
 use Rattle.mtc_io.specs.Counts.{Rose}
 use Rattle.mtc_io.specs.Streams.{AppendsPrefix}
 use Rattle.mtc_io.specs.declared.sink.Sink.{Ghosts as Sinks}
@@ -32,12 +32,10 @@ use Rattle.party_history.specs.Journals.{Continues}
 use Rattle.party_history.specs.Rules.{AreRecords}
 use Rattle.party_history.proofs.Taking.{takes}
 use Rattle.mtc_top.specs.Concluded.{Concludes, Prints, PrintsPrefix, Reports}
-use Rattle.mtc_top.specs.Courses.{AreAmong, DidWith, HasTurned, Turn, crash_states_in, owner}
-use Rattle.mtc_top.specs.Courses.{program}
 use Rattle.mtc_top.specs.Facts.{Facts, facts}
 use Rattle.mtc_top.specs.Run.{Answered, HasRun}
 use Rattle.mtc_top.specs.RunLaws.{AllGoOn, PrefixesAreRuns, RunShows, RunSteps, RunsAreSteps}
-use Rattle.mtc_top.specs.RunLaws.{TookSome}
+use Rattle.mtc_top.specs.RunLaws.{TookSome, AreAmong}
 use Rattle.mtc_top.proofs.Beside.{journal_own, none_beside}
 use Rattle.mtc_top.proofs.Commands.{spoken_records}
 use Rattle.mtc_top.proofs.Leaves.{contents_crash_state, find_name, leaves, modelled_file, of_each}
@@ -45,6 +43,8 @@ use Rattle.mtc_top.proofs.Leaves.{still}
 use Rattle.mtc_top.proofs.Runs.{HasFailed, RanOutOfMemory, all_early, answered, ended, first_words}
 use Rattle.mtc_top.proofs.Runs.{lost_of, not5_of, not8_of, only_words, prefix_of, reply_code}
 use Rattle.mtc_top.proofs.Runs.{wrote_of}
+use Rattle.mtc_top.specs.Courses.{program, Turn}
+use Rattle.mtc_top.proofs.Aliases.{HasTurned, owner_of, crash_states_in}
 
 -- where nothing was appended, no byte went out
 pub took_none : (old new : Option (List ℕ)) → Appends old new [] → TookSome old new → ⊥
@@ -287,7 +287,7 @@ module _ {R S D O E : Type 0} (h : HashFunction) (rooms : Rooms R S D) (disks : 
     abbrev js : Journals
     js = (program h rooms disks outs errs).journals old turn
 
-    not_beside : ((did : Journaled) × DidWith h rooms disks outs errs old turn name did)
+    not_beside : ((did : Journaled) × AreAmong js name did)
         ⊎ IsOther asked.besides name → IsOther asked.besides name
     not_beside named = elim named [
       | inl did ↦ none_beside h (command_of turn.words) name (journal_own h turn.words
@@ -320,15 +320,15 @@ module _ {R S D O E : Type 0} (h : HashFunction) (rooms : Rooms R S D) (disks : 
         at How all among = (of_each (λ n d. Leaves disks (How d) (rooms.device old n)
             (rooms.device turn.room n)) js name (done_to js name) all among).later
 
-    pub run_steps : ((did : Journaled) × DidWith h rooms disks outs errs old turn name did)
-        ⊎ IsOther asked.besides name → RunSteps h rooms disks outs errs old turn name
+    pub run_steps : ((did : Journaled) × AreAmong js name did)
+        ⊎ IsOther asked.besides name → RunSteps h (program h rooms disks outs errs) old turn name
     run_steps named =
         let beside = not_beside named in
         let left = leaves h rooms disks outs errs crash_state only contents bytes name old turn
         is_modelled run (AreRecords h) (spoken_records h (command_of turn.words)) beside in
         record {
           leaves = left;
-          continues = all_go_on ((owner h rooms disks outs errs name).run_event old turn)
+          continues = all_go_on ((owner_of h rooms disks outs errs name).run_event old turn)
               (crash_states_in h rooms disks outs errs old name)
               (crash_states_in h rooms disks outs errs turn.room name) left.leads;
           stops = λ c at. all_go_on
@@ -341,6 +341,6 @@ module _ {R S D O E : Type 0} (h : HashFunction) (rooms : Rooms R S D) (disks : 
           later = later beside;
         }
 
-  pub runs_are_steps : RunsAreSteps h rooms disks outs errs
+  pub runs_are_steps : RunsAreSteps h (program h rooms disks outs errs)
   runs_are_steps old turn is_modelled run name named =
       run_steps old turn is_modelled run name named

@@ -27,12 +27,13 @@ use Rattle.mtc_plans.specs.Commands.{plan_of, planned_outcome}
 use Rattle.mtc_plans.specs.Heard.{AdvancesSo, BeginsSo, ExportsSo, KeysSo, OfSaid}
 use Rattle.mtc_plans.specs.PartyKinds.{cosigner, log, party_kinds}
 use Rattle.mtc_plans.proofs.Heard.{advanced_so, begun_so, exported_so, keyed_so}
-use Rattle.mtc_top.specs.Courses.{Turn, HasHeld, HasTurned, IsHeard}
 use Rattle.mtc_top.specs.Facts.{facts}
 use Rattle.mtc_top.specs.PrintLaws.{OnlyCosignSigns, Says}
 use Rattle.mtc_top.specs.WordsOutcome.{word_fault_text}
 use Rattle.mtc_top.proofs.Printed.{did_so, heard_so, signatures_printed}
 use Rattle.mtc_top.proofs.Turns.{file_bytes, heard_run, held_rules, not_refused, printed_so}
+use Rattle.mtc_top.specs.Courses.{program, Turn}
+use Rattle.mtc_top.proofs.Aliases.{HasTurned, HasHeld, IsHeard}
 
 -- each of these journals is a log's
 abbrev are_logs : (h : HashFunction) → List (Journal (party_kinds h)) → Bool
@@ -61,7 +62,7 @@ module _ {R S D O E : Type 0} (h : HashFunction) (rooms : Rooms R S D) (disks : 
     Speaks command = command_of turn.words ≡ Ok command
 
     abbrev SaysSo : CommandValue → Type 0
-    SaysSo command = Says h rooms disks outs errs command old turn
+    SaysSo command = Says h (program h rooms disks outs errs) command old turn
 
     abbrev answer : Reply
     answer = (heard_run h rooms disks outs errs old turn run heard).reply
@@ -158,7 +159,7 @@ module _ {R S D O E : Type 0} (h : HashFunction) (rooms : Rooms R S D) (disks : 
         Meets ((facts h r).outcome (rooms.file old)).answer run_so.reply) is
         (run_so.is (inl is_modelled))))
 
-  pub only_cosign : OnlyCosignSigns h rooms disks outs errs
+  pub only_cosign : OnlyCosignSigns h (program h rooms disks outs errs)
   only_cosign old turn is_modelled run heard =
       let has = has_command old turn is_modelled run heard (command_of turn.words) refl in
       (has.0, (has.1, says_so old turn is_modelled run heard has.0 has.1))

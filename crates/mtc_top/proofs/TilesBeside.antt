@@ -31,9 +31,9 @@ use Rattle.mtc_plans.specs.Commands.{plan_of}
 use Rattle.mtc_plans.specs.PartyKinds.{cosigner, log, party_kinds}
 use Rattle.mtc_plans.proofs.Names.{journals_named}
 use Rattle.party_history.proofs.Agreement.{apart, cons_is, made_so}
-use Rattle.mtc_top.specs.Courses.{AreAmong}
 use Rattle.mtc_top.specs.Facts.{facts}
 use Rattle.mtc_top.proofs.Beside.{IsOwn}
+use Rattle.mtc_top.specs.RunLaws.{AreAmong}
 
 -- ---- names
 

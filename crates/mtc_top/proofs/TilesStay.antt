@@ -12,8 +12,8 @@ use Rattle.file_events.specs.Events.{CrashStates, Done, Event, EventHolds, Happe
 use Rattle.file_events.specs.Events.{appended, broke, elsewhere, ran, reads}
 use Rattle.file_events.specs.Events.{Journaled, records_after, started, untouched}
 use Rattle.file_events.specs.Tiles.{Goes}
-use Rattle.file_events.specs.Worlds.{IsFileCourse, IsLink, cut, died, states_at, stops, turned}
-use Rattle.file_events.specs.Worlds.{writes}
+use Rattle.file_events.specs.Worlds.{IsLink, cut, died, states_at, stops, turned}
+use Rattle.file_events.specs.Worlds.{writes, IsFileCourse}
 use Rattle.file_events.proofs.Owners.{tiles_survive}
 use Rattle.file_events.proofs.Records.{held_durable, none_is, one_list, some_is}
 use Rattle.file_events.specs.Tiles.{stored}
@@ -37,12 +37,13 @@ use Rattle.mtc_authority.specs.StoredTiles.{HasTilesOf}
 use Rattle.mtc_authority.proofs.BadTiles.{none_bad, none_full}
 use Rattle.mtc_authority.proofs.Both.{CountsNow}
 use Rattle.party_history.specs.Rules.{AreRecords}
-use Rattle.mtc_top.specs.Courses.{IsBegun, IsCourse, Link, crash_states_in, owner, program}
 use Rattle.mtc_top.specs.TileLaws.{NoTileIsBad, TilesSurviveStops, tiled_log}
 use Rattle.mtc_top.proofs.Leaves.{contents_crash_state, first_own, modelled_file, serves}
 use Rattle.mtc_top.proofs.LogLeaves.{serves_log}
 use Rattle.mtc_top.proofs.Misread.{misread_inputs}
 use Rattle.mtc_top.proofs.Recovered.{modelled_then}
+use Rattle.mtc_top.specs.Courses.{program, IsBegun, Link}
+use Rattle.mtc_top.proofs.Aliases.{owner_of, crash_states_in, IsCourse}
 
 -- ---- a new log has no tiles
 
@@ -131,7 +132,7 @@ module _ {R S D O E : Type 0} (h : HashFunction) (rooms : Rooms R S D) (disks : 
   left_crash_state (Some d) c at =
       left d (disks.unix_time d) c (counts d (disks.unix_time d) c (omega arith) at)
 
-  pub tiles_stay : TilesSurviveStops h rooms disks outs errs
+  pub tiles_stay : TilesSurviveStops h (program h rooms disks outs errs)
   tiles_stay name first old new [] is_modelled holds course c t log at there read = absurd holds
   tiles_stay name first old new (turned turn ∷ links) is_modelled holds course c t log at there
       read =
@@ -142,7 +143,7 @@ module _ {R S D O E : Type 0} (h : HashFunction) (rooms : Rooms R S D) (disks : 
       let leads =
       ((serves h rooms disks outs errs crash_state only contents bytes name own).leaves old
       turn is_modelled course.0).leads in
-      let event = (owner h rooms disks outs errs name).run_event old turn in
+      let event = (owner_of h rooms disks outs errs name).run_event old turn in
       let before = crash_states_in h rooms disks outs errs old name in
       let now = crash_states_in h rooms disks outs errs turn.room name in
       let tiles = crash_states_in h rooms disks outs errs turn.room (tiles_name name) in
@@ -164,8 +165,9 @@ module _ {R S D O E : Type 0} (h : HashFunction) (rooms : Rooms R S D) (disks : 
   -- ---- an execution of both files is one of the journal
 
   link_so : (name : Text) (old : R) (link : Link R O E)
-      → IsLink (program h rooms disks outs errs) (tiled_log h rooms disks outs errs name) old link
-      → IsLink (program h rooms disks outs errs) (owner h rooms disks outs errs name) old link
+      → IsLink (program h rooms disks outs errs)
+      (tiled_log h (program h rooms disks outs errs) name) old link
+      → IsLink (program h rooms disks outs errs) (owner_of h rooms disks outs errs name) old link
   link_so name old (turned turn) is = is
   link_so name old (died turn room) is = (
     is.0,
@@ -180,16 +182,17 @@ module _ {R S D O E : Type 0} (h : HashFunction) (rooms : Rooms R S D) (disks : 
       record { is_modelled = is.is_modelled; stays = λ n own. is.stays n (inl own) }
 
   journal_course : (name : Text) (links : List (Link R O E)) (old new : R)
-      → IsFileCourse (program h rooms disks outs errs) (tiled_log h rooms disks outs errs name) old
-      links new → IsCourse h rooms disks outs errs name old links new
+      → IsFileCourse (program h rooms disks outs errs)
+      (tiled_log h (program h rooms disks outs errs) name) old links new
+      → IsCourse h rooms disks outs errs name old links new
   journal_course name [] old new is = is
   journal_course name (link ∷ links) old new is =
       (link_so name old link is.0, journal_course name links _ new is.1)
 
-  pub no_tile_bad : NoTileIsBad h rooms disks outs errs
+  pub no_tile_bad : NoTileIsBad h (program h rooms disks outs errs) errs
   no_tile_bad name first old new links is_modelled holds course start command turn starts on run
       spoken two =
-      let begun : IsBegun h rooms disks outs errs name start first old links
+      let begun : IsBegun h (program h rooms disks outs errs) name start first old links
       = record { is_modelled = is_modelled; others = []; held = holds; starts = starts } in
       let journal = journal_course name links old new course in
       let is = misread_inputs h rooms disks outs errs crash_state only contents bytes name start

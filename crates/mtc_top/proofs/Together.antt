@@ -22,6 +22,7 @@ use Rattle.party_history.specs.declared.step.PartyStep.TheVariants.{Stop}
 use Rattle.party_history.proofs.Chains.{first_step, no_some}
 use Rattle.mtc_top.specs.RoomLaws.{AreOneHistory, IsJournalOf, JournalsAreOneHistory}
 use Rattle.mtc_top.proofs.Recovered.{reached}
+use Rattle.mtc_top.specs.Courses.{program}
 
 -- the same step of the next party
 abbrev later : PartyStep → PartyStep
@@ -155,10 +156,10 @@ module _ {R S D O E : Type 0} (h : HashFunction) (rooms : Rooms R S D) (disks : 
     → ModelsFile disks.contents (rooms.file room name) (rooms.device room name))
     (bytes : (d : D) (b : List ℕ) → disks.contents d ≡ Some b → IsBytes b) where
   abbrev Journal : R → Type 0
-  Journal = IsJournalOf h rooms disks outs errs
+  Journal = IsJournalOf h (program h rooms disks outs errs)
 
   one_history : (room : R) (journals : List (Journal room))
-      → AreOneHistory h rooms disks outs errs room journals
+      → AreOneHistory h (program h rooms disks outs errs) room journals
   one_history room [] =
       record { steps = []; states = []; allowed = none (may_follow h) 0 []; each = tt }
   one_history room (j ∷ js) =
@@ -182,5 +183,5 @@ module _ {R S D O E : Type 0} (h : HashFunction) (rooms : Rooms R S D) (disks : 
         each = (record { stands = own.stands; released = own.released }, rest.each);
       }
 
-  pub journals_together : JournalsAreOneHistory h rooms disks outs errs
+  pub journals_together : JournalsAreOneHistory h (program h rooms disks outs errs)
   journals_together room journals = one_history room journals

@@ -4,10 +4,10 @@ use Rattle.std.proofs.Common.{◌∷◌, ◌++◌, length, Option, refl, sym, su
 use Rattle.std.proofs.Common.{arith}
 use Rattle.byte_formats.specs.Types.{HashFunction}
 use Rattle.disk_core.specs.declared.disk.Disk.{Ghosts as Disks}
-use Rattle.file_events.specs.Events.{EventHolds, ran}
-use Rattle.file_events.specs.Owners.{did_to}
+use Rattle.file_events.specs.Events.{ran, EventHolds}
 use Rattle.file_events.specs.Worlds.{breaks_off, heard_of}
 use Rattle.file_events.proofs.Owners.{released_event}
+use Rattle.file_events.specs.Owners.{did_to}
 use Rattle.mtc_io.specs.declared.sink.Sink.{Ghosts as Sinks}
 use Rattle.mtc_room.specs.declared.room.Room.{Ghosts as Rooms}
 use Rattle.mtc_words.specs.Words.{known_word}
@@ -17,14 +17,13 @@ use Rattle.mtc_command.specs.declared.answer.Stopped.{Stopped}
 use Rattle.mtc_command.specs.declared.answer.Stopped.TheVariants.{BadWords}
 use Rattle.mtc_command.specs.Made.{Journaled, appended, reads}
 use Rattle.mtc_top.specs.Concluded.{Prints, PrintsPrefix, Wrote}
-use Rattle.mtc_top.specs.Courses.{DidWith, HasHeld, HasPrinted, HasTurned, IsHeard, Turn}
-use Rattle.mtc_top.specs.Courses.{owner, program}
 use Rattle.mtc_top.specs.Run.{Answered}
 use Rattle.mtc_top.specs.RunLaws.{RunShows}
-use Rattle.mtc_top.proofs.Leaves.{did_so}
 pub use Rattle.mtc_top.proofs.Leaves.{contents_crash_state, file_bytes, held_rules, modelled_file}
 use Rattle.mtc_top.proofs.RunLaws.{heard_ways, prefix_none, run_shows}
 use Rattle.mtc_top.proofs.Runs.{lost_of, prefix_of, wrote_of}
+use Rattle.mtc_top.specs.Courses.{program, HasPrinted, Turn}
+use Rattle.mtc_top.proofs.Aliases.{HasTurned, DidWith, owner_of, HasHeld, IsHeard}
 
 -- a refusal has another status than 0
 no_stop : (why : Stopped) → stopped_code why ≡ 0 → ⊥
@@ -56,7 +55,8 @@ module _ {R S D O E : Type 0} (h : HashFunction) (rooms : Rooms R S D) (disks : 
       heard_run.reply turn.status heard_run.concludes (λ six. omega (arith, zero_, six))
 
   -- a text that was asked for went out, or a prefix of it
-  pub printed_so : (text : List ℕ) → heard_run.reply ≡ said Done text → HasPrinted outs turn text
+  pub printed_so : (text : List ℕ) → heard_run.reply ≡ said Done text
+      → HasPrinted (program h rooms disks outs errs) turn text
   printed_so text is = record {
     ends = elim heard_run.concludes [
       | inl wrote ↦ inl (wrote.code ∙ ap status_of is)
@@ -88,11 +88,11 @@ module _ {R S D O E : Type 0} (h : HashFunction) (rooms : Rooms R S D) (disks : 
   -- what it did with a journal is its event
   pub heard_event : (name : List ℕ) (did : Journaled)
       → DidWith h rooms disks outs errs old turn name did
-      → (owner h rooms disks outs errs name).run_event old turn ≡ ran true did
+      → (owner_of h rooms disks outs errs name).run_event old turn ≡ ran true did
   heard_event name did among = released_event (breaks_off turn.status)
       (heard_of (program h rooms disks outs errs) turn)
       (did_to (program h rooms disks outs errs) name old turn) did (shows.whole heard) heard
-      (did_so h rooms disks outs errs name old turn did among)
+      among
 
   -- it has held the records that it found
   pub heard_read : (name : List ℕ) (list : List (List ℕ))

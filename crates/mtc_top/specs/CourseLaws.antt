@@ -1,11 +1,9 @@
 -- What holds of each execution of a journal, from the run on that made or opened it.
 use Rattle.std.specs.Prelude.{◌≡◌, ◌⊎◌, ℕ, true, List, [], ◌∷◌, ◌++◌, length, Some, Ok}
 use Rattle.byte_formats.specs.Types.{HashFunction, Text}
+use Rattle.mtc_top.specs.Courses.{owner, WasHeld, IsBegun, IsReached, Turn, Link}
 use Rattle.file_events.specs.Executions.{IsPrefix}
-use Rattle.disk_core.specs.declared.disk.Disk.{Ghosts as Disks}
 use Rattle.journal_core.specs.Format.{Represents}
-use Rattle.mtc_io.specs.declared.sink.Sink.{Ghosts as Sinks}
-use Rattle.mtc_room.specs.declared.room.Room.{Ghosts as Rooms}
 use Rattle.cosigner_core.specs.Counts.{AreCounted, indices_of}
 use Rattle.cosigner_core.specs.declared.settings.CosignerSettings.{CosignerSettings}
 use Rattle.issuance_log.specs.Folds.{LogState, log_of}
@@ -15,11 +13,10 @@ use Rattle.party_history.specs.Laws.{HasItemAt, KeepsItems}
 use Rattle.party_history.specs.Rules.{IsReadAs, StartsWith, may_follow}
 use Rattle.party_history.specs.declared.start.PartyStart.{PartyStart}
 use Rattle.party_history.specs.declared.start.PartyStart.TheVariants.{Log, Cosigner}
-use Rattle.file_events.specs.Events.{HasReleased}
+use Rattle.file_events.specs.Events.{HasReleased, MayRecover, EventHolds}
+use Rattle.file_events.specs.Worlds.{Program, EachRun, IsFileCourse, events_of, states_of, heard_of}
+use Rattle.file_events.specs.Owners.{did_to}
 use Rattle.mtc_command.specs.Made.{appended}
-use Rattle.mtc_top.specs.Courses.{Link, IsBegun, IsCourse, IsReached, IsRecovered, HasHeld, WasHeld}
-use Rattle.mtc_top.specs.Courses.{DidWith, HasTurned, IsHeard, OfEachTurn, Turn, events}
-use Rattle.mtc_top.specs.Courses.{crash_states_in}
 
 -- These records begin with the first one of the party's journal, and the others may follow it.
 pub record AreOfParty (h : HashFunction) (start : PartyStart) (first : Text)
@@ -38,26 +35,24 @@ pub record IsReadAsParty (h : HashFunction) (start : PartyStart) (first c : Text
 abbrev pub UsesKey : List Text → Text → ℕ → Type 0
 UsesKey list body number = indices_of (list ++ body ∷ []) ≡ indices_of list ++ number ∷ []
 
-module _ {R S D O E : Type 0} (h : HashFunction) (rooms : Rooms R S D) (disks : Disks D)
-    (outs : Sinks O) (errs : Sinks E) where
+module _ (h : HashFunction) (p : Program) where
   -- This holds of each execution that begins with a run that made or opened the journal.
-  abbrev pub OfCourses : (Text → PartyStart → Text → R → List (Link R O E) → R → Type 0)
+  abbrev pub OfCourses : (Text → PartyStart → Text → p.R → List (Link p.R p.O p.E) → p.R → Type 0)
       → Type 0
-  OfCourses P = (name : Text) (start : PartyStart) (first : Text) (old new : R)
-      (links : List (Link R O E)) → IsBegun h rooms disks outs errs name start first old links
-      → IsCourse h rooms disks outs errs name old links new → P name start first old links new
+  OfCourses P = (name : Text) (start : PartyStart) (first : Text) (old new : p.R)
+      (links : List (Link p.R p.O p.E)) → IsBegun h p name start first old links
+      → IsFileCourse p (owner h p name) old links new → P name start first old links new
 
   -- It is a history of the party.
   abbrev pub CoursesAreHistories : Type 0
   CoursesAreHistories = OfCourses (λ name start first old links new.
-      IsReached h rooms disks outs errs name start first old links new)
+      IsReached h p name start first old links new)
 
   -- No journal is refused: what a crash may leave of the file, and what the file system has of it,
   -- as the model knows it, is read as the party.
   abbrev pub JournalsAreRead : Type 0
   JournalsAreRead = OfCourses (λ name start first old links new.
-      (c : Text)
-      → crash_states_in h rooms disks outs errs new name c ⊎ (rooms.file new name ≡ Some c)
+      (c : Text) → states_of p name new c ⊎ (p.rooms.file new name ≡ Some c)
       → IsReadAsParty h start first c)
 
   -- The i-th Sign record of a cosigner, counted from 0, has the number i, so no number stands
@@ -66,7 +61,7 @@ module _ {R S D O E : Type 0} (h : HashFunction) (rooms : Rooms R S D) (disks : 
   KeysSignOnce = OfCourses (λ name start first old links new.
       (settings : CosignerSettings) (public : Text) → start ≡ Cosigner settings public
       → (record0 : Text) (bodies : List Text)
-      → IsRecovered h rooms disks outs errs name new (record0 ∷ bodies) → AreCounted bodies)
+      → MayRecover (states_of p name new) (record0 ∷ bodies) → AreCounted bodies)
 
   -- Two records that runs held, each with whatever followed it, and which used one key, are one
   -- record.
@@ -74,36 +69,37 @@ module _ {R S D O E : Type 0} (h : HashFunction) (rooms : Rooms R S D) (disks : 
   KeysSignOneMessage = OfCourses (λ name start first old links new.
       (settings : CosignerSettings) (public : Text) → start ≡ Cosigner settings public
       → (list other more others : List Text) (body message : Text) (number : ℕ)
-      → WasHeld h rooms disks outs errs name old links (list ++ body ∷ more)
-      → WasHeld h rooms disks outs errs name old links (other ++ message ∷ others)
+      → WasHeld h p name old links (list ++ body ∷ more)
+      → WasHeld h p name old links (other ++ message ∷ others)
       → UsesKey list body number → UsesKey other message number → body ≡ message)
 
   -- Each crash state represents records, and those that a run found or made are the first of them.
   abbrev pub RecoveredListsGrow : Type 0
   RecoveredListsGrow = OfCourses (λ name start first old links new. (list : List Text) (c : Text)
-      → WasHeld h rooms disks outs errs name old links list
-      → crash_states_in h rooms disks outs errs new name c
+      → WasHeld h p name old links list
+      → states_of p name new c
       → (found : List Text) × (Represents c found × IsPrefix list found))
 
   -- This holds of each record that was released, with those before it: a run added it, and a byte
   -- of the run may have gone out.
-  abbrev pub OfReleased : Text → (List Text → Text → Type 0) → R → List (Link R O E) → Type 0
-  OfReleased name P = OfEachTurn h rooms disks outs errs (λ old turn. (list : List Text)
-      (body : Text) → DidWith h rooms disks outs errs old turn name (appended list body)
-      → IsHeard outs turn → P list body)
+  abbrev pub OfReleased : Text → (List Text → Text → Type 0) → p.R → List (Link p.R p.O p.E)
+      → Type 0
+  OfReleased name P = EachRun p (λ old turn. (list : List Text)
+      (body : Text) → did_to p name old turn ≡ appended list body
+      → heard_of p turn ≡ true → P list body)
 
   -- A run that released a record is an event that releases it. The run held the record, after those
   -- that were there.
   abbrev pub ReleasedWasHeld : Type 0
   ReleasedWasHeld = OfCourses (λ name start first old links new. OfReleased name (λ list body.
-      HasReleased (events h rooms disks outs errs name old links) list body
-      × WasHeld h rooms disks outs errs name old links (list ++ body ∷ [])) old links)
+      HasReleased (events_of p (owner h p name) old links) list body
+      × WasHeld h p name old links (list ++ body ∷ [])) old links)
 
   -- So if a record was released, each crash state represents records that begin with those that
   -- were there and that one.
   abbrev pub ReleasedStand : Type 0
   ReleasedStand = OfCourses (λ name start first old links new. (c : Text)
-      → crash_states_in h rooms disks outs errs new name c → OfReleased name (λ list body.
+      → states_of p name new c → OfReleased name (λ list body.
       (found : List Text) × (Represents c found × IsPrefix (list ++ body ∷ []) found)) old links)
 
   -- Each entry that a log had where a run found or made its records has its index in each log that
@@ -111,8 +107,8 @@ module _ {R S D O E : Type 0} (h : HashFunction) (rooms : Rooms R S D) (disks : 
   abbrev pub EntriesStand : Type 0
   EntriesStand = OfCourses (λ name start first old links new. (settings : Settings)
       (list found : List Text) (s : LogState) → start ≡ Log settings
-      → WasHeld h rooms disks outs errs name old links list → log_of h list ≡ Ok s
-      → IsRecovered h rooms disks outs errs name new found
+      → WasHeld h p name old links list → log_of h list ≡ Ok s
+      → MayRecover (states_of p name new) found
       → (log : LogState) × ((log_of h found ≡ Ok log) × KeepsItems s log))
 
   -- The item of a record that a run added is in each such log. Its index counts the entries before
@@ -121,16 +117,16 @@ module _ {R S D O E : Type 0} (h : HashFunction) (rooms : Rooms R S D) (disks : 
   AddedEntriesStand = OfCourses (λ name start first old links new. (settings : Settings)
       (list found : List Text) (body entry key : Text) (s : LogState)
       → start ≡ Log settings
-      → WasHeld h rooms disks outs errs name old links (list ++ body ∷ [])
+      → WasHeld h p name old links (list ++ body ∷ [])
       → log_of h list ≡ Ok s → item_in body ≡ Some (entry, key)
-      → IsRecovered h rooms disks outs errs name new found
+      → MayRecover (states_of p name new) found
       → (log : LogState) × ((log_of h found ≡ Ok log)
       × HasItemAt (length s.entries) entry key log))
 
   -- Each journal that a run made or opened is that of a party, as the laws of executions suppose.
   abbrev pub JournalsAreOfParties : Type 0
-  JournalsAreOfParties = (name : Text) (old : R) (turn : Turn R O E) (list : List Text)
-      → rooms.is_modelled old → HasTurned h rooms disks outs errs old turn
-      → HasHeld h rooms disks outs errs name old turn list
+  JournalsAreOfParties = (name : Text) (old : p.R) (turn : Turn p.R p.O p.E) (list : List Text)
+      → p.rooms.is_modelled old → p.HasRun old turn
+      → EventHolds list ((owner h p name).run_event old turn)
       → (start : PartyStart) × ((first : Text)
       × (StartsWith start first × AreOfParty h start first list))

@@ -1,12 +1,12 @@
 -- What goes out of `issue` and `cosign`, in addition to the request that they read and the record
 -- that they add, and what becomes of that record.
-use Rattle.std.specs.Prelude.{◌≡◌, List, [], ◌∷◌, ◌++◌, length, Some, Ok}
+use Rattle.std.specs.Prelude.{◌≡◌, true, List, [], ◌∷◌, ◌++◌, length, Some, Ok}
 use Rattle.byte_formats.specs.Types.{HashFunction, Text}
 use Rattle.file_events.specs.Executions.{IsPrefix}
-use Rattle.disk_core.specs.declared.disk.Disk.{Ghosts as Disks}
+use Rattle.file_events.specs.Worlds.{Program, EachRun, states_of, heard_of}
+use Rattle.file_events.specs.Owners.{did_to}
+use Rattle.file_events.specs.Events.{MayRecover, EventHolds}
 use Rattle.journal_core.specs.Format.{Represents}
-use Rattle.mtc_io.specs.declared.sink.Sink.{Ghosts as Sinks}
-use Rattle.mtc_room.specs.declared.room.Room.{Ghosts as Rooms}
 use Rattle.mtc_words.specs.Commands.{CommandValue, advance, cosign, export, init_cosigner, issue}
 use Rattle.mtc_words.specs.Commands.{keygen}
 use Rattle.mtc_words.specs.Words.{command_of}
@@ -31,76 +31,76 @@ use Rattle.party_history.specs.Laws.{HasItemAt}
 use Rattle.party_history.specs.declared.start.PartyStart.TheVariants.{Log}
 use Rattle.mtc_top.specs.AuditLaws.{HoldsText}
 use Rattle.mtc_top.specs.CourseLaws.{OfCourses, UsesKey}
-use Rattle.mtc_top.specs.Courses.{Turn, DidWith, HasHeld, HasPrinted, HasTurned, IsHeard}
-use Rattle.mtc_top.specs.Courses.{IsRecovered, OfEachTurn, crash_states_in}
+use Rattle.mtc_top.specs.Courses.{owner, HasPrinted, Turn}
 
-module _ {R S D O E : Type 0} (h : HashFunction) (rooms : Rooms R S D) (disks : Disks D)
-    (outs : Sinks O) (errs : Sinks E) where
+module _ (h : HashFunction) (p : Program) where
   -- The run read a request from this file, and added a record to a log with these records: the
   -- entry and the key of the request. What went out is the index of the entry, which counts those
   -- before it.
-  pub record HasIssued (name file : Text) (old : R) (turn : Turn R O E) : Type 0 where
+  pub record HasIssued (name file : Text) (old : p.R) (turn : Turn p.R p.O p.E) : Type 0 where
     pub text : Text
-    pub has_text : HoldsText (rooms.file old) file 16777216 text
+    pub has_text : HoldsText (p.rooms.file old) file 16777216 text
     pub request : RequestParts
     pub asked : request_of text ≡ Ok request
     pub list : List Text
     pub state : LogState
     pub log_is : log_of h list ≡ Ok state
     pub body : Text
-    pub did : DidWith h rooms disks outs errs old turn name (appended list body)
+    pub did : did_to p name old turn ≡ appended list body
     pub item : item_in body ≡ Some (issued_entry h state.settings request, request.key)
-    pub printed : HasPrinted outs turn (issued_text (length state.entries))
+    pub printed : HasPrinted p turn (issued_text (length state.entries))
 
   -- The run read a request from this file, and added a Sign record to a cosigner with these
   -- records. It adds the number of the next one-time key to those that were used. What went out is
   -- the signature by that key, over the interval and the hash of the request.
-  pub record HasCosigned (name file : Text) (old : R) (turn : Turn R O E) : Type 0 where
+  pub record HasCosigned (name file : Text) (old : p.R) (turn : Turn p.R p.O p.E) : Type 0 where
     pub text : Text
-    pub has_text : HoldsText (rooms.file old) file 16777216 text
+    pub has_text : HoldsText (p.rooms.file old) file 16777216 text
     pub request : SubtreeParts
     pub asked : subtree_in text ≡ Ok request
     pub list : List Text
     pub state : CosignerState
     pub cosigner_is : cosigner_of h list ≡ Ok state
     pub body : Text
-    pub did : DidWith h rooms disks outs errs old turn name (appended list body)
+    pub did : did_to p name old turn ≡ appended list body
     pub uses : UsesKey list body state.key.next
     pub signs : step_in body
         ≡ Some (Sign state.key.next request.start request.end request.hash request.proof)
-    pub printed : HasPrinted outs turn (cosigned_text state request)
+    pub printed : HasPrinted p turn (cosigned_text state request)
 
   -- What goes out of a command that opens a cosigner's journal, or is given a secret file as such.
   -- `cosign` prints a signature, and has added its record. `advance` prints the size in the request
   -- that it read, `export` the ids, the public key and the records after the first of those that it
   -- read, and those that are given a secret file print its public key. Each journal that another
   -- command opens or makes is a log's, and of what goes out of it nothing is said here.
-  abbrev pub Says : CommandValue → R → Turn R O E → Type 0
+  abbrev pub Says : CommandValue → p.R → Turn p.R p.O p.E → Type 0
   Says (cosign name file) old turn = HasCosigned name file old turn
   Says (advance name file) old turn = (text : Text) × ((request : AdvanceParts)
-      × (HoldsText (rooms.file old) file 16777216 text × (advance_in text ≡ Ok request)
-      × HasPrinted outs turn (advanced_text request.size)))
+      × (HoldsText (p.rooms.file old) file 16777216 text × (advance_in text ≡ Ok request)
+      × HasPrinted p turn (advanced_text request.size)))
   Says (export name) old turn = (list : List Text) × ((state : CosignerState)
       × ((cosigner_of h list ≡ Ok state)
-      × DidWith h rooms disks outs errs old turn name (reads list)
-      × HasPrinted outs turn (export_text state list)))
+      × (did_to p name old turn ≡ reads list)
+      × HasPrinted p turn (export_text state list)))
   Says (init_cosigner name id log height width file) old turn = (secret : Text)
-      × (HoldsText (rooms.file old) file 16777216 secret
-      × HasPrinted outs turn (public_line (lms_type height) (ots_type width) secret))
+      × (HoldsText (p.rooms.file old) file 16777216 secret
+      × HasPrinted p turn (public_line (lms_type height) (ots_type width) secret))
   Says (keygen height width file) old turn = (secret : Text)
-      × (HoldsText (rooms.file old) file 16777216 secret
-      × HasPrinted outs turn (public_line (lms_type height) (ots_type width) secret))
+      × (HoldsText (p.rooms.file old) file 16777216 secret
+      × HasPrinted p turn (public_line (lms_type height) (ots_type width) secret))
   Says other old turn = (name : Text) (list : List Text)
-      → HasHeld h rooms disks outs errs name old turn list → IsLog h list
+      → EventHolds list ((owner h p name).run_event old turn) → IsLog h list
 
   -- This holds of each run by this command that did its work, or of which a byte may have gone out.
-  abbrev pub OfHeard : CommandValue → (R → Turn R O E → Type 0) → R → Turn R O E → Type 0
-  OfHeard command P old turn = command_of turn.words ≡ Ok command → IsHeard outs turn → P old turn
+  abbrev pub OfHeard : CommandValue → (p.R → Turn p.R p.O p.E → Type 0) → p.R
+      → Turn p.R p.O p.E → Type 0
+  OfHeard command P old turn =
+      command_of turn.words ≡ Ok command → heard_of p turn ≡ true → P old turn
 
   -- This holds of each run over files whose contents are known.
-  abbrev pub OfEachRun : (R → Turn R O E → Type 0) → Type 0
-  OfEachRun P = (old : R) (turn : Turn R O E) → rooms.is_modelled old
-      → HasTurned h rooms disks outs errs old turn → P old turn
+  abbrev pub OfEachRun : (p.R → Turn p.R p.O p.E → Type 0) → Type 0
+  OfEachRun P = (old : p.R) (turn : Turn p.R p.O p.E) → p.rooms.is_modelled old
+      → p.HasRun old turn → P old turn
 
   -- Each such run of `issue` has issued.
   abbrev pub IndicesArePrinted : Type 0
@@ -116,12 +116,12 @@ module _ {R S D O E : Type 0} (h : HashFunction) (rooms : Rooms R S D) (disks : 
   -- of it. Of the commands that open a cosigner's journal, or are given a secret file as such, only
   -- `cosign` prints a signature by it.
   abbrev pub OnlyCosignSigns : Type 0
-  OnlyCosignSigns = (old : R) (turn : Turn R O E) → rooms.is_modelled old
-      → HasTurned h rooms disks outs errs old turn → IsHeard outs turn
+  OnlyCosignSigns = (old : p.R) (turn : Turn p.R p.O p.E) → p.rooms.is_modelled old
+      → p.HasRun old turn → heard_of p turn ≡ true
       → (command : CommandValue) × ((command_of turn.words ≡ Ok command) × Says command old turn)
 
   -- The entry is at its index, with its key, in the log of these records.
-  pub record IsInLog (name file : Text) (old : R) (turn : Turn R O E) (found : List Text)
+  pub record IsInLog (name file : Text) (old : p.R) (turn : Turn p.R p.O p.E) (found : List Text)
       : Type 0 where
     pub issued : HasIssued name file old turn
     pub log : LogState
@@ -131,18 +131,18 @@ module _ {R S D O E : Type 0} (h : HashFunction) (rooms : Rooms R S D) (disks : 
 
   -- For each run of an execution: this holds of each log with which the journal may be recovered.
   abbrev pub IssuedEntriesStand : Type 0
-  IssuedEntriesStand = OfCourses h rooms disks outs errs (λ name start first old links new.
+  IssuedEntriesStand = OfCourses h p (λ name start first old links new.
       (settings : Settings) (file : Text) (found : List Text) → start ≡ Log settings
-      → IsRecovered h rooms disks outs errs name new found
-      → OfEachTurn h rooms disks outs errs (OfHeard (issue name file) (λ old turn.
+      → MayRecover (states_of p name new) found
+      → EachRun p (OfHeard (issue name file) (λ old turn.
       IsInLog name file old turn found)) old links)
 
   -- Each crash state of the journal represents records. For each run of the execution these begin
   -- with those that were there and the record of the signature.
   abbrev pub SignaturesStand : Type 0
-  SignaturesStand = OfCourses h rooms disks outs errs (λ name start first old links new.
-      (file c : Text) → crash_states_in h rooms disks outs errs new name c
+  SignaturesStand = OfCourses h p (λ name start first old links new.
+      (file c : Text) → states_of p name new c
       → (found : List Text) × (Represents c found
-      × OfEachTurn h rooms disks outs errs (OfHeard (cosign name file) (λ old turn.
+      × EachRun p (OfHeard (cosign name file) (λ old turn.
       (signed : HasCosigned name file old turn)
       × IsPrefix (signed.list ++ signed.body ∷ []) found)) old links))

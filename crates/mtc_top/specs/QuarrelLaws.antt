@@ -2,9 +2,7 @@
 -- conflict.
 use Rattle.std.specs.Prelude.{◌≡◌, ◌≢◌, ℕ, List, ◌∷◌, ◌++◌, Some, Ok}
 use Rattle.byte_formats.specs.Types.{Hash, HashFunction, Text}
-use Rattle.disk_core.specs.declared.disk.Disk.{Ghosts as Disks}
-use Rattle.mtc_io.specs.declared.sink.Sink.{Ghosts as Sinks}
-use Rattle.mtc_room.specs.declared.room.Room.{Ghosts as Rooms}
+use Rattle.file_events.specs.Worlds.{Program, IsFileCourse}
 use Rattle.mtc_words.specs.Commands.{export, quarrel}
 use Rattle.mtc_words.specs.Words.{command_of}
 use Rattle.cosigner_core.specs.Records.{step_in}
@@ -14,18 +12,17 @@ use Rattle.party_history.specs.declared.start.PartyStart.TheVariants.{Cosigner}
 use Rattle.mtc_monitor.specs.QuarrelOutcome.{quarrel_text}
 use Rattle.mtc_top.specs.AuditLaws.{HoldsText}
 use Rattle.mtc_top.specs.Concluded.{Prints}
-use Rattle.mtc_top.specs.Courses.{Link, Turn, HasTurned, IsBegun, IsCourse, WasHeld}
+use Rattle.mtc_top.specs.Courses.{owner, WasHeld, IsBegun, Turn, Link}
 
-module _ {R S D O E : Type 0} (h : HashFunction) (rooms : Rooms R S D) (disks : Disks D)
-    (outs : Sinks O) (errs : Sinks E) where
+module _ (h : HashFunction) (p : Program) where
   -- A run of this execution of a cosigner's journal found or added the record of a signature of
   -- this interval and hash.
-  pub record HasSignRecord (name : Text) (begins : R) (links : List (Link R O E)) (first : Text)
-      (start end : ℕ) (hash : Hash) : Type 0 where
+  pub record HasSignRecord (name : Text) (begins : p.R) (links : List (Link p.R p.O p.E))
+      (first : Text) (start end : ℕ) (hash : Hash) : Type 0 where
     pub prefix : List Text
     pub more : List Text
     pub body : Text
-    pub held : WasHeld h rooms disks outs errs name begins links (first ∷ (prefix ++ body ∷ more))
+    pub held : WasHeld h p name begins links (first ∷ (prefix ++ body ∷ more))
     pub index : ℕ
     pub proof : List Text
     pub signs : step_in body ≡ Some (Sign index start end hash proof)
@@ -38,12 +35,12 @@ module _ {R S D O E : Type 0} (h : HashFunction) (rooms : Rooms R S D) (disks : 
     pub settings : CosignerSettings
     pub public : Text
     pub first : Text
-    pub begins : R
-    pub links : List (Link R O E)
-    pub begun : IsBegun h rooms disks outs errs name (Cosigner settings public) first begins links
+    pub begins : p.R
+    pub links : List (Link p.R p.O p.E)
+    pub begun : IsBegun h p name (Cosigner settings public) first begins links
     -- the execution
-    pub old : R
-    pub course : IsCourse h rooms disks outs errs name begins links old
+    pub old : p.R
+    pub course : IsFileCourse p (owner h p name) begins links old
     -- the two signatures
     pub start : ℕ
     pub end : ℕ
@@ -53,29 +50,29 @@ module _ {R S D O E : Type 0} (h : HashFunction) (rooms : Rooms R S D) (disks : 
     pub other_signed : HasSignRecord name begins links first start end other
     pub differ : one ≢ other
     -- the run of `export`, over an output of which the model knows what it took
-    pub turn : Turn R O E
-    pub turned : HasTurned h rooms disks outs errs old turn
+    pub turn : Turn p.R p.O p.E
+    pub turned : p.HasRun old turn
     pub spoken : command_of turn.words ≡ Ok (export name)
     pub done : turn.status ≡ 0
     pub before : Text
-    pub contents : outs.taken turn.out ≡ Some before
-    pub printed : outs.taken turn.out_after ≡ Some (before ++ kept_text)
+    pub contents : p.outs.taken turn.out ≡ Some before
+    pub printed : p.outs.taken turn.out_after ≡ Some (before ++ kept_text)
 
   -- It prints two numbers of keys, and two different strings with one hash, with status 10.
-  pub record Convicts (turn : Turn R O E) : Type 0 where
+  pub record Convicts (turn : Turn p.R p.O p.E) : Type 0 where
     pub keys : ℕ × ℕ
     pub one : Text
     pub other : Text
     pub code : turn.status ≡ 10
     pub differ : one ≢ other
     pub one_hash : h one ≡ h other
-    pub printed : Prints outs turn.out turn.out_after (quarrel_text keys one other)
+    pub printed : Prints p.outs turn.out turn.out_after (quarrel_text keys one other)
 
   -- Each run of `quarrel` over such an export does so, unless it ends with a failure or memory is
   -- refused.
   abbrev pub TwoSignaturesCollide : Type 0
-  TwoSignaturesCollide = (old : R) (turn : Turn R O E) (kept kept_text : Text)
-      → rooms.is_modelled old → HasTurned h rooms disks outs errs old turn
+  TwoSignaturesCollide = (old : p.R) (turn : Turn p.R p.O p.E) (kept kept_text : Text)
+      → p.rooms.is_modelled old → p.HasRun old turn
       → command_of turn.words ≡ Ok (quarrel kept)
-      → HoldsText (rooms.file old) kept 1073741824 kept_text → HasSignedTwice kept_text
+      → HoldsText (p.rooms.file old) kept 1073741824 kept_text → HasSignedTwice kept_text
       → turn.status ≢ 5 → turn.status ≢ 6 → turn.status ≢ 8 → Convicts turn

@@ -1,12 +1,13 @@
 -- What follows of each run, and what it is as steps of the parties whose journals it works on.
-use Rattle.std.specs.Prelude.{◌≡◌, ◌≢◌, ◌<◌, ◌≤◌, ◌⊎◌, ℕ, true, false, List, [], ◌++◌, length}
+use Rattle.std.specs.Prelude.{◌≡◌, ◌≢◌, ◌<◌, ◌≤◌, ◌⊎◌, ℕ, true, false, List, [], ◌∷◌, ◌++◌, length}
 use Rattle.std.specs.Prelude.{Option, None, Some, IsErr, codes, slice_get}
 use Rattle.byte_formats.specs.Types.{HashFunction, Text}
 use Rattle.disk_core.specs.declared.disk.Disk.{Ghosts as Disks}
 use Rattle.file_events.specs.Events.{CrashStates, Event, broke, released_by}
 use Rattle.file_events.specs.Histories.{IsHistory}
 use Rattle.file_events.specs.Owners.{LeavesJournal, did_to}
-use Rattle.file_events.specs.Worlds.{breaks_off, clock_of, is_heard}
+use Rattle.file_events.specs.Worlds.{Journals, breaks_off, clock_of, is_heard, Program, states_of}
+use Rattle.file_events.specs.Worlds.{states_between}
 use Rattle.mtc_io.specs.Counts.{Rose}
 use Rattle.mtc_io.specs.declared.sink.Sink.{Ghosts as Sinks}
 use Rattle.mtc_room.specs.declared.room.Room.{Ghosts as Rooms}
@@ -20,10 +21,9 @@ use Rattle.party_history.specs.Rules.{AreRecords, StartsWith}
 use Rattle.party_history.specs.declared.start.PartyStart.{PartyStart}
 use Rattle.party_history.specs.declared.step.PartyStep.{PartyStep}
 use Rattle.mtc_top.specs.Concluded.{Prints, PrintsPrefix, Reports}
-use Rattle.mtc_top.specs.Courses.{DidWith, HasTurned, Turn, crash_states_from, crash_states_in}
-use Rattle.mtc_top.specs.Courses.{owner, program}
 use Rattle.mtc_top.specs.Facts.{facts}
 use Rattle.mtc_top.specs.Run.{Answered, HasRun, journals}
+use Rattle.mtc_top.specs.Courses.{owner, Turn}
 
 -- A byte went out, if the model knows it of the sink.
 abbrev pub TookSome : Option Text → Option Text → Type 0
@@ -77,33 +77,6 @@ module _ {R S D O E : Type 0} (h : HashFunction) (rooms : Rooms R S D) (disks : 
       → HasRun h rooms disks outs errs words old new out out' err err' status
       → RunShows words old new out out' err err' status
 
-  -- The run as steps of the party whose journal has this name.
-  pub record RunSteps (old : R) (turn : Turn R O E) (name : Text) : Type 0 where
-    -- It is an event of the journal. Where the machine stops in the middle of it, what is left is
-    -- one of a run that broke off.
-    pub leaves : LeavesJournal (program h rooms disks outs errs) (AreRecords h) name old turn
-    -- So each history continues.
-    pub continues : AllGoOn h ((owner h rooms disks outs errs name).run_event old turn)
-        (crash_states_in h rooms disks outs errs old name)
-        (crash_states_in h rooms disks outs errs turn.room name)
-    pub stops : (c : Text) → crash_states_from h rooms disks outs errs old turn.room name c
-        → AllGoOn h (broke (did_to (program h rooms disks outs errs) name old turn))
-        (crash_states_in h rooms disks outs errs old name) (λ d. d ≡ c)
-    -- The bytes of the file that the model knows are a crash state.
-    pub as_read : (c : Text) → rooms.file turn.room name ≡ Some c
-        → crash_states_in h rooms disks outs errs turn.room name c
-    -- The clock of the file's device doesn't go back.
-    pub later : clock_of disks (rooms.device old name)
-        ≤ clock_of disks (rooms.device turn.room name)
-
-  -- So it is of each journal that a run works on, if the model knows the files; and of each other
-  -- name that isn't that of a file beside one.
-  abbrev pub RunsAreSteps : Type 0
-  RunsAreSteps = (old : R) (turn : Turn R O E) → rooms.is_modelled old
-      → HasTurned h rooms disks outs errs old turn → (name : Text)
-      → ((did : Journaled) × DidWith h rooms disks outs errs old turn name did)
-      ⊎ IsOther (facts h (command_of turn.words)).besides name → RunSteps old turn name
-
   -- A run of which a byte went out might have had a standard output that failed there: if only a
   -- prefix of what it wrote came through, it is a run with status 6, which leaves the same file
   -- system.
@@ -115,3 +88,37 @@ module _ {R S D O E : Type 0} (h : HashFunction) (rooms : Rooms R S D) (disks : 
       → PrintsPrefix outs out failed text → Rose (outs.faults out) (outs.faults failed)
       → Reports errs err contents (line_of (known_word words) None (codes "OutputFailed"))
       → HasRun h rooms disks outs errs words old new out failed err contents 6
+
+-- One of these journals has this name, and this was done with it.
+abbrev pub AreAmong : Journals → Text → Journaled → Type 0
+AreAmong [] name did = ⊥
+AreAmong (journal ∷ rest) name did =
+    ((journal.0 ≡ name) × (journal.1 ≡ did)) ⊎ AreAmong rest name did
+
+module _ (h : HashFunction) (p : Program) where
+  -- The run as steps of the party whose journal has this name.
+  pub record RunSteps (old : p.R) (turn : Turn p.R p.O p.E) (name : Text) : Type 0 where
+    -- It is an event of the journal. Where the machine stops in the middle of it, what is left is
+    -- one of a run that broke off.
+    pub leaves : LeavesJournal p (AreRecords h) name old turn
+    -- So each history continues.
+    pub continues : AllGoOn h ((owner h p name).run_event old turn)
+        (states_of p name old)
+        (states_of p name turn.room)
+    pub stops : (c : Text) → states_between p name old turn.room c
+        → AllGoOn h (broke (did_to p name old turn))
+        (states_of p name old) (λ d. d ≡ c)
+    -- The bytes of the file that the model knows are a crash state.
+    pub as_read : (c : Text) → p.rooms.file turn.room name ≡ Some c
+        → states_of p name turn.room c
+    -- The clock of the file's device doesn't go back.
+    pub later : clock_of p.disks (p.rooms.device old name)
+        ≤ clock_of p.disks (p.rooms.device turn.room name)
+
+  -- So it is of each journal that a run works on, if the model knows the files; and of each other
+  -- name that isn't that of a file beside one.
+  abbrev pub RunsAreSteps : Type 0
+  RunsAreSteps = (old : p.R) (turn : Turn p.R p.O p.E) → p.rooms.is_modelled old
+      → p.HasRun old turn → (name : Text)
+      → ((did : Journaled) × AreAmong (p.journals old turn) name did)
+      ⊎ IsOther (facts h (command_of turn.words)).besides name → RunSteps old turn name

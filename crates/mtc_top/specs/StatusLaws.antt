@@ -1,9 +1,8 @@
 -- Status 2 after an execution: it is never about the journal.
 use Rattle.std.specs.Prelude.{◌≡◌, ◌⊎◌, ℕ, List, [], ◌∷◌, Some, Ok}
 use Rattle.byte_formats.specs.Types.{HashFunction, Text}
-use Rattle.disk_core.specs.declared.disk.Disk.{Ghosts as Disks}
+use Rattle.file_events.specs.Worlds.{Program}
 use Rattle.mtc_io.specs.declared.sink.Sink.{Ghosts as Sinks}
-use Rattle.mtc_room.specs.declared.room.Room.{Ghosts as Rooms}
 use Rattle.mtc_words.specs.Commands.{CommandValue}
 use Rattle.mtc_words.specs.Words.{command_of, known_word}
 use Rattle.issuance_log.specs.Openings.{FoundLog, log_read}
@@ -17,8 +16,8 @@ use Rattle.mtc_authority.specs.BadTiles.{first_bad}
 use Rattle.party_history.specs.declared.start.PartyStart.{PartyStart}
 use Rattle.mtc_top.specs.Concluded.{Reports}
 use Rattle.mtc_top.specs.CourseLaws.{AreOfParty, OfCourses}
-use Rattle.mtc_top.specs.Courses.{Turn, HasTurned}
 use Rattle.mtc_top.specs.Facts.{facts_of}
+use Rattle.mtc_top.specs.Courses.{Turn}
 
 -- The command works on the journal of this name, and takes it for one of such a party: each list of
 -- the party's records, of which this is the first, is one of the kind that it works on.
@@ -39,17 +38,16 @@ pub record LacksTile (h : HashFunction) (files : Files) (journal file reason : T
   pub named : file ≡ tiles_name journal
   pub says : reason ≡ bad_tile_text missing.0 missing.1
 
-module _ {R S D O E : Type 0} (h : HashFunction) (rooms : Rooms R S D) (disks : Disks D)
-    (outs : Sinks O) (errs : Sinks E) where
+module _ (h : HashFunction) (p : Program) (errs : Sinks p.E) where
   -- What is asked for is a refusal of an input of the command, or of the file of its log's tiles
   -- for a tile that it doesn't have; and the line on standard error says so.
-  pub record IsAboutInput (name : Text) (command : CommandValue) (room : R) (turn : Turn R O E)
-      : Type 0 where
+  pub record IsAboutInput (name : Text) (command : CommandValue) (room : p.R)
+      (turn : Turn p.R p.O p.E) : Type 0 where
     pub file : Text
     pub reason : Text
     pub input : IsNamed (facts_of h command).inputs file
-        ⊎ LacksTile h (rooms.file room) name file reason
-    pub asked : Meets ((facts_of h command).outcome (rooms.file room)).answer
+        ⊎ LacksTile h (p.rooms.file room) name file reason
+    pub asked : Meets ((facts_of h command).outcome (p.rooms.file room)).answer
         (refused BadForm (Some file) reason)
     pub line : Reports errs turn.err turn.err_after
         (line_of (known_word turn.words) (Some file) reason)
@@ -58,7 +56,7 @@ module _ {R S D O E : Type 0} (h : HashFunction) (rooms : Rooms R S D) (disks : 
   -- command that has no input never ends so, unless the file of its log's tiles doesn't have one of
   -- them.
   abbrev pub MisreadFilesAreInputs : Type 0
-  MisreadFilesAreInputs = OfCourses h rooms disks outs errs (λ name start first old links new.
-      (command : CommandValue) (turn : Turn R O E) → WorksOn h start first name command
-      → HasTurned h rooms disks outs errs new turn → command_of turn.words ≡ Ok command
+  MisreadFilesAreInputs = OfCourses h p (λ name start first old links new.
+      (command : CommandValue) (turn : Turn p.R p.O p.E) → WorksOn h start first name command
+      → p.HasRun new turn → command_of turn.words ≡ Ok command
       → turn.status ≡ 2 → IsAboutInput name command new turn)

@@ -7,6 +7,7 @@ ghost use Rattle.mtc_top.specs.CourseLaws.{AddedEntriesStand, CoursesAreHistorie
 ghost use Rattle.mtc_top.specs.CourseLaws.{ReleasedStand, ReleasedWasHeld, JournalsAreOfParties};
 ghost use Rattle.mtc_top.specs.CourseLaws.{JournalsAreRead};
 ghost use Rattle.mtc_top.specs.CourseLaws.{KeysSignOnce, KeysSignOneMessage, RecoveredListsGrow};
+ghost use Rattle.mtc_top.specs.Courses.{program};
 ghost use Rattle.mtc_top.specs.ExportLaws.{ExportsHoldTheSteps, ExportsOnlyGrow};
 ghost use Rattle.mtc_top.specs.PrintLaws.{IndicesArePrinted, IssuedEntriesStand, OnlyCosignSigns};
 ghost use Rattle.mtc_top.specs.PrintLaws.{SignaturesArePrinted, SignaturesStand};
@@ -23,7 +24,7 @@ use tree_core::TreeHash;
 /// works on. If a byte may have gone out, every crash state holds a record that the run added.
 pub fn law_runs_are_steps<H: TreeHash, R: Room, O: Sink, E: Sink>()
     ensures shows { RunsShow H.hash R.Room R.Dsk.Disk O.Sink E.Sink }
-    ensures steps { RunsAreSteps H.hash R.Room R.Dsk.Disk O.Sink E.Sink }
+    ensures steps { RunsAreSteps H.hash (program H.hash R.Room R.Dsk.Disk O.Sink E.Sink) }
 {}
 
 /// Once a byte of a run went out, how much of its text went out does not affect the files. If
@@ -38,13 +39,13 @@ pub fn law_runs_may_lose_their_text<H: TreeHash, R: Room, O: Sink, E: Sink>()
 /// they fail, wherever the machine stops between two runs or in the middle of one, and wherever the
 /// program is killed in one: what became of the journal is a history of its party.
 pub fn law_courses_are_histories<H: TreeHash, R: Room, O: Sink, E: Sink>()
-    ensures { CoursesAreHistories H.hash R.Room R.Dsk.Disk O.Sink E.Sink }
+    ensures { CoursesAreHistories H.hash (program H.hash R.Room R.Dsk.Disk O.Sink E.Sink) }
 {}
 
 /// Whatever journals a file system has, each from a run on that made or opened it: what became of
 /// all of them is one history of their parties.
 pub fn law_courses_make_one_history<H: TreeHash, R: Room, O: Sink, E: Sink>()
-    ensures { JournalsAreOneHistory H.hash R.Room R.Dsk.Disk O.Sink E.Sink }
+    ensures { JournalsAreOneHistory H.hash (program H.hash R.Room R.Dsk.Disk O.Sink E.Sink) }
 {}
 
 /// In no execution do two records of a cosigner's journal have the number of the same one-time key:
@@ -52,8 +53,8 @@ pub fn law_courses_make_one_history<H: TreeHash, R: Room, O: Sink, E: Sink>()
 /// two of the records that runs of the execution found or added use one key of the journal, they
 /// are one record, and so of one message. The released records are among them.
 pub fn law_no_one_time_key_signs_twice<H: TreeHash, R: Room, O: Sink, E: Sink>()
-    ensures records { KeysSignOnce H.hash R.Room R.Dsk.Disk O.Sink E.Sink }
-    ensures messages { KeysSignOneMessage H.hash R.Room R.Dsk.Disk O.Sink E.Sink }
+    ensures records { KeysSignOnce H.hash (program H.hash R.Room R.Dsk.Disk O.Sink E.Sink) }
+    ensures messages { KeysSignOneMessage H.hash (program H.hash R.Room R.Dsk.Disk O.Sink E.Sink) }
 {}
 
 /// If a run that added a record did its work, or a byte of it may have gone out, it ended with
@@ -62,35 +63,35 @@ pub fn law_no_one_time_key_signs_twice<H: TreeHash, R: Room, O: Sink, E: Sink>()
 /// or added, and each crash state afterwards represents records. These begin with those that were
 /// there, and that one.
 pub fn law_released_records_stand<H: TreeHash, R: Room, O: Sink, E: Sink>()
-    ensures held { ReleasedWasHeld H.hash R.Room R.Dsk.Disk O.Sink E.Sink }
-    ensures stand { ReleasedStand H.hash R.Room R.Dsk.Disk O.Sink E.Sink }
+    ensures held { ReleasedWasHeld H.hash (program H.hash R.Room R.Dsk.Disk O.Sink E.Sink) }
+    ensures stand { ReleasedStand H.hash (program H.hash R.Room R.Dsk.Disk O.Sink E.Sink) }
 {}
 
 /// Each crash state represents records. What a run found in the journal before, or made of it, is a
 /// prefix of them, whatever went out of the run, unless it ended with status 5 or 8.
 pub fn law_recovered_lists_only_grow<H: TreeHash, R: Room, O: Sink, E: Sink>()
-    ensures { RecoveredListsGrow H.hash R.Room R.Dsk.Disk O.Sink E.Sink }
+    ensures { RecoveredListsGrow H.hash (program H.hash R.Room R.Dsk.Disk O.Sink E.Sink) }
 {}
 
 /// Each entry of a log that a run found or added keeps its index, with its key, in each log that
 /// may be recovered afterwards. The entry that a run added has as its index the number of entries
 /// before it.
 pub fn law_entries_keep_their_indices<H: TreeHash, R: Room, O: Sink, E: Sink>()
-    ensures found { EntriesStand H.hash R.Room R.Dsk.Disk O.Sink E.Sink }
-    ensures added { AddedEntriesStand H.hash R.Room R.Dsk.Disk O.Sink E.Sink }
+    ensures found { EntriesStand H.hash (program H.hash R.Room R.Dsk.Disk O.Sink E.Sink) }
+    ensures added { AddedEntriesStand H.hash (program H.hash R.Room R.Dsk.Disk O.Sink E.Sink) }
 {}
 
 /// Each journal that a run made or opened, and ended with another status than 5 and 8, is that of a
 /// log or a cosigner, so the laws of executions are of each of them, from that run on.
 pub fn law_journals_are_of_parties<H: TreeHash, R: Room, O: Sink, E: Sink>()
-    ensures { JournalsAreOfParties H.hash R.Room R.Dsk.Disk O.Sink E.Sink }
+    ensures { JournalsAreOfParties H.hash (program H.hash R.Room R.Dsk.Disk O.Sink E.Sink) }
 {}
 
 /// No journal that an execution has reached is refused: what a crash may leave of it, and what the
 /// file system has of it, as the model knows it, is read as the log or the cosigner with records
 /// that follow the rules.
 pub fn law_no_journal_is_refused<H: TreeHash, R: Room, O: Sink, E: Sink>()
-    ensures { JournalsAreRead H.hash R.Room R.Dsk.Disk O.Sink E.Sink }
+    ensures { JournalsAreRead H.hash (program H.hash R.Room R.Dsk.Disk O.Sink E.Sink) }
 {}
 
 /// A run that opens the journal that an execution has reached, as that of its log or its cosigner,
@@ -98,7 +99,8 @@ pub fn law_no_journal_is_refused<H: TreeHash, R: Room, O: Sink, E: Sink>()
 /// doesn't have a tile of the last size. So it never does if the command has no input and the file
 /// has the tiles.
 pub fn law_misread_files_are_inputs<H: TreeHash, R: Room, O: Sink, E: Sink>()
-    ensures { MisreadFilesAreInputs H.hash R.Room R.Dsk.Disk O.Sink E.Sink }
+    ensures { MisreadFilesAreInputs H.hash (program H.hash R.Room R.Dsk.Disk O.Sink E.Sink)
+        E.Sink }
 {}
 
 /// Tiles survive a stop. This holds in each execution of a log's journal and of the file of its
@@ -107,8 +109,8 @@ pub fn law_misread_files_are_inputs<H: TreeHash, R: Room, O: Sink, E: Sink>()
 /// Whatever a crash leaves of both files, the one has all tiles of the last size in the other. So
 /// no run that opens the log reports a bad tile: with status 2 it is about a file that it reads.
 pub fn law_tiles_survive_stops<H: TreeHash, R: Room, O: Sink, E: Sink>()
-    ensures survive { TilesSurviveStops H.hash R.Room R.Dsk.Disk O.Sink E.Sink }
-    ensures none { NoTileIsBad H.hash R.Room R.Dsk.Disk O.Sink E.Sink }
+    ensures survive { TilesSurviveStops H.hash (program H.hash R.Room R.Dsk.Disk O.Sink E.Sink) }
+    ensures none { NoTileIsBad H.hash (program H.hash R.Room R.Dsk.Disk O.Sink E.Sink) E.Sink }
 {}
 
 /// What goes out of a run of `export` after an execution of a cosigner's journal is the export of a
@@ -117,7 +119,7 @@ pub fn law_tiles_survive_stops<H: TreeHash, R: Room, O: Sink, E: Sink>()
 /// records: each of them is allowed. The step of each record that a run found or added before is
 /// one, and so each that was released.
 pub fn law_exports_hold_what_went_out<H: TreeHash, R: Room, O: Sink, E: Sink>()
-    ensures { ExportsHoldTheSteps H.hash R.Room R.Dsk.Disk O.Sink E.Sink }
+    ensures { ExportsHoldTheSteps H.hash (program H.hash R.Room R.Dsk.Disk O.Sink E.Sink) }
 {}
 
 /// What a run of `export` prints after an execution of a cosigner's journal begins with what each
@@ -127,7 +129,7 @@ pub fn law_exports_hold_what_went_out<H: TreeHash, R: Room, O: Sink, E: Sink>()
 /// the rest. So if an export doesn't begin with an earlier one, an old copy was restored, or the
 /// journal was damaged.
 pub fn law_exports_only_grow<H: TreeHash, R: Room, O: Sink, E: Sink>()
-    ensures { ExportsOnlyGrow H.hash R.Room R.Dsk.Disk O.Sink E.Sink }
+    ensures { ExportsOnlyGrow H.hash (program H.hash R.Room R.Dsk.Disk O.Sink E.Sink) }
 {}
 
 /// A run of `audit` that ends with another status than 5, 6 and 8 prints that the entry stands, or
@@ -139,8 +141,8 @@ pub fn law_exports_only_grow<H: TreeHash, R: Room, O: Sink, E: Sink>()
 /// says in addition of which lists the two strings are: the first is hashed for the list or a key
 /// of it, the second for the certificate or in the cosigner's proofs.
 pub fn law_audits_stand<H: TreeHash, R: Room, O: Sink, E: Sink>()
-    ensures decide { AuditsDecide H.hash R.Room R.Dsk.Disk O.Sink E.Sink }
-    ensures stand { AuditsStand H.hash R.Room R.Dsk.Disk O.Sink E.Sink }
+    ensures decide { AuditsDecide H.hash (program H.hash R.Room R.Dsk.Disk O.Sink E.Sink) }
+    ensures stand { AuditsStand H.hash (program H.hash R.Room R.Dsk.Disk O.Sink E.Sink) }
 {}
 
 /// A cosigner that signed twice convicts itself. Let runs of an execution of its journal have found
@@ -149,7 +151,7 @@ pub fn law_audits_stand<H: TreeHash, R: Room, O: Sink, E: Sink>()
 /// file prints two numbers of keys and two different strings with one hash, with status 10. Or it
 /// ends with status 5, 6 or 8.
 pub fn law_two_signatures_collide<H: TreeHash, R: Room, O: Sink, E: Sink>()
-    ensures { TwoSignaturesCollide H.hash R.Room R.Dsk.Disk O.Sink E.Sink }
+    ensures { TwoSignaturesCollide H.hash (program H.hash R.Room R.Dsk.Disk O.Sink E.Sink) }
 {}
 
 /// From the first byte on that may have gone out of `issue` or `cosign`, and with status 0, its
@@ -164,9 +166,10 @@ pub fn law_two_signatures_collide<H: TreeHash, R: Room, O: Sink, E: Sink>()
 /// of the secret file. Each journal that another command opens or makes is a log's. Nothing is said
 /// of what goes out of those.
 pub fn law_printed_texts_are_of_their_records<H: TreeHash, R: Room, O: Sink, E: Sink>()
-    ensures indices { IndicesArePrinted H.hash R.Room R.Dsk.Disk O.Sink E.Sink }
-    ensures signatures { SignaturesArePrinted H.hash R.Room R.Dsk.Disk O.Sink E.Sink }
-    ensures secrets { OnlyCosignSigns H.hash R.Room R.Dsk.Disk O.Sink E.Sink }
+    ensures indices { IndicesArePrinted H.hash (program H.hash R.Room R.Dsk.Disk O.Sink E.Sink) }
+    ensures signatures { SignaturesArePrinted H.hash
+        (program H.hash R.Room R.Dsk.Disk O.Sink E.Sink) }
+    ensures secrets { OnlyCosignSigns H.hash (program H.hash R.Room R.Dsk.Disk O.Sink E.Sink) }
 {}
 
 /// This holds in each execution of a journal, and what is said of the record stays so. Each entry
@@ -175,8 +178,8 @@ pub fn law_printed_texts_are_of_their_records<H: TreeHash, R: Room, O: Sink, E: 
 /// records, and if a byte of a signature may have gone out these begin with those that were there
 /// and the signature's.
 pub fn law_printed_texts_stand<H: TreeHash, R: Room, O: Sink, E: Sink>()
-    ensures entries { IssuedEntriesStand H.hash R.Room R.Dsk.Disk O.Sink E.Sink }
-    ensures signatures { SignaturesStand H.hash R.Room R.Dsk.Disk O.Sink E.Sink }
+    ensures entries { IssuedEntriesStand H.hash (program H.hash R.Room R.Dsk.Disk O.Sink E.Sink) }
+    ensures signatures { SignaturesStand H.hash (program H.hash R.Room R.Dsk.Disk O.Sink E.Sink) }
 {}
 
 /// The promise as a whole. In no execution does a one-time key of a journal sign two messages. Each
@@ -184,16 +187,19 @@ pub fn law_printed_texts_stand<H: TreeHash, R: Room, O: Sink, E: Sink>()
 /// what the request file asks for. Of the commands that open a cosigner's journal, or are given a
 /// secret file as such, no other prints a signature by it. Each crash state of a journal represents
 /// records, and what a run before found in it, or made of it, is a prefix of these: so the record
-/// of each signature is there. No journal is refused: each crash state is read as its log or its
-/// cosigner. If a store accepts a certificate by a signature whose record a run of an execution
-/// held, or by a landmark, a run of `audit` over the wanted list, and over an export that was
-/// printed after it, prints that the entry stands, or two different strings with one hash. Or it
-/// ends with status 5, 6 or 8.
+/// of each signature of which a byte may have gone out is there. No journal is refused: each crash
+/// state is read as its log or its cosigner. A later export has the step of each of its records. If
+/// a store accepts a certificate by a signature whose record a run of an execution held, or by a
+/// landmark, a run of `audit` over the wanted list, and over an export that was printed after it,
+/// prints that the entry stands, or two different strings with one hash. Or it ends with status 5,
+/// 6 or 8.
 pub fn law_the_whole_promise<H: TreeHash, R: Room, O: Sink, E: Sink>()
-    ensures once { KeysSignOnce H.hash R.Room R.Dsk.Disk O.Sink E.Sink }
-    ensures messages { KeysSignOneMessage H.hash R.Room R.Dsk.Disk O.Sink E.Sink }
-    ensures stand { RecoveredListsGrow H.hash R.Room R.Dsk.Disk O.Sink E.Sink }
-    ensures read { JournalsAreRead H.hash R.Room R.Dsk.Disk O.Sink E.Sink }
-    ensures signatures { OnlyCosignSigns H.hash R.Room R.Dsk.Disk O.Sink E.Sink }
-    ensures audits { AuditsDecide H.hash R.Room R.Dsk.Disk O.Sink E.Sink }
+    ensures once { KeysSignOnce H.hash (program H.hash R.Room R.Dsk.Disk O.Sink E.Sink) }
+    ensures messages { KeysSignOneMessage H.hash (program H.hash R.Room R.Dsk.Disk O.Sink E.Sink) }
+    ensures stand { RecoveredListsGrow H.hash (program H.hash R.Room R.Dsk.Disk O.Sink E.Sink) }
+    ensures read { JournalsAreRead H.hash (program H.hash R.Room R.Dsk.Disk O.Sink E.Sink) }
+    ensures signatures { OnlyCosignSigns H.hash (program H.hash R.Room R.Dsk.Disk O.Sink E.Sink) }
+    ensures remain { SignaturesStand H.hash (program H.hash R.Room R.Dsk.Disk O.Sink E.Sink) }
+    ensures exports { ExportsHoldTheSteps H.hash (program H.hash R.Room R.Dsk.Disk O.Sink E.Sink) }
+    ensures audits { AuditsDecide H.hash (program H.hash R.Room R.Dsk.Disk O.Sink E.Sink) }
 {}

@@ -6,7 +6,8 @@ ghost use Rattle.byte_formats.specs.Types.{Text};
 ghost use Rattle.disk_core.specs.Memory.{IsFresh, failing_of};
 ghost use Rattle.mtc_room.specs.Memory.{disk_in};
 ghost use Rattle.mtc_room.specs.declared.memory.MemRoom.{MemRoom};
-ghost use Rattle.mtc_top.specs.Courses.{crash_states_from, crash_states_in};
+ghost use Rattle.file_events.specs.Worlds.{all_states, states_between};
+ghost use Rattle.mtc_top.specs.Courses.{program};
 ghost use Rattle.mtc_top.specs.Stops.{StopsLeaving};
 
 use disk_core::{Disk, MemDisk};
@@ -29,12 +30,12 @@ pub fn stop_leaving<H: TreeHash, O: Sink, E: Sink>(
 ) -> Result<(), Memory>
     ensures stops { OnOk result (StopsLeaving H.hash ⟦<MemRoom as Room>⟧ ⟦<MemDisk as Disk>⟧
         O.Sink E.Sink
-        (crash_states_in H.hash ⟦<MemRoom as Room>⟧ ⟦<MemDisk as Disk>⟧ O.Sink E.Sink room.old)
+        (all_states (program H.hash ⟦<MemRoom as Room>⟧ ⟦<MemDisk as Disk>⟧ O.Sink E.Sink) room.old)
         name.now left room.old room.new) }
     ensures cuts { OnOk result ((begun : MemRoom)
         → StopsLeaving H.hash ⟦<MemRoom as Room>⟧ ⟦<MemDisk as Disk>⟧ O.Sink E.Sink
-        (crash_states_from H.hash ⟦<MemRoom as Room>⟧ ⟦<MemDisk as Disk>⟧ O.Sink E.Sink begun
-        room.old)
+        (λ file. states_between
+        (program H.hash ⟦<MemRoom as Room>⟧ ⟦<MemDisk as Disk>⟧ O.Sink E.Sink) file begun room.old)
         name.now left room.old room.new) }
     ensures placed { OnOk result (IsSomeAnd (disk_in room.new name.now)
         (λ d. IsFresh left d × (failing_of d ≡ failing.items))) }

@@ -1,8 +1,8 @@
 //! The program's one call: the arguments, the work, and what goes out.
 
 ghost use Rattle.std.specs.Prelude.{◌≡◌, ◌<◌, ◌^◌, ◌+◌, [], ◌++◌, map, string_bytes, IfSome};
-ghost use Rattle.std.specs.Prelude.{IsErr};
-ghost use Rattle.mtc_words.specs.Commands.{command_value, IsInRange};
+ghost use Rattle.std.specs.Prelude.{IsErr, None};
+ghost use Rattle.mtc_words.specs.Commands.{command_value, journal_of, IsInRange};
 ghost use Rattle.mtc_words.specs.Words.{command_of};
 ghost use Rattle.mtc_command.specs.Answers.{ending_of};
 ghost use Rattle.mtc_command.specs.Made.{HasKept};
@@ -44,7 +44,60 @@ use mtc_words::{Command, WordError, command_word, read_words};
 use std::alloc::Global;
 use tree_core::TreeHash;
 
-// Carries out a command. There is one arm for each.
+// Carries out a command that has no journal, and so only reads files, or none. The others don't get
+// here.
+fn perform_reading<'a, H: TreeHash, R: Room>(
+    alloc: Global,
+    room: &mut R,
+    command: Command<'a>,
+) -> Result<Answer, Stop<'a>>
+    requires opened { R.opened room.old + 1 < 2 ^ 32 }
+    requires range { IsInRange (command_value command) }
+    requires alone { journal_of (command_value command) ≡ None }
+    ensures done { let asked = facts_of H.hash (command_value command.entry) in
+        HasDone R.Room R.Dsk.Disk ⊥ (asked.journals ++ (asked.besides ++ asked.inputs))
+        asked.journals asked.besides
+        (command_outcome H.hash (command_value command.entry) (R.file room.old)) room.old room.new
+        (ending_of result) }
+    ensures valid { let asked = facts_of H.hash (command_value command.entry) in
+        KeepsValid R.Room R.Dsk.Disk asked.Valid asked.journals
+        (command_outcome H.hash (command_value command.entry) (R.file room.old))
+        room.old room.new }
+    ensures began { IfSome (facts_of H.hash (command_value command.entry)).makes (λ name.
+        ModelsNew R.Room R.Dsk.Disk name room.old room.new (ending_of result)) }
+    ensures only_read { R.is_modelled room.old → LeavesEach R.Room R.Dsk.Disk room.old room.new
+        (done_with (facts_of H.hash (command_value command.entry)).only_reads []) HasKept }
+    ensures spares { let asked = facts_of H.hash (command_value command.entry) in
+        OfEach (λ name did. SparesTiles R.Room room.old room.new name)
+        (done_with asked.journals
+        (command_outcome H.hash (command_value command.entry) (R.file room.old)).journals) }
+    ensures stores { let asked = facts_of H.hash (command_value command.entry) in
+        StoresBeside (HasTilesOf H.hash) asked.Valid R.Room R.Dsk.Disk room.old room.new
+        asked.journals asked.besides
+        (command_outcome H.hash (command_value command.entry) (R.file room.old)) }
+{
+    match command {
+        Command::Member(file) => member::<H, R>(alloc, room, file),
+        Command::Show(file) => show(alloc, room, file),
+        Command::Verify(cert, store, now) => verify::<H, R>(alloc, room, cert, store, now),
+        Command::Keygen(height, width, secret) => keygen(alloc, room, height, width, secret),
+        Command::TrustLandmarks(list, most, items) => trust::<H, R>(alloc, room, list, most, items),
+        Command::Audit(cert, store, now, entries, export) => {
+            audit::<H, R>(alloc, room, cert, store, now, entries, export)
+        }
+        Command::Quarrel(export) => quarrel::<H, R>(alloc, room, export),
+        Command::Drill(number) => drill::<H>(alloc, number),
+        Command::Root(entries) => root::<H, R>(alloc, room, entries),
+        Command::Held(export) => held::<H, R>(alloc, room, export),
+        Command::MonitorInit(log) => monitor_init(alloc, log),
+        Command::Monitor(state, watch, request, entries) => {
+            monitor::<H, R>(alloc, room, state, watch, request, entries)
+        }
+        _ => unreachable!(),
+    }
+}
+
+// Carries out a command. There is one arm for each, here or in `perform_reading`.
 fn perform<'a, H: TreeHash, R: Room>(
     alloc: Global,
     room: &mut R,
@@ -75,9 +128,6 @@ fn perform<'a, H: TreeHash, R: Room>(
         (command_outcome H.hash (command_value command.entry) (R.file room.old)) }
 {
     match command {
-        Command::Member(file) => member::<H, R>(alloc, room, file),
-        Command::Show(file) => show(alloc, room, file),
-        Command::Verify(cert, store, now) => verify::<H, R>(alloc, room, cert, store, now),
         Command::InitLog(log, id, active, limit) => init_log(alloc, room, log, id, active, limit),
         Command::Issue(journal, request) => issue::<H, R>(alloc, room, journal, request),
         Command::Checkpoint(log) => on_log::<H, R>(alloc, room, log, Work::Checkpoint),
@@ -89,7 +139,6 @@ fn perform<'a, H: TreeHash, R: Room>(
         Command::Subtree(log, start, end, size) => {
             on_log::<H, R>(alloc, room, log, Work::Subtree(start, end, size))
         }
-        Command::Keygen(height, width, secret) => keygen(alloc, room, height, width, secret),
         Command::InitCosigner(journal, id, log, height, width, secret) => {
             init_cosigner(alloc, room, journal, id, log, height, width, secret)
         }
@@ -99,22 +148,11 @@ fn perform<'a, H: TreeHash, R: Room>(
         Command::Landmark(log) => on_log::<H, R>(alloc, room, log, Work::Landmark),
         Command::Landmarks(log) => on_log::<H, R>(alloc, room, log, Work::Landmarks),
         Command::LightCert(log, index) => on_log::<H, R>(alloc, room, log, Work::LightCert(index)),
-        Command::TrustLandmarks(list, most, items) => trust::<H, R>(alloc, room, list, most, items),
         Command::Cert(journal, index, start, end, signatures) => {
             cert::<H, R>(alloc, room, journal, index, start, end, signatures)
         }
-        Command::Audit(cert, store, now, entries, export) => {
-            audit::<H, R>(alloc, room, cert, store, now, entries, export)
-        }
-        Command::Quarrel(export) => quarrel::<H, R>(alloc, room, export),
-        Command::Drill(number) => drill::<H>(alloc, number),
         Command::Tile(log) => on_log::<H, R>(alloc, room, log, Work::Tile),
-        Command::Root(entries) => root::<H, R>(alloc, room, entries),
-        Command::Held(export) => held::<H, R>(alloc, room, export),
-        Command::MonitorInit(log) => monitor_init(alloc, log),
-        Command::Monitor(state, watch, request, entries) => {
-            monitor::<H, R>(alloc, room, state, watch, request, entries)
-        }
+        _ => perform_reading::<H, R>(alloc, room, command),
     }
 }
 

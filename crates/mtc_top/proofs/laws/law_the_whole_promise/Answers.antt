@@ -1,4 +1,6 @@
 use Rattle.mtc_top.proofs.AuditsDecide.{audits_decide}
+use Rattle.mtc_top.proofs.Exports.{exports_hold}
+use Rattle.mtc_top.proofs.PrintedStands.{signatures_stand}
 use Rattle.mtc_top.proofs.Recovered.{keys_once, lists_grow, one_message, read_again}
 use Rattle.mtc_top.proofs.Secrets.{only_cosign}
 use Rattle.mtc_top.proofs.laws.law_the_whole_promise.Goals as goal
@@ -30,5 +32,15 @@ returns-clause-signatures g c = only_cosign g.H.TreeHash.hash g.R.Room g.R.Dsk.D
 
 pub returns-clause-audits : goal.returns-clause-audits
 returns-clause-audits g c = audits_decide g.H.TreeHash.hash g.R.Room g.R.Dsk.Disk g.O.Sink g.E.Sink
+    g.met.R.Dsk.Disk.reads_crash_state g.met.R.Dsk.Disk.only_now g.met.R.Room.modelled_file
+    g.met.R.Dsk.Disk.contents_bytes
+
+pub returns-clause-remain : goal.returns-clause-remain
+returns-clause-remain g c = signatures_stand g.H.TreeHash.hash g.R.Room g.R.Dsk.Disk g.O.Sink
+    g.E.Sink g.met.R.Dsk.Disk.reads_crash_state g.met.R.Dsk.Disk.only_now g.met.R.Room.modelled_file
+    g.met.R.Dsk.Disk.contents_bytes
+
+pub returns-clause-exports : goal.returns-clause-exports
+returns-clause-exports g c = exports_hold g.H.TreeHash.hash g.R.Room g.R.Dsk.Disk g.O.Sink g.E.Sink
     g.met.R.Dsk.Disk.reads_crash_state g.met.R.Dsk.Disk.only_now g.met.R.Room.modelled_file
     g.met.R.Dsk.Disk.contents_bytes

@@ -1,12 +1,9 @@
-use Rattle.std.proofs.Common.{◌≡◌, ℕ, List, [], ◌∷◌, refl, sym, arith}
+use Rattle.std.proofs.Common.{◌≡◌, ℕ, List, [], ◌∷◌, sym}
 use Rattle.mtc_room.specs.declared.room.Room.{Ghosts as Rooms}
 use Rattle.mtc_command.proofs.Beside.{longer_other}
-use Rattle.mtc_command.proofs.Served.{answered}
-use Rattle.mtc_command.specs.Answers.{ending_of, tiles_name}
+use Rattle.mtc_command.specs.Answers.{tiles_name}
 use Rattle.mtc_command.specs.Served.{ClosesAll}
 use Rattle.mtc_authority.specs.NoJournal.{SparesTiles}
-use Rattle.mtc_drill.specs.Summary.{drill_outcome}
-use Rattle.mtc_watch.specs.MonitorOutcome.{monitor_init_outcome}
 use Rattle.mtc_top.proofs.top.perform.Goals as goal
 
 -- a command that names no file of tiles leaves each
@@ -14,35 +11,6 @@ spared : {R S D : Type 0} (rooms : Rooms R S D) (old new : R) (name : List ℕ)
     → ClosesAll rooms old new (name ∷ []) → SparesTiles rooms old new name
 spared rooms old new name closes = λ t not. closes.others (tiles_name name)
     (λ (same : tiles_name name ≡ name). longer_other name (sym same), tt)
-
--- the file system is as it was
-pub returns-in-Drill-clause-done : goal.returns-in-Drill-clause-done
-returns-in-Drill-clause-done g c =
-    rw c.in-Drill.is
-    (answered g.R.Room g.R.Dsk.Disk [] [] [] (drill_outcome c.in-Drill.number) c.args.room.now
-    c.args.room.now
-    (record {
-      opened = refl;
-      later = omega arith;
-      is_modelled = λ t. t;
-      others = λ name other. record { bytes = refl; disk = refl };
-    })
-    g.met.R.Dsk.Disk.only_now (ending_of c.drill.result) (drill_outcome c.in-Drill.number).answer
-    (λ t. refl) c.drill.ensures)
-
-pub returns-in-MonitorInit-clause-done : goal.returns-in-MonitorInit-clause-done
-returns-in-MonitorInit-clause-done g c =
-    rw c.in-MonitorInit.is
-    (answered g.R.Room g.R.Dsk.Disk [] [] [] (monitor_init_outcome c.in-MonitorInit.log)
-    c.args.room.now c.args.room.now
-    (record {
-      opened = refl;
-      later = omega arith;
-      is_modelled = λ t. t;
-      others = λ name other. record { bytes = refl; disk = refl };
-    })
-    g.met.R.Dsk.Disk.only_now (ending_of c.monitor_init.result)
-    (monitor_init_outcome c.in-MonitorInit.log).answer (λ t. refl) c.monitor_init.ensures)
 
 pub returns-in-InitLog-clause-valid : goal.returns-in-InitLog-clause-valid
 returns-in-InitLog-clause-valid g c =
