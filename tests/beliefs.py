@@ -1,5 +1,5 @@
 #!/usr/bin/env python3
-"""What the statement of `run`, its laws and those of courses rest on: the definitions of its page, and those that these name.
+"""What the statement of `run`, its laws and those of executions rest on: the definitions of its page, and those that these name.
 
 tests/reference_pages.py puts the tables into docs/reference/TRUSTED.md, and the first of them into docs/BELIEFS.md.
 Usage: tests/beliefs.py            prints each definition, with its file and its number of lines
@@ -14,14 +14,14 @@ from checks.sources import CLAUSE, FUNCTION, ROOT, behind_braces, behind_head, c
 
 TOP = ROOT / "crates" / "mtc_top" / "src"
 # Each statement: what its table is headed by, the functions whose contracts it is, and its page of definitions. First the
-# record that `run` ensures with the laws of each run, then the laws of courses, and those of what is printed.
+# record that `run` ensures with the laws of each run, then the laws of executions, and those of what is printed.
 RUNS = ("The statement names", r"run|law_runs_\w+", ("mtc_top.specs.Run", "mtc_top.specs.RunLaws"))
 LAWS = "mtc_top.specs.{}Laws"
 PRINTED = tuple(map(LAWS.format, ("Export", "Audit", "Print", "Status")))
 PRINTS = ("The laws of what is printed name", r"law_(?:exports|audits|printed|misread)_\w+", PRINTED)
-LINKED = ("mtc_top.specs.Courses", *map(LAWS.format, ("Course", "Room", "Tile")))
-COURSES = ("The laws of courses name", r"law_(?:courses|entries|journals|no|recovered|released|tiles)_\w+", LINKED)
-STATEMENTS = (RUNS, COURSES, PRINTS)
+LINKED = ("mtc_top.specs.Executions", *map(LAWS.format, ("Execution", "Room", "Tile")))
+EXECUTIONS = ("The laws of executions name", r"law_(?:executions|entries|journals|no|recovered|released|tiles)_\w+", LINKED)
+STATEMENTS = (RUNS, EXECUTIONS, PRINTS)
 
 # The contracts are generic: what they say of a file system, a device, a stream and a hash function is what these traits ensure.
 TRAITS = ("mtc_room/src/room.rt", "disk_core/src/disk.rt", "mtc_io/src/source.rt", "mtc_io/src/sink.rt", "tree_core/src/hashing.rt")
@@ -324,7 +324,7 @@ PARTS = (
     ("By crate", "All definitions that count for one of the statements below, each once.", crate_rows),
     ("The contract of run", "What the contract of `run` and the laws of each run name themselves.", lambda: first_rows(RUNS)),
     ("The promise as a whole", "The list of the promise, and where it ends.", promise_rows),
-    ("The laws of courses", "What they name themselves.", lambda: first_rows(COURSES)),
+    ("The laws of executions", "What they name themselves.", lambda: first_rows(EXECUTIONS)),
     ("The laws of what is printed", "What they name themselves.", lambda: first_rows(PRINTS)),
     ("Words of the kit", "The definitions of the kit that count.", kit_rows),
     ("Edits by crate", "Wrong programs that are refused. The middle columns say how many of a crate's edits the search for proofs refused, "
@@ -384,7 +384,7 @@ def own_of(statement):
 def summary():
     """The first table of BELIEFS: how much each statement rests on."""
     rows = ["| Statement | Definitions that it names | Lines | With all below them | Lines |", "|---|---|---|---|---|"]
-    named = (("the contract of `run`, and the laws of each run", RUNS), ("the laws of courses", COURSES),
+    named = (("the contract of `run`, and the laws of each run", RUNS), ("the laws of executions", EXECUTIONS),
              ("the laws of what is printed", PRINTS))
     rows += [summary_row(name, named_first(statement), own_of(statement)) for name, statement in named]
     rows.insert(3, summary_row("the promise as a whole", named_by(WHOLE), promise()[0]))

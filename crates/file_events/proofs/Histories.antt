@@ -9,7 +9,8 @@ use Rattle.file_events.specs.Events.{CrashStates, Done, Event, HalfDone, EventHo
 use Rattle.file_events.specs.Events.{Leads, MayAppend, WasFound, appended, broke, elsewhere, ran}
 use Rattle.file_events.specs.Events.{reads, records_after, all_released, released_by}
 use Rattle.file_events.specs.Events.{released_if, started, untouched}
-use Rattle.file_events.specs.Histories.{ExecutionsAreHistories, HistoriesGoOn, History, IsHistory}
+use Rattle.file_events.specs.Histories.{ExecutionsAreHistories, HistoriesContinue, History}
+use Rattle.file_events.specs.Histories.{IsHistory}
 use Rattle.file_events.specs.Histories.{ReachesAll, RepresentsPending, TakesSteps}
 use Rattle.file_events.specs.Laws.{IsJournalExecution}
 use Rattle.file_events.proofs.Records.{no_records, none_is, one_list}
@@ -176,8 +177,8 @@ module _ {W : Type 0} (states : W → CrashStates) (Valid : List Text → Type 0
       (after takes (out ++ released_by event) events is.0 new
       (step Valid Reaches takes out (states old) (states is.0) event history is.1.0) is.1.1)
 
-  pub histories_go_on : HistoriesGoOn states Valid Reaches
-  histories_go_on takes out old new events history is = after takes out events old new history is
+  pub histories_continue : HistoriesContinue states Valid Reaches
+  histories_continue takes out old new events history is = after takes out events old new history is
 
   pub executions_are_histories : ExecutionsAreHistories states Valid Reaches
   executions_are_histories takes makes_durable list old new [] held is = absurd held

@@ -4,7 +4,7 @@ pub mod Uses
 pub mod Levels
 pub mod TwoLevels
 pub mod Histories
-pub mod Links
+pub mod OwnEvents
 pub mod Tiles
 pub mod Mirrors
 pub mod Works

@@ -4,16 +4,17 @@ use Rattle.std.proofs.Common.{◌∙◌}
 use Rattle.byte_formats.specs.Types.{Text}
 use Rattle.file_events.specs.Events.{Event, Journaled, Leads, broke, ran}
 use Rattle.file_events.specs.Executions.{AnyEvent}
-use Rattle.file_events.specs.Owners.{CoursesAgree, CoursesHold, JournalCourses, ServesJournal}
+use Rattle.file_events.specs.Owners.{ExecutionsAgree, ExecutionsHold, JournalExecutions}
+use Rattle.file_events.specs.Owners.{ServesJournal}
 use Rattle.file_events.specs.Owners.{ServesLog, ServesMirror, TilesSurvive, did_to, journal_file}
 use Rattle.file_events.specs.Owners.{JournalRunsMayBreak, LogRunsMayBreak, MirrorRunsMayBreak}
 use Rattle.file_events.specs.Owners.{NewTilesSurvive, RunsAreEvents, log_files}
 use Rattle.file_events.specs.Owners.{mirror_files}
 use Rattle.file_events.specs.Tiles.{TilesWork}
-use Rattle.file_events.specs.Worlds.{LeavesStopped, LinksLead, Program, Turn, all_states}
-use Rattle.file_events.specs.Worlds.{breaks_off, event_with, events_of, heard_of, states_between}
+use Rattle.file_events.specs.Worlds.{LeavesStopped, FileEventsLead, Program, Run, all_states}
+use Rattle.file_events.specs.Worlds.{breaks_off, event_with, own_events, heard_of, states_between}
 use Rattle.file_events.specs.Worlds.{states_of}
-use Rattle.file_events.proofs.Links.{courses_execute, each_run}
+use Rattle.file_events.proofs.OwnEvents.{owners_execute, each_run}
 use Rattle.file_events.proofs.Mirrors.{always_agree}
 use Rattle.file_events.proofs.Stays.{held_stand}
 use Rattle.file_events.proofs.Tiles.{new_tiles_go, tiles_go}
@@ -28,7 +29,7 @@ released_event broken heard did wanted whole reported is =
 
 module _ (p : Program) (Valid : List Text → Type 0) (name : Text) where
   -- a stop in the middle of a run
-  cut_leads : ServesJournal p Valid name → (old : p.R) (run : Turn p.R p.O p.E) (room : p.R)
+  cut_leads : ServesJournal p Valid name → (old : p.R) (run : Run p.R p.O p.E) (room : p.R)
       → p.rooms.is_modelled old → p.HasRun old run
       → LeavesStopped p (λ n. states_between p n old run.room) run.room room
       → p.rooms.is_modelled room
@@ -41,7 +42,7 @@ module _ (p : Program) (Valid : List Text → Type 0) (name : Text) where
       (λ d. d ≡ cut.crash_state name) (states_of p name room) at_once (cut.only name)
       (serves.rooms.some room name modelled')
 
-  pub journal_lead : ServesJournal p Valid name → LinksLead p (journal_file p Valid name)
+  pub journal_lead : ServesJournal p Valid name → FileEventsLead p (journal_file p Valid name)
   journal_lead serves = record {
     modelled = serves.rooms.modelled;
     runs = λ old run modelled is. (serves.leaves old run modelled is).leads;
@@ -53,18 +54,18 @@ module _ (p : Program) (Valid : List Text → Type 0) (name : Text) where
     some = serves.rooms.some;
   }
 
-  pub journal_courses : JournalCourses p Valid name
-  journal_courses serves old new links modelled is =
-      courses_execute p (journal_file p Valid name) (journal_lead serves) old new links modelled is
+  pub journal_executions : JournalExecutions p Valid name
+  journal_executions serves old new events modelled is =
+      owners_execute p (journal_file p Valid name) (journal_lead serves) old new events modelled is
 
   pub runs_are_events : RunsAreEvents p Valid name
-  runs_are_events serves old new links modelled is =
+  runs_are_events serves old new events modelled is =
       let o = journal_file p Valid name in
       each_run p o (journal_lead serves) Event (λ (x event : Event). event ≡ x)
-      (λ (x : Event). AnyEvent (λ (event : Event). event ≡ x) (events_of p o old links))
+      (λ (x : Event). AnyEvent (λ (event : Event). event ≡ x) (own_events p o old events))
       (λ before run. p.HasRun before run × AnyEvent
-      (λ (event : Event). event ≡ o.run_event before run) (events_of p o old links))
-      (λ before run modelled ran reported. (ran, reported (o.run_event before run) refl)) links old
+      (λ (event : Event). event ≡ o.run_event before run) (own_events p o old events))
+      (λ before run modelled ran reported. (ran, reported (o.run_event before run) refl)) events old
       new
       modelled is (λ x any. any)
 
@@ -74,17 +75,17 @@ module _ (p : Program) (Valid : List Text → Type 0) (name : Text) where
       (states_of p name old) (states_of p name run.room)
       (serves.leaves old run modelled is).leads
 
-  pub courses_hold : CoursesHold p Valid name
-  courses_hold serves old new links modelled is list held =
+  pub executions_hold : ExecutionsHold p Valid name
+  executions_hold serves old new events modelled is list held =
       held_stand (states_of p name) Valid list old new
-      (events_of p (journal_file p Valid name) old links) held
-      (journal_courses serves old new links modelled is)
+      (own_events p (journal_file p Valid name) old events) held
+      (journal_executions serves old new events modelled is)
 
 module _ (p : Program) (goes : List Text → Text → Type 0) (Plain : List Text → Text → Type 0)
     (Valid : List Text → Type 0) (name tiles : Text)
-    (how_of : p.R → Turn p.R p.O p.E → TilesWork) where
+    (how_of : p.R → Run p.R p.O p.E → TilesWork) where
   log_lead : ServesLog p goes Plain Valid name tiles how_of
-      → LinksLead p (log_files p goes Plain Valid name tiles how_of)
+      → FileEventsLead p (log_files p goes Plain Valid name tiles how_of)
   log_lead serves = record {
     modelled = serves.rooms.modelled;
     runs = λ old run modelled is. record {
@@ -115,17 +116,17 @@ module _ (p : Program) (goes : List Text → Text → Type 0) (Plain : List Text
   new_survive = new_tiles_go goes Plain Valid (states_of p name) (states_of p tiles)
 
   pub tiles_survive : TilesSurvive p goes Plain Valid name tiles how_of
-  tiles_survive serves keep prefix old new links modelled is durable go =
+  tiles_survive serves keep prefix old new events modelled is durable go =
       let o = log_files p goes Plain Valid name tiles how_of in
       (tiles_go goes Plain Valid (states_of p name) (states_of p tiles) keep prefix
-      old new (events_of p o old links) durable go
-      (courses_execute p o (log_lead serves) old new links modelled is)).1
+      old new (own_events p o old events) durable go
+      (owners_execute p o (log_lead serves) old new events modelled is)).1
 
 module _ (p : Program) (agrees : List Text → List Text → Type 0)
     (Computed : List Text → List Text → Text → Type 0) (Neutral : List Text → Text → Type 0)
     (ValidMirror ValidCosigner : List Text → Type 0) (mirror cosigner : Text) where
   mirror_lead : ServesMirror p agrees Computed Neutral ValidMirror ValidCosigner mirror cosigner
-      → LinksLead p
+      → FileEventsLead p
       (mirror_files p agrees Computed Neutral ValidMirror ValidCosigner mirror cosigner)
   mirror_lead serves = record {
     modelled = serves.rooms.modelled;
@@ -161,10 +162,10 @@ module _ (p : Program) (agrees : List Text → List Text → Type 0)
             (states_of p cosigner run.room) leads.happens;
       }
 
-  pub courses_agree : CoursesAgree p agrees Computed Neutral ValidMirror ValidCosigner mirror
+  pub executions_agree : ExecutionsAgree p agrees Computed Neutral ValidMirror ValidCosigner mirror
       cosigner
-  courses_agree serves keeps items steps old new links modelled is durable durable' agree =
+  executions_agree serves keeps items steps old new events modelled is durable durable' agree =
       let o = mirror_files p agrees Computed Neutral ValidMirror ValidCosigner mirror cosigner in
       always_agree agrees Computed Neutral ValidMirror ValidCosigner (states_of p mirror)
-      (states_of p cosigner) keeps items steps old new (events_of p o old links) durable
-      durable' agree (courses_execute p o (mirror_lead serves) old new links modelled is)
+      (states_of p cosigner) keeps items steps old new (own_events p o old events) durable
+      durable' agree (owners_execute p o (mirror_lead serves) old new events modelled is)

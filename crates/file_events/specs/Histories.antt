@@ -47,8 +47,9 @@ pub record IsHistory (Reaches : History) (out : List Text) (states : CrashStates
 module _ {W : Type 0} (states : W → CrashStates) (Valid : List Text → Type 0)
     (Reaches : History) where
   -- Whatever happens to a journal with a history: it continues, and releases what was released.
-  abbrev pub HistoriesGoOn : Type 0
-  HistoriesGoOn = TakesSteps Valid Reaches → (out : List Text) (old new : W) (events : List Event)
+  abbrev pub HistoriesContinue : Type 0
+  HistoriesContinue =
+      TakesSteps Valid Reaches → (out : List Text) (old new : W) (events : List Event)
       → IsHistory Reaches out (states old) → IsJournalExecution states Valid old events new
       → IsHistory Reaches (out ++ all_released events) (states new)
 

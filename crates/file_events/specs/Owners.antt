@@ -13,18 +13,18 @@ use Rattle.file_events.specs.Tiles.{Goes, LeadsLog, LogEvent, NewTilesGo, PlainR
 use Rattle.file_events.specs.Tiles.{TilesWork, log_event_with, broke as broke_log}
 use Rattle.file_events.specs.Tiles.{elsewhere as none_of_log}
 use Rattle.file_events.specs.Works.{LeavesAll, journal_work, tiles_work}
-use Rattle.file_events.specs.Worlds.{LeavesStopped, IsFileCourse, Link, FileOwner, Program}
-use Rattle.file_events.specs.Worlds.{Turn, all_states, breaks_off, done_to, event_with, events_of}
+use Rattle.file_events.specs.Worlds.{LeavesStopped, IsFileExecution, FileEvent, FileOwner, Program}
+use Rattle.file_events.specs.Worlds.{Run, all_states, breaks_off, done_to, event_with, own_events}
 use Rattle.file_events.specs.Worlds.{EachRun, heard_of, states_between, states_of}
 
 module _ (p : Program) where
   -- What a run did with the journal of a name.
-  abbrev pub did_to : Text → p.R → Turn p.R p.O p.E → Journaled
+  abbrev pub did_to : Text → p.R → Run p.R p.O p.E → Journaled
   did_to name old run = done_to (p.journals old run) name
 
   -- Where the files are modelled they are so after a run, and a crash leaves something of each.
   pub record KeepsRooms : Type 0 where
-    pub modelled : (old : p.R) (run : Turn p.R p.O p.E) → p.rooms.is_modelled old → p.HasRun old run
+    pub modelled : (old : p.R) (run : Run p.R p.O p.E) → p.rooms.is_modelled old → p.HasRun old run
         → p.rooms.is_modelled run.room
     pub some : (room : p.R) (name : Text) → p.rooms.is_modelled room
         → (c : Text) × states_of p name room c
@@ -32,7 +32,7 @@ module _ (p : Program) where
   -- A run that is killed over files that stop taking calls all at once is a run in which all of
   -- them fail: whatever its status, what it leaves is what a run leaves that broke off.
   abbrev pub RunsMayBreak : FileOwner p → Type 0
-  RunsMayBreak o = (old : p.R) (run : Turn p.R p.O p.E) → p.rooms.is_modelled old → p.HasRun old run
+  RunsMayBreak o = (old : p.R) (run : Run p.R p.O p.E) → p.rooms.is_modelled old → p.HasRun old run
       → o.LeadsTo (o.broken_event old run) old run.room
 
 -- ---- one journal
@@ -40,7 +40,7 @@ module _ (p : Program) where
 module _ (p : Program) (Valid : List Text → Type 0) (name : Text) where
   -- What a run leaves of the journal is an event. Where the machine stops at some time of it, what
   -- is left is an event too: of a run that broke off.
-  pub record LeavesJournal (old : p.R) (run : Turn p.R p.O p.E) : Type 0 where
+  pub record LeavesJournal (old : p.R) (run : Run p.R p.O p.E) : Type 0 where
     pub leads : Leads Valid
         (event_with (breaks_off run.status) (heard_of p run) (did_to p name old run))
         (states_of p name old) (states_of p name run.room)
@@ -63,32 +63,32 @@ module _ (p : Program) (Valid : List Text → Type 0) (name : Text) where
   -- Runs of the program leave of the journal what they must.
   pub record ServesJournal : Type 0 where
     pub rooms : KeepsRooms p
-    pub leaves : (old : p.R) (run : Turn p.R p.O p.E) → p.rooms.is_modelled old → p.HasRun old run
+    pub leaves : (old : p.R) (run : Run p.R p.O p.E) → p.rooms.is_modelled old → p.HasRun old run
         → LeavesJournal old run
 
   -- What happens to the program's files is an execution of the events of the journal.
-  abbrev pub JournalCourses : Type 0
-  JournalCourses = ServesJournal → (old new : p.R) (links : List (Link p.R p.O p.E))
-      → p.rooms.is_modelled old → IsFileCourse p journal_file old links new
+  abbrev pub JournalExecutions : Type 0
+  JournalExecutions = ServesJournal → (old new : p.R) (events : List (FileEvent p.R p.O p.E))
+      → p.rooms.is_modelled old → IsFileExecution p journal_file old events new
       → IsJournalExecution (states_of p name) Valid old
-      (events_of p journal_file old links) new
+      (own_events p journal_file old events) new
 
   -- So records that a run of the execution held are durable after it.
-  abbrev pub CoursesHold : Type 0
-  CoursesHold = ServesJournal → (old new : p.R) (links : List (Link p.R p.O p.E))
-      → p.rooms.is_modelled old → IsFileCourse p journal_file old links new
-      → (list : List Text) → WereHeld (events_of p journal_file old links) list
+  abbrev pub ExecutionsHold : Type 0
+  ExecutionsHold = ServesJournal → (old new : p.R) (events : List (FileEvent p.R p.O p.E))
+      → p.rooms.is_modelled old → IsFileExecution p journal_file old events new
+      → (list : List Text) → WereHeld (own_events p journal_file old events) list
       → IsDurablePrefix Valid list (states_of p name new)
 
   -- Each run of an execution is one of the program, and its event is one of the execution's: so one
   -- that came to its end held the records that it found or made, and it released the one that it
   -- added if it was heard.
   abbrev pub RunsAreEvents : Type 0
-  RunsAreEvents = ServesJournal → (old new : p.R) (links : List (Link p.R p.O p.E))
-      → p.rooms.is_modelled old → IsFileCourse p journal_file old links new
+  RunsAreEvents = ServesJournal → (old new : p.R) (events : List (FileEvent p.R p.O p.E))
+      → p.rooms.is_modelled old → IsFileExecution p journal_file old events new
       → EachRun p (λ before run. p.HasRun before run
       × AnyEvent (λ (event : Event). event ≡ journal_file.run_event before run)
-      (events_of p journal_file old links)) old links
+      (own_events p journal_file old events)) old events
 
   abbrev pub JournalRunsMayBreak : Type 0
   JournalRunsMayBreak = ServesJournal → RunsMayBreak p journal_file
@@ -97,7 +97,7 @@ module _ (p : Program) (Valid : List Text → Type 0) (name : Text) where
 
 module _ (p : Program) (goes : List Text → Text → Type 0) (Plain : List Text → Text → Type 0)
     (Valid : List Text → Type 0) (name tiles : Text)
-    (how_of : p.R → Turn p.R p.O p.E → TilesWork) where
+    (how_of : p.R → Run p.R p.O p.E → TilesWork) where
   -- A stop in the middle of a run is a kill, and then a stop.
   abbrev pub log_files : FileOwner p
   log_files = record {
@@ -114,7 +114,7 @@ module _ (p : Program) (goes : List Text → Text → Type 0) (Plain : List Text
   -- Runs of the program leave of both files at once what they must.
   pub record ServesLog : Type 0 where
     pub rooms : KeepsRooms p
-    pub leaves : (old : p.R) (run : Turn p.R p.O p.E) → p.rooms.is_modelled old → p.HasRun old run
+    pub leaves : (old : p.R) (run : Run p.R p.O p.E) → p.rooms.is_modelled old → p.HasRun old run
         → LeavesAll (breaks_off run.status)
         (journal_work Valid name (did_to p name old run)
         ∷ tiles_work goes Plain name tiles (did_to p name old run) (how_of old run) ∷ [])
@@ -131,8 +131,8 @@ module _ (p : Program) (goes : List Text → Text → Type 0) (Plain : List Text
   -- Tiles and journal go with each other from then on, through every execution.
   abbrev pub TilesSurvive : Type 0
   TilesSurvive = ServesLog → PlainRecordsKeep goes Plain Valid → (prefix : List Text)
-      (old new : p.R) (links : List (Link p.R p.O p.E)) → p.rooms.is_modelled old
-      → IsFileCourse p log_files old links new
+      (old new : p.R) (events : List (FileEvent p.R p.O p.E)) → p.rooms.is_modelled old
+      → IsFileExecution p log_files old events new
       → IsDurablePrefix Valid prefix (states_of p name old)
       → Goes goes (states_of p name old) (states_of p tiles old)
       → Goes goes (states_of p name new) (states_of p tiles new)
@@ -160,9 +160,9 @@ module _ (p : Program) (agrees : List Text → List Text → Type 0)
   -- once.
   pub record ServesMirror : Type 0 where
     pub rooms : KeepsRooms p
-    pub may : (old : p.R) (run : Turn p.R p.O p.E) → p.rooms.is_modelled old → p.HasRun old run
+    pub may : (old : p.R) (run : Run p.R p.O p.E) → p.rooms.is_modelled old → p.HasRun old run
         → MayDo agrees Computed Neutral (did_to p mirror old run) (did_to p cosigner old run)
-    pub leaves : (old : p.R) (run : Turn p.R p.O p.E) → p.rooms.is_modelled old → p.HasRun old run
+    pub leaves : (old : p.R) (run : Run p.R p.O p.E) → p.rooms.is_modelled old → p.HasRun old run
         → LeavesAll (breaks_off run.status)
         (journal_work ValidMirror mirror (did_to p mirror old run)
         ∷ journal_work ValidCosigner cosigner (did_to p cosigner old run) ∷ [])
@@ -172,11 +172,11 @@ module _ (p : Program) (agrees : List Text → List Text → Type 0)
   MirrorRunsMayBreak = ServesMirror → RunsMayBreak p mirror_files
 
   -- They agree from then on, through every execution.
-  abbrev pub CoursesAgree : Type 0
-  CoursesAgree = ServesMirror
+  abbrev pub ExecutionsAgree : Type 0
+  ExecutionsAgree = ServesMirror
       → KeepsAgreement agrees Computed Neutral ValidMirror ValidCosigner
-      → (items steps : List Text) (old new : p.R) (links : List (Link p.R p.O p.E))
-      → p.rooms.is_modelled old → IsFileCourse p mirror_files old links new
+      → (items steps : List Text) (old new : p.R) (events : List (FileEvent p.R p.O p.E))
+      → p.rooms.is_modelled old → IsFileExecution p mirror_files old events new
       → IsDurablePrefix ValidMirror items (states_of p mirror old)
       → IsDurablePrefix ValidCosigner steps (states_of p cosigner old)
       → Agree agrees Computed Neutral (states_of p mirror old)

@@ -13,7 +13,7 @@ use Rattle.file_events.specs.Executions.{IsExecution}
 
 -- A run: its arguments, standard output and standard error before and after, its status, and the
 -- files that it leaves.
-pub record Turn (R O E : Type 0) : Type 0 where
+pub record Run (R O E : Type 0) : Type 0 where
   pub words : List Text
   pub out : O
   pub out_after : O
@@ -80,26 +80,26 @@ pub record Program : Type 1 where
   pub rooms : Rooms R S D
   pub disks : Disks D
   pub outs : Sinks O
-  pub HasRun : R → Turn R O E → Type 0
-  pub journals : R → Turn R O E → Journals
+  pub HasRun : R → Run R O E → Type 0
+  pub journals : R → Run R O E → Journals
 
 -- What happens to files, and the files that it leaves.
-pub data Link (R O E : Type 0) : Type 0 where
+pub data FileEvent (R O E : Type 0) : Type 0 where
   -- a run
-  turned : Turn R O E → Link R O E
+  exited : Run R O E → FileEvent R O E
   -- The program is killed in the middle of a run, before a byte of it went out, and the machine
   -- continues: of the run only the arguments count. A kill after the first byte is a run whose
   -- standard output failed there.
-  died : Turn R O E → R → Link R O E
+  died : Run R O E → R → FileEvent R O E
   -- The machine stops in the middle of a run, before a byte of it went out: the run as it would
   -- have ended, and the files that the stop leaves. A stop after the first byte is a run whose
   -- standard output failed there, and then a stop: it has worked on its files before its first
   -- byte.
-  cut : Turn R O E → R → Link R O E
+  cut : Run R O E → R → FileEvent R O E
   -- the machine stops between two runs
-  stops : R → Link R O E
+  stops : R → FileEvent R O E
   -- Other files are made, changed or taken away, as a request is between two runs.
-  writes : R → Link R O E
+  writes : R → FileEvent R O E
 
 module _ (p : Program) where
   -- What a crash may leave of the file of a name.
@@ -117,28 +117,29 @@ module _ (p : Program) where
   all_states room name = states_of name room
 
   -- A byte of the run's answer may have gone out.
-  abbrev pub heard_of : Turn p.R p.O p.E → Bool
+  abbrev pub heard_of : Run p.R p.O p.E → Bool
   heard_of run =
       is_heard run.status (p.outs.taken run.out) (p.outs.taken run.out_after)
 
   -- The files that it leaves.
-  abbrev pub files_after : Link p.R p.O p.E → p.R
-  files_after (turned run) = run.room
+  abbrev pub files_after : FileEvent p.R p.O p.E → p.R
+  files_after (exited run) = run.room
   files_after (died run room) = room
   files_after (cut run room) = room
   files_after (stops room) = room
   files_after (writes room) = room
 
   -- The run that it is.
-  abbrev pub run_of : Link p.R p.O p.E → Option (Turn p.R p.O p.E)
-  run_of (turned run) = Some run
+  abbrev pub run_of : FileEvent p.R p.O p.E → Option (Run p.R p.O p.E)
+  run_of (exited run) = Some run
   run_of other = None
 
   -- It is so of each run of an execution, with the files with which it began.
-  abbrev pub EachRun : (p.R → Turn p.R p.O p.E → Type 0) → p.R → List (Link p.R p.O p.E)
+  abbrev pub EachRun : (p.R → Run p.R p.O p.E → Type 0) → p.R → List (FileEvent p.R p.O p.E)
       → Type 0
   EachRun P old [] = Unit {0}
-  EachRun P old (link ∷ links) = IfSome (run_of link) (P old) × EachRun P (files_after link) links
+  EachRun P old (event ∷ events) =
+      IfSome (run_of event) (P old) × EachRun P (files_after event) events
 
   -- A stop leaves each file with bytes that a crash may leave of it, and a crash right after it
   -- leaves the same bytes.
@@ -161,47 +162,47 @@ pub record FileOwner (p : Program) : Type 1 where
   pub EventOf : Type 0
   pub LeadsTo : EventOf → p.R → p.R → Type 0
   pub none : EventOf
-  pub run_event : p.R → Turn p.R p.O p.E → EventOf
-  pub broken_event : p.R → Turn p.R p.O p.E → EventOf
+  pub run_event : p.R → Run p.R p.O p.E → EventOf
+  pub broken_event : p.R → Run p.R p.O p.E → EventOf
   -- What a stop in the middle of a run may leave, by the clocks of the files.
-  pub Cuts : p.R → Turn p.R p.O p.E → p.R → Type 0
+  pub Cuts : p.R → Run p.R p.O p.E → p.R → Type 0
 
 module _ (p : Program) (o : FileOwner p) where
   -- What has to hold of each of them. A program that is killed leaves of the owner's files what a
   -- run leaves that broke off.
-  abbrev pub IsLink : p.R → Link p.R p.O p.E → Type 0
-  IsLink old (turned run) = p.HasRun old run
-  IsLink old (died run room) = (p.rooms.is_modelled old → p.rooms.is_modelled room)
+  abbrev pub IsFileEvent : p.R → FileEvent p.R p.O p.E → Type 0
+  IsFileEvent old (exited run) = p.HasRun old run
+  IsFileEvent old (died run room) = (p.rooms.is_modelled old → p.rooms.is_modelled room)
       × o.LeadsTo (o.broken_event old run) old room
-  IsLink old (cut run room) = p.HasRun old run × o.Cuts old run room
-  IsLink old (stops room) = LeavesStopped p (λ name. states_of p name old) old room
-  IsLink old (writes room) = LeavesOwn p o.Own old room
+  IsFileEvent old (cut run room) = p.HasRun old run × o.Cuts old run room
+  IsFileEvent old (stops room) = LeavesStopped p (λ name. states_of p name old) old room
+  IsFileEvent old (writes room) = LeavesOwn p o.Own old room
 
   -- They lead from one state of the files to the other.
-  abbrev pub IsFileCourse : p.R → List (Link p.R p.O p.E) → p.R → Type 0
-  IsFileCourse old [] new = new ≡ old
-  IsFileCourse old (link ∷ links) new =
-      IsLink old link × IsFileCourse (files_after p link) links new
+  abbrev pub IsFileExecution : p.R → List (FileEvent p.R p.O p.E) → p.R → Type 0
+  IsFileExecution old [] new = new ≡ old
+  IsFileExecution old (event ∷ events) new =
+      IsFileEvent old event × IsFileExecution (files_after p event) events new
 
   -- The event of each is computed, and so are the events of a list of them.
-  abbrev pub event_of : p.R → Link p.R p.O p.E → o.EventOf
-  event_of old (turned run) = o.run_event old run
-  event_of old (died run room) = o.broken_event old run
-  event_of old (cut run room) = o.broken_event old run
-  event_of old other = o.none
+  abbrev pub own_event : p.R → FileEvent p.R p.O p.E → o.EventOf
+  own_event old (exited run) = o.run_event old run
+  own_event old (died run room) = o.broken_event old run
+  own_event old (cut run room) = o.broken_event old run
+  own_event old other = o.none
 
-  abbrev pub events_of : p.R → List (Link p.R p.O p.E) → List o.EventOf
-  events_of old [] = []
-  events_of old (link ∷ links) = event_of old link ∷ events_of (files_after p link) links
+  abbrev pub own_events : p.R → List (FileEvent p.R p.O p.E) → List o.EventOf
+  own_events old [] = []
+  own_events old (event ∷ events) = own_event old event ∷ own_events (files_after p event) events
 
   -- What each of them has to leave, where the files are modelled.
-  pub record LinksLead : Type 0 where
-    pub modelled : (old : p.R) (run : Turn p.R p.O p.E) → p.rooms.is_modelled old
+  pub record FileEventsLead : Type 0 where
+    pub modelled : (old : p.R) (run : Run p.R p.O p.E) → p.rooms.is_modelled old
         → p.HasRun old run
         → p.rooms.is_modelled run.room
-    pub runs : (old : p.R) (run : Turn p.R p.O p.E) → p.rooms.is_modelled old → p.HasRun old run
+    pub runs : (old : p.R) (run : Run p.R p.O p.E) → p.rooms.is_modelled old → p.HasRun old run
         → o.LeadsTo (o.run_event old run) old run.room
-    pub cuts : (old : p.R) (run : Turn p.R p.O p.E) (room : p.R) → p.rooms.is_modelled old
+    pub cuts : (old : p.R) (run : Run p.R p.O p.E) (room : p.R) → p.rooms.is_modelled old
         → p.HasRun old run → o.Cuts old run room
         → p.rooms.is_modelled room × o.LeadsTo (o.broken_event old run) old room
     pub stays : (old new : p.R) → p.rooms.is_modelled old
@@ -213,7 +214,7 @@ module _ (p : Program) (o : FileOwner p) where
         → (c : Text) × states_of p name room c
 
   -- What happens to an owner's files is an execution of their events.
-  abbrev pub CoursesAreExecutions : Type 0
-  CoursesAreExecutions = LinksLead → (old new : p.R) (links : List (Link p.R p.O p.E))
-      → p.rooms.is_modelled old → IsFileCourse old links new
-      → IsExecution o.LeadsTo old (events_of old links) new
+  abbrev pub ExecutionsAreOfOwners : Type 0
+  ExecutionsAreOfOwners = FileEventsLead → (old new : p.R) (events : List (FileEvent p.R p.O p.E))
+      → p.rooms.is_modelled old → IsFileExecution old events new
+      → IsExecution o.LeadsTo old (own_events old events) new

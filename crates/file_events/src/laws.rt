@@ -3,11 +3,11 @@
 
 ghost use Rattle.byte_formats.specs.Types.{Text};
 ghost use Rattle.file_events.specs.Apart.{ClocksGoApart, OneByOneFails};
-ghost use Rattle.file_events.specs.Histories.{ExecutionsAreHistories, HistoriesGoOn};
+ghost use Rattle.file_events.specs.Histories.{ExecutionsAreHistories, HistoriesContinue};
 ghost use Rattle.file_events.specs.Keys.{OneLevelUsesOnce, TwoLevelsUseOnce};
 ghost use Rattle.file_events.specs.Laws.{DurableStay, HeldAreDurable, KeysAreOfOneMessage};
 ghost use Rattle.file_events.specs.Laws.{RecoveredIsValid, ReleasedAreDurable};
-ghost use Rattle.file_events.specs.Owners.{CoursesAgree, CoursesHold, JournalCourses};
+ghost use Rattle.file_events.specs.Owners.{ExecutionsAgree, ExecutionsHold, JournalExecutions};
 ghost use Rattle.file_events.specs.Owners.{JournalRunsMayBreak, LogRunsMayBreak};
 ghost use Rattle.file_events.specs.Owners.{MirrorRunsMayBreak, NewTilesSurvive, RunsAreEvents};
 ghost use Rattle.file_events.specs.Owners.{TilesSurvive};
@@ -42,7 +42,7 @@ pub fn law_counted_records_use_keys_once()
 /// What became of a journal is a history of its records: from a run on that found or made some and
 /// came to its end, and on from each history.
 pub fn law_executions_are_histories<D: Disk, J: JournalRules>()
-    ensures on { HistoriesGoOn D.Disk.may_leave J.valid J.reaches }
+    ensures on { HistoriesContinue D.Disk.may_leave J.valid J.reaches }
     ensures begins { ExecutionsAreHistories D.Disk.may_leave J.valid J.reaches }
 {}
 
@@ -51,9 +51,9 @@ pub fn law_executions_are_histories<D: Disk, J: JournalRules>()
 /// runs is one of the events. So the records that a run held are durable after it: those that it
 /// found or made, if it came to its end. A record that such a run added is released if a byte of
 /// its answer may have gone out.
-pub fn law_courses_are_executions<P: Programs, J: JournalRules>()
-    ensures executions { (name : Text) → JournalCourses P.program J.valid name }
-    ensures hold { (name : Text) → CoursesHold P.program J.valid name }
+pub fn law_executions_are_of_owners<P: Programs, J: JournalRules>()
+    ensures executions { (name : Text) → JournalExecutions P.program J.valid name }
+    ensures hold { (name : Text) → ExecutionsHold P.program J.valid name }
     ensures events { (name : Text) → RunsAreEvents P.program J.valid name }
 {}
 
@@ -71,7 +71,7 @@ pub fn law_tiles_survive<P: Programs, J: JournalRules>()
 /// execution of a program whose runs do with both what they may, and leave both as they must, if it
 /// did so before and records of both were durable.
 pub fn law_mirrors_agree<P: Programs, M: JournalRules, C: JournalRules>()
-    ensures { (mirror cosigner : Text) → CoursesAgree P.program M.agrees M.computed M.neutral
+    ensures { (mirror cosigner : Text) → ExecutionsAgree P.program M.agrees M.computed M.neutral
         M.valid C.valid mirror cosigner }
 {}
 

@@ -37,11 +37,11 @@ pub trait JournalRules {
 /// of executions are proved.
 pub trait Programs {
     ghost use Rattle.file_events.specs.Tiles.{TilesWork};
-    ghost use Rattle.file_events.specs.Worlds.{Program, Turn};
+    ghost use Rattle.file_events.specs.Worlds.{Program, Run};
 
     // What it runs over, and what its runs are.
     ghost program: { Program };
 
     // What a run does with the tiles of a journal.
-    ghost how_of: { program.R → Turn program.R program.O program.E → TilesWork };
+    ghost how_of: { program.R → Run program.R program.O program.E → TilesWork };
 }

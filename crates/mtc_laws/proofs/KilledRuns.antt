@@ -27,7 +27,7 @@ use Rattle.mtc_command.specs.Served.{done_with}
 use Rattle.mtc_command.proofs.Made.{OnlyNow, ReadsCrashState}
 use Rattle.mtc_authority.specs.StoredTiles.{HasTilesOf}
 use Rattle.party_history.specs.Rules.{AreRecords}
-use Rattle.mtc_top.specs.Courses.{owner, program}
+use Rattle.mtc_top.specs.Executions.{owner, program}
 use Rattle.mtc_top.specs.Facts.{facts}
 use Rattle.mtc_top.specs.TileLaws.{tiled_log}
 use Rattle.mtc_top.proofs.Leaves.{serves}

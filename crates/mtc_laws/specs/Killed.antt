@@ -11,9 +11,9 @@ use Rattle.mtc_room.specs.declared.room.Room.{Ghosts as Rooms}
 use Rattle.fuse_room.specs.Fused.{inner_room}
 use Rattle.fuse_room.specs.declared.room.FuseRoom.{FuseRoom}
 use Rattle.file_events.specs.Owners.{RunsMayBreak}
-use Rattle.file_events.specs.Worlds.{FileOwner, IsLink, Program, died}
+use Rattle.file_events.specs.Worlds.{FileOwner, IsFileEvent, Program, died}
 use Rattle.mtc_words.specs.Names.{is_tiles_name}
-use Rattle.mtc_top.specs.Courses.{Turn, owner, program}
+use Rattle.mtc_top.specs.Executions.{Run, owner, program}
 use Rattle.mtc_top.specs.TileLaws.{tiled_log}
 
 module _ (h : HashFunction) (p : Program) where
@@ -32,7 +32,7 @@ module _ {O E : Type 0} (h : HashFunction) (fused_rooms : Rooms FuseRoom MemSour
     (outs : Sinks O) (errs : Sinks E) (o : FileOwner (program h rooms disks outs errs)) where
   -- A run over fuses is a kill, with the same words, of a program over the files inside.
   abbrev pub DiesOverFuses : Type 0
-  DiesOverFuses = (old : FuseRoom) (run : Turn FuseRoom O E) (killed : Turn MemRoom O E)
+  DiesOverFuses = (old : FuseRoom) (run : Run FuseRoom O E) (killed : Run MemRoom O E)
       → (program h fused_rooms fuses outs errs).HasRun old run → killed.words ≡ run.words
-      → IsLink (program h rooms disks outs errs) o (inner_room old)
+      → IsFileEvent (program h rooms disks outs errs) o (inner_room old)
       (died killed (inner_room run.room))

@@ -48,13 +48,13 @@ use Rattle.mtc_monitor.specs.AuditOutcome.{audit_accepted_says, audit_store_says
 use Rattle.mtc_lines.specs.Reasons.{export_fault_text, items_fault_text}
 use Rattle.mtc_reads.specs.Reasons.{store_fault_text}
 use Rattle.mtc_top.specs.AuditLaws.{AuditsStand, HasCounted, HoldsText, IsAuditOf}
-use Rattle.mtc_top.specs.AuditLaws.{IsSignedInCourse, StandsOrPair}
+use Rattle.mtc_top.specs.AuditLaws.{IsSignedInExecution, StandsOrPair}
 use Rattle.mtc_top.specs.Concluded.{Prints}
 use Rattle.mtc_top.specs.Facts.{facts}
 use Rattle.mtc_top.proofs.Exports.{exports_hold}
 use Rattle.mtc_top.proofs.RunLaws.{done_heard}
 use Rattle.mtc_top.proofs.Runs.{answered, wrote_of}
-use Rattle.mtc_top.specs.Courses.{program, Turn}
+use Rattle.mtc_top.specs.Executions.{program, Run}
 
 -- ---- what is asked for
 
@@ -172,27 +172,27 @@ module _ {R S D O E : Type 0} (h : HashFunction) (rooms : Rooms R S D) (disks : 
     (bytes : (d : D) (b : List ℕ) → disks.contents d ≡ Some b → IsBytes b) where
   -- the export that is audited was read
   pub kept_there : (x : AuditCase) (kept_text : List ℕ) → export_in h kept_text ≡ Ok x.kept
-      → IsSignedInCourse h (program h rooms disks outs errs) x kept_text
+      → IsSignedInExecution h (program h rooms disks outs errs) x kept_text
       → (e : Export) × (x.kept ≡ Some e)
   kept_there x kept_text read by =
       let e = exports_hold h rooms disks outs errs crash_state only contents bytes by.name
-      (Cosigner by.settings by.public) by.first by.begins by.old by.links by.begun by.course
-      by.settings by.public refl by.turn by.turned by.spoken
-      (done_heard by.turn.status (outs.taken by.turn.out) (outs.taken by.turn.out_after) by.done) in
-      let same = printed_text (outs.taken by.turn.out) (outs.taken by.turn.out_after) by.before
+      (Cosigner by.settings by.public) by.first by.begins by.old by.events by.begun by.execution
+      by.settings by.public refl by.run by.has_run by.spoken
+      (done_heard by.run.status (outs.taken by.run.out) (outs.taken by.run.out_after) by.done) in
+      let same = printed_text (outs.taken by.run.out) (outs.taken by.run.out_after) by.before
       kept_text e.text by.contents by.printed (e.printed.whole by.done) in (
         e.export,
         ok_is ReadExportError x.kept (Some e.export) (sym read ∙ ap (export_in h) same ∙ e.read),
       )
 
   signed : (x : AuditCase) (kept_text : List ℕ) → export_in h kept_text ≡ Ok x.kept
-      → IsSignedInCourse h (program h rooms disks outs errs) x kept_text → is_supported x ≡ true
+      → IsSignedInExecution h (program h rooms disks outs errs) x kept_text → is_supported x ≡ true
   signed x kept_text read by =
       let e = exports_hold h rooms disks outs errs crash_state only contents bytes by.name
-      (Cosigner by.settings by.public) by.first by.begins by.old by.links by.begun by.course
-      by.settings by.public refl by.turn by.turned by.spoken
-      (done_heard by.turn.status (outs.taken by.turn.out) (outs.taken by.turn.out_after) by.done) in
-      let same = printed_text (outs.taken by.turn.out) (outs.taken by.turn.out_after) by.before
+      (Cosigner by.settings by.public) by.first by.begins by.old by.events by.begun by.execution
+      by.settings by.public refl by.run by.has_run by.spoken
+      (done_heard by.run.status (outs.taken by.run.out) (outs.taken by.run.out_after) by.done) in
+      let same = printed_text (outs.taken by.run.out) (outs.taken by.run.out_after) by.before
       kept_text e.text by.contents by.printed (e.printed.whole by.done) in
       let kept : x.kept ≡ Some e.export = ok_is ReadExportError x.kept (Some e.export)
       (sym read ∙ ap (export_in h) same ∙ e.read) in
@@ -206,7 +206,7 @@ module _ {R S D O E : Type 0} (h : HashFunction) (rooms : Rooms R S D) (disks : 
 
   supported : (x : AuditCase) (kept_text : List ℕ) → export_in h kept_text ≡ Ok x.kept
       → (x.accepted.by ≡ Landmark)
-      ⊎ IsSignedInCourse h (program h rooms disks outs errs) x kept_text
+      ⊎ IsSignedInExecution h (program h rooms disks outs errs) x kept_text
       → is_supported x ≡ true
   supported x kept_text read backed = elim backed [
     | inl landmark ↦ ap (λ (b : By). is_recorded_by x.store x.accepted b x.kept) landmark
@@ -214,35 +214,35 @@ module _ {R S D O E : Type 0} (h : HashFunction) (rooms : Rooms R S D) (disks : 
   ]
 
   -- the reply is that the entry stands, or a pair
-  by_reply : (x : AuditCase) (turn : Turn R O E) (own : Bool)
+  by_reply : (x : AuditCase) (run : Run R O E) (own : Bool)
       → has_own h x.items x.accepted x.cert ≡ own → (reply : Reply)
-      → Meets (audit_by h x None true own).answer reply → turn.status ≡ status_of reply
-      → Prints outs turn.out turn.out_after (out_of reply)
-      → StandsOrPair h (program h rooms disks outs errs) x turn
-  by_reply x turn true has reply meets code text = inl (
+      → Meets (audit_by h x None true own).answer reply → run.status ≡ status_of reply
+      → Prints outs run.out run.out_after (out_of reply)
+      → StandsOrPair h (program h rooms disks outs errs) x run
+  by_reply x run true has reply meets code text = inl (
     code ∙ ap status_of meets,
     has,
-    subst (λ (r : Reply). Prints outs turn.out turn.out_after (out_of r)) meets text,
+    subst (λ (r : Reply). Prints outs run.out run.out_after (out_of r)) meets text,
   )
-  by_reply x turn false has (said kind out) meets code text =
+  by_reply x run false has (said kind out) meets code text =
       inr (out, (code ∙ ap (λ k. status_of (said k out)) meets.0, meets.1, text))
-  by_reply x turn false has (refused why file reason) meets code text = absurd meets
+  by_reply x run false has (refused why file reason) meets code text = absurd meets
 
   pub audits_stand : AuditsStand h (program h rooms disks outs errs)
-  audits_stand old turn cert store unix_time entries kept x is_modelled run spoken is own_list
+  audits_stand old run cert store unix_time entries kept x is_modelled is_run spoken is own_list
       backed
       not5
       not6 not8 =
-      let a = answered h rooms disks outs errs turn.words old turn.room turn.out turn.out_after
-      turn.err turn.err_after turn.status run not5 not8 in
-      let wrote = wrote_of outs errs (known_word turn.words) turn.out turn.out_after turn.err
-      turn.err_after a.reply turn.status a.concludes not6 in
+      let a = answered h rooms disks outs errs run.words old run.room run.out run.out_after
+      run.err run.err_after run.status is_run not5 not8 in
+      let wrote = wrote_of outs errs (known_word run.words) run.out run.out_after run.err
+      run.err_after a.reply run.status a.concludes not6 in
       let asked = ap (λ (q : Result CommandValue WordError). (facts h q).outcome (rooms.file old))
       spoken ∙ sym (outcome_planned h (audit cert store unix_time entries kept) (rooms.file old))
       ∙ audit_asked h (rooms.file old) cert store unix_time entries kept x is
       ∙ ap (λ f. audit_by h x f (is_supported x) (has_own h x.items x.accepted x.cert)) own_list
       ∙ ap (λ (b : Bool). audit_by h x None b (has_own h x.items x.accepted x.cert))
       (supported x is.kept_text is.kept_read backed) in
-      by_reply x turn (has_own h x.items x.accepted x.cert) refl a.reply
+      by_reply x run (has_own h x.items x.accepted x.cert) refl a.reply
       (subst (λ (w : Outcome). Meets w.answer a.reply) asked (a.is (inl is_modelled)))
       wrote.code wrote.text

@@ -15,11 +15,12 @@ use Rattle.policy_core.specs.declared.answer.By.TheVariants.{Landmark}
 use Rattle.world_core.specs.Audit.{AuditCase, HasInterval, foreign_of}
 use Rattle.world_core.proofs.Plain.{by_prefix, by_interval, own_there}
 use Rattle.mtc_command.proofs.Made.{OnlyNow, ReadsCrashState}
-use Rattle.mtc_top.specs.AuditLaws.{AuditsDecide, IsSignedInCourse, StandsOrCollides, StandsOrPair}
+use Rattle.mtc_top.specs.AuditLaws.{AuditsDecide, IsSignedInExecution, StandsOrCollides}
+use Rattle.mtc_top.specs.AuditLaws.{StandsOrPair}
 use Rattle.mtc_top.specs.Concluded.{Prints}
 use Rattle.mtc_top.proofs.Audits.{audits_stand, kept_there}
-use Rattle.mtc_top.proofs.Turns.{file_bytes}
-use Rattle.mtc_top.specs.Courses.{program, Turn}
+use Rattle.mtc_top.proofs.HeardRuns.{file_bytes}
+use Rattle.mtc_top.specs.Executions.{program, Run}
 
 module _ {R S D O E : Type 0} (h : HashFunction) (rooms : Rooms R S D) (disks : Disks D)
     (outs : Sinks O) (errs : Sinks E) (crash_state : ReadsCrashState disks) (only : OnlyNow disks)
@@ -27,7 +28,7 @@ module _ {R S D O E : Type 0} (h : HashFunction) (rooms : Rooms R S D) (disks : 
     → ModelsFile disks.contents (rooms.file room name) (rooms.device room name))
     (bytes : (d : D) (b : List ℕ) → disks.contents d ≡ Some b → IsBytes b) where
   abbrev IsSigned : AuditCase → List ℕ → Type 0
-  IsSigned = IsSignedInCourse h (program h rooms disks outs errs)
+  IsSigned = IsSignedInExecution h (program h rooms disks outs errs)
 
   -- what backs the acceptance, with the wanted list
   abbrev IsBacked : AuditCase → List ℕ → Type 0
@@ -55,10 +56,10 @@ module _ {R S D O E : Type 0} (h : HashFunction) (rooms : Rooms R S D) (disks : 
     | inr by ↦ inr by.0
   ]
 
-  plainly : (x : AuditCase) (turn : Turn R O E) → AreItems h x.items
-      → StandsOrPair h (program h rooms disks outs errs) x turn
-      → StandsOrCollides h (program h rooms disks outs errs) x turn
-  plainly x turn are either = elim either [
+  plainly : (x : AuditCase) (run : Run R O E) → AreItems h x.items
+      → StandsOrPair h (program h rooms disks outs errs) x run
+      → StandsOrCollides h (program h rooms disks outs errs) x run
+  plainly x run are either = elim either [
     | inl stands ↦ inl (stands.0, own_there h x are stands.1, stands.2)
     | inr pair ↦
         (let two = pair.1.1 in
@@ -70,21 +71,21 @@ module _ {R S D O E : Type 0} (h : HashFunction) (rooms : Rooms R S D) (disks : 
               pair.1.0,
               two.differ,
               two.one_hash,
-              subst (Prints outs turn.out turn.out_after) two.is pair.1.2,
+              subst (Prints outs run.out run.out_after) two.is pair.1.2,
             ),
           ),
         ))
   ]
 
   pub audits_decide : AuditsDecide h (program h rooms disks outs errs)
-  audits_decide old turn cert store unix_time entries kept x is_modelled run spoken is backed not5
+  audits_decide old run cert store unix_time entries kept x is_modelled is_run spoken is backed not5
       not6
       not8 =
       let are = items_only h is.entries_text x.items (file_bytes disks (rooms.file old entries)
       (rooms.device old entries) is.entries_text bytes (contents old entries is_modelled)
       is.has_entries.there) is.items_read in
-      plainly x turn are.1.0
-      (audits_stand h rooms disks outs errs crash_state only contents bytes old turn
-      cert store unix_time entries kept x is_modelled run spoken is
+      plainly x run are.1.0
+      (audits_stand h rooms disks outs errs crash_state only contents bytes old run
+      cert store unix_time entries kept x is_modelled is_run spoken is
       (listed x is.kept_text is.kept_read backed)
       (backs x is.kept_text backed) not5 not6 not8)

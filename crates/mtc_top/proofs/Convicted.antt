@@ -34,7 +34,7 @@ use Rattle.mtc_top.proofs.Audits.{printed_text}
 use Rattle.mtc_top.proofs.Exports.{exports_hold}
 use Rattle.mtc_top.proofs.RunLaws.{done_heard}
 use Rattle.mtc_top.proofs.Runs.{answered, wrote_of}
-use Rattle.mtc_top.specs.Courses.{program, Turn}
+use Rattle.mtc_top.specs.Executions.{program, Run}
 
 -- An export in which two signatures are in conflict.
 record IsInConflict (h : HashFunction) (text : List ℕ) : Type 0 where
@@ -60,10 +60,10 @@ module _ {R S D O E : Type 0} (h : HashFunction) (rooms : Rooms R S D) (disks : 
       → IsInConflict h kept_text
   in_conflict kept_text by =
       let e = exports_hold h rooms disks outs errs crash_state only contents bytes by.name
-      (Cosigner by.settings by.public) by.first by.begins by.old by.links by.begun by.course
-      by.settings by.public refl by.turn by.turned by.spoken
-      (done_heard by.turn.status (outs.taken by.turn.out) (outs.taken by.turn.out_after) by.done) in
-      let same = printed_text (outs.taken by.turn.out) (outs.taken by.turn.out_after) by.before
+      (Cosigner by.settings by.public) by.first by.begins by.old by.events by.begun by.execution
+      by.settings by.public refl by.run by.has_run by.spoken
+      (done_heard by.run.status (outs.taken by.run.out) (outs.taken by.run.out_after) by.done) in
+      let same = printed_text (outs.taken by.run.out) (outs.taken by.run.out_after) by.before
       kept_text e.text by.contents by.printed (e.printed.whole by.done) in
       let one = by.one_signed in
       let other = by.other_signed in
@@ -79,31 +79,31 @@ module _ {R S D O E : Type 0} (h : HashFunction) (rooms : Rooms R S D) (disks : 
             by.differ;
       }
 
-  by_reply : (turn : Turn R O E) (steps : List Step) (keys : ℕ × ℕ) (reply : Reply)
-      → Meets (quarrel_by h steps (Some keys)).answer reply → turn.status ≡ status_of reply
-      → Prints outs turn.out turn.out_after (out_of reply)
-      → Convicts h (program h rooms disks outs errs) turn
-  by_reply turn steps keys (said kind out) meets code text = record {
+  by_reply : (run : Run R O E) (steps : List Step) (keys : ℕ × ℕ) (reply : Reply)
+      → Meets (quarrel_by h steps (Some keys)).answer reply → run.status ≡ status_of reply
+      → Prints outs run.out run.out_after (out_of reply)
+      → Convicts h (program h rooms disks outs errs) run
+  by_reply run steps keys (said kind out) meets code text = record {
     keys = keys;
     one = meets.1.x;
     other = meets.1.y;
     code = code ∙ ap (λ k. status_of (said k out)) meets.0;
     differ = meets.1.differ;
     one_hash = meets.1.one_hash;
-    printed = subst (λ (t : List ℕ). Prints outs turn.out turn.out_after t) meets.1.is text;
+    printed = subst (λ (t : List ℕ). Prints outs run.out run.out_after t) meets.1.is text;
   }
-  by_reply turn steps keys (refused why file reason) meets code text = absurd meets
+  by_reply run steps keys (refused why file reason) meets code text = absurd meets
 
   pub two_signatures_collide : TwoSignaturesCollide h (program h rooms disks outs errs)
-  two_signatures_collide old turn kept kept_text is_modelled run spoken holds by not5 not6 not8 =
+  two_signatures_collide old run kept kept_text is_modelled is_run spoken holds by not5 not6 not8 =
       let is = in_conflict kept_text by in
-      let a = answered h rooms disks outs errs turn.words old turn.room turn.out turn.out_after
-      turn.err turn.err_after turn.status run not5 not8 in
-      let wrote = wrote_of outs errs (known_word turn.words) turn.out turn.out_after turn.err
-      turn.err_after a.reply turn.status a.concludes not6 in
+      let a = answered h rooms disks outs errs run.words old run.room run.out run.out_after
+      run.err run.err_after run.status is_run not5 not8 in
+      let wrote = wrote_of outs errs (known_word run.words) run.out run.out_after run.err
+      run.err_after a.reply run.status a.concludes not6 in
       let wanted = ap (λ (q : Result CommandValue WordError). (facts h q).outcome (rooms.file old))
       spoken ∙ sym (outcome_planned h (quarrel kept) (rooms.file old))
       ∙ asked h (rooms.file old) kept kept_text holds is in
-      by_reply turn is.export.steps is.found.0 a.reply
+      by_reply run is.export.steps is.found.0 a.reply
       (subst (λ (w : Outcome). Meets w.answer a.reply) wanted (a.is (inl is_modelled)))
       wrote.code wrote.text

@@ -36,10 +36,10 @@ use Rattle.party_history.proofs.Cosigners.{of_first}
 use Rattle.mtc_top.specs.ExportLaws.{ExportsHoldTheSteps, HasExported}
 use Rattle.mtc_top.proofs.Printed.{did_so, heard_so}
 use Rattle.mtc_top.proofs.Recovered.{held_prefix, modelled_then, read_again}
-use Rattle.mtc_top.proofs.Turns.{file_bytes, heard_run, printed_so, modelled_file}
-use Rattle.mtc_top.proofs.Turns.{contents_crash_state}
-use Rattle.mtc_top.specs.Courses.{program, IsBegun, Turn, Link}
-use Rattle.mtc_top.proofs.Aliases.{HasTurned, IsCourse, IsRecovered, IsHeard}
+use Rattle.mtc_top.proofs.HeardRuns.{file_bytes, heard_run, printed_so, modelled_file}
+use Rattle.mtc_top.proofs.HeardRuns.{contents_crash_state}
+use Rattle.mtc_top.specs.Executions.{program, IsBegun, Run, FileEvent}
+use Rattle.mtc_top.proofs.Aliases.{IsRun, IsOwnExecution, IsRecovered, IsHeard}
 
 -- ---- the steps of records
 
@@ -92,26 +92,26 @@ module _ {R S D O E : Type 0} (h : HashFunction) (rooms : Rooms R S D) (disks : 
     → ModelsFile disks.contents (rooms.file room name) (rooms.device room name))
     (bytes : (d : D) (b : List ℕ) → disks.contents d ≡ Some b → IsBytes b) where
   module _ (name : List ℕ) (start : PartyStart) (first : List ℕ) (begins new : R)
-      (links : List (Link R O E))
-      (begun : IsBegun h (program h rooms disks outs errs) name start first begins links)
-      (course : IsCourse h rooms disks outs errs name begins links new) (settings :
+      (events : List (FileEvent R O E))
+      (begun : IsBegun h (program h rooms disks outs errs) name start first begins events)
+      (execution : IsOwnExecution h rooms disks outs errs name begins events new) (settings :
       CosignerSettings)
-      (public : List ℕ) (is : start ≡ Cosigner settings public) (turn : Turn R O E)
-      (run : HasTurned h rooms disks outs errs new turn)
-      (spoken : command_of turn.words ≡ Ok (export name)) (heard : IsHeard outs turn)
+      (public : List ℕ) (is : start ≡ Cosigner settings public) (run : Run R O E)
+      (is_run : IsRun h rooms disks outs errs new run)
+      (spoken : command_of run.words ≡ Ok (export name)) (heard : IsHeard outs run)
       (is_modelled : rooms.is_modelled new) where
     abbrev SaysSo : Reply → Type 0
     SaysSo = ExportsSo h (rooms.file new) name
 
-    exported : SaysSo (heard_run h rooms disks outs errs new turn run heard).reply
-        → HasExported h (program h rooms disks outs errs) settings public name begins links new turn
+    exported : SaysSo (heard_run h rooms disks outs errs new run is_run heard).reply
+        → HasExported h (program h rooms disks outs errs) settings public name begins events new run
     exported s =
         let c = s.held in
         let there = s.there in
         let party =
         read_again h rooms disks outs errs crash_state only contents bytes name start first begins
         new
-        links begun course c (inr there) in
+        events begun execution c (inr there) in
         let opened = read_cosigner h start settings public c party.records is party.read in
         let models_file = contents new name is_modelled in
         let are = file_bytes disks (rooms.file new name) (rooms.device new name) c bytes models_file
@@ -139,14 +139,14 @@ module _ {R S D O E : Type 0} (h : HashFunction) (rooms : Rooms R S D) (disks : 
         record {
           list = party.records;
           recovered = recovered;
-          was_read = did_so h rooms disks outs errs new turn (export name) spoken name
+          was_read = did_so h rooms disks outs errs new run (export name) spoken name
               (reads party.records) refl
               (s.did ∙ ap (λ (f : FoundCosigner). reads f.records ∷ []) same);
           state = opened.0;
           state_is = stands.1;
           text = text;
           text_is = refl;
-          printed = printed_so h rooms disks outs errs new turn run heard text meets;
+          printed = printed_so h rooms disks outs errs new run is_run heard text meets;
           export = export_of opened.0 again.0;
           read = again.2;
           cosigner_is = own.0;
@@ -159,7 +159,8 @@ module _ {R S D O E : Type 0} (h : HashFunction) (rooms : Rooms R S D) (disks : 
               let prefix_is =
               held_prefix h rooms disks outs errs crash_state only contents bytes name start
               first
-              begins new links begun course (record0 ∷ (prefix ++ body ∷ more)) party.records held
+              begins new events begun execution (record0 ∷ (prefix ++ body ∷ more)) party.records
+              held
               recovered in
               step_there prefix body (more ++ prefix_is.0) again.0 step
               (subst (λ (l : List (List ℕ)). steps_in l ≡ Some again.0)
@@ -169,12 +170,14 @@ module _ {R S D O E : Type 0} (h : HashFunction) (rooms : Rooms R S D) (disks : 
         }
 
   pub exports_hold : ExportsHoldTheSteps h (program h rooms disks outs errs)
-  exports_hold name start first begins new links begun course settings public is turn run spoken
+  exports_hold name start first begins new events begun execution settings public is run is_run
+      spoken
       heard =
       let is_modelled =
       modelled_then h rooms disks outs errs crash_state only contents bytes name start
-      first begins new links begun course in
-      exported name start first begins new links begun course settings public is turn run spoken
+      first begins new events begun execution in
+      exported name start first begins new events begun execution settings public is run is_run
+      spoken
       heard is_modelled
-      (heard_so h rooms disks outs errs new turn (export name) spoken is_modelled run heard
+      (heard_so h rooms disks outs errs new run (export name) spoken is_modelled is_run heard
       (ExportsSo h (rooms.file new) name) (exported_so h (rooms.file new) name))

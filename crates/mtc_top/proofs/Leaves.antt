@@ -14,7 +14,7 @@ use Rattle.file_events.specs.Events.{CrashStates, Done, HalfDone, Happens}
 use Rattle.file_events.specs.Events.{MayAppend, WasFound, EventHolds, FirstHolds}
 use Rattle.file_events.specs.Owners.{LeavesJournal, ServesJournal}
 use Rattle.file_events.specs.Worlds.{breaks_off, clock_of, done_to, event_with}
-use Rattle.file_events.specs.Worlds.{states_at, states_since, turned, heard_of}
+use Rattle.file_events.specs.Worlds.{states_at, states_since, exited, heard_of}
 use Rattle.file_events.proofs.Records.{held_valid, no_records, none_is, one_list}
 use Rattle.journal_core.specs.Format.{Represents, RepresentsEither}
 use Rattle.mtc_io.specs.declared.sink.Sink.{Ghosts as Sinks}
@@ -34,9 +34,10 @@ use Rattle.mtc_top.proofs.Beside.{IsOwn, journal_own, none_beside}
 use Rattle.mtc_top.proofs.Commands.{spoken_records}
 use Rattle.mtc_top.proofs.Opened.{Finds, IsFound, IsNewAt, spoken_finds, spoken_new}
 use Rattle.mtc_top.proofs.Runs.{ended, not5_of, not8_of}
-use Rattle.mtc_top.specs.Courses.{program, Turn, Link}
+use Rattle.mtc_top.specs.Executions.{program, Run, FileEvent}
 use Rattle.mtc_top.specs.RunLaws.{AreAmong}
-use Rattle.mtc_top.proofs.Aliases.{HasTurned, owner_of, crash_states_in, crash_states_from, events}
+use Rattle.mtc_top.proofs.Aliases.{IsRun, owner_of, crash_states_in, crash_states_from}
+use Rattle.mtc_top.proofs.Aliases.{journal_events}
 use Rattle.mtc_top.proofs.Aliases.{HasHeld}
 
 -- ---- the journals of a run
@@ -140,34 +141,34 @@ module _ {R S D O E : Type 0} (h : HashFunction) (rooms : Rooms R S D) (disks : 
     (contents : (room : R) (name : List ℕ) → rooms.is_modelled room
     → ModelsFile disks.contents (rooms.file room name) (rooms.device room name))
     (bytes : (d : D) (b : List ℕ) → disks.contents d ≡ Some b → IsBytes b) where
-  abbrev Js : R → Turn R O E → Journals
+  abbrev Js : R → Run R O E → Journals
   Js = (program h rooms disks outs errs).journals
 
   -- what a run did with the journal of a name
-  abbrev Done' : List ℕ → R → Turn R O E → Journaled
-  Done' name old turn = done_to (Js old turn) name
+  abbrev Done' : List ℕ → R → Run R O E → Journaled
+  Done' name old run = done_to (Js old run) name
 
-  abbrev pub Rules : Turn R O E → List (List ℕ) → Type 0
-  Rules turn = (facts h (command_of turn.words)).Valid
+  abbrev pub Rules : Run R O E → List (List ℕ) → Type 0
+  Rules run = (facts h (command_of run.words)).Valid
 
   -- ---- a run that worked on the journal, by rules that follow from those of its command
 
-  module _ (name : List ℕ) (old : R) (turn : Turn R O E) (is_modelled : rooms.is_modelled old)
-      (run : HasTurned h rooms disks outs errs old turn) (Valid : List (List ℕ) → Type 0)
-      (keeps : (list : List (List ℕ)) → Rules turn list → Valid list) where
+  module _ (name : List ℕ) (old : R) (run : Run R O E) (is_modelled : rooms.is_modelled old)
+      (is_run : IsRun h rooms disks outs errs old run) (Valid : List (List ℕ) → Type 0)
+      (keeps : (list : List (List ℕ)) → Rules run list → Valid list) where
     abbrev Before : CrashStates
     Before = crash_states_in h rooms disks outs errs old name
 
     abbrev Now : CrashStates
-    Now = crash_states_in h rooms disks outs errs turn.room name
+    Now = crash_states_in h rooms disks outs errs run.room name
 
     abbrev Between : CrashStates
-    Between = crash_states_from h rooms disks outs errs old turn.room name
+    Between = crash_states_from h rooms disks outs errs old run.room name
 
     some : (c : List ℕ) × Now c
     some =
-        some_crash_state disks (rooms.file turn.room name) (rooms.device turn.room name) crash_state
-        (contents turn.room name (run.back.is_modelled is_modelled))
+        some_crash_state disks (rooms.file run.room name) (rooms.device run.room name) crash_state
+        (contents run.room name (is_run.back.is_modelled is_modelled))
 
     -- the file that was read is a crash state
     pub reported : (c : List ℕ) → rooms.file old name ≡ Some c → device_contents disks
@@ -175,7 +176,7 @@ module _ {R S D O E : Type 0} (h : HashFunction) (rooms : Rooms R S D) (disks : 
     reported c there = modelled_file disks (rooms.file old name) (rooms.device old name)
         (contents old name is_modelled) ∙ there
 
-    pub found : (list : List (List ℕ)) → IsFound (Rules turn) (rooms.file old name) list
+    pub found : (list : List (List ℕ)) → IsFound (Rules run) (rooms.file old name) list
         → WasFound Valid Before list
     found list is = record {
       bytes = is.bytes;
@@ -186,7 +187,7 @@ module _ {R S D O E : Type 0} (h : HashFunction) (rooms : Rooms R S D) (disks : 
     }
 
     pub may_append : (list : List (List ℕ)) (body : List ℕ)
-        → IsFound (Rules turn) (rooms.file old name) list → Rules turn (list ++ body ∷ [])
+        → IsFound (Rules run) (rooms.file old name) list → Rules run (list ++ body ∷ [])
         → MayAppend Valid list body Before
     may_append list body is valid =
         record { found = found list is; valid = keeps (list ++ body ∷ []) valid }
@@ -201,21 +202,21 @@ module _ {R S D O E : Type 0} (h : HashFunction) (rooms : Rooms R S D) (disks : 
 
     -- an added record follows the rules: the journal can't be as it was
     added_valid : (list : List (List ℕ)) (body : List ℕ)
-        → IsFound (Rules turn) (rooms.file old name) list
-        → LeavesValid rooms disks (Rules turn) old turn.room name (appended list body)
+        → IsFound (Rules run) (rooms.file old name) list
+        → LeavesValid rooms disks (Rules run) old run.room name (appended list body)
         → ((c : List ℕ) → Now c → Represents c (list ++ body ∷ []))
-        → Rules turn (list ++ body ∷ [])
+        → Rules run (list ++ body ∷ [])
     added_valid list body is valid now = elim valid [
       | inl kept ↦ absurd (one_longer list body (one_list is.bytes list (list ++ body ∷ [])
           is.stands (now is.bytes
-          (contents_crash_state disks (rooms.device turn.room name) is.bytes crash_state
+          (contents_crash_state disks (rooms.device run.room name) is.bytes crash_state
           (kept.1 ∙ reported is.bytes is.there)))))
       | inr adds ↦ adds
     ]
 
     made_valid : (body : List ℕ) → NoNew (λ c. c ≡ []) Before
-        → LeavesValid rooms disks (Rules turn) old turn.room name (started body)
-        → ((c : List ℕ) → Now c → Represents c (body ∷ [])) → Rules turn (body ∷ [])
+        → LeavesValid rooms disks (Rules run) old run.room name (started body)
+        → ((c : List ℕ) → Now c → Represents c (body ∷ [])) → Rules run (body ∷ [])
     made_valid body empty valid now = elim valid [
       | inl kept ↦ absurd (no_records some.0 (body ∷ [])
           (empty some.0 (kept.0.crash_states.now_is some.0 some.1)) (now some.0 some.1))
@@ -240,9 +241,9 @@ module _ {R S D O E : Type 0} (h : HashFunction) (rooms : Rooms R S D) (disks : 
     -- by what the run knows of the journal
     module _ (did : Journaled) where
       pub record Knows : Type 0 where
-        pub finds : Finds (Rules turn) (rooms.file old name) did
+        pub finds : Finds (Rules run) (rooms.file old name) did
         pub is_new : IsNewAt (rooms.file old) name did
-        pub valid : LeavesValid rooms disks (Rules turn) old turn.room name did
+        pub valid : LeavesValid rooms disks (Rules run) old run.room name did
 
     -- it came to its end
     done : (did : Journaled) → Knows did → HasMade did Before Now Between
@@ -294,70 +295,70 @@ module _ {R S D O E : Type 0} (h : HashFunction) (rooms : Rooms R S D) (disks : 
     half_then (started body) knows made c at = inr (empty_before body knows.is_new)
 
     -- by its status
-    module _ (did : Journaled) (among : AreAmong (Js old turn) name did) where
+    module _ (did : Journaled) (among : AreAmong (Js old run) name did) where
       pub knows : Knows did
       knows = record {
-        finds = of_each (λ n d. Finds (Rules turn) (rooms.file old n) d) (Js old turn) name did
+        finds = of_each (λ n d. Finds (Rules run) (rooms.file old n) d) (Js old run) name did
             (spoken_finds h (rooms.file old) (λ n c is. file_bytes disks (rooms.file old n)
             (rooms.device old n) c bytes (contents old n is_modelled) is)
-            (command_of turn.words)) among;
-        is_new = of_each (IsNewAt (rooms.file old)) (Js old turn) name did
-            (spoken_new h (command_of turn.words) (rooms.file old)) among;
-        valid = of_each (LeavesValid rooms disks (Rules turn) old turn.room) (Js old turn) name did
-            (run.valid is_modelled) among;
+            (command_of run.words)) among;
+        is_new = of_each (IsNewAt (rooms.file old)) (Js old run) name did
+            (spoken_new h (command_of run.words) (rooms.file old)) among;
+        valid = of_each (LeavesValid rooms disks (Rules run) old run.room) (Js old run) name did
+            (is_run.valid is_modelled) among;
       }
 
       record Goes : Type 0 where
-        pub happens : Happens Valid (event_with (breaks_off turn.status)
-            (heard_of (program h rooms disks outs errs) turn) did) Before Now
+        pub happens : Happens Valid (event_with (breaks_off run.status)
+            (heard_of (program h rooms disks outs errs) run) did) Before Now
         pub times : (c : List ℕ) → Between c → Left c did
 
       abbrev Broken : Bool → Type 0
-      Broken b = Happens Valid (event_with b (heard_of (program h rooms disks outs errs) turn) did)
+      Broken b = Happens Valid (event_with b (heard_of (program h rooms disks outs errs) run) did)
           Before Now
 
       left_so : (How : Journaled → CrashStates → CrashStates → CrashStates → Type 0)
-          → LeavesEach rooms disks old turn.room (Js old turn) How → How did Before Now Between
+          → LeavesEach rooms disks old run.room (Js old run) How → How did Before Now Between
       left_so How all = (of_each (λ n d. Leaves disks (How d) (rooms.device old n)
-          (rooms.device turn.room n)) (Js old turn) name did all among).crash_states
+          (rooms.device run.room n)) (Js old run) name did all among).crash_states
 
       goes : Goes
-      goes = elim (ended h rooms disks outs errs turn.words old turn.room turn.out turn.out_after
-          turn.err turn.err_after turn.status run) [
+      goes = elim (ended h rooms disks outs errs run.words old run.room run.out run.out_after
+          run.err run.err_after run.status is_run) [
             | inl a ↦
                 (let made = left_so HasMade (a.made is_modelled) in
-                let not5 = not5_of outs errs (known_word turn.words) turn.out turn.out_after
-                turn.err turn.err_after a.reply turn.status a.concludes in
-                let not8 = not8_of outs errs (known_word turn.words) turn.out turn.out_after
-                turn.err turn.err_after a.reply turn.status a.concludes in record {
-                  happens = subst Broken (sym (ap (λ (b : Bool). b || (turn.status == 8))
-                      (ne_eqb turn.status 5 not5) ∙ ne_eqb turn.status 8 not8))
+                let not5 = not5_of outs errs (known_word run.words) run.out run.out_after
+                run.err run.err_after a.reply run.status a.concludes in
+                let not8 = not8_of outs errs (known_word run.words) run.out run.out_after
+                run.err run.err_after a.reply run.status a.concludes in record {
+                  happens = subst Broken (sym (ap (λ (b : Bool). b || (run.status == 8))
+                      (ne_eqb run.status 5 not5) ∙ ne_eqb run.status 8 not8))
                       (done did knows made);
                   times = done_then did knows made;
                 })
             | inr other ↦ elim other [
               | inl failed ↦
                   (let made = left_so MayHaveMade (failed.made is_modelled) in record {
-                    happens = subst Broken (sym (or_left (turn.status == 5) (turn.status == 8)
-                        (eq-eqb turn.status 5 failed.code))) (half did knows made);
+                    happens = subst Broken (sym (or_left (run.status == 5) (run.status == 8)
+                        (eq-eqb run.status 5 failed.code))) (half did knows made);
                     times = half_then did knows made;
                   })
               | inr out_of_memory ↦
                   (let kept : Kept Before Now Between
                   = left_so HasKept (out_of_memory.made is_modelled) in record {
-                    happens = subst Broken (sym (or_right (turn.status == 5) (turn.status == 8)
-                        (eq-eqb turn.status 8 out_of_memory.code))) (inl kept.now_is);
+                    happens = subst Broken (sym (or_right (run.status == 5) (run.status == 8)
+                        (eq-eqb run.status 8 out_of_memory.code))) (inl kept.now_is);
                     times = λ c at. past c did (kept.since_is c at);
                   })
             ]
           ]
 
     -- where it didn't work on the journal
-    module _ (beside : IsOther (facts h (command_of turn.words)).besides name)
-        (other : IsOther (facts h (command_of turn.words)).journals name) where
-      pub still : rooms.device turn.room name ≡ rooms.device old name
-      still = (run.back.others name (other_both (facts h (command_of turn.words)).besides
-          (facts h (command_of turn.words)).journals name beside other)).disk
+    module _ (beside : IsOther (facts h (command_of run.words)).besides name)
+        (other : IsOther (facts h (command_of run.words)).journals name) where
+      pub still : rooms.device run.room name ≡ rooms.device old name
+      still = (is_run.back.others name (other_both (facts h (command_of run.words)).besides
+          (facts h (command_of run.words)).journals name beside other)).disk
 
       still_now : NoNew Before Now
       still_now c at = subst (λ (x : Option D). states_at disks x c) still at
@@ -367,25 +368,25 @@ module _ {R S D O E : Type 0} (h : HashFunction) (rooms : Rooms R S D) (disks : 
           (subst (λ (x : Option D). states_since disks x (clock_of disks (rooms.device old name)) c)
           still at)
 
-    pub leaves : IsOther (facts h (command_of turn.words)).besides name
-        → LeavesJournal (program h rooms disks outs errs) Valid name old turn
-    leaves beside = elim (find_name (facts h (command_of turn.words)).journals
-        ((facts h (command_of turn.words)).outcome (rooms.file old)).journals name) [
+    pub leaves : IsOther (facts h (command_of run.words)).besides name
+        → LeavesJournal (program h rooms disks outs errs) Valid name old run
+    leaves beside = elim (find_name (facts h (command_of run.words)).journals
+        ((facts h (command_of run.words)).outcome (rooms.file old)).journals name) [
           | inl none ↦ record {
             leads = record {
               some = some;
-              happens = subst (λ (d : Journaled). Happens Valid (event_with (breaks_off turn.status)
-                  (heard_of (program h rooms disks outs errs) turn) d) Before Now) (sym none.1)
-                  (idle_happens Valid Before Now (breaks_off turn.status)
-                  (heard_of (program h rooms disks outs errs) turn) (still_now beside none.0));
+              happens = subst (λ (d : Journaled). Happens Valid (event_with (breaks_off run.status)
+                  (heard_of (program h rooms disks outs errs) run) d) Before Now) (sym none.1)
+                  (idle_happens Valid Before Now (breaks_off run.status)
+                  (heard_of (program h rooms disks outs errs) run) (still_now beside none.0));
             };
             times = λ c at. record {
               some = (c, refl);
-              happens = past c (Done' name old turn) (still_then beside none.0 c at);
+              happens = past c (Done' name old run) (still_then beside none.0 c at);
             };
           }
           | inr among ↦
-              (let is = goes (Done' name old turn) among in record {
+              (let is = goes (Done' name old run) among in record {
                 leads = record { some = some; happens = is.happens };
                 times = λ c at. record { some = (c, refl); happens = is.times c at };
               })
@@ -393,54 +394,54 @@ module _ {R S D O E : Type 0} (h : HashFunction) (rooms : Rooms R S D) (disks : 
 
   -- ---- the journal of a run that held records
 
-  module _ (name : List ℕ) (old : R) (turn : Turn R O E) where
-    pub held_among : (list : List (List ℕ)) → HasHeld h rooms disks outs errs name old turn list
-        → AreAmong (Js old turn) name (Done' name old turn)
-    held_among list held = elim (find_name (facts h (command_of turn.words)).journals
-        ((facts h (command_of turn.words)).outcome (rooms.file old)).journals name) [
-          | inl none ↦ absurd (idle_holds list (breaks_off turn.status)
-              (heard_of (program h rooms disks outs errs) turn)
-              (subst (λ (d : Journaled). EventHolds list (event_with (breaks_off turn.status)
-              (heard_of (program h rooms disks outs errs) turn) d)) none.1 held))
+  module _ (name : List ℕ) (old : R) (run : Run R O E) where
+    pub held_among : (list : List (List ℕ)) → HasHeld h rooms disks outs errs name old run list
+        → AreAmong (Js old run) name (Done' name old run)
+    held_among list held = elim (find_name (facts h (command_of run.words)).journals
+        ((facts h (command_of run.words)).outcome (rooms.file old)).journals name) [
+          | inl none ↦ absurd (idle_holds list (breaks_off run.status)
+              (heard_of (program h rooms disks outs errs) run)
+              (subst (λ (d : Journaled). EventHolds list (event_with (breaks_off run.status)
+              (heard_of (program h rooms disks outs errs) run) d)) none.1 held))
           | inr among ↦ among
         ]
 
     -- its name isn't that of a tile file
-    pub held_own : (list : List (List ℕ)) → HasHeld h rooms disks outs errs name old turn list
+    pub held_own : (list : List (List ℕ)) → HasHeld h rooms disks outs errs name old run list
         → IsOwn name
-    held_own list held = journal_own h turn.words
-        ((facts h (command_of turn.words)).outcome (rooms.file old)).journals name
-        (Done' name old turn) (held_among list held)
+    held_own list held = journal_own h run.words
+        ((facts h (command_of run.words)).outcome (rooms.file old)).journals name
+        (Done' name old run) (held_among list held)
 
     -- the records follow the rules of the command
     pub held_rules : (list : List (List ℕ)) → rooms.is_modelled old
-        → HasTurned h rooms disks outs errs old turn
-        → HasHeld h rooms disks outs errs name old turn list → Rules turn list
-    held_rules list is_modelled run held =
-        held_valid (Rules turn) list ((owner_of h rooms disks outs errs name).run_event old turn)
+        → IsRun h rooms disks outs errs old run
+        → HasHeld h rooms disks outs errs name old run list → Rules run list
+    held_rules list is_modelled is_run held =
+        held_valid (Rules run) list ((owner_of h rooms disks outs errs name).run_event old run)
         (crash_states_in h rooms disks outs errs old name)
-        (crash_states_in h rooms disks outs errs turn.room name) held
-        (leaves name old turn is_modelled run (Rules turn) (λ l is. is)
-        (none_beside h (command_of turn.words) name (held_own list held))).leads
+        (crash_states_in h rooms disks outs errs run.room name) held
+        (leaves name old run is_modelled is_run (Rules run) (λ l is. is)
+        (none_beside h (command_of run.words) name (held_own list held))).leads
 
   -- in an execution the first run has such a name
-  pub first_own : (name : List ℕ) (list : List (List ℕ)) (old : R) (links : List (Link R O E))
-      → FirstHolds list (events h rooms disks outs errs name old links) → IsOwn name
+  pub first_own : (name : List ℕ) (list : List (List ℕ)) (old : R) (events : List (FileEvent R O E))
+      → FirstHolds list (journal_events h rooms disks outs errs name old events) → IsOwn name
   first_own name list old [] held = absurd held
-  first_own name list old (turned turn ∷ links) held = held_own name old turn list held
-  first_own name list old (other ∷ links) held = absurd held
+  first_own name list old (exited run ∷ events) held = held_own name old run list held
+  first_own name list old (other ∷ events) held = absurd held
 
   -- runs leave of each journal what they have to leave
   pub serves : (name : List ℕ) → IsOwn name
       → ServesJournal (program h rooms disks outs errs) (AreRecords h) name
   serves name own = record {
     rooms = record {
-      modelled = λ old run is_modelled is. is.back.is_modelled is_modelled;
+      modelled = λ old is_run is_modelled is. is.back.is_modelled is_modelled;
       some = λ room n is_modelled. some_crash_state disks (rooms.file room n) (rooms.device room n)
           crash_state
           (contents room n is_modelled);
     };
-    leaves = λ old turn is_modelled is. leaves name old turn is_modelled is (AreRecords h)
-        (spoken_records h (command_of turn.words))
-        (none_beside h (command_of turn.words) name own);
+    leaves = λ old run is_modelled is. leaves name old run is_modelled is (AreRecords h)
+        (spoken_records h (command_of run.words))
+        (none_beside h (command_of run.words) name own);
   }

@@ -34,9 +34,9 @@ use Rattle.mtc_top.proofs.Leaves.{found}
 use Rattle.mtc_top.proofs.Leaves.{knows, leaves, may_append, of_each, one_longer, serves, reported}
 use Rattle.mtc_top.proofs.TilesBeside.{added_to, named_or_other, named_other, no_cosigner_log}
 use Rattle.mtc_top.proofs.TilesBeside.{tiles_no_journal, tiles_other}
-use Rattle.mtc_top.specs.Courses.{program, Turn}
+use Rattle.mtc_top.specs.Executions.{program, Run}
 use Rattle.mtc_top.specs.RunLaws.{AreAmong}
-use Rattle.mtc_top.proofs.Aliases.{HasTurned, crash_states_in}
+use Rattle.mtc_top.proofs.Aliases.{IsRun, crash_states_in}
 
 -- a run that isn't about the journal leaves nothing new of it
 still_kept : (Valid : List Text → Type 0) (broken heard : Bool) (did : Journaled)
@@ -76,45 +76,46 @@ module _ {R S D O E : Type 0} (h : HashFunction) (rooms : Rooms R S D) (disks : 
     (contents : (room : R) (name : List ℕ) → rooms.is_modelled room
     → ModelsFile disks.contents (rooms.file room name) (rooms.device room name))
     (bytes : (d : D) (b : List ℕ) → disks.contents d ≡ Some b → IsBytes b) where
-  module _ (name : Text) (own : IsOwn name) (old : R) (turn : Turn R O E)
-      (is_modelled : rooms.is_modelled old) (run : HasTurned h rooms disks outs errs old turn) where
+  module _ (name : Text) (own : IsOwn name) (old : R) (run : Run R O E)
+      (is_modelled : rooms.is_modelled old) (is_run : IsRun h rooms disks outs errs old run) where
     abbrev asked : Facts
-    asked = facts h (command_of turn.words)
+    asked = facts h (command_of run.words)
 
     abbrev keeps : (list : List Text) → asked.Valid list → AreRecords h list
-    keeps = spoken_records h (command_of turn.words)
+    keeps = spoken_records h (command_of run.words)
 
     abbrev beside : Text
     beside = tiles_name name
 
     abbrev js : Journals
-    js = (program h rooms disks outs errs).journals old turn
+    js = (program h rooms disks outs errs).journals old run
 
     abbrev did : Journaled
     did = done_to js name
 
     abbrev heard : Bool
-    heard = heard_of (program h rooms disks outs errs) turn
+    heard = heard_of (program h rooms disks outs errs) run
 
     abbrev Before : CrashStates
     Before = crash_states_in h rooms disks outs errs old name
 
     abbrev Now : CrashStates
-    Now = crash_states_in h rooms disks outs errs turn.room name
+    Now = crash_states_in h rooms disks outs errs run.room name
 
     abbrev TilesBefore : CrashStates
     TilesBefore = crash_states_in h rooms disks outs errs old beside
 
     abbrev TilesNow : CrashStates
-    TilesNow = crash_states_in h rooms disks outs errs turn.room beside
+    TilesNow = crash_states_in h rooms disks outs errs run.room beside
 
     abbrev KnowsOf : Journaled → Type 0
     KnowsOf =
-        Knows h rooms disks outs errs crash_state only contents bytes name old turn is_modelled run
+        Knows h rooms disks outs errs crash_state only contents bytes name old run is_modelled
+        is_run
         (AreRecords h) keeps
 
     abbrev Both : Journaled → Type 0
-    Both d = LeavesBoth (HasTilesOf h) asked.Valid rooms disks old turn.room name d
+    Both d = LeavesBoth (HasTilesOf h) asked.Valid rooms disks old run.room name d
 
     abbrev Left : Journaled → Type 0
     Left d = LeavesTiles (HasTilesOf h) (λ list body. ⊥) stored d TilesBefore Now TilesNow
@@ -125,18 +126,18 @@ module _ {R S D O E : Type 0} (h : HashFunction) (rooms : Rooms R S D) (disks : 
 
     abbrev All : Bool → Journaled → Type 0
     All broken d = LeavesAll broken (works d) (all_states (program h rooms disks outs errs) old)
-        (all_states (program h rooms disks outs errs) turn.room)
+        (all_states (program h rooms disks outs errs) run.room)
 
-    happens : Happens (AreRecords h) (event_with (breaks_off turn.status) heard did) Before Now
+    happens : Happens (AreRecords h) (event_with (breaks_off run.status) heard did) Before Now
     happens =
-        (leaves h rooms disks outs errs crash_state only contents bytes name old turn is_modelled
-        run (AreRecords h) keeps (none_beside h (command_of turn.words) name own)).leads.happens
+        (leaves h rooms disks outs errs crash_state only contents bytes name old run is_modelled
+        is_run (AreRecords h) keeps (none_beside h (command_of run.words) name own)).leads.happens
 
     -- ---- a log, with the file of its tiles
 
     -- a run that came to its end and left nothing new has added nothing
     kept_left : (d : Journaled) → KnowsOf d → Done (AreRecords h) d Before Now
-        → KeepsBoth (HasTilesOf h) asked.Valid rooms disks old turn.room name → Left d
+        → KeepsBoth (HasTilesOf h) asked.Valid rooms disks old run.room name → Left d
     kept_left untouched known done kept = kept.beside.crash_states.now_is
     kept_left (reads list) known done kept =
         λ all c at. all c (kept.beside.crash_states.now_is c at)
@@ -144,10 +145,10 @@ module _ {R S D O E : Type 0} (h : HashFunction) (rooms : Rooms R S D) (disks : 
         let is = known.finds in
         absurd (one_longer list body (one_list is.bytes list (list ++ body ∷ []) is.stands
         (done.1 is.bytes
-        (contents_crash_state disks (rooms.device turn.room name) is.bytes crash_state
+        (contents_crash_state disks (rooms.device run.room name) is.bytes crash_state
         (kept.contents
-        ∙ reported h rooms disks outs errs crash_state only contents bytes name old turn
-        is_modelled run (AreRecords h) keeps is.bytes is.there)))))
+        ∙ reported h rooms disks outs errs crash_state only contents bytes name old run
+        is_modelled is_run (AreRecords h) keeps is.bytes is.there)))))
     kept_left (started body) known done kept = kept.beside.crash_states.now_is
 
     half_left : (d : Journaled) → KnowsOf d
@@ -156,19 +157,19 @@ module _ {R S D O E : Type 0} (h : HashFunction) (rooms : Rooms R S D) (disks : 
         → HalfDone (AreRecords h) d Before Now
     half_left untouched known is began = elim is [ inl kept ↦ kept | inr kept ↦ kept ]
     half_left (reads list) known is began = (
-      found h rooms disks outs errs crash_state only contents bytes name old turn is_modelled run
+      found h rooms disks outs errs crash_state only contents bytes name old run is_modelled is_run
           (AreRecords h) keeps list known.finds,
       began.stands,
     )
     half_left (appended list body) known is began = (
-      may_append h rooms disks outs errs crash_state only contents bytes name old turn is_modelled
-          run
+      may_append h rooms disks outs errs crash_state only contents bytes name old run is_modelled
+          is_run
           (AreRecords h) keeps list body known.finds began.valid,
       began.stands,
     )
     half_left (started body) known is began =
-        empty_before h rooms disks outs errs crash_state only contents bytes name old turn
-        is_modelled run
+        empty_before h rooms disks outs errs crash_state only contents bytes name old run
+        is_modelled is_run
         (AreRecords h) keeps body known.is_new
 
     both_left : (broken : Bool) (d : Journaled) → KnowsOf d
@@ -187,8 +188,8 @@ module _ {R S D O E : Type 0} (h : HashFunction) (rooms : Rooms R S D) (disks : 
     module _ (other : IsOther asked.besides beside) where
       still_tiles : NoNew TilesBefore TilesNow
       still_tiles c at = subst (λ (x : Option D). states_at disks x c)
-          (run.back.others beside (other_both asked.besides asked.journals beside other
-          (tiles_no_journal h turn.words name))).disk at
+          (is_run.back.others beside (other_both asked.besides asked.journals beside other
+          (tiles_no_journal h run.words name))).disk at
 
       alone_left : (broken : Bool) (d : Journaled)
           → Continues (HasTilesOf h) Now TilesBefore TilesNow still_tiles d
@@ -213,7 +214,7 @@ module _ {R S D O E : Type 0} (h : HashFunction) (rooms : Rooms R S D) (disks : 
       cosigner_on (appended list body) among = λ c at stands t there s made.
           elim (added_to h (rooms.file old) name list body (λ n b is. file_bytes disks
           (rooms.file old n) (rooms.device old n) b bytes (contents old n is_modelled) is)
-          (command_of turn.words) among) [
+          (command_of run.words) among) [
             | inl named ↦ absurd (named_other asked.besides beside named other)
             | inr is ↦ absurd (no_cosigner_log h list body s is made)
           ]
@@ -227,28 +228,28 @@ module _ {R S D O E : Type 0} (h : HashFunction) (rooms : Rooms R S D) (disks : 
           let wrong : appended list body ≡ untouched = is in absurd cc
       untouched_on (started body) is = tt
 
-    pub log_leaves : All (breaks_off turn.status) did
+    pub log_leaves : All (breaks_off run.status) did
     log_leaves = elim (find_name asked.journals (asked.outcome (rooms.file old)).journals name) [
       | inl none ↦
-          (let other = tiles_other h (command_of turn.words) name none.0 in
-          alone_left other (breaks_off turn.status) did (untouched_on other did none.1) happens)
+          (let other = tiles_other h (command_of run.words) name none.0 in
+          alone_left other (breaks_off run.status) did (untouched_on other did none.1) happens)
       | inr among ↦ elim (named_or_other asked.besides beside) [
-        | inl named ↦ both_left (breaks_off turn.status) did
-            (knows h rooms disks outs errs crash_state only contents bytes name old turn is_modelled
-            run
+        | inl named ↦ both_left (breaks_off run.status) did
+            (knows h rooms disks outs errs crash_state only contents bytes name old run is_modelled
+            is_run
             (AreRecords h) keeps did among) happens
             (of_each (λ n d. IsNamed asked.besides (tiles_name n)
-            → LeavesBoth (HasTilesOf h) asked.Valid rooms disks old turn.room n d) js name did
-            (run.stores is_modelled) among named)
+            → LeavesBoth (HasTilesOf h) asked.Valid rooms disks old run.room n d) js name did
+            (is_run.stores is_modelled) among named)
         | inr other ↦
-            alone_left other (breaks_off turn.status) did (cosigner_on other did among) happens
+            alone_left other (breaks_off run.status) did (cosigner_on other did among) happens
       ]
     ]
 
   -- runs leave of both files what they have to leave
   pub serves_log : (name : Text) → IsOwn name → ServesLog (program h rooms disks outs errs)
-      (HasTilesOf h) (λ list body. ⊥) (AreRecords h) name (tiles_name name) (λ old run. stored)
+      (HasTilesOf h) (λ list body. ⊥) (AreRecords h) name (tiles_name name) (λ old is_run. stored)
   serves_log name own = record {
     rooms = (serves h rooms disks outs errs crash_state only contents bytes name own).rooms;
-    leaves = λ old turn is_modelled run. log_leaves name own old turn is_modelled run;
+    leaves = λ old run is_modelled is_run. log_leaves name own old run is_modelled is_run;
   }

@@ -39,15 +39,15 @@ use Rattle.party_history.specs.declared.start.PartyStart.{PartyStart}
 use Rattle.party_history.specs.declared.start.PartyStart.TheVariants.{Cosigner, Log}
 use Rattle.party_history.proofs.Chains.{no_some}
 use Rattle.mtc_top.specs.Concluded.{Reports}
-use Rattle.mtc_top.specs.CourseLaws.{AreOfParty}
+use Rattle.mtc_top.specs.ExecutionLaws.{AreOfParty}
 use Rattle.mtc_top.specs.Facts.{facts, facts_of}
 use Rattle.mtc_top.specs.StatusLaws.{IsAboutInput, LacksTile, MisreadFilesAreInputs}
 use Rattle.party_history.proofs.Agreement.{made_so}
 use Rattle.mtc_top.proofs.Recovered.{modelled_then, read_again}
 use Rattle.mtc_top.proofs.Runs.{answered, wrote_of}
-use Rattle.mtc_top.proofs.Turns.{file_bytes}
-use Rattle.mtc_top.specs.Courses.{program, Turn}
-use Rattle.mtc_top.proofs.Aliases.{HasTurned}
+use Rattle.mtc_top.proofs.HeardRuns.{file_bytes}
+use Rattle.mtc_top.specs.Executions.{program, Run}
+use Rattle.mtc_top.proofs.Aliases.{IsRun}
 
 one_is : (x y : List ℕ) (xs : List (List ℕ)) → x ∷ xs ≡ y ∷ [] → x ≡ y
 one_is x y xs is = cc
@@ -148,28 +148,28 @@ module _ {R S D O E : Type 0} (h : HashFunction) (rooms : Rooms R S D) (disks : 
     → ModelsFile disks.contents (rooms.file room name) (rooms.device room name))
     (bytes : (d : D) (b : List ℕ) → disks.contents d ≡ Some b → IsBytes b) where
   -- the line of a refusal
-  refused_line : (turn : Turn R O E) (reply : Reply) (file reason : List ℕ)
+  refused_line : (run : Run R O E) (reply : Reply) (file reason : List ℕ)
       → reply ≡ refused BadForm (Some file) reason
-      → Reports errs turn.err turn.err_after (err_of (known_word turn.words) reply)
-      → Reports errs turn.err turn.err_after (line_of (known_word turn.words) (Some file) reason)
-  refused_line turn reply file reason is line =
-      subst (λ (r : Reply). Reports errs turn.err turn.err_after
-      (err_of (known_word turn.words) r)) is line
+      → Reports errs run.err run.err_after (err_of (known_word run.words) reply)
+      → Reports errs run.err run.err_after (line_of (known_word run.words) (Some file) reason)
+  refused_line run reply file reason is line =
+      subst (λ (r : Reply). Reports errs run.err run.err_after
+      (err_of (known_word run.words) r)) is line
 
-  about_input : (name : List ℕ) (room : R) (command : CommandValue) (turn : Turn R O E)
+  about_input : (name : List ℕ) (room : R) (command : CommandValue) (run : Run R O E)
       → rooms.is_modelled room
-      → HasTurned h rooms disks outs errs room turn → command_of turn.words ≡ Ok command
-      → turn.status ≡ 2
+      → IsRun h rooms disks outs errs room run → command_of run.words ≡ Ok command
+      → run.status ≡ 2
       → ((file reason : List ℕ)
       → AnyIsRefused (party_kinds h) (rooms.file room) (plan_of h command).journals file reason
       → LacksTile h (rooms.file room) name file reason)
-      → IsAboutInput h (program h rooms disks outs errs) errs name command room turn
-  about_input name room command turn is_modelled run spoken two lacks =
-      let a = answered h rooms disks outs errs turn.words room turn.room turn.out turn.out_after
-      turn.err turn.err_after turn.status run (λ five. omega (arith, two, five))
+      → IsAboutInput h (program h rooms disks outs errs) errs name command room run
+  about_input name room command run is_modelled is_run spoken two lacks =
+      let a = answered h rooms disks outs errs run.words room run.room run.out run.out_after
+      run.err run.err_after run.status is_run (λ five. omega (arith, two, five))
       (λ eight. omega (arith, two, eight)) in
-      let wrote = wrote_of outs errs (known_word turn.words) turn.out turn.out_after turn.err
-      turn.err_after a.reply turn.status a.concludes (λ six. omega (arith, two, six)) in
+      let wrote = wrote_of outs errs (known_word run.words) run.out run.out_after run.err
+      run.err_after a.reply run.status a.concludes (λ six. omega (arith, two, six)) in
       let meets = subst (λ (r : Result CommandValue WordError).
       Meets ((facts h r).outcome (rooms.file room)).answer a.reply) spoken (a.is (inl is_modelled))
       in
@@ -184,19 +184,20 @@ module _ {R S D O E : Type 0} (h : HashFunction) (rooms : Rooms R S D) (disks : 
         ];
         asked = subst (λ (r : Reply).
             Meets ((facts_of h command).outcome (rooms.file room)).answer r) about.is meets;
-        line = refused_line turn a.reply about.file about.reason about.is wrote.line;
+        line = refused_line run a.reply about.file about.reason about.is wrote.line;
       }
 
   pub misread_inputs : MisreadFilesAreInputs h (program h rooms disks outs errs) errs
-  misread_inputs name start first begins new links begun course command turn on run spoken two =
+  misread_inputs name start first begins new events begun execution command run on is_run spoken
+      two =
       let is_modelled =
       modelled_then h rooms disks outs errs crash_state only contents bytes name start
-      first begins new links begun course in
-      about_input name new command turn is_modelled run spoken two
+      first begins new events begun execution in
+      about_input name new command run is_modelled is_run spoken two
       (λ file reason any. of_journals h start first name (rooms.file new) (λ c is.
       let party =
       read_again h rooms disks outs errs crash_state only contents bytes name start first begins
-      new links begun course c (inr is) in
+      new events begun execution c (inr is) in
       let are = file_bytes disks (rooms.file new name) (rooms.device new name) c bytes
       (contents new name is_modelled) is in
       (party.records, (stands_of h start c party.records are party.read, party.of_party)))

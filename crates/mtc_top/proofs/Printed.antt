@@ -34,19 +34,19 @@ use Rattle.party_history.proofs.Cosigners.{number_added, sign_read}
 use Rattle.party_history.proofs.Entries.{item_read}
 use Rattle.mtc_top.specs.Facts.{facts, facts_of}
 use Rattle.mtc_top.specs.PrintLaws.{IndicesArePrinted, SignaturesArePrinted}
-use Rattle.mtc_top.proofs.Turns.{file_bytes, heard_run, not_refused, printed_so}
-use Rattle.mtc_top.specs.Courses.{program, Turn}
-use Rattle.mtc_top.proofs.Aliases.{HasTurned, DidWith, IsHeard}
+use Rattle.mtc_top.proofs.HeardRuns.{file_bytes, heard_run, not_refused, printed_so}
+use Rattle.mtc_top.specs.Executions.{program, Run}
+use Rattle.mtc_top.proofs.Aliases.{IsRun, DidWith, IsHeard}
 
 module _ {R S D O E : Type 0} (h : HashFunction) (rooms : Rooms R S D) (disks : Disks D)
-    (outs : Sinks O) (errs : Sinks E) (old : R) (turn : Turn R O E) (command : CommandValue)
-    (spoken : command_of turn.words ≡ Ok command) where
+    (outs : Sinks O) (errs : Sinks E) (old : R) (run : Run R O E) (command : CommandValue)
+    (spoken : command_of run.words ≡ Ok command) where
   abbrev planned : Outcome
   planned = planned_outcome h command (rooms.file old)
 
   -- the run did with its one journal what the outcome says
   pub did_so : (name : List ℕ) (did : Journaled) → (facts_of h command).journals ≡ name ∷ []
-      → planned.journals ≡ did ∷ [] → DidWith h rooms disks outs errs old turn name did
+      → planned.journals ≡ did ∷ [] → DidWith h rooms disks outs errs old run name did
   did_so name did named is =
       let are = ap (λ (r : Result CommandValue WordError).
       done_with (facts h r).journals ((facts h r).outcome (rooms.file old)).journals) spoken
@@ -56,16 +56,16 @@ module _ {R S D O E : Type 0} (h : HashFunction) (rooms : Rooms R S D) (disks : 
       (ap (λ (b : Bool). if b then did else untouched) ((bytes_eq-Decides name name).1 refl))
 
   module _ (is_modelled : rooms.is_modelled old)
-      (run : HasTurned h rooms disks outs errs old turn) (heard : IsHeard outs turn) where
+      (is_run : IsRun h rooms disks outs errs old run) (heard : IsHeard outs run) where
     abbrev reply : Reply
-    reply = (heard_run h rooms disks outs errs old turn run heard).reply
+    reply = (heard_run h rooms disks outs errs old run is_run heard).reply
 
     -- it has said something
     has_said : (r : Reply) → reply ≡ r
         → (status : Said) × ((text : List ℕ) × (reply ≡ said status text))
     has_said (said status text) is = (status, (text, is))
     has_said (refused why file reason) is =
-        absurd (not_refused h rooms disks outs errs old turn run heard why file reason is)
+        absurd (not_refused h rooms disks outs errs old run is_run heard why file reason is)
 
     -- what is so of each text that the command may say is so of the run's
     pub heard_so : (P : Reply → Type 0) → OfSaid planned P → P reply
@@ -73,7 +73,7 @@ module _ {R S D O E : Type 0} (h : HashFunction) (rooms : Rooms R S D) (disks : 
         let s = has_said reply refl in
         let meets = subst (λ (r : Result CommandValue WordError).
         Meets ((facts h r).outcome (rooms.file old)).answer reply) spoken
-        ((heard_run h rooms disks outs errs old turn run heard).is (inl is_modelled)) in
+        ((heard_run h rooms disks outs errs old run is_run heard).is (inl is_modelled)) in
         subst P (sym s.1.1)
         (each s.0 s.1.0 (subst (λ (r : Reply). Meets planned.answer r) s.1.1 meets))
 
@@ -83,9 +83,9 @@ module _ {R S D O E : Type 0} (h : HashFunction) (rooms : Rooms R S D) (disks : 
     → ModelsFile disks.contents (rooms.file room name) (rooms.device room name))
     (bytes : (d : D) (b : List ℕ) → disks.contents d ≡ Some b → IsBytes b) where
   pub signatures_printed : SignaturesArePrinted h (program h rooms disks outs errs)
-  signatures_printed name file old turn is_modelled run spoken heard =
+  signatures_printed name file old run is_modelled is_run spoken heard =
       let command = cosign name file in
-      let s = heard_so h rooms disks outs errs old turn command spoken is_modelled run heard
+      let s = heard_so h rooms disks outs errs old run command spoken is_modelled is_run heard
       (CosignsSo h (rooms.file old) name file) (cosigned_so h (rooms.file old) name file) in
       let r = s.request in
       let state = s.found.state in
@@ -107,19 +107,19 @@ module _ {R S D O E : Type 0} (h : HashFunction) (rooms : Rooms R S D) (disks : 
         state = state;
         cosigner_is = stands.1;
         body = body;
-        did = did_so h rooms disks outs errs old turn command spoken name (appended list body) refl
+        did = did_so h rooms disks outs errs old run command spoken name (appended list body) refl
             s.did;
         uses = number_added h list state body state.key.next r.start r.end r.hash r.proof stands.1
             signs;
         signs = signs;
-        printed = printed_so h rooms disks outs errs old turn run heard (cosigned_text state r)
+        printed = printed_so h rooms disks outs errs old run is_run heard (cosigned_text state r)
             s.reply_is;
       }
 
   pub indices_printed : IndicesArePrinted h (program h rooms disks outs errs)
-  indices_printed name file old turn is_modelled run spoken heard =
+  indices_printed name file old run is_modelled is_run spoken heard =
       let command = issue name file in
-      let s = heard_so h rooms disks outs errs old turn command spoken is_modelled run heard
+      let s = heard_so h rooms disks outs errs old run command spoken is_modelled is_run heard
       (IssuesSo h (rooms.file old) name file) (issued_so h (rooms.file old) name file) in
       let state = s.found.state in
       let list = s.found.records in
@@ -135,10 +135,10 @@ module _ {R S D O E : Type 0} (h : HashFunction) (rooms : Rooms R S D) (disks : 
         state = state;
         log_is = (found_stands (log_fold h) s.held s.found are s.is_log).1;
         body = body;
-        did = did_so h rooms disks outs errs old turn command spoken name (appended list body) refl
+        did = did_so h rooms disks outs errs old run command spoken name (appended list body) refl
             s.did;
         item = item_read (view_in state) false (end_following list)
             (issued_entry h state.settings s.request) s.request.key s.fits;
-        printed = printed_so h rooms disks outs errs old turn run heard
+        printed = printed_so h rooms disks outs errs old run is_run heard
             (issued_text (length state.entries)) s.reply_is;
       }

@@ -11,8 +11,8 @@ use Rattle.file_events.specs.Histories.{IsHistory, RepresentsPending}
 use Rattle.file_events.specs.Laws.{IsDurablePrefix, IsJournalExecution, IsReadAfter}
 use Rattle.file_events.specs.Owners.{ServesJournal}
 use Rattle.file_events.proofs.Histories.{executions_are_histories}
-use Rattle.file_events.proofs.Links.{each_run, stays_modelled}
-use Rattle.file_events.proofs.Owners.{journal_courses, journal_lead}
+use Rattle.file_events.proofs.OwnEvents.{each_run, stays_modelled}
+use Rattle.file_events.proofs.Owners.{journal_executions, journal_lead}
 use Rattle.file_events.proofs.Records.{one_list}
 use Rattle.file_events.proofs.Stays.{first_held, held_stand, recovered_valid}
 use Rattle.file_events.proofs.Stays.{released_held as was_held}
@@ -37,19 +37,20 @@ use Rattle.party_history.proofs.Agreement.{agree, cons_is, made_so, read, starts
 use Rattle.party_history.proofs.Items.{item_added, items_kept}
 use Rattle.party_history.proofs.Keys.{one_record}
 use Rattle.party_history.proofs.Taking.{no_records, reaches_all, takes_steps}
-use Rattle.mtc_top.specs.CourseLaws.{AddedEntriesStand, AreOfParty, IsReadAsParty}
-use Rattle.mtc_top.specs.CourseLaws.{CoursesAreHistories, EntriesStand, ReleasedStand}
-use Rattle.mtc_top.specs.CourseLaws.{OfReleased, ReleasedWasHeld}
-use Rattle.mtc_top.specs.CourseLaws.{JournalsAreOfParties, JournalsAreRead, KeysSignOnce}
-use Rattle.mtc_top.specs.CourseLaws.{KeysSignOneMessage}
-use Rattle.mtc_top.specs.CourseLaws.{RecoveredListsGrow}
+use Rattle.mtc_top.specs.ExecutionLaws.{AddedEntriesStand, AreOfParty, IsReadAsParty}
+use Rattle.mtc_top.specs.ExecutionLaws.{ExecutionsHaveHistories, EntriesStand, ReleasedStand}
+use Rattle.mtc_top.specs.ExecutionLaws.{OfReleased, ReleasedWasHeld}
+use Rattle.mtc_top.specs.ExecutionLaws.{JournalsAreOfParties, JournalsAreRead, KeysSignOnce}
+use Rattle.mtc_top.specs.ExecutionLaws.{KeysSignOneMessage}
+use Rattle.mtc_top.specs.ExecutionLaws.{RecoveredListsGrow}
 use Rattle.mtc_top.proofs.Commands.{spoken_records}
 use Rattle.mtc_top.proofs.Leaves.{contents_crash_state, first_own, held_rules, modelled_file}
 use Rattle.mtc_top.proofs.Leaves.{serves}
-use Rattle.mtc_top.proofs.Turns.{heard_event, heard_held}
-use Rattle.mtc_top.specs.Courses.{program, WasHeld, IsBegun, IsReached, Turn, Link}
-use Rattle.mtc_top.proofs.Aliases.{HasTurned, DidWith, owner_of, crash_states_in, IsCourse, events}
-use Rattle.mtc_top.proofs.Aliases.{HasHeld, OfEachTurn, IsRecovered, IsHeard}
+use Rattle.mtc_top.proofs.HeardRuns.{heard_event, heard_held}
+use Rattle.mtc_top.specs.Executions.{program, WasHeld, IsBegun, IsReached, Run, FileEvent}
+use Rattle.mtc_top.proofs.Aliases.{IsRun, DidWith, owner_of, crash_states_in, IsOwnExecution}
+use Rattle.mtc_top.proofs.Aliases.{journal_events}
+use Rattle.mtc_top.proofs.Aliases.{HasHeld, EachOwnRun, IsRecovered, IsHeard}
 
 -- ---- lists
 
@@ -101,11 +102,11 @@ module _ {R S D O E : Type 0} (h : HashFunction) (rooms : Rooms R S D) (disks : 
     → ModelsFile disks.contents (rooms.file room name) (rooms.device room name))
     (bytes : (d : D) (b : List ℕ) → disks.contents d ≡ Some b → IsBytes b) where
   module _ (name : List ℕ) (start : PartyStart) (first : List ℕ) (begins new : R)
-      (links : List (Link R O E))
-      (begun : IsBegun h (program h rooms disks outs errs) name start first begins links)
-      (course : IsCourse h rooms disks outs errs name begins links new) where
+      (events : List (FileEvent R O E))
+      (begun : IsBegun h (program h rooms disks outs errs) name start first begins events)
+      (execution : IsOwnExecution h rooms disks outs errs name begins events new) where
     abbrev evs : List Event
-    evs = events h rooms disks outs errs name begins links
+    evs = journal_events h rooms disks outs errs name begins events
 
     abbrev States : R → List ℕ → Type 0
     States = states_of (program h rooms disks outs errs) name
@@ -114,22 +115,22 @@ module _ {R S D O E : Type 0} (h : HashFunction) (rooms : Rooms R S D) (disks : 
     serves_so = serves h rooms disks outs errs crash_state only contents bytes name
         (first_own h rooms disks outs errs crash_state only contents bytes name
         (first ∷ begun.others)
-        begins links begun.held)
+        begins events begun.held)
 
-    execution : IsJournalExecution States (AreRecords h) begins evs new
-    execution = journal_courses (program h rooms disks outs errs) (AreRecords h) name serves_so
-        begins new links begun.is_modelled course
+    of_journal : IsJournalExecution States (AreRecords h) begins evs new
+    of_journal = journal_executions (program h rooms disks outs errs) (AreRecords h) name serves_so
+        begins new events begun.is_modelled execution
 
     pub modelled_then : rooms.is_modelled new
     modelled_then = stays_modelled (program h rooms disks outs errs)
         (owner_of h rooms disks outs errs name)
-        (journal_lead (program h rooms disks outs errs) (AreRecords h) name serves_so) links begins
-        new begun.is_modelled course
+        (journal_lead (program h rooms disks outs errs) (AreRecords h) name serves_so) events begins
+        new begun.is_modelled execution
 
     -- the records of the first run are durable
     pub durable : IsDurablePrefix (AreRecords h) (first ∷ begun.others) (States new)
     durable = held_stand States (AreRecords h) (first ∷ begun.others) begins new evs
-        (first_held (first ∷ begun.others) evs begun.held) execution
+        (first_held (first ∷ begun.others) evs begun.held) of_journal
 
     party : (c : List ℕ) (b : IsReadAfter (AreRecords h) (first ∷ begun.others) c)
         → AreOfParty h start first b.list
@@ -166,76 +167,76 @@ module _ {R S D O E : Type 0} (h : HashFunction) (rooms : Rooms R S D) (disks : 
 
     -- what was held is a prefix of what is recovered
     pub held_prefix : (list found : List (List ℕ))
-        → WasHeld h (program h rooms disks outs errs) name begins links list
+        → WasHeld h (program h rooms disks outs errs) name begins events list
         → IsRecovered h rooms disks outs errs name new found → IsPrefix list found
     held_prefix list found held is =
-        (recovered_valid States (AreRecords h) list found begins new evs held execution is).1
+        (recovered_valid States (AreRecords h) list found begins new evs held of_journal is).1
 
     pub crash_state_list : (c : List ℕ) → crash_states_in h rooms disks outs errs new name c
         → (found : List (List ℕ)) × Represents c found
     crash_state_list c at = let b = durable.each c at in (b.list, b.stands)
 
     pub held_crash_state : (list : List (List ℕ)) (c : List ℕ)
-        → WasHeld h (program h rooms disks outs errs) name begins links list
+        → WasHeld h (program h rooms disks outs errs) name begins events list
         → crash_states_in h rooms disks outs errs new name c
         → (found : List (List ℕ)) × (Represents c found × IsPrefix list found)
     held_crash_state list c held at =
-        let b = (held_stand States (AreRecords h) list begins new evs held execution).each c at in
+        let b = (held_stand States (AreRecords h) list begins new evs held of_journal).each c at in
         (b.list, (b.stands, b.begins))
 
     -- what holds of each run of the execution, where it holds by the records that it held
-    pub each_held : (IsSo : List (List ℕ) → Type 0) (P : R → Turn R O E → Type 0)
+    pub each_held : (IsSo : List (List ℕ) → Type 0) (P : R → Run R O E → Type 0)
         → ((list : List (List ℕ))
-        → WasHeld h (program h rooms disks outs errs) name begins links list
+        → WasHeld h (program h rooms disks outs errs) name begins events list
         → IsSo list)
-        → ((room : R) (turn : Turn R O E) → rooms.is_modelled room
-        → HasTurned h rooms disks outs errs room turn
-        → ((list : List (List ℕ)) → HasHeld h rooms disks outs errs name room turn list → IsSo list)
-        → P room turn)
-        → OfEachTurn h rooms disks outs errs P begins links
+        → ((room : R) (run : Run R O E) → rooms.is_modelled room
+        → IsRun h rooms disks outs errs room run
+        → ((list : List (List ℕ)) → HasHeld h rooms disks outs errs name room run list → IsSo list)
+        → P room run)
+        → EachOwnRun h rooms disks outs errs P begins events
     each_held IsSo P reported each =
         let p = program h rooms disks outs errs in
         each_run p (owner_of h rooms disks outs errs name)
-        (journal_lead p (AreRecords h) name serves_so) (List (List ℕ)) EventHolds IsSo P each links
-        begins new begun.is_modelled course reported
+        (journal_lead p (AreRecords h) name serves_so) (List (List ℕ)) EventHolds IsSo P each events
+        begins new begun.is_modelled execution reported
 
     -- each record that was released
     pub released_so : OfReleased h (program h rooms disks outs errs) name (λ list body.
         HasReleased evs list body
-        × WasHeld h (program h rooms disks outs errs) name begins links (list ++ body ∷ []))
-        begins links
+        × WasHeld h (program h rooms disks outs errs) name begins events (list ++ body ∷ []))
+        begins events
     released_so =
         let p = program h rooms disks outs errs in
         each_run p (owner_of h rooms disks outs errs name)
         (journal_lead p (AreRecords h) name serves_so) Event (λ (x event : Event). event ≡ x)
         (λ (x : Event). AnyEvent (λ (event : Event). event ≡ x) evs)
-        (λ old turn. (list : List (List ℕ)) (body : List ℕ)
-        → DidWith h rooms disks outs errs old turn name (appended list body) → IsHeard outs turn
+        (λ old run. (list : List (List ℕ)) (body : List ℕ)
+        → DidWith h rooms disks outs errs old run name (appended list body) → IsHeard outs run
         → HasReleased evs list body
-        × WasHeld h (program h rooms disks outs errs) name begins links (list ++ body ∷ []))
-        (λ old turn is_modelled run reported list body did heard.
+        × WasHeld h (program h rooms disks outs errs) name begins events (list ++ body ∷ []))
+        (λ old run is_modelled is_run reported list body did heard.
         let released = reported (ran true (appended list body))
-        (heard_event h rooms disks outs errs old turn run heard name (appended list body) did) in
-        (released, was_held list body evs released)) links begins new begun.is_modelled course
+        (heard_event h rooms disks outs errs old run is_run heard name (appended list body) did) in
+        (released, was_held list body evs released)) events begins new begun.is_modelled execution
         (λ x any. any)
 
     pub released_crash_state : (c : List ℕ) → crash_states_in h rooms disks outs errs new name c
         → OfReleased h (program h rooms disks outs errs) name (λ list body. (found : List (List ℕ))
-        × (Represents c found × IsPrefix (list ++ body ∷ []) found)) begins links
+        × (Represents c found × IsPrefix (list ++ body ∷ []) found)) begins events
     released_crash_state c at =
         each_held (λ list. (found : List (List ℕ)) × (Represents c found × IsPrefix list found))
-        (λ old turn. (list : List (List ℕ)) (body : List ℕ)
-        → DidWith h rooms disks outs errs old turn name (appended list body) → IsHeard outs turn
+        (λ old run. (list : List (List ℕ)) (body : List ℕ)
+        → DidWith h rooms disks outs errs old run name (appended list body) → IsHeard outs run
         → (found : List (List ℕ)) × (Represents c found × IsPrefix (list ++ body ∷ []) found))
         (λ list held. held_crash_state list c held at)
-        (λ old turn is_modelled run reported list body did heard. reported (list ++ body ∷ [])
-        (heard_held h rooms disks outs errs old turn run heard name list body did))
+        (λ old run is_modelled is_run reported list body did heard. reported (list ++ body ∷ [])
+        (heard_held h rooms disks outs errs old run is_run heard name list body did))
 
     -- ---- its history
 
     history : IsHistory (HasHistory h) (all_released evs) (States new)
     history = executions_are_histories States (AreRecords h) (HasHistory h) (takes_steps h)
-        (reaches_all h) (first ∷ begun.others) begins new evs begun.held execution
+        (reaches_all h) (first ∷ begun.others) begins new evs begun.held of_journal
 
     same_first : history.reaches.first ≡ first
     same_first =
@@ -251,7 +252,7 @@ module _ {R S D O E : Type 0} (h : HashFunction) (rooms : Rooms R S D) (disks : 
         (all_released evs)) same_first (history.reaches.of_party start
         (subst (StartsWith start) (sym same_first) begun.starts))
 
-    pub reached : IsReached h (program h rooms disks outs errs) name start first begins links new
+    pub reached : IsReached h (program h rooms disks outs errs) name start first begins events new
     reached = record {
       steps = goes.more;
       state = goes.state;
@@ -263,7 +264,7 @@ module _ {R S D O E : Type 0} (h : HashFunction) (rooms : Rooms R S D) (disks : 
       released = sym goes.out_is;
     }
 
-  pub histories : CoursesAreHistories h (program h rooms disks outs errs)
+  pub histories : ExecutionsHaveHistories h (program h rooms disks outs errs)
   histories = reached
 
   pub read_again : JournalsAreRead h (program h rooms disks outs errs)
@@ -279,37 +280,39 @@ module _ {R S D O E : Type 0} (h : HashFunction) (rooms : Rooms R S D) (disks : 
   released_stand = released_crash_state
 
   pub keys_once : KeysSignOnce h (program h rooms disks outs errs)
-  keys_once name start first begins new links begun course settings public is record0 bodies found =
-      let of = party_list name start first begins new links begun course (record0 ∷ bodies) found in
+  keys_once name start first begins new events begun execution settings public is record0 bodies
+      found =
+      let of = party_list name start first begins new events begun execution (record0 ∷ bodies)
+      found in
       keys_of h start settings public bodies is
       (subst (λ (l : List (List ℕ)). may_follow h start l ≡ true)
       (sym (tail_is record0 first bodies of.others of.is)) of.valid)
 
   pub one_message : KeysSignOneMessage h (program h rooms disks outs errs)
-  one_message name start first begins new links begun course settings public is list other more
+  one_message name start first begins new events begun execution settings public is list other more
       others body message number held held' uses uses' =
-      let all = durable name start first begins new links begun course in
+      let all = durable name start first begins new events begun execution in
       let c = all.some in
       let following = all.each c.0 c.1 in
       let found = begun.others ++ following.begins.0 in
       let recovered : IsRecovered h rooms disks outs errs name new (first ∷ found)
       = (c.0, (c.1, subst (Represents c.0) (sym following.begins.1) following.stands)) in
       let prefix = first_of_more list body more (first ∷ found) (held_prefix name start first
-      begins new links begun course (list ++ body ∷ more) (first ∷ found) held recovered) in
+      begins new events begun execution (list ++ body ∷ more) (first ∷ found) held recovered) in
       let prefix' =
       first_of_more other message others (first ∷ found) (held_prefix name start first
-      begins new links begun course (other ++ message ∷ others) (first ∷ found) held' recovered)
+      begins new events begun execution (other ++ message ∷ others) (first ∷ found) held' recovered)
       in
       one_record first found list other body message prefix.0 prefix'.0 number
-      (keys_once name start first begins new links begun course settings public is first found
+      (keys_once name start first begins new events begun execution settings public is first found
       recovered) prefix.1 prefix'.1 uses uses'
 
   pub entries_stand : EntriesStand h (program h rooms disks outs errs)
-  entries_stand name start first begins new links begun course settings list found s is held log
+  entries_stand name start first begins new events begun execution settings list found s is held log
       recovered =
-      let of = party_list name start first begins new links begun course found recovered in
+      let of = party_list name start first begins new events begun execution found recovered in
       let t = log_found h start settings first found is begun.starts of in
-      let prefix = held_prefix name start first begins new links begun course list found held
+      let prefix = held_prefix name start first begins new events begun execution list found held
       recovered
       in (
         t.0,
@@ -321,11 +324,13 @@ module _ {R S D O E : Type 0} (h : HashFunction) (rooms : Rooms R S D) (disks : 
       )
 
   pub added_stand : AddedEntriesStand h (program h rooms disks outs errs)
-  added_stand name start first begins new links begun course settings list found body entry key s is
+  added_stand name start first begins new events begun execution settings list found body entry key
+      s is
       held log item recovered =
-      let of = party_list name start first begins new links begun course found recovered in
+      let of = party_list name start first begins new events begun execution found recovered in
       let t = log_found h start settings first found is begun.starts of in
-      let prefix = held_prefix name start first begins new links begun course (list ++ body ∷ [])
+      let prefix =
+      held_prefix name start first begins new events begun execution (list ++ body ∷ [])
       found
       held recovered in (
         t.0,
@@ -357,8 +362,8 @@ module _ {R S D O E : Type 0} (h : HashFunction) (rooms : Rooms R S D) (disks : 
       )
 
   pub of_parties : JournalsAreOfParties h (program h rooms disks outs errs)
-  of_parties name old turn list is_modelled run held =
-      split list (spoken_records h (command_of turn.words) list
-      (held_rules h rooms disks outs errs crash_state only contents bytes name old turn list
+  of_parties name old run list is_modelled is_run held =
+      split list (spoken_records h (command_of run.words) list
+      (held_rules h rooms disks outs errs crash_state only contents bytes name old run list
       is_modelled
-      run held))
+      is_run held))

@@ -43,8 +43,8 @@ use Rattle.mtc_top.proofs.Leaves.{still}
 use Rattle.mtc_top.proofs.Runs.{HasFailed, RanOutOfMemory, all_early, answered, ended, first_words}
 use Rattle.mtc_top.proofs.Runs.{lost_of, not5_of, not8_of, only_words, prefix_of, reply_code}
 use Rattle.mtc_top.proofs.Runs.{wrote_of}
-use Rattle.mtc_top.specs.Courses.{program, Turn}
-use Rattle.mtc_top.proofs.Aliases.{HasTurned, owner_of, crash_states_in}
+use Rattle.mtc_top.specs.Executions.{program, Run}
+use Rattle.mtc_top.proofs.Aliases.{IsRun, owner_of, crash_states_in}
 
 -- where nothing was appended, no byte went out
 pub took_none : (old new : Option (List ℕ)) → Appends old new [] → TookSome old new → ⊥
@@ -138,7 +138,7 @@ silent_reply P (refused why file reason) status is not0 not3 not10 prints = prin
 module _ {R S D O E : Type 0} (h : List ℕ → List ℕ) (rooms : Rooms R S D) (disks : Disks D)
     (outs : Sinks O) (errs : Sinks E) (words : List (List ℕ))
     (old new : R) (out out' : O) (err err' : E) (status : ℕ)
-    (run : HasRun h rooms disks outs errs words old new out out' err err' status) where
+    (is_run : HasRun h rooms disks outs errs words old new out out' err err' status) where
   abbrev Failed : Type 0
   Failed = HasFailed h rooms disks outs errs words old new out out' err err' status
 
@@ -147,7 +147,7 @@ module _ {R S D O E : Type 0} (h : List ℕ → List ℕ) (rooms : Rooms R S D) 
 
   abbrev how : Answered h rooms disks outs errs words old new out out' err err' status
       ⊎ (Failed ⊎ OutOfMemory)
-  how = ended h rooms disks outs errs words old new out out' err err' status run
+  how = ended h rooms disks outs errs words old new out out' err err' status is_run
 
   abbrev went : Type 0
   went = is_heard status (outs.taken out) (outs.taken out') ≡ true
@@ -183,10 +183,10 @@ module _ {R S D O E : Type 0} (h : List ℕ → List ℕ) (rooms : Rooms R S D) 
         | inr out_of_memory ↦ omega (arith, out_of_memory.code)
       ]
     ];
-    only = only_words h rooms disks outs errs words old new out out' err err' status run;
-    first = first_words h rooms disks outs errs words old new out out' err err' status run;
-    early = all_early h rooms disks outs errs words old new out out' err err' status run;
-    answers = answered h rooms disks outs errs words old new out out' err err' status run;
+    only = only_words h rooms disks outs errs words old new out out' err err' status is_run;
+    first = first_words h rooms disks outs errs words old new out out' err err' status is_run;
+    early = all_early h rooms disks outs errs words old new out out' err err' status is_run;
+    answers = answered h rooms disks outs errs words old new out out' err err' status is_run;
     complete = λ room sink memory. elim how [
       | inl a ↦ (
         λ is. sink (lost_of outs errs (known_word words) out out' err err' a.reply status
@@ -247,23 +247,23 @@ module _ {R S D O E : Type 0} (h : List ℕ → List ℕ) (rooms : Rooms R S D) 
 
       prefix_is_run : HasRun h rooms disks outs errs words old new out failed err contents 6
       prefix_is_run = record {
-        ending = run.ending;
-        ends = run.ends;
-        concludes = lost_by run.ending run.concludes;
-        back = run.back;
-        made = run.made;
-        began = run.began;
-        only_read = run.only_read;
-        spares = run.spares;
-        stores = run.stores;
-        valid = run.valid;
+        ending = is_run.ending;
+        ends = is_run.ends;
+        concludes = lost_by is_run.ending is_run.concludes;
+        back = is_run.back;
+        made = is_run.made;
+        began = is_run.began;
+        only_read = is_run.only_read;
+        spares = is_run.spares;
+        stores = is_run.stores;
+        valid = is_run.valid;
       }
 
 pub prefixes_are_runs : {R S D O E : Type 0} (h : List ℕ → List ℕ) (rooms : Rooms R S D)
     (disks : Disks D) (outs : Sinks O) (errs : Sinks E) → PrefixesAreRuns h rooms disks outs errs
 prefixes_are_runs {R} {S} {D} {O} {E} h rooms disks outs errs words old new out out' failed err err'
-    contents status text run some is prefix cause line =
-    prefix_is_run h rooms disks outs errs words old new out out' err err' status run some failed
+    contents status text is_run some is prefix cause line =
+    prefix_is_run h rooms disks outs errs words old new out out' err err' status is_run some failed
     contents text is prefix cause line
 
 -- ---- a run is steps
@@ -279,33 +279,33 @@ module _ {R S D O E : Type 0} (h : HashFunction) (rooms : Rooms R S D) (disks : 
       step (AreRecords h) (Continues h starts place first steps)
       (takes h starts place start there first begins steps) out before now event history leads
 
-  module _ (old : R) (turn : Turn R O E) (is_modelled : rooms.is_modelled old)
-      (run : HasTurned h rooms disks outs errs old turn) (name : List ℕ) where
+  module _ (old : R) (run : Run R O E) (is_modelled : rooms.is_modelled old)
+      (is_run : IsRun h rooms disks outs errs old run) (name : List ℕ) where
     abbrev asked : Facts
-    asked = facts h (command_of turn.words)
+    asked = facts h (command_of run.words)
 
     abbrev js : Journals
-    js = (program h rooms disks outs errs).journals old turn
+    js = (program h rooms disks outs errs).journals old run
 
     not_beside : ((did : Journaled) × AreAmong js name did)
         ⊎ IsOther asked.besides name → IsOther asked.besides name
     not_beside named = elim named [
-      | inl did ↦ none_beside h (command_of turn.words) name (journal_own h turn.words
+      | inl did ↦ none_beside h (command_of run.words) name (journal_own h run.words
           (asked.outcome (rooms.file old)).journals name did.0 did.1)
       | inr other ↦ other
     ]
 
     -- the clock of the device doesn't go back
     later : IsOther asked.besides name
-        → clock_of disks (rooms.device old name) ≤ clock_of disks (rooms.device turn.room name)
+        → clock_of disks (rooms.device old name) ≤ clock_of disks (rooms.device run.room name)
     later beside = elim (find_name asked.journals (asked.outcome (rooms.file old)).journals name) [
       | inl none ↦ subst (λ (x : Option D). clock_of disks (rooms.device old name)
           ≤ clock_of disks x)
           (sym (still h rooms disks outs errs crash_state only contents bytes name old
-          turn is_modelled run (AreRecords h) (spoken_records h (command_of turn.words)) beside
+          run is_modelled is_run (AreRecords h) (spoken_records h (command_of run.words)) beside
           none.0)) (omega arith)
-      | inr among ↦ elim (ended h rooms disks outs errs turn.words old turn.room turn.out
-          turn.out_after turn.err turn.err_after turn.status run) [
+      | inr among ↦ elim (ended h rooms disks outs errs run.words old run.room run.out
+          run.out_after run.err run.err_after run.status is_run) [
             | inl a ↦ at HasMade (a.made is_modelled) among
             | inr other ↦ elim other [
               | inl failed ↦ at MayHaveMade (failed.made is_modelled) among
@@ -314,33 +314,33 @@ module _ {R S D O E : Type 0} (h : HashFunction) (rooms : Rooms R S D) (disks : 
           ]
     ]
       where
-        at : (How : Journaled → Leaving) → LeavesEach rooms disks old turn.room js How
+        at : (How : Journaled → Leaving) → LeavesEach rooms disks old run.room js How
             → AreAmong js name (done_to js name)
-            → clock_of disks (rooms.device old name) ≤ clock_of disks (rooms.device turn.room name)
+            → clock_of disks (rooms.device old name) ≤ clock_of disks (rooms.device run.room name)
         at How all among = (of_each (λ n d. Leaves disks (How d) (rooms.device old n)
-            (rooms.device turn.room n)) js name (done_to js name) all among).later
+            (rooms.device run.room n)) js name (done_to js name) all among).later
 
     pub run_steps : ((did : Journaled) × AreAmong js name did)
-        ⊎ IsOther asked.besides name → RunSteps h (program h rooms disks outs errs) old turn name
+        ⊎ IsOther asked.besides name → RunSteps h (program h rooms disks outs errs) old run name
     run_steps named =
         let beside = not_beside named in
-        let left = leaves h rooms disks outs errs crash_state only contents bytes name old turn
-        is_modelled run (AreRecords h) (spoken_records h (command_of turn.words)) beside in
+        let left = leaves h rooms disks outs errs crash_state only contents bytes name old run
+        is_modelled is_run (AreRecords h) (spoken_records h (command_of run.words)) beside in
         record {
           leaves = left;
-          continues = all_go_on ((owner_of h rooms disks outs errs name).run_event old turn)
+          continues = all_go_on ((owner_of h rooms disks outs errs name).run_event old run)
               (crash_states_in h rooms disks outs errs old name)
-              (crash_states_in h rooms disks outs errs turn.room name) left.leads;
+              (crash_states_in h rooms disks outs errs run.room name) left.leads;
           stops = λ c at. all_go_on
-              (broke (did_to (program h rooms disks outs errs) name old turn))
+              (broke (did_to (program h rooms disks outs errs) name old run))
               (crash_states_in h rooms disks outs errs old name) (λ d. d ≡ c) (left.times c at);
           as_read =
-              λ c there. contents_crash_state disks (rooms.device turn.room name) c crash_state
-              (modelled_file disks (rooms.file turn.room name) (rooms.device turn.room name)
-              (contents turn.room name (run.back.is_modelled is_modelled)) ∙ there);
+              λ c there. contents_crash_state disks (rooms.device run.room name) c crash_state
+              (modelled_file disks (rooms.file run.room name) (rooms.device run.room name)
+              (contents run.room name (is_run.back.is_modelled is_modelled)) ∙ there);
           later = later beside;
         }
 
   pub runs_are_steps : RunsAreSteps h (program h rooms disks outs errs)
-  runs_are_steps old turn is_modelled run name named =
-      run_steps old turn is_modelled run name named
+  runs_are_steps old run is_modelled is_run name named =
+      run_steps old run is_modelled is_run name named

@@ -31,9 +31,9 @@ use Rattle.mtc_top.specs.Facts.{facts}
 use Rattle.mtc_top.specs.PrintLaws.{OnlyCosignSigns, Says}
 use Rattle.mtc_top.specs.WordsOutcome.{word_fault_text}
 use Rattle.mtc_top.proofs.Printed.{did_so, heard_so, signatures_printed}
-use Rattle.mtc_top.proofs.Turns.{file_bytes, heard_run, held_rules, not_refused, printed_so}
-use Rattle.mtc_top.specs.Courses.{program, Turn}
-use Rattle.mtc_top.proofs.Aliases.{HasTurned, HasHeld, IsHeard}
+use Rattle.mtc_top.proofs.HeardRuns.{file_bytes, heard_run, held_rules, not_refused, printed_so}
+use Rattle.mtc_top.specs.Executions.{program, Run}
+use Rattle.mtc_top.proofs.Aliases.{IsRun, HasHeld, IsHeard}
 
 -- each of these journals is a log's
 abbrev are_logs : (h : HashFunction) → List (Journal (party_kinds h)) → Bool
@@ -56,21 +56,21 @@ module _ {R S D O E : Type 0} (h : HashFunction) (rooms : Rooms R S D) (disks : 
     (contents : (room : R) (name : List ℕ) → rooms.is_modelled room
     → ModelsFile disks.contents (rooms.file room name) (rooms.device room name))
     (bytes : (d : D) (b : List ℕ) → disks.contents d ≡ Some b → IsBytes b) where
-  module _ (old : R) (turn : Turn R O E) (is_modelled : rooms.is_modelled old)
-      (run : HasTurned h rooms disks outs errs old turn) (heard : IsHeard outs turn) where
+  module _ (old : R) (run : Run R O E) (is_modelled : rooms.is_modelled old)
+      (is_run : IsRun h rooms disks outs errs old run) (heard : IsHeard outs run) where
     abbrev Speaks : CommandValue → Type 0
-    Speaks command = command_of turn.words ≡ Ok command
+    Speaks command = command_of run.words ≡ Ok command
 
     abbrev SaysSo : CommandValue → Type 0
-    SaysSo command = Says h (program h rooms disks outs errs) command old turn
+    SaysSo command = Says h (program h rooms disks outs errs) command old run
 
     abbrev answer : Reply
-    answer = (heard_run h rooms disks outs errs old turn run heard).reply
+    answer = (heard_run h rooms disks outs errs old run is_run heard).reply
 
     by_text : (command : CommandValue) → Speaks command → (P : Reply → Type 0)
         → OfSaid (planned_outcome h command (rooms.file old)) P → P answer
     by_text command spoken P each =
-        heard_so h rooms disks outs errs old turn command spoken is_modelled run heard P each
+        heard_so h rooms disks outs errs old run command spoken is_modelled is_run heard P each
 
     keys_printed : (height width : ℕ) (file : List ℕ)
         → KeysSo (rooms.file old) height width file answer
@@ -79,7 +79,7 @@ module _ {R S D O E : Type 0} (h : HashFunction) (rooms : Rooms R S D) (disks : 
       s.secret,
       (
         record { there = s.has_secret.there; few = s.has_secret.few },
-        printed_so h rooms disks outs errs old turn run heard
+        printed_so h rooms disks outs errs old run is_run heard
             (public_line (lms_type height) (ots_type width) s.secret) s.reply_is,
       ),
     )
@@ -94,7 +94,7 @@ module _ {R S D O E : Type 0} (h : HashFunction) (rooms : Rooms R S D) (disks : 
             (
               record { there = s.has_bytes.there; few = s.has_bytes.few },
               s.asked,
-              printed_so h rooms disks outs errs old turn run heard (advanced_text s.request.size)
+              printed_so h rooms disks outs errs old run is_run heard (advanced_text s.request.size)
                   s.reply_is,
             ),
           ),
@@ -112,9 +112,10 @@ module _ {R S D O E : Type 0} (h : HashFunction) (rooms : Rooms R S D) (disks : 
             s.found.state,
             (
               (found_stands (cosigner_fold h) s.held s.found are s.is_cosigner).1,
-              did_so h rooms disks outs errs old turn (export name) spoken name (reads list) refl
+              did_so h rooms disks outs errs old run (export name) spoken name (reads list) refl
                   s.did,
-              printed_so h rooms disks outs errs old turn run heard (export_text s.found.state list)
+              printed_so h rooms disks outs errs old run is_run heard
+                  (export_text s.found.state list)
                   s.reply_is,
             ),
           ),
@@ -123,18 +124,19 @@ module _ {R S D O E : Type 0} (h : HashFunction) (rooms : Rooms R S D) (disks : 
     -- the others open logs
     logs : (command : CommandValue) → Speaks command
         → are_logs h (plan_of h command).journals ≡ true → (name : List ℕ) (list : List (List ℕ))
-        → HasHeld h rooms disks outs errs name old turn list → IsLog h list
+        → HasHeld h rooms disks outs errs name old run list → IsLog h list
     logs command spoken are name list held =
         first_log h (plan_of h command).journals list are
         (subst (λ (r : Result CommandValue WordError). (facts h r).Valid list) spoken
-        (held_rules h rooms disks outs errs crash_state only contents bytes name old turn list
+        (held_rules h rooms disks outs errs crash_state only contents bytes name old run list
         is_modelled
-        run
+        is_run
         held))
 
     pub says_so : (command : CommandValue) → Speaks command → SaysSo command
     says_so (cosign name file) spoken =
-        signatures_printed h rooms disks outs errs contents bytes name file old turn is_modelled run
+        signatures_printed h rooms disks outs errs contents bytes name file old run is_modelled
+        is_run
         spoken
         heard
     says_so (advance name file) spoken = advanced name file spoken
@@ -149,17 +151,17 @@ module _ {R S D O E : Type 0} (h : HashFunction) (rooms : Rooms R S D) (disks : 
     says_so other spoken = logs other spoken refl
 
     -- arguments that are no command are refused
-    has_command : (r : Result CommandValue WordError) → command_of turn.words ≡ r
+    has_command : (r : Result CommandValue WordError) → command_of run.words ≡ r
         → (command : CommandValue) × Speaks command
     has_command (Ok command) is = (command, is)
     has_command (Err why) is =
-        let run_so = heard_run h rooms disks outs errs old turn run heard in
-        absurd (not_refused h rooms disks outs errs old turn run heard BadWords None
+        let run_so = heard_run h rooms disks outs errs old run is_run heard in
+        absurd (not_refused h rooms disks outs errs old run is_run heard BadWords None
         (word_fault_text why) (subst (λ (r : Result CommandValue WordError).
         Meets ((facts h r).outcome (rooms.file old)).answer run_so.reply) is
         (run_so.is (inl is_modelled))))
 
   pub only_cosign : OnlyCosignSigns h (program h rooms disks outs errs)
-  only_cosign old turn is_modelled run heard =
-      let has = has_command old turn is_modelled run heard (command_of turn.words) refl in
-      (has.0, (has.1, says_so old turn is_modelled run heard has.0 has.1))
+  only_cosign old run is_modelled is_run heard =
+      let has = has_command old run is_modelled is_run heard (command_of run.words) refl in
+      (has.0, (has.1, says_so old run is_modelled is_run heard has.0 has.1))

@@ -12,8 +12,8 @@ use Rattle.file_events.specs.Events.{CrashStates, Done, Event, EventHolds, Happe
 use Rattle.file_events.specs.Events.{appended, broke, elsewhere, ran, reads}
 use Rattle.file_events.specs.Events.{Journaled, records_after, started, untouched}
 use Rattle.file_events.specs.Tiles.{Goes}
-use Rattle.file_events.specs.Worlds.{IsLink, cut, died, states_at, stops, turned}
-use Rattle.file_events.specs.Worlds.{writes, IsFileCourse}
+use Rattle.file_events.specs.Worlds.{IsFileEvent, cut, died, states_at, stops, exited}
+use Rattle.file_events.specs.Worlds.{writes, IsFileExecution}
 use Rattle.file_events.proofs.Owners.{tiles_survive}
 use Rattle.file_events.proofs.Records.{held_durable, none_is, one_list, some_is}
 use Rattle.file_events.specs.Tiles.{stored}
@@ -42,8 +42,8 @@ use Rattle.mtc_top.proofs.Leaves.{contents_crash_state, first_own, modelled_file
 use Rattle.mtc_top.proofs.LogLeaves.{serves_log}
 use Rattle.mtc_top.proofs.Misread.{misread_inputs}
 use Rattle.mtc_top.proofs.Recovered.{modelled_then}
-use Rattle.mtc_top.specs.Courses.{program, IsBegun, Link}
-use Rattle.mtc_top.proofs.Aliases.{owner_of, crash_states_in, IsCourse}
+use Rattle.mtc_top.specs.Executions.{program, IsBegun, FileEvent}
+use Rattle.mtc_top.proofs.Aliases.{owner_of, crash_states_in, IsOwnExecution}
 
 -- ---- a new log has no tiles
 
@@ -133,78 +133,80 @@ module _ {R S D O E : Type 0} (h : HashFunction) (rooms : Rooms R S D) (disks : 
       left d (disks.unix_time d) c (counts d (disks.unix_time d) c (omega arith) at)
 
   pub tiles_stay : TilesSurviveStops h (program h rooms disks outs errs)
-  tiles_stay name first old new [] is_modelled holds course c t log at there read = absurd holds
-  tiles_stay name first old new (turned turn ∷ links) is_modelled holds course c t log at there
+  tiles_stay name first old new [] is_modelled holds execution c t log at there read = absurd holds
+  tiles_stay name first old new (exited run ∷ events) is_modelled holds execution c t log at there
       read =
       let p = program h rooms disks outs errs in
       let own = first_own h rooms disks outs errs crash_state only contents bytes name (first ∷ [])
       old
-      (turned turn ∷ links) holds in
+      (exited run ∷ events) holds in
       let leads =
       ((serves h rooms disks outs errs crash_state only contents bytes name own).leaves old
-      turn is_modelled course.0).leads in
-      let event = (owner_of h rooms disks outs errs name).run_event old turn in
+      run is_modelled execution.0).leads in
+      let event = (owner_of h rooms disks outs errs name).run_event old run in
       let before = crash_states_in h rooms disks outs errs old name in
-      let now = crash_states_in h rooms disks outs errs turn.room name in
-      let tiles = crash_states_in h rooms disks outs errs turn.room (tiles_name name) in
+      let now = crash_states_in h rooms disks outs errs run.room name in
+      let tiles = crash_states_in h rooms disks outs errs run.room (tiles_name name) in
       let durable = held_durable (AreRecords h) (first ∷ []) event before now holds leads in
       let go = first_go h first now tiles
       (event_holds (AreRecords h) (first ∷ []) event before now holds leads.happens) in
       let stay = tiles_survive p (HasTilesOf h) (λ list body. ⊥) (AreRecords h) name
       (tiles_name name) (λ o r. stored)
       (serves_log h rooms disks outs errs crash_state only contents bytes name own)
-      (λ list body b plain. absurd plain) (first ∷ []) turn.room new links
-      (course.0.back.is_modelled is_modelled) course.1 durable go in
+      (λ list body b plain. absurd plain) (first ∷ []) run.room new events
+      (execution.0.back.is_modelled is_modelled) execution.1 durable go in
       let stands = found_stands (log_fold h) c log
       (left_crash_state (rooms.device new name) c at) read in
       none_bad h log.state t (has_its h log.state t
       (stay c log.records at stands.0 t there log.state stands.1))
-  tiles_stay name first old new (other ∷ links) is_modelled holds course c t log at there read =
+  tiles_stay name first old new (other ∷ events) is_modelled holds execution c t log at there read =
       absurd holds
 
   -- ---- an execution of both files is one of the journal
 
-  link_so : (name : Text) (old : R) (link : Link R O E)
-      → IsLink (program h rooms disks outs errs)
-      (tiled_log h (program h rooms disks outs errs) name) old link
-      → IsLink (program h rooms disks outs errs) (owner_of h rooms disks outs errs name) old link
-  link_so name old (turned turn) is = is
-  link_so name old (died turn room) is = (
+  event_so : (name : Text) (old : R) (event : FileEvent R O E)
+      → IsFileEvent (program h rooms disks outs errs)
+      (tiled_log h (program h rooms disks outs errs) name) old event
+      → IsFileEvent (program h rooms disks outs errs) (owner_of h rooms disks outs errs name) old
+      event
+  event_so name old (exited run) is = is
+  event_so name old (died run room) is = (
     is.0,
     record {
       some = is.1.some;
       happens = elim is.1.happens [ inl kept ↦ inl kept.0 | inr half ↦ inr half.0 ];
     },
   )
-  link_so name old (cut turn room) is = absurd is.1
-  link_so name old (stops room) is = is
-  link_so name old (writes room) is =
+  event_so name old (cut run room) is = absurd is.1
+  event_so name old (stops room) is = is
+  event_so name old (writes room) is =
       record { is_modelled = is.is_modelled; stays = λ n own. is.stays n (inl own) }
 
-  journal_course : (name : Text) (links : List (Link R O E)) (old new : R)
-      → IsFileCourse (program h rooms disks outs errs)
-      (tiled_log h (program h rooms disks outs errs) name) old links new
-      → IsCourse h rooms disks outs errs name old links new
-  journal_course name [] old new is = is
-  journal_course name (link ∷ links) old new is =
-      (link_so name old link is.0, journal_course name links _ new is.1)
+  journal_execution : (name : Text) (events : List (FileEvent R O E)) (old new : R)
+      → IsFileExecution (program h rooms disks outs errs)
+      (tiled_log h (program h rooms disks outs errs) name) old events new
+      → IsOwnExecution h rooms disks outs errs name old events new
+  journal_execution name [] old new is = is
+  journal_execution name (event ∷ events) old new is =
+      (event_so name old event is.0, journal_execution name events _ new is.1)
 
   pub no_tile_bad : NoTileIsBad h (program h rooms disks outs errs) errs
-  no_tile_bad name first old new links is_modelled holds course start command turn starts on run
+  no_tile_bad name first old new events is_modelled holds execution start command run starts on
+      is_run
       spoken two =
-      let begun : IsBegun h (program h rooms disks outs errs) name start first old links
+      let begun : IsBegun h (program h rooms disks outs errs) name start first old events
       = record { is_modelled = is_modelled; others = []; held = holds; starts = starts } in
-      let journal = journal_course name links old new course in
+      let journal = journal_execution name events old new execution in
       let is = misread_inputs h rooms disks outs errs crash_state only contents bytes name start
       first old
-      new links begun journal command turn on run spoken two in
+      new events begun journal command run on is_run spoken two in
       let modelled =
       modelled_then h rooms disks outs errs crash_state only contents bytes name start
-      first old new links begun journal in
+      first old new events begun journal in
       elim is.input [
         | inl named ↦ (is, named)
-        | inr lacks ↦ absurd (no_none lacks.missing (sym (tiles_stay name first old new links
-            is_modelled holds course lacks.bytes (held_in (rooms.file new (tiles_name name)))
+        | inr lacks ↦ absurd (no_none lacks.missing (sym (tiles_stay name first old new events
+            is_modelled holds execution lacks.bytes (held_in (rooms.file new (tiles_name name)))
             lacks.found
             (contents_crash_state disks (rooms.device new name) lacks.bytes crash_state
             (modelled_file disks (rooms.file new name) (rooms.device new name)

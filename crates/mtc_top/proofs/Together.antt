@@ -22,7 +22,7 @@ use Rattle.party_history.specs.declared.step.PartyStep.TheVariants.{Stop}
 use Rattle.party_history.proofs.Chains.{first_step, no_some}
 use Rattle.mtc_top.specs.RoomLaws.{AreOneHistory, IsJournalOf, JournalsAreOneHistory}
 use Rattle.mtc_top.proofs.Recovered.{reached}
-use Rattle.mtc_top.specs.Courses.{program}
+use Rattle.mtc_top.specs.Executions.{program}
 
 -- the same step of the next party
 abbrev later : PartyStep → PartyStep
@@ -166,7 +166,7 @@ module _ {R S D O E : Type 0} (h : HashFunction) (rooms : Rooms R S D) (disks : 
       let rest = one_history room js in
       let own =
       reached h rooms disks outs errs crash_state only contents bytes j.name j.start j.first j.old
-      room j.links j.begun j.course in
+      room j.events j.begun j.execution in
       let others = map fresh_party (map (λ (i : Journal room). i.start) js) in
       let wide = with_others (may_follow h) 0 (fresh_party j.start) others own.leads.states
       own.steps own.leads.allowed in

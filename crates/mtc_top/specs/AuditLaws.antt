@@ -3,7 +3,7 @@
 use Rattle.std.specs.Prelude.{◌≡◌, ◌≢◌, ◌⊎◌, ℕ, ◌≤◌, true, pos, List, ◌∷◌, ◌++◌, length, None}
 use Rattle.std.specs.Prelude.{Some, IfSome, Ok, slice_get}
 use Rattle.byte_formats.specs.Types.{HashFunction, Text}
-use Rattle.file_events.specs.Worlds.{Program, IsFileCourse}
+use Rattle.file_events.specs.Worlds.{Program, IsFileExecution}
 use Rattle.mtc_words.specs.Commands.{audit, export}
 use Rattle.mtc_words.specs.Words.{command_of}
 use Rattle.cosigner_core.specs.ExportReading.{export_in}
@@ -24,7 +24,7 @@ use Rattle.mtc_command.specs.Steps.{Files}
 use Rattle.mtc_command.specs.Wanted.{IsPair}
 use Rattle.mtc_monitor.specs.AuditOutcome.{collision_text, accepted_in, stands_text}
 use Rattle.mtc_top.specs.Concluded.{Prints}
-use Rattle.mtc_top.specs.Courses.{owner, WasHeld, IsBegun, Turn, Link}
+use Rattle.mtc_top.specs.Executions.{owner, WasHeld, IsBegun, Run, FileEvent}
 
 -- The file of this name has this text, which is no longer than the limit.
 pub record HoldsText (files : Files) (name : Text) (limit : ℕ) (text : Text) : Type 0 where
@@ -62,35 +62,35 @@ module _ (h : HashFunction) (p : Program) where
   -- A run of an execution of a cosigner's journal held the record of a signature of the accepted
   -- interval and hash, a run of `export` after it printed the export that is audited, and the store
   -- counts the cosigner.
-  pub record IsSignedInCourse (x : AuditCase) (kept_text : Text) : Type 0 where
+  pub record IsSignedInExecution (x : AuditCase) (kept_text : Text) : Type 0 where
     -- a run made or opened the journal
     pub name : Text
     pub settings : CosignerSettings
     pub public : Text
     pub first : Text
     pub begins : p.R
-    pub links : List (Link p.R p.O p.E)
-    pub begun : IsBegun h p name (Cosigner settings public) first begins links
+    pub events : List (FileEvent p.R p.O p.E)
+    pub begun : IsBegun h p name (Cosigner settings public) first begins events
     -- the execution
     pub old : p.R
-    pub course : IsFileCourse p (owner h p name) begins links old
+    pub execution : IsFileExecution p (owner h p name) begins events old
     -- a record that a run of it found or added
     pub prefix : List Text
     pub more : List Text
     pub body : Text
-    pub held : WasHeld h p name begins links (first ∷ (prefix ++ body ∷ more))
+    pub held : WasHeld h p name begins events (first ∷ (prefix ++ body ∷ more))
     pub index : ℕ
     pub proof : List Text
     pub signs : step_in body
         ≡ Some (Sign index x.accepted.start x.accepted.end x.accepted.hash proof)
     -- the run of `export`, over an output of which the model knows what it took
-    pub turn : Turn p.R p.O p.E
-    pub turned : p.HasRun old turn
-    pub spoken : command_of turn.words ≡ Ok (export name)
-    pub done : turn.status ≡ 0
+    pub run : Run p.R p.O p.E
+    pub has_run : p.HasRun old run
+    pub spoken : command_of run.words ≡ Ok (export name)
+    pub done : run.status ≡ 0
     pub before : Text
-    pub contents : p.outs.taken turn.out ≡ Some before
-    pub printed : p.outs.taken turn.out_after ≡ Some (before ++ kept_text)
+    pub contents : p.outs.taken run.out ≡ Some before
+    pub printed : p.outs.taken run.out_after ≡ Some (before ++ kept_text)
     -- The cosigner is one of those that the store counted, and of its log.
     pub set : ℕ
     pub by : x.accepted.by ≡ Cosigners set
@@ -99,43 +99,43 @@ module _ (h : HashFunction) (p : Program) where
 
   -- It prints that the entry stands, with status 0, and the list has the certificate's entry and
   -- key at the index; or, with status 10, two different strings with one hash.
-  abbrev pub StandsOrCollides : AuditCase → Turn p.R p.O p.E → Type 0
-  StandsOrCollides x turn = ((turn.status ≡ 0) × HasOwn h x
-      × Prints p.outs turn.out turn.out_after (stands_text x.accepted.index))
-      ⊎ ((one : Text) × ((other : Text) × ((turn.status ≡ 10) × (one ≢ other) × (h one ≡ h other)
-      × Prints p.outs turn.out turn.out_after (collision_text one other))))
+  abbrev pub StandsOrCollides : AuditCase → Run p.R p.O p.E → Type 0
+  StandsOrCollides x run = ((run.status ≡ 0) × HasOwn h x
+      × Prints p.outs run.out run.out_after (stands_text x.accepted.index))
+      ⊎ ((one : Text) × ((other : Text) × ((run.status ≡ 10) × (one ≢ other) × (h one ≡ h other)
+      × Prints p.outs run.out run.out_after (collision_text one other))))
 
   -- This holds of each run of `audit` that ends without a failure and without memory refused. A
   -- landmark backs the certificate, and the list has its hash in the accepted interval; or such a
   -- signature does, and the list begins with the entries of the last checkpoint of the export.
   abbrev pub AuditsDecide : Type 0
-  AuditsDecide = (old : p.R) (turn : Turn p.R p.O p.E) (cert store : Text) (unix_time : ℕ)
+  AuditsDecide = (old : p.R) (run : Run p.R p.O p.E) (cert store : Text) (unix_time : ℕ)
       (entries kept : Text) (x : AuditCase) → p.rooms.is_modelled old
-      → p.HasRun old turn
-      → command_of turn.words ≡ Ok (audit cert store unix_time entries kept)
+      → p.HasRun old run
+      → command_of run.words ≡ Ok (audit cert store unix_time entries kept)
       → (is : IsAuditOf h (p.rooms.file old) cert store unix_time entries kept x)
       → ((x.accepted.by ≡ Landmark) × HasInterval h x.items x.accepted)
-      ⊎ (IsSignedInCourse x is.kept_text
+      ⊎ (IsSignedInExecution x is.kept_text
       × IfSome x.kept (λ export. HasPrefix h x.items.entries (held_by h export.steps)))
-      → turn.status ≢ 5 → turn.status ≢ 6 → turn.status ≢ 8 → StandsOrCollides x turn
+      → run.status ≢ 5 → run.status ≢ 6 → run.status ≢ 8 → StandsOrCollides x run
 
   -- The same in the words of an audit (`has_own`), and the first of the two strings is one of the
   -- list's, the second one of the certificate's or the cosigner's.
-  abbrev pub StandsOrPair : AuditCase → Turn p.R p.O p.E → Type 0
-  StandsOrPair x turn = ((turn.status ≡ 0) × (has_own h x.items x.accepted x.cert ≡ true)
-      × Prints p.outs turn.out turn.out_after (stands_text x.accepted.index))
-      ⊎ ((text : Text) × ((turn.status ≡ 10)
+  abbrev pub StandsOrPair : AuditCase → Run p.R p.O p.E → Type 0
+  StandsOrPair x run = ((run.status ≡ 0) × (has_own h x.items x.accepted x.cert ≡ true)
+      × Prints p.outs run.out run.out_after (stands_text x.accepted.index))
+      ⊎ ((text : Text) × ((run.status ≡ 10)
       × IsPair h collision_text (firsts_of h x) (seconds_of h x) text
-      × Prints p.outs turn.out turn.out_after text))
+      × Prints p.outs run.out run.out_after text))
 
   -- This holds if a landmark or such a signature backs the certificate, and the list is the one
   -- that is wanted.
   abbrev pub AuditsStand : Type 0
-  AuditsStand = (old : p.R) (turn : Turn p.R p.O p.E) (cert store : Text) (unix_time : ℕ)
+  AuditsStand = (old : p.R) (run : Run p.R p.O p.E) (cert store : Text) (unix_time : ℕ)
       (entries kept : Text) (x : AuditCase) → p.rooms.is_modelled old
-      → p.HasRun old turn
-      → command_of turn.words ≡ Ok (audit cert store unix_time entries kept)
+      → p.HasRun old run
+      → command_of run.words ≡ Ok (audit cert store unix_time entries kept)
       → (is : IsAuditOf h (p.rooms.file old) cert store unix_time entries kept x)
       → foreign_of h x ≡ None
-      → (x.accepted.by ≡ Landmark) ⊎ IsSignedInCourse x is.kept_text
-      → turn.status ≢ 5 → turn.status ≢ 6 → turn.status ≢ 8 → StandsOrPair x turn
+      → (x.accepted.by ≡ Landmark) ⊎ IsSignedInExecution x is.kept_text
+      → run.status ≢ 5 → run.status ≢ 6 → run.status ≢ 8 → StandsOrPair x run

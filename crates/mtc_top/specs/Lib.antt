@@ -2,10 +2,10 @@ pub mod Facts
 pub mod Cited
 pub mod Concluded
 pub mod Run
-pub mod Courses
+pub mod Executions
 pub mod RunLaws
 pub mod Stops
-pub mod CourseLaws
+pub mod ExecutionLaws
 pub mod RoomLaws
 pub mod ExportLaws
 pub mod AuditLaws

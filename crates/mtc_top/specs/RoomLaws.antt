@@ -1,7 +1,7 @@
 -- All journals of a file system at once: what became of them is one history.
 use Rattle.std.specs.Prelude.{◌≡◌, List, [], ◌∷◌, map, Ok}
 use Rattle.byte_formats.specs.Types.{HashFunction, Text}
-use Rattle.mtc_top.specs.Courses.{owner, IsBegun, Link}
+use Rattle.mtc_top.specs.Executions.{owner, IsBegun, FileEvent}
 use Rattle.party_history.specs.Histories.{history_of}
 use Rattle.party_history.specs.Laws.{released_bodies}
 use Rattle.party_history.specs.Parties.{HistoryState}
@@ -10,7 +10,7 @@ use Rattle.party_history.specs.declared.start.PartyStart.{PartyStart}
 use Rattle.party_history.specs.declared.step.PartyStep.{PartyStep}
 use Rattle.file_events.specs.Events.{all_released}
 use Rattle.file_events.specs.Histories.{RepresentsPending}
-use Rattle.file_events.specs.Worlds.{Program, IsFileCourse, events_of, states_of}
+use Rattle.file_events.specs.Worlds.{Program, IsFileExecution, own_events, states_of}
 
 module _ (h : HashFunction) (p : Program) (room : p.R) where
   -- An execution of this journal led to the file system.
@@ -19,9 +19,9 @@ module _ (h : HashFunction) (p : Program) (room : p.R) where
     pub start : PartyStart
     pub first : Text
     pub old : p.R
-    pub links : List (Link p.R p.O p.E)
-    pub begun : IsBegun h p name start first old links
-    pub course : IsFileCourse p (owner h p name) old links room
+    pub events : List (FileEvent p.R p.O p.E)
+    pub begun : IsBegun h p name start first old events
+    pub execution : IsFileExecution p (owner h p name) old events room
 
   -- Each crash state of the journal represents the state, and what the state has released is what
   -- the execution released.
@@ -29,7 +29,7 @@ module _ (h : HashFunction) (p : Program) (room : p.R) where
     pub stands : (c : Text) → states_of p journal.name room c
         → RepresentsPending (journal.first ∷ state.durable) state.pending c
     pub released : released_bodies state
-        ≡ all_released (events_of p (owner h p journal.name) journal.old journal.links)
+        ≡ all_released (own_events p (owner h p journal.name) journal.old journal.events)
 
   -- This holds of each journal and its state.
   abbrev pub EachStandsSo : List IsJournalOf → List HistoryState → Type 0

@@ -23,7 +23,7 @@ use Rattle.party_history.specs.declared.step.PartyStep.{PartyStep}
 use Rattle.mtc_top.specs.Concluded.{Prints, PrintsPrefix, Reports}
 use Rattle.mtc_top.specs.Facts.{facts}
 use Rattle.mtc_top.specs.Run.{Answered, HasRun, journals}
-use Rattle.mtc_top.specs.Courses.{owner, Turn}
+use Rattle.mtc_top.specs.Executions.{owner, Run}
 
 -- A byte went out, if the model knows it of the sink.
 abbrev pub TookSome : Option Text → Option Text → Type 0
@@ -97,28 +97,28 @@ AreAmong (journal ∷ rest) name did =
 
 module _ (h : HashFunction) (p : Program) where
   -- The run as steps of the party whose journal has this name.
-  pub record RunSteps (old : p.R) (turn : Turn p.R p.O p.E) (name : Text) : Type 0 where
+  pub record RunSteps (old : p.R) (run : Run p.R p.O p.E) (name : Text) : Type 0 where
     -- It is an event of the journal. Where the machine stops in the middle of it, what is left is
     -- one of a run that broke off.
-    pub leaves : LeavesJournal p (AreRecords h) name old turn
+    pub leaves : LeavesJournal p (AreRecords h) name old run
     -- So each history continues.
-    pub continues : AllGoOn h ((owner h p name).run_event old turn)
+    pub continues : AllGoOn h ((owner h p name).run_event old run)
         (states_of p name old)
-        (states_of p name turn.room)
-    pub stops : (c : Text) → states_between p name old turn.room c
-        → AllGoOn h (broke (did_to p name old turn))
+        (states_of p name run.room)
+    pub stops : (c : Text) → states_between p name old run.room c
+        → AllGoOn h (broke (did_to p name old run))
         (states_of p name old) (λ d. d ≡ c)
     -- The bytes of the file that the model knows are a crash state.
-    pub as_read : (c : Text) → p.rooms.file turn.room name ≡ Some c
-        → states_of p name turn.room c
+    pub as_read : (c : Text) → p.rooms.file run.room name ≡ Some c
+        → states_of p name run.room c
     -- The clock of the file's device doesn't go back.
     pub later : clock_of p.disks (p.rooms.device old name)
-        ≤ clock_of p.disks (p.rooms.device turn.room name)
+        ≤ clock_of p.disks (p.rooms.device run.room name)
 
   -- So it is of each journal that a run works on, if the model knows the files; and of each other
   -- name that isn't that of a file beside one.
   abbrev pub RunsAreSteps : Type 0
-  RunsAreSteps = (old : p.R) (turn : Turn p.R p.O p.E) → p.rooms.is_modelled old
-      → p.HasRun old turn → (name : Text)
-      → ((did : Journaled) × AreAmong (p.journals old turn) name did)
-      ⊎ IsOther (facts h (command_of turn.words)).besides name → RunSteps old turn name
+  RunsAreSteps = (old : p.R) (run : Run p.R p.O p.E) → p.rooms.is_modelled old
+      → p.HasRun old run → (name : Text)
+      → ((did : Journaled) × AreAmong (p.journals old run) name did)
+      ⊎ IsOther (facts h (command_of run.words)).besides name → RunSteps old run name

@@ -15,9 +15,9 @@ use Rattle.mtc_command.specs.declared.answer.Stopped.TheVariants.{BadForm}
 use Rattle.mtc_authority.specs.BadTiles.{first_bad}
 use Rattle.party_history.specs.declared.start.PartyStart.{PartyStart}
 use Rattle.mtc_top.specs.Concluded.{Reports}
-use Rattle.mtc_top.specs.CourseLaws.{AreOfParty, OfCourses}
+use Rattle.mtc_top.specs.ExecutionLaws.{AreOfParty, OfExecutions}
 use Rattle.mtc_top.specs.Facts.{facts_of}
-use Rattle.mtc_top.specs.Courses.{Turn}
+use Rattle.mtc_top.specs.Executions.{Run}
 
 -- The command works on the journal of this name, and takes it for one of such a party: each list of
 -- the party's records, of which this is the first, is one of the kind that it works on.
@@ -42,21 +42,21 @@ module _ (h : HashFunction) (p : Program) (errs : Sinks p.E) where
   -- What is asked for is a refusal of an input of the command, or of the file of its log's tiles
   -- for a tile that it doesn't have; and the line on standard error says so.
   pub record IsAboutInput (name : Text) (command : CommandValue) (room : p.R)
-      (turn : Turn p.R p.O p.E) : Type 0 where
+      (run : Run p.R p.O p.E) : Type 0 where
     pub file : Text
     pub reason : Text
     pub input : IsNamed (facts_of h command).inputs file
         ⊎ LacksTile h (p.rooms.file room) name file reason
     pub asked : Meets ((facts_of h command).outcome (p.rooms.file room)).answer
         (refused BadForm (Some file) reason)
-    pub line : Reports errs turn.err turn.err_after
-        (line_of (known_word turn.words) (Some file) reason)
+    pub line : Reports errs run.err run.err_after
+        (line_of (known_word run.words) (Some file) reason)
 
   -- This holds of each run with status 2 that works on the journal after an execution of it. A
   -- command that has no input never ends so, unless the file of its log's tiles doesn't have one of
   -- them.
   abbrev pub MisreadFilesAreInputs : Type 0
-  MisreadFilesAreInputs = OfCourses h p (λ name start first old links new.
-      (command : CommandValue) (turn : Turn p.R p.O p.E) → WorksOn h start first name command
-      → p.HasRun new turn → command_of turn.words ≡ Ok command
-      → turn.status ≡ 2 → IsAboutInput name command new turn)
+  MisreadFilesAreInputs = OfExecutions h p (λ name start first old events new.
+      (command : CommandValue) (run : Run p.R p.O p.E) → WorksOn h start first name command
+      → p.HasRun new run → command_of run.words ≡ Ok command
+      → run.status ≡ 2 → IsAboutInput name command new run)

@@ -1,7 +1,7 @@
 -- Stops that leave these bytes of one file.
 use Rattle.std.specs.Prelude.{◌≡◌, ◌≢◌}
 use Rattle.byte_formats.specs.Types.{HashFunction, Text}
-use Rattle.mtc_top.specs.Courses.{program}
+use Rattle.mtc_top.specs.Executions.{program}
 use Rattle.disk_core.specs.declared.disk.Disk.{Ghosts as Disks}
 use Rattle.mtc_io.specs.declared.sink.Sink.{Ghosts as Sinks}
 use Rattle.mtc_room.specs.declared.room.Room.{Ghosts as Rooms}

@@ -4,7 +4,7 @@ use Rattle.std.specs.Prelude.{◌≡◌, List, [], ◌∷◌, None, Ok}
 use Rattle.byte_formats.specs.Types.{HashFunction, Text}
 use Rattle.file_events.specs.Owners.{log_files}
 use Rattle.file_events.specs.Tiles.{stored}
-use Rattle.file_events.specs.Worlds.{Program, IsFileCourse, events_of, states_of, FileOwner}
+use Rattle.file_events.specs.Worlds.{Program, IsFileExecution, own_events, states_of, FileOwner}
 use Rattle.file_events.specs.Events.{FirstHolds}
 use Rattle.mtc_io.specs.declared.sink.Sink.{Ghosts as Sinks}
 use Rattle.mtc_words.specs.Commands.{CommandValue}
@@ -18,23 +18,23 @@ use Rattle.party_history.specs.Rules.{AreRecords, StartsWith}
 use Rattle.party_history.specs.declared.start.PartyStart.{PartyStart}
 use Rattle.mtc_top.specs.Facts.{facts_of}
 use Rattle.mtc_top.specs.StatusLaws.{IsAboutInput, WorksOn}
-use Rattle.mtc_top.specs.Courses.{owner, Turn, Link}
+use Rattle.mtc_top.specs.Executions.{owner, Run, FileEvent}
 
 module _ (h : HashFunction) (p : Program) where
   -- The journal of this name, with the file of its tiles. No record is added that the tiles don't
   -- go with.
   abbrev pub tiled_log : Text → FileOwner p
   tiled_log name = log_files p (HasTilesOf h) (λ list body. ⊥)
-      (AreRecords h) name (tiles_name name) (λ old run. stored)
+      (AreRecords h) name (tiles_name name) (λ old is_run. stored)
 
   -- This holds of each execution of both files that begins with a run that made the journal, or
   -- that found its first record alone. Where the machine stops in the middle of a run, the program
   -- is killed there, and then the machine stops.
   abbrev pub OfTiledLogs : (Text → Text → p.R → Type 0) → Type 0
-  OfTiledLogs P = (name first : Text) (old new : p.R) (links : List (Link p.R p.O p.E))
+  OfTiledLogs P = (name first : Text) (old new : p.R) (events : List (FileEvent p.R p.O p.E))
       → p.rooms.is_modelled old
-      → FirstHolds (first ∷ []) (events_of p (owner h p name) old links)
-      → IsFileCourse p (tiled_log name) old links new
+      → FirstHolds (first ∷ []) (own_events p (owner h p name) old events)
+      → IsFileExecution p (tiled_log name) old events new
       → P name first new
 
   -- Whatever a crash leaves of the journal and of the file of the tiles: if the one is read as a
@@ -49,7 +49,7 @@ module _ (h : HashFunction) (p : Program) where
   -- reports a bad tile.
   abbrev pub NoTileIsBad : Sinks p.E → Type 0
   NoTileIsBad errs = OfTiledLogs (λ name first new. (start : PartyStart) (command : CommandValue)
-      (turn : Turn p.R p.O p.E) → StartsWith start first → WorksOn h start first name command
-      → p.HasRun new turn → command_of turn.words ≡ Ok command
-      → turn.status ≡ 2 → (is : IsAboutInput h p errs name command new turn)
+      (run : Run p.R p.O p.E) → StartsWith start first → WorksOn h start first name command
+      → p.HasRun new run → command_of run.words ≡ Ok command
+      → run.status ≡ 2 → (is : IsAboutInput h p errs name command new run)
       × IsNamed (facts_of h command).inputs is.file)

@@ -3,11 +3,12 @@
 
 ghost use Rattle.mtc_top.specs.AuditLaws.{AuditsDecide, AuditsStand};
 ghost use Rattle.mtc_top.specs.QuarrelLaws.{TwoSignaturesCollide};
-ghost use Rattle.mtc_top.specs.CourseLaws.{AddedEntriesStand, CoursesAreHistories, EntriesStand};
-ghost use Rattle.mtc_top.specs.CourseLaws.{ReleasedStand, ReleasedWasHeld, JournalsAreOfParties};
-ghost use Rattle.mtc_top.specs.CourseLaws.{JournalsAreRead};
-ghost use Rattle.mtc_top.specs.CourseLaws.{KeysSignOnce, KeysSignOneMessage, RecoveredListsGrow};
-ghost use Rattle.mtc_top.specs.Courses.{program};
+ghost use Rattle.mtc_top.specs.ExecutionLaws.{AddedEntriesStand, ExecutionsHaveHistories};
+ghost use Rattle.mtc_top.specs.ExecutionLaws.{EntriesStand};
+ghost use Rattle.mtc_top.specs.ExecutionLaws.{ReleasedStand, ReleasedWasHeld, JournalsAreOfParties};
+ghost use Rattle.mtc_top.specs.ExecutionLaws.{JournalsAreRead};
+ghost use Rattle.mtc_top.specs.ExecutionLaws.{KeysSignOnce, KeysSignOneMessage, RecoveredListsGrow};
+ghost use Rattle.mtc_top.specs.Executions.{program};
 ghost use Rattle.mtc_top.specs.ExportLaws.{ExportsHoldTheSteps, ExportsOnlyGrow};
 ghost use Rattle.mtc_top.specs.PrintLaws.{IndicesArePrinted, IssuedEntriesStand, OnlyCosignSigns};
 ghost use Rattle.mtc_top.specs.PrintLaws.{SignaturesArePrinted, SignaturesStand};
@@ -38,13 +39,13 @@ pub fn law_runs_may_lose_their_text<H: TreeHash, R: Room, O: Sink, E: Sink>()
 /// From a run on that made or opened a journal, whatever runs there are by any arguments, wherever
 /// they fail, wherever the machine stops between two runs or in the middle of one, and wherever the
 /// program is killed in one: what became of the journal is a history of its party.
-pub fn law_courses_are_histories<H: TreeHash, R: Room, O: Sink, E: Sink>()
-    ensures { CoursesAreHistories H.hash (program H.hash R.Room R.Dsk.Disk O.Sink E.Sink) }
+pub fn law_executions_have_histories<H: TreeHash, R: Room, O: Sink, E: Sink>()
+    ensures { ExecutionsHaveHistories H.hash (program H.hash R.Room R.Dsk.Disk O.Sink E.Sink) }
 {}
 
 /// Whatever journals a file system has, each from a run on that made or opened it: what became of
 /// all of them is one history of their parties.
-pub fn law_courses_make_one_history<H: TreeHash, R: Room, O: Sink, E: Sink>()
+pub fn law_executions_make_one_history<H: TreeHash, R: Room, O: Sink, E: Sink>()
     ensures { JournalsAreOneHistory H.hash (program H.hash R.Room R.Dsk.Disk O.Sink E.Sink) }
 {}
 

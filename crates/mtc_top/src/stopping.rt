@@ -7,7 +7,7 @@ ghost use Rattle.disk_core.specs.Memory.{IsFresh, failing_of};
 ghost use Rattle.mtc_room.specs.Memory.{disk_in};
 ghost use Rattle.mtc_room.specs.declared.memory.MemRoom.{MemRoom};
 ghost use Rattle.file_events.specs.Worlds.{all_states, states_between};
-ghost use Rattle.mtc_top.specs.Courses.{program};
+ghost use Rattle.mtc_top.specs.Executions.{program};
 ghost use Rattle.mtc_top.specs.Stops.{StopsLeaving};
 
 use disk_core::{Disk, MemDisk};

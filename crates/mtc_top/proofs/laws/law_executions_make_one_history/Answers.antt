@@ -1,5 +1,5 @@
 use Rattle.mtc_top.proofs.Together.{journals_together}
-use Rattle.mtc_top.proofs.laws.law_courses_make_one_history.Goals as goal
+use Rattle.mtc_top.proofs.laws.law_executions_make_one_history.Goals as goal
 
 pub returns : goal.returns
 returns g c = journals_together g.H.TreeHash.hash g.R.Room g.R.Dsk.Disk g.O.Sink g.E.Sink

@@ -1,7 +1,7 @@
 -- What holds of each execution of a journal, from the run on that made or opened it.
 use Rattle.std.specs.Prelude.{◌≡◌, ◌⊎◌, ℕ, true, List, [], ◌∷◌, ◌++◌, length, Some, Ok}
 use Rattle.byte_formats.specs.Types.{HashFunction, Text}
-use Rattle.mtc_top.specs.Courses.{owner, WasHeld, IsBegun, IsReached, Turn, Link}
+use Rattle.mtc_top.specs.Executions.{owner, WasHeld, IsBegun, IsReached, Run, FileEvent}
 use Rattle.file_events.specs.Executions.{IsPrefix}
 use Rattle.journal_core.specs.Format.{Represents}
 use Rattle.cosigner_core.specs.Counts.{AreCounted, indices_of}
@@ -14,7 +14,8 @@ use Rattle.party_history.specs.Rules.{IsReadAs, StartsWith, may_follow}
 use Rattle.party_history.specs.declared.start.PartyStart.{PartyStart}
 use Rattle.party_history.specs.declared.start.PartyStart.TheVariants.{Log, Cosigner}
 use Rattle.file_events.specs.Events.{HasReleased, MayRecover, EventHolds}
-use Rattle.file_events.specs.Worlds.{Program, EachRun, IsFileCourse, events_of, states_of, heard_of}
+use Rattle.file_events.specs.Worlds.{Program, EachRun, IsFileExecution, own_events, states_of}
+use Rattle.file_events.specs.Worlds.{heard_of}
 use Rattle.file_events.specs.Owners.{did_to}
 use Rattle.mtc_command.specs.Made.{appended}
 
@@ -37,28 +38,29 @@ UsesKey list body number = indices_of (list ++ body ∷ []) ≡ indices_of list 
 
 module _ (h : HashFunction) (p : Program) where
   -- This holds of each execution that begins with a run that made or opened the journal.
-  abbrev pub OfCourses : (Text → PartyStart → Text → p.R → List (Link p.R p.O p.E) → p.R → Type 0)
+  abbrev pub OfExecutions :
+      (Text → PartyStart → Text → p.R → List (FileEvent p.R p.O p.E) → p.R → Type 0)
       → Type 0
-  OfCourses P = (name : Text) (start : PartyStart) (first : Text) (old new : p.R)
-      (links : List (Link p.R p.O p.E)) → IsBegun h p name start first old links
-      → IsFileCourse p (owner h p name) old links new → P name start first old links new
+  OfExecutions P = (name : Text) (start : PartyStart) (first : Text) (old new : p.R)
+      (events : List (FileEvent p.R p.O p.E)) → IsBegun h p name start first old events
+      → IsFileExecution p (owner h p name) old events new → P name start first old events new
 
   -- It is a history of the party.
-  abbrev pub CoursesAreHistories : Type 0
-  CoursesAreHistories = OfCourses (λ name start first old links new.
-      IsReached h p name start first old links new)
+  abbrev pub ExecutionsHaveHistories : Type 0
+  ExecutionsHaveHistories = OfExecutions (λ name start first old events new.
+      IsReached h p name start first old events new)
 
   -- No journal is refused: what a crash may leave of the file, and what the file system has of it,
   -- as the model knows it, is read as the party.
   abbrev pub JournalsAreRead : Type 0
-  JournalsAreRead = OfCourses (λ name start first old links new.
+  JournalsAreRead = OfExecutions (λ name start first old events new.
       (c : Text) → states_of p name new c ⊎ (p.rooms.file new name ≡ Some c)
       → IsReadAsParty h start first c)
 
   -- The i-th Sign record of a cosigner, counted from 0, has the number i, so no number stands
   -- twice.
   abbrev pub KeysSignOnce : Type 0
-  KeysSignOnce = OfCourses (λ name start first old links new.
+  KeysSignOnce = OfExecutions (λ name start first old events new.
       (settings : CosignerSettings) (public : Text) → start ≡ Cosigner settings public
       → (record0 : Text) (bodies : List Text)
       → MayRecover (states_of p name new) (record0 ∷ bodies) → AreCounted bodies)
@@ -66,58 +68,59 @@ module _ (h : HashFunction) (p : Program) where
   -- Two records that runs held, each with whatever followed it, and which used one key, are one
   -- record.
   abbrev pub KeysSignOneMessage : Type 0
-  KeysSignOneMessage = OfCourses (λ name start first old links new.
+  KeysSignOneMessage = OfExecutions (λ name start first old events new.
       (settings : CosignerSettings) (public : Text) → start ≡ Cosigner settings public
       → (list other more others : List Text) (body message : Text) (number : ℕ)
-      → WasHeld h p name old links (list ++ body ∷ more)
-      → WasHeld h p name old links (other ++ message ∷ others)
+      → WasHeld h p name old events (list ++ body ∷ more)
+      → WasHeld h p name old events (other ++ message ∷ others)
       → UsesKey list body number → UsesKey other message number → body ≡ message)
 
   -- Each crash state represents records, and those that a run found or made are the first of them.
   abbrev pub RecoveredListsGrow : Type 0
-  RecoveredListsGrow = OfCourses (λ name start first old links new. (list : List Text) (c : Text)
-      → WasHeld h p name old links list
+  RecoveredListsGrow =
+      OfExecutions (λ name start first old events new. (list : List Text) (c : Text)
+      → WasHeld h p name old events list
       → states_of p name new c
       → (found : List Text) × (Represents c found × IsPrefix list found))
 
   -- This holds of each record that was released, with those before it: a run added it, and a byte
   -- of the run may have gone out.
-  abbrev pub OfReleased : Text → (List Text → Text → Type 0) → p.R → List (Link p.R p.O p.E)
+  abbrev pub OfReleased : Text → (List Text → Text → Type 0) → p.R → List (FileEvent p.R p.O p.E)
       → Type 0
-  OfReleased name P = EachRun p (λ old turn. (list : List Text)
-      (body : Text) → did_to p name old turn ≡ appended list body
-      → heard_of p turn ≡ true → P list body)
+  OfReleased name P = EachRun p (λ old run. (list : List Text)
+      (body : Text) → did_to p name old run ≡ appended list body
+      → heard_of p run ≡ true → P list body)
 
   -- A run that released a record is an event that releases it. The run held the record, after those
   -- that were there.
   abbrev pub ReleasedWasHeld : Type 0
-  ReleasedWasHeld = OfCourses (λ name start first old links new. OfReleased name (λ list body.
-      HasReleased (events_of p (owner h p name) old links) list body
-      × WasHeld h p name old links (list ++ body ∷ [])) old links)
+  ReleasedWasHeld = OfExecutions (λ name start first old events new. OfReleased name (λ list body.
+      HasReleased (own_events p (owner h p name) old events) list body
+      × WasHeld h p name old events (list ++ body ∷ [])) old events)
 
   -- So if a record was released, each crash state represents records that begin with those that
   -- were there and that one.
   abbrev pub ReleasedStand : Type 0
-  ReleasedStand = OfCourses (λ name start first old links new. (c : Text)
+  ReleasedStand = OfExecutions (λ name start first old events new. (c : Text)
       → states_of p name new c → OfReleased name (λ list body.
-      (found : List Text) × (Represents c found × IsPrefix (list ++ body ∷ []) found)) old links)
+      (found : List Text) × (Represents c found × IsPrefix (list ++ body ∷ []) found)) old events)
 
   -- Each entry that a log had where a run found or made its records has its index in each log that
   -- may be recovered after it, and so has its key.
   abbrev pub EntriesStand : Type 0
-  EntriesStand = OfCourses (λ name start first old links new. (settings : Settings)
+  EntriesStand = OfExecutions (λ name start first old events new. (settings : Settings)
       (list found : List Text) (s : LogState) → start ≡ Log settings
-      → WasHeld h p name old links list → log_of h list ≡ Ok s
+      → WasHeld h p name old events list → log_of h list ≡ Ok s
       → MayRecover (states_of p name new) found
       → (log : LogState) × ((log_of h found ≡ Ok log) × KeepsItems s log))
 
   -- The item of a record that a run added is in each such log. Its index counts the entries before
   -- it, and is the one that `issue` prints.
   abbrev pub AddedEntriesStand : Type 0
-  AddedEntriesStand = OfCourses (λ name start first old links new. (settings : Settings)
+  AddedEntriesStand = OfExecutions (λ name start first old events new. (settings : Settings)
       (list found : List Text) (body entry key : Text) (s : LogState)
       → start ≡ Log settings
-      → WasHeld h p name old links (list ++ body ∷ [])
+      → WasHeld h p name old events (list ++ body ∷ [])
       → log_of h list ≡ Ok s → item_in body ≡ Some (entry, key)
       → MayRecover (states_of p name new) found
       → (log : LogState) × ((log_of h found ≡ Ok log)
@@ -125,8 +128,8 @@ module _ (h : HashFunction) (p : Program) where
 
   -- Each journal that a run made or opened is that of a party, as the laws of executions suppose.
   abbrev pub JournalsAreOfParties : Type 0
-  JournalsAreOfParties = (name : Text) (old : p.R) (turn : Turn p.R p.O p.E) (list : List Text)
-      → p.rooms.is_modelled old → p.HasRun old turn
-      → EventHolds list ((owner h p name).run_event old turn)
+  JournalsAreOfParties = (name : Text) (old : p.R) (run : Run p.R p.O p.E) (list : List Text)
+      → p.rooms.is_modelled old → p.HasRun old run
+      → EventHolds list ((owner h p name).run_event old run)
       → (start : PartyStart) × ((first : Text)
       × (StartsWith start first × AreOfParty h start first list))

@@ -1,5 +1,5 @@
 use Rattle.mtc_top.proofs.Recovered.{histories}
-use Rattle.mtc_top.proofs.laws.law_courses_are_histories.Goals as goal
+use Rattle.mtc_top.proofs.laws.law_executions_have_histories.Goals as goal
 
 pub returns : goal.returns
 returns g c = histories g.H.TreeHash.hash g.R.Room g.R.Dsk.Disk g.O.Sink g.E.Sink

@@ -9,8 +9,8 @@ use Rattle.mtc_room.specs.declared.room.Room.{Ghosts as Rooms}
 use Rattle.file_events.specs.Events.{all_released, FirstHolds, WereHeld}
 use Rattle.file_events.specs.Histories.{RepresentsPending}
 use Rattle.file_events.specs.Owners.{journal_file}
-pub use Rattle.file_events.specs.Worlds.{Turn, Link}
-use Rattle.file_events.specs.Worlds.{Program, events_of, states_of, FileOwner}
+pub use Rattle.file_events.specs.Worlds.{Run, FileEvent}
+use Rattle.file_events.specs.Worlds.{Program, own_events, states_of, FileOwner}
 use Rattle.party_history.specs.Laws.{LeadsTo, released_bodies}
 use Rattle.party_history.specs.Parties.{HistoryState}
 use Rattle.party_history.specs.Rules.{AreRecords, StartsWith, may_follow}
@@ -31,18 +31,18 @@ program {R} {S} {D} {O} {E} h rooms disks outs errs = record {
   rooms = rooms;
   disks = disks;
   outs = outs;
-  HasRun = λ old turn. HasRun h rooms disks outs errs turn.words old turn.room turn.out
-      turn.out_after turn.err turn.err_after turn.status;
-  journals = λ old turn. journals h rooms disks outs errs turn.words old turn.room turn.out
-      turn.out_after turn.err turn.err_after;
+  HasRun = λ old run. HasRun h rooms disks outs errs run.words old run.room run.out
+      run.out_after run.err run.err_after run.status;
+  journals = λ old run. journals h rooms disks outs errs run.words old run.room run.out
+      run.out_after run.err run.err_after;
 }
 
 -- A prefix of this text went out of the run: the whole with status 0, and with 6 what came before
 -- standard output failed.
-pub record HasPrinted (p : Program) (turn : Turn p.R p.O p.E) (text : Text) : Type 0 where
-  pub ends : (turn.status ≡ 0) ⊎ (turn.status ≡ 6)
-  pub prefix : PrintsPrefix p.outs turn.out turn.out_after text
-  pub whole : turn.status ≡ 0 → Prints p.outs turn.out turn.out_after text
+pub record HasPrinted (p : Program) (run : Run p.R p.O p.E) (text : Text) : Type 0 where
+  pub ends : (run.status ≡ 0) ⊎ (run.status ≡ 6)
+  pub prefix : PrintsPrefix p.outs run.out run.out_after text
+  pub whole : run.status ≡ 0 → Prints p.outs run.out run.out_after text
 
 module _ (h : HashFunction) (p : Program) where
   -- The journal of this name, whose records are those of a log or a cosigner.
@@ -51,25 +51,25 @@ module _ (h : HashFunction) (p : Program) where
 
   -- A run of the execution opened or made the journal of this name, which then had these records,
   -- and ended without a failure of a file, and memory was not refused.
-  abbrev pub WasHeld : Text → p.R → List (Link p.R p.O p.E) → List Text → Type 0
-  WasHeld name old links = WereHeld (events_of p (owner name) old links)
+  abbrev pub WasHeld : Text → p.R → List (FileEvent p.R p.O p.E) → List Text → Type 0
+  WasHeld name old events = WereHeld (own_events p (owner name) old events)
 
   -- The first event is a run that did so, and the first of the records is one with which such a
   -- party begins.
   pub record IsBegun (name : Text) (start : PartyStart) (first : Text) (old : p.R)
-      (links : List (Link p.R p.O p.E)) : Type 0 where
+      (events : List (FileEvent p.R p.O p.E)) : Type 0 where
     pub is_modelled : p.rooms.is_modelled old
     pub others : List Text
-    pub held : FirstHolds (first ∷ others) (events_of p (owner name) old links)
+    pub held : FirstHolds (first ∷ others) (own_events p (owner name) old events)
     pub starts : StartsWith start first
 
   -- The journal of this name is that of a party at the end of a history, in which those records are
   -- released that the execution released, in their order.
   pub record IsReached (name : Text) (start : PartyStart) (first : Text) (old : p.R)
-      (links : List (Link p.R p.O p.E)) (room : p.R) : Type 0 where
+      (events : List (FileEvent p.R p.O p.E)) (room : p.R) : Type 0 where
     pub steps : List PartyStep
     pub state : HistoryState
     pub leads : LeadsTo (may_follow h) (start ∷ []) steps 0 state
     pub stands : (c : Text) → states_of p name room c
         → RepresentsPending (first ∷ state.durable) state.pending c
-    pub released : released_bodies state ≡ all_released (events_of p (owner name) old links)
+    pub released : released_bodies state ≡ all_released (own_events p (owner name) old events)
