@@ -28,7 +28,9 @@ part_more items first count =
 
 pub items_more : (items : ItemLists) (count : ℕ)
     → file_text items (count + 1) ≡ file_text items count ++ listed_text items count
-items_more items count = part_more items 0 count
+items_more items count =
+    let here : 0 + count ≡ count = omega arith in
+    part_more items 0 count ∙ ap (λ n. file_text items count ++ listed_text items n) here
 
 has_hash : (hash : Hash) (key : Text) (read : Result (Option TbsParts) EntryError)
     → (holds hash read && is_public_key key) ≡ true → has_key read ≡ true

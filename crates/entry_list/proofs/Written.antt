@@ -266,4 +266,6 @@ part_again h items first count are short le =
 pub items_again : (h : HashFunction) (items : ItemLists) (count : ℕ) → AreItems h items
     → FitsFile items → count ≤ length items.entries
     → items_in h (file_text items count) ≡ Ok (first_items count items)
-items_again h items count are short le = part_again h items 0 count are short le
+items_again h items count are short le =
+    let within : 0 + count ≤ length items.entries = omega arith in
+    part_again h items 0 count are short within
