@@ -1,4 +1,4 @@
-# Completes the words of mtc in bash: source docs/mtc.bash. Made by tests/manual.sh from docs/COMMANDS.md.
+# Completes the arguments of mtc in bash: source docs/mtc.bash. Made by tests/manual.sh from docs/COMMANDS.md.
 # shellcheck shell=bash disable=SC2207
 _mtc() {
     local word=${COMP_WORDS[COMP_CWORD]} kinds=()

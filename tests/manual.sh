@@ -1,7 +1,7 @@
 #!/bin/bash
 # Makes the man page docs/mtc.1 and the completion for bash docs/mtc.bash again from the tables of docs/COMMANDS.md, and
 # compares them with those that stand there. Then tests that the program knows each command of the table with that number of
-# words, and no other command that the sources name.
+# arguments, and no other command that the sources name.
 # Usage: tests/manual.sh [--write]
 # shellcheck disable=SC2016,SC2086
 set -u
@@ -16,7 +16,7 @@ complain() {
     wrong=1
 }
 
-# The rows of the table with such a head, as lines NAME WORDS|TEXT|TEXT.
+# The rows of the table with such a head, as lines NAME ARGUMENTS|TEXT|TEXT.
 table() {
     awk -v head="| $1 | $2 |" '
         index($0, head) == 1 { is_in = 1; next }
@@ -32,7 +32,7 @@ as_roff() {
 man_page() {
     printf '.\\" Made by tests/manual.sh from docs/COMMANDS.md.\n'
     printf '.TH MTC 1\n.SH NAME\nmtc \\- authority, cosigners and relying party for Merkle Tree Certificates\n'
-    printf '.SH SYNOPSIS\n.B mtc\n.I COMMAND WORD\\fR..\n.SH DESCRIPTION\n'
+    printf '.SH SYNOPSIS\n.B mtc\n.I COMMAND ARGUMENT\\fR..\n.SH DESCRIPTION\n'
     awk '/^All arguments are positional/' "$page" | as_roff
     printf '.SH COMMANDS\n'
     table Command 'It does' | tr -d '`' | while IFS='|' read -r words does prints; do
@@ -53,7 +53,7 @@ man_page() {
 completion() {
     local names
     names=$(table Command 'It does' | tr -d '`' | sed 's/[ |].*//' | paste -sd' ')
-    echo '# Completes the words of mtc in bash: source docs/mtc.bash. Made by tests/manual.sh from docs/COMMANDS.md.'
+    echo '# Completes the arguments of mtc in bash: source docs/mtc.bash. Made by tests/manual.sh from docs/COMMANDS.md.'
     echo '# shellcheck shell=bash disable=SC2207'
     echo '_mtc() {'
     echo '    local word=${COMP_WORDS[COMP_CWORD]} kinds=()'
@@ -76,7 +76,7 @@ completion() {
     echo 'complete -o filenames -F _mtc mtc'
 }
 
-# What the completion offers for some words, the last one begun.
+# What the completion offers for some arguments, of which the last one isn't whole.
 offers() (
     # shellcheck source=/dev/null
     source docs/mtc.bash
