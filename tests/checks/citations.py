@@ -6,10 +6,12 @@ from itertools import groupby, zip_longest
 
 from .comments import groups_of_crates
 from .pages import DOCS, by_hand, cells_of, shown
-from .sources import WORD, crates
+from .sources import ROOT, WORD, crates
 
 CRATES = {crate.name: crate for crate in crates()}
 SPAN = re.compile(r"`([^`]+)`")
+# The files of definitions to which DEFINITIONS leads: their names, and the crate with its link.
+FILES_OF = re.compile(r"((?:`\w+`(?:, | and )?)+) of \[(\w+)\]\(reference/DEFINITIONS")
 
 # Words of the language, of its tools and of the kit that a page may put in code marks.
 PLAIN = {"Ok", "Err", "None", "Some", "Drop", "ensures", "requires", "limit", "out", "sync_all", "put_"}
@@ -142,13 +144,16 @@ def check_promises():
 
 
 def check_names():
-    """what a page cites as crate::name is there"""
+    """what a page cites as crate::name, or as a file of a crate's definitions, is there"""
     for path in by_hand():
         for number, line in enumerate(path.read_text().split("\n"), 1):
             for part in (part for span in SPAN.findall(line) for part in expanded(span)):
                 match = re.fullmatch(r"(\w+)::[\w:]+", part)
                 if match and match.group(1) in CRATES and not is_known(part, [match.group(1)]):
                     yield f"{shown(path, number)}: there is no `{part}`"
+            for names, crate in FILES_OF.findall(line):
+                yield from (f"{shown(path, number)}: {crate} has no specs/{name}.antt" for name in SPAN.findall(names)
+                            if not (ROOT / "crates" / crate / "specs" / f"{name}.antt").exists())
 
 
 # ---- definitions

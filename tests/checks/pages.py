@@ -170,8 +170,8 @@ def check_links():
                     yield f"{shown(path, number)}: nothing at {target}"
                 elif anchor and anchor not in anchors_of(there):
                     yield f"{shown(path, number)}: {target} has no heading {anchor}"
-            for target in re.findall(r"`((?:docs|tests|examples|bench)/[\w./-]+)`", line):
-                if not (ROOT / target).exists():
+            for target in re.findall(r"`((?:docs|tests|examples|bench|crates|tools|include)/[\w./-]+)`", line):
+                if not (ROOT / target).exists() and "/out/" not in target:  # what a build makes stands in out
                     yield f"{shown(path, number)}: no file {target}"
 
 
