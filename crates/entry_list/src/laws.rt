@@ -19,5 +19,6 @@ pub fn law_items_are_read_as_written()
         → items_in h (file_text items count) ≡ Ok (first_items count items) }
     ensures part { (h : HashFunction) (items : ItemLists) (first count : ℕ) → AreItems h items
         → FitsFile items → first + count ≤ length items.entries
-        → items_in h (file_part items first count) ≡ Ok (first_items count (later_items first items)) }
+        → items_in h (file_part items first count)
+        ≡ Ok (first_items count (later_items first items)) }
 {}

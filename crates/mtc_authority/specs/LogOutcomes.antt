@@ -1,6 +1,6 @@
 -- The outcomes of the commands on a log: `init-log`, `checkpoint`, `entries` and `entries-from`.
-use Rattle.std.specs.Prelude.{ℕ, ◌-◌, nat_le, nat_lt, List, [], ◌++◌, length, slice_index_or, codes, None}
-use Rattle.std.specs.Prelude.{◌≡◌, ◌<◌, if◌then◌else◌}
+use Rattle.std.specs.Prelude.{ℕ, ◌-◌, nat_le, nat_lt, List, [], ◌++◌, length, slice_index_or, codes}
+use Rattle.std.specs.Prelude.{None, ◌≡◌, ◌<◌, if◌then◌else◌}
 use Rattle.std.specs.Fmt.{decimal}
 use Rattle.byte_formats.specs.Types.{HashFunction, Text}
 use Rattle.tls_wire.specs.Anchors.{text_of}

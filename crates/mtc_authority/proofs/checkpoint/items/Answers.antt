@@ -62,4 +62,5 @@ pub returns-clause-text : goal.returns-clause-text
 returns-clause-text g c =
     let end : c.loop-number.number ≡ c.args.count = omega arith in
     subst (λ (n : ℕ). IfSome (modelled_state c.args.log.now)
-    (λ s. c.loop-number.out ≡ file_part (items_of s) c.args.first n)) end c.loop-number.invariant.text
+    (λ s. c.loop-number.out ≡ file_part (items_of s) c.args.first n)) end
+    c.loop-number.invariant.text

@@ -8,5 +8,6 @@ use Rattle.mtc_authority.proofs.checkpoint.items.Given as goal
 abbrev pub invariant-loop-number : goal.invariant-loop-number
 invariant-loop-number g l = record {
   stays : LogStays l.initial.log l.log;
-  text : IfSome (modelled_state l.initial.log) (λ s. l.out ≡ file_part (items_of s) l.initial.first l.number);
+  text : IfSome (modelled_state l.initial.log)
+      (λ s. l.out ≡ file_part (items_of s) l.initial.first l.number);
 }
