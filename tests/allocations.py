@@ -26,7 +26,7 @@ REQUEST = f'{DATES}dns = ["{{}}.example", "*.b.example"]\ncommon_name = "b"\nkey
 COMMANDS = [
     "frob", "member first.member", "member absent", "show cert", "verify cert store " + NOW,
     "verify light trusting " + NOW, "verify cert trusting " + NOW, "init-log new 32473.1 2 32",
-    "init-log log 32473.1 2 32", "issue log request", "issue log wrong", "checkpoint log", "entries log 5",
+    "init-log log 32473.1 2 32", "issue log request", "issue log wrong", "checkpoint log", "entries log 5", "entries-from log 3 5", "entries-from log 5 5",
     "consist log 3 5", "subtree log 0 4 5", "keygen 5 4 secret", "init-cosigner new 32473.2 32473.1 5 4 secret",
     "advance early advance", "cosign cosigner subtree", "cosign early subtree", "export cosigner", "landmark log",
     "landmarks log", "light-cert log 2", "light-cert log 4", "trust-landmarks list 2 entries",

@@ -55,6 +55,12 @@ issue j s|0|176e7dd8d13f83ef|
 checkpoint j|0|0eedf9c50912344e|
 entries j 3|0|a183d917c04cb5db|
 entries j 4|4|-|mtc: entries: Beyond 3
+entries-from j 0 3|0|a183d917c04cb5db|
+entries-from j 3 3|4|-|mtc: entries-from: NothingNew
+entries-from j 2 4|4|-|mtc: entries-from: Beyond 3
+entries-from j 1 03|1|-|mtc: entries-from: BadNumber 3
+entries-from j.tiles 1 3|1|-|mtc: entries-from: TilesName 1
+entries-from k 1 3|7|-|mtc: entries-from: k: Absent
 consist j 0 3|0|5b6191f24cfd86a1|
 consist j 1 3|0|e8247e69e1689b61|
 consist j 2 3|0|804c5e6b9646da87|
