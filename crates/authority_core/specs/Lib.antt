@@ -5,3 +5,4 @@ pub mod Requests
 pub mod Files
 pub mod Issuing
 pub mod Issues
+pub mod Reasons

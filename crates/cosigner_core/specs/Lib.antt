@@ -16,3 +16,4 @@ pub mod Signatures
 pub mod Sound
 pub mod Views
 pub mod Words
+pub mod Reasons

@@ -12,6 +12,8 @@ use crate::fault::FormError;
 use journal_core::AppendError;
 use mtc_io::Memory;
 pub use state_journal::StateOpenError as CosignerOpenError;
+use std::error::Error;
+use std::fmt;
 use tls_wire::{AnchorBytesError, Short};
 
 /// What a cosigner refuses. Each call says in which order it tests.
@@ -33,6 +35,29 @@ pub enum CosignError {
     Append(AppendError),
 }
 
+impl fmt::Display for CosignError {
+    ghost use Rattle.std.specs.Prelude.{Some};
+    ghost use Rattle.cosigner_core.specs.Reasons.{step_fault_text};
+
+    ghost output = { λ why. Some (step_fault_text why) };
+
+    fn fmt<W: fmt::Write>(&self, f: &mut fmt::Formatter<W>) -> fmt::Result {
+        match self {
+            CosignError::WrongLog => f.write_str("WrongLog"),
+            CosignError::NotNewer(held) => write!(f, "NotNewer {held}"),
+            CosignError::BadSubtree => f.write_str("BadSubtree"),
+            CosignError::Beyond(held) => write!(f, "Beyond {held}"),
+            CosignError::BadProof => f.write_str("BadProof"),
+            CosignError::Exhausted => f.write_str("Exhausted"),
+            CosignError::Append(AppendError::Failed) => f.write_str("Failed"),
+            CosignError::Append(AppendError::Broken) => f.write_str("Broken"),
+            CosignError::Append(AppendError::Full) => f.write_str("JournalFull"),
+        }
+    }
+}
+
+impl Error for CosignError {}
+
 /// Why bytes are no export. They are read from the left, and the first fault is answered.
 #[derive(Clone, Copy, Debug, PartialEq, Eq)]
 pub enum ReadExportError {
@@ -47,6 +72,25 @@ pub enum ReadExportError {
     /// Memory was refused.
     Memory,
 }
+
+impl fmt::Display for ReadExportError {
+    ghost use Rattle.std.specs.Prelude.{Some};
+    ghost use Rattle.cosigner_core.specs.Reasons.{export_fault_text};
+
+    ghost output = { λ why. Some (export_fault_text why) };
+
+    fn fmt<W: fmt::Write>(&self, f: &mut fmt::Formatter<W>) -> fmt::Result {
+        match self {
+            ReadExportError::Short(offset) => write!(f, "Short {offset}"),
+            ReadExportError::BadKey => f.write_str("BadKey"),
+            ReadExportError::BadId => f.write_str("BadId"),
+            ReadExportError::BadRecord(number) => write!(f, "BadRecord {number}"),
+            ReadExportError::Memory => f.write_str("Memory"),
+        }
+    }
+}
+
+impl Error for ReadExportError {}
 
 /// Why a record is not taken.
 #[derive(Clone, Copy)]

@@ -1,5 +1,7 @@
 //! What can be wrong with a request.
 
+use std::error::Error;
+use std::fmt;
 use tls_wire::{HashesError, Short};
 
 /// Why bytes aren't a request. They are read from the left, and the first fault is answered.
@@ -14,6 +16,24 @@ pub enum FormError {
     /// The log's id has no bytes.
     EmptyId,
 }
+
+impl fmt::Display for FormError {
+    ghost use Rattle.std.specs.Prelude.{Some};
+    ghost use Rattle.cosigner_core.specs.Reasons.{form_fault_text};
+
+    ghost output = { λ why. Some (form_fault_text why) };
+
+    fn fmt<W: fmt::Write>(&self, f: &mut fmt::Formatter<W>) -> fmt::Result {
+        match self {
+            FormError::Short(offset) => write!(f, "Short {offset}"),
+            FormError::HashLength => f.write_str("HashLength"),
+            FormError::Trailing => f.write_str("Trailing"),
+            FormError::EmptyId => f.write_str("EmptyId"),
+        }
+    }
+}
+
+impl Error for FormError {}
 
 impl From<Short> for FormError {
     ghost use Rattle.std.specs.Prelude.{◌≡◌};

@@ -6,3 +6,4 @@ pub mod Contents
 pub mod Sets
 pub mod Fields
 pub mod Forms
+pub mod Reasons

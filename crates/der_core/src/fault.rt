@@ -1,5 +1,8 @@
 //! What can be wrong with an element, and with a certificate.
 
+use std::error::Error;
+use std::fmt;
+
 /// A fault of one element. The number is the offset of that element in the input. The faults of one
 /// element are tested in this order: of its tag `WrongTag` where nothing is left, `HighTag`,
 /// `WrongTag` where another tag stands; of its length `Truncated` where it is missing, `LongForm`
@@ -31,6 +34,30 @@ pub enum DerError {
     Trailing(usize),
 }
 
+impl fmt::Display for DerError {
+    ghost use Rattle.std.specs.Prelude.{Some};
+    ghost use Rattle.der_core.specs.Reasons.{der_fault_text};
+
+    ghost output = { λ why. Some (der_fault_text why) };
+
+    fn fmt<W: fmt::Write>(&self, f: &mut fmt::Formatter<W>) -> fmt::Result {
+        match self {
+            DerError::Truncated(offset) => write!(f, "Truncated {offset}"),
+            DerError::LongForm(offset) => write!(f, "LongForm {offset}"),
+            DerError::HighTag(offset) => write!(f, "HighTag {offset}"),
+            DerError::WrongTag(offset) => write!(f, "WrongTag {offset}"),
+            DerError::BadInteger(offset) => write!(f, "BadInteger {offset}"),
+            DerError::BadBool(offset) => write!(f, "BadBool {offset}"),
+            DerError::BadOid(offset) => write!(f, "BadOid {offset}"),
+            DerError::BadBits(offset) => write!(f, "BadBits {offset}"),
+            DerError::SetOrder(offset) => write!(f, "SetOrder {offset}"),
+            DerError::Trailing(offset) => write!(f, "Trailing {offset}"),
+        }
+    }
+}
+
+impl Error for DerError {}
+
 /// Why bytes aren't a certificate (RFC 5280, section 4.1) in the form that is taken here.
 #[derive(Clone, Copy, Debug, PartialEq, Eq)]
 pub enum CertError {
@@ -53,6 +80,29 @@ pub enum CertError {
     /// A name with a set that is empty.
     BadName,
 }
+
+impl fmt::Display for CertError {
+    ghost use Rattle.std.specs.Prelude.{Some};
+    ghost use Rattle.der_core.specs.Reasons.{cert_fault_text};
+
+    ghost output = { λ why. Some (cert_fault_text why) };
+
+    fn fmt<W: fmt::Write>(&self, f: &mut fmt::Formatter<W>) -> fmt::Result {
+        match self {
+            CertError::Der(fault) => fault.fmt(f),
+            CertError::BadVersion => f.write_str("BadVersion"),
+            CertError::BadSerial => f.write_str("BadSerial"),
+            CertError::BadTime => f.write_str("BadTime"),
+            CertError::AlgorithmsDiffer => f.write_str("AlgorithmsDiffer"),
+            CertError::RepeatedExtension => f.write_str("RepeatedExtension"),
+            CertError::UniqueId => f.write_str("UniqueId"),
+            CertError::BadExtension => f.write_str("BadExtension"),
+            CertError::BadName => f.write_str("BadName"),
+        }
+    }
+}
+
+impl Error for CertError {}
 
 impl From<DerError> for CertError {
     ghost use Rattle.std.specs.Prelude.{◌≡◌};

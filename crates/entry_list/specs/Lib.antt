@@ -1,3 +1,4 @@
 pub mod Items
 pub mod Offsets
 pub mod Reading
+pub mod Reasons

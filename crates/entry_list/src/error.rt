@@ -1,6 +1,8 @@
 //! What can be wrong with a file of entries.
 
 use mtc_io::Memory as NoMemory;
+use std::error::Error;
+use std::fmt;
 use tls_wire::Short;
 
 /// Why bytes aren't a file of entries. The items are read and tested one by one, each entry before
@@ -15,6 +17,23 @@ pub enum ItemsError {
     /// Memory was refused.
     Memory,
 }
+
+impl fmt::Display for ItemsError {
+    ghost use Rattle.std.specs.Prelude.{Some};
+    ghost use Rattle.entry_list.specs.Reasons.{items_fault_text};
+
+    ghost output = { λ why. Some (items_fault_text why) };
+
+    fn fmt<W: fmt::Write>(&self, f: &mut fmt::Formatter<W>) -> fmt::Result {
+        match self {
+            ItemsError::Short(offset) => write!(f, "Short {offset}"),
+            ItemsError::BadItem(number) => write!(f, "BadItem {number}"),
+            ItemsError::Memory => f.write_str("Memory"),
+        }
+    }
+}
+
+impl Error for ItemsError {}
 
 impl From<Short> for ItemsError {
     ghost use Rattle.std.specs.Prelude.{◌≡◌};

@@ -19,3 +19,4 @@ pub mod Shown
 pub mod Sound
 pub mod Staying
 pub mod Words
+pub mod Reasons

@@ -11,6 +11,8 @@ ghost use Rattle.issuance_log.specs.Faults.{log_id_fault, open_refusal};
 use journal_core::{AppendError, OpenError};
 use mtc_io::{Failed, Memory};
 use state_journal::StateOpenError;
+use std::error::Error;
+use std::fmt;
 use tile_store::TileError;
 use tls_wire::{AnchorBytesError, Short};
 
@@ -49,6 +51,31 @@ pub enum LogOpenError {
     Open(OpenError),
 }
 
+impl fmt::Display for LogOpenError {
+    ghost use Rattle.std.specs.Prelude.{Some};
+    ghost use Rattle.issuance_log.specs.Reasons.{log_open_text};
+
+    ghost output = { λ why. Some (log_open_text why) };
+
+    fn fmt<W: fmt::Write>(&self, f: &mut fmt::Formatter<W>) -> fmt::Result {
+        match self {
+            LogOpenError::BadRecord(number) => write!(f, "BadRecord {number}"),
+            LogOpenError::Tile(TileError::Failed) => f.write_str("Failed"),
+            LogOpenError::Tile(TileError::BadTile { level, place }) => write!(
+                f,
+                "BadTile {level} {place}"
+            ),
+            LogOpenError::Open(OpenError::NotJournal) => f.write_str("NotJournal"),
+            LogOpenError::Open(OpenError::BadLength(offset)) => write!(f, "BadLength {offset}"),
+            LogOpenError::Open(OpenError::CutShort(offset)) => write!(f, "CutShort {offset}"),
+            LogOpenError::Open(OpenError::Failed) => f.write_str("Failed"),
+            LogOpenError::Open(OpenError::Memory) => f.write_str("Memory"),
+        }
+    }
+}
+
+impl Error for LogOpenError {}
+
 /// What a log refuses. Each call says in which order it tests.
 #[derive(Clone, Copy, Debug, PartialEq, Eq)]
 pub enum LogError {
@@ -67,6 +94,29 @@ pub enum LogError {
     /// Memory was refused.
     Memory,
 }
+
+impl fmt::Display for LogError {
+    ghost use Rattle.std.specs.Prelude.{Some};
+    ghost use Rattle.issuance_log.specs.Reasons.{log_fault_text};
+
+    ghost output = { λ why. Some (log_fault_text why) };
+
+    fn fmt<W: fmt::Write>(&self, f: &mut fmt::Formatter<W>) -> fmt::Result {
+        match self {
+            LogError::Full => f.write_str("Full"),
+            LogError::TooLarge => f.write_str("TooLarge"),
+            LogError::NoSuchEntry => f.write_str("NoSuchEntry"),
+            LogError::NothingNew => f.write_str("NothingNew"),
+            LogError::Failed => f.write_str("Failed"),
+            LogError::Append(AppendError::Failed) => f.write_str("Failed"),
+            LogError::Append(AppendError::Broken) => f.write_str("Broken"),
+            LogError::Append(AppendError::Full) => f.write_str("JournalFull"),
+            LogError::Memory => f.write_str("Memory"),
+        }
+    }
+}
+
+impl Error for LogError {}
 
 /// Why a record is not taken into a log.
 #[derive(Clone, Copy, Debug, PartialEq, Eq)]

@@ -13,3 +13,4 @@ pub mod Starts
 pub mod Walk
 pub mod Windows
 pub mod Words
+pub mod Reasons

@@ -6,6 +6,8 @@ ghost use Rattle.journal_core.specs.declared.error.AppendError.TheVariants.{Fail
 ghost use Rattle.std.specs.Prelude.{◌≡◌};
 
 use mtc_io::{Failed, Memory};
+use std::error::Error;
+use std::fmt;
 
 /// A refused call returns the disk.
 #[derive(Debug, Drop)]
@@ -32,6 +34,23 @@ pub enum StartError {
     NotEmpty,
 }
 
+impl fmt::Display for StartError {
+    ghost use Rattle.std.specs.Prelude.{Some};
+    ghost use Rattle.journal_core.specs.Reasons.{start_fault_text};
+
+    ghost output = { λ why. Some (start_fault_text why) };
+
+    fn fmt<W: fmt::Write>(&self, f: &mut fmt::Formatter<W>) -> fmt::Result {
+        match self {
+            StartError::Memory => f.write_str("Memory"),
+            StartError::Failed => f.write_str("Failed"),
+            StartError::NotEmpty => f.write_str("NotEmpty"),
+        }
+    }
+}
+
+impl Error for StartError {}
+
 /// Why a file is not read, or not read on.
 #[derive(Clone, Copy, Debug, PartialEq, Eq)]
 pub enum OpenError {
@@ -47,6 +66,25 @@ pub enum OpenError {
     Memory,
 }
 
+impl fmt::Display for OpenError {
+    ghost use Rattle.std.specs.Prelude.{Some};
+    ghost use Rattle.journal_core.specs.Reasons.{open_fault_text};
+
+    ghost output = { λ why. Some (open_fault_text why) };
+
+    fn fmt<W: fmt::Write>(&self, f: &mut fmt::Formatter<W>) -> fmt::Result {
+        match self {
+            OpenError::NotJournal => f.write_str("NotJournal"),
+            OpenError::BadLength(offset) => write!(f, "BadLength {offset}"),
+            OpenError::CutShort(offset) => write!(f, "CutShort {offset}"),
+            OpenError::Failed => f.write_str("Failed"),
+            OpenError::Memory => f.write_str("Memory"),
+        }
+    }
+}
+
+impl Error for OpenError {}
+
 /// Why a record was not appended, in the order of the tests.
 #[derive(Clone, Copy, Debug, PartialEq, Eq)]
 pub enum AppendError {
@@ -60,6 +98,23 @@ pub enum AppendError {
     Failed,
 }
 
+impl fmt::Display for AppendError {
+    ghost use Rattle.std.specs.Prelude.{Some};
+    ghost use Rattle.journal_core.specs.Reasons.{append_fault_text};
+
+    ghost output = { λ why. Some (append_fault_text why) };
+
+    fn fmt<W: fmt::Write>(&self, f: &mut fmt::Formatter<W>) -> fmt::Result {
+        match self {
+            AppendError::Broken => f.write_str("Broken"),
+            AppendError::Full => f.write_str("Full"),
+            AppendError::Failed => f.write_str("Failed"),
+        }
+    }
+}
+
+impl Error for AppendError {}
+
 /// Why records were not copied to the last one.
 #[derive(Clone, Copy, Debug, PartialEq, Eq)]
 pub enum CopyError {
@@ -68,6 +123,22 @@ pub enum CopyError {
     /// The sink failed.
     Write,
 }
+
+impl fmt::Display for CopyError {
+    ghost use Rattle.std.specs.Prelude.{Some};
+    ghost use Rattle.journal_core.specs.Reasons.{copy_fault_text};
+
+    ghost output = { λ why. Some (copy_fault_text why) };
+
+    fn fmt<W: fmt::Write>(&self, f: &mut fmt::Formatter<W>) -> fmt::Result {
+        match self {
+            CopyError::Read => f.write_str("Read"),
+            CopyError::Write => f.write_str("Write"),
+        }
+    }
+}
+
+impl Error for CopyError {}
 
 impl From<Failed> for StartError {
     ghost from_gives = { λ _ e. e ≡ StartFailed };

@@ -1,4 +1,5 @@
 pub mod Landmarks
 pub mod Limits
+pub mod Reasons
 pub mod Texts
 pub mod Views

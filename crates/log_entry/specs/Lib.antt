@@ -3,3 +3,4 @@ pub mod Reading
 pub mod EntryOf
 pub mod Matching
 pub mod Views
+pub mod Reasons

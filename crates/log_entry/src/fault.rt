@@ -1,6 +1,8 @@
 //! What can be wrong with an entry.
 
 use der_core::{CertError, DerError};
+use std::error::Error;
+use std::fmt;
 
 /// Why bytes aren't an entry. First there are too few bytes for a type, then the type is tested,
 /// then the body is read from the left.
@@ -18,6 +20,25 @@ pub enum EntryError {
     /// The null entry continues after its type.
     NullHasBody,
 }
+
+impl fmt::Display for EntryError {
+    ghost use Rattle.std.specs.Prelude.{Some};
+    ghost use Rattle.log_entry.specs.Reasons.{entry_fault_text};
+
+    ghost output = { λ why. Some (entry_fault_text why) };
+
+    fn fmt<W: fmt::Write>(&self, f: &mut fmt::Formatter<W>) -> fmt::Result {
+        match self {
+            EntryError::Short => f.write_str("Short"),
+            EntryError::UnknownType(number) => write!(f, "UnknownType {number}"),
+            EntryError::Body(fault) => fault.fmt(f),
+            EntryError::BadHashLength => f.write_str("BadHashLength"),
+            EntryError::NullHasBody => f.write_str("NullHasBody"),
+        }
+    }
+}
+
+impl Error for EntryError {}
 
 impl From<CertError> for EntryError {
     ghost use Rattle.std.specs.Prelude.{◌≡◌};

@@ -6,3 +6,4 @@ pub mod Reading
 pub mod Laws
 pub mod Chains
 pub mod TextLaws
+pub mod Reasons

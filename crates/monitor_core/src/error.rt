@@ -1,6 +1,8 @@
 //! What can be wrong with a text or with a run.
 
 use mtc_io::Memory as NoMemory;
+use std::error::Error;
+use std::fmt;
 
 /// Why a text isn't one of a monitor. Lines are numbered from 0 and read in order.
 #[derive(Clone, Copy, Debug, PartialEq, Eq)]
@@ -10,6 +12,22 @@ pub enum TextError {
     /// Memory was refused.
     Memory,
 }
+
+impl fmt::Display for TextError {
+    ghost use Rattle.std.specs.Prelude.{Some};
+    ghost use Rattle.monitor_core.specs.Reasons.{text_fault_text};
+
+    ghost output = { λ why. Some (text_fault_text why) };
+
+    fn fmt<W: fmt::Write>(&self, f: &mut fmt::Formatter<W>) -> fmt::Result {
+        match self {
+            TextError::BadLine(number) => write!(f, "BadLine {number}"),
+            TextError::Memory => f.write_str("Memory"),
+        }
+    }
+}
+
+impl Error for TextError {}
 
 impl From<NoMemory> for TextError {
     ghost use Rattle.std.specs.Prelude.{◌≡◌};

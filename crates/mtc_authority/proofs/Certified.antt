@@ -32,7 +32,8 @@ use Rattle.mtc_authority.specs.CertCommand.{cert_outcome, signed_says}
 use Rattle.mtc_authority.specs.CertOutcome.{certificate_in, certificate_with, cert_ending}
 use Rattle.mtc_authority.specs.CertOutcome.{cert_refused}
 use Rattle.mtc_authority.specs.CertOutcome.{cert_replies, cert_reply}
-use Rattle.mtc_authority.specs.CertOutcome.{light_reply, light_text, signatures_fault_text}
+use Rattle.mtc_proof.specs.Reasons.{proof_fault_text}
+use Rattle.mtc_authority.specs.CertOutcome.{light_reply, light_text}
 use Rattle.mtc_authority.specs.CertOutcome.{signatures_in}
 use Rattle.mtc_authority.specs.Works.{RepliesOnLog, log_outcome}
 use Rattle.mtc_authority.specs.declared.work.Work.TheVariants.{Cert}
@@ -178,7 +179,7 @@ module _ (h : HashFunction) (journal : Text) (index start end : ℕ) (file : Tex
       → log_outcome h journal held tiles (Cert index start end signatures)
       ≡ cert_outcome h journal index start end file files
   signed_so held tiles signatures read same same_tiles = sym (read_so
-      ∙ ap (λ x. with_form signatures_fault_text file x
+      ∙ ap (λ x. with_form proof_fault_text file x
       (λ q. log_outcome h journal (files journal) (files (tiles_name journal))
       (Cert index start end q))) read
       ∙ ap (λ x. log_outcome h journal x (files (tiles_name journal))

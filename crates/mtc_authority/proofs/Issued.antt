@@ -28,7 +28,7 @@ use Rattle.mtc_command.specs.Works.{journaled_by}
 use Rattle.mtc_command.specs.declared.answer.Said.TheVariants.{Done}
 use Rattle.mtc_command.specs.declared.answer.Stopped.TheVariants.{Beyond}
 use Rattle.mtc_authority.specs.IssueOutcome.{issue_ending, issue_says, issued_by, issued_text}
-use Rattle.mtc_authority.specs.IssueOutcome.{log_fault_text}
+use Rattle.issuance_log.specs.Reasons.{log_fault_text}
 use Rattle.mtc_authority.specs.Works.{HasWorkedOnLog, IsLog, IsReadyLog, StaysLog}
 use Rattle.mtc_authority.proofs.Appends.{done_so, failed_so, out_of_memory_so, modelled_so}
 use Rattle.mtc_authority.proofs.Appends.{valid_so}

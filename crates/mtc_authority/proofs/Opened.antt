@@ -25,7 +25,8 @@ use Rattle.mtc_command.specs.Works.{HasWorkedOn, HasWorkedTiledOn}
 use Rattle.mtc_command.specs.declared.answer.Stopped.TheVariants.{BadForm}
 use Rattle.mtc_command.proofs.Tiled.{tiled_early}
 use Rattle.mtc_command.proofs.Works.{each_some, not_opened}
-use Rattle.mtc_authority.specs.Works.{found_log, log_bytes_say, log_open_ending, log_open_text}
+use Rattle.issuance_log.specs.Reasons.{log_open_text}
+use Rattle.mtc_authority.specs.Works.{found_log, log_bytes_say, log_open_ending}
 use Rattle.mtc_authority.specs.Works.{log_says, tested_says, unless_missing}
 use Rattle.mtc_authority.specs.declared.work.Work.{Work}
 use Rattle.mtc_authority.proofs.Appends.{mapped_some}

@@ -16,7 +16,8 @@ use Rattle.mtc_command.proofs.Inputs.{bytes_read}
 use Rattle.mtc_command.proofs.Made.{OnlyNow}
 use Rattle.mtc_command.proofs.Served.{stopped}
 use Rattle.mtc_authority.specs.IssueCommand.{issue_outcome, request_says}
-use Rattle.mtc_authority.specs.IssueOutcome.{request_ending, request_fault_text}
+use Rattle.authority_core.specs.Reasons.{request_fault_text}
+use Rattle.mtc_authority.specs.IssueOutcome.{request_ending}
 use Rattle.mtc_authority.specs.Works.{log_outcome}
 use Rattle.mtc_authority.specs.declared.work.Work.TheVariants.{Issue}
 

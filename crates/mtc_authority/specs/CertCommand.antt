@@ -3,7 +3,8 @@ use Rattle.std.specs.Prelude.{ℕ, Option}
 use Rattle.byte_formats.specs.Types.{HashFunction, Text}
 use Rattle.mtc_command.specs.Answers.{tiles_name}
 use Rattle.mtc_command.specs.Steps.{Outcome, Files, with_bytes, with_form}
-use Rattle.mtc_authority.specs.CertOutcome.{signatures_fault_text, signatures_in}
+use Rattle.mtc_proof.specs.Reasons.{proof_fault_text}
+use Rattle.mtc_authority.specs.CertOutcome.{signatures_in}
 use Rattle.mtc_authority.specs.Works.{log_outcome}
 use Rattle.mtc_authority.specs.declared.work.Work.TheVariants.{Cert}
 
@@ -11,7 +12,7 @@ use Rattle.mtc_authority.specs.declared.work.Work.TheVariants.{Cert}
 abbrev pub signed_says : HashFunction → Text → ℕ → ℕ → ℕ → Text → Option Text → Option Text → Text
     → Outcome
 signed_says h journal index start end file held tiles bytes =
-    with_form signatures_fault_text file (signatures_in bytes)
+    with_form proof_fault_text file (signatures_in bytes)
     (λ signatures. log_outcome h journal held tiles (Cert index start end signatures))
 
 -- The outcome of `cert J INDEX START END SIGNATURES`: the file of signatures is read, at most 16

@@ -1,10 +1,10 @@
 -- The outcomes of `cert J INDEX START END SIGNATURES` and `light-cert J INDEX`.
-use Rattle.std.specs.Prelude.{ℕ, [], ◌++◌, codes, slice_index_or, Option, Some, None, Result, Ok}
+use Rattle.std.specs.Prelude.{ℕ, [], codes, slice_index_or, Option, Some, None, Result, Ok}
 use Rattle.std.specs.Prelude.{Err}
-use Rattle.std.specs.Fmt.{decimal}
 use Rattle.byte_formats.specs.Offsets.{at}
 use Rattle.byte_formats.specs.Readings.{◌>>=◌}
 use Rattle.byte_formats.specs.Types.{HashFunction, Text}
+use Rattle.mtc_proof.specs.Reasons.{proof_fault_text}
 use Rattle.cert_fields.specs.Encoding.{certificate}
 use Rattle.log_entry.specs.Entries.{TbsParts}
 use Rattle.log_entry.specs.Reading.{entry_in}
@@ -12,8 +12,6 @@ use Rattle.log_entry.specs.declared.fault.EntryError.{EntryError}
 use Rattle.mtc_proof.specs.Proofs.{proof_text}
 use Rattle.mtc_proof.specs.Reading.{checked_signatures}
 use Rattle.mtc_proof.specs.declared.fault.ProofError.{ProofError}
-use Rattle.mtc_proof.specs.declared.fault.ProofError.TheVariants.{Short, HashLength, Trailing}
-use Rattle.mtc_proof.specs.declared.fault.ProofError.TheVariants.{EmptyId}
 use Rattle.issuance_log.specs.Folds.{LogState, view_in}
 use Rattle.authority_core.specs.Certificates.{cert_refusal, covering_in, light_refusal, parts_with}
 use Rattle.authority_core.specs.Certificates.{proof_for}
@@ -26,15 +24,9 @@ use Rattle.mtc_command.specs.Answers.{Reply, Ending, replied, room_failed, no_me
 use Rattle.mtc_command.specs.Answers.{refused, tiles_name}
 use Rattle.mtc_authority.specs.LogOutcomes.{beyond, not_allowed}
 
--- Why bytes are no signatures.
-abbrev pub signatures_fault_text : ProofError → Text
-signatures_fault_text (Short place) = codes "Short " ++ decimal place
-signatures_fault_text HashLength = codes "HashLength"
-signatures_fault_text Trailing = codes "Trailing"
-signatures_fault_text (EmptyId place) = codes "EmptyId " ++ decimal place
-
+-- What comes of a file that isn't signatures.
 abbrev pub signatures_ending : Text → ProofError → Ending
-signatures_ending file why = replied (refused BadForm (Some file) (signatures_fault_text why))
+signatures_ending file why = replied (refused BadForm (Some file) (proof_fault_text why))
 
 -- The signatures that the bytes are, or the first fault.
 abbrev pub signatures_in : Text → Result Text ProofError

@@ -5,7 +5,7 @@ use Rattle.byte_formats.specs.Types.{HashFunction, Text}
 use Rattle.authority_core.specs.Files.{request_of}
 use Rattle.mtc_command.specs.Answers.{tiles_name}
 use Rattle.mtc_command.specs.Steps.{Outcome, Files, with_bytes, with_form}
-use Rattle.mtc_authority.specs.IssueOutcome.{request_fault_text}
+use Rattle.authority_core.specs.Reasons.{request_fault_text}
 use Rattle.mtc_authority.specs.Works.{log_outcome}
 use Rattle.mtc_authority.specs.declared.work.Work.TheVariants.{Issue}
 

@@ -2,6 +2,8 @@
 use Rattle.std.specs.Prelude.{ℕ, false, ◌++◌, List, codes, Option, Some, None}
 use Rattle.std.specs.Fmt.{decimal}
 use Rattle.byte_formats.specs.Types.{HashFunction, Text}
+use Rattle.authority_core.specs.Reasons.{request_fault_text}
+use Rattle.issuance_log.specs.Reasons.{log_fault_text}
 use Rattle.journal_core.specs.Format.{end_following}
 use Rattle.journal_core.specs.declared.error.AppendError.TheVariants as append_error
 use Rattle.issuance_log.specs.Folds.{LogView, view_in}
@@ -13,55 +15,17 @@ use Rattle.authority_core.specs.Issues.{issued_entry, issued_record}
 use Rattle.authority_core.specs.Requests.{RequestParts}
 use Rattle.authority_core.specs.declared.issuing.error.IssueError.{IssueError}
 use Rattle.authority_core.specs.declared.issuing.error.IssueError.TheVariants.{Log}
-use Rattle.authority_core.specs.declared.requests.error.Field.{Field}
-use Rattle.authority_core.specs.declared.requests.error.Field.TheVariants.{NotBefore, NotAfter, Dns}
-use Rattle.authority_core.specs.declared.requests.error.Field.TheVariants.{CommonName, PublicKey}
 use Rattle.authority_core.specs.declared.requests.error.RequestError.{RequestError}
-use Rattle.authority_core.specs.declared.requests.error.RequestError.TheVariants.{NotToml}
-use Rattle.authority_core.specs.declared.requests.error.RequestError.TheVariants.{UnknownKey}
-use Rattle.authority_core.specs.declared.requests.error.RequestError.TheVariants.{Missing as MissingKey}
-use Rattle.authority_core.specs.declared.requests.error.RequestError.TheVariants.{BadValue}
-use Rattle.authority_core.specs.declared.requests.error.RequestError.TheVariants.{DatesReversed}
-use Rattle.authority_core.specs.declared.requests.error.RequestError.TheVariants.{NoNames, Memory}
+use Rattle.authority_core.specs.declared.requests.error.RequestError.TheVariants.{Memory}
 use Rattle.mtc_command.specs.declared.answer.Stopped.TheVariants.{Beyond}
 use Rattle.mtc_command.specs.declared.answer.Stopped.TheVariants.{BadForm}
 use Rattle.mtc_command.specs.Answers.{Ending, replied, room_failed, no_memory, refused}
 use Rattle.mtc_command.specs.Steps.{Outcome, stops_on, appends}
 
--- A field of a request.
-abbrev pub field_text : Field → Text
-field_text NotBefore = codes "NotBefore"
-field_text NotAfter = codes "NotAfter"
-field_text Dns = codes "Dns"
-field_text CommonName = codes "CommonName"
-field_text PublicKey = codes "PublicKey"
-
--- Why a file is no request.
-abbrev pub request_fault_text : RequestError → Text
-request_fault_text NotToml = codes "NotToml"
-request_fault_text UnknownKey = codes "UnknownKey"
-request_fault_text (MissingKey field) = codes "Missing " ++ field_text field
-request_fault_text (BadValue field) = codes "BadValue " ++ field_text field
-request_fault_text DatesReversed = codes "DatesReversed"
-request_fault_text NoNames = codes "NoNames"
-request_fault_text Memory = codes "Memory"
-
 -- What comes of it: the line says that the file isn't a request, unless memory was refused.
 abbrev pub request_ending : Text → RequestError → Ending
 request_ending file Memory = no_memory
 request_ending file why = replied (refused BadForm (Some file) (request_fault_text why))
-
--- Why a log takes no entry more.
-abbrev pub log_fault_text : LogError → Text
-log_fault_text log_error.Full = codes "Full"
-log_fault_text log_error.TooLarge = codes "TooLarge"
-log_fault_text log_error.NoSuchEntry = codes "NoSuchEntry"
-log_fault_text log_error.NothingNew = codes "NothingNew"
-log_fault_text log_error.Failed = codes "Failed"
-log_fault_text (log_error.Append append_error.Failed) = codes "Failed"
-log_fault_text (log_error.Append append_error.Broken) = codes "Broken"
-log_fault_text (log_error.Append append_error.Full) = codes "JournalFull"
-log_fault_text log_error.Memory = codes "Memory"
 
 -- What comes of it in a command on this journal: the entry is refused, unless the device failed or
 -- memory was refused.

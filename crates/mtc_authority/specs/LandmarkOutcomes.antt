@@ -17,7 +17,7 @@ use Rattle.mtc_command.specs.declared.answer.Stopped.TheVariants.{Beyond}
 use Rattle.mtc_command.specs.Answers.{Reply, Ending, replied, room_failed, no_memory, said}
 use Rattle.mtc_command.specs.Answers.{refused}
 use Rattle.mtc_command.specs.Steps.{Outcome, answers_on, appends}
-use Rattle.mtc_authority.specs.IssueOutcome.{log_fault_text}
+use Rattle.issuance_log.specs.Reasons.{log_fault_text}
 use Rattle.mtc_authority.specs.LogOutcomes.{not_allowed}
 
 -- ---- landmark

@@ -14,7 +14,7 @@ use Rattle.mtc_command.specs.declared.answer.Stopped.TheVariants.{Beyond}
 use Rattle.mtc_command.specs.Answers.{Reply, Ending, replied, room_failed, no_memory, refused}
 use Rattle.mtc_command.specs.Answers.{tiles_name}
 use Rattle.mtc_command.specs.Steps.{Outcome, answers_on, appends}
-use Rattle.mtc_authority.specs.IssueOutcome.{log_fault_text}
+use Rattle.issuance_log.specs.Reasons.{log_fault_text}
 use Rattle.mtc_authority.specs.LogOutcomes.{not_allowed}
 
 -- The line of tiles that were stored, up to this size.

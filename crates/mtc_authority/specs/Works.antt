@@ -1,8 +1,8 @@
 -- What files are opened as a log with its tiles, and what a command has to reply over it.
-use Rattle.std.specs.Prelude.{◌≡◌, ◌≢◌, ◌++◌, ℕ, false, codes, List, Option, None, Some, IfSome}
+use Rattle.std.specs.Prelude.{◌≡◌, ◌≢◌, ℕ, false, List, Option, None, Some, IfSome}
 use Rattle.std.specs.Prelude.{IsOk}
-use Rattle.std.specs.Fmt.{decimal}
 use Rattle.byte_formats.specs.Types.{HashFunction, Text}
+use Rattle.issuance_log.specs.Reasons.{log_open_text}
 use Rattle.disk_core.specs.declared.disk.Disk.{Ghosts}
 use Rattle.journal_core.specs.Format.{end_following}
 use Rattle.journal_core.specs.declared.error.OpenError.TheVariants as open_error
@@ -14,13 +14,13 @@ use Rattle.issuance_log.specs.Words.{LogStays, both_records, log_broken, log_dis
 use Rattle.issuance_log.specs.Words.{log_records, log_tiles_disk, modelled_by_both, modelled_state}
 use Rattle.issuance_log.specs.Words.{view_of}
 use Rattle.issuance_log.specs.declared.error.LogOpenError.{LogOpenError}
-use Rattle.issuance_log.specs.declared.error.LogOpenError.TheVariants.{BadRecord, Open}
+use Rattle.issuance_log.specs.declared.error.LogOpenError.TheVariants.{Open}
 use Rattle.issuance_log.specs.declared.error.LogOpenError.TheVariants.{Tile as NoTiles}
 use Rattle.issuance_log.specs.declared.log.Log.{Log}
 use Rattle.mtc_io.specs.Counts.{Rose}
 use Rattle.tile_store.specs.declared.error.TileError.TheVariants as tile_error
 use Rattle.mtc_command.specs.Answers.{Ending, Reply, replied, room_failed, no_memory, refused}
-use Rattle.mtc_command.specs.Answers.{IfReply, bad_tile, bad_tile_text, status_of, tiles_name}
+use Rattle.mtc_command.specs.Answers.{IfReply, bad_tile, status_of, tiles_name}
 use Rattle.mtc_command.specs.Endings.{FailsAt}
 use Rattle.mtc_command.specs.Made.{ReadsAtMost}
 use Rattle.mtc_command.specs.Steps.{Outcome, answers, answers_on, held_in, with_file, with_form}
@@ -41,17 +41,6 @@ use Rattle.mtc_authority.specs.declared.work.Work.TheVariants.{EntriesFrom, Issu
 use Rattle.mtc_authority.specs.declared.work.Work.TheVariants.{Subtree, Landmark, Landmarks}
 use Rattle.mtc_authority.specs.declared.work.Work.TheVariants.{LightCert}
 use Rattle.mtc_authority.specs.declared.work.Work.TheVariants.{Cert, Tile}
-
--- Why a file is no log, or its tiles aren't taken.
-abbrev pub log_open_text : LogOpenError → Text
-log_open_text (BadRecord number) = codes "BadRecord " ++ decimal number
-log_open_text (NoTiles (tile_error.BadTile level place)) = bad_tile_text level place
-log_open_text (NoTiles tile_error.Failed) = codes "Failed"
-log_open_text (Open open_error.NotJournal) = codes "NotJournal"
-log_open_text (Open (open_error.BadLength place)) = codes "BadLength " ++ decimal place
-log_open_text (Open (open_error.CutShort place)) = codes "CutShort " ++ decimal place
-log_open_text (Open open_error.Failed) = codes "Failed"
-log_open_text (Open open_error.Memory) = codes "Memory"
 
 -- What comes of it: the line says that the file isn't a log, or that the file of its tiles doesn't
 -- have them, unless the device of one failed or memory was refused.

@@ -19,7 +19,7 @@ use Rattle.mtc_command.specs.declared.answer.Stopped.TheVariants.{BadForm}
 use Rattle.mtc_command.proofs.Inputs.{bytes_read}
 use Rattle.mtc_command.proofs.Made.{OnlyNow}
 use Rattle.mtc_command.proofs.Served.{following, stopped}
-use Rattle.mtc_lines.specs.Reasons.{form_fault_text}
+use Rattle.cosigner_core.specs.Reasons.{form_fault_text}
 
 module _ {F : Type 0} (read : Text → Result F FormError) (next : F → Outcome) (file : Text) where
   -- the outcome of a command that begins with a request

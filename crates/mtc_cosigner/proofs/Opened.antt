@@ -18,7 +18,7 @@ use Rattle.mtc_command.specs.Works.{HasWorkedOn}
 use Rattle.mtc_command.specs.declared.answer.Stopped.TheVariants.{BadForm}
 use Rattle.mtc_command.proofs.Works.{not_opened}
 use Rattle.mtc_cosigner.specs.Works.{cosigner_bytes_say, found_cosigner, cosigner_open_ending}
-use Rattle.mtc_cosigner.specs.Works.{cosigner_open_text}
+use Rattle.state_journal.specs.Reasons.{state_open_text}
 
 -- What is known after an opening that found these records: the outcome of the bytes is that of the
 -- records, and the device and each crash state of it represent them.
@@ -35,19 +35,19 @@ module _ (h : HashFunction) (name : Text) (says : FoundCosigner → Outcome) whe
       → IfSome contents (λ b. IfSome list (λ l.
       cosigner_bytes_say h name says b ≡ says (found_cosigner state l)))
   found_says contents list state found = IfSome_then contents found (λ b read. IfSome_then list read
-      (λ l is. ap (λ r. with_form cosigner_open_text name r says) is))
+      (λ l is. ap (λ r. with_form state_open_text name r says) is))
 
   module _ {D : Type 0} (g : Ghosts D) (old new : D) (only_reads : OnlyReads g old new) where
     -- a file that is no cosigner's
     no_cosigner : (why : StateOpenError)
         → IfSome (g.contents old) (λ b. cosigner_read h b ≡ Err why)
         → HasWorkedOn g name (cosigner_bytes_say h name says) old new
-        (replied (refused BadForm (Some name) (cosigner_open_text why)))
+        (replied (refused BadForm (Some name) (state_open_text why)))
     no_cosigner why is = not_opened g name (cosigner_bytes_say h name says) old new only_reads
-        (replied (refused BadForm (Some name) (cosigner_open_text why)))
+        (replied (refused BadForm (Some name) (state_open_text why)))
         (record { plain = λ e. absurd cc; later = only_reads.faults; fault = tt }) (inr (inl refl))
         (IfSome_then (g.contents old) is
-        (λ b read. ap (λ r. with_form cosigner_open_text name r says) read))
+        (λ b read. ap (λ r. with_form state_open_text name r says) read))
 
     -- a cosigner that wasn't opened
     pub refused_says : (why : StateOpenError) → HasCosignerCause g h old new why

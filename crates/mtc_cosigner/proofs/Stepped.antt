@@ -25,7 +25,8 @@ use Rattle.mtc_command.specs.declared.answer.Stopped.{Stopped}
 use Rattle.mtc_command.specs.declared.answer.Stopped.TheVariants.{NotAllowed}
 use Rattle.mtc_command.specs.declared.answer.Stopped.TheVariants.{Beyond as OverLimit}
 use Rattle.mtc_command.proofs.Works.{appended_on, failed_on, read_on, says_so}
-use Rattle.mtc_cosigner.specs.CosignerOutcomes.{step_ending, step_fault_text, step_stopped, stepped}
+use Rattle.cosigner_core.specs.Reasons.{step_fault_text}
+use Rattle.mtc_cosigner.specs.CosignerOutcomes.{step_ending, step_stopped, stepped}
 use Rattle.mtc_cosigner.specs.Works.{HasWorkedOnCosigner, IsCosigner, IsReadyCosigner}
 use Rattle.mtc_cosigner.specs.Works.{StaysCosigner}
 use Rattle.mtc_cosigner.specs.Works.{found_cosigner}

@@ -2,6 +2,7 @@
 use Rattle.std.specs.Prelude.{ℕ, false, ◌++◌, codes, Option, Some, None}
 use Rattle.std.specs.Fmt.{decimal}
 use Rattle.byte_formats.specs.Types.{HashFunction, Text}
+use Rattle.cosigner_core.specs.Reasons.{step_fault_text}
 use Rattle.journal_core.specs.Format.{end_following}
 use Rattle.journal_core.specs.declared.error.AppendError.TheVariants as append_error
 use Rattle.mtc_proof.specs.Proofs.{signature_text}
@@ -22,18 +23,6 @@ use Rattle.mtc_command.specs.declared.answer.Said.TheVariants.{Done}
 use Rattle.mtc_command.specs.declared.answer.Stopped.{Stopped}
 use Rattle.mtc_command.specs.declared.answer.Stopped.TheVariants.{NotAllowed}
 use Rattle.mtc_command.specs.declared.answer.Stopped.TheVariants.{Beyond as OverLimit}
-
--- Why a cosigner takes no step: its state doesn't allow it, or its journal is full.
-abbrev pub step_fault_text : CosignError → Text
-step_fault_text WrongLog = codes "WrongLog"
-step_fault_text (NotNewer held) = codes "NotNewer " ++ decimal held
-step_fault_text BadSubtree = codes "BadSubtree"
-step_fault_text (Beyond held) = codes "Beyond " ++ decimal held
-step_fault_text BadProof = codes "BadProof"
-step_fault_text Exhausted = codes "Exhausted"
-step_fault_text (Append append_error.Failed) = codes "Failed"
-step_fault_text (Append append_error.Broken) = codes "Broken"
-step_fault_text (Append append_error.Full) = codes "JournalFull"
 
 -- Which kind of refusal that is.
 abbrev pub step_stopped : CosignError → Stopped

@@ -1,6 +1,5 @@
 -- What a file is that is opened as a cosigner's, and what a command has to reply over it.
-use Rattle.std.specs.Prelude.{◌≡◌, ◌++◌, false, codes, List, Option, Some, IfSome, IsOk}
-use Rattle.std.specs.Fmt.{decimal}
+use Rattle.std.specs.Prelude.{◌≡◌, false, List, Option, Some, IfSome, IsOk}
 use Rattle.byte_formats.specs.Types.{HashFunction, Text}
 use Rattle.disk_core.specs.declared.disk.Disk.{Ghosts}
 use Rattle.journal_core.specs.Format.{end_following}
@@ -11,32 +10,24 @@ use Rattle.cosigner_core.specs.Openings.{FoundCosigner, cosigner_read}
 use Rattle.cosigner_core.specs.Reading.{advance_in, subtree_in}
 use Rattle.cosigner_core.specs.Views.{advance_parts, subtree_parts}
 use Rattle.state_journal.specs.declared.error.StateOpenError.{StateOpenError}
-use Rattle.state_journal.specs.declared.error.StateOpenError.TheVariants.{BadRecord, Open}
+use Rattle.state_journal.specs.declared.error.StateOpenError.TheVariants.{Open}
 use Rattle.mtc_command.specs.Answers.{Ending, replied, room_failed, no_memory, refused}
 use Rattle.mtc_command.specs.Steps.{Outcome, Files, with_bytes, with_file, with_form}
 use Rattle.mtc_command.specs.Valid.{WorksValidly}
 use Rattle.mtc_command.specs.Works.{HasWorked as HasWorkedWith}
 use Rattle.mtc_command.specs.declared.answer.Stopped.TheVariants.{BadForm}
 use Rattle.mtc_cosigner.specs.CosignerOutcomes.{advance_says, cosign_says, export_says}
-use Rattle.mtc_lines.specs.Reasons.{form_fault_text}
+use Rattle.cosigner_core.specs.Reasons.{form_fault_text}
+use Rattle.state_journal.specs.Reasons.{state_open_text}
 use Rattle.mtc_cosigner.specs.declared.work.Work.{Work}
 use Rattle.mtc_cosigner.specs.declared.work.Work.TheVariants.{Advance, Cosign, Export}
-
--- Why a file is no cosigner's.
-abbrev pub cosigner_open_text : StateOpenError → Text
-cosigner_open_text (BadRecord number) = codes "BadRecord " ++ decimal number
-cosigner_open_text (Open open_error.NotJournal) = codes "NotJournal"
-cosigner_open_text (Open (open_error.BadLength place)) = codes "BadLength " ++ decimal place
-cosigner_open_text (Open (open_error.CutShort place)) = codes "CutShort " ++ decimal place
-cosigner_open_text (Open open_error.Failed) = codes "Failed"
-cosigner_open_text (Open open_error.Memory) = codes "Memory"
 
 -- What comes of it: the line says that the file is none, unless the device failed or memory was
 -- refused.
 abbrev pub cosigner_open_ending : Text → StateOpenError → Ending
 cosigner_open_ending file (Open open_error.Failed) = room_failed file
 cosigner_open_ending file (Open open_error.Memory) = no_memory
-cosigner_open_ending file why = replied (refused BadForm (Some file) (cosigner_open_text why))
+cosigner_open_ending file why = replied (refused BadForm (Some file) (state_open_text why))
 
 -- A cosigner was found, with the records of its journal.
 abbrev pub found_cosigner : CosignerState → List Text → FoundCosigner
@@ -50,7 +41,7 @@ cosigner_says h Export found = export_says found
 
 -- The outcome of a command on the cosigner of a journal with these bytes.
 abbrev pub cosigner_bytes_say : HashFunction → Text → (FoundCosigner → Outcome) → Text → Outcome
-cosigner_bytes_say h journal says bytes = with_form cosigner_open_text journal
+cosigner_bytes_say h journal says bytes = with_form state_open_text journal
     (cosigner_read h bytes) says
 
 -- The same over the file of its name, which may not be there.

@@ -12,6 +12,8 @@ ghost use Rattle.mtc_io.specs.declared.source.ReadError.TheVariants.{Memory as R
 use crate::bytes::Bytes;
 use crate::fault::{Failed, Memory};
 use std::alloc::Global;
+use std::error::Error;
+use std::fmt;
 
 /// Something that gives bytes, one after the other, and may fail.
 pub trait Source {
@@ -39,6 +41,23 @@ pub enum ReadError {
     /// Memory was refused.
     Memory,
 }
+
+impl fmt::Display for ReadError {
+    ghost use Rattle.std.specs.Prelude.{Some};
+    ghost use Rattle.mtc_io.specs.Reasons.{read_fault_text};
+
+    ghost output = { λ why. Some (read_fault_text why) };
+
+    fn fmt<W: fmt::Write>(&self, f: &mut fmt::Formatter<W>) -> fmt::Result {
+        match self {
+            ReadError::Failed => f.write_str("Failed"),
+            ReadError::TooLong => f.write_str("TooLong"),
+            ReadError::Memory => f.write_str("Memory"),
+        }
+    }
+}
+
+impl Error for ReadError {}
 
 impl From<Failed> for ReadError {
     ghost from_gives = { λ _ e. e ≡ ReadFailed };

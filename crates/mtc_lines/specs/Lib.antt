@@ -1,2 +1,1 @@
 pub mod CheckpointLines
-pub mod Reasons

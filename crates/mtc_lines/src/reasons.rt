@@ -2,7 +2,8 @@
 
 ghost use Rattle.std.specs.Prelude.{◌≡◌};
 ghost use Rattle.mtc_command.specs.Answers.{reason_text};
-ghost use Rattle.mtc_lines.specs.Reasons.{export_fault_text, form_fault_text, items_fault_text};
+ghost use Rattle.cosigner_core.specs.Reasons.{export_fault_text, form_fault_text};
+ghost use Rattle.entry_list.specs.Reasons.{items_fault_text};
 
 use cosigner_core::{FormError, ReadExportError};
 use entry_list::ItemsError;

@@ -24,9 +24,10 @@ use Rattle.world_core.specs.Audit.{seconds_of}
 use Rattle.mtc_command.specs.Steps.{Outcome, Files, says, with_bytes, with_form}
 use Rattle.mtc_command.specs.Wanted.{pair_of}
 use Rattle.mtc_command.specs.declared.answer.Said.TheVariants.{Done, Against, Collided}
-use Rattle.mtc_reads.specs.Reasons.{store_fault_text}
+use Rattle.cosigner_core.specs.Reasons.{export_fault_text}
+use Rattle.entry_list.specs.Reasons.{items_fault_text}
+use Rattle.policy_core.specs.Reasons.{store_fault_text}
 use Rattle.mtc_reads.specs.VerifyOutcome.{verdict_says}
-use Rattle.mtc_lines.specs.Reasons.{export_fault_text, items_fault_text}
 
 -- ---- what is audited
 

@@ -1,6 +1,5 @@
 pub mod AuditOutcome
 pub mod QuarrelOutcome
-pub mod Reasons
 pub mod TrustOutcome
 pub mod Views
 pub mod Within

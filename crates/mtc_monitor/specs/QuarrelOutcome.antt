@@ -12,7 +12,7 @@ use Rattle.quarrel_core.specs.Conflicts.{quarrel_of}
 use Rattle.mtc_command.specs.Steps.{Outcome, Files, says, with_bytes, with_form}
 use Rattle.mtc_command.specs.Wanted.{pair_of}
 use Rattle.mtc_command.specs.declared.answer.Said.TheVariants.{Collided, Done}
-use Rattle.mtc_lines.specs.Reasons.{export_fault_text}
+use Rattle.cosigner_core.specs.Reasons.{export_fault_text}
 
 -- ---- what it prints
 

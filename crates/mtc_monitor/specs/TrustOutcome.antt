@@ -14,8 +14,8 @@ use Rattle.tree_core.specs.declared.spans.Cover.{Cover}
 use Rattle.tree_core.specs.declared.spans.Span.{Span}
 use Rattle.mtc_command.specs.declared.answer.Said.TheVariants.{Done}
 use Rattle.mtc_command.specs.Steps.{Outcome, Files, says, with_bytes, with_form}
-use Rattle.mtc_lines.specs.Reasons.{items_fault_text}
-use Rattle.mtc_monitor.specs.Reasons.{list_fault_text}
+use Rattle.entry_list.specs.Reasons.{items_fault_text}
+use Rattle.landmarks.specs.Reasons.{list_fault_text}
 
 -- ---- what is trusted, where the log has these entries
 

@@ -2,7 +2,7 @@
 
 ghost use Rattle.std.specs.Prelude.{◌≡◌};
 ghost use Rattle.mtc_command.specs.Answers.{reason_text};
-ghost use Rattle.mtc_monitor.specs.Reasons.{list_fault_text};
+ghost use Rattle.landmarks.specs.Reasons.{list_fault_text};
 
 use landmarks::ListError;
 use mtc_command::Reason;

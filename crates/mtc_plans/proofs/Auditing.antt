@@ -18,8 +18,9 @@ use Rattle.mtc_monitor.specs.AuditOutcome.{audit_accepted_says, audit_by, audit_
 use Rattle.mtc_monitor.specs.AuditOutcome.{audit_store_says, case_of}
 use Rattle.mtc_monitor.specs.QuarrelOutcome.{quarrel_by, quarrel_kept, quarrel_outcome}
 use Rattle.mtc_monitor.specs.QuarrelOutcome.{quarrel_says}
-use Rattle.mtc_lines.specs.Reasons.{export_fault_text, items_fault_text}
-use Rattle.mtc_reads.specs.Reasons.{store_fault_text}
+use Rattle.cosigner_core.specs.Reasons.{export_fault_text}
+use Rattle.entry_list.specs.Reasons.{items_fault_text}
+use Rattle.policy_core.specs.Reasons.{store_fault_text}
 use Rattle.command_plans.specs.Kinds.{Kinds}
 use Rattle.command_plans.specs.Outcomes.{outcome_of, step_outcome}
 use Rattle.command_plans.specs.Plans.{Input, Read}

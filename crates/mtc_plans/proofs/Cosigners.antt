@@ -13,10 +13,11 @@ use Rattle.mtc_command.specs.Steps.{Files, Outcome, starts, with_file, with_form
 use Rattle.mtc_cosigner.specs.CosignerOutcomes.{advance_says, advanced_text, cosign_says}
 use Rattle.mtc_cosigner.specs.CosignerOutcomes.{cosigned_text, export_says}
 use Rattle.mtc_cosigner.specs.CosignerOutcomes.{stepped}
-use Rattle.mtc_lines.specs.Reasons.{form_fault_text}
+use Rattle.cosigner_core.specs.Reasons.{form_fault_text}
+use Rattle.state_journal.specs.Reasons.{state_open_text}
 use Rattle.mtc_cosigner.specs.InitOutcome.{cosigner_settings_of, init_cosigner_outcome}
 use Rattle.mtc_cosigner.specs.KeygenOutcome.{public_line}
-use Rattle.mtc_cosigner.specs.Works.{advance_outcome, cosign_outcome, cosigner_open_text}
+use Rattle.mtc_cosigner.specs.Works.{advance_outcome, cosign_outcome}
 use Rattle.mtc_cosigner.specs.Works.{cosigner_outcome, export_outcome}
 use Rattle.command_plans.specs.Outcomes.{outcome_of, step_outcome}
 use Rattle.command_plans.specs.Plans.{Input, makes}
@@ -58,7 +59,7 @@ module _ (h : HashFunction) where
         ≡ step_outcome {inputs = inputs} (opens_cosigner h journal)
         (reported_step h journal reported) files
     opened_same journal says reported same = λ i. with_file journal (files journal) (λ bytes.
-        with_form cosigner_open_text journal (cosigner_read h bytes) (λ found. same found i))
+        with_form state_open_text journal (cosigner_read h bytes) (λ found. same found i))
 
 module _ (h : HashFunction) (files : Files) where
   pub export_plans : (journal : List ℕ)

@@ -25,11 +25,12 @@ use Rattle.mtc_command.specs.declared.answer.Said.{Said}
 use Rattle.mtc_command.specs.declared.answer.Said.TheVariants.{Done}
 use Rattle.mtc_command.specs.declared.answer.Stopped.{Stopped}
 use Rattle.mtc_command.specs.declared.answer.Stopped.TheVariants.{Beyond, NotAllowed}
-use Rattle.mtc_authority.specs.IssueOutcome.{issued_text, log_fault_text, request_fault_text}
+use Rattle.authority_core.specs.Reasons.{request_fault_text}
+use Rattle.cosigner_core.specs.Reasons.{step_fault_text, form_fault_text}
+use Rattle.issuance_log.specs.Reasons.{log_fault_text}
+use Rattle.mtc_authority.specs.IssueOutcome.{issued_text}
 use Rattle.mtc_authority.specs.declared.work.Work.TheVariants.{Issue}
 use Rattle.mtc_cosigner.specs.CosignerOutcomes.{advanced_text, cosigned_text}
-use Rattle.mtc_cosigner.specs.CosignerOutcomes.{step_fault_text}
-use Rattle.mtc_lines.specs.Reasons.{form_fault_text}
 use Rattle.mtc_cosigner.specs.InitOutcome.{cosigner_settings_of}
 use Rattle.mtc_cosigner.specs.KeygenOutcome.{lms_type, ots_type, public_line}
 use Rattle.command_plans.specs.Kinds.{Kinds}

@@ -7,11 +7,13 @@ use Rattle.mtc_command.specs.Answers.{tiles_name}
 use Rattle.mtc_command.specs.Steps.{Files, Outcome, held_in, with_file, with_form}
 use Rattle.mtc_authority.specs.BadTiles.{first_bad}
 use Rattle.mtc_authority.specs.CertCommand.{cert_outcome}
-use Rattle.mtc_authority.specs.CertOutcome.{signatures_fault_text, signatures_in}
+use Rattle.authority_core.specs.Reasons.{request_fault_text}
+use Rattle.issuance_log.specs.Reasons.{log_open_text}
+use Rattle.mtc_proof.specs.Reasons.{proof_fault_text}
+use Rattle.mtc_authority.specs.CertOutcome.{signatures_in}
 use Rattle.mtc_authority.specs.IssueCommand.{issue_outcome}
-use Rattle.mtc_authority.specs.IssueOutcome.{request_fault_text}
 use Rattle.mtc_authority.specs.LogOutcomes.{init_log_outcome}
-use Rattle.mtc_authority.specs.Works.{log_open_text, log_outcome, log_says, tested_says}
+use Rattle.mtc_authority.specs.Works.{log_outcome, log_says, tested_says}
 use Rattle.mtc_authority.specs.Works.{unless_missing}
 use Rattle.mtc_authority.specs.declared.work.Work.{Work}
 use Rattle.mtc_authority.specs.declared.work.Work.TheVariants.{Cert, Issue}
@@ -78,6 +80,6 @@ module _ (h : HashFunction) (files : Files) where
       let one = small_file file in
       let on = opens_log h only_reads journal in
       bytes_same 16777216 file (files file) _ _
-      (λ b. form_same on files (first_read one [] b) signatures_fault_text (signatures_in b) _ _
+      (λ b. form_same on files (first_read one [] b) proof_fault_text (signatures_in b) _ _
       (λ signatures. opened_same h files (one ∷ []) only_reads journal
       (Cert index start end signatures)))

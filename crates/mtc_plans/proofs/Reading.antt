@@ -16,12 +16,14 @@ use Rattle.mtc_command.specs.Steps.{Files, Outcome, stops_at}
 use Rattle.mtc_command.specs.declared.answer.Stopped.TheVariants.{BadForm}
 use Rattle.mtc_cosigner.specs.KeygenOutcome.{keygen_outcome, keygen_says, with_secret}
 use Rattle.mtc_drill.specs.Summary.{drill_outcome}
-use Rattle.mtc_lines.specs.Reasons.{items_fault_text}
-use Rattle.mtc_monitor.specs.Reasons.{list_fault_text}
+use Rattle.der_core.specs.Reasons.{cert_fault_text}
+use Rattle.entry_list.specs.Reasons.{items_fault_text}
+use Rattle.landmarks.specs.Reasons.{list_fault_text}
+use Rattle.policy_core.specs.Reasons.{store_fault_text}
+use Rattle.tls_wire.specs.Reasons.{hashes_fault_text}
 use Rattle.mtc_monitor.specs.TrustOutcome.{trust_outcome, trust_says}
 use Rattle.mtc_reads.specs.Member.{member_file, member_judgement}
 use Rattle.mtc_reads.specs.MemberOutcome.{judgement_says, member_outcome, member_says}
-use Rattle.mtc_reads.specs.Reasons.{cert_fault_text, hashes_fault_text, store_fault_text}
 use Rattle.mtc_reads.specs.ShowOutcome.{show_outcome, show_says}
 use Rattle.mtc_reads.specs.VerifyOutcome.{verdict_says, verify_outcome, verify_says}
 use Rattle.command_plans.specs.Kinds.{Kinds}

@@ -9,11 +9,12 @@ use Rattle.monitor_core.specs.Reading.{state_in, watch_in}
 use Rattle.monitor_core.specs.Report.{Findings}
 use Rattle.monitor_core.specs.declared.error.MonitorError.{MonitorError}
 use Rattle.mtc_command.specs.Steps.{Files}
-use Rattle.mtc_lines.specs.Reasons.{export_fault_text, form_fault_text, items_fault_text}
+use Rattle.cosigner_core.specs.Reasons.{export_fault_text, form_fault_text}
+use Rattle.entry_list.specs.Reasons.{items_fault_text}
+use Rattle.monitor_core.specs.Reasons.{text_fault_text}
 use Rattle.mtc_watch.specs.HeldOutcome.{held_outcome, held_says}
 use Rattle.mtc_watch.specs.MonitorOutcome.{kept_says, monitor_init_outcome, monitor_outcome}
 use Rattle.mtc_watch.specs.MonitorOutcome.{run_says}
-use Rattle.mtc_watch.specs.Reasons.{text_fault_text}
 use Rattle.mtc_watch.specs.RootOutcome.{root_outcome, root_says}
 use Rattle.command_plans.specs.Kinds.{Kinds}
 use Rattle.command_plans.specs.Outcomes.{outcome_of, step_outcome}

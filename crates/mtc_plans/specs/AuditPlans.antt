@@ -18,8 +18,9 @@ use Rattle.mtc_command.specs.declared.answer.Said.TheVariants.{Against, Collided
 use Rattle.mtc_monitor.specs.AuditOutcome.{AcceptedParts, accepted_in, case_of, collision_text}
 use Rattle.mtc_monitor.specs.AuditOutcome.{foreign_text, stands_text, unrecorded_text}
 use Rattle.mtc_monitor.specs.QuarrelOutcome.{agree_text, quarrel_text}
-use Rattle.mtc_lines.specs.Reasons.{export_fault_text, items_fault_text}
-use Rattle.mtc_reads.specs.Reasons.{store_fault_text}
+use Rattle.cosigner_core.specs.Reasons.{export_fault_text}
+use Rattle.entry_list.specs.Reasons.{items_fault_text}
+use Rattle.policy_core.specs.Reasons.{store_fault_text}
 use Rattle.command_plans.specs.Kinds.{Kinds}
 use Rattle.command_plans.specs.Plans.{Input, Judged, Plan, Read, Step, in_form, only_prints}
 use Rattle.command_plans.specs.Plans.{prints, prints_pair}

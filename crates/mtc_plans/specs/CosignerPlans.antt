@@ -13,8 +13,7 @@ use Rattle.cosigner_core.specs.declared.error.CosignError.TheVariants.{Append}
 use Rattle.cosigner_core.specs.declared.settings.CosignerSettings.{CosignerSettings}
 use Rattle.mtc_command.specs.declared.answer.Said.TheVariants.{Done}
 use Rattle.mtc_cosigner.specs.CosignerOutcomes.{advanced_text, cosigned_text}
-use Rattle.mtc_lines.specs.Reasons.{form_fault_text}
-use Rattle.mtc_cosigner.specs.CosignerOutcomes.{step_fault_text}
+use Rattle.cosigner_core.specs.Reasons.{form_fault_text, step_fault_text}
 use Rattle.mtc_cosigner.specs.InitOutcome.{cosigner_settings_of}
 use Rattle.mtc_cosigner.specs.KeygenOutcome.{public_line}
 use Rattle.command_plans.specs.Plans.{Input, Journal, Judged, Plan, Read, Step, exceeds, forbids}

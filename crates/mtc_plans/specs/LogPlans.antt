@@ -4,8 +4,9 @@ use Rattle.byte_formats.specs.Types.{HashFunction, Text}
 use Rattle.authority_core.specs.Files.{request_of}
 use Rattle.issuance_log.specs.Records.{settings_record}
 use Rattle.mtc_command.specs.declared.answer.Said.TheVariants.{Done}
-use Rattle.mtc_authority.specs.CertOutcome.{signatures_fault_text, signatures_in}
-use Rattle.mtc_authority.specs.IssueOutcome.{request_fault_text}
+use Rattle.authority_core.specs.Reasons.{request_fault_text}
+use Rattle.mtc_proof.specs.Reasons.{proof_fault_text}
+use Rattle.mtc_authority.specs.CertOutcome.{signatures_in}
 use Rattle.mtc_authority.specs.LogOutcomes.{log_line, log_settings_of}
 use Rattle.mtc_authority.specs.declared.work.Work.{Work}
 use Rattle.mtc_authority.specs.declared.work.Work.TheVariants.{Cert, Issue}
@@ -63,7 +64,7 @@ module _ (h : HashFunction) where
   abbrev pub cert_step : {inputs : List Input} (journal : Text) → ℕ → ℕ → ℕ → Read inputs
       → Step inputs (opens_log only_reads journal)
   cert_step journal index start end file =
-      in_form file signatures_fault_text (signatures_in file.text)
+      in_form file proof_fault_text (signatures_in file.text)
       (λ signatures. work_step only_reads journal (Cert index start end signatures))
 
   abbrev pub cert_plan : Text → ℕ → ℕ → ℕ → Text → Plan (party_kinds h)

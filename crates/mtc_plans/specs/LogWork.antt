@@ -21,7 +21,8 @@ use Rattle.tree_core.specs.Subtree.{is_subtree}
 use Rattle.tree_core.specs.Tree.{tree_hash}
 use Rattle.mtc_command.specs.declared.answer.Said.TheVariants.{Done}
 use Rattle.mtc_authority.specs.CertOutcome.{certificate_in, light_text}
-use Rattle.mtc_authority.specs.IssueOutcome.{issued_text, log_fault_text}
+use Rattle.issuance_log.specs.Reasons.{log_fault_text}
+use Rattle.mtc_authority.specs.IssueOutcome.{issued_text}
 use Rattle.mtc_authority.specs.LandmarkOutcomes.{log_landmarks, next_line}
 use Rattle.mtc_authority.specs.LogOutcomes.{items_of}
 use Rattle.mtc_lines.specs.CheckpointLines.{checkpoint_lines}

@@ -9,8 +9,8 @@ use Rattle.issuance_log.specs.Folds.{LogState, log_fold}
 use Rattle.issuance_log.specs.declared.error.LogOpenError.{LogOpenError}
 use Rattle.mtc_command.specs.Answers.{bad_tile_text, tiles_name}
 use Rattle.mtc_authority.specs.BadTiles.{first_bad}
-use Rattle.mtc_authority.specs.Works.{log_open_text}
-use Rattle.mtc_cosigner.specs.Works.{cosigner_open_text}
+use Rattle.issuance_log.specs.Reasons.{log_open_text}
+use Rattle.state_journal.specs.Reasons.{state_open_text}
 use Rattle.command_plans.specs.Kinds.{Kinds}
 
 -- A journal is a log's or a cosigner's.
@@ -36,7 +36,7 @@ party_fold h cosigner = cosigner_fold h
 -- The text of a fault, as a command prints it.
 abbrev pub party_fault_text : (kind : PartyKind) → PartyFault kind → Text
 party_fault_text log = log_open_text
-party_fault_text cosigner = cosigner_open_text
+party_fault_text cosigner = state_open_text
 
 -- A log has a file of tiles.
 abbrev pub beside_party : PartyKind → Text → Option Text

@@ -16,12 +16,15 @@ use Rattle.tree_core.specs.declared.error.EvalError.{EvalError}
 use Rattle.mtc_command.specs.declared.answer.Said.TheVariants.{Done}
 use Rattle.mtc_cosigner.specs.KeygenOutcome.{lms_type, ots_type, public_line}
 use Rattle.mtc_drill.specs.Summary.{is_summary}
-use Rattle.mtc_lines.specs.Reasons.{items_fault_text}
-use Rattle.mtc_monitor.specs.Reasons.{list_fault_text}
+use Rattle.der_core.specs.Reasons.{cert_fault_text}
+use Rattle.entry_list.specs.Reasons.{items_fault_text}
+use Rattle.landmarks.specs.Reasons.{list_fault_text}
+use Rattle.mtc_proof.specs.Reasons.{proof_fault_text}
+use Rattle.policy_core.specs.Reasons.{refusal_text, store_fault_text}
+use Rattle.tls_wire.specs.Reasons.{hashes_fault_text}
+use Rattle.tree_core.specs.Reasons.{shape_text}
 use Rattle.mtc_monitor.specs.TrustOutcome.{trust_text}
 use Rattle.mtc_reads.specs.Member.{member_file, member_judgement}
-use Rattle.mtc_reads.specs.Reasons.{cert_fault_text, hashes_fault_text, proof_fault_text}
-use Rattle.mtc_reads.specs.Reasons.{refusal_text, shape_text, store_fault_text}
 use Rattle.mtc_reads.specs.ShowOutcome.{show_text}
 use Rattle.command_plans.specs.Kinds.{Kinds}
 use Rattle.command_plans.specs.Plans.{Input, Judged, Plan, Read, Step, in_form, misreads}

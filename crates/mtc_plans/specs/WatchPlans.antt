@@ -12,9 +12,11 @@ use Rattle.monitor_core.specs.States.{MonitorState, empty_state}
 use Rattle.monitor_core.specs.Written.{found_text, state_text}
 use Rattle.monitor_core.specs.declared.error.MonitorError.{MonitorError}
 use Rattle.mtc_command.specs.declared.answer.Said.TheVariants.{Done}
-use Rattle.mtc_lines.specs.Reasons.{export_fault_text, form_fault_text, items_fault_text}
+use Rattle.cosigner_core.specs.Reasons.{export_fault_text, form_fault_text}
+use Rattle.entry_list.specs.Reasons.{items_fault_text}
+use Rattle.monitor_core.specs.Reasons.{text_fault_text}
 use Rattle.mtc_watch.specs.HeldOutcome.{held_text}
-use Rattle.mtc_watch.specs.Reasons.{run_fault_text, text_fault_text}
+use Rattle.mtc_watch.specs.Reasons.{run_fault_text}
 use Rattle.mtc_watch.specs.RootOutcome.{root_text}
 use Rattle.command_plans.specs.Kinds.{Kinds}
 use Rattle.command_plans.specs.Plans.{Input, Judged, Plan, Read, Step, forbids, in_form}

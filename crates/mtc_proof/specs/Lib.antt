@@ -1,4 +1,5 @@
 pub mod Inputs
 pub mod Proofs
 pub mod Reading
+pub mod Reasons
 pub mod Views

@@ -1,5 +1,7 @@
 //! What can be wrong with a proof.
 
+use std::error::Error;
+use std::fmt;
 use tls_wire::{HashesError, Short};
 
 /// Why bytes aren't a proof, or a list of signatures. They are read from the left, the signatures
@@ -16,6 +18,24 @@ pub enum ProofError {
     /// The signature that begins at this offset has a cosigner's id of no bytes.
     EmptyId(usize),
 }
+
+impl fmt::Display for ProofError {
+    ghost use Rattle.std.specs.Prelude.{Some};
+    ghost use Rattle.mtc_proof.specs.Reasons.{proof_fault_text};
+
+    ghost output = { λ why. Some (proof_fault_text why) };
+
+    fn fmt<W: fmt::Write>(&self, f: &mut fmt::Formatter<W>) -> fmt::Result {
+        match self {
+            ProofError::Short(offset) => write!(f, "Short {offset}"),
+            ProofError::HashLength => f.write_str("HashLength"),
+            ProofError::Trailing => f.write_str("Trailing"),
+            ProofError::EmptyId(offset) => write!(f, "EmptyId {offset}"),
+        }
+    }
+}
+
+impl Error for ProofError {}
 
 impl From<Short> for ProofError {
     ghost use Rattle.std.specs.Prelude.{◌≡◌};

@@ -6,7 +6,9 @@ use Rattle.tree_core.specs.declared.error.EvalError.{EvalError}
 use Rattle.mtc_command.specs.declared.answer.Said.TheVariants.{Done}
 use Rattle.mtc_command.specs.Steps.{Outcome, Files, says, with_bytes, with_form}
 use Rattle.mtc_reads.specs.Member.{member_file, member_judgement}
-use Rattle.mtc_reads.specs.Reasons.{hashes_fault_text, shape_text, judged_against}
+use Rattle.tls_wire.specs.Reasons.{hashes_fault_text}
+use Rattle.tree_core.specs.Reasons.{shape_text}
+use Rattle.mtc_reads.specs.Reasons.{judged_against}
 
 -- What is reported of a judgement on the entry of this index.
 abbrev pub judgement_says : ℕ → Result Bool EvalError → Outcome

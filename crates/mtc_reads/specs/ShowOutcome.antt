@@ -17,7 +17,7 @@ use Rattle.cert_fields.specs.Certificate.{Parts, parts_of}
 use Rattle.cert_fields.specs.Extensions.{dns_names_in}
 use Rattle.cert_names.specs.LogNames.{log_in}
 use Rattle.mtc_command.specs.declared.answer.Said.TheVariants.{Done}
-use Rattle.mtc_reads.specs.Reasons.{cert_fault_text}
+use Rattle.der_core.specs.Reasons.{cert_fault_text}
 use Rattle.mtc_command.specs.Steps.{Outcome, Files, says, with_bytes, with_form}
 
 -- The log id that an issuer name holds, or `other`.

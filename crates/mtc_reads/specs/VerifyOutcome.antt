@@ -10,8 +10,10 @@ use Rattle.policy_core.specs.Judgement.{judgement}
 use Rattle.mtc_command.specs.declared.answer.Said.TheVariants.{Done}
 use Rattle.mtc_command.specs.declared.answer.Stopped.TheVariants.{BadForm}
 use Rattle.mtc_command.specs.Steps.{Outcome, Files, says, stops_at, with_bytes, with_form}
-use Rattle.mtc_reads.specs.Reasons.{cert_fault_text, proof_fault_text, store_fault_text}
-use Rattle.mtc_reads.specs.Reasons.{refusal_text, judged_against}
+use Rattle.der_core.specs.Reasons.{cert_fault_text}
+use Rattle.mtc_proof.specs.Reasons.{proof_fault_text}
+use Rattle.policy_core.specs.Reasons.{store_fault_text, refusal_text}
+use Rattle.mtc_reads.specs.Reasons.{judged_against}
 
 -- What is reported of a judgement. Bytes that are no certificate or no proof are faults of the
 -- file.

@@ -2,9 +2,11 @@
 
 ghost use Rattle.std.specs.Prelude.{◌≡◌};
 ghost use Rattle.mtc_command.specs.Answers.{reason_text};
-ghost use Rattle.mtc_reads.specs.Reasons.{der_fault_text, cert_fault_text, hashes_fault_text};
-ghost use Rattle.mtc_reads.specs.Reasons.{proof_fault_text, key_text, store_fault_text, shape_text};
-ghost use Rattle.mtc_reads.specs.Reasons.{refusal_text};
+ghost use Rattle.der_core.specs.Reasons.{der_fault_text, cert_fault_text};
+ghost use Rattle.mtc_proof.specs.Reasons.{proof_fault_text};
+ghost use Rattle.policy_core.specs.Reasons.{key_text, store_fault_text, refusal_text};
+ghost use Rattle.tls_wire.specs.Reasons.{hashes_fault_text};
+ghost use Rattle.tree_core.specs.Reasons.{shape_text};
 
 use der_core::{CertError, DerError};
 use mtc_command::Reason;

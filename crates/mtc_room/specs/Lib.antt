@@ -2,3 +2,4 @@ pub mod Memory
 pub mod Room
 pub mod MemoryLaws
 pub mod Opened
+pub mod Reasons

@@ -25,7 +25,7 @@ use Rattle.mtc_command.proofs.Inputs.{bytes_read}
 use Rattle.mtc_command.proofs.Made.{OnlyNow, ReadsCrashState}
 use Rattle.mtc_monitor.specs.QuarrelOutcome.{quarrel_by, quarrel_kept, quarrel_outcome}
 use Rattle.mtc_monitor.specs.QuarrelOutcome.{quarrel_says}
-use Rattle.mtc_lines.specs.Reasons.{export_fault_text}
+use Rattle.cosigner_core.specs.Reasons.{export_fault_text}
 use Rattle.mtc_top.specs.AuditLaws.{HoldsText}
 use Rattle.mtc_top.specs.Concluded.{Prints}
 use Rattle.mtc_top.specs.Facts.{facts}

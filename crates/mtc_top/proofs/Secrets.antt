@@ -29,7 +29,7 @@ use Rattle.mtc_plans.specs.PartyKinds.{cosigner, log, party_kinds}
 use Rattle.mtc_plans.proofs.Heard.{advanced_so, begun_so, exported_so, keyed_so}
 use Rattle.mtc_top.specs.Facts.{facts}
 use Rattle.mtc_top.specs.PrintLaws.{OnlyCosignSigns, Says}
-use Rattle.mtc_top.specs.WordsOutcome.{word_fault_text}
+use Rattle.mtc_words.specs.Reasons.{word_fault_text}
 use Rattle.mtc_top.proofs.Printed.{did_so, heard_so, signatures_printed}
 use Rattle.mtc_top.proofs.HeardRuns.{file_bytes, heard_run, held_rules, not_refused, printed_so}
 use Rattle.mtc_top.specs.Executions.{program, Run}

@@ -6,7 +6,7 @@ use Rattle.mtc_words.specs.Commands.{CommandValue}
 use Rattle.mtc_command.specs.Steps.{Files, Outcome, stops}
 use Rattle.mtc_command.specs.declared.answer.Stopped.TheVariants.{BadWords}
 use Rattle.mtc_plans.specs.Cited.{command_outcome}
-use Rattle.mtc_top.specs.WordsOutcome.{word_fault_text}
+use Rattle.mtc_words.specs.Reasons.{word_fault_text}
 
 -- That of the command; arguments that are no command are refused.
 abbrev pub spoken_outcome : HashFunction → Result CommandValue WordError → Files → Outcome

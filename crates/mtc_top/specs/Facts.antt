@@ -10,7 +10,7 @@ use Rattle.command_plans.specs.Names.{only_read_names}
 use Rattle.command_plans.specs.Rules.{AreOfFirst}
 use Rattle.mtc_plans.specs.Commands.{plan_of, planned_outcome}
 use Rattle.mtc_plans.specs.PartyKinds.{party_kinds}
-use Rattle.mtc_top.specs.WordsOutcome.{word_fault_text}
+use Rattle.mtc_words.specs.Reasons.{word_fault_text}
 
 -- What is to be known of a command: the journals that it works on, the files that it may make or
 -- change beside them, those of these that it only reads, the journal that it makes, the files that

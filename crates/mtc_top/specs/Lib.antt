@@ -13,4 +13,3 @@ pub mod QuarrelLaws
 pub mod PrintLaws
 pub mod StatusLaws
 pub mod TileLaws
-pub mod WordsOutcome

@@ -2,7 +2,7 @@
 
 ghost use Rattle.std.specs.Prelude.{◌≡◌};
 ghost use Rattle.mtc_command.specs.Answers.{reason_text};
-ghost use Rattle.mtc_top.specs.WordsOutcome.{word_fault_text};
+ghost use Rattle.mtc_words.specs.Reasons.{word_fault_text};
 
 use mtc_command::Reason;
 use mtc_words::WordError;

@@ -17,7 +17,7 @@ use Rattle.tls_wire.specs.Anchors.{text_of}
 use Rattle.mtc_command.specs.declared.answer.Said.TheVariants.{Done}
 use Rattle.mtc_command.specs.Steps.{Outcome, Files, says, with_bytes, with_form}
 use Rattle.mtc_lines.specs.CheckpointLines.{checkpoint_lines}
-use Rattle.mtc_lines.specs.Reasons.{export_fault_text}
+use Rattle.cosigner_core.specs.Reasons.{export_fault_text}
 
 -- Its id, that of its log, and its public key in base64.
 abbrev pub party_lines : Export → Text

@@ -5,13 +5,6 @@ use Rattle.byte_formats.specs.Types.{Text}
 use Rattle.hex.specs.Hex.{encode_lower}
 use Rattle.monitor_core.specs.declared.error.MonitorError.{MonitorError}
 use Rattle.monitor_core.specs.declared.error.MonitorError.TheVariants as run_error
-use Rattle.monitor_core.specs.declared.error.TextError.{TextError}
-use Rattle.monitor_core.specs.declared.error.TextError.TheVariants as text_error
-
--- Why a file has no state, or no domains.
-abbrev pub text_fault_text : TextError → Text
-text_fault_text (text_error.BadLine number) = codes "BadLine " ++ decimal number
-text_fault_text text_error.Memory = codes "Memory"
 
 -- Why a run is refused.
 abbrev pub run_fault_text : MonitorError → Text

@@ -7,7 +7,7 @@ use Rattle.tree_core.specs.Tree.{tree_hash}
 use Rattle.mtc_command.specs.declared.answer.Said.TheVariants.{Done}
 use Rattle.mtc_command.specs.Steps.{Outcome, Files, says, with_bytes, with_form}
 use Rattle.mtc_lines.specs.CheckpointLines.{checkpoint_lines}
-use Rattle.mtc_lines.specs.Reasons.{items_fault_text}
+use Rattle.entry_list.specs.Reasons.{items_fault_text}
 
 -- What is printed of a list of items.
 abbrev pub root_text : HashFunction → ItemLists → Text

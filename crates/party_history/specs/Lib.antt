@@ -4,3 +4,4 @@ pub mod Rules
 pub mod Laws
 pub mod Journals
 pub mod Results
+pub mod Reasons

@@ -6,3 +6,4 @@ pub mod Files
 pub mod Counting
 pub mod Judgement
 pub mod Acceptance
+pub mod Reasons

@@ -2,6 +2,8 @@
 
 use mtc_io::Memory;
 use std::alloc::AllocFailed;
+use std::error::Error;
+use std::fmt;
 
 /// The fields of a store file, and its tables.
 #[derive(Clone, Copy, Debug, PartialEq, Eq)]
@@ -24,6 +26,27 @@ pub enum Key {
     Hash,
     /// A value that isn't a table, or not a list of tables, where one has to be.
     Table,
+}
+
+impl fmt::Display for Key {
+    ghost use Rattle.std.specs.Prelude.{Some};
+    ghost use Rattle.policy_core.specs.Reasons.{key_text};
+
+    ghost output = { λ key. Some (key_text key) };
+
+    fn fmt<W: fmt::Write>(&self, f: &mut fmt::Formatter<W>) -> fmt::Result {
+        match self {
+            Key::LogId => f.write_str("LogId"),
+            Key::CosignerId => f.write_str("CosignerId"),
+            Key::CosignerKey => f.write_str("CosignerKey"),
+            Key::Count => f.write_str("Count"),
+            Key::Cosigners => f.write_str("Cosigners"),
+            Key::Start => f.write_str("Start"),
+            Key::End => f.write_str("End"),
+            Key::Hash => f.write_str("Hash"),
+            Key::Table => f.write_str("Table"),
+        }
+    }
 }
 
 /// Why a text is no store file. The tests are made in this order: the text, the keys of the root,
@@ -50,6 +73,28 @@ pub enum StoreError {
     /// Memory was refused.
     Memory,
 }
+
+impl fmt::Display for StoreError {
+    ghost use Rattle.std.specs.Prelude.{Some};
+    ghost use Rattle.policy_core.specs.Reasons.{store_fault_text};
+
+    ghost output = { λ why. Some (store_fault_text why) };
+
+    fn fmt<W: fmt::Write>(&self, f: &mut fmt::Formatter<W>) -> fmt::Result {
+        match self {
+            StoreError::NotToml => f.write_str("NotToml"),
+            StoreError::UnknownKey => f.write_str("UnknownKey"),
+            StoreError::Missing(key) => write!(f, "Missing {key}"),
+            StoreError::BadValue(key) => write!(f, "BadValue {key}"),
+            StoreError::RepeatedId => f.write_str("RepeatedId"),
+            StoreError::RepeatedSubtree => f.write_str("RepeatedSubtree"),
+            StoreError::BadRange => f.write_str("BadRange"),
+            StoreError::Memory => f.write_str("Memory"),
+        }
+    }
+}
+
+impl Error for StoreError {}
 
 impl From<Memory> for StoreError {
     ghost use Rattle.std.specs.Prelude.{◌≡◌};

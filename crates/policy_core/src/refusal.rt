@@ -2,6 +2,8 @@
 
 use der_core::CertError;
 use mtc_proof::ProofError;
+use std::error::Error;
+use std::fmt;
 use tree_core::EvalError;
 
 /// Why a certificate isn't accepted. The tests are made in this order.
@@ -31,6 +33,31 @@ pub enum Refusal {
     /// there is no rule, and the number is 0.
     TooFewCosigners(u64),
 }
+
+impl fmt::Display for Refusal {
+    ghost use Rattle.std.specs.Prelude.{Some};
+    ghost use Rattle.policy_core.specs.Reasons.{refusal_text};
+
+    ghost output = { λ why. Some (refusal_text why) };
+
+    fn fmt<W: fmt::Write>(&self, f: &mut fmt::Formatter<W>) -> fmt::Result {
+        match self {
+            Refusal::Grammar(why) => why.fmt(f),
+            Refusal::Algorithm => f.write_str("Algorithm"),
+            Refusal::UnknownLog => f.write_str("UnknownLog"),
+            Refusal::NotYet => f.write_str("NotYet"),
+            Refusal::Expired => f.write_str("Expired"),
+            Refusal::UnknownCritical => f.write_str("UnknownCritical"),
+            Refusal::Revoked => f.write_str("Revoked"),
+            Refusal::ProofGrammar(why) => why.fmt(f),
+            Refusal::ProofShape(why) => write!(f, "ProofShape {why}"),
+            Refusal::LandmarkDiffers => f.write_str("LandmarkDiffers"),
+            Refusal::TooFewCosigners(rule) => write!(f, "TooFewCosigners {rule}"),
+        }
+    }
+}
+
+impl Error for Refusal {}
 
 impl From<CertError> for Refusal {
     ghost use Rattle.std.specs.Prelude.{◌≡◌};

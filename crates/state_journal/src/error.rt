@@ -1,6 +1,8 @@
 //! What is refused of records, and of a journal that is opened.
 
 use journal_core::OpenError;
+use std::error::Error;
+use std::fmt;
 
 /// Why a record is not taken.
 #[derive(Clone, Copy, Debug, PartialEq, Eq)]
@@ -22,6 +24,26 @@ pub enum StateOpenError {
     /// The file is not read as a journal. The disk may have failed, or memory was refused.
     Open(OpenError),
 }
+
+impl fmt::Display for StateOpenError {
+    ghost use Rattle.std.specs.Prelude.{Some};
+    ghost use Rattle.state_journal.specs.Reasons.{state_open_text};
+
+    ghost output = { λ why. Some (state_open_text why) };
+
+    fn fmt<W: fmt::Write>(&self, f: &mut fmt::Formatter<W>) -> fmt::Result {
+        match self {
+            StateOpenError::BadRecord(number) => write!(f, "BadRecord {number}"),
+            StateOpenError::Open(OpenError::NotJournal) => f.write_str("NotJournal"),
+            StateOpenError::Open(OpenError::BadLength(offset)) => write!(f, "BadLength {offset}"),
+            StateOpenError::Open(OpenError::CutShort(offset)) => write!(f, "CutShort {offset}"),
+            StateOpenError::Open(OpenError::Failed) => f.write_str("Failed"),
+            StateOpenError::Open(OpenError::Memory) => f.write_str("Memory"),
+        }
+    }
+}
+
+impl Error for StateOpenError {}
 
 /// A machine that isn't begun returns what there is of its seed.
 #[derive(Debug, Drop)]

@@ -8,3 +8,4 @@ pub mod Writing
 pub mod Comparing
 pub mod Causes
 pub mod Laws
+pub mod Reasons

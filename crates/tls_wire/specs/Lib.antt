@@ -4,3 +4,4 @@ pub mod Arcs
 pub mod Anchors
 pub mod Decimal
 pub mod Lines
+pub mod Reasons

@@ -7,6 +7,8 @@ ghost use Rattle.byte_formats.specs.Readings.{Reads};
 ghost use Rattle.tls_wire.specs.Reading.{bytes_at, ahead_at, number_at, vector_at, inner_at};
 ghost use Rattle.tls_wire.specs.Reading.{hashes_at};
 
+use std::error::Error;
+use std::fmt;
 use std::marker::Model;
 
 /// A form that doesn't fit what is left of the input.
@@ -16,6 +18,19 @@ pub struct Short {
     pub place: usize,
 }
 
+impl fmt::Display for Short {
+    ghost use Rattle.std.specs.Prelude.{Some};
+    ghost use Rattle.tls_wire.specs.Reasons.{short_text};
+
+    ghost output = { λ short. Some (short_text short) };
+
+    fn fmt<W: fmt::Write>(&self, f: &mut fmt::Formatter<W>) -> fmt::Result {
+        write!(f, "Short {}", self.place)
+    }
+}
+
+impl Error for Short {}
+
 /// Why hashes aren't read. The tests are made in this order.
 #[derive(Clone, Copy, Debug, PartialEq, Eq)]
 pub enum HashesError {
@@ -24,6 +39,22 @@ pub enum HashesError {
     /// The vector's length is no multiple of 32.
     HashLength,
 }
+
+impl fmt::Display for HashesError {
+    ghost use Rattle.std.specs.Prelude.{Some};
+    ghost use Rattle.tls_wire.specs.Reasons.{hashes_fault_text};
+
+    ghost output = { λ why. Some (hashes_fault_text why) };
+
+    fn fmt<W: fmt::Write>(&self, f: &mut fmt::Formatter<W>) -> fmt::Result {
+        match self {
+            HashesError::Short(short) => short.fmt(f),
+            HashesError::HashLength => f.write_str("HashLength"),
+        }
+    }
+}
+
+impl Error for HashesError {}
 
 impl From<Short> for HashesError {
     ghost use Rattle.tls_wire.specs.declared.cursor.HashesError.TheVariants.{Short as NotFitting};

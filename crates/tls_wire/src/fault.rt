@@ -1,6 +1,8 @@
 //! What can be wrong with an anchor id.
 
 use mtc_io::Memory;
+use std::error::Error;
+use std::fmt;
 
 /// Why a text isn't an anchor id. The characters are read from the left, and the first fault is
 /// answered; `TooLong` is tested last.
@@ -21,6 +23,26 @@ pub enum AnchorError {
     Memory,
 }
 
+impl fmt::Display for AnchorError {
+    ghost use Rattle.std.specs.Prelude.{Some};
+    ghost use Rattle.tls_wire.specs.Reasons.{anchor_fault_text};
+
+    ghost output = { λ why. Some (anchor_fault_text why) };
+
+    fn fmt<W: fmt::Write>(&self, f: &mut fmt::Formatter<W>) -> fmt::Result {
+        match self {
+            AnchorError::Empty => f.write_str("Empty"),
+            AnchorError::NotDecimal(offset) => write!(f, "NotDecimal {offset}"),
+            AnchorError::LeadingZero(offset) => write!(f, "LeadingZero {offset}"),
+            AnchorError::TooLong => f.write_str("TooLong"),
+            AnchorError::ArcTooLarge(offset) => write!(f, "ArcTooLarge {offset}"),
+            AnchorError::Memory => f.write_str("Memory"),
+        }
+    }
+}
+
+impl Error for AnchorError {}
+
 /// Why bytes aren't an anchor id: `Empty` and `TooLong` are tested first, then the arcs are read
 /// from the left and the first fault is answered.
 #[derive(Clone, Copy, Debug, PartialEq, Eq)]
@@ -38,6 +60,26 @@ pub enum AnchorBytesError {
     /// Memory was refused.
     Memory,
 }
+
+impl fmt::Display for AnchorBytesError {
+    ghost use Rattle.std.specs.Prelude.{Some};
+    ghost use Rattle.tls_wire.specs.Reasons.{anchor_bytes_fault_text};
+
+    ghost output = { λ why. Some (anchor_bytes_fault_text why) };
+
+    fn fmt<W: fmt::Write>(&self, f: &mut fmt::Formatter<W>) -> fmt::Result {
+        match self {
+            AnchorBytesError::Empty => f.write_str("Empty"),
+            AnchorBytesError::Padding(offset) => write!(f, "Padding {offset}"),
+            AnchorBytesError::Unfinished => f.write_str("Unfinished"),
+            AnchorBytesError::TooLong => f.write_str("TooLong"),
+            AnchorBytesError::ArcTooLarge(offset) => write!(f, "ArcTooLarge {offset}"),
+            AnchorBytesError::Memory => f.write_str("Memory"),
+        }
+    }
+}
+
+impl Error for AnchorBytesError {}
 
 impl From<Memory> for AnchorError {
     ghost use Rattle.std.specs.Prelude.{◌≡◌};

@@ -1,3 +1,4 @@
 pub mod Tree
 pub mod Fields
 pub mod Codes
+pub mod Reasons

@@ -5,6 +5,8 @@ ghost use Rattle.toml.specs.View.{table_view};
 ghost use Rattle.toml_fields.specs.Tree.{tree_of};
 
 use std::alloc::Global;
+use std::error::Error;
+use std::fmt;
 use toml::Table;
 
 /// Why a text has no tree.
@@ -15,6 +17,22 @@ pub enum TreeError {
     /// Memory was refused.
     Memory,
 }
+
+impl fmt::Display for TreeError {
+    ghost use Rattle.std.specs.Prelude.{Some};
+    ghost use Rattle.toml_fields.specs.Reasons.{tree_fault_text};
+
+    ghost output = { λ why. Some (tree_fault_text why) };
+
+    fn fmt<W: fmt::Write>(&self, f: &mut fmt::Formatter<W>) -> fmt::Result {
+        match self {
+            TreeError::NotToml => f.write_str("NotToml"),
+            TreeError::Memory => f.write_str("Memory"),
+        }
+    }
+}
+
+impl Error for TreeError {}
 
 /// The tree of a text. `NotToml` comes only where it has none.
 #[tactic(auto, unfolding(crate::specs::Tree::tree_of))]

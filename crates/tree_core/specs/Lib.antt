@@ -7,3 +7,4 @@ pub mod Laws
 pub mod Path
 pub mod PathLaws
 pub mod Cover
+pub mod Reasons

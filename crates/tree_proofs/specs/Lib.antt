@@ -7,3 +7,4 @@ pub mod Listed
 pub mod ProofLaws
 pub mod Full
 pub mod Halves
+pub mod Reasons

@@ -6,6 +6,8 @@ ghost use Rattle.authority_core.specs.declared.issuing.error.IssueError.TheVaria
 
 use issuance_log::LogError;
 use mtc_io::Memory;
+use std::error::Error;
+use std::fmt;
 
 /// Why a request is not issued.
 #[derive(Clone, Copy, Debug, PartialEq, Eq)]
@@ -13,6 +15,21 @@ pub enum IssueError {
     /// The log refuses the entry, or memory was refused before.
     Log(LogError),
 }
+
+impl fmt::Display for IssueError {
+    ghost use Rattle.std.specs.Prelude.{Some};
+    ghost use Rattle.authority_core.specs.Reasons.{issue_fault_text};
+
+    ghost output = { λ why. Some (issue_fault_text why) };
+
+    fn fmt<W: fmt::Write>(&self, f: &mut fmt::Formatter<W>) -> fmt::Result {
+        match self {
+            IssueError::Log(why) => why.fmt(f),
+        }
+    }
+}
+
+impl Error for IssueError {}
 
 impl From<LogError> for IssueError {
     ghost from_gives = { λ why e. e ≡ OfLog why };

@@ -1,6 +1,8 @@
 //! Why a text is no request file.
 
 use mtc_io::Memory;
+use std::error::Error;
+use std::fmt;
 
 /// The fields of a request file.
 #[derive(Clone, Copy, Debug, PartialEq, Eq)]
@@ -15,6 +17,23 @@ pub enum Field {
     CommonName,
     /// `key`
     PublicKey,
+}
+
+impl fmt::Display for Field {
+    ghost use Rattle.std.specs.Prelude.{Some};
+    ghost use Rattle.authority_core.specs.Reasons.{field_text};
+
+    ghost output = { λ field. Some (field_text field) };
+
+    fn fmt<W: fmt::Write>(&self, f: &mut fmt::Formatter<W>) -> fmt::Result {
+        match self {
+            Field::NotBefore => f.write_str("NotBefore"),
+            Field::NotAfter => f.write_str("NotAfter"),
+            Field::Dns => f.write_str("Dns"),
+            Field::CommonName => f.write_str("CommonName"),
+            Field::PublicKey => f.write_str("PublicKey"),
+        }
+    }
 }
 
 /// Why a text is no request file. The tests are made in this order, and those of the fields field
@@ -36,6 +55,27 @@ pub enum RequestError {
     /// Memory was refused.
     Memory,
 }
+
+impl fmt::Display for RequestError {
+    ghost use Rattle.std.specs.Prelude.{Some};
+    ghost use Rattle.authority_core.specs.Reasons.{request_fault_text};
+
+    ghost output = { λ why. Some (request_fault_text why) };
+
+    fn fmt<W: fmt::Write>(&self, f: &mut fmt::Formatter<W>) -> fmt::Result {
+        match self {
+            RequestError::NotToml => f.write_str("NotToml"),
+            RequestError::UnknownKey => f.write_str("UnknownKey"),
+            RequestError::Missing(field) => write!(f, "Missing {field}"),
+            RequestError::BadValue(field) => write!(f, "BadValue {field}"),
+            RequestError::DatesReversed => f.write_str("DatesReversed"),
+            RequestError::NoNames => f.write_str("NoNames"),
+            RequestError::Memory => f.write_str("Memory"),
+        }
+    }
+}
+
+impl Error for RequestError {}
 
 impl From<Memory> for RequestError {
     ghost use Rattle.std.specs.Prelude.{◌≡◌};

@@ -4,6 +4,8 @@ ghost use Rattle.std.specs.Prelude.{◌≡◌};
 ghost use Rattle.authority_core.specs.declared.writing.error.WriteError.TheVariants.{Memory as WriteMemory};
 
 use mtc_io::Memory;
+use std::error::Error;
+use std::fmt;
 
 /// Why no certificate is written, in the order of the tests. [`cert`](crate::cert) never answers
 /// `NotCovered`, and [`light_cert`](crate::light_cert) never `BadSubtree` to `Beyond` or
@@ -31,6 +33,30 @@ pub enum WriteError {
     /// Memory was refused.
     Memory,
 }
+
+impl fmt::Display for WriteError {
+    ghost use Rattle.std.specs.Prelude.{Some};
+    ghost use Rattle.authority_core.specs.Reasons.{write_fault_text};
+
+    ghost output = { λ why. Some (write_fault_text why) };
+
+    fn fmt<W: fmt::Write>(&self, f: &mut fmt::Formatter<W>) -> fmt::Result {
+        match self {
+            WriteError::NoSuchEntry => f.write_str("NoSuchEntry"),
+            WriteError::NullEntry => f.write_str("NullEntry"),
+            WriteError::BadSubtree => f.write_str("BadSubtree"),
+            WriteError::Outside => f.write_str("Outside"),
+            WriteError::Beyond(size) => write!(f, "Beyond {size}"),
+            WriteError::NotCovered => f.write_str("NotCovered"),
+            WriteError::TooManySignatures => f.write_str("TooManySignatures"),
+            WriteError::JournalFailed => f.write_str("Failed"),
+            WriteError::TilesFailed => f.write_str("Failed"),
+            WriteError::Memory => f.write_str("Memory"),
+        }
+    }
+}
+
+impl Error for WriteError {}
 
 impl From<Memory> for WriteError {
     ghost from_gives = { λ _ e. e ≡ WriteMemory };

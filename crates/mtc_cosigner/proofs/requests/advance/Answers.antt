@@ -9,7 +9,7 @@ use Rattle.mtc_command.specs.Steps.{with_form}
 use Rattle.mtc_command.proofs.Served.{following}
 use Rattle.mtc_command.proofs.Valid.{after_valid, kept_valid}
 use Rattle.mtc_cosigner.specs.CosignerOutcomes.{advance_says}
-use Rattle.mtc_lines.specs.Reasons.{form_fault_text}
+use Rattle.cosigner_core.specs.Reasons.{form_fault_text}
 use Rattle.mtc_cosigner.specs.Works.{IsCosigner, advance_outcome, cosigner_outcome}
 use Rattle.mtc_cosigner.specs.Works.{cosigner_says}
 use Rattle.mtc_cosigner.specs.declared.work.Work.TheVariants.{Advance}

@@ -1,4 +1,4 @@
--- The reasons why lists of landmarks are refused.
+-- Why lists of landmarks are refused, in words.
 use Rattle.std.specs.Prelude.{◌++◌, codes}
 use Rattle.std.specs.Fmt.{decimal}
 use Rattle.byte_formats.specs.Types.{Text}
