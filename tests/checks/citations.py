@@ -201,14 +201,30 @@ def check_commands():
 NEVER = {"Broken"}
 
 
+def reasons():
+    """The words of refusals by the definition that gives them: all definitions of the files Reasons.antt."""
+    return {one.name: texts_of(name)[one.name] for name, crate in CRATES.items() for one in crate.definitions
+            if one.path.name == "Reasons.antt"}
+
+
+def printed_texts():
+    """The texts that the program prints: those of its own crates, and of the reasons that these name, also through others."""
+    texts = [file.text for name, crate in CRATES.items() if name.startswith("mtc_") and name != "mtc_c" for file in crate.files]
+    texts += [path.read_text() for name, crate in CRATES.items() if name.startswith("mtc_") and name != "mtc_c"
+              for path in (crate.folder / "specs").rglob("*.antt") if path.name != "Reasons.antt"]
+    found, more = reasons(), texts
+    while more:
+        words = set(WORD.findall(" ".join(more)))
+        more = [found.pop(name) for name in list(found) if name in words]
+        texts = texts + more
+    return texts
+
+
 def printed_names():
     """The names of refusals and failures in the texts that contracts and definitions write."""
     found = {"NotUtf8"}  # printed by `main`, of which no clause speaks
-    for name, crate in CRATES.items():
-        if name.startswith("mtc_"):
-            texts = [path.read_text() for path in (crate.folder / "specs").rglob("*.antt")]
-            for text in texts + [file.text for file in crate.files]:
-                found |= set(re.findall(r'codes "(?:mtc: |refused )?([A-Z]\w+)', text))
+    for text in printed_texts():
+        found |= set(re.findall(r'codes "(?:mtc: |refused )?([A-Z]\w+)', text))
     return found - NEVER
 
 
