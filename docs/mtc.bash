@@ -3,7 +3,7 @@
 _mtc() {
     local word=${COMP_WORDS[COMP_CWORD]} kinds=()
     if [ "$COMP_CWORD" -eq 1 ]; then
-        COMPREPLY=($(compgen -W 'member show verify init-log issue checkpoint entries consist subtree keygen init-cosigner advance cosign export landmark landmarks light-cert tile trust-landmarks cert audit quarrel drill root held monitor-init monitor' -- "$word"))
+        COMPREPLY=($(compgen -W 'member show verify init-log issue checkpoint entries entries-from consist subtree keygen init-cosigner advance cosign export landmark landmarks light-cert tile trust-landmarks cert audit quarrel drill root held monitor-init monitor' -- "$word"))
         return
     fi
     case ${COMP_WORDS[1]} in
@@ -14,6 +14,7 @@ _mtc() {
         issue) kinds=(J REQUEST) ;;
         checkpoint) kinds=(J) ;;
         entries) kinds=(J SIZE) ;;
+        entries-from) kinds=(J FIRST SIZE) ;;
         consist) kinds=(J OLD NEW) ;;
         subtree) kinds=(J START END SIZE) ;;
         keygen) kinds=(HEIGHT WIDTH SECRET) ;;
