@@ -65,7 +65,9 @@ part_printed_again h s first count sound le =
 pub printed_again : (h : HashFunction) (s : LogState) (count : ℕ) → IsSound h s
     → count ≤ length s.entries
     → items_in h (file_text (items_of s) count) ≡ Ok (first_items count (items_of s))
-printed_again h s count sound le = part_printed_again h s 0 count sound le
+printed_again h s count sound le =
+    let within : 0 + count ≤ length s.entries = omega arith in
+    part_printed_again h s 0 count sound within
 
 -- an item after the bytes
 pub item_after : (contents : Option LogState) (index : ℕ) (entry key out mid new : Text)

@@ -45,8 +45,8 @@ returns-then-size-first g c =
     (not_allowed (codes "NothingNew")) (λ e. absurd cc) c.law_sound.ensures.view
     (λ s shows. no_items s c.args.first c.args.size c.if-size-first.true))
 
-pub returns-then-size-size : goal.returns-then-size-size
-returns-then-size-size g c =
+pub returns-then-size : goal.returns-then-size
+returns-then-size g c =
     let log = c.args.log.now in
     let first = c.args.first in
     let size = c.args.size in
@@ -56,8 +56,8 @@ returns-then-size-size g c =
     (shown_so c.args.journal.now wanted log log
     (stays_alone log (g.met.D.Disk.only_now (log_disk log))
     (g.met.D.Disk.only_now (log_tiles_disk log)))
-    (beyond c.size-then-size-size.result) (λ e. absurd cc) c.law_sound.ensures.view
-    (λ s shows. too_few s (view_of log) first size _ c.size-then-size-size.ensures.value
+    (beyond c.size-then-size.result) (λ e. absurd cc) c.law_sound.ensures.view
+    (λ s shows. too_few s (view_of log) first size _ c.size-then-size.ensures.value
     (omega arith) (omega arith) shows))
 
 pub returns : goal.returns
