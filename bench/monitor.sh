@@ -1,0 +1,71 @@
+#!/bin/bash
+# Runs a monitor that watches 1,000 domains, from the state of no entries: over logs of 1,024 up to 1,048,576 entries, over lists
+# of the shortest items, four bytes each, of which each is reported as unread, and over lists of entries with as many of the
+# shortest names as they can have, each of which is compared with each domain. It prints seconds of the processor, the least of
+# five runs, and the most memory held. Needs python3 and GNU time. Not part of the gate.
+# Usage: bench/monitor.sh [--write] [MOST]   with --write the figures go into bench/monitor/figures.txt. Logs of more than MOST
+# entries are left out, and lists of more than 64 times MOST bytes
+# The variable PROGRAM names another program than that of ./mtc.
+set -eu
+root=$(cd "$(dirname "$0")/.." && pwd)
+work=$(mktemp -d)
+trap 'rm -rf "$work"' EXIT
+# shellcheck source=bench/program.sh
+. "$root/bench/program.sh"
+
+write=
+if [ "${1-}" = --write ]; then
+    write=1
+    shift
+fi
+most=${1:-16777216}
+[ -n "${PROGRAM-}" ] || "$root/mtc" member "$root/examples/first.member" >/dev/null || exit 70
+program=${PROGRAM:-$root/crates/mtc_main/out/mtc_main}
+cd "$work"
+"$program" monitor-init 32473.1 >state
+for n in $(seq 1000); do echo "d$n.example.org"; done >watch
+
+# Prints a row, and keeps it: what was measured, of what, and the command.
+row() {
+    local what=$1 of=$2
+    shift 2
+    least_of_five 0 "$@" >least
+    printf '%s|%s|%s\n' "$what" "$of" "$(cat least)" | tee -a figures
+}
+
+# The request to hold all entries of a file, with the root that the program computes.
+request_of() {
+    "$program" root "$1" | python3 -c '
+import sys
+size, root = (line.split()[1] for line in sys.stdin)
+sys.stdout.buffer.write(bytes.fromhex("0481fd5901") + int(size).to_bytes(8, "big") + bytes.fromhex(root) + bytes(2))'
+}
+
+# Backquotes are meant as such: the page has them.
+# shellcheck disable=SC2016
+{ watched='`monitor` of 1,000 domains'; shortest='`monitor`, the shortest items'; names='`monitor` of 1,000 domains, the shortest names'; }
+for count in 1024 10000 100000 1048576; do
+    [ "$count" -le "$most" ] || continue
+    python3 "$root/bench/log/make_journal.py" "$count" journal
+    "$program" consist journal 0 "$count" >request
+    "$program" entries-from journal 0 "$count" >entries
+    row "$watched" "$count entries" "$program" monitor state watch request entries
+    [ "$(wc -l <found)" = 1 ] || { echo "wrong: $count entries: $(head -n 1 found)"; exit 1; }
+done
+for size in 1048576 16777216 67108864; do
+    [ "$size" -le $((most * 64)) ] || continue
+    head -c "$size" /dev/zero >entries
+    request_of entries >request
+    row "$shortest" "$size bytes" "$program" monitor state watch request entries
+    [ "$(wc -l <found)" = $((size / 4 + 1)) ] || { echo "wrong: $size bytes: $(wc -l <found) lines"; exit 1; }
+done
+for size in 1048576 16777216; do
+    [ "$size" -le $((most * 64)) ] || continue
+    python3 "$root/bench/monitor/make_names.py" "$size" entries
+    request_of entries >request
+    row "$names" "$(stat -c %s entries) bytes" "$program" monitor state watch request entries
+    [ "$(wc -l <found)" = 1 ] || { echo "wrong: $size bytes of names: $(head -n 1 found)"; exit 1; }
+done
+if [ -n "$write" ]; then
+    keep_figures monitor "WORK|OF|SECONDS|MEMORY" <figures
+fi
