@@ -12,8 +12,9 @@ import sys
 from pathlib import Path
 
 sys.path.insert(0, str(Path(__file__).resolve().parents[2] / "tests"))
-from cosigned_log import COSIGNERS, FIRST, CosignedLog, path_of  # noqa: E402
+from cosigned_log import COSIGNERS, FIRST, CosignedLog  # noqa: E402
 from cosignatures import tree_hash  # noqa: E402
+from full_cosigner import advance, hashed, levels_of, sign, write_journal  # noqa: E402
 
 SIZE, INDEX = 1024, 1000
 IDS = [bytes.fromhex(f"81fd590{number}") for number in (2, 3, 4)]
@@ -47,26 +48,6 @@ def judge_blocks(log, keys):
     return verified + blocks(91) + blocks(1 + len(log.entries[INDEX])) + 10 * blocks(65)
 
 
-def full_journal(path, log):
-    """The journal of the first cosigner where each one-time key has signed."""
-    with open(path, "wb") as journal:
-        def record(body):
-            journal.write(b"\1" + struct.pack(">I", len(body)) + body)
-
-        def hashes(items):
-            return struct.pack(">H", 32 * len(items)) + b"".join(items)
-
-        journal.write(b"mtc-journal/v1\n\0")
-        secret = hashlib.sha384(COSIGNERS[0].encode()).digest()
-        record(b"\x11\4" + IDS[0] + b"\4" + LOG_ID + struct.pack(">II", 6, 3) + secret)
-        record(b"\x12" + struct.pack(">Q", SIZE) + tree_hash(log.entries) + hashes([]))
-        for index, entry in enumerate(log.entries):
-            prefix = b"\x13" + struct.pack(">IQQ", index, index, index + 1)
-            record(prefix + tree_hash([entry]) + hashes(path_of(index, log.entries)))
-        journal.write(b"\0")
-    path.chmod(0o600)  # the program opens no cosigner's journal that others may read
-
-
 def main():
     program, folder = Path(sys.argv[1]).resolve(), Path(sys.argv[2])
     log = CosignedLog(program, SIZE)
@@ -78,7 +59,9 @@ def main():
     secret = hashlib.sha384(COSIGNERS[0].encode()).digest()
     for name, text in (("c", cert), ("store", store), ("secret", secret)):
         (folder / name).write_bytes(text)
-    full_journal(folder / "full", log)
+    levels = levels_of([hashed(b"\0", entry) for entry in log.entries])
+    signs = [sign(levels, number, number) for number in range(SIZE)]
+    write_journal(folder / "full", secret, [advance(levels), *signs])
     shutil.rmtree(log.path)
 
 
