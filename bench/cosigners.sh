@@ -1,8 +1,8 @@
 #!/bin/bash
-# How long commands take over a log of 1,024 entries and three cosigners with keys of height 10 and width 4,
-# and the most memory that they hold: `verify` of a certificate with three signatures, `advance` and `cosign`
-# of a new cosigner, opening a cosigner whose one-time keys have all signed, so that `cosign` is refused, and its
-# export. And how long three of the four syncs of `advance` or `cosign` take by themselves, in a folder of the same disk.
+# How long commands take over a log of 1,024 entries and three cosigners with keys of height 10 and width 4, and the most memory
+# that they hold: `verify` of a certificate with three signatures, `advance` and `cosign` of a new cosigner, opening a cosigner
+# whose one-time keys have all signed, so that `cosign` is refused, and its export; and `advance` of a new cosigner with keys of
+# width 4 and 8. And how long three of the four syncs of `advance` or `cosign` take by themselves, in a folder of the same disk.
 # Needs python3 and GNU time. Not part of the gate.
 # Usage: bench/cosigners.sh [--write]   with --write the figures go into bench/cosigners/figures.txt
 # The variable PROGRAM names another program than that of ./mtc.

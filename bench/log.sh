@@ -1,6 +1,7 @@
 #!/bin/bash
-# Opens logs of up to 1,048,576 entries, the most that a log may have, without tiles and with them, and prints seconds and the
-# most memory held: for the tree hash, and for the certificate of one entry in the whole tree. Of the opening alone it prints
+# Opens logs of up to 1,048,576 entries, the most that a log may have, without tiles, with tiles that were stored at once, and
+# with tiles that were stored as the log grew, and prints seconds and the most memory held: for the tree hash, and for the
+# certificate of one entry in the whole tree. Of the opening alone it prints
 # the processor time, the least of five runs; beside it the time in which openssl reads and hashes the journal's bytes once,
 # how much `issue` takes beside an opening, and how often the journal is read, where strace is there. The journals are made by
 # a script of its own, since adding an entry by `issue` opens the log again each time. Needs python3 and GNU time. Not part of
@@ -28,7 +29,7 @@ reads() {
 
 # Runs the program with some words, and prints the seconds by the clock and the bytes that it held at most.
 measured() {
-    (cd "$folder" && /usr/bin/time -f '%e %M' "$root/mtc" "$@" 2>"$folder/time" >"$folder/out") || return
+    (cd "$folder" && /usr/bin/time -f '%e %M' "$program" "$@" 2>"$folder/time" >"$folder/out") || return
     awk '{ print $1, $2 * 1024 }' "$folder/time"
 }
 
@@ -39,13 +40,13 @@ keep() {
     printf "%s|%d entries|%s|%s\n" "$1" "$2" "$seconds" "${4:+$((($4 + 500000) / 1000000)) MB}" >>"$folder/figures"
 }
 
-# The row of a log as it is now, with or without tiles.
+# The row of a log as it is now.
 row() {
     local how=$1 opened
     IFS='|' read -r opening opened <<<"$(least "$program" landmarks journal)"
     read -r certificate_seconds certificate_held < <(measured cert journal 777 0 "$count" none) || exit 1
     read -r seconds held < <(measured checkpoint journal) || exit 1
-    printf '%7d  %-7s  %10d  %8s  %10d  %5s  %20s  %10d  %18s  %10d  %s\n' "$count" "${how:-none}" \
+    printf '%7d  %-17s  %10d  %8s  %10d  %5s  %20s  %10d  %18s  %10d  %s\n' "$count" "${how:-none}" \
         "$(stat -c %s "$folder/journal")" "$opening" "$opened" "$(reads)" "$certificate_seconds" "$certificate_held" \
         "$seconds" "$held" "$(grep root "$folder/out" | cut -c6-21)"
     keep "opening a log$how, processor time" "$count" "$opening" "$opened"
@@ -53,11 +54,17 @@ row() {
     keep "opening a log$how and making a certificate" "$count" "$certificate_seconds" "$certificate_held"
 }
 
-"$root/mtc" member "$root/examples/first.member" >/dev/null || exit 70
-program=$root/crates/mtc_main/out/mtc_main
+write=
+if [ "${1-}" = --write ]; then
+    write=1
+    shift
+fi
+[ $# -gt 0 ] || set -- 1000 10000 100000 1000000 1048576
+[ -n "${PROGRAM-}" ] || "$root/mtc" member "$root/examples/first.member" >/dev/null || exit 70
+program=${PROGRAM:-$root/crates/mtc_main/out/mtc_main}
 : >"$folder/none"
-echo "entries  tiles    file bytes   opening  held bytes  reads  certificate: seconds  held bytes  tree hash: seconds  held bytes  root"
-for count in 1000 10000 100000 1000000 1048576; do
+echo "entries  tiles              file bytes   opening  held bytes  reads  certificate: seconds  held bytes  tree hash: seconds  held bytes  root"
+for count; do
     rm -f "$folder"/journal*
     python3 "$root/bench/log/make_journal.py" "$count" "$folder/journal"
     row ""
@@ -74,7 +81,10 @@ for count in 1000 10000 100000 1000000 1048576; do
         echo "         issue takes $issuing seconds of processor time, and an opening $opening with tiles, $without without"
         keep "\`issue\` on a log with tiles, processor time" "$count" "$issuing" ""
     fi
+    # The file of the tiles is the same, whenever they were stored.
+    python3 "$root/bench/log/make_journal.py" "$count" "$folder/journal" 256
+    row " tiled as it grew"
 done
-if [ "${1-}" = --write ]; then
+if [ -n "$write" ]; then
     keep_figures log "WORK|OF|SECONDS|MEMORY" <"$folder/figures"
 fi
