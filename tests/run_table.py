@@ -15,8 +15,8 @@ from multiprocessing import Pool
 from hostile import rows, single_bytes
 from reference import commands, tables
 
-# Each file of which the bytes are set here. A request to advance isn't: at each run a key is made.
-SET = ("certificate", "store", "export", "entries")
+# Each file of which the bytes are set here.
+SET = ("certificate", "store", "export", "entries", "request")
 
 
 def file_words(files, failing, reported):
