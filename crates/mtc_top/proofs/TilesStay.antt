@@ -130,7 +130,7 @@ module _ {R S D O E : Type 0} (h : HashFunction) (rooms : Rooms R S D) (disks : 
   left_crash_state : (x : Option D) (c : Text) → states_at disks x c → IsBytes c
   left_crash_state None c is = subst IsBytes (sym is) (λ i. omega arith)
   left_crash_state (Some d) c at =
-      left d (disks.unix_time d) c (counts d (disks.unix_time d) c (omega arith) at)
+      left d (disks.clock_at d) c (counts d (disks.clock_at d) c (omega arith) at)
 
   pub tiles_stay : TilesSurviveStops h (program h rooms disks outs errs)
   tiles_stay name first old new [] is_modelled holds execution c t log at there read = absurd holds
