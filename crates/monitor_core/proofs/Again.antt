@@ -165,6 +165,11 @@ module _ (s : MonitorState) (kept : IsKept s) where
   no_report : after_report_line (first_line (state_text s)) ≡ None
   no_report = rw (line_is, word_is) refl
 
+-- it is one line
+pub state_line : (s : MonitorState) → IsKept s
+    → (words : Text) × Lacks 0x0A words × (state_text s ≡ words ++ (0x0A ∷ []))
+state_line s kept = (body s, body_lacks s kept, grouped s)
+
 -- ---- the lines of a report
 
 spaced : (prefix back more : Text)

@@ -24,7 +24,7 @@ with_one done domain (Ok xs) = ap Ok (sym (append_assoc done (domain ∷ []) xs)
 with_one done domain (Err e) = refl
 
 -- the text has more than nothing
-opened : (left n : ℕ) (text : Text) → (length text == 0) ≡ false
+pub opened : (left n : ℕ) (text : Text) → (length text == 0) ≡ false
     → domain_lines (suc left) n text
     ≡ (domain_line n text >>= λ cut.
     domain_lines left (n + 1) cut.1 >>= λ more. Ok (cut.0 ∷ more))

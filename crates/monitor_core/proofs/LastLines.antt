@@ -1,9 +1,8 @@
 -- Two monitors whose texts end with one line.
-use Rattle.std.proofs.Common.{◌≡◌, ℕ, zero, suc, ◌<◌, ◌≤◌, ◌^◌, List, [], ◌∷◌, ◌++◌, length, take}
-use Rattle.std.proofs.Common.{drop, refl, sym, ap, ◌∙◌, subst, arith}
+use Rattle.std.proofs.Common.{◌≡◌, ℕ, zero, suc, ◌<◌, ◌^◌, List, [], ◌∷◌, ◌++◌, length, take}
+use Rattle.std.proofs.Common.{drop, sym, ap, ◌∙◌, subst, arith}
 use Rattle.std.specs.Prelude.{map, count_ones}
 use Rattle.std.specs.List.{AllByRecursion, flat_map}
-use Rattle.std.proofs.lemmas.List.{length-map}
 use Rattle.byte_formats.specs.Types.{Hash, HashFunction, Text}
 use Rattle.collide.specs.Laws.{ListsExtract}
 use Rattle.tls_wire.specs.Arcs.{IsAnchorId}
@@ -12,7 +11,7 @@ use Rattle.tree_core.specs.Tree.{leaf_hash, root_of}
 use Rattle.tree_core.proofs.Roots.{root_of-none, root_of-one, root_of-split}
 use Rattle.tree_peaks.specs.Peaks.{peaks_of, peaks_within, top_of}
 use Rattle.tree_peaks.proofs.Tops.{count-peaks}
-use Rattle.monitor_core.proofs.Exact.{MonitorIsExact_always, state-size}
+use Rattle.monitor_core.proofs.Exact.{state-size}
 use Rattle.monitor_core.proofs.ReadBack.{one_state}
 use Rattle.monitor_core.proofs.Runs.{EachEntryOnce_always, last_log, monitors_saw_one}
 use Rattle.monitor_core.specs.Chains.{AreRuns, GivesHashes, LastLinesAreOfOneList, MonitorRun}
@@ -66,7 +65,7 @@ module _ (h : HashFunction) (gives : GivesHashes h) where
   leaves_are (entry ∷ entries) = (gives (0 ∷ entry), leaves_are entries)
 
   -- the state of a list can stand in a text
-  kept_of : (entries : List Text) (state : MonitorState) → IsStateOf h entries state
+  pub kept_of : (entries : List Text) (state : MonitorState) → IsStateOf h entries state
       → IsAnchorId state.log → length entries < 2 ^ 63 → IsKept state
   kept_of entries state are id few =
       let leaves : List Hash = map (leaf_hash h) entries in

@@ -11,3 +11,7 @@ pub mod Again
 pub mod ReadBack
 pub mod LastLines
 pub mod Sofar
+pub mod WatchFiles
+pub mod ShaHashes
+pub mod LastLine
+pub mod NextState

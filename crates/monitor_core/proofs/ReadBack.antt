@@ -25,12 +25,15 @@ use Rattle.tls_wire.proofs.AnchorForm.{text_takes}
 use Rattle.tls_wire.proofs.Cuts.{cut_parts}
 use Rattle.tls_wire.proofs.Decimals.{number_is_decimal}
 use Rattle.monitor_core.proofs.Again.{found_again, grouped, last_again}
+use Rattle.monitor_core.proofs.NextState.{next_read}
 use Rattle.monitor_core.specs.Reading.{begins_report, after_report, after_report_line, last_line}
 use Rattle.monitor_core.specs.Reading.{line_with, lower_hash_in, lower_only, peak_in, peaks_in}
 use Rattle.monitor_core.specs.Reading.{skipped, state_in, state_words, word_end}
+use Rattle.monitor_core.specs.Report.{Findings}
 use Rattle.monitor_core.specs.States.{IsHash, IsKept, MonitorState}
-use Rattle.monitor_core.specs.TextLaws.{AreWholeLines, StatesAreReadAsWritten}
-use Rattle.monitor_core.specs.Written.{peak_text, state_text}
+use Rattle.monitor_core.specs.TextLaws.{AreWholeLines, IsIndexed, IsNextState}
+use Rattle.monitor_core.specs.TextLaws.{StatesAreReadAsWritten}
+use Rattle.monitor_core.specs.Written.{found_text, peak_text, state_text}
 use Rattle.monitor_core.specs.declared.error.TextError.{TextError}
 use Rattle.monitor_core.specs.declared.error.TextError.TheVariants.{BadLine}
 
@@ -281,6 +284,11 @@ one_state first second kept other same =
     ok_is TextError first second (sym (last_again first kept 0) ∙ ap (last_line 0) same
     ∙ last_again second other 0)
 
+next_again : (found : Findings) (text : Text) → IsKept found.state
+    → AllByRecursion IsIndexed found.lines → IsNextState (found_text found) text
+    → state_in text ≡ Ok found.state
+next_again found text kept small is = next_read found (found_text found) text kept small refl is
+
 pub StatesAreReadAsWritten_always : StatesAreReadAsWritten
 StatesAreReadAsWritten_always =
-    record { again = found_again; read = state_read; one = one_state }
+    record { again = found_again; next = next_again; read = state_read; one = one_state }

@@ -1,10 +1,11 @@
 //! Laws of monitors: the clauses are the laws, and the functions do nothing.
 
 ghost use Rattle.byte_formats.specs.Types.{HashFunction};
-ghost use Rattle.monitor_core.specs.Chains.{EachEntryOnce, LastLinesAreOfOneList};
+ghost use Rattle.sha2.specs.Sha256.{sha256};
+ghost use Rattle.monitor_core.specs.Chains.{EachEntryOnce, GivesHashes, LastLinesAreOfOneList};
 ghost use Rattle.monitor_core.specs.Chains.{MonitorsSawOneList, StatesAreOfOneList};
 ghost use Rattle.monitor_core.specs.Laws.{MonitorIsExact};
-ghost use Rattle.monitor_core.specs.TextLaws.{StatesAreReadAsWritten};
+ghost use Rattle.monitor_core.specs.TextLaws.{StatesAreReadAsWritten, WatchesAreReadAsWritten};
 
 use collide::laws::law_lists_extract;
 use tree_core::TreeHash;
@@ -31,7 +32,8 @@ pub fn law_each_entry_is_reported_once()
 /// strings with one hash. So two monitors that both began at the state without entries, and whose
 /// last states are one, saw one list, whatever they watch and however their runs were cut, or their
 /// lists show two such strings. The last clause says it of the last lines of their texts, for a
-/// hash function of 32 bytes, as SHA-256, and lists of fewer than 2^63 entries.
+/// hash function of 32 bytes, as SHA-256 ([`law_sha256_gives_hashes`]), and lists of fewer than
+/// 2^63 entries.
 pub fn law_one_state_is_of_one_list<H: TreeHash>()
     ensures states { StatesAreOfOneList H.hash }
     ensures monitors { MonitorsSawOneList H.hash }
@@ -40,9 +42,20 @@ pub fn law_one_state_is_of_one_list<H: TreeHash>()
     law_lists_extract::<H>();
 }
 
-/// The text of what was found is read as the state that was found, where its size is below 2^63.
-/// Each text that is read is whole lines, and then the line of the state that is read. States that
-/// have one line are one state.
+/// The text of what was found is read as the state that was found, and so is the last line of it,
+/// where its size is below 2^63. Each text that is read is whole lines, and then the line of the
+/// state that is read. States that have one line are one state.
 pub fn law_states_are_read_as_written()
     ensures { StatesAreReadAsWritten }
+{}
+
+/// Each value of SHA-256 is 32 bytes.
+pub fn law_sha256_gives_hashes()
+    ensures { GivesHashes sha256 }
+{}
+
+/// A watch file that is read is the lines of the domains that were read, at most 1,000, each a host
+/// name without a star and a newline; and the lines of such domains are read as them.
+pub fn law_watch_files_are_read_as_written()
+    ensures { WatchesAreReadAsWritten }
 {}

@@ -7,9 +7,9 @@
 //!
 //! A state is believed. No clause says anything of one that isn't the state of the list that the
 //! monitor saw: a later state of the same log, for one, is taken, and what lies between isn't
-//! reported. Two monitors of one log that began without entries, and whose texts end with one line,
-//! saw one list, or their lists show two different strings with one hash
-//! ([`law_one_state_is_of_one_list`](laws::law_one_state_is_of_one_list)).
+//! reported. Two monitors of one log that began without entries, whose texts end with one line and
+//! whose lists have fewer than 2^63 entries, saw one list, or their lists show two different
+//! strings with one hash ([`law_one_state_is_of_one_list`](laws::law_one_state_is_of_one_list)).
 //!
 //! No clause says how long a run takes: it hashes each entry once, and a pair for each peak that a
 //! leaf joins, and compares each dNSName with each domain.

@@ -1,4 +1,3 @@
-use Rattle.std.proofs.Common.{◌≡◌, ◌∙◌, sym}
 use Rattle.monitor_core.proofs.Again.{stated_again}
 use Rattle.monitor_core.proofs.writing.write_state.Goals as goal
 
