@@ -1,2 +1,3 @@
 pub mod FourFiles
 pub mod StepsLeft
+pub mod StateFiles

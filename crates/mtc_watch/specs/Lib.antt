@@ -2,3 +2,4 @@ pub mod Reasons
 pub mod RootOutcome
 pub mod HeldOutcome
 pub mod MonitorOutcome
+pub mod StateFiles
