@@ -56,6 +56,7 @@ checkpoint j|0|0eedf9c50912344e|
 entries j 3|0|a183d917c04cb5db|
 entries j 4|4|-|mtc: entries: Beyond 3
 entries-from j 0 3|0|a183d917c04cb5db|
+entries-from j 1 3|0|6db8a3b5b8303113|
 entries-from j 3 3|4|-|mtc: entries-from: NothingNew
 entries-from j 2 4|4|-|mtc: entries-from: Beyond 3
 entries-from j 1 03|1|-|mtc: entries-from: BadNumber 3
@@ -239,6 +240,8 @@ monitor-init 01|1|-|mtc: monitor-init: BadId 1
 monitor v names a z >A|0|dece5e135f727f69|
 monitor v empty a z|0|812d01c9af8c3473|
 monitor A names b y|4|-|mtc: monitor: ItemCount 3 1
+entries-from j 2 3 >B|0|8dd5eb22cf4b3756|
+monitor A names b B|0|579d81e3a6df90be|
 monitor v names a y|4|-|mtc: monitor: ItemCount 3 2
 monitor A names a z|4|-|mtc: monitor: NotNewer 2
 monitor v names b y|4|-|mtc: monitor: BadProof
