@@ -1,1 +1,4 @@
+mod CertTexts
+mod Certified
 pub mod KilledRuns
+mod Verified

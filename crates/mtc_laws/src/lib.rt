@@ -1,7 +1,9 @@
-//! Laws of the program over files in memory, which the program doesn't call.
+//! Laws of the program that it doesn't call: of files in memory, and of certificates from the run
+//! that writes one to the run that judges it.
 //!
 //! No clause says which device of a real system stops when a program is killed: of real files it is
 //! supposed that they stop taking calls.
 #![tactic(auto)]
 
+pub mod certificates;
 pub mod killed;
