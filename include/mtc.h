@@ -1,7 +1,7 @@
 /*
  * mtc.h: how a relying party judges certificates that a Merkle tree log has issued.
  *
- * The library behind it is the crate mtc_c: each function keeps its contract, which is proved.
+ * The library is the crate mtc_c: each function keeps its contract, which is proved.
  * docs/LIBRARY.md says how to build libmtc.a and libmtc.so, and shows callers.
  *
  * A caller owes: each pointer leads to as many bytes as its length says, which no one changes

@@ -10,7 +10,7 @@ import sys
 from functools import cache
 
 from checks import ledger
-from checks.sources import CLAUSE, FUNCTION, ROOT, behind_braces, behind_head, crates
+from checks.sources import CLAUSE, FUNCTION, ROOT, after_braces, after_head, crates
 
 TOP = ROOT / "crates" / "mtc_top" / "src"
 # Each statement: what its table is headed by, the functions whose contracts it is, and its page of definitions. First the
@@ -351,12 +351,12 @@ def contract_lines(text):
     """The numbers of the lines on which a contract stands."""
     found = set()
     for match in FUNCTION.finditer(text):
-        place = behind_head(text, match.end())
+        place = after_head(text, match.end())
         while clause := CLAUSE.match(text, place):
-            begin, place = clause.start(1), behind_braces(text, clause.end() - 1)
+            begin, place = clause.start(1), after_braces(text, clause.end() - 1)
             found |= set(range(text.count("\n", 0, begin), text.count("\n", 0, place) + 1))
             by = re.match(r"\s*by\s*\{", text[place:])
-            place = behind_braces(text, place + by.end() - 1) if by else place
+            place = after_braces(text, place + by.end() - 1) if by else place
     return found
 
 

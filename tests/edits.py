@@ -39,7 +39,7 @@ import time
 
 sys.dont_write_bytecode = True
 from checks import ledger
-from checks.sources import LENT_SLICE, ROOT
+from checks.sources import BORROWED_SLICE, ROOT
 
 PARTS = ("src", "specs", "proofs")
 OPEN = re.compile(r"note: (src/\S+?):(\d+):\d+: it is not proved that (.*?)(; .*)?$", re.M)
@@ -78,7 +78,7 @@ def places_of(crate, function, file):
         return (f"{modules_of(crate, file)}/{function.name}".removeprefix("/"),)
     declared = re.compile(rf"\b(?:struct|enum|trait) +{function.owner}\b")
     homes = {modules_of(crate, it) for it in crate.files if it is file or declared.search(it.bare)}
-    owner = LENT_SLICE.pattern if function.owner == "RefSlice" else rf"{function.owner}\b"
+    owner = BORROWED_SLICE.pattern if function.owner == "RefSlice" else rf"{function.owner}\b"
     traits = re.findall(rf"^impl\b[^{{;]*?\b(\w+)(?:<[^{{;]*?>)? for {owner}", file.bare, re.M)
     return tuple(sorted(f"{home}/{function.owner}{trait}/{function.name}".removeprefix("/")
                         for home in homes for trait in {"", *traits}))

@@ -28,10 +28,10 @@ NEW_LOG = ["init-log", "j", "32473.1", "2", "100000"]
 # What makes a file system, and how many bytes it needs.
 SYSTEMS = {"ext2": (["mkfs.ext2", "-q"], 32 << 20), "ext4": (["mkfs.ext4", "-q"], 32 << 20),
            "xfs": (["mkfs.xfs", "-q"], 400 << 20)}
-# The syncs of a command that adds a record: those of the folder and of its journal, that of the record, that of its commit byte. A
-# `tile` that makes the file of tiles syncs this and the folder before the journal is opened, and makes two between, about the
-# writes of the tiles. `init-log` makes two at its opening, so its fourth is that of the commit byte too.
-RECORD, GATE, TILES, FIRST = 3, 4, 6, 4
+# The syncs of a command that adds a record: those of the folder and of its journal, that of the record, that of its commit
+# byte. A `tile` that makes the file of tiles syncs this and the folder before the journal is opened, and makes two between,
+# about the writes of the tiles. `init-log` makes two at its opening, so its fourth is that of the commit byte too.
+RECORD, COMMIT_BYTE, TILES, FIRST = 3, 4, 6, 4
 PAGE = 4096
 # How many one-time keys a cosigner of height 5 has.
 KEYS = 32
@@ -142,12 +142,12 @@ def new_log(program, disk):
     os.sync()
 
 
-def check_gate(program, disk):
+def check_commit_byte(program, disk):
     """The sync of a record's commit byte fails, of a record that reaches over several pages"""
     yield from new_log(program, disk)
     request(disk.path, "long", 60)
     words = ["issue", "j", "long"]
-    yield from unlike("the issue that is stopped", stopped(program, disk, GATE, words), (5, "", "mtc: issue: j: Failed\n"))
+    yield from unlike("the issue that is stopped", stopped(program, disk, COMMIT_BYTE, words), (5, "", "mtc: issue: j: Failed\n"))
     # The system's memory has the record, and the disk hasn't. The next commit byte lies in another page than that of the record.
     yield from unlike("the size after a power cut now", disk.cut(lambda copy: size(program, copy)), 2)
     yield from unlike("the record is long", len((disk.path / "j").read_bytes()) > 8192, True)
@@ -220,7 +220,7 @@ def check_key(program, disk):
             break
     os.sync()
     words = ["cosign", "s", "part"]
-    yield from unlike("the cosign that is stopped", stopped(program, disk, GATE, words), (5, "", "mtc: cosign: s: Failed\n"))
+    yield from unlike("the cosign that is stopped", stopped(program, disk, COMMIT_BYTE, words), (5, "", "mtc: cosign: s: Failed\n"))
     # The system's memory has the record, and the disk hasn't.
     yield from unlike("the keys after a power cut now", disk.cut(lambda copy: used(program, copy)), [*range(keys)])
     yield from unlike("the key of the next signature", signed(program, disk.path), keys + 1)
@@ -249,7 +249,7 @@ def main(words):
         if not shutil.which(make[0]):
             print(f"left out: failed_sync of {system}: {make[0]} isn't here")
             continue
-        for check in (check_gate, check_record, check_first, check_tiles, check_key):
+        for check in (check_commit_byte, check_record, check_first, check_tiles, check_key):
             folder = Path(tempfile.mkdtemp())
             disk = Disk(folder, system)
             try:

@@ -8,7 +8,7 @@ import hashlib
 import re
 
 from .citations import CRATES
-from .sources import CLAUSE, ROOT, WHERE, behind_braces, behind_head, blanked, FUNCTION
+from .sources import CLAUSE, ROOT, WHERE, after_braces, after_head, blanked, FUNCTION
 
 LEDGER = ROOT / "tests" / "edits" / "tried.txt"
 EDITS = ROOT / "tests" / "edits"
@@ -56,7 +56,7 @@ def without(text, spans):
     return "".join([*out, text[at:]])
 
 
-def behind_contract(bare, place, proofs):
+def after_contract(bare, place, proofs):
     """The place after the clauses that stand here; the proofs among them are added to the list."""
     while True:
         where = WHERE.match(bare, place)
@@ -64,10 +64,10 @@ def behind_contract(bare, place, proofs):
         clause = CLAUSE.match(bare, place)
         if not clause:
             return place
-        place = behind_braces(bare, clause.end() - 1)
+        place = after_braces(bare, clause.end() - 1)
         by = re.match(r"\s*by\s*\{", bare[place:])
         if by:
-            end = behind_braces(bare, place + by.end() - 1)
+            end = after_braces(bare, place + by.end() - 1)
             proofs.append((place, end))
             place = end
 
@@ -76,12 +76,12 @@ def bodies_of(bare):
     """The parts of a file that no contract sees: bodies, proofs beside clauses, private functions without a clause."""
     parts = []
     for match in FUNCTION.finditer(bare):
-        head = behind_head(bare, match.end())
-        place = behind_contract(bare, head, parts)
+        head = after_head(bare, match.end())
+        place = after_contract(bare, head, parts)
         opened = re.match(r"\s*\{", bare[place:])
         if opened:
             is_shown = match[2] or CLAUSE.match(bare[head:place]) or WHERE.match(bare[head:place])
-            parts.append((place if is_shown else match.start(), behind_braces(bare, place + opened.end() - 1)))
+            parts.append((place if is_shown else match.start(), after_braces(bare, place + opened.end() - 1)))
     return parts
 
 

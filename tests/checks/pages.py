@@ -213,23 +213,23 @@ def check_quotations():
         yield from wrong_quotations(DOCS / name)
 
 
-def spelled_in(page, what):
-    """The bytes that a section spells, and its text."""
+def written_in(page, what):
+    """The bytes that a section writes out, and its text."""
     section = page.split(f"\n## {what} byte by byte\n")[1].split("\n## ")[0]
     lines = re.findall(r"^ {4} *((?:[0-9A-F]{2} ?)+)(?: |$)", section, re.M)
     return bytes.fromhex("".join(lines)), section
 
 
 def check_examples():
-    """what FORMATS spells byte by byte are files that the program takes"""
+    """what FORMATS writes out byte by byte are files that the program takes"""
     page = (DOCS / "FORMATS.md").read_text()
     for what, name in (("A certificate", "first.cert"), ("A journal", "first.journal")):
-        spelled, section = spelled_in(page, what)
-        if spelled != (ROOT / "examples" / name).read_bytes():
+        written, section = written_in(page, what)
+        if written != (ROOT / "examples" / name).read_bytes():
             yield f"docs/FORMATS.md: {what.lower()} of other bytes stands in examples/{name}"
-        if f"It has {len(spelled)} bytes." not in section:
-            yield f"docs/FORMATS.md: {what.lower()} of {len(spelled)} bytes is spelled"
-    cert, section = spelled_in(page, "A certificate")
+        if f"It has {len(written)} bytes." not in section:
+            yield f"docs/FORMATS.md: {what.lower()} of {len(written)} bytes is written out"
+    cert, section = written_in(page, "A certificate")
     version, names, key, extensions = cert[6:11], cert[28:89], cert[89:133], cert[133:162]
     entry = b"\0\1" + version + names + b"\4\x20" + sha256(key).digest() + extensions
     null, leaf = (sha256(b"\0" + item).digest() for item in (b"\0\0", entry))

@@ -4,7 +4,7 @@ import re
 
 from .citations import CRATES
 from .pages import shown
-from .sources import NAME, behind_braces
+from .sources import NAME, after_braces
 
 # The types that a private key is made of. Each type that has one of them in it holds a secret too.
 SECRETS = {("lms_core", "Secret"), ("lms_core", "PrivateKey")}
@@ -38,7 +38,7 @@ def types_of(crate):
         imports = imports_of(crate, file)
         for match in TYPE.finditer(file.bare):
             begin = match.end() - 1
-            end = behind_braces(file.bare, begin) if match[3] == "{" else file.bare.find(";", begin)
+            end = after_braces(file.bare, begin) if match[3] == "{" else file.bare.find(";", begin)
             derived = set(re.findall(NAME, " ".join(re.findall(r"derive\(([^)]*)\)", match[1]))))
             names = re.findall(rf"\b[A-Z]{NAME}", file.bare[begin:end])
             held = {home_of(name, imports.get(name, crate.name)) for name in names}

@@ -49,7 +49,7 @@ def blanked(text):
     return "".join(out)
 
 
-def behind_braces(text, place):
+def after_braces(text, place):
     """The place after the braces that open here."""
     depth = 0
     for match in re.compile(r"[{}]").finditer(text, place):
@@ -59,7 +59,7 @@ def behind_braces(text, place):
     return len(text)
 
 
-def behind_head(text, place):
+def after_head(text, place):
     """The place of what follows a function's parameters and result: a clause, its body, or a semicolon."""
     depth = 0
     for match in re.compile(r"[()\[\]{;]|\b(?:requires|ensures|where)\b").finditer(text, place):
@@ -79,7 +79,7 @@ WHERE = re.compile(r"\s*where\b[^{;]*?(?=\{|;|\brequires\b|\bensures\b)", re.S)
 FUNCTION = re.compile(rf"^([ \t]*)(pub(?:\([a-z]+\))? +)?(?:const +)?(?:extern +(?:\x22C\x22 +)?)?fn +({NAME})", re.M)
 OWNER = re.compile(rf"^(pub(?:\([a-z]+\))? +)?(impl|trait)\b([^{{;]*)\{{", re.M)
 MEMBER = re.compile(rf"^[ \t]+(?:pub +)?ghost +({NAME})\s*[:=]", re.M)
-LENT_SLICE = re.compile(r"&(?:'\w+ +)?\[")
+BORROWED_SLICE = re.compile(r"&(?:'\w+ +)?\[")
 
 
 def owner_name(kind, head):
@@ -94,7 +94,7 @@ def owner_name(kind, head):
                 break
     if kind == "impl" and " for " in head:
         head = head.split(" for ", 1)[1]
-    if LENT_SLICE.match(head):
+    if BORROWED_SLICE.match(head):
         return "RefSlice"
     match = re.search(NAME, head.split("<")[0])
     return match.group() if match else ""
@@ -113,7 +113,7 @@ class SourceFile:
         found = []
         for match in OWNER.finditer(self.bare):
             public = bool(match.group(1)) and match.group(2) == "trait"
-            span = (match.start(), behind_braces(self.bare, match.end() - 1))
+            span = (match.start(), after_braces(self.bare, match.end() - 1))
             kind = "impl of a trait" if match.group(2) == "impl" and " for " in match.group(3) else match.group(2)
             found.append((span, owner_name(match.group(2), match.group(3)), kind, public))
         return found
@@ -133,7 +133,7 @@ class SourceFile:
             line = self.bare.count("\n", 0, match.start()) + 1
             one = Function(match.group(3), owner, public, self.path, line, of_trait=kind == "impl of a trait")
             one.is_test = "#[test]" in self.text[:match.start()].rstrip().rsplit("\n\n", 1)[-1][-200:]
-            place = behind_head(self.bare, match.end())
+            place = after_head(self.bare, match.end())
             begin = place
             while True:
                 where = WHERE.match(self.bare, place)
@@ -145,16 +145,16 @@ class SourceFile:
                 one.labels.append(clause.group(2) or "")
                 one.requires |= clause.group(1) == "requires"
                 one.ensures += [clause.group(2) or ""] * (clause.group(1) == "ensures")
-                place = behind_braces(self.bare, clause.end() - 1)
+                place = after_braces(self.bare, clause.end() - 1)
                 one.words |= set(WORD.findall(self.bare[clause.end():place]))
                 by = re.match(r"\s*by\s*\{", self.bare[place:])
                 if by:
-                    place = behind_braces(self.bare, place + by.end() - 1)
+                    place = after_braces(self.bare, place + by.end() - 1)
             contract = self.bare.count("\n", begin, place) if one.labels else 0
             rest = re.match(r"\s*([{;])", self.bare[place:])
             end = place
             if rest and rest.group(1) == "{":
-                end = behind_braces(self.bare, place + rest.end() - 1)
+                end = after_braces(self.bare, place + rest.end() - 1)
             one.length = self.bare.count("\n", match.start(), end) + 1 - contract
             found.append(one)
         return found

@@ -106,8 +106,8 @@ def check_first_kills(scene, kills):
             yield from unlike(f"{command.name} {number} again", scene.run(command.words)[0], 0)
             reported, span = reported + bool(out), next_span(span, bool(out))
         yield from unlike(f"one {command.name} was acknowledged", reported > 0, True)
-        told_of = ", ".join(f"{count} {name or 'whole'}" for (_, name), count in sorted(found.items()))
-        scene.notes.append(f"{command.name}: {kills} times, {reported} acknowledged; left were {told_of}")
+        reported_of = ", ".join(f"{count} {name or 'whole'}" for (_, name), count in sorted(found.items()))
+        scene.notes.append(f"{command.name}: {kills} times, {reported} acknowledged; left were {reported_of}")
 
 
 def at_most(length):

@@ -44,7 +44,7 @@ def key_is_known(key):  # 5.3
     return len(key) == 56 and number_at(key, 0) in LMS and number_at(key, 4) in LMOTS
 
 
-def front_length(text):
+def prefix_length(text):
     """How many bytes the LMS signature has that the text begins with, by its own typecodes; None if it has none."""
     if len(text) < 8 or number_at(text, 4) not in LMOTS:
         return None
@@ -83,7 +83,7 @@ def level(key, message, signature):  # 4.6 and 5.4.2, algorithms 4b and 6a, for 
 def lms_answer(key, message, signature):  # 5.4.2
     if not key_is_known(key):
         return "BadKey"
-    return level(key, message, signature) if front_length(signature) == len(signature) else "BadLength"
+    return level(key, message, signature) if prefix_length(signature) == len(signature) else "BadLength"
 
 
 def is_hss_key(key):  # 6.1
@@ -97,12 +97,12 @@ def hss_answer(key, message, signature):  # 6.1, 6.3
         return "BadLength"
     pairs, rest, signed = number_at(signature, 0), signature[4:], []
     for _ in range(pairs):
-        length = front_length(rest)
+        length = prefix_length(rest)
         if length is None or len(rest) < length + 56:
             return "BadLength"
         signed.append((rest[:length], rest[length:length + 56]))
         rest = rest[length + 56:]
-    if front_length(rest) != len(rest):
+    if prefix_length(rest) != len(rest):
         return "BadLength"
     if pairs + 1 != number_at(key, 0):
         return "TypeDiffers"
