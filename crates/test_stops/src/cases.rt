@@ -11,12 +11,19 @@
 //! record BYTES    the record, with its commit byte
 //! ask WORD ..     a command that opens what is left
 //! before BYTES    what its output begins with if the record isn't there, and
-//! before| TEXT    a line of that; none of these if there is no journal without the record
+//! before| TEXT    a line of that, or
+//! before! TEXT    what it reports, with status 4; none of these if there is no journal without
+//!                 the record
 //! after BYTES     what its output begins with if the record is there, and
-//! after| TEXT     a line of that
-//! count N ..      how many of sixteen crash states have the record, after each stop, and then
-//!                 after the run that doesn't stop
+//! after| TEXT     a line of that, or
+//! after! TEXT     what it reports, with status 4
+//! from N          how many calls the device passes at the first of these stops; 0 if it isn't said
+//! stops N ..      how many of sixteen crash states have the record, after each stop
+//! then N          how many have it after the run that comes next, and doesn't stop
 //! ```
+//!
+//! By its lowest two bits a pick leaves nothing of a write, all of it, a prefix, or a prefix with
+//! other bytes after it. So half of them commit, once the commit byte is written and not synced.
 
 /// A new journal: its record is written and synced, and so is the commit byte before it.
 pub const NEW_LOG: &str = "
@@ -28,7 +35,8 @@ record LOG
 ask checkpoint j
 after| size 1
 after| root 709e80c88487a2411e1ee4dfb9f22a861492d20c4765150c0c794abd70f8147c
-count 0 0 0 8 16
+stops 0 0 0 8
+then 16
 ";
 
 /// A journal that is opened is synced first.
@@ -43,7 +51,8 @@ before| size 1
 before| root 709e80c88487a2411e1ee4dfb9f22a861492d20c4765150c0c794abd70f8147c
 after| size 2
 after| root 77566825cd25f263271e3fa5341db28ed2c87945ee98f731b2aa96b9e6b11cf6
-count 0 0 0 0 8 16
+stops 0 0 0 0 8
+then 16
 ";
 
 pub const LANDMARK: &str = "
@@ -58,7 +67,8 @@ before| 0
 after| 1 1
 after| 2
 after| 0
-count 0 0 0 0 8 16
+stops 0 0 0 0 8
+then 16
 ";
 
 /// 512 entries, of which 256 fill a tile that is stored.
@@ -74,10 +84,28 @@ before| size 512
 before| root 6d0a2d1ba4e0f5fa3da1d5f3a971f52138c7c8fe6a522849b21d16b7bedf720b
 after| size 512
 after| root 6d0a2d1ba4e0f5fa3da1d5f3a971f52138c7c8fe6a522849b21d16b7bedf720b
-count 0 0 0 0 8 16
+stops 0 0 0
 ";
 
-/// The same, where the file of the tiles stops: it is synced, written and synced.
+/// The same, from the commit byte on.
+pub const TILE_COMMIT: &str = "
+run tile j
+device j
+journal j
+tiled HEADER LONG 255*ENTRY
+old HEADER LONG 255*ENTRY TILED_256 256*ENTRY
+record TILED_512
+ask checkpoint j
+before| size 512
+before| root 6d0a2d1ba4e0f5fa3da1d5f3a971f52138c7c8fe6a522849b21d16b7bedf720b
+after| size 512
+after| root 6d0a2d1ba4e0f5fa3da1d5f3a971f52138c7c8fe6a522849b21d16b7bedf720b
+from 3
+stops 0 8
+then 16
+";
+
+/// The same from the beginning, where the file of the tiles stops: it is synced, written and synced.
 pub const TILES: &str = "
 run tile j
 device j.tiles
@@ -90,18 +118,21 @@ before| size 512
 before| root 6d0a2d1ba4e0f5fa3da1d5f3a971f52138c7c8fe6a522849b21d16b7bedf720b
 after| size 512
 after| root 6d0a2d1ba4e0f5fa3da1d5f3a971f52138c7c8fe6a522849b21d16b7bedf720b
-count 0 0 0 16
+stops 0 0 0
+then 16
 ";
 
+/// A cosigner is asked without its key, which takes long to rebuild.
 pub const NEW_COSIGNER: &str = "
 run init-cosigner s 32473.2 32473.1 5 1 f
 device s
 journal s
 old HEADER
 record COSIGNER
-ask export s
-after EXPORT
-count 0 0 0 8 16
+ask advance s a
+after| advanced 1024
+stops 0 0 0 8
+then 16
 ";
 
 pub const ADVANCE: &str = "
@@ -110,14 +141,28 @@ device s
 journal s
 old HEADER COSIGNER
 record 01 ADVANCE
-ask export s
-before EXPORT
-after EXPORT ADVANCE
-count 0 0 0 0 8 16
+ask advance s a
+before| advanced 1024
+after! mtc: advance: NotNewer 1024
+stops 0 0 0 0 8
+then 16
+";
+
+pub const COSIGN: &str = "
+run cosign s t
+device s
+journal s
+old HEADER COSIGNER 01 ADVANCE
+record 01 SIGN
+ask advance s a
+before! mtc: advance: NotNewer 1024
+after! mtc: advance: NotNewer 1024
+stops 0 0 0 0 8
+then 16
 ";
 
 /// The signature that comes next is by the key after those of the records.
-pub const COSIGN: &str = "
+pub const COSIGN_AGAIN: &str = "
 run cosign s t
 device s
 journal s
@@ -126,5 +171,6 @@ record 01 SIGN
 ask cosign s t
 before 0481fd590221f0 00000000 00000000
 after 0481fd590221f0 00000000 00000001
-count 0 0 0 0 8 16
+from 4
+stops 8
 ";

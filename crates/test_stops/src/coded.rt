@@ -20,8 +20,6 @@ SECRET 000102030405060708090a0b0c0d0e0f \
 101112131415161718191a1b1c1d1e1f202122232425262728292a2b2c2d2e2f
 COSIGNER 0100000043110481fd59020481fd59010000000500000001 000102030405060708090a0b0c0d0e0f \
 101112131415161718191a1b1c1d1e1f202122232425262728292a2b2c2d2e2f
-EXPORT 0481fd59020481fd5901003c 000000010000000500000001000102030405060708090a0b0c0d0e0f \
-a8664067560a77f7c00d2a0bed57b441c83745aef846c2f262f81941b396e652
 ADVANCE 0000002b120000000000000400 \
 77566825cd25f263271e3fa5341db28ed2c87945ee98f731b2aa96b9e6b11cf6 0000
 SIGN 00000037130000000000000000000000000000000000000400 \
@@ -61,8 +59,10 @@ fn append_once(alloc: Global, bytes: &mut Vec<u8>, word: &str) -> Option<()> {
 // A word, or so many times a word: `N*WORD`.
 fn append_word(alloc: Global, bytes: &mut Vec<u8>, word: &str) -> Option<()> {
     let (times, once) = word.split_once('*').unwrap_or(("1", word));
+    let mut piece = Vec::new(alloc);
+    append_once(alloc, &mut piece, once)?;
     for _ in 0..times.parse::<u64>().ok()? {
-        append_once(alloc, bytes, once)?;
+        bytes.extend_from_slice(piece.as_slice()).ok()?;
     }
     Some(())
 }

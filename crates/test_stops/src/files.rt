@@ -5,7 +5,7 @@ ghost use Rattle.std.specs.Prelude.{◌≡◌};
 use disk_core::MemDisk;
 use fuse_room::FuseRoom;
 use mtc_io::{Bytes, MemSink};
-use mtc_top::{MemRoom, Room, run};
+use mtc_top::{MemRoom, Room, RoomError, run};
 use std::alloc::Global;
 use tree_core::Sha;
 
@@ -27,6 +27,48 @@ impl Answer {
     pub fn begins_with(&self, out: &[u8]) -> bool {
         self.status == 0 && self.out.taken().starts_with(out) && self.err.taken().is_empty()
     }
+}
+
+/// A crash state of a file, and how many of sixteen picks leave it.
+#[derive(Drop)]
+pub struct CrashState {
+    pub bytes: Bytes,
+    pub picks: u64,
+}
+
+// Whether both are the same. They mostly differ at their ends, if they do.
+fn are_same(one: &[u8], other: &[u8]) -> bool {
+    let end = one.len().saturating_sub(64);
+    other.ends_with(&one[end..]) && one == other
+}
+
+// Counts a crash state: as one of those that there are, or as a new one.
+fn note(states: &mut Vec<CrashState>, bytes: Bytes) -> Option<()> {
+    for at in 0..states.len() {
+        if are_same(states[at].bytes.as_slice(), bytes.as_slice()) {
+            states[at].picks = states[at].picks.saturating_add(1);
+            return Some(());
+        }
+    }
+    states.push(CrashState { bytes, picks: 1 }).ok()
+}
+
+// The crash states of a device by the picks 0 to 15, each once.
+fn states_of(alloc: Global, device: &MemDisk) -> Option<Vec<CrashState>> {
+    let mut states = Vec::new(alloc);
+    for pick in 0..16 {
+        let left = device.open_copy().ok()?.crash(pick).ok()?;
+        note(&mut states, Bytes::copy_of(alloc, left.bytes()).ok()?)?;
+    }
+    Some(states)
+}
+
+// The one state of a file that isn't there.
+fn no_bytes(alloc: Global) -> Option<Vec<CrashState>> {
+    let mut states = Vec::new(alloc);
+    let bytes = Bytes::new(alloc);
+    states.push(CrashState { bytes, picks: 16 }).ok()?;
+    Some(states)
 }
 
 fn sink(alloc: Global) -> MemSink {
@@ -109,19 +151,17 @@ impl Files {
         })
     }
 
-    // A copy of a file's device; none if there is no file.
-    fn device(&mut self, name: &str) -> Option<MemDisk> {
-        let opened = self.room.disk(name).ok()?;
-        let copy = opened.open_copy();
-        self.room.keep(name, opened);
-        copy.ok()
-    }
-
-    /// What a crash leaves of a file, by the pick: nothing of a file that isn't there.
-    pub fn crash_state(&mut self, name: &str, pick: u64) -> Option<Bytes> {
-        match self.device(name) {
-            Some(device) => Bytes::copy_of(self.alloc, device.crash(pick).ok()?.bytes()).ok(),
-            None => Some(Bytes::new(self.alloc)),
+    /// What a crash leaves of a file by the picks 0 to 15, each crash state once: nothing of a file
+    /// that isn't there.
+    pub fn crash_states(&mut self, name: &str) -> Option<Vec<CrashState>> {
+        match self.room.disk(name) {
+            Ok(opened) => {
+                let states = states_of(self.alloc, &opened);
+                self.room.keep(name, opened);
+                states
+            }
+            Err(RoomError::Absent) => no_bytes(self.alloc),
+            Err(_) => None,
         }
     }
 }

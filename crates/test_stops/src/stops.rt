@@ -1,8 +1,10 @@
 //! Each stop of a command, and sixteen of the crash states that it may leave.
 
-use crate::cases::{ADVANCE, COSIGN, ISSUE, LANDMARK, NEW_COSIGNER, NEW_LOG, TILE, TILES};
+use crate::cases::{
+    ADVANCE, COSIGN, COSIGN_AGAIN, ISSUE, LANDMARK, NEW_COSIGNER, NEW_LOG, TILE, TILE_COMMIT, TILES,
+};
 use crate::coded::{coded, field, lines, numbers};
-use crate::files::{Answer, Files, Stopped};
+use crate::files::{Answer, CrashState, Files, Stopped};
 use std::alloc::Global;
 
 const REQUEST: &str = "not_before = \"2026-01-01T00:00:00Z\"
@@ -11,31 +13,53 @@ dns = [\"a.example\"]
 key = \"MCowBQYDK2VwAyEAAAAAAAAAAAAAAAAAAAAAAAAAAAAAAAAAAAAAAAAAAAA=\"
 ";
 
+// What a command answers that opens a file: what its output begins with, or what it reports if that
+// is nothing.
+#[derive(Drop)]
+struct Wanted {
+    out: Vec<u8>,
+    report: Vec<u8>,
+}
+
+impl Wanted {
+    fn is_empty(&self) -> bool {
+        self.out.is_empty() && self.report.is_empty()
+    }
+
+    // Whether it is this answer.
+    fn is(&self, answer: &Answer) -> bool {
+        if self.report.is_empty() {
+            return answer.begins_with(self.out.as_slice());
+        }
+        answer.is(4, b"", self.report.as_slice())
+    }
+}
+
+// What a case wants, by its keys of bytes, of lines of output, and of a line that is reported.
+fn wanted_by(alloc: Global, case: &str, bytes: &str, text: &str, line: &str) -> Option<Wanted> {
+    let mut out = coded(alloc, field(case, bytes))?;
+    out.extend_from_slice(lines(alloc, case, text)?.as_slice())
+        .ok()?;
+    let report = lines(alloc, case, line)?;
+    Some(Wanted { out, report })
+}
+
 // The lists of records that are allowed, as the bytes of a journal without its last commit byte and
-// the record that may follow them; and what the command prints that opens the one and the other.
+// the record that may follow them; and what the command answers that opens the one and the other.
 #[derive(Drop)]
 struct Allowed {
     old: Vec<u8>,
     record: Vec<u8>,
-    before: Vec<u8>,
-    after: Vec<u8>,
-}
-
-// What a command prints by a case: bytes, or lines.
-fn printed(alloc: Global, case: &str, bytes: &str, text: &str) -> Option<Vec<u8>> {
-    let mut printed = coded(alloc, field(case, bytes))?;
-    printed
-        .extend_from_slice(lines(alloc, case, text)?.as_slice())
-        .ok()?;
-    Some(printed)
+    before: Wanted,
+    after: Wanted,
 }
 
 fn allowed_by(alloc: Global, case: &str) -> Option<Allowed> {
     Some(Allowed {
         old: coded(alloc, field(case, "old"))?,
         record: coded(alloc, field(case, "record"))?,
-        before: printed(alloc, case, "before", "before|")?,
-        after: printed(alloc, case, "after", "after|")?,
+        before: wanted_by(alloc, case, "before", "before|", "before!")?,
+        after: wanted_by(alloc, case, "after", "after|", "after!")?,
     })
 }
 
@@ -69,9 +93,9 @@ impl Allowed {
     // journal with a record yet is refused.
     fn answers(&self, keeps: Option<bool>, answer: &Answer) -> bool {
         match keeps {
-            Some(true) => answer.begins_with(self.after.as_slice()),
+            Some(true) => self.after.is(answer),
             _ if self.is_new() => answer.status == 2 && answer.out.taken().is_empty(),
-            Some(false) => answer.begins_with(self.before.as_slice()),
+            Some(false) => self.before.is(answer),
             None => false,
         }
     }
@@ -163,54 +187,32 @@ fn is_opened(
     }
 }
 
-// Opens a crash state of the journal with each of sixteen of its tiles. One like the one before it
-// isn't opened again.
+// Opens a crash state of the journal with each one of its tiles.
 fn open_each(
     alloc: Global,
     case: &str,
     allowed: &Allowed,
     journal: &[u8],
-    files: &mut Files,
+    tiles: &[CrashState],
 ) -> Option<()> {
-    let mut last = files.crash_state("j.tiles", 0)?;
-    is_opened(alloc, case, allowed, journal, last.as_slice())?;
-    for pick in 1..16 {
-        let tiles = files.crash_state("j.tiles", pick)?;
-        if tiles.as_slice() != last.as_slice() {
-            is_opened(alloc, case, allowed, journal, tiles.as_slice())?;
-        }
-        last = tiles;
+    for state in tiles {
+        is_opened(alloc, case, allowed, journal, state.bytes.as_slice())?;
     }
     Some(())
 }
 
-// Whether a crash state of the journal has the new record. None if it isn't as it has to be.
-fn has_record(
-    alloc: Global,
-    case: &str,
-    allowed: &Allowed,
-    journal: &[u8],
-    files: &mut Files,
-) -> Option<bool> {
-    open_each(alloc, case, allowed, journal, files)?;
-    Some(allowed.keeps(journal) == Some(true))
-}
-
-// How many of sixteen crash states have the new record. One like the one before it isn't opened
-// again.
+// How many of sixteen crash states of the journal have the new record. None if one of them isn't
+// as it has to be, beside each of sixteen of its tiles.
 fn count(alloc: Global, case: &str, allowed: &Allowed, files: &mut Files) -> Option<u64> {
-    let mut last = files.crash_state(field(case, "journal"), 0)?;
-    let mut has = has_record(alloc, case, allowed, last.as_slice(), files)?;
-    let mut count = if has { 1u64 } else { 0 };
-    for pick in 1..16 {
-        let journal = files.crash_state(field(case, "journal"), pick)?;
-        if journal.as_slice() != last.as_slice() {
-            has = has_record(alloc, case, allowed, journal.as_slice(), files)?;
+    let journals = files.crash_states(field(case, "journal"))?;
+    let tiles = files.crash_states("j.tiles")?;
+    let mut count = 0u64;
+    for state in journals.iter() {
+        let journal = state.bytes.as_slice();
+        open_each(alloc, case, allowed, journal, tiles.as_slice())?;
+        if allowed.keeps(journal) == Some(true) {
+            count = count.saturating_add(state.picks);
         }
-        if has {
-            count = count.saturating_add(1);
-        }
-        last = journal;
     }
     Some(count)
 }
@@ -225,38 +227,94 @@ fn stop(alloc: Global, case: &str, passes: u64) -> Option<(bool, u64)> {
     Some((done, count(alloc, case, &allowed, &mut stopped.files)?))
 }
 
+// How many calls the device passes at the first stop of a case.
+fn first_stop(case: &str) -> Option<u64> {
+    match field(case, "from") {
+        "" => Some(0),
+        count => count.parse::<u64>().ok(),
+    }
+}
+
 // The first stop that isn't as the case says, or the run after them that doesn't stop.
 fn wrong_stop(alloc: Global, case: &str) -> Option<u64> {
-    let counts = numbers(alloc, field(case, "count")).unwrap_or(Vec::new(alloc));
-    let last = counts.len().saturating_sub(1);
-    for (passes, count) in counts.iter().enumerate() {
-        if stop(alloc, case, passes as u64) != Some((passes == last, *count)) {
-            return Some(passes as u64);
+    let (Some(stops), Some(whole), Some(first)) = (
+        numbers(alloc, field(case, "stops")),
+        numbers(alloc, field(case, "then")),
+        first_stop(case),
+    ) else {
+        return Some(0);
+    };
+    let mut passes = first;
+    for count in stops.iter() {
+        if stop(alloc, case, passes) != Some((false, *count)) {
+            return Some(passes);
+        }
+        passes = passes.saturating_add(1);
+    }
+    for count in whole.iter() {
+        if stop(alloc, case, passes) != Some((true, *count)) {
+            return Some(passes);
         }
     }
-    if counts.is_empty() { Some(0) } else { None }
+    if stops.is_empty() { Some(0) } else { None }
 }
 
 #[test]
-fn a_log_stops(rt: HostRuntime) {
-    for case in [NEW_LOG, ISSUE, LANDMARK] {
-        let wrong = wrong_stop(rt.alloc(), case);
-        assert!(rt; wrong == None, "{wrong:?} of {case}");
-    }
+fn a_new_log_stops(rt: HostRuntime) {
+    let wrong = wrong_stop(rt.alloc(), NEW_LOG);
+    assert!(rt; wrong == None, "{wrong:?}");
 }
 
 #[test]
-fn a_log_with_tiles_stops(rt: HostRuntime) {
-    for case in [TILE, TILES] {
-        let wrong = wrong_stop(rt.alloc(), case);
-        assert!(rt; wrong == None, "{wrong:?} of {case}");
-    }
+fn an_issue_stops(rt: HostRuntime) {
+    let wrong = wrong_stop(rt.alloc(), ISSUE);
+    assert!(rt; wrong == None, "{wrong:?}");
 }
 
 #[test]
-fn a_cosigner_stops(rt: HostRuntime) {
-    for case in [NEW_COSIGNER, ADVANCE, COSIGN] {
-        let wrong = wrong_stop(rt.alloc(), case);
-        assert!(rt; wrong == None, "{wrong:?} of {case}");
-    }
+fn a_landmark_stops(rt: HostRuntime) {
+    let wrong = wrong_stop(rt.alloc(), LANDMARK);
+    assert!(rt; wrong == None, "{wrong:?}");
+}
+
+#[test]
+fn a_log_that_stores_its_tiles_stops(rt: HostRuntime) {
+    let wrong = wrong_stop(rt.alloc(), TILE);
+    assert!(rt; wrong == None, "{wrong:?}");
+}
+
+#[test]
+fn a_log_that_commits_its_tiles_stops(rt: HostRuntime) {
+    let wrong = wrong_stop(rt.alloc(), TILE_COMMIT);
+    assert!(rt; wrong == None, "{wrong:?}");
+}
+
+#[test]
+fn tiles_that_are_stored_stop(rt: HostRuntime) {
+    let wrong = wrong_stop(rt.alloc(), TILES);
+    assert!(rt; wrong == None, "{wrong:?}");
+}
+
+#[test]
+fn a_new_cosigner_stops(rt: HostRuntime) {
+    let wrong = wrong_stop(rt.alloc(), NEW_COSIGNER);
+    assert!(rt; wrong == None, "{wrong:?}");
+}
+
+#[test]
+fn an_advance_stops(rt: HostRuntime) {
+    let wrong = wrong_stop(rt.alloc(), ADVANCE);
+    assert!(rt; wrong == None, "{wrong:?}");
+}
+
+#[test]
+fn a_cosignature_stops(rt: HostRuntime) {
+    let wrong = wrong_stop(rt.alloc(), COSIGN);
+    assert!(rt; wrong == None, "{wrong:?}");
+}
+
+#[test]
+fn a_cosignature_counts_its_key(rt: HostRuntime) {
+    let wrong = wrong_stop(rt.alloc(), COSIGN_AGAIN);
+    assert!(rt; wrong == None, "{wrong:?}");
 }
