@@ -1,4 +1,5 @@
 mod CertTexts
 mod Certified
 pub mod KilledRuns
+mod Monitored
 mod Verified

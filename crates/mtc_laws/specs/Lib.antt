@@ -1,2 +1,3 @@
 pub mod CertLaws
 pub mod Killed
+pub mod MonitorLaws
