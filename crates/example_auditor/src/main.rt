@@ -19,7 +19,7 @@ use std::{env, fs};
 fn items_of(alloc: Global, bytes: &[u8]) -> anyhow::Result<Items<'_, Sha>> {
     match read_items::<Sha>(alloc, bytes) {
         Ok(items) => Ok(items),
-        Err(why) => bail!("the entries: {why:?}"),
+        Err(why) => bail!("the entries: {why}"),
     }
 }
 
@@ -30,7 +30,7 @@ fn export_of(alloc: Global, bytes: &[u8]) -> anyhow::Result<Option<Export>>
 {
     match read_steps::<Sha>(alloc, bytes) {
         Ok(kept) => Ok(kept),
-        Err(why) => bail!("the export: {why:?}"),
+        Err(why) => bail!("the export: {why}"),
     }
 }
 
@@ -76,7 +76,7 @@ fn audited(
 fn store_of(alloc: Global, text: &[u8]) -> anyhow::Result<Store> {
     match Store::read(alloc, text) {
         Ok(store) => Ok(store),
-        Err(why) => bail!("the store: {why:?}"),
+        Err(why) => bail!("the store: {why}"),
     }
 }
 
@@ -103,7 +103,7 @@ fn main(rt: HostRuntime) -> anyhow::Result<()> {
             )?;
             println!(rt; "{text}")?;
         }
-        Err(why) => println!(rt; "refused {why:?}")?,
+        Err(why) => println!(rt; "refused {why}")?,
     }
     Ok(())
 }

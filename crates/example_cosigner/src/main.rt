@@ -26,7 +26,7 @@ const LONGEST: u16 = 17_748;
 fn id_of(alloc: Global, text: &str) -> anyhow::Result<AnchorId> {
     match AnchorId::from_text(alloc, text) {
         Ok(id) => Ok(id),
-        Err(why) => bail!("the id {text}: {why:?}"),
+        Err(why) => bail!("the id {text}: {why}"),
     }
 }
 
@@ -43,7 +43,7 @@ fn begun(alloc: Global, device: FileDisk, secret: &[u8]) -> anyhow::Result<FileD
     };
     match create(alloc, device, &settings, &secret) {
         Ok(journal) => Ok(journal.into_disk()),
-        Err(refused) => bail!("the journal: {:?}", refused.why),
+        Err(refused) => bail!("the journal: {}", refused.why),
     }
 }
 
@@ -82,7 +82,7 @@ fn cosignature<D: Disk>(
     let mut signature = SigBuf::new();
     match cosigner.cosign(request, &mut signature) {
         Ok(()) => Ok(reserved.fill(cosigner.id().as_bytes(), signature.as_slice())),
-        Err(why) => bail!("the subtree: {why:?}"),
+        Err(why) => bail!("the subtree: {why}"),
     }
 }
 
@@ -91,9 +91,9 @@ fn held<D: Disk>(cosigner: &mut Cosigner<Sha, D>, request: &[u8]) -> anyhow::Res
     match read_advance(request) {
         Ok(request) => match cosigner.advance(&request) {
             Ok(()) => Ok(cosigner.held().0),
-            Err(why) => bail!("the larger log: {why:?}"),
+            Err(why) => bail!("the larger log: {why}"),
         },
-        Err(why) => bail!("the larger log: {why:?}"),
+        Err(why) => bail!("the larger log: {why}"),
     }
 }
 
@@ -101,7 +101,7 @@ fn held<D: Disk>(cosigner: &mut Cosigner<Sha, D>, request: &[u8]) -> anyhow::Res
 fn cosigner_of(alloc: Global, device: FileDisk) -> anyhow::Result<Cosigner<Sha, FileDisk>> {
     match Cosigner::open(alloc, device) {
         Ok(cosigner) => Ok(cosigner),
-        Err(refused) => bail!("the journal: {:?}", refused.why),
+        Err(refused) => bail!("the journal: {}", refused.why),
     }
 }
 
@@ -113,7 +113,7 @@ fn signed<D: Disk>(
 ) -> anyhow::Result<Bytes> {
     match read_subtree(request) {
         Ok(request) => cosignature(alloc, cosigner, &request),
-        Err(why) => bail!("the subtree: {why:?}"),
+        Err(why) => bail!("the subtree: {why}"),
     }
 }
 

@@ -64,7 +64,7 @@ fn answer(alloc: Global, peer: &Peer, host: &[u8]) -> anyhow::Result<String> {
 fn store_of(alloc: Global, text: &[u8]) -> anyhow::Result<Store> {
     match Store::read(alloc, text) {
         Ok(store) => Ok(store),
-        Err(why) => bail!("the store: {why:?}"),
+        Err(why) => bail!("the store: {why}"),
     }
 }
 
@@ -80,7 +80,7 @@ fn main(rt: HostRuntime) -> anyhow::Result<()> {
     let now = now.as_str().parse::<i64>()?;
     match judged(cert.as_slice(), &store, now) {
         Ok(peer) => println!(rt; "{}", answer(alloc, &peer, host.as_bytes())?)?,
-        Err(why) => println!(rt; "refused {why:?}")?,
+        Err(why) => println!(rt; "refused {why}")?,
     }
     Ok(())
 }
