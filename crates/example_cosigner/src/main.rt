@@ -76,9 +76,7 @@ fn cosignature<D: Disk>(
           request.now.hash;
     })) }
 {
-    let Ok(reserved) = ReservedSignature::new(alloc, LONGEST) else {
-        bail!("no memory");
-    };
+    let reserved = ReservedSignature::new(alloc, LONGEST)?;
     let mut signature = SigBuf::new();
     match cosigner.cosign(request, &mut signature) {
         Ok(()) => Ok(reserved.fill(cosigner.id().as_bytes(), signature.as_slice())),
