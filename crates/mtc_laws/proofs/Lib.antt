@@ -2,4 +2,5 @@ mod CertTexts
 mod Certified
 pub mod KilledRuns
 mod Monitored
+mod Recordings
 mod Verified

@@ -1,3 +1,4 @@
 pub mod CertLaws
 pub mod Killed
 pub mod MonitorLaws
+pub mod RecordedTwice

@@ -1,5 +1,5 @@
-//! Laws of the program that it doesn't call: of files in memory, of certificates from the run that
-//! writes one to the run that judges it, and of monitors.
+//! Laws of the program that it doesn't call: of files in memory, of what `cert`, `light-cert` and
+//! `verify` print, of monitors, and of recorded signatures in conflict.
 //!
 //! No clause says which device of a real system stops when a program is killed: of real files it is
 //! supposed that they stop taking calls.
@@ -8,3 +8,4 @@
 pub mod certificates;
 pub mod killed;
 pub mod monitors;
+pub mod recorded;

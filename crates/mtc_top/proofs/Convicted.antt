@@ -1,6 +1,7 @@
 -- A run of `quarrel` over the export of a cosigner that signed one interval with two hashes.
 use Rattle.std.proofs.Common.{◌≡◌, inl, ℕ, List, Option, Some, Result, Ok, refl, sym, subst, ap}
 use Rattle.std.proofs.Common.{◌∙◌}
+use Rattle.std.specs.Prelude.{◌≢◌}
 use Rattle.byte_formats.specs.Offsets.{IsBytes}
 use Rattle.byte_formats.specs.Types.{HashFunction}
 use Rattle.disk_core.specs.declared.disk.Disk.{Ghosts as Disks}
@@ -8,7 +9,7 @@ use Rattle.mtc_io.specs.declared.sink.Sink.{Ghosts as Sinks}
 use Rattle.mtc_room.specs.Room.{ModelsFile}
 use Rattle.mtc_room.specs.declared.room.Room.{Ghosts as Rooms}
 use Rattle.mtc_words.specs.Commands.{CommandValue, quarrel}
-use Rattle.mtc_words.specs.Words.{known_word}
+use Rattle.mtc_words.specs.Words.{command_of, known_word}
 use Rattle.mtc_words.specs.declared.error.WordError.{WordError}
 use Rattle.cosigner_core.specs.ExportReading.{export_in}
 use Rattle.cosigner_core.specs.declared.error.ReadExportError.{ReadExportError}
@@ -35,12 +36,13 @@ use Rattle.mtc_top.proofs.Exports.{exports_hold}
 use Rattle.mtc_top.proofs.RunLaws.{done_heard}
 use Rattle.mtc_top.proofs.Runs.{answered, wrote_of}
 use Rattle.mtc_top.specs.Executions.{program, Run}
+use Rattle.mtc_top.proofs.Aliases.{IsRun}
 
 -- An export in which two signatures are in conflict.
-record IsInConflict (h : HashFunction) (text : List ℕ) : Type 0 where
-  export : Export
-  read : export_in h text ≡ Ok (Some export)
-  found : HasQuarrel export.steps
+pub record IsInConflict (h : HashFunction) (text : List ℕ) : Type 0 where
+  pub export : Export
+  pub read : export_in h text ≡ Ok (Some export)
+  pub found : HasQuarrel export.steps
 
 -- what is asked for
 asked : (h : HashFunction) (files : Files) (kept text : List ℕ)
@@ -50,6 +52,42 @@ asked h files kept text holds is =
     bytes_read 1073741824 kept (files kept) text (quarrel_says h kept) holds.there holds.few
     ∙ ap (λ r. with_form export_fault_text kept r (quarrel_kept h)) is.read
     ∙ ap (quarrel_by h is.export.steps) is.found.1
+
+module _ {R S D O E : Type 0} (h : HashFunction) (rooms : Rooms R S D) (disks : Disks D)
+    (outs : Sinks O) (errs : Sinks E) where
+  by_reply : (run : Run R O E) (steps : List Step) (keys : ℕ × ℕ) (reply : Reply)
+      → Meets (quarrel_by h steps (Some keys)).answer reply → run.status ≡ status_of reply
+      → Prints outs run.out run.out_after (out_of reply)
+      → Convicts h (program h rooms disks outs errs) run
+  by_reply run steps keys (said kind out) meets code text = record {
+    keys = keys;
+    one = meets.1.x;
+    other = meets.1.y;
+    code = code ∙ ap (λ k. status_of (said k out)) meets.0;
+    differ = meets.1.differ;
+    one_hash = meets.1.one_hash;
+    printed = subst (λ (t : List ℕ). Prints outs run.out run.out_after t) meets.1.is text;
+  }
+  by_reply run steps keys (refused why file reason) meets code text = absurd meets
+
+  -- each run of `quarrel` over such an export shows the two strings
+  pub conflict_convicts : (old : R) (run : Run R O E) (kept kept_text : List ℕ)
+      → rooms.is_modelled old → IsRun h rooms disks outs errs old run
+      → command_of run.words ≡ Ok (quarrel kept)
+      → HoldsText (rooms.file old) kept 1073741824 kept_text → IsInConflict h kept_text
+      → run.status ≢ 5 → run.status ≢ 6 → run.status ≢ 8
+      → Convicts h (program h rooms disks outs errs) run
+  conflict_convicts old run kept kept_text is_modelled is_run spoken holds is not5 not6 not8 =
+      let a = answered h rooms disks outs errs run.words old run.room run.out run.out_after
+      run.err run.err_after run.status is_run not5 not8 in
+      let wrote = wrote_of outs errs (known_word run.words) run.out run.out_after run.err
+      run.err_after a.reply run.status a.concludes not6 in
+      let wanted = ap (λ (q : Result CommandValue WordError). (facts h q).outcome (rooms.file old))
+      spoken ∙ sym (outcome_planned h (quarrel kept) (rooms.file old))
+      ∙ asked h (rooms.file old) kept kept_text holds is in
+      by_reply run is.export.steps is.found.0 a.reply
+      (subst (λ (w : Outcome). Meets w.answer a.reply) wanted (a.is (inl is_modelled)))
+      wrote.code wrote.text
 
 module _ {R S D O E : Type 0} (h : HashFunction) (rooms : Rooms R S D) (disks : Disks D)
     (outs : Sinks O) (errs : Sinks E) (crash_state : ReadsCrashState disks) (only : OnlyNow disks)
@@ -79,31 +117,7 @@ module _ {R S D O E : Type 0} (h : HashFunction) (rooms : Rooms R S D) (disks : 
             by.differ;
       }
 
-  by_reply : (run : Run R O E) (steps : List Step) (keys : ℕ × ℕ) (reply : Reply)
-      → Meets (quarrel_by h steps (Some keys)).answer reply → run.status ≡ status_of reply
-      → Prints outs run.out run.out_after (out_of reply)
-      → Convicts h (program h rooms disks outs errs) run
-  by_reply run steps keys (said kind out) meets code text = record {
-    keys = keys;
-    one = meets.1.x;
-    other = meets.1.y;
-    code = code ∙ ap (λ k. status_of (said k out)) meets.0;
-    differ = meets.1.differ;
-    one_hash = meets.1.one_hash;
-    printed = subst (λ (t : List ℕ). Prints outs run.out run.out_after t) meets.1.is text;
-  }
-  by_reply run steps keys (refused why file reason) meets code text = absurd meets
-
   pub two_signatures_collide : TwoSignaturesCollide h (program h rooms disks outs errs)
-  two_signatures_collide old run kept kept_text is_modelled is_run spoken holds by not5 not6 not8 =
-      let is = in_conflict kept_text by in
-      let a = answered h rooms disks outs errs run.words old run.room run.out run.out_after
-      run.err run.err_after run.status is_run not5 not8 in
-      let wrote = wrote_of outs errs (known_word run.words) run.out run.out_after run.err
-      run.err_after a.reply run.status a.concludes not6 in
-      let wanted = ap (λ (q : Result CommandValue WordError). (facts h q).outcome (rooms.file old))
-      spoken ∙ sym (outcome_planned h (quarrel kept) (rooms.file old))
-      ∙ asked h (rooms.file old) kept kept_text holds is in
-      by_reply run is.export.steps is.found.0 a.reply
-      (subst (λ (w : Outcome). Meets w.answer a.reply) wanted (a.is (inl is_modelled)))
-      wrote.code wrote.text
+  two_signatures_collide old run kept kept_text is_modelled is_run spoken holds by =
+      conflict_convicts h rooms disks outs errs old run kept kept_text is_modelled is_run spoken
+      holds (in_conflict kept_text by)

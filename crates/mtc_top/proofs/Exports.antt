@@ -47,7 +47,7 @@ contains_more : (x y : Step) (xs : List Step) → Contains xs y → Contains (x 
 contains_more x y xs there = (suc there.0, omega (arith, there.1), there.2)
 
 -- a record among others is read as one of their steps
-step_there : (prefix : List (List ℕ)) (body : List ℕ) (rest : List (List ℕ)) (steps : List Step)
+pub step_there : (prefix : List (List ℕ)) (body : List ℕ) (rest : List (List ℕ)) (steps : List Step)
     (step : Step) → steps_in (prefix ++ body ∷ rest) ≡ Some steps → step_in body ≡ Some step
     → Contains steps step
 unfolding steps_in
