@@ -1,0 +1,7 @@
+//! Tests of items that are read as a stream.
+#![tactic(auto)]
+
+#[cfg(test)]
+mod folding;
+#[cfg(test)]
+mod windows;
