@@ -193,7 +193,9 @@ pub fn law_printed_texts_stand<H: TreeHash, R: Room, O: Sink, E: Sink>()
 /// a store accepts a certificate by a signature whose record a run of an execution held, or by a
 /// landmark, a run of `audit` over the wanted list, and over an export that was printed after it,
 /// prints that the entry stands, or two different strings with one hash. Or it ends with status 5,
-/// 6 or 8.
+/// 6 or 8. If runs of an execution held the records of two signatures of one interval with
+/// different hashes, a run of `quarrel` over a later export prints two different strings with one
+/// hash, or ends so.
 pub fn law_the_whole_promise<H: TreeHash, R: Room, O: Sink, E: Sink>()
     ensures once { KeysSignOnce H.hash (program H.hash R.Room R.Dsk.Disk O.Sink E.Sink) }
     ensures messages { KeysSignOneMessage H.hash (program H.hash R.Room R.Dsk.Disk O.Sink E.Sink) }
@@ -203,4 +205,6 @@ pub fn law_the_whole_promise<H: TreeHash, R: Room, O: Sink, E: Sink>()
     ensures remain { SignaturesStand H.hash (program H.hash R.Room R.Dsk.Disk O.Sink E.Sink) }
     ensures exports { ExportsHoldTheSteps H.hash (program H.hash R.Room R.Dsk.Disk O.Sink E.Sink) }
     ensures audits { AuditsDecide H.hash (program H.hash R.Room R.Dsk.Disk O.Sink E.Sink) }
+    ensures conflicts { TwoSignaturesCollide H.hash
+        (program H.hash R.Room R.Dsk.Disk O.Sink E.Sink) }
 {}

@@ -1,4 +1,5 @@
 use Rattle.mtc_top.proofs.AuditsDecide.{audits_decide}
+use Rattle.mtc_top.proofs.Convicted.{two_signatures_collide}
 use Rattle.mtc_top.proofs.Exports.{exports_hold}
 use Rattle.mtc_top.proofs.PrintedStands.{signatures_stand}
 use Rattle.mtc_top.proofs.Recovered.{keys_once, lists_grow, one_message, read_again}
@@ -44,3 +45,8 @@ pub returns-clause-exports : goal.returns-clause-exports
 returns-clause-exports g c = exports_hold g.H.TreeHash.hash g.R.Room g.R.Dsk.Disk g.O.Sink g.E.Sink
     g.met.R.Dsk.Disk.reads_crash_state g.met.R.Dsk.Disk.only_now g.met.R.Room.modelled_file
     g.met.R.Dsk.Disk.contents_bytes
+
+pub returns-clause-conflicts : goal.returns-clause-conflicts
+returns-clause-conflicts g c = two_signatures_collide g.H.TreeHash.hash g.R.Room g.R.Dsk.Disk
+    g.O.Sink g.E.Sink g.met.R.Dsk.Disk.reads_crash_state g.met.R.Dsk.Disk.only_now
+    g.met.R.Room.modelled_file g.met.R.Dsk.Disk.contents_bytes
