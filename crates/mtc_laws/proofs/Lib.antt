@@ -1,5 +1,6 @@
 mod CertTexts
 mod Certified
+mod Counted
 pub mod KilledRuns
 mod Monitored
 mod Recordings

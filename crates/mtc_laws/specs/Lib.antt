@@ -1,4 +1,5 @@
 pub mod CertLaws
+pub mod CountLaws
 pub mod Killed
 pub mod MonitorLaws
 pub mod RecordedTwice

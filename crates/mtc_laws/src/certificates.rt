@@ -4,6 +4,7 @@
 ghost use Rattle.mtc_top.specs.Executions.{program};
 ghost use Rattle.mtc_laws.specs.CertLaws.{AcceptedIsPrinted, CertificatesArePrinted};
 ghost use Rattle.mtc_laws.specs.CertLaws.{LightCertificatesArePrinted};
+ghost use Rattle.mtc_laws.specs.CountLaws.{PrintedSignaturesCount};
 
 use disk_core::Disk;
 use mtc_io::Sink;
@@ -22,4 +23,10 @@ pub fn law_certificates_are_printed_and_judged<H: TreeHash, R: Room, O: Sink, E:
         (program H.hash R.Room R.Dsk.Disk O.Sink E.Sink) }
     ensures accepted { AcceptedIsPrinted H.hash
         (program H.hash R.Room R.Dsk.Disk O.Sink E.Sink) }
+{}
+
+/// A signature that a run of `cosign` of an execution printed counts, for the interval and the hash
+/// of its request, in each store of the cosigner's log that has its id and public key in a rule.
+pub fn law_printed_signatures_count<H: TreeHash, R: Room, O: Sink, E: Sink>()
+    ensures { PrintedSignaturesCount H.hash (program H.hash R.Room R.Dsk.Disk O.Sink E.Sink) }
 {}

@@ -1,0 +1,265 @@
+-- What `cosign` printed counts for each store that has the cosigner's id and key.
+use Rattle.std.proofs.Common.{◌≡◌, ℕ, ◌+◌, ◌^◌, ◌<◌, Bool, true, false, not, nat_lt, List, []}
+use Rattle.std.proofs.Common.{◌∷◌, ◌++◌, Option, None, Some, Ok, Err, refl, sym, subst, ap}
+use Rattle.std.proofs.Common.{◌∙◌, if◌then◌else◌, option_map}
+use Rattle.std.specs.Prelude.{slice_get}
+use Rattle.std.specs.Str.{bytes_eq}
+use Rattle.std.specs.List.{AllByRecursion, Contains, flat_map}
+use Rattle.std.proofs.lemmas.Bool.{ltb-true}
+use Rattle.byte_formats.specs.Offsets.{IsBytes}
+use Rattle.byte_formats.specs.Readings.{◌>>=◌, some_or}
+use Rattle.byte_formats.specs.Types.{HashFunction}
+use Rattle.byte_formats.proofs.Steps.{bind_ok, ok_is, some_or_ok}
+use Rattle.tree_core.specs.Subtree.{is_subtree}
+use Rattle.tree_proofs.specs.Checkpoints.{has_subtree}
+use Rattle.lms_core.specs.Heights.{height}
+use Rattle.lms_core.specs.Trees.{private_key}
+use Rattle.lms_core.specs.declared.private_key.PrivateKey.{PrivateKey}
+use Rattle.hss_core.specs.Hss.{Verifies, one_level_public, one_level_signature}
+use Rattle.hss_core.proofs.Verifies.{signature_verifies}
+use Rattle.disk_core.specs.declared.disk.Disk.{Ghosts as Disks}
+use Rattle.journal_core.specs.Folds.{state_after, taken_from}
+use Rattle.journal_core.specs.Format.{AreRecordsAt, end_following}
+use Rattle.journal_core.proofs.Copies.{first_are_bytes}
+use Rattle.journal_core.proofs.Standing.{found_stands}
+use Rattle.file_events.specs.Executions.{IsPrefix}
+use Rattle.file_events.proofs.Stays.{first_held}
+use Rattle.mtc_io.specs.declared.sink.Sink.{Ghosts as Sinks}
+use Rattle.mtc_room.specs.Room.{ModelsFile}
+use Rattle.mtc_room.specs.declared.room.Room.{Ghosts as Rooms}
+use Rattle.mtc_proof.specs.Inputs.{signed_text}
+use Rattle.mtc_proof.specs.Proofs.{IsMtcSignature, ProofParts, SigParts, signature_text}
+use Rattle.policy_core.specs.Counting.{counted, is_in_set, is_named}
+use Rattle.policy_core.specs.declared.cosigners.Known.{Known}
+use Rattle.policy_core.specs.declared.store.Store.{Store}
+use Rattle.policy_core.proofs.Sets.{signed_counts}
+use Rattle.cosigner_core.specs.Folds.{CosignerState, after_step, begun_cosigner, cosigner_fold}
+use Rattle.cosigner_core.specs.Folds.{cosigner_of, key_count, new_cosigner, next_state}
+use Rattle.cosigner_core.specs.Folds.{progress_of, with_progress}
+use Rattle.cosigner_core.specs.Progress.{is_allowed, with_step}
+use Rattle.cosigner_core.specs.Records.{cosigner_in, sign_record, step_in}
+use Rattle.cosigner_core.specs.Refusals.{cosign_refused, earlier, journal_refusal}
+use Rattle.cosigner_core.specs.Refusals.{subtree_refusal}
+use Rattle.cosigner_core.specs.Requests.{SubtreeParts}
+use Rattle.cosigner_core.specs.Signatures.{signature_by}
+use Rattle.cosigner_core.specs.declared.error.CosignError.{CosignError}
+use Rattle.cosigner_core.specs.declared.error.CosignError.TheVariants.{BadProof, BadSubtree}
+use Rattle.cosigner_core.specs.declared.error.CosignError.TheVariants.{Beyond, Exhausted}
+use Rattle.cosigner_core.specs.declared.error.CosignError.TheVariants.{WrongLog}
+use Rattle.cosigner_core.specs.declared.settings.CosignerSettings.{CosignerSettings}
+use Rattle.cosigner_core.proofs.FirstRecords.{cosigner_takes, then_some}
+use Rattle.cosigner_core.proofs.Forms.{subtree_only}
+use Rattle.cosigner_core.proofs.Tagged.{some_value, when_some}
+use Rattle.party_history.specs.Rules.{StartsWith}
+use Rattle.party_history.specs.declared.start.PartyStart.{PartyStart}
+use Rattle.party_history.specs.declared.start.PartyStart.TheVariants.{Cosigner}
+use Rattle.party_history.proofs.Cosigners.{number_added, of_first, sign_read}
+use Rattle.mtc_words.specs.Commands.{cosign}
+use Rattle.mtc_command.specs.Made.{appended}
+use Rattle.mtc_command.proofs.Made.{OnlyNow, ReadsCrashState}
+use Rattle.mtc_cosigner.specs.CosignerOutcomes.{cosigned_text}
+use Rattle.mtc_plans.specs.Heard.{CosignsSo}
+use Rattle.mtc_plans.proofs.Heard.{cosigned_so}
+use Rattle.mtc_top.specs.Executions.{program}
+use Rattle.mtc_top.specs.PrintLaws.{HasCosigned, OfHeard}
+use Rattle.mtc_top.proofs.HeardRuns.{file_bytes, heard_held, printed_so}
+use Rattle.mtc_top.proofs.Leaves.{first_own, serves}
+use Rattle.mtc_top.proofs.Printed.{did_so, heard_so}
+use Rattle.mtc_top.proofs.Recovered.{crash_state_list, each_held, held_prefix, modelled_then}
+use Rattle.mtc_laws.specs.CountLaws.{PrintedSignaturesCount, signature_of}
+
+-- ---- a cosigner keeps its key
+
+same_key : (h : HashFunction) (k : ℕ) (s t : CosignerState) (bodies : List (List ℕ))
+    → taken_from (cosigner_fold h) k s bodies ≡ Ok t → t.key.key ≡ s.key.key
+unfolding taken_from next_state
+same_key h k s t [] is = ap (λ (u : CosignerState). u.key.key) (sym (ok_is ℕ s t is))
+same_key h k s t (body ∷ bodies) is =
+    let step = bind_ok (some_or k (next_state h s body))
+    (λ (u : CosignerState). taken_from (cosigner_fold h) (k + 1) u bodies) t is in
+    let said = then_some (after_step h s) (step_in body) step.0
+    (some_or_ok k (next_state h s body) step.0 step.1) in
+    let next : CosignerState = with_progress s (with_step (progress_of s) said.0) in
+    let made = when_some (is_allowed h (key_count s) (progress_of s) said.0) (Some next) step.0
+    said.2 in
+    same_key h (k + 1) step.0 t bodies step.2
+    ∙ ap (λ (u : CosignerState). u.key.key) (sym (some_value next step.0 made.1))
+
+key_of_first : (h : HashFunction) (settings : CosignerSettings) (first secret : List ℕ)
+    (bodies : List (List ℕ)) (s : CosignerState) → cosigner_in first ≡ Some (settings, secret)
+    → cosigner_of h (first ∷ bodies) ≡ Ok s
+    → s.key.key ≡ private_key settings.lms settings.ots secret
+unfolding state_after begun_cosigner
+key_of_first h settings first secret bodies s begins is =
+    let new : CosignerState = new_cosigner h settings secret in
+    let taken : taken_from (cosigner_fold h) 1 new bodies ≡ Ok s =
+    sym (ap (λ (o : Option (CosignerSettings × List ℕ)). some_or 0 (option_map
+    (λ (x : CosignerSettings × List ℕ). new_cosigner h x.0 x.1) o)
+    >>= λ (u : CosignerState). taken_from (cosigner_fold h) 1 u bodies) begins) ∙ is in
+    same_key h 1 new s bodies taken
+
+-- ---- the next key is one of its keys
+
+keys_left : (a b c d e : Bool) (one two three four five : CosignError)
+    (second : Option CosignError) → earlier (if a then Some one else (if b then Some two
+    else (if c then Some three else (if d then Some four
+    else (if not e then Some five else None))))) second ≡ None → e ≡ true
+keys_left true b c d e one two three four five second is =
+    let wrong : Some one ≡ None = is in absurd cc
+keys_left false true c d e one two three four five second is =
+    let wrong : Some two ≡ None = is in absurd cc
+keys_left false false true d e one two three four five second is =
+    let wrong : Some three ≡ None = is in absurd cc
+keys_left false false false true e one two three four five second is =
+    let wrong : Some four ≡ None = is in absurd cc
+keys_left false false false false false one two three four five second is =
+    let wrong : Some five ≡ None = is in absurd cc
+keys_left false false false false true one two three four five second is = refl
+
+next_below : (h : HashFunction) (s : CosignerState) (broken : Bool) (end : ℕ) (r : SubtreeParts)
+    → cosign_refused h s broken end r ≡ None → s.key.next < key_count s
+unfolding subtree_refusal
+next_below h s broken end r is =
+    ltb-true s.key.next (key_count s) (keys_left (not (bytes_eq r.log s.log))
+    (not (is_subtree r.start r.end)) (nat_lt s.held.size r.end)
+    (not (has_subtree h s.held r.start r.end r.hash r.proof)) (nat_lt s.key.next (key_count s))
+    WrongLog BadSubtree (Beyond s.held.size) BadProof Exhausted
+    (journal_refusal broken end (sign_record s.key.next r.start r.end r.hash r.proof)) is)
+
+-- ---- what it signs counts
+
+counts_so : (h : HashFunction) (settings : CosignerSettings) (public first : List ℕ)
+    (bodies : List (List ℕ)) (s : CosignerState) (r : SubtreeParts)
+    → StartsWith (Cosigner settings public) first → IsBytes first
+    → cosigner_of h (first ∷ bodies) ≡ Ok s → s.key.next < key_count s
+    → (store : Store) (place : ℕ) (known : Known) (proof : ProofParts) (list : List SigParts)
+    → slice_get store.cosigners place ≡ Some known → known.id ≡ settings.id
+    → known.key ≡ public → is_named store.rules place ≡ true → store.log ≡ settings.log
+    → proof.start ≡ r.start → proof.end ≡ r.end → AllByRecursion IsMtcSignature list
+    → proof.signatures ≡ flat_map signature_text list → Contains list (signature_of s r)
+    → is_in_set (counted store proof r.hash) place ≡ true
+counts_so h settings public first bodies s r starts bytes made few store place known proof list
+    there id key named log start end each encoded among =
+    let secret = starts.0 in
+    let takes = (cosigner_takes first settings secret bytes starts.1.0).1 in
+    let own = of_first h settings public first bodies s starts made in
+    let kept = key_of_first h settings first secret bodies s starts.1.0 made in
+    let below : s.key.next < 2 ^ height settings.lms =
+    subst (λ (x : PrivateKey). s.key.next < 2 ^ height x.lms) kept few in
+    let text = signed_text s.id s.log r.start r.end r.hash in
+    let signature = signature_by s r.start r.end r.hash in
+    let by_key : Verifies (one_level_public s.key.key) text signature =
+    subst (λ (x : PrivateKey). Verifies (one_level_public x) text
+    (one_level_signature x s.key.next text)) (sym kept)
+    (signature_verifies settings.lms settings.ots secret text s.key.next takes.sized below) in
+    let id_is : s.id ≡ known.id = own.0 ∙ sym id in
+    let text_is : text ≡ signed_text known.id store.log proof.start proof.end r.hash =
+    ap (λ (i : List ℕ). signed_text i s.log r.start r.end r.hash) id_is
+    ∙ ap (λ (l : List ℕ). signed_text known.id l r.start r.end r.hash) (own.1 ∙ sym log)
+    ∙ ap (λ (n : ℕ). signed_text known.id store.log n r.end r.hash) (sym start)
+    ∙ ap (λ (n : ℕ). signed_text known.id store.log proof.start n r.hash) (sym end) in
+    signed_counts store proof r.hash place known list signature there named each encoded
+    (subst (λ (i : List ℕ). Contains list (record { cosigner = i; signature = signature })) id_is
+    among)
+    (subst (λ (m : List ℕ). Verifies known.key m signature) text_is
+    (subst (λ (k : List ℕ). Verifies k text signature) (own.2 ∙ sym key) by_key))
+
+-- ---- the first record
+
+first_or : List (List ℕ) → List ℕ
+first_or [] = []
+first_or (x ∷ xs) = x
+
+no_cosigner : (k : ℕ) (s : CosignerState) → Err k ≡ Ok s → ⊥
+no_cosigner k s is = cc
+
+-- what has a state begins with the record with which the records begin that it is a prefix of
+begins_so : (h : HashFunction) (list : List (List ℕ)) (body first : List ℕ)
+    (rest others more found : List (List ℕ)) (s : CosignerState) → cosigner_of h list ≡ Ok s
+    → (list ++ body ∷ []) ++ rest ≡ found → (first ∷ others) ++ more ≡ found
+    → (bodies : List (List ℕ)) × (list ≡ first ∷ bodies)
+unfolding state_after first_or
+begins_so h [] body first rest others more found s is one two = absurd (no_cosigner 0 s is)
+begins_so h (x ∷ xs) body first rest others more found s is one two =
+    (xs, ap (λ (y : List ℕ). y ∷ xs) (ap first_or (one ∙ sym two)))
+
+-- ---- the runs
+
+module _ {R S D O E : Type 0} (h : HashFunction) (rooms : Rooms R S D) (disks : Disks D)
+    (outs : Sinks O) (errs : Sinks E) (crash_state : ReadsCrashState disks) (only : OnlyNow disks)
+    (contents : (room : R) (name : List ℕ) → rooms.is_modelled room
+    → ModelsFile disks.contents (rooms.file room name) (rooms.device room name))
+    (bytes : (d : D) (b : List ℕ) → disks.contents d ≡ Some b → IsBytes b) where
+  pub signatures_count : PrintedSignaturesCount h (program h rooms disks outs errs)
+  signatures_count name start first begins new events begun execution settings public file is =
+      let p = program h rooms disks outs errs in
+      let own = first_own h rooms disks outs errs crash_state only contents bytes name
+      (first ∷ begun.others) begins events begun.held in
+      let one =
+      (serves h rooms disks outs errs crash_state only contents bytes name own).rooms.some new name
+      (modelled_then h rooms disks outs errs crash_state only contents bytes name start first begins
+      new events begun execution) in
+      let stands = crash_state_list h rooms disks outs errs crash_state only contents bytes name
+      start first begins new events begun execution one.0 one.1 in
+      let found = stands.0 in
+      let starts : StartsWith (Cosigner settings public) first =
+      subst (λ (n : PartyStart). StartsWith n first) is begun.starts in
+      let whole = held_prefix h rooms disks outs errs crash_state only contents bytes name start
+      first begins new events begun execution (first ∷ begun.others) found
+      (first_held (first ∷ begun.others) _ begun.held) (one.0, (one.1, stands.1)) in
+      each_held h rooms disks outs errs crash_state only contents bytes name start first begins new
+      events begun execution (λ list. IsPrefix list found)
+      (OfHeard h p (cosign name file) (λ before run.
+      (signed : HasCosigned h p name file before run)
+      × ((store : Store) (place : ℕ) (known : Known) (proof : ProofParts) (list : List SigParts)
+      → slice_get store.cosigners place ≡ Some known → known.id ≡ settings.id
+      → known.key ≡ public → is_named store.rules place ≡ true → store.log ≡ settings.log
+      → proof.start ≡ signed.request.start → proof.end ≡ signed.request.end
+      → AllByRecursion IsMtcSignature list → proof.signatures ≡ flat_map signature_text list
+      → Contains list (signature_of signed.state signed.request)
+      → is_in_set (counted store proof signed.request.hash) place ≡ true)))
+      (λ list held. held_prefix h rooms disks outs errs crash_state only contents bytes name start
+      first begins new events begun execution list found held (one.0, (one.1, stands.1)))
+      (λ old run is_modelled is_run prefixes spoken heard.
+      let command = cosign name file in
+      let s = heard_so h rooms disks outs errs old run command spoken is_modelled is_run heard
+      (CosignsSo h (rooms.file old) name file) (cosigned_so h (rooms.file old) name file) in
+      let r = s.request in
+      let state = s.found.state in
+      let list = s.found.records in
+      let are = file_bytes disks (rooms.file old name) (rooms.device old name) s.held bytes
+      (contents old name is_modelled) s.there in
+      let held = found_stands (cosigner_fold h) s.held s.found are s.is_cosigner in
+      let asked = file_bytes disks (rooms.file old file) (rooms.device old file) s.bytes bytes
+      (contents old file is_modelled) s.has_bytes.there in
+      let body = sign_record state.key.next r.start r.end r.hash r.proof in
+      let signs = sign_read h state r false (end_following list)
+      (subtree_only s.bytes r asked s.asked).1 s.fits in
+      let did = did_so h rooms disks outs errs old run command spoken name (appended list body)
+      refl s.did in
+      let prefix = prefixes (list ++ body ∷ [])
+      (heard_held h rooms disks outs errs old run is_run heard name list body did) in
+      let begins_with = begins_so h list body first prefix.0 begun.others whole.0 found state held.1
+      prefix.1 whole.1 in
+      let first_bytes = first_are_bytes s.held first begins_with.0 are
+      (subst (λ (l : List (List ℕ)). AreRecordsAt s.held 16 l) begins_with.1 held.0.holds) in (
+        record {
+          text = s.bytes;
+          has_text = record { there = s.has_bytes.there; few = s.has_bytes.few };
+          request = r;
+          asked = s.asked;
+          list = list;
+          state = state;
+          cosigner_is = held.1;
+          body = body;
+          did = did;
+          uses = number_added h list state body state.key.next r.start r.end r.hash r.proof held.1
+              signs;
+          signs = signs;
+          printed = printed_so h rooms disks outs errs old run is_run heard (cosigned_text state r)
+              s.reply_is;
+        },
+        counts_so h settings public first begins_with.0 state r starts first_bytes
+            (subst (λ (l : List (List ℕ)). cosigner_of h l ≡ Ok state) begins_with.1 held.1)
+            (next_below h state false (end_following list) r s.fits),
+      ))
