@@ -1,8 +1,9 @@
 //! A cosigner over one journal: it holds the root of a larger log, and signs a subtree of it.
 //!
-//! `example_cosigner JOURNAL SECRET LARGER SUBTREE`: where there is no journal of this name, one is
-//! begun with the secret, 48 bytes. The requests are those that `mtc consist` and `mtc subtree`
-//! write. It prints the size of the log that it holds, and the cosignature in hexadecimal.
+//! `example_cosigner JOURNAL LARGER SUBTREE [SECRET]`: with the secret, a file of 48 bytes, a new
+//! journal is begun. A journal that isn't found is never begun again by itself: one secret belongs to
+//! one journal. The requests are those that `mtc consist` and `mtc subtree` write. It prints the
+//! size of the log that it holds, and the cosignature in hexadecimal.
 #![tactic(auto)]
 
 ghost use Rattle.std.specs.Prelude.{◌≡◌, IfOk};
@@ -17,7 +18,6 @@ use mtc_library::cosigning::{
 use std::alloc::Global;
 use std::env;
 use std::fs::{self, File};
-use std::io::ErrorKind;
 use std::rt::Files;
 
 // No signature is longer.
@@ -47,19 +47,17 @@ fn begun(alloc: Global, device: FileDisk, secret: &[u8]) -> anyhow::Result<FileD
     }
 }
 
-// The device of the journal of this name, for this process alone.
+// The device of the journal of this name, for this process alone. With a secret the journal is a new
+// one, and a file of its name is refused: a secret begins one journal, once.
 fn device_of<R: Files<File = File>>(
     files: &R,
     alloc: Global,
     journal: &str,
-    secret: &[u8],
+    secret: Option<&[u8]>,
 ) -> anyhow::Result<FileDisk> {
-    match open_journal(files, journal) {
-        Ok(device) => Ok(device),
-        Err(why) if why.kind() == ErrorKind::NotFound => {
-            begun(alloc, new_journal(files, journal)?, secret)
-        }
-        Err(why) => bail!("the journal: {why}"),
+    match secret {
+        Some(secret) => begun(alloc, new_journal(files, journal)?, secret),
+        None => Ok(open_journal(files, journal)?),
     }
 }
 
@@ -118,13 +116,20 @@ fn signed<D: Disk>(
 fn main(rt: HostRuntime) -> anyhow::Result<()> {
     let alloc = rt.alloc();
     let words: Vec<String> = env::args(&rt)?.skip(1).collect(alloc)?;
-    let [journal, secret, larger, subtree] = words.as_slice() else {
-        bail!("example_cosigner JOURNAL SECRET LARGER SUBTREE");
+    let (journal, larger, subtree, secret) = match words.as_slice() {
+        [journal, larger, subtree] => (journal, larger, subtree, None),
+        [journal, larger, subtree, secret] => (journal, larger, subtree, Some(secret)),
+        _ => bail!("example_cosigner JOURNAL LARGER SUBTREE [SECRET]"),
     };
-    let secret = fs::read(&rt, secret.as_str())?;
     let larger = fs::read(&rt, larger.as_str())?;
     let subtree = fs::read(&rt, subtree.as_str())?;
-    let device = device_of(&rt, alloc, journal.as_str(), secret.as_slice())?;
+    let device = match secret {
+        Some(secret) => {
+            let secret = fs::read(&rt, secret.as_str())?;
+            device_of(&rt, alloc, journal.as_str(), Some(secret.as_slice()))?
+        }
+        None => device_of(&rt, alloc, journal.as_str(), None)?,
+    };
     let mut cosigner = cosigner_of(alloc, device)?;
     println!(rt; "held {}", held(&mut cosigner, larger.as_slice())?)?;
     let text = signed(alloc, &mut cosigner, subtree.as_slice())?;
