@@ -18,7 +18,7 @@ figures() {
 
 # Lines SCRIPT|WORK|AGAINST|LOW|HIGH|as it is shown, of lines SCRIPT|WORK|AGAINST|RATIO ..|DAY.
 ranges() {
-    figures hashes signatures judging proofs opening | awk -F '|' '
+    figures hashes signatures judging proofs opening quarrel | awk -F '|' '
         function shown(ratio) { return ratio < 1000 ? ratio : sprintf("%d,000", ratio / 1000 + 0.5) }
         {
             count = split($4, ratio, " ")
