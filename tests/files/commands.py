@@ -41,8 +41,9 @@ COMMANDS = [
     Command("tile j", "tiled 256\n", adds=TILES, again="mtc: tile: NothingNew\n"),
     Command("advance s forward", "advanced 257\n", adds=ADVANCE, again="mtc: advance: NotNewer 257\n"),
     Command("cosign s part", adds=SIGN),
-    Command("checkpoint j"), Command("entries j 2"), Command("consist j 1 257"), Command("subtree j 0 4 257"),
-    Command("landmarks j", "1 1\n256\n0\n"), Command("light-cert j 1"), Command("cert j 1 0 4 none"), Command("export s"),
+    Command("checkpoint j"), Command("entries j 2"), Command("entries-from j 2 257"), Command("consist j 1 257"),
+    Command("subtree j 0 4 257"), Command("landmarks j", "1 1\n256\n0\n"), Command("light-cert j 1"),
+    Command("cert j 1 0 4 none"), Command("export s"),
 ]
 BEGINNING = [command for command in COMMANDS if command.begins]
 ADDING = [command for command in COMMANDS if command.adds]

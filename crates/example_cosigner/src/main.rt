@@ -47,8 +47,8 @@ fn begun(alloc: Global, device: FileDisk, secret: &[u8]) -> anyhow::Result<FileD
     }
 }
 
-// The device of the journal of this name, for this process alone. With a secret the journal is a new
-// one, and a file of its name is refused: a secret begins one journal, once.
+// The device of the journal of this name, for this process alone. With a secret the journal is new,
+// and a file of its name is refused: a secret begins one journal, once.
 fn device_of<R: Files<File = File>>(
     files: &R,
     alloc: Global,

@@ -105,7 +105,7 @@ stops 0 8
 then 16
 ";
 
-/// The same from the beginning, where the file of the tiles stops: it is synced, written and synced.
+/// The same from the beginning, where the file of the tiles stops: synced, written and synced.
 pub const TILES: &str = "
 run tile j
 device j.tiles
