@@ -3,7 +3,7 @@
 # has one-time keys, each of an entry of a log of 1,048,576, by a proof of 20 hashes. The program prints the export, and compares
 # its signatures 98 times, so 100,352 of them: as a ratio against hashing each pair of hashes that the proofs open once, by the
 # kit's hash. The program reads the file, opens each proof, and looks up each interval. Three rounds, of which the least times
-# count, since work can only be held up. Of one run the processor seconds, the least of five, and the most memory held are told.
+# count, since work can only be held up. Of one run the processor seconds, the least of five, and the most memory held are printed.
 # An export in which signatures are in conflict can't be had. Needs python3 and GNU time. Not part of the gate.
 # Usage: bench/quarrel.sh [--write]   with --write the ratio goes into bench/quarrel/figures.txt
 # The variable PROGRAM names another program than that of ./mtc.

@@ -1,8 +1,8 @@
 //! A cosigner over one journal: it holds the root of a larger log, and signs a subtree of it.
 //!
 //! `example_cosigner JOURNAL LARGER SUBTREE [SECRET]`: with the secret, a file of 48 bytes, a new
-//! journal is begun. A journal that isn't found is never begun again by itself: one secret belongs to
-//! one journal. The requests are those that `mtc consist` and `mtc subtree` write. It prints the
+//! journal is begun. A journal that isn't found is never begun again by itself: one secret belongs
+//! to one journal. The requests are those that `mtc consist` and `mtc subtree` write. It prints the
 //! size of the log that it holds, and the cosignature in hexadecimal.
 #![tactic(auto)]
 
