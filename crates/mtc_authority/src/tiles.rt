@@ -46,8 +46,8 @@ fn refuse_tiles<'a>(journal: &'a str, why: LogError) -> Stop<'a>
 }
 
 /// The work of `tile J`. The text is made before the tiles are stored, so that nothing takes memory
-/// after the append. At any time a crash leaves the tiles that go with the records: those of the
-/// last size, and those of the new one if it leaves its record.
+/// after the append. What is then left has the tiles that go with its records: those of the last
+/// size, and those of the new one if its record is there.
 pub fn tile_on<'a, H: TreeHash, D: Disk>(
     alloc: Global,
     journal: &'a str,

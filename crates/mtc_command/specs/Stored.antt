@@ -28,8 +28,8 @@ MayRepresent (started body) now = Unit {0}
 
 -- Which bytes of the file go with which records, and which records a journal may have.
 module _ (goes : List Text → Text → Type 0) (Valid : List Text → Type 0) where
-  -- The work on both had begun. The record that is added follows the rules, and the file goes with
-  -- the records at each time, with the new one wherever that is there.
+  -- The work on both had begun. The record that is added follows the rules, and what is left of the
+  -- file goes with the records that are left, with the new one wherever that is there.
   pub record StoresBoth (did : Journaled) (now beside beside' : CrashStates) : Type 0 where
     pub valid : AddsValid Valid did
     pub stands : MayRepresent did now

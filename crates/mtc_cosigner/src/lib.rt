@@ -5,9 +5,8 @@
 //! signature and an export. What each command has to reply, and what it does with the journal, are
 //! definitions in `specs/`.
 //!
-//! No clause says that a signature that is printed counts for its cosigner in a certificate:
-//! `relying_party::law_cosignatures_count` says it of a list of signatures, and no law reads that
-//! list from the printed bytes.
+//! No clause here says that a signature that is printed counts for its cosigner in a certificate: a
+//! law of the crate `mtc_laws` does, over `relying_party::law_cosignatures_count`.
 #![tactic(auto)]
 
 mod cosigner_command;

@@ -65,8 +65,8 @@ module _ {R S D O E : Type 0} (h : HashFunction) (rooms : Rooms R S D) (disks : 
     pub valid : KeepsValid rooms disks asked.Valid asked.journals (asked.outcome (rooms.file old))
         old new
     -- Of the journal of a log and the file of its tiles nothing new is left, and the journal reads
-    -- as before; or it has the records that were found, or these and the new one, and the tiles go
-    -- with the records at each time, with the new one wherever it is there.
+    -- as before; or it has the records that were found, or these and the new one, and what is left
+    -- of the tiles goes with the records that are left, with the new one wherever it is there.
     pub stores : StoresBeside (HasTilesOf h) asked.Valid rooms disks old new asked.journals
         asked.besides (asked.outcome (rooms.file old))
 

@@ -23,8 +23,8 @@ pub enum Command<'a> {
     Checkpoint(&'a str),
     /// `entries J SIZE`: write the first entries of the log with their keys.
     Entries(&'a str, u64),
-    /// `entries-from J FIRST SIZE`: write the entries of the log from one index up to a size,
-    /// without that index, with their keys.
+    /// `entries-from J FIRST SIZE`: write the entries of the log from one index on, as far as it
+    /// had them at a size, with their keys.
     EntriesFrom(&'a str, u64, u64),
     /// `consist J OLD NEW`: write a request to a cosigner to advance from one size of the log to
     /// another.
