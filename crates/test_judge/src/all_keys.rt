@@ -53,17 +53,22 @@ fn export_of_all(alloc: Global) -> Option<Bytes> {
 }
 
 // How many steps the export has, if its signatures agree.
-fn count_agreeing(alloc: Global) -> Option<usize> {
-    let bytes = export_of_all(alloc)?;
-    let kept = read_export::<Sha>(alloc, bytes.as_slice()).ok()??;
+fn count_agreeing(alloc: Global, export: &[u8]) -> Option<usize> {
+    let kept = read_export::<Sha>(alloc, export).ok()??;
     match quarrel::<Sha>(alloc, &kept) {
         Ok(Quarrel::Agree) => Some(kept.steps.as_slice().len()),
         _ => None,
     }
 }
 
+// The same of the export of a cosigner that has signed with each key.
+fn count_of_all(alloc: Global) -> Option<usize> {
+    let bytes = export_of_all(alloc)?;
+    count_agreeing(alloc, bytes.as_slice())
+}
+
 #[test]
 fn signatures_by_all_keys_agree(rt: HostRuntime) {
-    let count = count_agreeing(rt.alloc());
+    let count = count_of_all(rt.alloc());
     assert!(rt; count == Some(1025), "{count:?}");
 }
