@@ -86,7 +86,7 @@ def strays():
     for folder in (folder for name in CRATES for folder in ledger.folders_of(name) if folder.is_dir()):
         yield from (path for path in sorted(folder.iterdir()) if path.suffix != ".edit" or not path.is_file())
     for path in sorted(ledger.EDITS.iterdir()):
-        if path != ledger.LEDGER and not (path.is_dir() and path.name in CRATES):
+        if path not in (ledger.LEDGER, ledger.DUE) and not (path.is_dir() and path.name in CRATES):
             yield path
 
 
