@@ -2,7 +2,7 @@
 use Rattle.std.specs.Prelude.{◌++◌, codes}
 use Rattle.std.specs.Fmt.{decimal}
 use Rattle.byte_formats.specs.Types.{Text}
-use Rattle.journal_core.specs.declared.error.AppendError.TheVariants as append_error
+use Rattle.journal_core.specs.Reasons.{append_fault_text}
 use Rattle.cosigner_core.specs.declared.error.CosignError.{CosignError}
 use Rattle.cosigner_core.specs.declared.error.CosignError.TheVariants as cosign_error
 use Rattle.cosigner_core.specs.declared.fault.FormError.{FormError}
@@ -18,9 +18,7 @@ step_fault_text cosign_error.BadSubtree = codes "BadSubtree"
 step_fault_text (cosign_error.Beyond held) = codes "Beyond " ++ decimal held
 step_fault_text cosign_error.BadProof = codes "BadProof"
 step_fault_text cosign_error.Exhausted = codes "Exhausted"
-step_fault_text (cosign_error.Append append_error.Failed) = codes "Failed"
-step_fault_text (cosign_error.Append append_error.Broken) = codes "Broken"
-step_fault_text (cosign_error.Append append_error.Full) = codes "JournalFull"
+step_fault_text (cosign_error.Append why) = append_fault_text why
 
 -- Why a file is no request.
 abbrev pub form_fault_text : FormError → Text

@@ -49,9 +49,7 @@ impl fmt::Display for CosignError {
             CosignError::Beyond(held) => write!(f, "Beyond {held}"),
             CosignError::BadProof => f.write_str("BadProof"),
             CosignError::Exhausted => f.write_str("Exhausted"),
-            CosignError::Append(AppendError::Failed) => f.write_str("Failed"),
-            CosignError::Append(AppendError::Broken) => f.write_str("Broken"),
-            CosignError::Append(AppendError::Full) => f.write_str("JournalFull"),
+            CosignError::Append(why) => why.fmt(f),
         }
     }
 }

@@ -60,16 +60,8 @@ impl fmt::Display for LogOpenError {
     fn fmt<W: fmt::Write>(&self, f: &mut fmt::Formatter<W>) -> fmt::Result {
         match self {
             LogOpenError::BadRecord(number) => write!(f, "BadRecord {number}"),
-            LogOpenError::Tile(TileError::Failed) => f.write_str("Failed"),
-            LogOpenError::Tile(TileError::BadTile { level, place }) => write!(
-                f,
-                "BadTile {level} {place}"
-            ),
-            LogOpenError::Open(OpenError::NotJournal) => f.write_str("NotJournal"),
-            LogOpenError::Open(OpenError::BadLength(offset)) => write!(f, "BadLength {offset}"),
-            LogOpenError::Open(OpenError::CutShort(offset)) => write!(f, "CutShort {offset}"),
-            LogOpenError::Open(OpenError::Failed) => f.write_str("Failed"),
-            LogOpenError::Open(OpenError::Memory) => f.write_str("Memory"),
+            LogOpenError::Tile(why) => why.fmt(f),
+            LogOpenError::Open(why) => why.fmt(f),
         }
     }
 }
@@ -108,9 +100,7 @@ impl fmt::Display for LogError {
             LogError::NoSuchEntry => f.write_str("NoSuchEntry"),
             LogError::NothingNew => f.write_str("NothingNew"),
             LogError::Failed => f.write_str("Failed"),
-            LogError::Append(AppendError::Failed) => f.write_str("Failed"),
-            LogError::Append(AppendError::Broken) => f.write_str("Broken"),
-            LogError::Append(AppendError::Full) => f.write_str("JournalFull"),
+            LogError::Append(why) => why.fmt(f),
             LogError::Memory => f.write_str("Memory"),
         }
     }

@@ -28,7 +28,7 @@ open_fault_text open_error.Memory = codes "Memory"
 -- Why a record was not appended.
 abbrev pub append_fault_text : AppendError → Text
 append_fault_text append_error.Broken = codes "Broken"
-append_fault_text append_error.Full = codes "Full"
+append_fault_text append_error.Full = codes "JournalFull"
 append_fault_text append_error.Failed = codes "Failed"
 
 -- Why records were not copied.

@@ -107,7 +107,7 @@ impl fmt::Display for AppendError {
     fn fmt<W: fmt::Write>(&self, f: &mut fmt::Formatter<W>) -> fmt::Result {
         match self {
             AppendError::Broken => f.write_str("Broken"),
-            AppendError::Full => f.write_str("Full"),
+            AppendError::Full => f.write_str("JournalFull"),
             AppendError::Failed => f.write_str("Failed"),
         }
     }
