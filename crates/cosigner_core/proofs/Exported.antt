@@ -8,7 +8,7 @@ use Rattle.byte_formats.specs.Offsets.{IsBytes}
 use Rattle.journal_core.specs.Copies.{sized, sized_text}
 use Rattle.journal_core.specs.Ends.{StandBetween, durable_of}
 use Rattle.journal_core.specs.Folds.{state_after}
-use Rattle.journal_core.specs.Format.{AreRecordsAt, end_following}
+use Rattle.journal_core.specs.Format.{AreRecordsAt, end_offset}
 use Rattle.journal_core.proofs.Copies.{following_first, first_are_bytes, prefix_following}
 use Rattle.journal_core.proofs.Copies.{prefix_of_prefix}
 use Rattle.mtc_io.specs.Streams.{AppendsPrefix}
@@ -29,12 +29,12 @@ same_text (body ∷ bodies) = ap (λ (rest : Text). sized body ++ rest) (same_te
 -- this is the end after the first record of such a cosigner, or that of its journal
 abbrev pub IsFirstEnd : CosignerState → ℕ → ℕ → Type 0
 IsFirstEnd s from end = (first : Text) → length first ≡ 59 + length s.id + length s.log
-    → from ≡ min (end_following (first ∷ [])) end
+    → from ≡ min (end_offset (first ∷ [])) end
 
 module _ (h : HashFunction) (s : CosignerState) (from end : ℕ) (is : IsFirstEnd s from end) where
   -- the records that are exported
   second : (bytes : Text) (list : List Text) → IsBytes bytes → AreRecordsAt bytes 16 list
-      → end ≡ end_following list → cosigner_of h list ≡ Ok s
+      → end ≡ end_offset list → cosigner_of h list ≡ Ok s
       → StandBetween bytes from end (drop 1 list)
   unfolding state_after
   second bytes [] are_bytes there last made = let wrong : Err 0 ≡ Ok s = made in absurd cc

@@ -4,7 +4,7 @@ use Rattle.byte_formats.specs.Types.{Text, HashFunction}
 use Rattle.disk_core.specs.Times.{OnlyReads}
 use Rattle.disk_core.specs.declared.disk.Disk.{Ghosts}
 use Rattle.journal_core.specs.Folds.{Found, read_by}
-use Rattle.journal_core.specs.Format.{Represents, end_following, records_of}
+use Rattle.journal_core.specs.Format.{Represents, end_offset, records_of}
 use Rattle.journal_core.specs.Owners.{Owner}
 use Rattle.journal_core.specs.Words.{AllRepresent}
 use Rattle.state_journal.specs.Causes.{CountsNoOther, HasStateCause}
@@ -44,4 +44,4 @@ pub record IsOpenedCosigner {D : Type 0} (g : Ghosts D) (h : HashFunction) (disk
   pub valid : IfSome it.records (λ list. cosigner_of h list ≡ Ok it.state)
   pub stands : IfSome (g.contents it.disk) (λ b. IfSome it.records (Represents b))
   pub all : IfSome it.records (AllRepresent g it.disk)
-  pub end : IfSome it.records (λ list. it.end ≡ end_following list)
+  pub end : IfSome it.records (λ list. it.end ≡ end_offset list)

@@ -7,7 +7,7 @@ ghost use Rattle.std.specs.Io.KnownBytes.{Appends};
 ghost use Rattle.mtc_io.specs.Streams.{AppendsPrefix};
 ghost use Rattle.disk_core.specs.Times.{OnlyReads};
 ghost use Rattle.journal_core.specs.Copies.{HasCopyCause};
-ghost use Rattle.journal_core.specs.Format.{Represents, end_following, records_of};
+ghost use Rattle.journal_core.specs.Format.{Represents, end_offset, records_of};
 ghost use Rattle.journal_core.specs.Words.{AllRepresent};
 ghost use Rattle.hss_core.specs.Hss.{Verifies, one_level_public};
 ghost use Rattle.mtc_proof.specs.Inputs.{signed_text};
@@ -78,7 +78,7 @@ impl<H: TreeHash, D: Disk> Cosigner<H, D> {
         ensures all { IfOk result
             (λ it. IfSome (cosigner_records it) (AllRepresent D.Disk (cosigner_disk it))) }
         ensures end { IfOk result (λ it. IfSome (cosigner_records it)
-            (λ list. cosigner_end it ≡ end_following list)) }
+            (λ list. cosigner_end it ≡ end_offset list)) }
         ensures err { IfErr result (λ e. OnlyReads D.Disk disk e.disk) }
         ensures cause { IfErr result (λ e. HasCosignerCause D.Disk H.hash disk e.disk e.why) }
         ensures fine_err { IfErr result (λ e. CosignerCountsNoOther D.Disk disk e.disk e.why) }

@@ -14,7 +14,7 @@ use Rattle.cosigner_core.specs.Progress.{first_progress, is_allowed, progress_by
 use Rattle.cosigner_core.specs.declared.progress.Progress.{Progress}
 use Rattle.cosigner_core.specs.declared.step.Step.{Step}
 use Rattle.cosigner_core.specs.declared.step.Step.TheVariants.{Advance, Sign}
-use Rattle.cosigner_steps.specs.Steps.{AreSteps, HasPrefix, IsWithin, held_following, held_by}
+use Rattle.cosigner_steps.specs.Steps.{AreSteps, HasPrefix, IsWithin, held_by_first, held_by}
 use Rattle.cosigner_steps.specs.Steps.{held_sizes, with_steps}
 use Rattle.cosigner_steps.proofs.Steps.{IsAdvanceFrom, advance_checks, allowed_at, held_advance}
 use Rattle.cosigner_steps.proofs.Steps.{held_none, held_sign, none_held, rises_to, sign_checks}
@@ -48,30 +48,30 @@ pub back_sign : (h : HashFunction) (steps : List Step) (place index start end : 
     (proof : List Hash) → 0 < place → place ≤ length steps
     → Sign index start end hash proof
     ≡ get_or steps (place - 1) (Sign index start end hash proof)
-    → held_following h steps place ≡ held_by h steps
-    → held_following h steps (place - 1) ≡ held_by h steps
+    → held_by_first h steps place ≡ held_by h steps
+    → held_by_first h steps (place - 1) ≡ held_by h steps
 back_sign h steps place index start end hash proof some within is same =
     let below : place - 1 < length steps = omega arith in
     let here : place - 1 + 1 ≡ place = omega arith in
     sym (held_sign h steps (place - 1) index start end hash proof below is)
-    ∙ (ap (λ (k : ℕ). held_following h steps k) here ∙ same)
+    ∙ (ap (λ (k : ℕ). held_by_first h steps k) here ∙ same)
 
 pub back_advance : (h : HashFunction) (steps : List Step) (place size : ℕ) (root : Hash)
     (proof : List Hash) → 0 < place → place ≤ length steps
     → Advance size root proof ≡ get_or steps (place - 1) (Advance size root proof)
-    → held_following h steps place ≡ held_by h steps
+    → held_by_first h steps place ≡ held_by h steps
     → record { size = size; root = root } ≡ held_by h steps
 back_advance h steps place size root proof some within is same =
     let below : place - 1 < length steps = omega arith in
     let here : place - 1 + 1 ≡ place = omega arith in
     sym (held_advance h steps (place - 1) size root proof below is)
-    ∙ (ap (λ (k : ℕ). held_following h steps k) here ∙ same)
+    ∙ (ap (λ (k : ℕ). held_by_first h steps k) here ∙ same)
 
 pub back_none : (h : HashFunction) (steps : List Step) (place : ℕ) → place ≤ 0
-    → held_following h steps place ≡ held_by h steps → empty_checkpoint h ≡ held_by h steps
+    → held_by_first h steps place ≡ held_by h steps → empty_checkpoint h ≡ held_by h steps
 back_none h steps place none same =
     let nought : 0 ≡ place = omega arith in
-    sym (held_none h) ∙ (ap (λ (k : ℕ). held_following h steps k) nought ∙ same)
+    sym (held_none h) ∙ (ap (λ (k : ℕ). held_by_first h steps k) nought ∙ same)
 
 -- ---- at a step
 
@@ -85,7 +85,7 @@ empty_prefix h entries = record {
 pub sign_checked : (h : HashFunction) (steps : List Step) (k index start end : ℕ) (hash : Hash)
     (proof : List Hash) → AreSteps h steps → k < length steps
     → Sign index start end hash proof ≡ get_or steps k (Sign index start end hash proof)
-    → Checks h start end (held_following h steps k).size hash (held_following h steps k).root proof
+    → Checks h start end (held_by_first h steps k).size hash (held_by_first h steps k).root proof
 unfolding held_by
 sign_checked h steps k index start end hash proof are below is =
     sign_checks h are.keys (with_steps (first_progress h) (take k steps)) index start end hash proof
@@ -94,7 +94,7 @@ sign_checked h steps k index start end hash proof are below is =
 
 pub sign_long : (h : HashFunction) (entries : List Text) (steps : List Step) (k : ℕ)
     (step : Step) → AreSteps h steps → k < length steps → step ≡ get_or steps k step
-    → HasPrefix h entries (held_following h steps (length steps)) → IsWithin (length entries) step
+    → HasPrefix h entries (held_by_first h steps (length steps)) → IsWithin (length entries) step
 unfolding held_by
 sign_long h entries steps k (Advance size root proof) are below is prefix = tt
 sign_long h entries steps k (Sign index start end hash proof) are below is prefix =
@@ -110,7 +110,7 @@ sign_long h entries steps k (Sign index start end hash proof) are below is prefi
 pub advance_at : (h : HashFunction) (steps : List Step) (k size : ℕ) (root : Hash)
     (proof : List Hash) → AreSteps h steps → k < length steps
     → Advance size root proof ≡ get_or steps k (Advance size root proof)
-    → IsAdvanceFrom h (held_following h steps k) size root proof
+    → IsAdvanceFrom h (held_by_first h steps k) size root proof
 unfolding held_by
 advance_at h steps k size root proof are below is =
     let first = first_progress h in
@@ -118,8 +118,8 @@ advance_at h steps k size root proof are below is =
     (allowed_at h are.keys first are.done steps k (Advance size root proof) are.each below is)
 
 pub nothing_held : (h : HashFunction) (entries : List Text) (steps : List Step) (k : ℕ)
-    → AreSteps h steps → (held_following h steps k).size ≡ 0
-    → HasPrefix h entries (held_following h steps k)
+    → AreSteps h steps → (held_by_first h steps k).size ≡ 0
+    → HasPrefix h entries (held_by_first h steps k)
 unfolding held_by
 nothing_held h entries steps k are none =
     subst (HasPrefix h entries)
@@ -127,12 +127,12 @@ nothing_held h entries steps k are none =
     (empty_prefix h entries)
 
 pub size_there : (h : HashFunction) (steps : List Step) (k start end : ℕ)
-    → start < end → end ≤ (held_following h steps k).size
-    → Contains (held_sizes steps) (held_following h steps k).size
+    → start < end → end ≤ (held_by_first h steps k).size
+    → Contains (held_sizes steps) (held_by_first h steps k).size
 size_there h steps k start end some within =
     elim (size_held h (take k steps)) [
       | inl none ↦
-          let size : (held_following h steps k).size ≡ 0 = ap (λ (c : Checkpoint). c.size) none in
+          let size : (held_by_first h steps k).size ≡ 0 = ap (λ (c : Checkpoint). c.size) none in
           absurd (omega arith)
-      | inr there ↦ sizes_take steps k (held_following h steps k).size there
+      | inr there ↦ sizes_take steps k (held_by_first h steps k).size there
     ]

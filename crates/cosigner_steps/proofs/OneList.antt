@@ -20,7 +20,7 @@ use Rattle.collide.specs.Inputs.{inputs_of, open_inputs_of}
 use Rattle.collide.proofs.Compared.{collision_widened}
 use Rattle.collide.proofs.Extracting.{IsSized, ProofsExtract_always}
 use Rattle.cosigner_steps.specs.Laws.{HasHashes, OneListAfter}
-use Rattle.cosigner_steps.specs.Steps.{AreSteps, HasPrefix, IsOfList, held_following, held_by}
+use Rattle.cosigner_steps.specs.Steps.{AreSteps, HasPrefix, IsOfList, held_by_first, held_by}
 use Rattle.cosigner_steps.specs.Steps.{held_sizes, prefix_inputs, proof_inputs, step_inputs}
 use Rattle.cosigner_steps.proofs.Steps.{held_advance, held_sign, inputs_at, prefix_at, size_at}
 use Rattle.cosigner_steps.proofs.Holding.{advance_at, nothing_held, sign_checked, size_there}
@@ -66,7 +66,7 @@ prefix_extracts h sized entries prefix start end node proof own hashes checks =
 -- What is found of a prefix that was held, and of the proof of a step.
 found_in : (h : HashFunction) (entries : List Text) (steps : List Step) (k size : ℕ) (s : Step)
     → k < length steps → s ≡ get_or steps k s → Contains (held_sizes steps) size
-    → HasCollision h (inputs_of h (take size entries)) (step_inputs h (held_following h steps k) s)
+    → HasCollision h (inputs_of h (take size entries)) (step_inputs h (held_by_first h steps k) s)
     → HasCollision h (prefix_inputs h entries steps) (proof_inputs h steps)
 unfolding held_by
 found_in h entries steps k size s below is there found = (
@@ -74,11 +74,11 @@ found_in h entries steps k size s below is there found = (
   (
     found.1.0,
     collision_widened h (inputs_of h (take size entries))
-        (step_inputs h (held_following h steps k) s) (prefix_inputs h entries steps)
+        (step_inputs h (held_by_first h steps k) s) (prefix_inputs h entries steps)
         (proof_inputs h steps) found.0 found.1.0
         (λ (c : Contains (inputs_of h (take size entries)) found.0).
         prefix_at h entries (held_sizes steps) size found.0 there.0 there.1 there.2 c)
-        (λ (c : Contains (step_inputs h (held_following h steps k) s) found.1.0).
+        (λ (c : Contains (step_inputs h (held_by_first h steps k) s) found.1.0).
         inputs_at h (first_progress h) steps k s found.1.0 below is c)
         found.1.1,
   ),
@@ -88,13 +88,13 @@ found_in h entries steps k size s below is there found = (
 
 step_back : (h : HashFunction) → IsSized h → (entries : List Text) (steps : List Step) (k : ℕ)
     (s : Step) → AreSteps h steps → HasHashes s → k < length steps → s ≡ get_or steps k s
-    → HasPrefix h entries (held_following h steps (k + 1))
-    → Shown h entries steps (HasPrefix h entries (held_following h steps k))
+    → HasPrefix h entries (held_by_first h steps (k + 1))
+    → Shown h entries steps (HasPrefix h entries (held_by_first h steps k))
 step_back h sized entries steps k (Sign index start end hash proof) are hashes below is prefix =
     inl (subst (HasPrefix h entries)
     (held_sign h steps k index start end hash proof below is) prefix)
 step_back h sized entries steps k (Advance size root proof) are hashes below is prefix =
-    let held = held_following h steps k in
+    let held = held_by_first h steps k in
     let own : HasPrefix h entries (record { size = size; root = root }) =
     subst (HasPrefix h entries) (held_advance h steps k size root proof below is) prefix in
     let known = advance_at h steps k size root proof are below is in
@@ -126,18 +126,18 @@ some_step = Advance 0 [] []
 walk_back : (left : ℕ) (h : HashFunction) → IsSized h → (entries : List Text) (steps : List Step)
     (k : ℕ) → k + left ≡ length steps → AreSteps h steps → AllByRecursion HasHashes steps
     → HasPrefix h entries (held_by h steps)
-    → Shown h entries steps (HasPrefix h entries (held_following h steps k))
+    → Shown h entries steps (HasPrefix h entries (held_by_first h steps k))
 walk_back zero h sized entries steps k all are hashes prefix =
     let whole : length steps ≡ k = omega arith in
-    let here : held_following h steps k ≡ held_by h steps =
-    ap (λ (n : ℕ). held_following h steps n) (sym whole) ∙ ap (held_by h) (take-length steps) in
+    let here : held_by_first h steps k ≡ held_by h steps =
+    ap (λ (n : ℕ). held_by_first h steps n) (sym whole) ∙ ap (held_by h) (take-length steps) in
     inl (subst (HasPrefix h entries) (sym here) prefix)
 walk_back (suc left) h sized entries steps k all are hashes prefix =
     let s : Step = get_or steps k some_step in
     let below : k < length steps = omega arith in
     let is : s ≡ get_or steps k s = get_or_default steps k some_step s below in
     ⊎_elim
-    (λ (following : HasPrefix h entries (held_following h steps (k + 1))).
+    (λ (following : HasPrefix h entries (held_by_first h steps (k + 1))).
     step_back h sized entries steps k s are (hashes_at steps k s hashes below is) below is
     following)
     (λ (found : HasCollision h (prefix_inputs h entries steps) (proof_inputs h steps)). inr found)
@@ -147,10 +147,10 @@ walk_back (suc left) h sized entries steps k all are hashes prefix =
 
 sign_shown : (h : HashFunction) → IsSized h → (entries : List Text) (steps : List Step) (k : ℕ)
     (s : Step) → AreSteps h steps → HasHashes s → k < length steps → s ≡ get_or steps k s
-    → HasPrefix h entries (held_following h steps k) → Shown h entries steps (IsOfList h entries s)
+    → HasPrefix h entries (held_by_first h steps k) → Shown h entries steps (IsOfList h entries s)
 sign_shown h sized entries steps k (Advance size root proof) are hashes below is prefix = inl tt
 sign_shown h sized entries steps k (Sign index start end hash proof) are hashes below is prefix =
-    let held = held_following h steps k in
+    let held = held_by_first h steps k in
     let checks = sign_checked h steps k index start end hash proof are below is in
     let some = some_in start end checks.valid in
     ⊎_elim
@@ -167,7 +167,7 @@ OneListAfter_always h sized entries steps step are hashes prefix there =
     let below : k < length steps = there.1 in
     let is : step ≡ get_or steps k step = sym there.2 in
     ⊎_elim
-    (λ (own : HasPrefix h entries (held_following h steps k)).
+    (λ (own : HasPrefix h entries (held_by_first h steps k)).
     sign_shown h sized entries steps k step are (hashes_at steps k step hashes below is) below is
     own)
     (λ (found : HasCollision h (prefix_inputs h entries steps) (proof_inputs h steps)). inr found)

@@ -21,7 +21,7 @@ use Rattle.cosigner_core.specs.declared.progress.Progress.{Progress}
 use Rattle.cosigner_core.specs.declared.step.Step.{Step}
 use Rattle.cosigner_core.specs.declared.step.Step.TheVariants.{Advance, Sign}
 use Rattle.collide.specs.Inputs.{inputs_of}
-use Rattle.cosigner_steps.specs.Steps.{held_following, held_by, inputs_from, held_sizes}
+use Rattle.cosigner_steps.specs.Steps.{held_by_first, held_by, inputs_from, held_sizes}
 use Rattle.cosigner_steps.specs.Steps.{step_inputs, with_steps}
 
 -- ---- what is held
@@ -52,7 +52,7 @@ taken steps k s below is =
 pub held_advance : (h : HashFunction) (steps : List Step) (k size : ℕ) (root : Hash)
     (proof : List Hash) → k < length steps
     → Advance size root proof ≡ get_or steps k (Advance size root proof)
-    → held_following h steps (k + 1) ≡ record { size = size; root = root }
+    → held_by_first h steps (k + 1) ≡ record { size = size; root = root }
 held_advance h steps k size root proof below is =
     ap (held_by h) (taken steps k (Advance size root proof) below is)
     ∙ held_push h (take k steps) (Advance size root proof)
@@ -60,7 +60,7 @@ held_advance h steps k size root proof below is =
 pub held_sign : (h : HashFunction) (steps : List Step) (k index start end : ℕ) (hash : Hash)
     (proof : List Hash) → k < length steps
     → Sign index start end hash proof ≡ get_or steps k (Sign index start end hash proof)
-    → held_following h steps (k + 1) ≡ held_following h steps k
+    → held_by_first h steps (k + 1) ≡ held_by_first h steps k
 unfolding held_by
 held_sign h steps k index start end hash proof below is =
     ap (held_by h) (taken steps k (Sign index start end hash proof) below is)

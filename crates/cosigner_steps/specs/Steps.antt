@@ -24,8 +24,8 @@ with_steps p (step ∷ steps) = with_steps (with_step p step) steps
 unfoldable pub held_by : HashFunction → List Step → Checkpoint
 held_by h steps = (with_steps (first_progress h) steps).held
 
-abbrev pub held_following : HashFunction → List Step → ℕ → Checkpoint
-held_following h steps count = held_by h (take count steps)
+abbrev pub held_by_first : HashFunction → List Step → ℕ → Checkpoint
+held_by_first h steps count = held_by h (take count steps)
 
 -- Each step is allowed after those before it, to a cosigner with some number of one-time keys.
 pub record AreSteps (h : HashFunction) (steps : List Step) : Type 0 where

@@ -19,8 +19,8 @@ use Rattle.lms_core.specs.Refusals.{check_refusal}
 use Rattle.lms_core.proofs.Parts.{part}
 use Rattle.lms_core.proofs.Verifies.{check_refusal-lms_signature, prefix_types-append}
 use Rattle.lms_core.proofs.Verifies.{key_types-lms_public, length-lms_public, length-lms_signature}
-use Rattle.hss_core.specs.Hss.{following_key, prefix_length, hss_key_types, hss_refusal}
-use Rattle.hss_core.specs.Hss.{key_following}
+use Rattle.hss_core.specs.Hss.{after_next_key, prefix_length, hss_key_types, hss_refusal}
+use Rattle.hss_core.specs.Hss.{next_public_key}
 use Rattle.hss_core.specs.Hss.{levels_public, levels_refusal, levels_signature, parts_fit}
 use Rattle.hss_core.specs.Hss.{refusal_of_types, SignedKeyVerifies, Verifies}
 use Rattle.hss_core.proofs.Parts.{levels_refusal-passed, parts_fit-pair}
@@ -102,13 +102,13 @@ signed_key_verifies k q below public message parts id index few verifies =
     omega (arith, both, length-append (lms_signature k q public ++ public) parts) in
     let first : take size s ≡ lms_signature k q public =
     rw append_assoc (take_at (lms_signature k q public) (public ++ parts) size signed) in
-    let next : key_following size s ≡ public =
+    let next : next_public_key size s ≡ public =
     part (lms_signature k q public) public parts size 56 signed long in
-    let rest : following_key size s ≡ parts =
+    let rest : after_next_key size s ≡ parts =
     drop_at (lms_signature k q public ++ public) parts (size + 56) both in
     let fit : parts_fit (below + 1) s ≡ true =
     rw (parts_fit-pair below (below + 1) size s (omega arith) found within, rest) passed.0 in
-    let good : check_refusal (lms_public k) (key_following size s) (take size s) ≡ None =
+    let good : check_refusal (lms_public k) (next_public_key size s) (take size s) ≡ None =
     rw (first, next) (check_refusal-lms_signature k q public id index) in
     let levels : levels_refusal (below + 1) (lms_public k) message s ≡ None =
     rw (

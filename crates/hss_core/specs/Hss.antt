@@ -49,17 +49,17 @@ abbrev pub prefix_length : Text → Option ℕ
 prefix_length s = length_of (prefix_types s)
 
 -- The public key after a signature of n bytes, and what follows that key.
-abbrev pub key_following : ℕ → Text → Text
-key_following n s = take 56 (drop n s)
+abbrev pub next_public_key : ℕ → Text → Text
+next_public_key n s = take 56 (drop n s)
 
-abbrev pub following_key : ℕ → Text → Text
-following_key n s = drop (n + 56) s
+abbrev pub after_next_key : ℕ → Text → Text
+after_next_key n s = drop (n + 56) s
 
 -- The bytes are so many pairs of a signature and a public key, and one last signature.
 unfoldable pub parts_fit : ℕ → Text → Bool
 parts_fit zero s = option_map_or (λ n. n == length s) (prefix_length s) false
 parts_fit (suc pairs) s =
-    option_map_or (λ n. nat_le (n + 56) (length s) && parts_fit pairs (following_key n s))
+    option_map_or (λ n. nat_le (n + 56) (length s) && parts_fit pairs (after_next_key n s))
     (prefix_length s) false
 
 -- ---- refusals (6.3)
@@ -72,8 +72,8 @@ first_refusal (Some refusal) second = Some refusal
 unfoldable pub levels_refusal : ℕ → Text → Text → Text → Option SigError
 levels_refusal zero key message s = check_refusal key message s
 levels_refusal (suc pairs) key message s =
-    option_map_or (λ n. first_refusal (check_refusal key (key_following n s) (take n s))
-    (levels_refusal pairs (key_following n s) message (following_key n s)))
+    option_map_or (λ n. first_refusal (check_refusal key (next_public_key n s) (take n s))
+    (levels_refusal pairs (next_public_key n s) message (after_next_key n s)))
     (prefix_length s) (Some BadLength)
 
 -- The refusal under a key with these levels and top types.

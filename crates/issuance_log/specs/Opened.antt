@@ -3,7 +3,7 @@ use Rattle.std.specs.Prelude.{◌≡◌, false, option_map, IfSome, Ok}
 use Rattle.byte_formats.specs.Types.{HashFunction}
 use Rattle.disk_core.specs.Times.{OnlyReads}
 use Rattle.disk_core.specs.declared.disk.Disk.{Ghosts}
-use Rattle.journal_core.specs.Format.{Represents, end_following, records_of}
+use Rattle.journal_core.specs.Format.{Represents, end_offset, records_of}
 use Rattle.journal_core.specs.Words.{AllRepresent}
 use Rattle.tree_core.specs.declared.hashing.TreeHash.{Ghosts as Hashes}
 use Rattle.issuance_log.specs.Folds.{log_of}
@@ -36,7 +36,7 @@ module _ {H D T : Type 0} {hashes : Hashes H} {g : Ghosts D} {k : Ghosts T} wher
         (HasItsTiles hashes.hash s))
     pub stands : IfSome (g.contents (log_disk log)) (λ b. IfSome (log_records log) (Represents b))
     pub all : IfSome (log_records log) (AllRepresent g (log_disk log))
-    pub end : IfSome (log_records log) (λ list. log_end log ≡ end_following list)
+    pub end : IfSome (log_records log) (λ list. log_end log ≡ end_offset list)
 
 -- Both disks were only read. The refusal has its cause in the bytes of either, in a failure, or in
 -- memory that was refused, and a failure is counted only where it is the refusal.

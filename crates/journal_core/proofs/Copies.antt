@@ -13,7 +13,7 @@ use Rattle.byte_formats.proofs.Steps.{IsBytes-drop, IsBytes-take}
 use Rattle.disk_core.specs.Disk.{part}
 use Rattle.journal_core.specs.Copies.{sized, sized_text}
 use Rattle.journal_core.specs.Ends.{StandBetween}
-use Rattle.journal_core.specs.Format.{AreRecordsAt, IsRecordAt, following, end_following}
+use Rattle.journal_core.specs.Format.{AreRecordsAt, IsRecordAt, following, end_offset}
 use Rattle.journal_core.proofs.Records.{after_later}
 use Rattle.mtc_io.specs.Streams.{AppendsPrefix}
 use Rattle.mtc_io.proofs.Streams.{prefix_more, prefix_whole}
@@ -308,8 +308,8 @@ module _ (contents later : Option Text) (same : later ≡ contents) (first commi
 
 -- The records after the first one follow the end of the first one.
 pub following_first : (bytes first : Text) (bodies : List Text) (from end : ℕ)
-    → AreRecordsAt bytes 16 (first ∷ bodies) → end ≡ end_following (first ∷ bodies)
-    → from ≡ min (end_following (first ∷ [])) end → StandBetween bytes from end bodies
+    → AreRecordsAt bytes 16 (first ∷ bodies) → end ≡ end_offset (first ∷ bodies)
+    → from ≡ min (end_offset (first ∷ [])) end → StandBetween bytes from end bodies
 following_first bytes first bodies from end there last is =
     let later = after_later (16 + 5 + length first) bodies in
     let same : from - 1 ≡ 16 + 5 + length first = omega (arith, is, last, later) in (

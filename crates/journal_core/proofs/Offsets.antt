@@ -3,7 +3,7 @@ use Rattle.std.proofs.Common.{◌≡◌, ℕ, ◌+◌, ◌<◌, ◌≤◌, ◌^�
 use Rattle.std.proofs.Common.{Some, None, IfSome, option_map, refl, ap, sym, ◌∙◌, subst, arith}
 use Rattle.std.specs.Int.{w32, to_be_bytes, from_be_bytes}
 use Rattle.std.proofs.lemmas.Nat.{from_be_bytes-to_be_bytes_4}
-use Rattle.journal_core.specs.Format.{AreRecordsAt, end_following, Represents, records_of}
+use Rattle.journal_core.specs.Format.{AreRecordsAt, end_offset, Represents, records_of}
 use Rattle.journal_core.specs.Format.{records_before}
 use Rattle.journal_core.specs.Durable.{IsReading}
 use Rattle.journal_core.specs.Words.{HoldsLength, HasSize}
@@ -13,7 +13,7 @@ use Rattle.journal_core.proofs.Modelled.{at_contents, of_records}
 pub offset_of_list : (contents : Option (List ℕ)) (crash_states : List ℕ → Type 0) (place : ℕ)
     → ((b : List ℕ) → contents ≡ Some b → IsReading b crash_states place)
     → IfSome (option_map (λ b. records_before b place) contents)
-    (λ list. place + 1 ≡ end_following list)
+    (λ list. place + 1 ≡ end_offset list)
 offset_of_list None crash_states place reading = tt
 offset_of_list (Some b) crash_states place reading =
     ap (λ (n : ℕ). n + 1) (reading b refl).offset_is

@@ -3,7 +3,7 @@ use Rattle.std.proofs.Common.{◌≡◌, ℕ, ◌+◌, List, [], ◌∷◌, ◌+
 use Rattle.std.proofs.Common.{option_map, refl, ap, sym, ◌∙◌, subst}
 use Rattle.disk_core.specs.Times.{OnlyReads}
 use Rattle.disk_core.specs.declared.disk.Disk.{Ghosts}
-use Rattle.journal_core.specs.Format.{IsRecordAt, end_following, IsClosedAt, Represents, records_of}
+use Rattle.journal_core.specs.Format.{IsRecordAt, end_offset, IsClosedAt, Represents, records_of}
 use Rattle.journal_core.specs.Format.{records_before, IsBadLengthAt, IsCutShortAt}
 use Rattle.journal_core.specs.Opens.{HasReason, IsOfRecord, IsWalkTo}
 use Rattle.journal_core.specs.Walk.{walk_of, at_commit_byte, at_bad_length, at_cut}
@@ -183,9 +183,9 @@ module _ {D : Type 0} (g : Ghosts D) (disk : D) (place : ℕ)
       (sym (is.only c left)) is.stands)
 
   pub ended_offset : IfSome (option_map records_of (g.contents disk)) (λ list. place + 1
-      ≡ end_following list)
+      ≡ end_offset list)
   ended_offset =
-      of_records (λ (list : List (List ℕ)). place + 1 ≡ end_following list) (g.contents disk)
+      of_records (λ (list : List (List ℕ)). place + 1 ≡ end_offset list) (g.contents disk)
       (λ b contents. (ended_durable b contents).end_is)
 
 -- the count of the records that were read, as one of their list

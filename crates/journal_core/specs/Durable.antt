@@ -3,14 +3,14 @@ use Rattle.std.specs.Prelude.{◌≡◌, ℕ, ◌+◌, List, [], ◌∷◌, leng
 use Rattle.std.proofs.Props.{props}
 use Rattle.byte_formats.specs.Types.{Text}
 use Rattle.disk_core.specs.Disk.{Only}
-use Rattle.journal_core.specs.Format.{header, IsRecordAt, AreRecordsAt, following, end_following}
+use Rattle.journal_core.specs.Format.{header, IsRecordAt, AreRecordsAt, following, end_offset}
 use Rattle.journal_core.specs.Format.{IsClosedAt, Represents, records_of, records_before}
 
 -- the bytes represent their records, all of it is on the disk, and `end` is the offset after the
 -- closed commit byte
 pub record IsDurable (bytes : Text) (crash_states : Text → Type 0) (end : ℕ) : Type 0 where
   pub stands : Represents bytes (records_of bytes)
-  pub end_is : end ≡ end_following (records_of bytes)
+  pub end_is : end ≡ end_offset (records_of bytes)
   pub only : Only bytes crash_states
 
 -- the records before an offset were read, in a file of which everything is on the disk

@@ -4,7 +4,7 @@ use Rattle.std.specs.Prelude.{◌≡◌, ℕ, ◌+◌, ◌-◌, List, Option, op
 use Rattle.std.proofs.Props.{props}
 use Rattle.byte_formats.specs.Types.{Text}
 use Rattle.disk_core.specs.declared.disk.Disk.{Ghosts}
-use Rattle.journal_core.specs.Format.{AreRecordsAt, following, end_following, records_before}
+use Rattle.journal_core.specs.Format.{AreRecordsAt, following, end_offset, records_before}
 use Rattle.journal_core.specs.Durable.{AreRecordsAt-prop}
 use Rattle.journal_core.specs.Words.{disk_of, end_of}
 use Rattle.journal_core.specs.declared.journal.Journal.{Journal}
@@ -16,7 +16,7 @@ durable_of end bytes = records_before bytes (end - 1)
 -- they stand in the bytes, and this is the end after them
 pub record AreDurable (end : ℕ) (bytes : Text) : Type 0 where
   pub there : AreRecordsAt bytes 16 (durable_of end bytes)
-  pub last : end ≡ end_following (durable_of end bytes)
+  pub last : end ≡ end_offset (durable_of end bytes)
 
 -- it has one proof at most
 pub AreDurable-prop : (end : ℕ) (bytes : Text) → IsProp (AreDurable end bytes)

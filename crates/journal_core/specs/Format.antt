@@ -36,8 +36,8 @@ following place (body ∷ bodies) = following (place + 5 + length body) bodies
 
 -- The end of a journal with these records: the offset after the closed commit byte that ends them.
 -- The next body would begin four bytes further on.
-abbrev pub end_following : List Text → ℕ
-end_following records = following 16 records + 1
+abbrev pub end_offset : List Text → ℕ
+end_offset records = following 16 records + 1
 
 -- at this offset stands a closed commit byte
 pub record IsClosedAt (bytes : Text) (place : ℕ) : Type 0 where

@@ -6,7 +6,7 @@ use Rattle.byte_formats.specs.Types.{Text}
 use Rattle.mtc_io.specs.Counts.{Rose}
 use Rattle.disk_core.specs.Disk.{overwritten, part}
 use Rattle.disk_core.specs.declared.disk.Disk.{Ghosts}
-use Rattle.journal_core.specs.Format.{end_following, Represents, records_of, record_bytes}
+use Rattle.journal_core.specs.Format.{end_offset, Represents, records_of, record_bytes}
 use Rattle.journal_core.specs.declared.error.AppendError.{AppendError}
 use Rattle.journal_core.specs.declared.error.AppendError.TheVariants.{Failed, Broken, Full}
 use Rattle.journal_core.specs.declared.journal.Journal.{Journal}
@@ -22,21 +22,21 @@ abbrev pub HoldsBody : ℕ → Text → List Text → Type 0
 HoldsBody place read list =
     (prefix : List Text) (body : Text) (back : List Text) (from : ℕ)
     → list ≡ prefix ++ body ∷ back
-    → place ≡ end_following prefix + 4 + from → from + length read ≤ length body
+    → place ≡ end_offset prefix + 4 + from → from + length read ≤ length body
     → read ≡ part from (length read) body
 
 -- The four bytes before a body, if they were read, are its length.
 abbrev pub HoldsLength : ℕ → Text → List Text → Type 0
 HoldsLength place read list = (prefix : List Text) (body : Text) (back : List Text)
     → list ≡ prefix ++ body ∷ back
-    → place ≡ end_following prefix → length read ≡ 4 → read ≡ to_be_bytes w32 (length body)
+    → place ≡ end_offset prefix → length read ≡ 4 → read ≡ to_be_bytes w32 (length body)
 
 -- If the length of the body after some of these records stands at an offset, the number is this
 -- length.
 abbrev pub HasSize : ℕ → ℕ → List Text → Type 0
 HasSize place size list = (prefix : List Text) (body : Text) (back : List Text)
     → list ≡ prefix ++ body ∷ back
-    → place ≡ end_following prefix → (size ≡ length body) × (length body ≤ 131072)
+    → place ≡ end_offset prefix → (size ≡ length body) × (length body ≤ 131072)
 
 module _ {D : Type 0} {g : Ghosts D} where
   -- The disk of a journal.

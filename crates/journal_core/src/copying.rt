@@ -8,7 +8,7 @@ ghost use Rattle.byte_formats.specs.Types.{Text};
 ghost use Rattle.disk_core.specs.Disk.{part};
 ghost use Rattle.journal_core.specs.Copies.{HasCopyCause, IsOnlyRead, sized, sized_text};
 ghost use Rattle.journal_core.specs.Ends.{StandBetween};
-ghost use Rattle.journal_core.specs.Format.{AreRecordsAt, IsRecordAt, following, end_following};
+ghost use Rattle.journal_core.specs.Format.{AreRecordsAt, IsRecordAt, following, end_offset};
 ghost use Rattle.journal_core.specs.Words.{disk_of, end_of};
 
 use crate::error::CopyError;
@@ -163,7 +163,7 @@ pub fn copy_after<D: Disk, O: Sink>(
     from: u64,
     out: &mut O,
 ) -> Result<(), CopyError>
-    requires begun { end_following [] ≤ from }
+    requires begun { end_offset [] ≤ from }
     requires within { from ≤ end_of journal.old }
     ensures ok { OnOk result (IfSome (D.contents (disk_of journal.old)) (λ bytes.
         (bodies : List Text) → StandBetween bytes from (end_of journal.old) bodies

@@ -7,7 +7,7 @@ ghost use Rattle.byte_formats.specs.Types.{Text};
 ghost use Rattle.mtc_io.specs.Counts.{HasCause};
 ghost use Rattle.disk_core.specs.Disk.{part};
 ghost use Rattle.disk_core.specs.Times.{LeavesOnly, OnlyReads};
-ghost use Rattle.journal_core.specs.Format.{end_following, most_bytes, Represents};
+ghost use Rattle.journal_core.specs.Format.{end_offset, most_bytes, Represents};
 ghost use Rattle.journal_core.specs.Format.{RepresentsEither};
 ghost use Rattle.journal_core.specs.Format.{records_of};
 ghost use Rattle.journal_core.specs.Durable.{IsDurable, IsDurable-prop, Represents-records-prop};
@@ -118,10 +118,10 @@ impl<D: Disk> Journal<D> {
     /// call doesn't read the disk.
     pub fn end_after_first(&self, size: u64) -> u64
         requires { size ≤ 131072 }
-        ensures least { end_following [] ≤ result }
+        ensures least { end_offset [] ≤ result }
         ensures most { result ≤ end_of self.now }
         ensures end { (first : Text) → length first ≡ size
-            → result ≡ min (end_following (first ∷ [])) (end_of self.now) }
+            → result ≡ min (end_offset (first ∷ [])) (end_of self.now) }
     {
         (size + 22).min(self.end)
     }

@@ -7,7 +7,7 @@ ghost use Rattle.byte_formats.specs.Types.{Text};
 ghost use Rattle.mtc_io.specs.Counts.{HasCause};
 ghost use Rattle.disk_core.specs.Disk.{Only};
 ghost use Rattle.disk_core.specs.Times.{OnlyReads};
-ghost use Rattle.journal_core.specs.Format.{header, end_following, IsClosedAt, Represents};
+ghost use Rattle.journal_core.specs.Format.{header, end_offset, IsClosedAt, Represents};
 ghost use Rattle.journal_core.specs.Format.{records_before};
 ghost use Rattle.journal_core.specs.Opens.{HasReason, IsOfHeader};
 ghost use Rattle.journal_core.specs.Windows.{Holds, Holds-prop};
@@ -155,7 +155,7 @@ impl<D: Disk> Opening<D> {
     /// body stands one byte further on. `Journal::end` is one byte further on, too.
     pub fn place(&self) -> u64
         ensures value { result ≡ next_offset self.now }
-        ensures list { IfSome (read_list self.now) (λ list. result + 1 ≡ end_following list) }
+        ensures list { IfSome (read_list self.now) (λ list. result + 1 ≡ end_offset list) }
     {
         self.place
     }
@@ -168,7 +168,7 @@ impl<D: Disk> Opening<D> {
         ensures sound { is_broken result ≡ false }
         ensures place { end_of result ≡ next_offset self + 1 }
         ensures all { IfSome (records result) (AllRepresent D.Disk (disk_of result)) }
-        ensures end { IfSome (records result) (λ list. end_of result ≡ end_following list) }
+        ensures end { IfSome (records result) (λ list. end_of result ≡ end_offset list) }
     {
         Journal {
             disk: self.disk,

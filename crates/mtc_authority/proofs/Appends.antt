@@ -4,7 +4,7 @@ use Rattle.std.proofs.Common.{inl, inr, refl, sym, subst, ap, ◌∙◌, option_
 use Rattle.std.proofs.lemmas.Option.{IfSome_then}
 use Rattle.byte_formats.specs.Types.{Text}
 use Rattle.disk_core.specs.declared.disk.Disk.{Ghosts}
-use Rattle.journal_core.specs.Format.{end_following}
+use Rattle.journal_core.specs.Format.{end_offset}
 use Rattle.journal_core.specs.declared.error.AppendError.TheVariants as append_error
 use Rattle.tree_core.specs.declared.hashing.TreeHash.{Ghosts as Hashes}
 use Rattle.issuance_log.specs.Folds.{LogState, LogView, view_in}
@@ -44,7 +44,7 @@ module _ {H D : Type 0} {hashes : Hashes H} {g : Ghosts D}
   view_at list = view_in (shown_with (view_of old) list)
 
   abbrev says_by : LogView → List Text → Outcome
-  says_by v list = outcome_by v list (refusal_by v false (end_following list))
+  says_by v list = outcome_by v list (refusal_by v false (end_offset list))
 
   abbrev says : List Text → Outcome
   says list = says_by (view_at list) list
@@ -121,14 +121,14 @@ module _ {H D : Type 0} {hashes : Hashes H} {g : Ghosts D}
       → ((list : List Text) (why : Option LogError) → (why ≡ None → Sound list)
       → AddsValid Valid (journaled_by (outcome_by (view_of old) list why)))
       → (records : Option (List Text))
-      → IfSome records (λ list. log_end old ≡ end_following list)
+      → IfSome records (λ list. log_end old ≡ end_offset list)
       → IfSome records (λ list. view_at list ≡ view_of old)
       → (refusal ≡ None → IfSome records Sound)
       → IfSome records (λ list. AddsValid Valid (journaled_by (says list)))
   each_valid Valid Sound keeps None end view sound = tt
   each_valid Valid Sound keeps (Some list) end view sound =
       subst (λ (v : LogView). AddsValid Valid (journaled_by (says_by v list))) (sym view)
-      (keeps list (refusal_by (view_of old) false (end_following list))
+      (keeps list (refusal_by (view_of old) false (end_offset list))
       (λ free. sound (ap (λ broken. refusal_by (view_of old) broken (log_end old)) ready.sound
       ∙ ap (refusal_by (view_of old) false) end ∙ free)))
 

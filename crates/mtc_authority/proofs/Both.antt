@@ -8,7 +8,7 @@ use Rattle.byte_formats.proofs.Steps.{ok_is}
 use Rattle.disk_core.specs.Times.{LeavesOnly, OnlyReads}
 use Rattle.disk_core.specs.declared.disk.Disk.{Ghosts}
 use Rattle.disk_core.proofs.Times.{nothing_read}
-use Rattle.journal_core.specs.Format.{Represents, RepresentsEither, end_following}
+use Rattle.journal_core.specs.Format.{Represents, RepresentsEither, end_offset}
 use Rattle.journal_core.specs.declared.error.AppendError.TheVariants as append_error
 use Rattle.tile_store.specs.Contents.{HoldsTiles}
 use Rattle.tree_core.specs.Tree.{leaf_hash}
@@ -152,17 +152,17 @@ module _ {H D : Type 0} {hashes : Hashes H} {g : Ghosts D}
       (journaled_by (tile_says (found_log (state list) list)))
       (log_disk old) (log_disk new) (log_tiles_disk old) (log_tiles_disk new)
 
-  same_says : (list : List Text) → log_end old ≡ end_following list
+  same_says : (list : List Text) → log_end old ≡ end_offset list
       → view_in (state list) ≡ view_of old
       → tiled_by (view_of old) list refusal ≡ tile_says (found_log (state list) list)
   same_says list end view =
       ap (tiled_by (view_of old) list)
       (ap (λ (b : Bool). tile_refusal (view_of old) b (log_end old)) ready.sound
       ∙ ap (tile_refusal (view_of old) false) end)
-      ∙ ap (λ (v : LogView). tiled_by v list (tile_refusal v false (end_following list))) (sym view)
+      ∙ ap (λ (v : LogView). tiled_by v list (tile_refusal v false (end_offset list))) (sym view)
 
   stores_for : (records : Option (List Text)) (contents : Option Text) → CountsNow g
-      → IfSome records (λ list. log_end old ≡ end_following list)
+      → IfSome records (λ list. log_end old ≡ end_offset list)
       → IfSome records (λ list. view_in (state list) ≡ view_of old)
       → IfSome records (λ list.
       LeavesOnly g (log_disk old) (log_disk new) (RepresentsEither list body))

@@ -4,7 +4,7 @@ use Rattle.std.specs.Fmt.{decimal}
 use Rattle.byte_formats.specs.Types.{HashFunction, Text}
 use Rattle.authority_core.specs.Reasons.{request_fault_text}
 use Rattle.issuance_log.specs.Reasons.{log_fault_text}
-use Rattle.journal_core.specs.Format.{end_following}
+use Rattle.journal_core.specs.Format.{end_offset}
 use Rattle.journal_core.specs.declared.error.AppendError.TheVariants as append_error
 use Rattle.issuance_log.specs.Folds.{LogView, view_in}
 use Rattle.issuance_log.specs.Openings.{FoundLog}
@@ -53,4 +53,4 @@ issued h r found why = issued_by h r (view_in found.state) found.records why
 -- What `issue` makes of a log that was found.
 abbrev pub issue_says : HashFunction → RequestParts → FoundLog → Outcome
 issue_says h r found = issued h r found (add_refusal (view_in found.state) false
-    (end_following found.records) (issued_entry h found.state.settings r) r.key)
+    (end_offset found.records) (issued_entry h found.state.settings r) r.key)

@@ -2,7 +2,7 @@
 use Rattle.std.specs.Prelude.{ℕ, ◌+◌, ◌++◌, false, List, length, codes, Option, Some, None}
 use Rattle.std.specs.Fmt.{decimal}
 use Rattle.byte_formats.specs.Types.{Text}
-use Rattle.journal_core.specs.Format.{end_following}
+use Rattle.journal_core.specs.Format.{end_offset}
 use Rattle.journal_core.specs.declared.error.AppendError.TheVariants as append_error
 use Rattle.issuance_log.specs.Folds.{LogView, view_in}
 use Rattle.issuance_log.specs.Openings.{FoundLog}
@@ -63,7 +63,7 @@ marked found why = marked_by (view_in found.state) found.records why
 -- What `landmark` makes of a log that was found.
 abbrev pub landmark_says : FoundLog → Outcome
 landmark_says found =
-    marked found (mark_refusal (view_in found.state) false (end_following found.records))
+    marked found (mark_refusal (view_in found.state) false (end_offset found.records))
 
 -- ---- landmarks
 

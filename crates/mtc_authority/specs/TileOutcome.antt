@@ -2,7 +2,7 @@
 use Rattle.std.specs.Prelude.{ℕ, ◌++◌, false, List, codes, Option, Some, None}
 use Rattle.std.specs.Fmt.{decimal}
 use Rattle.byte_formats.specs.Types.{Text}
-use Rattle.journal_core.specs.Format.{end_following}
+use Rattle.journal_core.specs.Format.{end_offset}
 use Rattle.journal_core.specs.declared.error.AppendError.TheVariants as append_error
 use Rattle.issuance_log.specs.Folds.{LogView, view_in}
 use Rattle.issuance_log.specs.Openings.{FoundLog}
@@ -52,4 +52,4 @@ tiled_by v list (Some why) = answers_on list (tiles_refused why)
 -- What `tile` makes of a log that was found.
 abbrev pub tile_says : FoundLog → Outcome
 tile_says found = tiled_by (view_in found.state) found.records
-    (tile_refusal (view_in found.state) false (end_following found.records))
+    (tile_refusal (view_in found.state) false (end_offset found.records))

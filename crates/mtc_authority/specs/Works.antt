@@ -4,7 +4,7 @@ use Rattle.std.specs.Prelude.{IsOk}
 use Rattle.byte_formats.specs.Types.{HashFunction, Text}
 use Rattle.issuance_log.specs.Reasons.{log_open_text}
 use Rattle.disk_core.specs.declared.disk.Disk.{Ghosts}
-use Rattle.journal_core.specs.Format.{end_following}
+use Rattle.journal_core.specs.Format.{end_offset}
 use Rattle.journal_core.specs.declared.error.OpenError.TheVariants as open_error
 use Rattle.tree_core.specs.declared.hashing.TreeHash.{Ghosts as Hashes}
 use Rattle.issuance_log.specs.Folds.{LogState, log_of, view_in}
@@ -102,7 +102,7 @@ module _ {H D : Type 0} {hashes : Hashes H} {g : Ghosts D} where
   -- A log that was opened just now.
   pub record IsReadyLog (log : Log H D D hashes g g) : Type 0 where
     pub sound : log_broken log ≡ false
-    pub end : IfSome (log_records log) (λ list. log_end log ≡ end_following list)
+    pub end : IfSome (log_records log) (λ list. log_end log ≡ end_offset list)
     pub view : IfSome (modelled_state log) (λ s. view_in s ≡ view_of log)
 
   -- The work on the log of this journal, which has to give that outcome.

@@ -6,7 +6,7 @@ use Rattle.std.proofs.lemmas.Option.{IfSome_then}
 use Rattle.byte_formats.specs.Types.{HashFunction, Text}
 use Rattle.disk_core.specs.Times.{LeavesOnly}
 use Rattle.disk_core.specs.declared.disk.Disk.{Ghosts}
-use Rattle.journal_core.specs.Format.{RepresentsEither, end_following}
+use Rattle.journal_core.specs.Format.{RepresentsEither, end_offset}
 use Rattle.journal_core.specs.Owners.{Owner, OwnerAppends}
 use Rattle.journal_core.specs.Words.{AllRepresent}
 use Rattle.journal_core.specs.declared.error.AppendError.TheVariants as append_error
@@ -45,7 +45,7 @@ module _ {D : Type 0} (g : Ghosts D) (name : Text) (old new : Owner D CosignerSt
     (refusal : Bool → ℕ → Option CosignError) where
   -- what is wanted of it
   abbrev pub says : FoundCosigner → Outcome
-  says found = stepped found body text (refusal false (end_following found.records))
+  says found = stepped found body text (refusal false (end_offset found.records))
 
   abbrev pub met : Option CosignError
   met = refusal old.broken old.end
@@ -94,12 +94,12 @@ module _ {D : Type 0} (g : Ghosts D) (name : Text) (old new : Owner D CosignerSt
   made_valid h list (Some why) valid = tt
 
   each_valid : (h : HashFunction) (records : Option (List Text))
-      → IfSome records (λ list. old.end ≡ end_following list)
+      → IfSome records (λ list. old.end ≡ end_offset list)
       → (met ≡ None → IfSome records (λ list. cosigner_of h (list ++ body ∷ []) ≡ Ok next))
       → IfSome records (λ list.
       AddsValid (IsCosigner h) (journaled_by (says (found_cosigner old.state list))))
   each_valid h None end valid = tt
-  each_valid h (Some list) end valid = made_valid h list (refusal false (end_following list))
+  each_valid h (Some list) end valid = made_valid h list (refusal false (end_offset list))
       (λ free. valid (ap (λ broken. refusal broken old.end) ready.sound
       ∙ ap (refusal false) end ∙ free))
 

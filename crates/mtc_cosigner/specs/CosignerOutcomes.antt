@@ -3,7 +3,7 @@ use Rattle.std.specs.Prelude.{ℕ, false, ◌++◌, codes, Option, Some, None}
 use Rattle.std.specs.Fmt.{decimal}
 use Rattle.byte_formats.specs.Types.{HashFunction, Text}
 use Rattle.cosigner_core.specs.Reasons.{step_fault_text}
-use Rattle.journal_core.specs.Format.{end_following}
+use Rattle.journal_core.specs.Format.{end_offset}
 use Rattle.journal_core.specs.declared.error.AppendError.TheVariants as append_error
 use Rattle.mtc_proof.specs.Proofs.{signature_text}
 use Rattle.cosigner_core.specs.Exports.{export_text}
@@ -52,7 +52,7 @@ advanced_text size = codes "advanced " ++ (decimal size ++ codes "\n")
 abbrev pub advance_says : HashFunction → AdvanceParts → FoundCosigner → Outcome
 advance_says h r found =
     stepped found (advance_record r.size r.root r.proof) (advanced_text r.size)
-    (advance_refused h found.state false (end_following found.records) r)
+    (advance_refused h found.state false (end_offset found.records) r)
 
 -- A signature with the id of its cosigner, by the next one-time key.
 abbrev pub cosigned_text : CosignerState → SubtreeParts → Text
@@ -65,7 +65,7 @@ abbrev pub cosign_says : HashFunction → SubtreeParts → FoundCosigner → Out
 cosign_says h r found =
     stepped found (sign_record found.state.key.next r.start r.end r.hash r.proof)
     (cosigned_text found.state r)
-    (cosign_refused h found.state false (end_following found.records) r)
+    (cosign_refused h found.state false (end_offset found.records) r)
 
 -- What others may know of a cosigner.
 abbrev pub export_says : FoundCosigner → Outcome

@@ -2,7 +2,7 @@
 use Rattle.std.specs.Prelude.{◌≡◌, false, List, Option, Some, IfSome, IsOk}
 use Rattle.byte_formats.specs.Types.{HashFunction, Text}
 use Rattle.disk_core.specs.declared.disk.Disk.{Ghosts}
-use Rattle.journal_core.specs.Format.{end_following}
+use Rattle.journal_core.specs.Format.{end_offset}
 use Rattle.journal_core.specs.Owners.{Owner}
 use Rattle.journal_core.specs.declared.error.OpenError.TheVariants as open_error
 use Rattle.cosigner_core.specs.Folds.{CosignerState, cosigner_of}
@@ -71,7 +71,7 @@ IsCosigner h list = IsOk (cosigner_of h list)
 -- A cosigner that was opened just now.
 pub record IsReadyCosigner {D : Type 0} (it : Owner D CosignerState) : Type 0 where
   pub sound : it.broken ≡ false
-  pub end : IfSome it.records (λ list. it.end ≡ end_following list)
+  pub end : IfSome it.records (λ list. it.end ≡ end_offset list)
 
 module _ {D : Type 0} (g : Ghosts D) where
   -- The work on this cosigner of the journal, which has to give that outcome.

@@ -19,7 +19,7 @@ use Rattle.hss_core.specs.Hss.{Verifies, one_level_public, one_level_signature}
 use Rattle.hss_core.proofs.Verifies.{signature_verifies}
 use Rattle.disk_core.specs.declared.disk.Disk.{Ghosts as Disks}
 use Rattle.journal_core.specs.Folds.{state_after, taken_from}
-use Rattle.journal_core.specs.Format.{AreRecordsAt, end_following}
+use Rattle.journal_core.specs.Format.{AreRecordsAt, end_offset}
 use Rattle.journal_core.proofs.Copies.{first_are_bytes}
 use Rattle.journal_core.proofs.Standing.{found_stands}
 use Rattle.file_events.specs.Executions.{IsPrefix}
@@ -233,7 +233,7 @@ module _ {R S D O E : Type 0} (h : HashFunction) (rooms : Rooms R S D) (disks : 
       let asked = file_bytes disks (rooms.file old file) (rooms.device old file) s.bytes bytes
       (contents old file is_modelled) s.has_bytes.there in
       let body = sign_record state.key.next r.start r.end r.hash r.proof in
-      let signs = sign_read h state r false (end_following list)
+      let signs = sign_read h state r false (end_offset list)
       (subtree_only s.bytes r asked s.asked).1 s.fits in
       let did = did_so h rooms disks outs errs old run command spoken name (appended list body)
       refl s.did in
@@ -261,5 +261,5 @@ module _ {R S D O E : Type 0} (h : HashFunction) (rooms : Rooms R S D) (disks : 
         },
         counts_so h settings public first begins_with.0 state r starts first_bytes
             (subst (λ (l : List (List ℕ)). cosigner_of h l ≡ Ok state) begins_with.1 held.1)
-            (next_below h state false (end_following list) r s.fits),
+            (next_below h state false (end_offset list) r s.fits),
       ))

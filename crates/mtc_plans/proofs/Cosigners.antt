@@ -1,7 +1,7 @@
 -- What the commands on the journal of a cosigner have to answer is what comes of their plans.
 use Rattle.std.proofs.Common.{◌≡◌, ℕ, false, List, [], ◌∷◌, Option, None, Some, refl}
 use Rattle.byte_formats.specs.Types.{HashFunction}
-use Rattle.journal_core.specs.Format.{end_following}
+use Rattle.journal_core.specs.Format.{end_offset}
 use Rattle.cosigner_core.specs.Openings.{FoundCosigner, cosigner_read}
 use Rattle.cosigner_core.specs.Reading.{advance_in, subtree_in}
 use Rattle.cosigner_core.specs.Records.{advance_record, cosigner_record, sign_record}
@@ -42,14 +42,14 @@ module _ (h : HashFunction) where
       → advance_says h r found ≡ reported_on found.records (advance_reported h r found)
   advance_same r found =
       stepped_same found (advance_record r.size r.root r.proof) (advanced_text r.size)
-      (advance_refused h found.state false (end_following found.records) r)
+      (advance_refused h found.state false (end_offset found.records) r)
 
   cosign_same : (r : SubtreeParts) (found : FoundCosigner)
       → cosign_says h r found ≡ reported_on found.records (cosign_reported h r found)
   cosign_same r found =
       stepped_same found (sign_record found.state.key.next r.start r.end r.hash r.proof)
       (cosigned_text found.state r)
-      (cosign_refused h found.state false (end_following found.records) r)
+      (cosign_refused h found.state false (end_offset found.records) r)
 
   module _ (files : Files) (inputs : List Input) where
     opened_same : (journal : List ℕ) (says : FoundCosigner → Outcome)

@@ -5,7 +5,7 @@ use Rattle.std.proofs.Common.{if◌then◌else◌}
 use Rattle.std.specs.Fmt.{decimal}
 use Rattle.byte_formats.specs.Types.{HashFunction}
 use Rattle.journal_core.specs.Folds.{Found, read_by}
-use Rattle.journal_core.specs.Format.{end_following}
+use Rattle.journal_core.specs.Format.{end_offset}
 use Rattle.authority_core.specs.Files.{request_of}
 use Rattle.authority_core.specs.Issues.{issued_entry, issued_record}
 use Rattle.authority_core.specs.Requests.{RequestParts}
@@ -172,7 +172,7 @@ issued_so h files journal file status text meets =
     let t = has_reported h files log only_reads journal file request_fault_text request_of
     (λ (r : RequestParts) (found : FoundLog). work_reported h (Issue r) found) status text meets in
     let v = view_in t.found.state in
-    let so = issue_so h t.form v (add_refusal v false (end_following t.found.records)
+    let so = issue_so h t.form v (add_refusal v false (end_offset t.found.records)
     (issued_entry h t.found.state.settings t.form) t.form.key) status text t.meets in
     record {
       bytes = t.bytes;
@@ -206,7 +206,7 @@ advanced_so h files journal file status text meets =
     (advance_reported h) status text meets in
     let r = t.form in
     let so = step_so (advance_record r.size r.root r.proof) (advanced_text r.size)
-    (advance_refused h t.found.state false (end_following t.found.records) r) status text t.meets in
+    (advance_refused h t.found.state false (end_offset t.found.records) r) status text t.meets in
     record {
       bytes = t.bytes;
       has_bytes = t.has_bytes;
@@ -228,7 +228,7 @@ cosigned_so h files journal file status text meets =
     let r = t.form in
     let state = t.found.state in
     let so = step_so (sign_record state.key.next r.start r.end r.hash r.proof)
-    (cosigned_text state r) (cosign_refused h state false (end_following t.found.records) r) status
+    (cosigned_text state r) (cosign_refused h state false (end_offset t.found.records) r) status
     text t.meets in
     record {
       bytes = t.bytes;

@@ -2,7 +2,7 @@
 use Rattle.std.proofs.Common.{◌≡◌, ℕ, false, nat_le, nat_lt, not, List, length, Option, None}
 use Rattle.std.proofs.Common.{Some, refl}
 use Rattle.byte_formats.specs.Types.{HashFunction}
-use Rattle.journal_core.specs.Format.{end_following}
+use Rattle.journal_core.specs.Format.{end_offset}
 use Rattle.authority_core.specs.Certificates.{cert_refusal, covering_in, light_refusal}
 use Rattle.authority_core.specs.Issues.{issued_entry}
 use Rattle.authority_core.specs.Requests.{RequestParts}
@@ -111,7 +111,7 @@ module _ (h : HashFunction) where
       on_list found.records (entries_from_reply first size found.state)
       (entries_from_judged first size found.state) (entries_from_same first size found.state)
   work_same (Issue request) found = issued_same request found
-      (add_refusal (view_in found.state) false (end_following found.records)
+      (add_refusal (view_in found.state) false (end_offset found.records)
       (issued_entry h found.state.settings request) request.key)
   work_same (Consist old new) found = on_list found.records (consist_reply h old new found.state)
       (consist_judged h old new found.state) (consist_same old new found.state)
@@ -119,7 +119,7 @@ module _ (h : HashFunction) where
       on_list found.records (subtree_reply h start end size found.state)
       (subtree_judged h start end size found.state) (subtree_same start end size found.state)
   work_same Landmark found =
-      marked_same found (mark_refusal (view_in found.state) false (end_following found.records))
+      marked_same found (mark_refusal (view_in found.state) false (end_offset found.records))
   work_same Landmarks found = refl
   work_same (LightCert index) found =
       let why = light_refusal (view_in found.state) index in
@@ -130,4 +130,4 @@ module _ (h : HashFunction) where
       let text = certificate_in h index start end signatures found.state in
       on_list found.records (cert_replies why text) (cert_judged why text) (cert_same why text)
   work_same Tile found =
-      tiled_same found (tile_refusal (view_in found.state) false (end_following found.records))
+      tiled_same found (tile_refusal (view_in found.state) false (end_offset found.records))

@@ -1,7 +1,7 @@
 -- The plans of the commands on the journal of a cosigner.
 use Rattle.std.specs.Prelude.{ℕ, false, List, [], ◌∷◌, Option, None, Some}
 use Rattle.byte_formats.specs.Types.{HashFunction, Text}
-use Rattle.journal_core.specs.Format.{end_following}
+use Rattle.journal_core.specs.Format.{end_offset}
 use Rattle.cosigner_core.specs.Exports.{export_text}
 use Rattle.cosigner_core.specs.Openings.{FoundCosigner}
 use Rattle.cosigner_core.specs.Reading.{advance_in, subtree_in}
@@ -34,13 +34,13 @@ step_reported body text (Some why) = (step_judged why, None)
 abbrev pub advance_reported : HashFunction → AdvanceParts → FoundCosigner → StepReport
 advance_reported h r found =
     step_reported (advance_record r.size r.root r.proof) (advanced_text r.size)
-    (advance_refused h found.state false (end_following found.records) r)
+    (advance_refused h found.state false (end_offset found.records) r)
 
 abbrev pub cosign_reported : HashFunction → SubtreeParts → FoundCosigner → StepReport
 cosign_reported h r found =
     step_reported (sign_record found.state.key.next r.start r.end r.hash r.proof)
     (cosigned_text found.state r)
-    (cosign_refused h found.state false (end_following found.records) r)
+    (cosign_refused h found.state false (end_offset found.records) r)
 
 -- What others may know of a cosigner.
 abbrev pub export_reported : FoundCosigner → StepReport

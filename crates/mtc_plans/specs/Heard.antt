@@ -2,7 +2,7 @@
 -- open a cosigner's journal or are given a secret file.
 use Rattle.std.specs.Prelude.{◌≡◌, ◌≤◌, ℕ, false, [], ◌∷◌, length, None, Ok, Some}
 use Rattle.byte_formats.specs.Types.{HashFunction, Text}
-use Rattle.journal_core.specs.Format.{end_following}
+use Rattle.journal_core.specs.Format.{end_offset}
 use Rattle.authority_core.specs.Files.{request_of}
 use Rattle.authority_core.specs.Issues.{issued_entry, issued_record}
 use Rattle.authority_core.specs.Requests.{RequestParts}
@@ -52,7 +52,7 @@ pub record IssuesSo (h : HashFunction) (files : Files) (journal file : Text) (re
   pub there : files journal ≡ Some held
   pub found : FoundLog
   pub is_log : log_read h held ≡ Ok found
-  pub fits : add_refusal (view_in found.state) false (end_following found.records)
+  pub fits : add_refusal (view_in found.state) false (end_offset found.records)
       (issued_entry h found.state.settings request) request.key ≡ None
   pub did : (planned_outcome h (issue journal file) files).journals
       ≡ appended found.records (issued_record h (view_in found.state).settings request) ∷ []
@@ -77,7 +77,7 @@ pub record AdvancesSo (h : HashFunction) (files : Files) (journal file : Text) (
   pub there : files journal ≡ Some held
   pub found : FoundCosigner
   pub is_cosigner : cosigner_read h held ≡ Ok found
-  pub fits : advance_refused h found.state false (end_following found.records) request ≡ None
+  pub fits : advance_refused h found.state false (end_offset found.records) request ≡ None
   pub did : (planned_outcome h (advance journal file) files).journals
       ≡ appended found.records (advance_record request.size request.root request.proof) ∷ []
   pub reply_is : reply ≡ said Done (advanced_text request.size)
@@ -99,7 +99,7 @@ pub record CosignsSo (h : HashFunction) (files : Files) (journal file : Text) (r
   pub there : files journal ≡ Some held
   pub found : FoundCosigner
   pub is_cosigner : cosigner_read h held ≡ Ok found
-  pub fits : cosign_refused h found.state false (end_following found.records) request ≡ None
+  pub fits : cosign_refused h found.state false (end_offset found.records) request ≡ None
   pub did : (planned_outcome h (cosign journal file) files).journals
       ≡ appended found.records (sign_record found.state.key.next request.start request.end
       request.hash request.proof) ∷ []

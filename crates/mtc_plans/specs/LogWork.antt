@@ -2,7 +2,7 @@
 use Rattle.std.specs.Prelude.{ℕ, ◌-◌, false, nat_le, nat_lt, not, List, length, codes, Option}
 use Rattle.std.specs.Prelude.{None, Some, if◌then◌else◌}
 use Rattle.byte_formats.specs.Types.{HashFunction, Text}
-use Rattle.journal_core.specs.Format.{end_following}
+use Rattle.journal_core.specs.Format.{end_offset}
 use Rattle.authority_core.specs.Certificates.{cert_refusal, covering_in, light_refusal}
 use Rattle.authority_core.specs.Issues.{issued_entry, issued_record}
 use Rattle.authority_core.specs.Requests.{RequestParts}
@@ -118,12 +118,12 @@ work_reported h Checkpoint found = (checkpoint_judged h found.state.entries, Non
 work_reported h (Entries size) found = (entries_judged size found.state, None)
 work_reported h (EntriesFrom first size) found = (entries_from_judged first size found.state, None)
 work_reported h (Issue request) found = issue_reported h request (view_in found.state)
-    (add_refusal (view_in found.state) false (end_following found.records)
+    (add_refusal (view_in found.state) false (end_offset found.records)
     (issued_entry h found.state.settings request) request.key)
 work_reported h (Consist old new) found = (consist_judged h old new found.state, None)
 work_reported h (Subtree start end size) found = (subtree_judged h start end size found.state, None)
 work_reported h Landmark found = mark_reported (view_in found.state)
-    (mark_refusal (view_in found.state) false (end_following found.records))
+    (mark_refusal (view_in found.state) false (end_offset found.records))
 work_reported h Landmarks found =
     (prints Done (list_text (log_landmarks (view_in found.state))), None)
 work_reported h (LightCert index) found = (
@@ -137,4 +137,4 @@ work_reported h (Cert index start end signatures) found = (
   None,
 )
 work_reported h Tile found = tile_reported (view_in found.state)
-    (tile_refusal (view_in found.state) false (end_following found.records))
+    (tile_refusal (view_in found.state) false (end_offset found.records))

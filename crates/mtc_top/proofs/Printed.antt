@@ -5,7 +5,7 @@ use Rattle.std.proofs.lemmas.Slice.Eq.{bytes_eq-Decides}
 use Rattle.byte_formats.specs.Offsets.{IsBytes}
 use Rattle.byte_formats.specs.Types.{HashFunction}
 use Rattle.disk_core.specs.declared.disk.Disk.{Ghosts as Disks}
-use Rattle.journal_core.specs.Format.{end_following}
+use Rattle.journal_core.specs.Format.{end_offset}
 use Rattle.journal_core.proofs.Standing.{found_stands}
 use Rattle.file_events.specs.Worlds.{done_to}
 use Rattle.mtc_io.specs.declared.sink.Sink.{Ghosts as Sinks}
@@ -96,7 +96,7 @@ module _ {R S D O E : Type 0} (h : HashFunction) (rooms : Rooms R S D) (disks : 
       let asked = file_bytes disks (rooms.file old file) (rooms.device old file) s.bytes bytes
       (contents old file is_modelled) s.has_bytes.there in
       let body = sign_record state.key.next r.start r.end r.hash r.proof in
-      let signs = sign_read h state r false (end_following list)
+      let signs = sign_read h state r false (end_offset list)
       (subtree_only s.bytes r asked s.asked).1 s.fits in
       record {
         text = s.bytes;
@@ -137,7 +137,7 @@ module _ {R S D O E : Type 0} (h : HashFunction) (rooms : Rooms R S D) (disks : 
         body = body;
         did = did_so h rooms disks outs errs old run command spoken name (appended list body) refl
             s.did;
-        item = item_read (view_in state) false (end_following list)
+        item = item_read (view_in state) false (end_offset list)
             (issued_entry h state.settings s.request) s.request.key s.fits;
         printed = printed_so h rooms disks outs errs old run is_run heard
             (issued_text (length state.entries)) s.reply_is;

@@ -13,7 +13,7 @@ use Rattle.cosigner_core.specs.declared.step.Step.{Step}
 use Rattle.cosigner_core.specs.declared.step.Step.TheVariants.{Advance, Sign}
 use Rattle.cosigner_steps.proofs.Steps.{advance_checks, allowed_at, held_advance, held_sign}
 use Rattle.cosigner_steps.proofs.Steps.{inputs_at, sign_checks}
-use Rattle.cosigner_steps.specs.Steps.{AreSteps, held_following, held_by, proof_inputs, with_steps}
+use Rattle.cosigner_steps.specs.Steps.{AreSteps, held_by_first, held_by, proof_inputs, with_steps}
 use Rattle.quarrel_core.proofs.Joins.{ProofsJoin_always}
 use Rattle.quarrel_core.specs.Carrying.{TextsAmong, CarriesTo, IsCarried}
 use Rattle.quarrel_core.specs.Sizes.{AreFullHashes}
@@ -27,7 +27,7 @@ pub sign_carried : (h : HashFunction) (steps : List Step) (k index start end : �
     (proof : List Hash) → AreSteps h steps → k < length steps
     → Sign index start end hash proof ≡ get_or steps k (Sign index start end hash proof)
     → AreFullHashes proof
-    → IsCarried h start end hash (held_following h steps k) (proof_inputs h steps) proof
+    → IsCarried h start end hash (held_by_first h steps k) (proof_inputs h steps) proof
 unfolding held_by
 sign_carried h steps k index start end hash proof are below is whole = record {
   checks = sign_checks h are.keys (with_steps (first_progress h) (take k steps)) index start end
@@ -48,8 +48,8 @@ pub record IsOnward (h : HashFunction) (held : Checkpoint) (all : List Text) (si
 pub leads_onward : (h : HashFunction) (steps : List Step) (k size : ℕ) (root : Hash)
     (proof : List Hash) → AreSteps h steps → k < length steps
     → Advance size root proof ≡ get_or steps k (Advance size root proof)
-    → 0 < (held_following h steps k).size
-    → IsOnward h (held_following h steps k) (proof_inputs h steps) size root proof
+    → 0 < (held_by_first h steps k).size
+    → IsOnward h (held_by_first h steps k) (proof_inputs h steps) size root proof
 unfolding held_by
 leads_onward h steps k size root proof are below is some =
     let shown = advance_checks h are.keys (with_steps (first_progress h) (take k steps)) size root
@@ -100,13 +100,13 @@ pub over_advance : (h : HashFunction) → IsSized h → (steps : List Step) (k s
     (node root : Hash) (proof next : List Hash) (joined : Joined) → AreSteps h steps
     → k < length steps → Advance size root next ≡ get_or steps k (Advance size root next)
     → AreFullHashes next
-    → IsCarried h start end node (held_following h steps k) (proof_inputs h steps) proof
-    → joined ≡ joined_of h start end (held_following h steps k).size size node
-    (held_following h steps k).root proof next
-    → CarriesTo h start end node (held_following h steps (k + 1)) (proof_inputs h steps) joined
+    → IsCarried h start end node (held_by_first h steps k) (proof_inputs h steps) proof
+    → joined ≡ joined_of h start end (held_by_first h steps k).size size node
+    (held_by_first h steps k).root proof next
+    → CarriesTo h start end node (held_by_first h steps (k + 1)) (proof_inputs h steps) joined
 over_advance h sized steps k start end size node root proof next joined are below is whole carried
     joined_is =
-    let held = held_following h steps k in
+    let held = held_by_first h steps k in
     let all = proof_inputs h steps in
     let onward = leads_onward h steps k size root next are below is
     (carried_some h start end node held all proof carried) in
@@ -125,8 +125,8 @@ over_advance h sized steps k start end size node root proof next joined are belo
 pub over_sign : (h : HashFunction) (steps : List Step) (k start end : ℕ) (node : Hash)
     (proof : List Hash) (index from to : ℕ) (hash : Hash) (shown : List Hash) → k < length steps
     → Sign index from to hash shown ≡ get_or steps k (Sign index from to hash shown)
-    → IsCarried h start end node (held_following h steps k) (proof_inputs h steps) proof
-    → CarriesTo h start end node (held_following h steps (k + 1)) (proof_inputs h steps)
+    → IsCarried h start end node (held_by_first h steps k) (proof_inputs h steps) proof
+    → CarriesTo h start end node (held_by_first h steps (k + 1)) (proof_inputs h steps)
     (Proof proof)
 over_sign h steps k start end node proof index from to hash shown below is carried =
     subst (λ (c : Checkpoint). IsCarried h start end node c (proof_inputs h steps) proof)
@@ -137,12 +137,12 @@ over_sign h steps k start end node proof index from to hash shown below is carri
 pub advance_grows : (h : HashFunction) (steps : List Step) (k start end size : ℕ) (node root : Hash)
     (held : Checkpoint) (proof next : List Hash) → AreSteps h steps → k < length steps
     → Advance size root next ≡ get_or steps k (Advance size root next)
-    → held ≡ held_following h steps k
+    → held ≡ held_by_first h steps k
     → IsCarried h start end node held (proof_inputs h steps) proof
     → held.size ≤ size
 advance_grows h steps k start end size node root held proof next are below is held_is carried =
     let some = carried_some h start end node held (proof_inputs h steps) proof carried in
-    let same : held.size ≡ (held_following h steps k).size =
+    let same : held.size ≡ (held_by_first h steps k).size =
     ap (λ (c : Checkpoint). c.size) held_is in
     let more = (leads_onward h steps k size root next are below is (omega arith)).grows in
     omega arith
@@ -151,14 +151,14 @@ pub advance_carries : (h : HashFunction) → IsSized h → (steps : List Step) (
     (node root : Hash) (held : Checkpoint) (proof next first second : List Hash) (joined : Joined)
     → AreSteps h steps → k < length steps
     → Advance size root next ≡ get_or steps k (Advance size root next)
-    → held ≡ held_following h steps k
+    → held ≡ held_by_first h steps k
     → IsCarried h start end node held (proof_inputs h steps) proof
     → first ≡ proof → second ≡ next → AreFullHashes second
     → joined ≡ joined_of h start end held.size size node held.root first second
-    → CarriesTo h start end node (held_following h steps (k + 1)) (proof_inputs h steps) joined
+    → CarriesTo h start end node (held_by_first h steps (k + 1)) (proof_inputs h steps) joined
 advance_carries h sized steps k start end size node root held proof next first second joined are
     below is held_is carried first_is second_is whole joined_is =
-    let there = held_following h steps k in
+    let there = held_by_first h steps k in
     over_advance h sized steps k start end size node root proof next joined are below is
     (subst AreFullHashes second_is whole)
     (subst (λ (c : Checkpoint). IsCarried h start end node c (proof_inputs h steps) proof) held_is
@@ -173,9 +173,9 @@ pub sign_carries : (h : HashFunction) (steps : List Step) (k start end : ℕ) (n
     (held : Checkpoint) (proof : List Hash) (index from to : ℕ) (hash : Hash) (shown : List Hash)
     → k < length steps
     → Sign index from to hash shown ≡ get_or steps k (Sign index from to hash shown)
-    → held ≡ held_following h steps k
+    → held ≡ held_by_first h steps k
     → IsCarried h start end node held (proof_inputs h steps) proof
-    → IsCarried h start end node (held_following h steps (k + 1)) (proof_inputs h steps) proof
+    → IsCarried h start end node (held_by_first h steps (k + 1)) (proof_inputs h steps) proof
 sign_carries h steps k start end node held proof index from to hash shown below is held_is carried =
     over_sign h steps k start end node proof index from to hash shown below is
     (subst (λ (c : Checkpoint). IsCarried h start end node c (proof_inputs h steps) proof) held_is

@@ -17,7 +17,7 @@ use Rattle.cosigner_core.specs.declared.step.Step.{Step}
 use Rattle.cosigner_core.specs.declared.step.Step.TheVariants.{Advance, Sign}
 use Rattle.cosigner_steps.proofs.Steps.{allowed_at, with_steps_push}
 use Rattle.cosigner_steps.specs.Laws.{HasHashes}
-use Rattle.cosigner_steps.specs.Steps.{AreSteps, held_following, proof_inputs, with_steps}
+use Rattle.cosigner_steps.specs.Steps.{AreSteps, held_by_first, proof_inputs, with_steps}
 use Rattle.quarrel_core.proofs.Carries.{over_advance, over_sign, sign_carried}
 use Rattle.quarrel_core.proofs.Contrasts.{OneSubtree_always}
 use Rattle.quarrel_core.specs.Carrying.{CarriesTo, IsCarried}
@@ -43,12 +43,12 @@ hashes_at (x ∷ steps) (suc k) s all below is = hashes_at steps k s all.1 (omeg
 abbrev CarriedOr : HashFunction → List Step → ℕ → ℕ → Hash → ℕ → Type 0
 CarriedOr h steps start end node k =
     ((r : List Hash)
-    × IsCarried h start end node (held_following h steps k) (proof_inputs h steps) r)
+    × IsCarried h start end node (held_by_first h steps k) (proof_inputs h steps) r)
     ⊎ HasCollision h (proof_inputs h steps) (proof_inputs h steps)
 
 carried_or : (h : HashFunction) (steps : List Step) (start end : ℕ) (node : Hash) (k : ℕ)
     (j : Joined)
-    → CarriesTo h start end node (held_following h steps k) (proof_inputs h steps) j
+    → CarriesTo h start end node (held_by_first h steps k) (proof_inputs h steps) j
     → CarriedOr h steps start end node k
 carried_or h steps start end node k (Proof r) is = inl (r, is)
 carried_or h steps start end node k (Pair x y) is = inr (x, (y, is))
@@ -57,11 +57,11 @@ carried_or h steps start end node k Neither is = absurd is
 step_on : (h : HashFunction) → IsSized h → (steps : List Step) (k start end : ℕ) (node : Hash)
     (proof : List Hash) (s : Step) → AreSteps h steps → k < length steps → s ≡ get_or steps k s
     → HasHashes s
-    → IsCarried h start end node (held_following h steps k) (proof_inputs h steps) proof
+    → IsCarried h start end node (held_by_first h steps k) (proof_inputs h steps) proof
     → CarriedOr h steps start end node (k + 1)
 step_on h sized steps k start end node proof (Advance size root next) are below is whole carried =
-    let joined = joined_of h start end (held_following h steps k).size size node
-    (held_following h steps k).root proof next in
+    let joined = joined_of h start end (held_by_first h steps k).size size node
+    (held_by_first h steps k).root proof next in
     carried_or h steps start end node (k + 1) joined
     (over_advance h sized steps k start end size node root proof next joined are below is whole
     carried refl)
@@ -73,7 +73,7 @@ step_on h sized steps k start end node proof (Sign index from to hash shown) are
 steps_on : (n : ℕ) (h : HashFunction) → IsSized h → (steps : List Step) (k j start end : ℕ)
     (node : Hash) (proof : List Hash) → AreSteps h steps → AllByRecursion HasHashes steps
     → k + n ≡ j → j ≤ length steps
-    → IsCarried h start end node (held_following h steps k) (proof_inputs h steps) proof
+    → IsCarried h start end node (held_by_first h steps k) (proof_inputs h steps) proof
     → CarriedOr h steps start end node j
 steps_on zero h sized steps k j start end node proof are hashes ends within carried =
     let here : k ≡ j = omega arith in
@@ -84,7 +84,7 @@ steps_on (suc n) h sized steps k j start end node proof are hashes ends within c
     let is : s ≡ get_or steps k s = get_or_default steps k (Advance 0 [] []) s below in
     ⊎_elim
     (λ (on : (r : List Hash)
-    × IsCarried h start end node (held_following h steps (k + 1)) (proof_inputs h steps) r).
+    × IsCarried h start end node (held_by_first h steps (k + 1)) (proof_inputs h steps) r).
     steps_on n h sized steps (k + 1) j start end node on.0 are hashes (omega arith) within on.1)
     (λ (found : HasCollision h (proof_inputs h steps) (proof_inputs h steps)). inr found)
     (step_on h sized steps k start end node proof s are below is
@@ -93,11 +93,11 @@ steps_on (suc n) h sized steps k j start end node proof are hashes ends within c
 -- At the second Sign.
 ends_in : (h : HashFunction) (steps : List Step) (j start end : ℕ) (node hash : Hash)
     (r proof : List Hash)
-    → IsCarried h start end node (held_following h steps j) (proof_inputs h steps) r
-    → IsCarried h start end hash (held_following h steps j) (proof_inputs h steps) proof
+    → IsCarried h start end node (held_by_first h steps j) (proof_inputs h steps) r
+    → IsCarried h start end hash (held_by_first h steps j) (proof_inputs h steps) proof
     → (node ≡ hash → ⊥) → HasCollision h (proof_inputs h steps) (proof_inputs h steps)
 ends_in h steps j start end node hash r proof one other differ =
-    let held = held_following h steps j in
+    let held = held_by_first h steps j in
     ⊎_elim
     (λ (same : node ≡ hash). absurd (differ same))
     (λ (found : HasCollision h (open_inputs_of h start end held.size true node r)
@@ -121,14 +121,14 @@ rising h sized steps i j (Sign a s e hash p) (Sign b t f node q) are hashes less
     (hashes_at steps i (Sign a s e hash p) hashes sooner one) in
     let at_j = sign_carried h steps j b t f node q are below other
     (hashes_at steps j (Sign b t f node q) hashes below other) in
-    let here : IsCarried h s e node (held_following h steps j) (proof_inputs h steps) q =
-    subst (λ (x : ℕ). IsCarried h x e node (held_following h steps j) (proof_inputs h steps) q)
+    let here : IsCarried h s e node (held_by_first h steps j) (proof_inputs h steps) q =
+    subst (λ (x : ℕ). IsCarried h x e node (held_by_first h steps j) (proof_inputs h steps) q)
     (sym is.0)
-    (subst (λ (x : ℕ). IsCarried h t x node (held_following h steps j) (proof_inputs h steps) q)
+    (subst (λ (x : ℕ). IsCarried h t x node (held_by_first h steps j) (proof_inputs h steps) q)
     (sym is.1) at_j) in
     ⊎_elim
     (λ (on : (r : List Hash)
-    × IsCarried h s e hash (held_following h steps j) (proof_inputs h steps) r).
+    × IsCarried h s e hash (held_by_first h steps j) (proof_inputs h steps) r).
     ends_in h steps j s e hash node on.0 q on.1 here is.2)
     (λ (found : HasCollision h (proof_inputs h steps) (proof_inputs h steps)). found)
     (steps_on (j - i) h sized steps i j s e hash p are hashes (omega arith) (omega arith) carried)

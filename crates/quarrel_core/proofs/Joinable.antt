@@ -25,7 +25,7 @@ use Rattle.quarrel_core.proofs.JoiningSteps.{joined-left, joined-over, joined-sa
 use Rattle.quarrel_core.proofs.JoiningSteps.{joined_there, over-left, over-over, over-right}
 use Rattle.quarrel_core.proofs.Levels.{parts_same}
 use Rattle.quarrel_core.proofs.Parted.{prefix_split}
-use Rattle.quarrel_core.specs.Joining.{joined_following, joined_from_root, joined_left, joined_of}
+use Rattle.quarrel_core.specs.Joining.{joined_right, joined_from_root, joined_left, joined_of}
 use Rattle.quarrel_core.specs.Joining.{joined_turned, joined_with, same_pair}
 use Rattle.quarrel_core.specs.Laws.{MadeProofsJoin}
 use Rattle.quarrel_core.specs.declared.joined.Joined.{Joined}
@@ -90,7 +90,7 @@ left_same y z p part beside first second =
 
 after_same : (y z : Hash) (rest : Joined) (part beside : Opened) → y ≡ z
     → part.root ≡ beside.subtree
-    → joined_following y z rest (Some part) (Some beside) ≡ joined_with z rest
+    → joined_right y z rest (Some part) (Some beside) ≡ joined_with z rest
 after_same y z rest part beside first second =
     cond-true (same_pair y part.root z beside.subtree) (joined_with z rest)
     (Pair (pair_input y part.root) (pair_input z beside.subtree))
@@ -250,10 +250,10 @@ over_made h s e n known still node prefix leaves aligned within less above is re
     ∙ joined-over h s e n m known node prefix z (y ∷ p) q less above inner
     ∙ over-right h s e n k known node z y (open_from_root h 0 (n - k) (m - k) false prefix q)
     (joined_there h n m node prefix q) p past there
-    ∙ ap (λ (o : Option Opened). joined_following y z
+    ∙ ap (λ (o : Option Opened). joined_right y z
     (joined_there h n m node prefix q (s - k) (e - k) known p) o
     (open_from_root h 0 (n - k) (m - k) false prefix q)) opens
-    ∙ ap (joined_following y z (joined_there h n m node prefix q (s - k) (e - k) known p)
+    ∙ ap (joined_right y z (joined_there h n m node prefix q (s - k) (e - k) known p)
     (Some part))
     beside_opens
     ∙ after_same y z (joined_there h n m node prefix q (s - k) (e - k) known p) part beside
@@ -289,10 +289,10 @@ over_made h s e n known still node prefix leaves aligned within less above is re
     ∙ joined-over h s e n m known node prefix z (y ∷ p) q less above inner
     ∙ over-over h s e n k known node z y (open_from_root h 0 (n - k) (m - k) false prefix q)
     (joined_there h n m node prefix q) p past early
-    ∙ ap (λ (o : Option Opened). joined_following y z
+    ∙ ap (λ (o : Option Opened). joined_right y z
     (joined_there h n m node prefix q 0 (e - k) false p) o
     (open_from_root h 0 (n - k) (m - k) false prefix q)) opens
-    ∙ ap (joined_following y z (joined_there h n m node prefix q 0 (e - k) false p) (Some part))
+    ∙ ap (joined_right y z (joined_there h n m node prefix q 0 (e - k) false p) (Some part))
     beside_opens
     ∙ after_same y z (joined_there h n m node prefix q 0 (e - k) false p) part beside
     (ap (root_of h) own_left) share

@@ -10,7 +10,7 @@ use Rattle.tree_proofs.specs.Open.{open_from_root, open_of}
 use Rattle.collide.specs.After.{IsFollowing}
 use Rattle.quarrel_core.proofs.JoiningSteps.{joined-left, joined-over, joined-same, joined-short}
 use Rattle.quarrel_core.proofs.JoiningSteps.{joined-whole, joined_there, over-following, over-left}
-use Rattle.quarrel_core.specs.Joining.{joined_following, joined_from_root, joined_left}
+use Rattle.quarrel_core.specs.Joining.{joined_right, joined_from_root, joined_left}
 use Rattle.quarrel_core.specs.Joining.{joined_turned}
 use Rattle.quarrel_core.specs.Joining.{joined_of, joined_with}
 use Rattle.quarrel_core.specs.declared.joined.Joined.{Joined}
@@ -139,7 +139,7 @@ pub case_after : (h : HashFunction) (s e n m k from to : ℕ) (known still : Boo
     → joined_turned below
     ≡ joined_from_root h from to (n - k) (m - k) still node prefix (reverse less_first)
     (reverse rest)
-    → joined_turned j ≡ joined_following y z (joined_turned below) part beside
+    → joined_turned j ≡ joined_right y z (joined_turned below) part beside
     → joined_turned j
     ≡ joined_from_root h s e n m known node prefix (reverse first) (reverse second)
 unfolding open_of
@@ -150,12 +150,12 @@ case_after h s e n m k from to known still node prefix z y first less_first seco
     let p = reverse less_first in
     let q = reverse rest in
     j_is
-    ∙ ap (λ (b : Joined). joined_following y z b part beside) below_is
-    ∙ ap (λ (o : Option Opened). joined_following y z
+    ∙ ap (λ (b : Joined). joined_right y z b part beside) below_is
+    ∙ ap (λ (o : Option Opened). joined_right y z
     (joined_from_root h from to (n - k) (m - k) still node prefix p q) o beside) part_is
-    ∙ ap (joined_following y z (joined_from_root h from to (n - k) (m - k) still node prefix p q)
+    ∙ ap (joined_right y z (joined_from_root h from to (n - k) (m - k) still node prefix p q)
     (open_from_root h from to (n - k) still node p)) beside_is
-    ∙ ap (λ (i : ℕ). joined_following y z
+    ∙ ap (λ (i : ℕ). joined_right y z
     (joined_from_root h from to (n - i) (m - i) still node prefix p q)
     (open_from_root h from to (n - i) still node p)
     (open_from_root h 0 (n - i) (m - i) false prefix q)) k_is

@@ -10,7 +10,7 @@ use Rattle.tree_proofs.proofs.Made.{other-whole}
 use Rattle.tree_proofs.specs.declared.outcome.Opened.{Opened}
 use Rattle.tree_proofs.specs.Open.{open_from_root}
 use Rattle.collide.specs.After.{IsFollowing}
-use Rattle.quarrel_core.specs.Joining.{joined_following, joined_from_root, joined_left, joined_over}
+use Rattle.quarrel_core.specs.Joining.{joined_right, joined_from_root, joined_left, joined_over}
 use Rattle.quarrel_core.specs.Joining.{joined_with}
 use Rattle.quarrel_core.specs.declared.joined.Joined.{Joined}
 use Rattle.quarrel_core.specs.declared.joined.Joined.TheVariants.{Neither, Proof}
@@ -73,7 +73,7 @@ pub over-right : (h : HashFunction) (s e n k : ℕ) (known : Bool) (node z y : H
     (beside : Option Opened) (rest : ℕ → ℕ → Bool → List Hash → Joined) (p : List Hash) → k < e
     → k ≤ s
     → joined_over h s e n k known node z beside rest (y ∷ p)
-    ≡ joined_following y z (rest (s - k) (e - k) known p)
+    ≡ joined_right y z (rest (s - k) (e - k) known p)
     (open_from_root h (s - k) (e - k) (n - k) known node p) beside
 over-right h s e n k known node z y beside rest p past right =
     cond-false _ _ _ (lt-leb e k past) ∙ cond-true _ _ _ (le-leb k s right)
@@ -82,7 +82,7 @@ pub over-over : (h : HashFunction) (s e n k : ℕ) (known : Bool) (node z y : Ha
     (beside : Option Opened) (rest : ℕ → ℕ → Bool → List Hash → Joined) (p : List Hash) → k < e
     → s < k
     → joined_over h s e n k known node z beside rest (y ∷ p)
-    ≡ joined_following y z (rest 0 (e - k) false p)
+    ≡ joined_right y z (rest 0 (e - k) false p)
     (open_from_root h 0 (e - k) (n - k) false node p) beside
 over-over h s e n k known node z y beside rest p past before =
     cond-false _ _ _ (lt-leb e k past) ∙ cond-false _ _ _ (lt-leb k s before)
@@ -92,7 +92,7 @@ pub over-following : (h : HashFunction) (s e n k from to : ℕ) (known still : B
     (beside : Option Opened) (rest : ℕ → ℕ → Bool → List Hash → Joined) (p : List Hash) → k < e
     → IsFollowing k s e known from to still
     → joined_over h s e n k known node z beside rest (y ∷ p)
-    ≡ joined_following y z (rest from to still p) (open_from_root h from to (n - k) still node p)
+    ≡ joined_right y z (rest from to still p) (open_from_root h from to (n - k) still node p)
     beside
 over-following h s e n k from to known still node z y beside rest p past following =
     ⊎_elim
@@ -113,12 +113,12 @@ over-following h s e n k from to known still node z y beside rest p past followi
     (cases_lt s k)
   where
     moved : (a b c d : ℕ) (f g : Bool) → a ≡ b → c ≡ d → f ≡ g
-        → joined_following y z (rest a c f p) (open_from_root h a c (n - k) f node p) beside
-        ≡ joined_following y z (rest b d g p) (open_from_root h b d (n - k) g node p) beside
+        → joined_right y z (rest a c f p) (open_from_root h a c (n - k) f node p) beside
+        ≡ joined_right y z (rest b d g p) (open_from_root h b d (n - k) g node p) beside
     moved a b c d f g first last same =
-        ap (λ (i : ℕ). joined_following y z (rest i c f p)
+        ap (λ (i : ℕ). joined_right y z (rest i c f p)
         (open_from_root h i c (n - k) f node p) beside) first
-        ∙ ap (λ (i : ℕ). joined_following y z (rest b i f p)
+        ∙ ap (λ (i : ℕ). joined_right y z (rest b i f p)
         (open_from_root h b i (n - k) f node p) beside) last
-        ∙ ap (λ (i : Bool). joined_following y z (rest b d i p)
+        ∙ ap (λ (i : Bool). joined_right y z (rest b d i p)
         (open_from_root h b d (n - k) i node p) beside) same

@@ -25,7 +25,7 @@ use Rattle.quarrel_core.proofs.Openings.{AreOpened, IsStep, begins_first, not_wh
 use Rattle.quarrel_core.proofs.Openings.{over_root_in, over_subtree_in}
 use Rattle.quarrel_core.proofs.Openings.{step_over, step_right, unknown_sized}
 use Rattle.quarrel_core.specs.Sizes.{AreFullHashes}
-use Rattle.quarrel_core.specs.Joining.{joined_following, joined_left, joined_with}
+use Rattle.quarrel_core.specs.Joining.{joined_right, joined_left, joined_with}
 use Rattle.quarrel_core.specs.declared.joined.Joined.TheVariants.{Pair, Proof}
 use Rattle.quarrel_core.proofs.TwoProofs.{AreTwo, JoinsTo, TwoJoin, joins_pair, joins_proof, raised}
 
@@ -156,7 +156,7 @@ pub part_right : (h : HashFunction) → IsSized h → (s e n m : ℕ) (known sti
     → JoinsTo h s e m known node one.subtree other.root
     (open_inputs_from_root h s e n known node (y ∷ p))
     (open_inputs_from_root h 0 n m still prefix (z ∷ q))
-    (joined_following y z
+    (joined_right y z
     (joined_there h n m node prefix q (s - split_of m) (e - split_of m) known p)
     (open_from_root h (s - split_of m) (e - split_of m) (n - split_of m) known node p)
     (open_from_root h 0 (n - split_of m) (m - split_of m) false prefix q))
@@ -186,12 +186,12 @@ part_right h sized s e n m known still node prefix z y p q one other two less ab
     let root : pair_hash h z step.below.root ≡ other.root =
     ap (λ (o : Opened). o.root) step.is in
     subst (λ (o : Option Opened). JoinsTo h s e m known node one.subtree other.root xs ys
-    (joined_following y z
+    (joined_right y z
     (joined_there h n m node prefix q (s - split_of m) (e - split_of m) known p) o
     (open_from_root h 0 (n - split_of m) (m - split_of m) false prefix q)))
     (sym own.gives)
     (subst (λ (o : Option Opened). JoinsTo h s e m known node one.subtree other.root xs ys
-    (joined_following y z
+    (joined_right y z
     (joined_there h n m node prefix q (s - split_of m) (e - split_of m) known p)
     (Some own.below) o)) (sym step.gives)
     (tested (JoinsTo h s e m known node one.subtree other.root xs ys) h xs ys y own.below.root z
@@ -256,7 +256,7 @@ pub part_over : (h : HashFunction) → IsSized h → (s e n m : ℕ) (known stil
     → JoinsTo h s e m known node one.subtree other.root
     (open_inputs_from_root h s e n known node (y ∷ p))
     (open_inputs_from_root h 0 n m still prefix (z ∷ q))
-    (joined_following y z
+    (joined_right y z
     (joined_there h n m node prefix q 0 (e - split_of m) false p)
     (open_from_root h 0 (e - split_of m) (n - split_of m) false node p)
     (open_from_root h 0 (n - split_of m) (m - split_of m) false prefix q))
@@ -289,11 +289,11 @@ part_over h sized s e n m known still node prefix z y p q one other two less abo
     let root : pair_hash h z step.below.root ≡ other.root =
     ap (λ (o : Opened). o.root) step.is in
     subst (λ (o : Option Opened). JoinsTo h s e m known node one.subtree other.root xs ys
-    (joined_following y z (joined_there h n m node prefix q 0 (e - split_of m) false p) o
+    (joined_right y z (joined_there h n m node prefix q 0 (e - split_of m) false p) o
     (open_from_root h 0 (n - split_of m) (m - split_of m) false prefix q)))
     (sym own.gives)
     (subst (λ (o : Option Opened). JoinsTo h s e m known node one.subtree other.root xs ys
-    (joined_following y z (joined_there h n m node prefix q 0 (e - split_of m) false p)
+    (joined_right y z (joined_there h n m node prefix q 0 (e - split_of m) false p)
     (Some own.below) o)) (sym step.gives)
     (tested (JoinsTo h s e m known node one.subtree other.root xs ys) h xs ys y own.below.root z
     step.below.subtree

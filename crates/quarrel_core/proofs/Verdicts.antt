@@ -15,7 +15,7 @@ use Rattle.collide.specs.declared.finding.Finding.{Finding}
 use Rattle.collide.specs.declared.finding.Finding.TheVariants.{Pair, Same}
 use Rattle.cosigner_core.specs.declared.step.Step.{Step}
 use Rattle.cosigner_core.specs.declared.step.Step.TheVariants.{Advance, Sign}
-use Rattle.cosigner_steps.specs.Steps.{AreSteps, Shows, held_following, proof_inputs}
+use Rattle.cosigner_steps.specs.Steps.{AreSteps, Shows, held_by_first, proof_inputs}
 use Rattle.quarrel_core.proofs.Carries.{sign_carried}
 use Rattle.quarrel_core.proofs.InConflict.{first_conflict}
 use Rattle.quarrel_core.specs.Carrying.{CarriesTo, IsCarried}
@@ -90,9 +90,9 @@ pub first_carried : (h : HashFunction) (steps : List Step) (i index start end : 
     (proof read : List Hash) → AreSteps h steps → i < length steps
     → Sign index start end hash proof ≡ get_or steps i (Sign index start end hash proof)
     → read ≡ proof → AreFullHashes read
-    → IsCarried h start end hash (held_following h steps i) (proof_inputs h steps) read
+    → IsCarried h start end hash (held_by_first h steps i) (proof_inputs h steps) read
 first_carried h steps i index start end hash proof read are below is same whole =
-    subst (λ (p : List Hash). IsCarried h start end hash (held_following h steps i)
+    subst (λ (p : List Hash). IsCarried h start end hash (held_by_first h steps i)
     (proof_inputs h steps) p) (sym same)
     (sign_carried h steps i index start end hash proof are below is
     (subst AreFullHashes same whole))
@@ -101,12 +101,12 @@ pub second_carried : (h : HashFunction) (steps : List Step) (j index start end f
     (hash : Hash) (proof read : List Hash) → AreSteps h steps → j < length steps
     → Sign index from to hash proof ≡ get_or steps j (Sign index from to hash proof)
     → read ≡ proof → AreFullHashes read → start ≡ from → end ≡ to
-    → IsCarried h start end hash (held_following h steps j) (proof_inputs h steps) read
+    → IsCarried h start end hash (held_by_first h steps j) (proof_inputs h steps) read
 second_carried h steps j index start end from to hash proof read are below is same whole first
     last =
-    subst (λ (x : ℕ). IsCarried h x end hash (held_following h steps j) (proof_inputs h steps) read)
+    subst (λ (x : ℕ). IsCarried h x end hash (held_by_first h steps j) (proof_inputs h steps) read)
     (sym first)
-    (subst (λ (x : ℕ). IsCarried h from x hash (held_following h steps j) (proof_inputs h steps)
+    (subst (λ (x : ℕ). IsCarried h from x hash (held_by_first h steps j) (proof_inputs h steps)
     read) (sym last)
     (first_carried h steps j index from to hash proof read are below is same whole))
 

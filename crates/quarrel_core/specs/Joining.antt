@@ -38,12 +38,12 @@ joined_left y z p None beside = Neither
 
 -- The same where the subtree has entries in the right part. If the hashes are the same, both proofs
 -- are joined there, and then comes z.
-abbrev pub joined_following : Hash → Hash → Joined → Option Opened → Option Opened → Joined
-joined_following y z rest (Some part) (Some beside) =
+abbrev pub joined_right : Hash → Hash → Joined → Option Opened → Option Opened → Joined
+joined_right y z rest (Some part) (Some beside) =
     if same_pair y part.root z beside.subtree then joined_with z rest
     else Pair (pair_input y part.root) (pair_input z beside.subtree)
-joined_following y z rest (Some part) None = Neither
-joined_following y z rest None beside = Neither
+joined_right y z rest (Some part) None = Neither
+joined_right y z rest None beside = Neither
 
 -- The first n entries and the whole list are both split at k, and the subtree isn't all of the
 -- first n. The second proof gave `beside` of the right part, and `rest` joins the proofs there: of
@@ -55,9 +55,9 @@ joined_over h start end n k known node z beside rest (y ∷ p) =
     if nat_le end k
     then joined_left y z p (open_from_root h start end k known node p) beside
     else (if nat_le k start
-    then joined_following y z (rest (start - k) (end - k) known p)
+    then joined_right y z (rest (start - k) (end - k) known p)
     (open_from_root h (start - k) (end - k) (n - k) known node p) beside
-    else joined_following y z (rest 0 (end - k) false p)
+    else joined_right y z (rest 0 (end - k) false p)
     (open_from_root h 0 (end - k) (n - k) false node p) beside)
 
 -- The first proof is of the subtree [start, end) in n entries, the second of these n in m entries,

@@ -7,7 +7,7 @@ use Rattle.tree_proofs.specs.declared.outcome.Opened.{Opened}
 use Rattle.tree_proofs.specs.Open.{both_right_of, open_of, root_left_of, root_right_of}
 use Rattle.collide.specs.declared.finding.Finding.{Finding}
 use Rattle.quarrel_core.specs.Contrasting.{contrast_from_root}
-use Rattle.quarrel_core.specs.Joining.{joined_following, joined_from_root, joined_left}
+use Rattle.quarrel_core.specs.Joining.{joined_right, joined_from_root, joined_left}
 use Rattle.quarrel_core.specs.Joining.{joined_turned}
 use Rattle.quarrel_core.specs.Joining.{joined_with}
 use Rattle.quarrel_core.specs.declared.joined.Joined.{Joined}
@@ -66,7 +66,7 @@ abbrev pub IsJoinedAfter : HashFunction → ℕ → Proofs → Hash → Hash →
     → Joined × BothOpened → Type 0
 IsJoinedAfter h k p y z below both =
     (joined_turned both.0
-    ≡ joined_following y z (joined_turned below.0) below.1.first below.1.second)
+    ≡ joined_right y z (joined_turned below.0) below.1.first below.1.second)
     × (both.1 ≡ proofs_above h k p y z below.1)
 
 -- What is found in two proofs of an interval in n entries, and what each of them gives.

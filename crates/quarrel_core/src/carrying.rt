@@ -1,7 +1,7 @@
 //! The proof of a subtree, carried from one checkpoint to a later one.
 
 ghost use Rattle.std.specs.Prelude.{◌≡◌, ◌+◌, ◌<◌, ◌≤◌, length, IfOk};
-ghost use Rattle.cosigner_steps.specs.Steps.{AreSteps, held_following, proof_inputs};
+ghost use Rattle.cosigner_steps.specs.Steps.{AreSteps, held_by_first, proof_inputs};
 ghost use Rattle.quarrel_core.specs.Carrying.{CarriesTo, IsCarried};
 
 use crate::joined::Joined;
@@ -17,8 +17,8 @@ use tree_proofs::{Checkpoint, Hashes};
 // What is held after a step, by what is held before it.
 fn held_after<H: TreeHash>(steps: &[Step], place: usize, held: &Checkpoint) -> Checkpoint
     requires within { place < length steps.now }
-    requires held { held.now ≡ held_following H.hash steps.now place }
-    ensures { result ≡ held_following H.hash steps.now (place + 1) }
+    requires held { held.now ≡ held_by_first H.hash steps.now place }
+    ensures { result ≡ held_by_first H.hash steps.now (place + 1) }
 {
     match &steps[place] {
         Step::Advance { size, root, .. } => Checkpoint {
@@ -42,11 +42,11 @@ fn onward<H: TreeHash>(
 ) -> Result<Joined, Memory>
     requires allowed { AreSteps H.hash steps.now }
     requires within { place < length steps.now }
-    requires held { held.now ≡ held_following H.hash steps.now place }
+    requires held { held.now ≡ held_by_first H.hash steps.now place }
     requires carried { IsCarried H.hash start end node.now held.now
         (proof_inputs H.hash steps.now) proof }
     ensures { IfOk result (CarriesTo H.hash start end node.now
-        (held_following H.hash steps.now (place + 1)) (proof_inputs H.hash steps.now)) }
+        (held_by_first H.hash steps.now (place + 1)) (proof_inputs H.hash steps.now)) }
 {
     match &steps[place] {
         Step::Sign { .. } => Ok(Joined::Proof(proof)),
@@ -77,10 +77,10 @@ pub(crate) fn carried<H: TreeHash>(
     requires allowed { AreSteps H.hash steps.now }
     requires order { from ≤ to }
     requires within { to ≤ length steps.now }
-    requires carried { IsCarried H.hash start end node.now (held_following H.hash steps.now from)
+    requires carried { IsCarried H.hash start end node.now (held_by_first H.hash steps.now from)
         (proof_inputs H.hash steps.now) proof.now }
     ensures { IfOk result (CarriesTo H.hash start end node.now
-        (held_following H.hash steps.now to) (proof_inputs H.hash steps.now)) }
+        (held_by_first H.hash steps.now to) (proof_inputs H.hash steps.now)) }
 {
     let mut held = held_by::<H>(&steps[..from]);
     let mut proof = Hashes::from_vec(Vec::from_slice(alloc, proof)?);

@@ -1,7 +1,7 @@
 //! Two proofs joined, by the definition's recursion from the root down.
 
 ghost use Rattle.std.specs.Prelude.{◌≡◌, ◌<◌, ◌≤◌, reverse, IfOk};
-ghost use Rattle.quarrel_core.specs.Joining.{joined_following, joined_left};
+ghost use Rattle.quarrel_core.specs.Joining.{joined_right, joined_left};
 ghost use Rattle.quarrel_core.specs.Joining.{joined_of, joined_turned, joined_with};
 ghost use Rattle.quarrel_core.specs.Laws.{JoinsIfBothCheck};
 ghost use Rattle.quarrel_core.specs.OpenedParts.{IsJoinedAfter, IsJoinedBefore, IsJoinedBeside};
@@ -88,7 +88,7 @@ fn right_of(
     given: BothOpened,
 ) -> Result<Joined, Memory>
     ensures { IfOk result (λ joined. joined_turned joined
-        ≡ joined_following own.now sibling.now (joined_turned rest) given.first given.second) }
+        ≡ joined_right own.now sibling.now (joined_turned rest) given.first given.second) }
 {
     let Some(part) = given.first else {
         return Ok(Joined::Neither);

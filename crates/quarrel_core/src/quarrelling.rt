@@ -1,7 +1,7 @@
 //! Two signatures of one cosigner that are in conflict, and two strings with one hash.
 
 ghost use Rattle.std.specs.Prelude.{◌≡◌, ◌≢◌, ◌<◌, ◌≤◌, length, slice_get, IfOk, Some};
-ghost use Rattle.cosigner_steps.specs.Steps.{AreSteps, Shows, held_following, proof_inputs};
+ghost use Rattle.cosigner_steps.specs.Steps.{AreSteps, Shows, held_by_first, proof_inputs};
 ghost use Rattle.quarrel_core.specs.Carrying.{IsCarried};
 ghost use Rattle.quarrel_core.specs.Conflicts.{conflict_in, key_in};
 ghost use Rattle.quarrel_core.specs.Quarrels.{IsQuarrel};
@@ -47,9 +47,9 @@ fn pair_of<H: TreeHash>(
     requires allowed { AreSteps H.hash steps.now }
     requires order { from ≤ to }
     requires within { to ≤ length steps.now }
-    requires first { IsCarried H.hash start end node.now (held_following H.hash steps.now from)
+    requires first { IsCarried H.hash start end node.now (held_by_first H.hash steps.now from)
         (proof_inputs H.hash steps.now) proof.now }
-    requires second { IsCarried H.hash start end other.now (held_following H.hash steps.now to)
+    requires second { IsCarried H.hash start end other.now (held_by_first H.hash steps.now to)
         (proof_inputs H.hash steps.now) shown.now }
     requires differ { node.now ≢ other.now }
     ensures { IfOk result (Shows H.hash (proof_inputs H.hash steps.now)

@@ -7,7 +7,7 @@ use Rattle.byte_formats.specs.Types.{Text}
 use Rattle.disk_core.specs.declared.disk.Disk.{Ghosts}
 use Rattle.journal_core.specs.Durable.{IsDurable}
 use Rattle.journal_core.specs.Ends.{durable_of, durable_records}
-use Rattle.journal_core.specs.Format.{RepresentsEither, end_following, records_of}
+use Rattle.journal_core.specs.Format.{RepresentsEither, end_offset, records_of}
 use Rattle.journal_core.specs.Words.{IsUntouched, disk_of, end_of, is_broken, records}
 use Rattle.journal_core.specs.declared.error.AppendError.{AppendError}
 use Rattle.journal_core.specs.declared.error.AppendError.TheVariants.{Broken, Failed, Full}
@@ -112,21 +112,21 @@ module _ {D : Type 0} {g : Ghosts D} where
 
     -- so it does with the offset where they end
     pub holds_of : (journal : Journal D g) → Keeps journal
-        → IfSome (durable_records journal) (λ list. P list × (end_of journal ≡ end_following list))
+        → IfSome (durable_records journal) (λ list. P list × (end_of journal ≡ end_offset list))
     holds_of journal keeps = go (g.contents (disk_of journal)) keeps
       where
         go : (contents : Option Text) → Each contents (IsDurableWith P (end_of journal))
             → IfSome (option_map (durable_of (end_of journal)) contents)
-            (λ list. P list × (end_of journal ≡ end_following list))
+            (λ list. P list × (end_of journal ≡ end_offset list))
         go None kept = tt
         go (Some bytes) kept =
             ((kept bytes refl).holds, (kept bytes refl).durable.last)
 
     pub holds_sound : (journal : Journal D g) → is_broken journal ≡ false → Keeps journal
-        → IfSome (records journal) (λ list. P list × (end_of journal ≡ end_following list))
+        → IfSome (records journal) (λ list. P list × (end_of journal ≡ end_offset list))
     holds_sound journal sound keeps =
         subst (λ (o : Option (List Text)). IfSome o (λ list. P list
-        × (end_of journal ≡ end_following list))) (sound_records journal sound)
+        × (end_of journal ≡ end_offset list))) (sound_records journal sound)
         (holds_of journal keeps)
 
     -- an append that failed leaves them as they were
@@ -178,7 +178,7 @@ module _ {D : Type 0} {g : Ghosts D} where
   -- where the record was appended, this holds of the records with it
   pub appended_keeps : (P Q : List Text → Type 0) (old new : Journal D g) (body : Text)
       → JournalAppends body old new (Ok tt)
-      → ((list : List Text) → P list → end_of old ≡ end_following list → Q (list ++ body ∷ []))
+      → ((list : List Text) → P list → end_of old ≡ end_offset list → Q (list ++ body ∷ []))
       → Keeps P old → Keeps Q new
   appended_keeps P Q old new body did next keeps =
       keeps_sound Q new did.leaves.sound
@@ -186,7 +186,7 @@ module _ {D : Type 0} {g : Ghosts D} where
       (holds_sound P old did.leaves.was_sound keeps))
     where
       go : (was now : Option (List Text)) → now ≡ option_map (λ list. list ++ body ∷ []) was
-          → IfSome was (λ list. P list × (end_of old ≡ end_following list)) → IfSome now Q
+          → IfSome was (λ list. P list × (end_of old ≡ end_offset list)) → IfSome now Q
       go None now is holds = subst (λ (o : Option (List Text)). IfSome o Q) (sym is) tt
       go (Some list) now is holds =
           subst (λ (o : Option (List Text)). IfSome o Q) (sym is) (next list holds.0 holds.1)

@@ -5,7 +5,7 @@ use Rattle.disk_core.specs.Times.{OnlyReads}
 use Rattle.disk_core.specs.declared.disk.Disk.{Ghosts}
 use Rattle.journal_core.specs.Ends.{durable_records}
 use Rattle.journal_core.specs.Folds.{Fold, state_after, read_by}
-use Rattle.journal_core.specs.Format.{Represents, end_following, records_of}
+use Rattle.journal_core.specs.Format.{Represents, end_offset, records_of}
 use Rattle.journal_core.specs.Openings.{next_offset, read_list}
 use Rattle.journal_core.specs.Owners.{Owner, OwnerAppends, owner_over}
 use Rattle.journal_core.specs.Readings.{HasFolded, HasFound}
@@ -62,7 +62,7 @@ module _ {M X R : Type 0} (m : Machines M X R) where
       pub stands : IfSome (g.contents (disk_of journal))
           (λ b. IfSome (durable_records journal) (Represents b))
       pub all : IfSome (durable_records journal) (AllRepresent g (disk_of journal))
-      pub end : IfSome (durable_records journal) (λ list. end_of journal ≡ end_following list)
+      pub end : IfSome (durable_records journal) (λ list. end_of journal ≡ end_offset list)
 
     -- the records that were read make the machine
     pub record HasTaken (it : M) (opening : Opening D g) : Type 0 where

@@ -49,7 +49,7 @@ use Rattle.collide.specs.declared.finding.Finding.{Finding}
 use Rattle.collide.specs.declared.finding.Finding.TheVariants.{Pair as Found, Same}
 use Rattle.collide.proofs.Compared.{collision_widened}
 use Rattle.cosigner_steps.specs.Steps.{AreSteps, HasPrefix, IsOfList, IsSign, IsWithin}
-use Rattle.cosigner_steps.specs.Steps.{prefix_inputs, held_following, held_by, proof_inputs}
+use Rattle.cosigner_steps.specs.Steps.{prefix_inputs, held_by_first, held_by, proof_inputs}
 use Rattle.world_core.specs.Audit.{AuditCase, HasInterval, Decides, WasJudged, firsts_of}
 use Rattle.world_core.specs.Audit.{foreign_in, prefix_inputs_of, has_own, hash_there, is_lacking}
 use Rattle.world_core.specs.Audit.{is_sign_of, listed_entry, listed_key, of_checkpoint}
@@ -306,7 +306,7 @@ sign_decides h x e entries given one other f same kept is reported found own sho
 
 all_held : (h : HashFunction) (entries : List Text) (steps : List Step)
     → HasPrefix h entries (held_by h steps)
-    → HasPrefix h entries (held_following h steps (length steps))
+    → HasPrefix h entries (held_by_first h steps (length steps))
 all_held h entries steps prefix =
     subst (λ (xs : List Step). HasPrefix h entries (held_by h xs)) (sym (take-length steps)) prefix
 

@@ -23,7 +23,7 @@ use Rattle.collide.specs.declared.finding.Finding.TheVariants.{Pair, Same}
 use Rattle.collide.proofs.Compared.{collision_widened}
 use Rattle.cosigner_steps.specs.Steps.{AreSteps, HasPrefix, IsOfList, IsWithin, Shows}
 use Rattle.cosigner_steps.specs.Steps.{prefix_inputs}
-use Rattle.cosigner_steps.specs.Steps.{held_following, held_by, proof_inputs, held_sizes}
+use Rattle.cosigner_steps.specs.Steps.{held_by_first, held_by, proof_inputs, held_sizes}
 use Rattle.cosigner_steps.proofs.Holding.{advance_at, found_at, nothing_held, sign_checked}
 use Rattle.cosigner_steps.proofs.Holding.{size_there}
 use Rattle.cosigner_steps.proofs.Steps.{held_advance, held_sign, inputs_at, prefix_at, size_at}
@@ -67,7 +67,7 @@ list_tested h es step index start end hash proof b root sign is test =
 pub advance_prefix : (h : HashFunction) (es : List Text) (steps : List Step) (k size : ℕ)
     (root : Hash) (proof : List Hash) → k < length steps
     → Advance size root proof ≡ get_or steps k (Advance size root proof)
-    → HasPrefix h es (held_following h steps (k + 1))
+    → HasPrefix h es (held_by_first h steps (k + 1))
     → HasPrefix h es (record { size = size; root = root })
 advance_prefix h es steps k size root proof below is prefix =
     subst (HasPrefix h es) (held_advance h steps k size root proof below is) prefix
@@ -75,14 +75,14 @@ advance_prefix h es steps k size root proof below is prefix =
 pub advance_within : (h : HashFunction) (es : List Text) (steps : List Step) (k size : ℕ)
     (root : Hash) (proof : List Hash) → k < length steps
     → Advance size root proof ≡ get_or steps k (Advance size root proof)
-    → HasPrefix h es (held_following h steps (k + 1)) → size ≤ length es
+    → HasPrefix h es (held_by_first h steps (k + 1)) → size ≤ length es
 advance_within h es steps k size root proof below is prefix =
     (advance_prefix h es steps k size root proof below is prefix).within
 
 advance_long : (h : HashFunction) (es : List Text) (steps : List Step) (k size : ℕ)
     (root : Hash) (proof : List Hash) → k < length steps
     → Advance size root proof ≡ get_or steps k (Advance size root proof)
-    → HasPrefix h es (held_following h steps (k + 1))
+    → HasPrefix h es (held_by_first h steps (k + 1))
     → size ≡ length (take size es)
 advance_long h es steps k size root proof below is prefix =
     sym (length-take-le size es (advance_within h es steps k size root proof below is prefix))
@@ -96,8 +96,8 @@ pub record HasGrownFrom (h : HashFunction) (held : Checkpoint) (size : ℕ) (roo
 pub advance_grown : (h : HashFunction) (es : List Text) (steps : List Step) (k size : ℕ)
     (root : Hash) (proof : List Hash) → AreSteps h steps → k < length steps
     → Advance size root proof ≡ get_or steps k (Advance size root proof)
-    → (HasPrefix h es (held_following h steps k) → ⊥)
-    → HasGrownFrom h (held_following h steps k) size root proof
+    → (HasPrefix h es (held_by_first h steps k) → ⊥)
+    → HasGrownFrom h (held_by_first h steps k) size root proof
 advance_grown h es steps k size root proof are below is apart =
     let known = advance_at h steps k size root proof are below is in
     record {
@@ -111,9 +111,9 @@ advance_grown h es steps k size root proof are below is apart =
 pub advance_ready : (h : HashFunction) (es : List Text) (steps : List Step) (k size : ℕ)
     (root : Hash) (proof given : List Hash) (before : Checkpoint) → AreSteps h steps
     → k < length steps → Advance size root proof ≡ get_or steps k (Advance size root proof)
-    → (HasPrefix h es (held_following h steps k) → ⊥)
-    → HasPrefix h es (held_following h steps (k + 1))
-    → before ≡ held_following h steps k → given ≡ proof
+    → (HasPrefix h es (held_by_first h steps k) → ⊥)
+    → HasPrefix h es (held_by_first h steps (k + 1))
+    → before ≡ held_by_first h steps k → given ≡ proof
     → Checks h 0 before.size (length (take size es)) before.root
     (tree_hash h (take size es)) given
 advance_ready h es steps k size root proof given before are below is apart prefix held reported =
@@ -121,13 +121,13 @@ advance_ready h es steps k size root proof given before are below is apart prefi
     let there = advance_prefix h es steps k size root proof below is prefix in
     let long = advance_long h es steps k size root proof below is prefix in
     let hash : root ≡ tree_hash h (take size es) = sym there.root in
-    let one = subst (λ (n : ℕ). Checks h 0 (held_following h steps k).size n
-    (held_following h steps k).root root proof) long grown.checks in
+    let one = subst (λ (n : ℕ). Checks h 0 (held_by_first h steps k).size n
+    (held_by_first h steps k).root root proof) long grown.checks in
     let two =
-    subst (λ (r : Hash). Checks h 0 (held_following h steps k).size (length (take size es))
-    (held_following h steps k).root r proof) hash one in
-    let three = subst (λ (p : List Hash). Checks h 0 (held_following h steps k).size
-    (length (take size es)) (held_following h steps k).root (tree_hash h (take size es)) p)
+    subst (λ (r : Hash). Checks h 0 (held_by_first h steps k).size (length (take size es))
+    (held_by_first h steps k).root r proof) hash one in
+    let three = subst (λ (p : List Hash). Checks h 0 (held_by_first h steps k).size
+    (length (take size es)) (held_by_first h steps k).root (tree_hash h (take size es)) p)
     (sym reported) two in
     subst (λ (c : Checkpoint). Checks h 0 c.size (length (take size es)) c.root
     (tree_hash h (take size es)) given) (sym held) three
@@ -146,9 +146,9 @@ found_of h items es start end node proof f same found =
 pub advance_found : (h : HashFunction) (es : List Text) (steps : List Step) (k size : ℕ)
     (root : Hash) (proof given : List Hash) (before : Checkpoint) → AreSteps h steps
     → k < length steps → Advance size root proof ≡ get_or steps k (Advance size root proof)
-    → (HasPrefix h es (held_following h steps k) → ⊥)
-    → HasPrefix h es (held_following h steps (k + 1))
-    → before ≡ held_following h steps k → given ≡ proof
+    → (HasPrefix h es (held_by_first h steps k) → ⊥)
+    → HasPrefix h es (held_by_first h steps (k + 1))
+    → before ≡ held_by_first h steps k → given ≡ proof
     → (f : Finding)
     → Extracts h (tree_hash h (part_of (take size es) 0 before.size) ≡ before.root)
     (inputs_of h (take size es))
@@ -173,7 +173,7 @@ advance_found h es steps k size root proof given before are below is apart prefi
     (Pair x y) e =
     let long = advance_long h es steps k size root proof below is prefix in
     let size_in = size_at steps k size root proof below is in
-    let now_held = (held_following h steps k) in
+    let now_held = (held_by_first h steps k) in
     collision_widened h (inputs_of h (take size es))
     (open_inputs_of h 0 before.size (length (take size es)) true before.root given)
     (prefix_inputs h es steps) (proof_inputs h steps) x y
@@ -193,8 +193,8 @@ advance_found h es steps k size root proof given before are below is apart prefi
 pub not_sign : (h : HashFunction) (es : List Text) (steps : List Step)
     (k index start end : ℕ) (hash : Hash) (proof : List Hash) → k < length steps
     → Sign index start end hash proof ≡ get_or steps k (Sign index start end hash proof)
-    → (HasPrefix h es (held_following h steps k) → ⊥)
-    → HasPrefix h es (held_following h steps (k + 1)) → ⊥
+    → (HasPrefix h es (held_by_first h steps k) → ⊥)
+    → HasPrefix h es (held_by_first h steps (k + 1)) → ⊥
 not_sign h es steps k index start end hash proof below is apart prefix =
     apart (subst (HasPrefix h es) (held_sign h steps k index start end hash proof below is)
     prefix)
@@ -205,8 +205,8 @@ pub sign_ready : (h : HashFunction) (es : List Text) (steps : List Step)
     (k index start end : ℕ) (hash : Hash) (proof given : List Hash) (held : Checkpoint)
     → AreSteps h steps → k < length steps
     → Sign index start end hash proof ≡ get_or steps k (Sign index start end hash proof)
-    → HasPrefix h es (held_following h steps k)
-    → held ≡ held_following h steps k → given ≡ proof
+    → HasPrefix h es (held_by_first h steps k)
+    → held ≡ held_by_first h steps k → given ≡ proof
     → Checks h start end (length (take held.size es)) hash
     (tree_hash h (take held.size es)) given
 sign_ready h es steps k index start end hash proof given held are below is prefix same reported =
@@ -227,8 +227,8 @@ pub sign_found : (h : HashFunction) (es : List Text) (steps : List Step) (step :
     (k index start end : ℕ) (hash : Hash) (proof given : List Hash) (held : Checkpoint)
     → AreSteps h steps → k < length steps → step ≡ get_or steps k step
     → step ≡ Sign index start end hash proof
-    → HasPrefix h es (held_following h steps k)
-    → held ≡ held_following h steps k → given ≡ proof
+    → HasPrefix h es (held_by_first h steps k)
+    → held ≡ held_by_first h steps k → given ≡ proof
     → (f : Finding)
     → Extracts h (tree_hash h (part_of (take held.size es) start end) ≡ hash)
     (inputs_of h (take held.size es))
@@ -243,7 +243,7 @@ sign_found h es steps step k index start end hash proof given held are below at 
     let checks = sign_checked h steps k index start end hash proof are below here in
     let some = some_in start end checks.valid in
     let within = checks.within in
-    let size : held.size ≡ (held_following h steps k).size = ap (λ (c : Checkpoint). c.size) same in
+    let size : held.size ≡ (held_by_first h steps k).size = ap (λ (c : Checkpoint). c.size) same in
     let part = part_of-take es start end held.size (omega arith) (omega arith) in
     let root = ap (tree_hash h) part in
     let there = size_there h steps k start end some within in
@@ -259,7 +259,7 @@ sign_found h es steps step k index start end hash proof given held are below at 
         (open_inputs_of h start end (length (take held.size es)) true hash given) f
         → tree_hash h (part_of (take held.size es) start end)
         ≡ tree_hash h (part_of es start end)
-        → Contains (held_sizes steps) (held_following h steps k).size
+        → Contains (held_sizes steps) (held_by_first h steps k).size
         → held.size ≡ length (take held.size es)
         → Sign index start end hash proof ≡ get_or steps k (Sign index start end hash proof)
         → Extracts h (tree_hash h (part_of es start end) ≡ hash)
@@ -274,7 +274,7 @@ sign_found h es steps step k index start end hash proof given held are below at 
           let two = subst (λ (b : Checkpoint). Contains (inputs_of h (take b.size es)) x)
           same
           c in
-          prefix_at h es (held_sizes steps) (held_following h steps k).size x there.0 there.1
+          prefix_at h es (held_sizes steps) (held_by_first h steps k).size x there.0 there.1
           there.2
           two)
           (λ (c : Contains (open_inputs_of h start end (length (take held.size es)) true hash given)

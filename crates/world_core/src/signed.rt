@@ -5,7 +5,7 @@ ghost use Rattle.std.specs.Prelude.{slice_index_or};
 ghost use Rattle.cosigner_core.specs.declared.step.Step.{Step};
 ghost use Rattle.collide.specs.Extraction.{Extracts};
 ghost use Rattle.cosigner_steps.specs.Steps.{AreSteps, HasPrefix, IsOfList, IsSign, IsWithin};
-ghost use Rattle.cosigner_steps.specs.Steps.{Shows, held_following, held_by, prefix_inputs};
+ghost use Rattle.cosigner_steps.specs.Steps.{Shows, held_by_first, held_by, prefix_inputs};
 ghost use Rattle.cosigner_steps.specs.Steps.{proof_inputs};
 
 use crate::prefix::has_prefix;
@@ -38,13 +38,13 @@ fn is_of_list<H: TreeHash>(entries: &Entries<'_>, step: &Step) -> bool
 // It is found by halves, so that few prefixes of the list are hashed.
 fn parting<H: TreeHash>(entries: &Entries<'_>, steps: &[Step], from: usize) -> usize
     requires within { from < length steps.now }
-    requires apart { HasPrefix H.hash entries.now (held_following H.hash steps.now from) → ⊥ }
+    requires apart { HasPrefix H.hash entries.now (held_by_first H.hash steps.now from) → ⊥ }
     requires whole { HasPrefix H.hash entries.now
-        (held_following H.hash steps.now (length steps.now)) }
+        (held_by_first H.hash steps.now (length steps.now)) }
     ensures within { result < length steps.now }
-    ensures apart { HasPrefix H.hash entries.now (held_following H.hash steps.now result) → ⊥ }
+    ensures apart { HasPrefix H.hash entries.now (held_by_first H.hash steps.now result) → ⊥ }
     ensures next { HasPrefix H.hash entries.now
-        (held_following H.hash steps.now (result + 1)) }
+        (held_by_first H.hash steps.now (result + 1)) }
 {
     let mut low = from;
     let mut high = steps.len();
@@ -69,9 +69,9 @@ fn at_advance<H: TreeHash>(
 ) -> Result<Finding, Memory>
     requires allowed { AreSteps H.hash steps.now }
     requires within { place < length steps.now }
-    requires apart { HasPrefix H.hash entries.now (held_following H.hash steps.now place) → ⊥ }
+    requires apart { HasPrefix H.hash entries.now (held_by_first H.hash steps.now place) → ⊥ }
     requires next { HasPrefix H.hash entries.now
-        (held_following H.hash steps.now (place + 1)) }
+        (held_by_first H.hash steps.now (place + 1)) }
     ensures { IfOk result (Shows H.hash (prefix_inputs H.hash entries.now steps.now)
         (proof_inputs H.hash steps.now)) }
 {
@@ -102,7 +102,7 @@ fn at_sign<H: TreeHash>(
     requires within { place < length steps.now }
     requires step { step.now ≡ slice_index_or steps.now place step.now }
     requires sign { IsSign step.now }
-    requires prefix { HasPrefix H.hash entries.now (held_following H.hash steps.now place) }
+    requires prefix { HasPrefix H.hash entries.now (held_by_first H.hash steps.now place) }
     ensures { IfOk result (Extracts H.hash (IsOfList H.hash entries.now step.now)
         (prefix_inputs H.hash entries.now steps.now) (proof_inputs H.hash steps.now)) }
 {
@@ -140,7 +140,7 @@ pub(crate) fn find_signed<H: TreeHash>(
     requires step { step.now ≡ slice_index_or steps.now place step.now }
     requires sign { IsSign step.now }
     requires whole { HasPrefix H.hash entries.now
-        (held_following H.hash steps.now (length steps.now)) }
+        (held_by_first H.hash steps.now (length steps.now)) }
     ensures { IfOk result (Extracts H.hash (IsOfList H.hash entries.now step.now)
         (prefix_inputs H.hash entries.now steps.now) (proof_inputs H.hash steps.now)) }
 {

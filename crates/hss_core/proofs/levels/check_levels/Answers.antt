@@ -2,7 +2,7 @@ use Rattle.std.proofs.Common.{◌≡◌, ◌∙◌, suc, ◌+◌, ◌-◌, take,
 use Rattle.std.proofs.lemmas.List.{drop-drop}
 use Rattle.byte_formats.specs.Refusals.{answer_of}
 use Rattle.lms_core.specs.Refusals.{check_refusal}
-use Rattle.hss_core.specs.Hss.{following_key, key_following}
+use Rattle.hss_core.specs.Hss.{after_next_key, next_public_key}
 use Rattle.hss_core.proofs.Parts.{answer_of-err, answer_of-ok, levels_refusal-passed}
 use Rattle.hss_core.proofs.Parts.{levels_refusal-refused, parts_fit-more}
 use Rattle.hss_core.proofs.levels.check_levels.Goals as goal
@@ -22,7 +22,7 @@ returns-in-Err c =
     let more : c.args.count - c.loop-done.done ≡ suc (c.args.count - (c.loop-done.done + 1)) =
     omega arith in
     let reported : answer_of
-    (check_refusal c.loop-done.key.now (key_following size rest) (take size rest))
+    (check_refusal c.loop-done.key.now (next_public_key size rest) (take size rest))
     ≡ Err c.in-Err.refusal =
     rw (
       ← c.split_at.ensures.front,
@@ -43,12 +43,12 @@ loop-done-preserved c =
     let more : c.args.count - c.loop-done.done ≡ suc (c.args.count - (c.loop-done.done + 1)) =
     omega arith in
     let fit = parts_fit-more _ _ size rest more found c.loop-done.invariant.1 in
-    let next : c.split_at-in-loop-done.result.0.now ≡ key_following size rest =
+    let next : c.split_at-in-loop-done.result.0.now ≡ next_public_key size rest =
     rw (c.split_at-in-loop-done.ensures.front, c.split_at.ensures.back) refl in
-    let following : c.split_at-in-loop-done.result.1.now ≡ following_key size rest =
+    let following : c.split_at-in-loop-done.result.1.now ≡ after_next_key size rest =
     rw (c.split_at-in-loop-done.ensures.back, c.split_at.ensures.back) (drop-drop 56 size rest) in
     let reported : answer_of
-    (check_refusal c.loop-done.key.now (key_following size rest) (take size rest))
+    (check_refusal c.loop-done.key.now (next_public_key size rest) (take size rest))
     ≡ Ok tt =
     rw (
       ← c.split_at.ensures.front,

@@ -4,7 +4,7 @@ use Rattle.disk_core.specs.Times.{OnlyReads}
 use Rattle.disk_core.proofs.Times.{only_read_on}
 use Rattle.journal_core.specs.Ends.{durable_records}
 use Rattle.journal_core.specs.Folds.{read_by, state_after}
-use Rattle.journal_core.specs.Format.{Represents, end_following}
+use Rattle.journal_core.specs.Format.{Represents, end_offset}
 use Rattle.journal_core.specs.Openings.{opening_disk, read_list}
 use Rattle.journal_core.specs.Words.{AllRepresent, disk_of, end_of}
 use Rattle.journal_core.proofs.FoldSteps.{cause_begin}
@@ -61,7 +61,7 @@ returns-in-Ok-read_machine-clause-opened g c =
           (g.D.Disk.contents (disk_of journal)) (read_list opening) (durable_records journal)
           (ap g.D.Disk.contents c.ready.ensures.disk) same all.found.stands;
       all = of_sound journal (AllRepresent g.D.Disk (disk_of journal)) sound c.ready.ensures.all;
-      end = of_sound journal (λ list. end_of journal ≡ end_following list) sound
+      end = of_sound journal (λ list. end_of journal ≡ end_offset list) sound
           c.ready.ensures.end;
     }
 
