@@ -18,7 +18,7 @@ use Rattle.mtc_command.specs.Steps.{Files, Outcome, says, with_bytes, with_form}
 use Rattle.mtc_command.specs.Wanted.{Meets}
 use Rattle.mtc_command.specs.declared.answer.Said.TheVariants.{Done}
 use Rattle.mtc_command.proofs.Inputs.{bytes_read}
-use Rattle.mtc_reads.specs.VerifyOutcome.{verdict_says, verify_outcome, verify_says}
+use Rattle.mtc_relying.specs.VerifyOutcome.{verdict_says, verify_outcome, verify_says}
 use Rattle.mtc_plans.proofs.Planned.{outcome_planned}
 use Rattle.mtc_top.specs.AuditLaws.{HoldsText}
 use Rattle.mtc_top.specs.Concluded.{Prints}

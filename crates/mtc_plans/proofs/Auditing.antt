@@ -13,11 +13,11 @@ use Rattle.policy_core.specs.declared.store.Store.{Store}
 use Rattle.quarrel_core.specs.Conflicts.{quarrel_of}
 use Rattle.world_core.specs.Audit.{AuditCase, foreign_of, has_own, is_supported}
 use Rattle.mtc_command.specs.Steps.{Files}
-use Rattle.mtc_monitor.specs.AuditOutcome.{AcceptedParts, InputFile, accepted_in}
-use Rattle.mtc_monitor.specs.AuditOutcome.{audit_accepted_says, audit_by, audit_outcome}
-use Rattle.mtc_monitor.specs.AuditOutcome.{audit_store_says, case_of}
-use Rattle.mtc_monitor.specs.QuarrelOutcome.{quarrel_by, quarrel_kept, quarrel_outcome}
-use Rattle.mtc_monitor.specs.QuarrelOutcome.{quarrel_says}
+use Rattle.mtc_relying.specs.AuditOutcome.{AcceptedParts, InputFile, accepted_in}
+use Rattle.mtc_relying.specs.AuditOutcome.{audit_accepted_says, audit_by, audit_outcome}
+use Rattle.mtc_relying.specs.AuditOutcome.{audit_store_says, case_of}
+use Rattle.mtc_relying.specs.QuarrelOutcome.{quarrel_by, quarrel_kept, quarrel_outcome}
+use Rattle.mtc_relying.specs.QuarrelOutcome.{quarrel_says}
 use Rattle.cosigner_core.specs.Reasons.{export_fault_text}
 use Rattle.entry_list.specs.Reasons.{items_fault_text}
 use Rattle.policy_core.specs.Reasons.{store_fault_text}

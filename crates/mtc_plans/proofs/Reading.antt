@@ -21,11 +21,11 @@ use Rattle.entry_list.specs.Reasons.{items_fault_text}
 use Rattle.landmarks.specs.Reasons.{list_fault_text}
 use Rattle.policy_core.specs.Reasons.{store_fault_text}
 use Rattle.tls_wire.specs.Reasons.{hashes_fault_text}
-use Rattle.mtc_monitor.specs.TrustOutcome.{trust_outcome, trust_says}
-use Rattle.mtc_reads.specs.Member.{member_file, member_judgement}
-use Rattle.mtc_reads.specs.MemberOutcome.{judgement_says, member_outcome, member_says}
-use Rattle.mtc_reads.specs.ShowOutcome.{show_outcome, show_says}
-use Rattle.mtc_reads.specs.VerifyOutcome.{verdict_says, verify_outcome, verify_says}
+use Rattle.mtc_relying.specs.TrustOutcome.{trust_outcome, trust_says}
+use Rattle.mtc_relying.specs.Member.{member_file, member_judgement}
+use Rattle.mtc_relying.specs.MemberOutcome.{judgement_says, member_outcome, member_says}
+use Rattle.mtc_relying.specs.ShowOutcome.{show_outcome, show_says}
+use Rattle.mtc_relying.specs.VerifyOutcome.{verdict_says, verify_outcome, verify_says}
 use Rattle.command_plans.specs.Kinds.{Kinds}
 use Rattle.command_plans.specs.Outcomes.{outcome_of, step_outcome}
 use Rattle.command_plans.specs.Plans.{Input, Journal, Read, Step, misreads}

@@ -15,9 +15,9 @@ use Rattle.quarrel_core.specs.Conflicts.{quarrel_of}
 use Rattle.world_core.specs.Audit.{AuditCase, firsts_of, foreign_of, has_own, is_supported}
 use Rattle.world_core.specs.Audit.{seconds_of}
 use Rattle.mtc_command.specs.declared.answer.Said.TheVariants.{Against, Collided, Done}
-use Rattle.mtc_monitor.specs.AuditOutcome.{AcceptedParts, accepted_in, case_of, collision_text}
-use Rattle.mtc_monitor.specs.AuditOutcome.{foreign_text, stands_text, unrecorded_text}
-use Rattle.mtc_monitor.specs.QuarrelOutcome.{agree_text, quarrel_text}
+use Rattle.mtc_relying.specs.AuditOutcome.{AcceptedParts, accepted_in, case_of, collision_text}
+use Rattle.mtc_relying.specs.AuditOutcome.{foreign_text, stands_text, unrecorded_text}
+use Rattle.mtc_relying.specs.QuarrelOutcome.{agree_text, quarrel_text}
 use Rattle.cosigner_core.specs.Reasons.{export_fault_text}
 use Rattle.entry_list.specs.Reasons.{items_fault_text}
 use Rattle.policy_core.specs.Reasons.{store_fault_text}

@@ -1,5 +1,5 @@
 -- The outcomes that the contracts of the commands cite: one line for each. Each stands in a file of
--- its own, in mtc_reads, mtc_authority, mtc_cosigner, mtc_monitor or mtc_drill.
+-- its own, in mtc_relying, mtc_authority, mtc_cosigner, mtc_watch or mtc_drill.
 use Rattle.byte_formats.specs.Types.{HashFunction, Text}
 use Rattle.mtc_words.specs.Commands.{CommandValue, member, show, verify, init_log, issue}
 use Rattle.mtc_words.specs.Commands.{checkpoint, entries, entries_from, consist, subtree}
@@ -22,12 +22,12 @@ use Rattle.mtc_authority.specs.declared.work.Work.TheVariants.{Checkpoint, Consi
 use Rattle.mtc_authority.specs.declared.work.Work.TheVariants.{EntriesFrom}
 use Rattle.mtc_authority.specs.declared.work.Work.TheVariants.{Subtree}
 use Rattle.mtc_authority.specs.declared.work.Work.TheVariants.{Landmark, Landmarks, LightCert, Tile}
-use Rattle.mtc_monitor.specs.AuditOutcome.{audit_outcome}
-use Rattle.mtc_monitor.specs.QuarrelOutcome.{quarrel_outcome}
-use Rattle.mtc_monitor.specs.TrustOutcome.{trust_outcome}
-use Rattle.mtc_reads.specs.MemberOutcome.{member_outcome}
-use Rattle.mtc_reads.specs.ShowOutcome.{show_outcome}
-use Rattle.mtc_reads.specs.VerifyOutcome.{verify_outcome}
+use Rattle.mtc_relying.specs.AuditOutcome.{audit_outcome}
+use Rattle.mtc_relying.specs.QuarrelOutcome.{quarrel_outcome}
+use Rattle.mtc_relying.specs.TrustOutcome.{trust_outcome}
+use Rattle.mtc_relying.specs.MemberOutcome.{member_outcome}
+use Rattle.mtc_relying.specs.ShowOutcome.{show_outcome}
+use Rattle.mtc_relying.specs.VerifyOutcome.{verify_outcome}
 use Rattle.mtc_watch.specs.HeldOutcome.{held_outcome}
 use Rattle.mtc_watch.specs.MonitorOutcome.{monitor_init_outcome, monitor_outcome}
 use Rattle.mtc_watch.specs.RootOutcome.{root_outcome}

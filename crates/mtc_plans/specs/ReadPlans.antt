@@ -23,9 +23,9 @@ use Rattle.mtc_proof.specs.Reasons.{proof_fault_text}
 use Rattle.policy_core.specs.Reasons.{refusal_text, store_fault_text}
 use Rattle.tls_wire.specs.Reasons.{hashes_fault_text}
 use Rattle.tree_core.specs.Reasons.{shape_text}
-use Rattle.mtc_monitor.specs.TrustOutcome.{trust_text}
-use Rattle.mtc_reads.specs.Member.{member_file, member_judgement}
-use Rattle.mtc_reads.specs.ShowOutcome.{show_text}
+use Rattle.mtc_relying.specs.TrustOutcome.{trust_text}
+use Rattle.mtc_relying.specs.Member.{member_file, member_judgement}
+use Rattle.mtc_relying.specs.ShowOutcome.{show_text}
 use Rattle.command_plans.specs.Kinds.{Kinds}
 use Rattle.command_plans.specs.Plans.{Input, Judged, Plan, Read, Step, in_form, misreads}
 use Rattle.command_plans.specs.Plans.{only_prints, prints, prints_formed}

@@ -42,9 +42,9 @@ use Rattle.mtc_command.specs.Steps.{Files, Outcome, with_form}
 use Rattle.mtc_command.specs.Wanted.{Meets}
 use Rattle.mtc_command.proofs.Inputs.{bytes_read}
 use Rattle.mtc_command.proofs.Made.{OnlyNow, ReadsCrashState}
-use Rattle.mtc_monitor.specs.AuditOutcome.{InputFile, audit_by, audit_outcome, audit_says}
-use Rattle.mtc_monitor.specs.AuditOutcome.{audit_cert_says, audit_export_says, audit_items_say}
-use Rattle.mtc_monitor.specs.AuditOutcome.{audit_accepted_says, audit_store_says, with_input}
+use Rattle.mtc_relying.specs.AuditOutcome.{InputFile, audit_by, audit_outcome, audit_says}
+use Rattle.mtc_relying.specs.AuditOutcome.{audit_cert_says, audit_export_says, audit_items_say}
+use Rattle.mtc_relying.specs.AuditOutcome.{audit_accepted_says, audit_store_says, with_input}
 use Rattle.cosigner_core.specs.Reasons.{export_fault_text}
 use Rattle.entry_list.specs.Reasons.{items_fault_text}
 use Rattle.policy_core.specs.Reasons.{store_fault_text}

@@ -24,8 +24,8 @@ use Rattle.mtc_command.specs.Steps.{Files, Outcome, with_form}
 use Rattle.mtc_command.specs.Wanted.{Meets}
 use Rattle.mtc_command.proofs.Inputs.{bytes_read}
 use Rattle.mtc_command.proofs.Made.{OnlyNow, ReadsCrashState}
-use Rattle.mtc_monitor.specs.QuarrelOutcome.{quarrel_by, quarrel_kept, quarrel_outcome}
-use Rattle.mtc_monitor.specs.QuarrelOutcome.{quarrel_says}
+use Rattle.mtc_relying.specs.QuarrelOutcome.{quarrel_by, quarrel_kept, quarrel_outcome}
+use Rattle.mtc_relying.specs.QuarrelOutcome.{quarrel_says}
 use Rattle.cosigner_core.specs.Reasons.{export_fault_text}
 use Rattle.mtc_top.specs.AuditLaws.{HoldsText}
 use Rattle.mtc_top.specs.Concluded.{Prints}

@@ -22,7 +22,7 @@ use Rattle.world_core.specs.Audit.{AuditCase, HasInterval, HasOwn, firsts_of, fo
 use Rattle.world_core.specs.Audit.{seconds_of}
 use Rattle.mtc_command.specs.Steps.{Files}
 use Rattle.mtc_command.specs.Wanted.{IsPair}
-use Rattle.mtc_monitor.specs.AuditOutcome.{collision_text, accepted_in, stands_text}
+use Rattle.mtc_relying.specs.AuditOutcome.{collision_text, accepted_in, stands_text}
 use Rattle.mtc_top.specs.Concluded.{Prints}
 use Rattle.mtc_top.specs.Executions.{owner, WasHeld, IsBegun, Run, FileEvent}
 

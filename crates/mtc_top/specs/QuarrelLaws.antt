@@ -9,7 +9,7 @@ use Rattle.cosigner_core.specs.Records.{step_in}
 use Rattle.cosigner_core.specs.declared.settings.CosignerSettings.{CosignerSettings}
 use Rattle.cosigner_core.specs.declared.step.Step.TheVariants.{Sign}
 use Rattle.party_history.specs.declared.start.PartyStart.TheVariants.{Cosigner}
-use Rattle.mtc_monitor.specs.QuarrelOutcome.{quarrel_text}
+use Rattle.mtc_relying.specs.QuarrelOutcome.{quarrel_text}
 use Rattle.mtc_top.specs.AuditLaws.{HoldsText}
 use Rattle.mtc_top.specs.Concluded.{Prints}
 use Rattle.mtc_top.specs.Executions.{owner, WasHeld, IsBegun, Run, FileEvent}

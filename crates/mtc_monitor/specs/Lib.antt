@@ -1,5 +1,0 @@
-pub mod AuditOutcome
-pub mod QuarrelOutcome
-pub mod TrustOutcome
-pub mod Views
-pub mod Within

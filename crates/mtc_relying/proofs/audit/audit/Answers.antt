@@ -1,0 +1,90 @@
+use Rattle.std.proofs.Common.{[], inl, inr, refl}
+use Rattle.std.proofs.lemmas.Result.{err_from_is_err_and}
+use Rattle.mtc_relying.proofs.After.{after_cert, after_entries, after_export, after_store}
+use Rattle.mtc_relying.proofs.After.{names, of_entries, of_export, of_store, says}
+use Rattle.mtc_relying.proofs.audit.audit.Goals as goal
+
+pub returns-in_err-certificate : goal.returns-in_err-certificate
+returns-in_err-certificate g c =
+    let p = err_from_is_err_and c.from_residual.result c.from_residual.ensures.1 in
+    let a = c.args in
+    let file = g.R.Room.file a.room.now in
+    rw (p.1, p.2) (c.in_err-certificate.ensures.stops
+    (names g.H.TreeHash.hash a.now a.cert.now a.store.now a.entries.now a.export.now) []
+    (of_store g.H.TreeHash.hash a.now a.cert.now a.store.now a.entries.now a.export.now
+    (file a.store.now) (file a.entries.now) (file a.export.now)) (inl refl))
+
+pub returns-in_err-trusted : goal.returns-in_err-trusted
+returns-in_err-trusted g c =
+    let p = err_from_is_err_and c.from_residual-in_err-trusted.result
+    c.from_residual-in_err-trusted.ensures.1 in
+    let a = c.args in
+    let file = g.R.Room.file c.read_input.new.room in
+    rw (p.1, p.2) (after_cert g.H.TreeHash.hash a.now a.cert.now a.store.now a.entries.now
+    a.export.now
+    g.R.Room g.R.Dsk.Disk _ _ _ _ c.in_ok-certificate.ensures.all_closed
+    c.in_ok-certificate.certificate c.in_ok-certificate.ensures.bytes
+    (c.in_err-trusted.ensures.stops
+    (names g.H.TreeHash.hash a.now a.cert.now a.store.now a.entries.now a.export.now) []
+    (of_entries g.H.TreeHash.hash a.now a.cert.now a.store.now a.entries.now a.export.now
+    (file a.entries.now) (file a.export.now) c.in_ok-certificate.certificate) (inr (inl refl))))
+
+pub returns-in_err-listed : goal.returns-in_err-listed
+returns-in_err-listed g c =
+    let p = err_from_is_err_and c.from_residual-in_err-listed.result
+    c.from_residual-in_err-listed.ensures.1 in
+    let a = c.args in
+    rw (p.1, p.2) (after_cert g.H.TreeHash.hash a.now a.cert.now a.store.now a.entries.now
+    a.export.now
+    g.R.Room g.R.Dsk.Disk _ _ _ _ c.in_ok-certificate.ensures.all_closed
+    c.in_ok-certificate.certificate c.in_ok-certificate.ensures.bytes
+    (after_store g.H.TreeHash.hash a.now a.cert.now a.store.now a.entries.now a.export.now
+    g.R.Room g.R.Dsk.Disk _ _ _ _ c.in_ok-trusted.ensures.all_closed
+    c.in_ok-certificate.certificate c.in_ok-trusted.trusted c.in_ok-trusted.ensures.bytes
+    (c.in_err-listed.ensures.stops
+    (names g.H.TreeHash.hash a.now a.cert.now a.store.now a.entries.now a.export.now) []
+    (of_export g.H.TreeHash.hash a.now a.cert.now a.store.now a.entries.now a.export.now
+    (g.R.Room.file c.read_input-2.new.room a.export.now) c.in_ok-certificate.certificate
+    c.in_ok-trusted.trusted) (inr (inr (inl refl))))))
+
+pub returns-in_err-exported : goal.returns-in_err-exported
+returns-in_err-exported g c =
+    let p = err_from_is_err_and c.from_residual-in_err-exported.result
+    c.from_residual-in_err-exported.ensures.1 in
+    let a = c.args in
+    rw (p.1, p.2) (after_cert g.H.TreeHash.hash a.now a.cert.now a.store.now a.entries.now
+    a.export.now
+    g.R.Room g.R.Dsk.Disk _ _ _ _ c.in_ok-certificate.ensures.all_closed
+    c.in_ok-certificate.certificate c.in_ok-certificate.ensures.bytes
+    (after_store g.H.TreeHash.hash a.now a.cert.now a.store.now a.entries.now a.export.now
+    g.R.Room g.R.Dsk.Disk _ _ _ _ c.in_ok-trusted.ensures.all_closed
+    c.in_ok-certificate.certificate c.in_ok-trusted.trusted c.in_ok-trusted.ensures.bytes
+    (after_entries g.H.TreeHash.hash a.now a.cert.now a.store.now a.entries.now a.export.now
+    g.R.Room g.R.Dsk.Disk _ _ _ _ c.in_ok-listed.ensures.all_closed
+    c.in_ok-certificate.certificate c.in_ok-trusted.trusted c.in_ok-listed.listed
+    c.in_ok-listed.ensures.bytes
+    (c.in_err-exported.ensures.stops
+    (names g.H.TreeHash.hash a.now a.cert.now a.store.now a.entries.now a.export.now) []
+    (says g.H.TreeHash.hash a.now a.cert.now a.store.now a.entries.now a.export.now
+    c.in_ok-certificate.certificate c.in_ok-trusted.trusted c.in_ok-listed.listed)
+    (inr (inr (inr (inl refl))))))))
+
+pub returns : goal.returns
+returns g c =
+    let a = c.args in
+    after_cert g.H.TreeHash.hash a.now a.cert.now a.store.now a.entries.now a.export.now
+    g.R.Room g.R.Dsk.Disk _ _ _ _ c.in_ok-certificate.ensures.all_closed
+    c.in_ok-certificate.certificate c.in_ok-certificate.ensures.bytes
+    (after_store g.H.TreeHash.hash a.now a.cert.now a.store.now a.entries.now a.export.now
+    g.R.Room g.R.Dsk.Disk _ _ _ _ c.in_ok-trusted.ensures.all_closed
+    c.in_ok-certificate.certificate c.in_ok-trusted.trusted c.in_ok-trusted.ensures.bytes
+    (after_entries g.H.TreeHash.hash a.now a.cert.now a.store.now a.entries.now a.export.now
+    g.R.Room g.R.Dsk.Disk _ _ _ _ c.in_ok-listed.ensures.all_closed
+    c.in_ok-certificate.certificate c.in_ok-trusted.trusted c.in_ok-listed.listed
+    c.in_ok-listed.ensures.bytes
+    (after_export g.H.TreeHash.hash a.now a.cert.now a.store.now a.entries.now a.export.now
+    g.R.Room g.R.Dsk.Disk _ _ _ c.in_ok-exported.ensures.all_closed g.met.R.Dsk.Disk.only_now _ _ _
+    _
+    c.in_ok-certificate.certificate c.in_ok-trusted.trusted c.in_ok-listed.listed
+    c.in_ok-exported.exported c.in_ok-exported.ensures.bytes c.input.ensures c.input-2.ensures
+    c.input-3.ensures c.input-4.ensures c.store_answer.ensures)))

@@ -1,0 +1,10 @@
+pub mod AuditOutcome
+pub mod Member
+pub mod MemberOutcome
+pub mod QuarrelOutcome
+pub mod Reasons
+pub mod ShowOutcome
+pub mod TrustOutcome
+pub mod VerifyOutcome
+pub mod Views
+pub mod Within
