@@ -25,9 +25,10 @@ use Rattle.mtc_command.specs.declared.answer.Said.TheVariants.{Done}
 use Rattle.mtc_command.specs.declared.answer.Stopped.{Stopped}
 use Rattle.mtc_command.specs.declared.answer.Stopped.TheVariants.{BadForm, Beyond, Missing}
 use Rattle.mtc_command.specs.declared.answer.Stopped.TheVariants.{NotAllowed}
-use Rattle.mtc_watch.specs.MonitorOutcome.{kept_says, monitor_outcome, new_items_say, new_size_says}
-use Rattle.mtc_watch.specs.MonitorOutcome.{run_says, watch_says}
-use Rattle.mtc_watch.specs.Reasons.{run_fault_text}
+use Rattle.mtc_monitor.specs.MonitorOutcome.{kept_says, monitor_outcome, new_items_say}
+use Rattle.mtc_monitor.specs.MonitorOutcome.{new_size_says}
+use Rattle.mtc_monitor.specs.MonitorOutcome.{run_says, watch_says}
+use Rattle.mtc_monitor.specs.Reasons.{run_fault_text}
 use Rattle.mtc_plans.specs.Heard.{OfSaid}
 use Rattle.mtc_plans.proofs.Planned.{outcome_planned}
 use Rattle.mtc_top.specs.Executions.{program}

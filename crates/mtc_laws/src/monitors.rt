@@ -10,7 +10,7 @@ use tree_core::TreeHash;
 
 /// From the first byte on that may have gone out of `monitor`, and with status 0, its output is a
 /// prefix of the text that the command has to print over its four files, and with status 0 all of
-/// it. `mtc_watch::law_state_files_chain` says what such texts are, of commands that follow each
+/// it. `mtc_monitor::law_state_files_chain` says what such texts are, of commands that follow each
 /// other.
 pub fn law_monitors_print_what_was_found<H: TreeHash, R: Room, O: Sink, E: Sink>()
     ensures { MonitorsArePrinted H.hash (program H.hash R.Room R.Dsk.Disk O.Sink E.Sink) }

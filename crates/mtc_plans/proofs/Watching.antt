@@ -12,10 +12,10 @@ use Rattle.mtc_command.specs.Steps.{Files}
 use Rattle.cosigner_core.specs.Reasons.{export_fault_text, form_fault_text}
 use Rattle.entry_list.specs.Reasons.{items_fault_text}
 use Rattle.monitor_core.specs.Reasons.{text_fault_text}
-use Rattle.mtc_watch.specs.HeldOutcome.{held_outcome, held_says}
-use Rattle.mtc_watch.specs.MonitorOutcome.{kept_says, monitor_init_outcome, monitor_outcome}
-use Rattle.mtc_watch.specs.MonitorOutcome.{run_says}
-use Rattle.mtc_watch.specs.RootOutcome.{root_outcome, root_says}
+use Rattle.mtc_monitor.specs.HeldOutcome.{held_outcome, held_says}
+use Rattle.mtc_monitor.specs.MonitorOutcome.{kept_says, monitor_init_outcome, monitor_outcome}
+use Rattle.mtc_monitor.specs.MonitorOutcome.{run_says}
+use Rattle.mtc_monitor.specs.RootOutcome.{root_outcome, root_says}
 use Rattle.command_plans.specs.Kinds.{Kinds}
 use Rattle.command_plans.specs.Outcomes.{outcome_of, step_outcome}
 use Rattle.command_plans.specs.Plans.{Input, Read}

@@ -1,5 +1,5 @@
 -- The outcomes that the contracts of the commands cite: one line for each. Each stands in a file of
--- its own, in mtc_relying, mtc_authority, mtc_cosigner, mtc_watch or mtc_drill.
+-- its own, in mtc_relying, mtc_authority, mtc_cosigner, mtc_monitor or mtc_drill.
 use Rattle.byte_formats.specs.Types.{HashFunction, Text}
 use Rattle.mtc_words.specs.Commands.{CommandValue, member, show, verify, init_log, issue}
 use Rattle.mtc_words.specs.Commands.{checkpoint, entries, entries_from, consist, subtree}
@@ -28,9 +28,9 @@ use Rattle.mtc_relying.specs.TrustOutcome.{trust_outcome}
 use Rattle.mtc_relying.specs.MemberOutcome.{member_outcome}
 use Rattle.mtc_relying.specs.ShowOutcome.{show_outcome}
 use Rattle.mtc_relying.specs.VerifyOutcome.{verify_outcome}
-use Rattle.mtc_watch.specs.HeldOutcome.{held_outcome}
-use Rattle.mtc_watch.specs.MonitorOutcome.{monitor_init_outcome, monitor_outcome}
-use Rattle.mtc_watch.specs.RootOutcome.{root_outcome}
+use Rattle.mtc_monitor.specs.HeldOutcome.{held_outcome}
+use Rattle.mtc_monitor.specs.MonitorOutcome.{monitor_init_outcome, monitor_outcome}
+use Rattle.mtc_monitor.specs.RootOutcome.{root_outcome}
 
 -- The outcome of a command on the log of a journal, which reads no files but the log's.
 abbrev pub outcome_on_log : HashFunction → Text → Work → Files → Outcome

@@ -2,7 +2,7 @@ use Rattle.std.proofs.Common.{[], refl, arith}
 use Rattle.mtc_command.proofs.Served.{answered}
 use Rattle.mtc_command.specs.Answers.{ending_of}
 use Rattle.mtc_drill.specs.Summary.{drill_outcome}
-use Rattle.mtc_watch.specs.MonitorOutcome.{monitor_init_outcome}
+use Rattle.mtc_monitor.specs.MonitorOutcome.{monitor_init_outcome}
 use Rattle.mtc_top.proofs.top.perform_reading.Goals as goal
 
 -- the file system is as it was
