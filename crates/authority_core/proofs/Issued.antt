@@ -208,7 +208,7 @@ field_is r f =
 
 module _ (h : List ℕ → List ℕ) (id : List ℕ) (r : RequestParts) (sized : (bytes : List ℕ)
     → length (h bytes) ≡ 32) (anchor : IsAnchorId id) (f : CanBeIssued r) where
-  fields_are : IsTbs (tbs_for h id r)
+  pub fields_are : IsTbs (tbs_for h id r)
   fields_are = record {
     issuer = issuer_is id anchor;
     validity = record { period = f.validity; encoded = refl };
