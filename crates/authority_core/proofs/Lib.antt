@@ -1,10 +1,10 @@
 pub mod Certificates
-mod Identifiers
+pub mod Identifiers
 mod Labels
 mod Items
 pub mod Marks
 mod Sizes
-mod Issued
-mod Accepted
+pub mod Issued
+pub mod Accepted
 pub mod Modelled
 mod Answered
