@@ -1,5 +1,5 @@
-mod Wholes
-mod FileRules
+pub mod Wholes
+pub mod FileRules
 mod Repeats
 mod Asked
 mod TrustedHash

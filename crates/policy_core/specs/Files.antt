@@ -1,8 +1,9 @@
 -- The store file: what a text says, or why it is none. The faults stand in the order of their
 -- tests.
-use Rattle.std.specs.Prelude.{◌&&◌, nat_lt, Bool, List, [], ◌∷◌, codes, Option, Some, None, Result}
-use Rattle.std.specs.Prelude.{Ok, Err, if◌then◌else◌}
+use Rattle.std.specs.Prelude.{◌&&◌, not, nat_lt, Bool, List, [], ◌∷◌, length, codes, Option, Some}
+use Rattle.std.specs.Prelude.{None, Result, Ok, Err, if◌then◌else◌}
 use Rattle.std.specs.List.{list_all}
+use Rattle.std.specs.Str.{bytes_eq}
 use Rattle.byte_formats.specs.Types.{Text}
 use Rattle.byte_formats.specs.Readings.{◌>>=◌}
 use Rattle.cert_names.specs.LogNames.{name_with}
@@ -12,15 +13,15 @@ use Rattle.toml_fields.specs.Tree.{tree_of, has_only}
 use Rattle.toml_fields.specs.Codes.{number_data, hash_data}
 use Rattle.tree_core.specs.Subtree.{is_subtree}
 use Rattle.tree_core.specs.declared.spans.Span.{Span}
-use Rattle.policy_core.specs.declared.error.Key.TheVariants.{LogId, Start, End, Hash}
+use Rattle.policy_core.specs.declared.error.Key.TheVariants.{LogId, Cosigners, Start, End, Hash}
 use Rattle.policy_core.specs.declared.error.StoreError.{StoreError}
 use Rattle.policy_core.specs.declared.error.StoreError.TheVariants.{NotToml, UnknownKey, Missing}
 use Rattle.policy_core.specs.declared.error.StoreError.TheVariants.{RepeatedId, RepeatedSubtree}
-use Rattle.policy_core.specs.declared.error.StoreError.TheVariants.{BadRange}
+use Rattle.policy_core.specs.declared.error.StoreError.TheVariants.{BadRange, BadValue}
 use Rattle.policy_core.specs.declared.lists.Trusted.{Trusted}
 use Rattle.policy_core.specs.declared.rules.Rule.{Rule}
 use Rattle.policy_core.specs.declared.store.Store.{Store}
-use Rattle.policy_core.specs.Stores.{has_repeat, has_same_id, has_same_interval}
+use Rattle.policy_core.specs.Stores.{has_repeat, has_same_id, has_same_interval, is_rule}
 use Rattle.policy_core.specs.Fields.{table_with, store_field, id_data, list_at}
 use Rattle.policy_core.specs.CosignerFields.{cosigners_at, rules_at}
 
@@ -73,6 +74,14 @@ checked_store s =
     if has_repeat has_same_id s.cosigners then Err RepeatedId
     else (if has_repeat has_same_interval s.subtrees then Err RepeatedSubtree
     else (if are_subtrees s.subtrees && are_inhabited s.revoked then Ok s else Err BadRange))
+
+-- A store that a program filled: its name is that of its log, and each rule is one over its
+-- cosigners; and then it is tested as a file's is.
+unfoldable pub valid_store : Store → Result Store StoreError
+valid_store s =
+    if not (bytes_eq s.name (name_with (text_of s.log))) then Err (BadValue LogId)
+    else (if not (list_all (is_rule (length s.cosigners)) s.rules) then Err (BadValue Cosigners)
+    else checked_store s)
 
 -- The rules, after the cosigners that they are over; the revoked ranges, after the subtrees.
 abbrev pub rules_in : Members → Result (List Rule) StoreError

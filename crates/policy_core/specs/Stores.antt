@@ -1,9 +1,10 @@
 -- Stores, and which of them are valid. Trusted intervals are subtrees, as the draft on Merkle Tree
 -- Certificates defines them.
 use Rattle.std.specs.Prelude.{◌≡◌, ℕ, ◌<◌, ◌≤◌, ◌==◌, ◌&&◌, ◌||◌, Bool, false, List, [], ◌∷◌}
-use Rattle.std.specs.Prelude.{length}
-use Rattle.std.specs.List.{list_any, AllByRecursion, IsDistinct}
+use Rattle.std.specs.Prelude.{length, not, nat_le, nat_lt}
+use Rattle.std.specs.List.{list_all, list_any, AllByRecursion, IsDistinct}
 use Rattle.std.specs.Str.{bytes_eq}
+use Rattle.byte_formats.specs.Types.{Text}
 use Rattle.cert_names.specs.LogNames.{name_with}
 use Rattle.tls_wire.specs.Anchors.{text_of}
 use Rattle.tree_core.specs.Laws.{IsSubtree}
@@ -36,6 +37,12 @@ pub record IsRule (known : ℕ) (r : Rule) : Type 0 where
   pub some : 1 ≤ r.count
   pub most : r.count ≤ length r.cosigners
 
+-- The same as a test.
+abbrev pub is_rule : ℕ → Rule → Bool
+is_rule known r =
+    (list_all (λ n. nat_lt n known) r.cosigners && not (has_repeat is_same_index r.cosigners))
+    && (nat_le 1 r.count && nat_le r.count (length r.cosigners))
+
 -- The interval is that of a subtree.
 abbrev pub IsOfSubtree : Trusted → Type 0
 IsOfSubtree t = IsSubtree t.start t.end
@@ -54,3 +61,14 @@ pub record IsValid (s : Store) : Type 0 where
   pub subtrees : AllByRecursion IsOfSubtree s.subtrees
   pub different : IsDistinct has_same_interval s.subtrees
   pub revoked : AllByRecursion IsInhabited s.revoked
+
+-- The store for the log with this id in which nothing else stands.
+abbrev pub empty_store : Text → Store
+empty_store id = record {
+  log = id;
+  name = name_with (text_of id);
+  cosigners = [];
+  rules = [];
+  subtrees = [];
+  revoked = [];
+}

@@ -2,9 +2,10 @@
 //!
 //! A [`Store`] has the log's id, the issuer name of its certificates, cosigners and rules over
 //! them, the subtrees whose hashes are trusted, and the ranges of serial numbers that are revoked.
-//! [`Store::read`] reads it from a TOML file and answers valid stores only. The judgement of a
-//! certificate stands here as a definition, with its answers [`Accepted`] and [`Refusal`]; the call
-//! that makes it is of a crate above.
+//! A [`ValidStore`] is valid by its type: [`ValidStore::read`] reads one from a TOML file, and
+//! [`Store::checked`] makes one of a store that a program fills. The judgement of a certificate
+//! stands here as a definition, with its answers [`Accepted`] and [`Refusal`]; the call that makes
+//! it is of a crate above.
 #![tactic(auto)]
 
 mod answer;
@@ -18,6 +19,7 @@ mod refusal;
 mod rule_fields;
 mod rules;
 mod store;
+mod valid;
 mod whole;
 
 pub use answer::{Accepted, By};
@@ -27,3 +29,4 @@ pub use lists::{Revoked, Subtrees, Trusted};
 pub use refusal::Refusal;
 pub use rules::{Indices, Rule, Rules};
 pub use store::Store;
+pub use valid::ValidStore;

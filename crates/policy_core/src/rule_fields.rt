@@ -81,9 +81,9 @@ fn is_among(place: u32, others: &[u32]) -> bool
     others.iter().any(|other| place == *other)
 }
 
-// Two of the indices are the same.
+/// Two of the indices are the same.
 #[tactic(auto, unfolding(crate::specs::Stores::has_repeat))]
-fn repeats(indices: &[u32]) -> bool
+pub(crate) fn repeats(indices: &[u32]) -> bool
     ensures { result ≡ has_repeat is_same_index indices.now }
 {
     let mut rest = indices;

@@ -99,6 +99,7 @@ fn check_values(alloc: Global, store: &Store) -> Result<(), StoreError>
 /// twice, each is that of a subtree, and each range holds a number.
 pub fn check(alloc: Global, store: Store) -> Result<Store, StoreError>
     ensures exact { Answers StoreError.Memory (checked_store store) result }
+    ensures same { IfOk result (λ whole. whole ≡ store) }
     ensures valid { store.name ≡ name_with (text_of store.log)
         → AllByRecursion (IsRule (length store.cosigners)) store.rules → IfOk result IsValid }
 {
