@@ -26,14 +26,14 @@ use drill_parties::Cosigners;
 use entry_list::{Items, read_items};
 use mtc_io::{Bytes, Memory};
 use mtc_proof::read_proof;
-use policy_core::Store;
+use policy_core::ValidStore;
 use relying_party::judge;
 use std::alloc::Global;
 use tree_core::TreeHash;
 use world_core::{Audit, audit};
 
 // Judges a certificate of a drill, which is accepted.
-fn judged_in<'a, H: TreeHash>(bytes: &'a [u8], store: &Store) -> Result<JudgedCert<'a>, Memory>
+fn judged_in<'a, H: TreeHash>(bytes: &'a [u8], store: &ValidStore) -> Result<JudgedCert<'a>, Memory>
     ensures accepted { IfOk result (λ j.
         judgement H.hash bytes.now store.now (pos 1767225600) ≡ Ok j.accepted) }
     ensures read { IfOk result (λ j. parts_of bytes.now ≡ Ok (parts j.cert)) }
@@ -72,7 +72,7 @@ pub(crate) fn kept_in<H: TreeHash>(alloc: Global, bytes: &[u8]) -> Result<Export
 fn stands<H: TreeHash>(
     alloc: Global,
     judged: &JudgedCert<'_>,
-    store: &Store,
+    store: &ValidStore,
     items: &Items<'_, H>,
     export: &Bytes,
 ) -> Result<u64, Memory>
@@ -90,7 +90,7 @@ fn stands<H: TreeHash>(
         &judged.accepted,
         &judged.cert,
         &judged.proof,
-        store,
+        store.as_store(),
         items,
         Some(&kept),
     )?;
@@ -104,7 +104,7 @@ fn stands<H: TreeHash>(
 fn count_standing<H: TreeHash>(
     alloc: Global,
     judged: &JudgedCert<'_>,
-    store: &Store,
+    store: &ValidStore,
     items: &Items<'_, H>,
     exports: &[Bytes],
 ) -> Result<u64, Memory>
@@ -129,7 +129,7 @@ fn count_standing<H: TreeHash>(
 fn standing<H: TreeHash>(
     alloc: Global,
     cert: &Bytes,
-    store: &Store,
+    store: &ValidStore,
     listed: &Bytes,
     exports: &[Bytes],
 ) -> Result<u64, Memory>
@@ -152,7 +152,7 @@ pub(crate) fn audited<H: TreeHash>(
     alloc: Global,
     log: &mut LogParty<H>,
     cosigners: &mut Cosigners<H>,
-    store: &Store,
+    store: &ValidStore,
     cert: &Bytes,
 ) -> Result<u64, Memory>
     ensures log { IsSameLog log.old log.new }

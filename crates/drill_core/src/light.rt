@@ -9,14 +9,14 @@ ghost use Rattle.drill_core.specs.Parties.{log_seen};
 
 use crate::log_party::size_of;
 use crate::requests::NOT_BEFORE;
-use crate::store::empty_store;
+use crate::store::{checked, empty_store};
 use crate::tree::hash_of;
 use authority_core::{law_entries_say_what_was_asked, light_cert};
 use disk_core::MemDisk;
 use issuance_log::Log;
 use landmarks::{Landmarks, active, of_marks, subtrees};
 use mtc_io::Memory;
-use policy_core::{Store, Subtrees, Trusted};
+use policy_core::{Subtrees, Trusted, ValidStore};
 use relying_party::judge;
 use std::alloc::Global;
 use tree_core::{Cover, Span, TreeHash, subtree_ok};
@@ -92,7 +92,7 @@ fn landmarks_of<H: TreeHash>(
 fn landmark_store<H: TreeHash>(
     alloc: Global,
     log: &mut Log<H, MemDisk, MemDisk>,
-) -> Result<Store, Memory>
+) -> Result<ValidStore, Memory>
     ensures trusts { IfOk result (TrustsActive H.hash (log_seen log.old)) }
     ensures stays { LogStays log.old log.new }
 {
@@ -100,7 +100,7 @@ fn landmark_store<H: TreeHash>(
     let subtrees = active_subtrees(alloc, log, &landmarks)?;
     let mut store = empty_store(alloc)?;
     store.subtrees = subtrees;
-    Ok(store)
+    checked(alloc, store)
 }
 
 // 1 where the certificate of the newest entry without signatures is accepted by this store, or else
@@ -108,7 +108,7 @@ fn landmark_store<H: TreeHash>(
 fn lit_by<H: TreeHash>(
     alloc: Global,
     log: &mut Log<H, MemDisk, MemDisk>,
-    store: &Store,
+    store: &ValidStore,
 ) -> Result<u64, Memory>
     requires { TrustsActive H.hash (log_seen log.old) store.now }
     ensures few { IfOk result (λ count. count ≤ 1) }

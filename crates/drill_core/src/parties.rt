@@ -15,7 +15,7 @@ use crate::output::log_out;
 use crate::play::{grown, marked};
 use drill_parties::{Cosigners, Turn, Turns};
 use mtc_io::{Bytes, Memory};
-use policy_core::Store;
+use policy_core::ValidStore;
 use std::alloc::Global;
 use tree_core::TreeHash;
 
@@ -25,7 +25,7 @@ use tree_core::TreeHash;
 pub(crate) struct DrillParties<H: TreeHash> {
     pub(crate) log: LogParty<H>,
     pub(crate) cosigners: Cosigners<H>,
-    pub(crate) store: Store,
+    pub(crate) store: ValidStore,
     pub(crate) certs: Vec<Bytes>,
     pub(crate) verified: u64,
     pub(crate) stands: u64,

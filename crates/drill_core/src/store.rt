@@ -7,11 +7,10 @@ ghost use Rattle.drill_core.specs.LightStores.{light_store};
 ghost use Rattle.drill_core.specs.Stores.{known_as, one_accepted, store_with};
 
 use crate::requests::NOT_BEFORE;
-use cert_names::log_name;
 use drill_parties::{CosignerParty, Cosigners, LOG, id_of};
 use mtc_io::{Bytes, Memory};
 use policy_core::{
-    By, Cosigners as KnownCosigners, Indices, Known, Revoked, Rule, Rules, Store, Subtrees,
+    By, Cosigners as KnownCosigners, Indices, Known, Rule, Rules, Store, ValidStore,
 };
 use relying_party::judge;
 use std::alloc::Global;
@@ -57,22 +56,24 @@ fn two_of_three(alloc: Global) -> Result<Rules, Memory>
 pub(crate) fn empty_store(alloc: Global) -> Result<Store, Memory>
     ensures { IfOk result (λ store. store ≡ light_store []) }
 {
-    let log = id_of(alloc, LOG)?;
-    Ok(Store {
-        name: log_name(alloc, &log)?,
-        log,
-        cosigners: KnownCosigners::from_vec(Vec::new(alloc)),
-        rules: Rules::from_vec(Vec::new(alloc)),
-        subtrees: Subtrees::from_vec(Vec::new(alloc)),
-        revoked: Revoked::from_vec(Vec::new(alloc)),
-    })
+    Store::new(alloc, id_of(alloc, LOG)?)
+}
+
+/// The store, which is valid: the stores of a drill are.
+pub(crate) fn checked(alloc: Global, store: Store) -> Result<ValidStore, Memory>
+    ensures { IfOk result (λ valid. valid ≡ store) }
+{
+    match store.checked(alloc) {
+        Ok(valid) => Ok(valid),
+        Err(_) => Err(Memory),
+    }
 }
 
 /// The store that knows the cosigners, by the rule that two of the three have signed.
 pub(crate) fn store_of<H: TreeHash>(
     alloc: Global,
     cosigners: &Cosigners<H>,
-) -> Result<Store, Memory>
+) -> Result<ValidStore, Memory>
     requires { length cosigners.now.parties.items ≡ 3 }
     ensures { IfOk result (λ store. store ≡ store_with
         (map (λ party. known_as (cosigner_shown party)) cosigners.now.parties.items)) }
@@ -82,11 +83,11 @@ pub(crate) fn store_of<H: TreeHash>(
     let mut store = empty_store(alloc)?;
     store.cosigners = KnownCosigners::from_vec(known);
     store.rules = rules;
-    Ok(store)
+    checked(alloc, store)
 }
 
 /// 1 where the certificate is accepted by all three cosigners, or else 0.
-pub(crate) fn one_accepted<H: TreeHash>(cert: &Bytes, store: &Store) -> u64
+pub(crate) fn one_accepted<H: TreeHash>(cert: &Bytes, store: &ValidStore) -> u64
     ensures value { result ≡ one_accepted (judgement H.hash cert.now store.now (pos 1767225600)) }
     ensures few { result ≤ 1 }
 {

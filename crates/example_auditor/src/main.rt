@@ -10,7 +10,8 @@ ghost use Rattle.mtc_library.specs.Auditing.{AreSteps, WasJudged, parts, proof_p
 
 use anyhow::bail;
 use mtc_library::auditing::{
-    Audit, Export, Items, JudgedCert, Sha, Store, TreeHash, accept, audit, read_items, read_steps,
+    Audit, Export, Items, JudgedCert, Sha, TreeHash, ValidStore, accept, audit, read_items,
+    read_steps,
 };
 use std::alloc::Global;
 use std::{env, fs};
@@ -49,7 +50,7 @@ fn line(alloc: Global, found: Audit) -> anyhow::Result<String> {
 fn audited(
     alloc: Global,
     accepted: &JudgedCert,
-    store: &Store,
+    store: &ValidStore,
     entries: &[u8],
     export: &[u8],
 ) -> anyhow::Result<String>
@@ -63,7 +64,7 @@ fn audited(
         &accepted.accepted,
         &accepted.cert,
         &accepted.proof,
-        store,
+        store.as_store(),
         &items,
         kept.as_ref(),
     ) {
@@ -73,8 +74,8 @@ fn audited(
 }
 
 // The store of a text.
-fn store_of(alloc: Global, text: &[u8]) -> anyhow::Result<Store> {
-    match Store::read(alloc, text) {
+fn store_of(alloc: Global, text: &[u8]) -> anyhow::Result<ValidStore> {
+    match ValidStore::read(alloc, text) {
         Ok(store) => Ok(store),
         Err(why) => bail!("the store: {why}"),
     }

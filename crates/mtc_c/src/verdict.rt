@@ -4,7 +4,7 @@ ghost use Rattle.std.specs.Prelude.{◌≡◌, Ok};
 ghost use Rattle.mtc_c.specs.Verdicts.{IsVerdict, refused, verdict_of};
 
 use crate::codes::{cert_code, proof_code, refusal_code, store_code};
-use policy_core::{Accepted, By, Refusal, Store, StoreError};
+use policy_core::{Accepted, By, Refusal, StoreError, ValidStore};
 use relying_party::judge;
 use std::alloc::Global;
 use tree_core::{Sha, TreeHash};
@@ -88,7 +88,7 @@ fn verdict_of(judged: Result<Accepted, Refusal>) -> Verdict
 pub(crate) fn verdict_on(alloc: Global, cert: &[u8], store: &[u8], now: i64) -> Verdict
     ensures { IsVerdict ⟦<Sha as TreeHash>⟧.hash cert.now store.now now result }
 {
-    match Store::read(alloc, store) {
+    match ValidStore::read(alloc, store) {
         Ok(trusted) => verdict_of(judge::<Sha>(cert, &trusted, now)),
         Err(StoreError::Memory) => refused(NO_MEMORY, (0, 0)),
         Err(why) => refused(BAD_FORM, store_code(why)),

@@ -1,8 +1,12 @@
-//! What an audit requires, from the bytes of a certificate and of an export.
+//! A certificate that is accepted, with its fields and its proof; and the steps of an export: what
+//! an audit requires.
 
 ghost use Rattle.std.specs.Prelude.{◌≡◌, Ok, Err, IfOk, IfErr, IfSome};
+ghost use Rattle.std.specs.List.{list_any};
+ghost use Rattle.std.specs.Str.{bytes_eq};
 ghost use Rattle.byte_formats.specs.Readings.{Answers};
 ghost use Rattle.cert_fields.specs.Certificate.{parts_of};
+ghost use Rattle.cert_fields.specs.Extensions.{dns_names_in};
 ghost use Rattle.cert_fields.specs.Views.{parts};
 ghost use Rattle.cosigner_core.specs.ExportReading.{export_in};
 ghost use Rattle.cosigner_core.specs.declared.error.ReadExportError.TheVariants.{Memory as NoCapacity};
@@ -11,10 +15,10 @@ ghost use Rattle.mtc_proof.specs.Views.{proof_parts};
 ghost use Rattle.policy_core.specs.Judgement.{judgement};
 ghost use Rattle.world_core.specs.Audit.{WasJudged};
 
-use cert_fields::{Cert, parse};
+use cert_fields::{Cert, dns_names, parse};
 use cosigner_core::{Export, ReadExportError, read_export};
 use mtc_proof::{Proof, read_proof};
-use policy_core::{Accepted, Refusal, Store};
+use policy_core::{Accepted, Refusal, ValidStore};
 use relying_party::judge_cert;
 use std::alloc::Global;
 use tree_core::TreeHash;
@@ -32,7 +36,7 @@ pub struct JudgedCert<'a> {
 #[tactic(auto, unfolding(policy_core::specs::Judgement::judgement))]
 pub fn accept<'a, H: TreeHash>(
     bytes: &'a [u8],
-    store: &Store,
+    store: &ValidStore,
     now: i64,
 ) -> Result<JudgedCert<'a>, Refusal>
     ensures accepted { IfOk result
@@ -50,6 +54,20 @@ pub fn accept<'a, H: TreeHash>(
         cert,
         proof,
     })
+}
+
+/// Whether the certificate has this dNSName (RFC 5280, section 4.2.1.6), compared byte by byte: give
+/// a host in lower case, as an authority writes it.
+pub fn is_for(cert: &Cert, host: &[u8]) -> bool
+    ensures { result ≡ list_any (λ name. bytes_eq name host.now)
+        (dns_names_in cert.now.extensions.now) }
+{
+    for name in dns_names(cert) {
+        if name == host {
+            return true;
+        }
+    }
+    false
 }
 
 /// Reads the export of a cosigner, with the errors of [`read_export`]: its steps are those of a

@@ -2,7 +2,9 @@
 //! the export of a cosigner.
 
 pub use crate::accepting::{JudgedCert, accept, read_steps};
-pub use crate::judging::{Accepted, By, Cert, CertError, ProofError, Refusal, Store, StoreError};
+pub use crate::judging::{
+    Accepted, By, Cert, CertError, ProofError, Refusal, Store, StoreError, ValidStore,
+};
 pub use cosigner_core::{Export, ReadExportError, Step, StepList};
 pub use entry_list::{Entries, Item, Items, ItemsError, read_items};
 pub use mtc_io::{Bytes, Memory};

@@ -29,7 +29,7 @@ use mtc_io::Bytes;
 use mtc_lines::{export_reason, items_reason};
 use mtc_proof::read_proof;
 use mtc_room::Room;
-use policy_core::{Refusal, Store, StoreError};
+use policy_core::{Refusal, StoreError, ValidStore};
 use relying_party::judge_cert;
 use std::alloc::Global;
 use tree_core::TreeHash;
@@ -38,7 +38,7 @@ use tree_core::TreeHash;
 #[tactic(auto, unfolding(policy_core::specs::Judgement::judgement))]
 fn accepted_in<'b, H: TreeHash>(
     bytes: &'b [u8],
-    store: &Store,
+    store: &ValidStore,
     now: i64,
 ) -> Result<AcceptedCert<'b>, Refusal>
     ensures exact { Gives accepted_parts result (accepted_in H.hash bytes.now store.now now) }
@@ -60,7 +60,7 @@ fn cert_answer<'a, H: TreeHash>(
     alloc: Global,
     cert: Input<'a, '_>,
     now: u64,
-    store: &Store,
+    store: &ValidStore,
     items: &Items<'_, H>,
     kept: Option<&Export>,
 ) -> Result<Answer, Stop<'a>>
@@ -70,7 +70,7 @@ fn cert_answer<'a, H: TreeHash>(
         (option_map (λ e. e.now) kept.entry)).answer (ending_of result) }
 {
     match accepted_in::<H>(cert.bytes, store, now as i64) {
-        Ok(accepted) => Ok(audited(alloc, &accepted, store, items, kept)?),
+        Ok(accepted) => Ok(audited(alloc, &accepted, store.as_store(), items, kept)?),
         Err(why) => verdict_answer(alloc, cert.name, Err(why)),
     }
 }
@@ -81,7 +81,7 @@ fn export_answer<'a, H: TreeHash>(
     cert: Input<'a, '_>,
     now: u64,
     export: Input<'a, '_>,
-    store: &Store,
+    store: &ValidStore,
     items: &Items<'_, H>,
 ) -> Result<Answer, Stop<'a>>
     requires { is_time now ≡ true }
@@ -102,7 +102,7 @@ fn items_answer<'a, H: TreeHash>(
     now: u64,
     entries: Input<'a, '_>,
     export: Input<'a, '_>,
-    store: &Store,
+    store: &ValidStore,
 ) -> Result<Answer, Stop<'a>>
     requires { is_time now ≡ true }
     ensures { Replies (audit_items_say H.hash (input_file cert.entry) now (input_file entries.entry)
@@ -128,7 +128,7 @@ fn store_answer<'a, H: TreeHash>(
     ensures { Replies (audit_store_says H.hash (input_file cert.entry) (input_file store.entry) now
         (input_file entries.entry) (input_file export.entry)).answer (ending_of result) }
 {
-    match Store::read(alloc, store.bytes) {
+    match ValidStore::read(alloc, store.bytes) {
         Ok(trusted) => items_answer::<H>(alloc, cert, now, entries, export, &trusted),
         Err(StoreError::Memory) => Err(Stop::Memory),
         Err(why) => Err(refuse_file(Stopped::BadForm, store.name, store_reason(why))),

@@ -11,7 +11,7 @@ use crate::reasons::{refusal_reason, store_reason};
 use crate::replies::{against, done};
 use mtc_command::{Answer, INPUT_LIMIT, Stop, Stopped, read_input, refuse_file};
 use mtc_room::Room;
-use policy_core::{Accepted, Refusal, Store, StoreError};
+use policy_core::{Accepted, Refusal, StoreError, ValidStore};
 use relying_party::judge;
 use std::alloc::Global;
 use tree_core::TreeHash;
@@ -46,7 +46,7 @@ fn answer_of<'a, H: TreeHash>(
     ensures { Replies (verify_says H.hash cert.now store.now now bytes.now text.now).answer
         (ending_of result) }
 {
-    match Store::read(alloc, text) {
+    match ValidStore::read(alloc, text) {
         Ok(trusted) => verdict_answer(alloc, cert, judge::<H>(bytes, &trusted, now as i64)),
         Err(StoreError::Memory) => Err(Stop::Memory),
         Err(why) => Err(refuse_file(Stopped::BadForm, store, store_reason(why))),

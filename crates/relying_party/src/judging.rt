@@ -9,7 +9,7 @@ use crate::trust::decide;
 use cert_fields::{Cert, parse};
 use log_entry::entry_hash;
 use mtc_proof::read_proof;
-use policy_core::{Accepted, Refusal, Store};
+use policy_core::{Accepted, Refusal, ValidStore};
 use tree_core::{TreeHash, evaluate};
 
 /// Judges a certificate that was read at a time, in seconds since 1970-01-01T00:00:00Z, without
@@ -26,12 +26,16 @@ use tree_core::{TreeHash, evaluate};
 /// `TooFewCosigners` where the interval isn't trusted, with the first rule that isn't met, counted
 /// from 1, or 0 where there is no rule. A rule is met where at least as many of its cosigners as it
 /// asks for have a signature in the proof that verifies (RFC 8554, section 6.3). No signature is
-/// verified if the interval is trusted; else none that no rule names, and by a valid store each
-/// once at most.
+/// verified if the interval is trusted; else none that no rule names, and each once at most.
 #[tactic(auto, unfolding(policy_core::specs::Judgement::judged))]
-pub fn judge_cert<H: TreeHash>(cert: &Cert, store: &Store, now: i64) -> Result<Accepted, Refusal>
+pub fn judge_cert<H: TreeHash>(
+    cert: &Cert,
+    store: &ValidStore,
+    now: i64,
+) -> Result<Accepted, Refusal>
     ensures { result ≡ judged H.hash store.now now (parts cert.now) }
 {
+    let store = store.as_store();
     admit(cert, store, now)?;
     let proof = read_proof(cert.proof)?;
     let leaf = entry_hash::<H>(cert);
@@ -43,7 +47,7 @@ pub fn judge_cert<H: TreeHash>(cert: &Cert, store: &Store, now: i64) -> Result<A
 /// taking memory. They are refused with `Grammar` where they aren't a certificate, and else with
 /// the first refusal of [`judge_cert`].
 #[tactic(auto, unfolding(policy_core::specs::Judgement::judgement))]
-pub fn judge<H: TreeHash>(cert: &[u8], store: &Store, now: i64) -> Result<Accepted, Refusal>
+pub fn judge<H: TreeHash>(cert: &[u8], store: &ValidStore, now: i64) -> Result<Accepted, Refusal>
     ensures { result ≡ judgement H.hash cert.now store.now now }
 {
     let cert = parse(cert)?;

@@ -4,13 +4,12 @@
 use crate::lists::{are_strings, list_of, put_text, toy};
 use crate::records::export_of;
 use cert_fields::parse;
-use cert_names::log_name;
 use cosigner_core::read_export;
 use entry_list::read_items;
 use hss_core::{Key, LmsType, OtsType, SECRET_LEN, Secret, SigBuf};
 use mtc_io::{Bytes, Memory};
 use mtc_proof::{InputBuf, read_proof, signature_input};
-use policy_core::{Cosigners, Indices, Known, Revoked, Rule, Rules, Store, Subtrees, Trusted};
+use policy_core::{Cosigners, Indices, Known, Rule, Rules, Store, Subtrees, Trusted, ValidStore};
 use relying_party::judge;
 use std::alloc::Global;
 use tls_wire::AnchorId;
@@ -140,19 +139,12 @@ fn rules(alloc: Global) -> Option<Rules> {
 }
 
 // A store of these cosigners, of whom one has to have signed, and of these subtrees.
-fn store_of(alloc: Global, subtrees: &[Trusted]) -> Option<Store> {
-    let log = id_of(alloc, 1)?;
-    let name = log_name(alloc, &log).ok()?;
-    let subtrees = Vec::from_slice(alloc, subtrees).ok()?;
-    let rules = rules(alloc)?;
-    Some(Store {
-        log,
-        name,
-        cosigners: cosigners(alloc)?,
-        rules,
-        subtrees: Subtrees::from_vec(subtrees),
-        revoked: Revoked::from_vec(Vec::new(alloc)),
-    })
+fn store_of(alloc: Global, subtrees: &[Trusted]) -> Option<ValidStore> {
+    let mut store = Store::new(alloc, id_of(alloc, 1)?).ok()?;
+    store.cosigners = cosigners(alloc)?;
+    store.rules = rules(alloc)?;
+    store.subtrees = Subtrees::from_vec(Vec::from_slice(alloc, subtrees).ok()?);
+    store.checked(alloc).ok()
 }
 
 // Steps of the cosigner, by a name: all of them; the Sign after the second Advance; no Sign, one of
@@ -171,8 +163,8 @@ fn steps_of(name: &str) -> &'static str {
 
 // The export of a name: `other` is of the cosigner that has not signed, `key` has its key alone,
 // and `log` is of another log; `none` has no bytes.
-fn export_named(alloc: Global, store: &Store, name: &str) -> Option<Bytes> {
-    let [first, second] = store.cosigners.as_slice() else {
+fn export_named(alloc: Global, store: &ValidStore, name: &str) -> Option<Bytes> {
+    let [first, second] = store.as_store().cosigners.as_slice() else {
         return None;
     };
     let steps = steps_of(name);
@@ -190,7 +182,7 @@ fn export_named(alloc: Global, store: &Store, name: &str) -> Option<Bytes> {
 fn audited(
     alloc: Global,
     certificate: &[u8],
-    store: &Store,
+    store: &ValidStore,
     list: &[u8],
     export: &[u8],
 ) -> Option<Result<Audit, Memory>> {
@@ -204,7 +196,7 @@ fn audited(
         &accepted,
         &cert,
         &proof,
-        store,
+        store.as_store(),
         &items,
         kept.as_ref(),
     ))
@@ -232,7 +224,7 @@ fn is(answer: &Audit, words: &str) -> bool {
 }
 
 // Whether the audit of a line, `LIST EXPORT ANSWER`, answers so.
-fn is_audited(alloc: Global, certificate: &[u8], store: &Store, line: &str) -> Option<bool> {
+fn is_audited(alloc: Global, certificate: &[u8], store: &ValidStore, line: &str) -> Option<bool> {
     let (letters, rest) = line.split_once(' ')?;
     let (name, words) = rest.split_once(' ')?;
     let list = list_of(alloc, letters).ok()?;
@@ -250,7 +242,7 @@ fn is_audited(alloc: Global, certificate: &[u8], store: &Store, line: &str) -> O
 }
 
 // How many lines are audited as they say, from the first on.
-fn count_in(alloc: Global, certificate: &[u8], store: &Store, lines: &str) -> u64 {
+fn count_in(alloc: Global, certificate: &[u8], store: &ValidStore, lines: &str) -> u64 {
     let mut count = 0u64;
     for line in lines.lines() {
         if is_audited(alloc, certificate, store, line) != Some(true) {

@@ -1,11 +1,13 @@
 //! The judgement of the certificate of [`judgements`](crate::judgements) by its cosigners.
 
-use crate::judgements::{CERTIFICATE, FIRST, TRUSTED, anchor, answer, piece, store_of, trusted_in};
+use crate::judgements::{
+    CERTIFICATE, FIRST, TRUSTED, anchor, answer, piece, store_of, trusted_in, valid,
+};
 use crate::texts::joined_bytes;
 use hss_core::{Key, LmsType, OtsType, SECRET_LEN, Secret, SigBuf};
 use mtc_io::Memory;
 use mtc_proof::{InputBuf, signature_input};
-use policy_core::{By, Cosigners, Indices, Known, Rule, Rules, Store};
+use policy_core::{By, Cosigners, Indices, Known, Rule, Rules, ValidStore};
 use std::alloc::Global;
 use std::test::Fail;
 use tls_wire::AnchorId;
@@ -249,14 +251,14 @@ fn rules_of(alloc: Global, words: &str) -> Result<Rules, Fail> {
 }
 
 // A store of three cosigners with these rules, which trusts the hash that ends with this byte.
-fn store_with(alloc: Global, keys: &[Key], words: &str, last: &str) -> Result<Store, Fail> {
+fn store_with(alloc: Global, keys: &[Key], words: &str, last: &str) -> Result<ValidStore, Fail> {
     let cosigners = cosigners_of(alloc, keys)?;
     let rules = rules_of(alloc, words)?;
     let subtrees = trusted_in(alloc, last)?;
     let mut store = store_of(alloc, "32473.1", subtrees.as_slice(), &[])?;
     store.cosigners = cosigners;
     store.rules = rules;
-    Ok(store)
+    valid(alloc, store)
 }
 
 // Signatures by their letters, rules, the last byte of the hash that is trusted for the interval or
@@ -290,7 +292,7 @@ s 1:23 246 Landmark
 ";
 
 // The judgement as the cases say it.
-fn judged(alloc: Global, certificate: &[u8], store: &Store) -> Result<String, Fail> {
+fn judged(alloc: Global, certificate: &[u8], store: &ValidStore) -> Result<String, Fail> {
     match answer(certificate, store, FIRST) {
         Ok(accepted) => match accepted.by {
             By::Cosigners(set) => Ok(format!(in alloc; "{set}")?),

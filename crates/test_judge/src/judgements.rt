@@ -2,9 +2,7 @@
 //! and of changes to it.
 
 use crate::texts::joined_bytes;
-use cert_names::log_name;
-use mtc_io::Bytes;
-use policy_core::{Accepted, By, Cosigners, Refusal, Revoked, Rules, Store, Subtrees, Trusted};
+use policy_core::{Accepted, By, Refusal, Revoked, Store, Subtrees, Trusted, ValidStore};
 use relying_party::judge;
 use std::alloc::Global;
 use std::test::Fail;
@@ -49,19 +47,6 @@ pub fn anchor(alloc: Global, text: &str) -> Result<AnchorId, Fail> {
     Ok(AnchorId::from_text(alloc, text)?)
 }
 
-// The name of the log with this id.
-fn name_of(alloc: Global, id: &AnchorId) -> Result<Bytes, Fail> {
-    Ok(log_name(alloc, id)?)
-}
-
-fn no_cosigners(alloc: Global) -> Cosigners {
-    Cosigners::from_vec(Vec::new(alloc))
-}
-
-fn no_rules(alloc: Global) -> Rules {
-    Rules::from_vec(Vec::new(alloc))
-}
-
 fn subtrees_of(alloc: Global, subtrees: &[Trusted]) -> Result<Subtrees, Fail> {
     Ok(Subtrees::from_vec(Vec::from_slice(alloc, subtrees)?))
 }
@@ -77,16 +62,20 @@ pub fn store_of(
     subtrees: &[Trusted],
     revoked: &[Span],
 ) -> Result<Store, Fail> {
-    let log = anchor(alloc, id)?;
-    let name = name_of(alloc, &log)?;
-    Ok(Store {
-        log,
-        name,
-        cosigners: no_cosigners(alloc),
-        rules: no_rules(alloc),
-        subtrees: subtrees_of(alloc, subtrees)?,
-        revoked: revoked_of(alloc, revoked)?,
-    })
+    let mut store = Store::new(alloc, anchor(alloc, id)?)?;
+    store.subtrees = subtrees_of(alloc, subtrees)?;
+    store.revoked = revoked_of(alloc, revoked)?;
+    Ok(store)
+}
+
+/// The store, which is valid.
+pub fn valid(alloc: Global, store: Store) -> Result<ValidStore, Fail> {
+    Ok(store.checked(alloc)?)
+}
+
+// The store of the certificate's log, which trusts its subtree.
+fn trusting(alloc: Global) -> Result<ValidStore, Fail> {
+    valid(alloc, store_of(alloc, "32473.1", &[subtree(TRUSTED)], &[])?)
 }
 
 // The bytes of the certificate from one offset up to another; no bytes if it has none there.
@@ -131,7 +120,7 @@ const ACCEPTED: Accepted = Accepted {
 };
 
 // The judgement at a time.
-pub fn answer(certificate: &[u8], store: &Store, now: i64) -> Result<Accepted, Refusal> {
+pub fn answer(certificate: &[u8], store: &ValidStore, now: i64) -> Result<Accepted, Refusal> {
     judge::<Sha>(certificate, store, now)
 }
 
@@ -139,7 +128,7 @@ pub fn answer(certificate: &[u8], store: &Store, now: i64) -> Result<Accepted, R
 fn a_certificate_is_accepted_from_its_first_to_its_last_second(
     rt: HostRuntime,
 ) -> Result<(), Fail> {
-    let store = store_of(rt.alloc(), "32473.1", &[subtree(TRUSTED)], &[])?;
+    let store = trusting(rt.alloc())?;
     assert!(rt; answer(&CERTIFICATE, &store, FIRST - 1) == Err(Refusal::NotYet));
     assert!(rt; answer(&CERTIFICATE, &store, FIRST) == Ok(ACCEPTED));
     assert!(rt; answer(&CERTIFICATE, &store, LAST) == Ok(ACCEPTED));
@@ -179,7 +168,7 @@ fn change(bytes: &mut [u8; 231], word: &str) -> Result<bool, Fail> {
 }
 
 // The judgement of the certificate, or of changes to it, as the cases say it.
-fn reported(alloc: Global, certificate: &[u8], store: &Store) -> Result<String, Fail> {
+fn reported(alloc: Global, certificate: &[u8], store: &ValidStore) -> Result<String, Fail> {
     match answer(certificate, store, FIRST) {
         Ok(accepted) if accepted == ACCEPTED => Ok(String::from_str(alloc, "accepted")?),
         Ok(_) => Ok(String::from_str(alloc, "accepted otherwise")?),
@@ -188,7 +177,7 @@ fn reported(alloc: Global, certificate: &[u8], store: &Store) -> Result<String, 
 }
 
 // Whether the certificate with the changes of a line is refused as the line says.
-fn is_refused(alloc: Global, store: &Store, line: &str) -> Result<bool, Fail> {
+fn is_refused(alloc: Global, store: &ValidStore, line: &str) -> Result<bool, Fail> {
     let mut bytes = CERTIFICATE;
     for word in line.split(' ') {
         if !change(&mut bytes, word)? {
@@ -200,7 +189,7 @@ fn is_refused(alloc: Global, store: &Store, line: &str) -> Result<bool, Fail> {
 
 #[test]
 fn each_change_has_its_refusal(rt: HostRuntime) -> Result<(), Fail> {
-    let store = store_of(rt.alloc(), "32473.1", &[subtree(TRUSTED)], &[])?;
+    let store = trusting(rt.alloc())?;
     let mut count = 0u64;
     for line in CHANGES.lines() {
         assert!(rt; is_refused(rt.alloc(), &store, line)?, "{line}");
@@ -212,7 +201,7 @@ fn each_change_has_its_refusal(rt: HostRuntime) -> Result<(), Fail> {
 
 #[test]
 fn an_algorithm_with_parameters_is_refused(rt: HostRuntime) -> Result<(), Fail> {
-    let store = store_of(rt.alloc(), "32473.1", &[subtree(TRUSTED)], &[])?;
+    let store = trusting(rt.alloc())?;
     let bytes = with_parameters(rt.alloc())?;
     assert!(rt; answer(bytes.as_slice(), &store, FIRST) == Err(Refusal::Algorithm));
     Ok(())
@@ -250,12 +239,15 @@ fn revoked_in(alloc: Global, word: &str) -> Result<Vec<Span>, Fail> {
     Ok(list)
 }
 
-fn store_in(alloc: Global, line: &str) -> Result<Store, Fail> {
+fn store_in(alloc: Global, line: &str) -> Result<ValidStore, Fail> {
     let mut words = line.split(' ');
     let id = words.next().unwrap_or("");
     let subtrees = trusted_in(alloc, words.next().unwrap_or(""))?;
     let revoked = revoked_in(alloc, words.next().unwrap_or(""))?;
-    store_of(alloc, id, subtrees.as_slice(), revoked.as_slice())
+    valid(
+        alloc,
+        store_of(alloc, id, subtrees.as_slice(), revoked.as_slice())?,
+    )
 }
 
 // Whether the store of this line judges as the line says.

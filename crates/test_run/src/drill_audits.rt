@@ -8,7 +8,7 @@ use drill_core::DrillOutput;
 use entry_list::read_items;
 use mtc_io::{Bytes, Memory};
 use mtc_proof::read_proof;
-use policy_core::Store;
+use policy_core::ValidStore;
 use relying_party::judge;
 use std::alloc::Global;
 use tls_wire::put_vec16;
@@ -45,7 +45,7 @@ fn listed(alloc: Global, disk: &MemDisk) -> Result<Bytes, Memory> {
 fn audited(
     alloc: Global,
     certificate: &[u8],
-    store: &Store,
+    store: &ValidStore,
     list: &[u8],
     export: &[u8],
 ) -> Option<Result<Audit, Memory>> {
@@ -59,14 +59,20 @@ fn audited(
         &accepted,
         &cert,
         &proof,
-        store,
+        store.as_store(),
         &items,
         kept.as_ref(),
     ))
 }
 
 // Whether the audit finds the entry.
-fn stands(alloc: Global, certificate: &[u8], store: &Store, list: &[u8], export: &[u8]) -> bool {
+fn stands(
+    alloc: Global,
+    certificate: &[u8],
+    store: &ValidStore,
+    list: &[u8],
+    export: &[u8],
+) -> bool {
     matches!(
         audited(alloc, certificate, store, list, export),
         Some(Ok(Audit::Stands(_)))

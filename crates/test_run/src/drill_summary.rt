@@ -6,7 +6,7 @@ use drill_core::DrillOutput;
 use frame_pool::Pool;
 use issuance_log::Log;
 use mtc_io::{Bytes, MemSink, Memory};
-use policy_core::{By, Cosigners, Indices, Known, Revoked, Rule, Rules, Store, Subtrees};
+use policy_core::{By, Cosigners, Indices, Known, Rule, Rules, Store, ValidStore};
 use relying_party::judge;
 use std::alloc::Global;
 use tls_wire::AnchorId;
@@ -73,7 +73,7 @@ fn exports_of(alloc: Global, drill: &DrillOutput) -> Result<Vec<Export>, Memory>
 }
 
 // The store with the rule two of three.
-fn store_with(alloc: Global, exports: &[Export]) -> Result<Store, Memory> {
+fn store_with(alloc: Global, exports: &[Export]) -> Result<ValidStore, Memory> {
     let mut cosigners = Vec::new(alloc);
     let mut indices = Vec::new(alloc);
     let mut rules = Vec::new(alloc);
@@ -93,18 +93,14 @@ fn store_with(alloc: Global, exports: &[Export]) -> Result<Store, Memory> {
     if cosigners.len() > 3 {
         return Err(Memory);
     }
-    Ok(Store {
-        name: cert_names::log_name(alloc, &log)?,
-        log,
-        cosigners: Cosigners::from_vec(cosigners),
-        rules: Rules::from_vec(rules),
-        subtrees: Subtrees::from_vec(Vec::new(alloc)),
-        revoked: Revoked::from_vec(Vec::new(alloc)),
-    })
+    let mut store = Store::new(alloc, log)?;
+    store.cosigners = Cosigners::from_vec(cosigners);
+    store.rules = Rules::from_vec(rules);
+    store.checked(alloc).map_err(|_| Memory)
 }
 
 // Whether a certificate is accepted by the rule alone, by all three cosigners.
-fn is_verified(bytes: &[u8], store: &Store) -> bool {
+fn is_verified(bytes: &[u8], store: &ValidStore) -> bool {
     match judge::<Sha>(bytes, store, 1_767_225_600) {
         Ok(accepted) => accepted.by == By::Cosigners(7),
         Err(_) => false,
@@ -112,7 +108,7 @@ fn is_verified(bytes: &[u8], store: &Store) -> bool {
 }
 
 /// The store of a relying party who knows the cosigners by their exports.
-pub(crate) fn store_of(alloc: Global, drill: &DrillOutput) -> Result<Store, Memory> {
+pub(crate) fn store_of(alloc: Global, drill: &DrillOutput) -> Result<ValidStore, Memory> {
     let exports = exports_of(alloc, drill)?;
     store_with(alloc, exports.as_slice())
 }

@@ -7,7 +7,7 @@ use crate::certificates::{Parsed, parsed, text_of_parsed};
 use crate::judgements::{CERTIFICATE, Judged, UNIX_TIME, store_of, text_of_judged};
 use crate::words::{bytes_of, word};
 use anyhow::{Context, Result};
-use policy_core::Store;
+use policy_core::ValidStore;
 use relying_party::judge;
 use std::alloc::Global;
 use tree_core::Sha;
@@ -16,7 +16,7 @@ use tree_core::Sha;
 #[derive(Clone, Copy)]
 enum Asked<'a> {
     Reader,
-    Judge(&'a Store, i64),
+    Judge(&'a ValidStore, i64),
 }
 
 #[derive(Clone, Copy, PartialEq, Eq)]
@@ -139,7 +139,7 @@ pub(crate) fn of_certificate(alloc: Global, line: &str) -> Result<String> {
 }
 
 // The lines for a judgement, by its store.
-fn by_store(alloc: Global, line: &str, store: &Store) -> Result<String> {
+fn by_store(alloc: Global, line: &str, store: &ValidStore) -> Result<String> {
     let label = word(line, 0)?;
     let now = word(line, UNIX_TIME)?.parse::<i64>().context("no time")?;
     let certificate = bytes_of(alloc, word(line, CERTIFICATE)?)?;

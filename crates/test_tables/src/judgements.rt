@@ -8,8 +8,7 @@
 
 use crate::words::{bytes_of, number, word};
 use anyhow::{Context, Result, ensure};
-use cert_names::log_name;
-use policy_core::{Accepted, Cosigners, Refusal, Revoked, Rules, Store, Subtrees, Trusted};
+use policy_core::{Accepted, Refusal, Revoked, Store, Subtrees, Trusted, ValidStore};
 use std::alloc::Global;
 use tls_wire::AnchorId;
 use tree_core::Span;
@@ -66,26 +65,13 @@ fn revoked(alloc: Global, line: &str) -> Result<Revoked> {
     Ok(Revoked::from_vec(Vec::from_slice(alloc, &[range])?))
 }
 
-// The intervals that are trusted, and the numbers that are revoked.
-fn lists(alloc: Global, line: &str) -> Result<(Subtrees, Revoked)> {
-    let subtrees = subtrees(alloc, line)?;
-    let revoked = revoked(alloc, line)?;
-    Ok((subtrees, revoked))
-}
-
 /// The store that a line describes.
-pub(crate) fn store_of(alloc: Global, line: &str) -> Result<Store> {
+pub(crate) fn store_of(alloc: Global, line: &str) -> Result<ValidStore> {
     ensure!(line.split(' ').count() == CERTIFICATE + 1, "not nine words");
     let log = AnchorId::from_text(alloc, word(line, 2)?).ok();
     let log = log.context("no id")?;
-    let name = log_name(alloc, &log).ok().context("no memory")?;
-    let (subtrees, revoked) = lists(alloc, line)?;
-    Ok(Store {
-        log,
-        name,
-        cosigners: Cosigners::from_vec(Vec::new(alloc)),
-        rules: Rules::from_vec(Vec::new(alloc)),
-        subtrees,
-        revoked,
-    })
+    let mut store = Store::new(alloc, log).ok().context("no memory")?;
+    store.subtrees = subtrees(alloc, line)?;
+    store.revoked = revoked(alloc, line)?;
+    store.checked(alloc).ok().context("no valid store")
 }

@@ -1,7 +1,7 @@
 use Rattle.std.proofs.Common.{◌≡◌}
 use Rattle.std.specs.List.{list_any}
 use Rattle.std.specs.Str.{bytes_eq}
-use Rattle.example_judge.proofs.is_of.Given as goal
+use Rattle.mtc_library.proofs.accepting.is_for.Given as goal
 
 -- None of the names so far is the host's.
 abbrev pub invariant-loop-name : goal.invariant-loop-name
