@@ -1,12 +1,13 @@
-//! The device of a journal in a file of the system: how a program opens one that it shares with
-//! crashes, with other programs and with itself.
+//! The devices of a journal, and of the tiles beside it, in files of the system: how a program opens
+//! what it shares with crashes, with other programs and with itself.
 
 ghost use Rattle.std.specs.Prelude.{◌≡◌, false, IfOk};
 ghost use Rattle.disk_core.specs.File.{file_faults, file_clock, is_file_lost};
 
 use crate::held::Held;
-use crate::journal::{create_journal, hold_journal, hold_new, open_to_write};
+use crate::journal::{create_journal, hold_journal, hold_new, hold_tiles, open_to_write};
 use disk_core::FileDisk;
+use std::alloc::Global;
 use std::io;
 use std::rt::Files;
 
@@ -57,4 +58,33 @@ where
 {
     let file = create_journal(files, name)?;
     Ok(FileDisk::unlocked(hold_new(files, file, name)?))
+}
+
+/// Opens the file of tiles beside the journal of a log, for this process alone until the device is
+/// dropped, or makes an empty one where there is none. Its name is that of the journal, with
+/// `.tiles` at its end. A program opens the journal first, and its tiles while it holds that: then
+/// no other process has either.
+///
+/// A new file is made, locked and synced as a new journal's is, with its folder. One that is there
+/// is locked, and isn't written: the log takes from it what its records rely on, after it has read
+/// and compared it.
+///
+/// Errors are those of the system: `OutOfMemory` where there is no memory for the name;
+/// `AlreadyExists` where the name has a link, which isn't followed, or another process has made the
+/// file since; `InvalidData` where the file begins as a journal: no tile is written over one;
+/// `WouldBlock` where another process has it open; `NotFound` where its folder isn't there, or the
+/// name no longer leads to the file that was locked.
+pub fn open_tiles<R: Files>(
+    alloc: Global,
+    files: &R,
+    journal: &str,
+) -> io::Result<FileDisk<R::File>>
+where
+    R::File: Held,
+    ensures time { IfOk result (λ disk. file_clock disk ≡ 0) }
+    ensures begins { IfOk result (λ disk. file_faults disk ≡ 0) }
+    ensures whole { IfOk result (λ disk. is_file_lost disk ≡ false) }
+{
+    let name = format!(in alloc; "{journal}.tiles")?;
+    Ok(FileDisk::unlocked(hold_tiles(files, name.as_str())?))
 }
