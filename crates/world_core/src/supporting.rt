@@ -63,7 +63,7 @@ fn sign_index(accepted: &Accepted, steps: &[Step]) -> Option<usize>
 /// The index of a Sign of what was accepted, if the export is of the store's log and of a cosigner
 /// that counts.
 #[tactic(auto, unfolding(crate::specs::Audit::is_recorded))]
-pub(crate) fn recorded_at(
+pub fn recorded_at(
     store: &Store,
     accepted: &Accepted,
     set: u64,

@@ -12,17 +12,17 @@ use policy_core::{Accepted, By};
 use tree_core::TreeHash;
 use tree_proofs::{EntryList, list_hash, part_between};
 
-/// The hash that the entries from `start` up to `end` have to have.
+/// The hash that the entries from `start` up to `end`, without `end`, have to have.
 #[derive(Clone, Copy, Debug)]
-pub(crate) struct WantedHash {
-    pub(crate) start: u64,
-    pub(crate) end: u64,
-    pub(crate) hash: [u8; 32],
+pub struct WantedHash {
+    pub start: u64,
+    pub end: u64,
+    pub hash: [u8; 32],
 }
 
 /// What is wanted of a list: by a landmark the accepted hash of the interval; by cosigners that of
 /// all that is held at last by the one of the export.
-pub(crate) fn wanted_hash<H: TreeHash>(
+pub fn wanted_hash<H: TreeHash>(
     accepted: &Accepted,
     kept: Option<&Export>,
 ) -> Option<WantedHash>
