@@ -11,8 +11,12 @@ pub struct Both<A, B> {
 }
 
 impl<A: ItemFold, B: ItemFold> ItemFold for Both<A, B> {
+    ghost use Rattle.std.specs.Prelude.{◌++◌};
+
     ghost has_taken = { λ both items.
         A.has_taken both.first items × B.has_taken both.second items };
+
+    ghost made_with = { λ both. A.made_with both.first ++ B.made_with both.second };
 
     fn take(&mut self, entry: &[u8], spki: &[u8]) -> Result<(), Memory> {
         self.first.take(entry, spki)?;

@@ -1,6 +1,6 @@
 //! What takes items, one after another.
 
-ghost use Rattle.std.specs.Prelude.{OnOk};
+ghost use Rattle.std.specs.Prelude.{◌≡◌, ℕ, List, [], OnOk};
 ghost use Rattle.entry_list.specs.Items.{ItemLists};
 ghost use Rattle.entry_stream.specs.Streams.{CanTakeMore, items_with};
 
@@ -11,9 +11,13 @@ pub trait ItemFold {
     /// It took these items in this order, and no others.
     ghost has_taken: { Self → ItemLists → Type 0 };
 
+    /// The numbers that it was made with, as the interval of a hash. They stay.
+    ghost made_with: { Self → List ℕ } = { λ _. [] };
+
     /// Takes one item more: an entry and its key. `Memory` comes only if memory was refused.
     fn take(&mut self, entry: &[u8], spki: &[u8]) -> Result<(), Memory>
         requires { CanTakeMore (has_taken self.old) }
-        ensures { OnOk result ((items : ItemLists) → has_taken self.old items
-            → has_taken self.new (items_with items entry.now spki.now)) };
+        ensures taken { OnOk result ((items : ItemLists) → has_taken self.old items
+            → has_taken self.new (items_with items entry.now spki.now)) }
+        ensures same { made_with self.new ≡ made_with self.old };
 }

@@ -63,12 +63,14 @@ impl ItemAt {
 }
 
 impl ItemFold for ItemAt {
-    ghost use Rattle.std.specs.Prelude.{◌≡◌, OnOk};
+    ghost use Rattle.std.specs.Prelude.{◌≡◌, [], ◌∷◌, OnOk};
     ghost use Rattle.entry_list.specs.Items.{ItemLists};
     ghost use Rattle.entry_stream.specs.Folds.{IsPickOf};
     ghost use Rattle.entry_stream.specs.Streams.{CanTakeMore, items_with};
 
     ghost has_taken = { IsPickOf };
+
+    ghost made_with = { λ picked. picked.index ∷ [] };
 
     fn take(&mut self, entry: &[u8], spki: &[u8]) -> Result<(), Memory>
         requires { CanTakeMore (IsPickOf self.old) }

@@ -3,7 +3,8 @@
 //! [`fold_items`] reads a source to its end and hands each item to a fold, in the order of the
 //! file. So the memory that is taken doesn't grow with the file. `Peaks` is a fold: it gives the
 //! tree hash of the list. [`RangeHash`] gives that of a part of it, [`ItemAt`] the item at an
-//! index, and [`Both`] hands each item to two folds.
+//! index, and [`Both`] hands each item to two folds. The fold `()` keeps nothing, for a pass that
+//! only counts the items and looks for a fault.
 //!
 //! No clause says how much memory [`fold_items`] takes: a few times the bytes of the longest item,
 //! which has at most 131,074, and beside it what the fold takes. Nor does one say what it costs:
@@ -15,6 +16,7 @@ mod fold;
 mod folding;
 mod item_at;
 mod next;
+mod nothing;
 mod peaks;
 mod range_hash;
 mod rest;

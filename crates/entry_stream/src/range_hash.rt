@@ -68,12 +68,14 @@ impl<H: TreeHash> RangeHash<H> {
 }
 
 impl<H: TreeHash> ItemFold for RangeHash<H> {
-    ghost use Rattle.std.specs.Prelude.{◌≡◌, OnOk};
+    ghost use Rattle.std.specs.Prelude.{◌≡◌, [], ◌∷◌, OnOk};
     ghost use Rattle.entry_list.specs.Items.{ItemLists};
     ghost use Rattle.entry_stream.specs.Folds.{IsRangeOf};
     ghost use Rattle.entry_stream.specs.Streams.{CanTakeMore, items_with};
 
     ghost has_taken = { IsRangeOf H.TreeHash.hash };
+
+    ghost made_with = { λ range. range.start ∷ range.end ∷ [] };
 
     fn take(&mut self, entry: &[u8], _spki: &[u8]) -> Result<(), Memory>
         requires { CanTakeMore (IsRangeOf H.TreeHash.hash self.old) }

@@ -22,6 +22,7 @@ each-init g c = record {
   taken = c.requires;
   many = refl;
   reading = reading_first g.H.TreeHash.hash _ c.new-window.ensures;
+  same = refl;
   count = refl;
 }
 
@@ -137,11 +138,12 @@ each-preserved-in-Ok g c =
       total = inv.total;
       within = inv.within;
       list = items_with inv.list item.entry.now item.spki.now;
-      taken = c.in_ok-take-in-Ok.ensures {u = tt} inv.list inv.taken;
+      taken = c.in_ok-take-in-Ok.ensures.taken {u = tt} inv.list inv.taken;
       many = omega arith;
       reading =
           reading_item g.H.TreeHash.hash inv.read c.each.window item.entry.now item.spki.now
           inv.list inv.reading first c.pass.new.self own c.pass.ensures;
+      same = c.in_ok-take-in-Ok.ensures.same ∙ inv.same;
       count = inv.count;
     }
 
@@ -210,5 +212,6 @@ each-preserved g c =
       reading =
           reading_more g.H.TreeHash.hash inv.read c.each.window _ inv.list piece inv.reading
           (c.in_ok-append-in-Err.ensures {u = tt});
+      same = inv.same;
       count = c.in_ok-count-in-Err.ensures.cause.fine ∙ inv.count;
     }
