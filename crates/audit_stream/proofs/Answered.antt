@@ -7,19 +7,16 @@ use Rattle.tree_core.specs.Path.{part_of}
 use Rattle.tree_core.specs.Tree.{tree_hash}
 use Rattle.entry_list.specs.Items.{ItemLists}
 use Rattle.log_entry.specs.EntryOf.{entry_of}
-use Rattle.cosigner_core.specs.declared.lists.Export.{Export}
-use Rattle.policy_core.specs.declared.answer.Accepted.{Accepted}
-use Rattle.policy_core.specs.declared.answer.By.{By}
-use Rattle.policy_core.specs.declared.answer.By.TheVariants.{Cosigners, Landmark}
 use Rattle.world_core.specs.Audit.{AuditCase, IsAudit, foreign_in, foreign_of, has_own}
-use Rattle.world_core.specs.Audit.{is_supported, wanted_hash}
+use Rattle.world_core.specs.Audit.{is_supported}
 use Rattle.world_core.specs.declared.answer.Audit.{Audit}
 use Rattle.world_core.specs.declared.answer.Audit.TheVariants.{Foreign, Pair, Stands, Unrecorded}
+use Rattle.world_core.specs.declared.wanted.WantedHash.{WantedHash}
 use Rattle.audit_stream.specs.Summaries.{AuditsAreOfSummaries, IsSummaryOf, IsTwoStrings}
-use Rattle.audit_stream.specs.Summaries.{Part, Summary, answer_from, foreign_by, own_by}
-use Rattle.audit_stream.specs.Summaries.{part_wanted}
+use Rattle.audit_stream.specs.Summaries.{SummaryParts, answer_from, foreign_by, own_by}
+use Rattle.audit_stream.specs.Summaries.{wanted_of_case}
 
-part_is : (h : HashFunction) (items : ItemLists) (w : Part) (s : Summary)
+part_is : (h : HashFunction) (items : ItemLists) (w : WantedHash) (s : SummaryParts)
     → s.count ≡ length items.entries
     → s.part_hash ≡ tree_hash h (part_of items.entries w.start w.end)
     → foreign_by (record {
@@ -36,14 +33,11 @@ part_is h items w s count there =
       spki = s.spki;
     }) (Some w)
 
-foreign_is : (h : HashFunction) (items : ItemLists) (a : Accepted) (kept : Option Export) (by : By)
-    (index : ℕ) (s : Summary) → IsSummaryOf h items (part_wanted h a kept by) index s
-    → foreign_in h items.entries (wanted_hash h a kept by) ≡ foreign_by s (part_wanted h a kept by)
-foreign_is h items a kept Landmark index s is =
-    part_is h items _ s is.count (is.part_hash _ refl)
-foreign_is h items a None (Cosigners set) index s is = refl
-foreign_is h items a (Some e) (Cosigners set) index s is =
-    part_is h items _ s is.count (is.part_hash _ refl)
+foreign_is : (h : HashFunction) (items : ItemLists) (wanted : Option WantedHash)
+    (index : ℕ) (s : SummaryParts) → IsSummaryOf h items wanted index s
+    → foreign_in h items.entries wanted ≡ foreign_by s wanted
+foreign_is h items None index s is = refl
+foreign_is h items (Some w) index s is = part_is h items w s is.count (is.part_hash w refl)
 
 module _ (h : HashFunction) (x : AuditCase) where
   answers : (there : Option (Hash × Hash)) (supported own : Bool) (answer : Audit)
@@ -84,7 +78,7 @@ module _ (h : HashFunction) (x : AuditCase) where
 
 pub AuditsAreOfSummaries_always : (h : HashFunction) → AuditsAreOfSummaries h
 AuditsAreOfSummaries_always h x s is =
-    let f = foreign_is h x.items x.accepted x.kept x.accepted.by x.accepted.index s is in
+    let f = foreign_is h x.items (wanted_of_case h x) x.accepted.index s is in
     let o : has_own h x.items x.accepted x.cert ≡ own_by h s x.cert =
     ap (λ (entry : Text). bytes_eq entry (entry_of h x.cert)
     && bytes_eq (slice_index_or x.items.keys x.accepted.index []) x.cert.spki) (sym is.entry)

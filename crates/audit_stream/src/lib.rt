@@ -1,8 +1,14 @@
-//! What an audit asks of a list of entries: numbers that one pass over the list gives.
+//! Audits over a stream: what one pass over a list of entries gives, and the answer by that.
 //!
-//! An audit is defined over the whole list. This crate has the law that most of its answers follow
-//! from a summary: how many entries there are, the tree hash of one part of them, and the item at
-//! one index. Only two strings with one hash have to be looked for in the list itself.
+//! [`world_core::audit`] holds the whole list. Most of its answers follow from a summary: how many
+//! entries there are, the tree hash of one part of them, and the item at one index. [`summing`] is
+//! a fold for one pass over a file of entries, [`summary`] gives what it found, and [`decided`] the
+//! answer. Only two strings with one hash have to be looked for in the list itself.
 #![tactic(auto)]
 
+mod deciding;
 pub mod laws;
+mod summary;
+
+pub use deciding::decided;
+pub use summary::{Summary, summary, summing};

@@ -1,0 +1,89 @@
+//! The answer of an audit by the summary of its list.
+
+ghost use Rattle.std.specs.Prelude.{◌≡◌, IfOk, option_map};
+ghost use Rattle.cert_fields.specs.Views.{parts};
+ghost use Rattle.entry_list.specs.Items.{ItemLists};
+ghost use Rattle.mtc_proof.specs.Proofs.{ProofParts};
+ghost use Rattle.world_core.specs.Audit.{is_recorded_by};
+ghost use Rattle.audit_stream.specs.Summaries.{answer_by, foreign_by, own_by, summary_parts};
+
+use crate::summary::Summary;
+use cert_fields::Cert;
+use cosigner_core::Export;
+use log_entry::entry_of;
+use mtc_io::Memory;
+use policy_core::{Accepted, By, Store};
+use std::alloc::Global;
+use tree_core::TreeHash;
+use world_core::{Audit, WantedHash, recorded_at, wanted_hash};
+
+// The hash that is wanted and the one that is there, where the list is too short or they differ.
+fn foreign_by(
+    summary: &Summary<'_>,
+    wanted: Option<WantedHash>,
+) -> Option<([u8; 32], [u8; 32])>
+    ensures { result ≡ foreign_by (summary_parts summary.now) wanted }
+{
+    let wanted = wanted?;
+    if summary.count < wanted.end || summary.part_hash != wanted.hash {
+        return Some((wanted.hash, summary.part_hash));
+    }
+    None
+}
+
+// Whether the export supports the acceptance. A landmark wants no export.
+fn is_supported(accepted: &Accepted, store: &Store, kept: Option<&Export>) -> bool
+    ensures { result ≡ is_recorded_by store.now accepted.now accepted.now.by
+        (option_map (λ e. e.now) kept.entry) }
+{
+    match accepted.by {
+        By::Landmark => true,
+        By::Cosigners(set) => match kept {
+            Some(kept) => recorded_at(store, accepted, set, kept).is_some(),
+            None => false,
+        },
+    }
+}
+
+// Whether the item is the certificate's entry with its key.
+fn is_own<H: TreeHash>(alloc: Global, cert: &Cert, summary: &Summary<'_>) -> Result<bool, Memory>
+    ensures { IfOk result (λ own. own ≡ own_by H.hash (summary_parts summary.now)
+        (parts cert.now)) }
+{
+    let entry = entry_of::<H>(alloc, cert)?;
+    Ok(summary.entry == entry.as_slice() && summary.spki == cert.spki)
+}
+
+/// The answer of [`world_core::audit`] by the summary of its list: for the part that
+/// [`wanted_hash`] gives, and for the accepted index. None comes exactly if the answer is two
+/// strings, which have to be looked for in the list itself:
+/// [`law_audits_are_of_summaries`](crate::laws::law_audits_are_of_summaries) says so.
+pub fn decided<H: TreeHash>(
+    alloc: Global,
+    accepted: &Accepted,
+    cert: &Cert,
+    store: &Store,
+    kept: Option<&Export>,
+    summary: &Summary<'_>,
+) -> Result<Option<Audit>, Memory>
+    ensures { IfOk result (λ answer. (proof : ProofParts) (items : ItemLists)
+        → answer ≡ answer_by H.hash (record {
+          accepted = accepted.now;
+          cert = parts cert.now;
+          proof = proof;
+          store = store.now;
+          items = items;
+          kept = option_map (λ e. e.now) kept.entry;
+        }) (summary_parts summary.now)) }
+{
+    if let Some((wanted, found)) = foreign_by(summary, wanted_hash::<H>(accepted, kept)) {
+        return Ok(Some(Audit::Foreign { wanted, found }));
+    }
+    if !is_supported(accepted, store, kept) {
+        return Ok(Some(Audit::Unrecorded));
+    }
+    if is_own::<H>(alloc, cert, summary)? {
+        return Ok(Some(Audit::Stands(accepted.index)));
+    }
+    Ok(None)
+}
