@@ -1,6 +1,6 @@
 //! A file of entries as an input of a command.
 
-ghost use Rattle.std.specs.Prelude.{◌<◌, ◌^◌, List, [], IfOk, IfErr};
+ghost use Rattle.std.specs.Prelude.{◌≡◌, ◌<◌, ◌^◌, List, [], IfOk, IfErr};
 ghost use Rattle.byte_formats.specs.Types.{Text};
 ghost use Rattle.entry_stream.specs.Streams.{AreItemsOf, empty_list};
 ghost use Rattle.mtc_command.specs.Answers.{stop_ending};
@@ -32,6 +32,7 @@ pub fn fold_input<'a, H: TreeHash, R: Room, F: ItemFold>(
     ensures all_closed { ClosesAll R.Room room.old room.new [] }
     ensures items { IfOk result (λ answer. IsInput (R.is_modelled room.old) limit
         (R.file room.old name.now) (AreItemsOf H.hash (F.has_taken fold.new) answer)) }
+    ensures same { F.made_with fold.new ≡ F.made_with fold.old }
     ensures kind { IfErr result (λ stop. IsInputStop name.now (stop_ending stop)) }
     ensures stops { IfErr result (λ stop. (files names : List Text)
         (next : Text → Outcome) → IsNamed files name.now
