@@ -1,4 +1,4 @@
-//! The devices of a journal, and of the tiles beside it, in files of the system: how a program opens
+//! The devices of a journal and of the tiles beside it, in files of the system: how a program opens
 //! what it shares with crashes, with other programs and with itself.
 
 ghost use Rattle.std.specs.Prelude.{◌≡◌, false, IfOk};

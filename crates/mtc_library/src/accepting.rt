@@ -56,8 +56,8 @@ pub fn accept<'a, H: TreeHash>(
     })
 }
 
-/// Whether the certificate has this dNSName (RFC 5280, section 4.2.1.6), compared byte by byte: give
-/// a host in lower case, as an authority writes it.
+/// Whether the certificate has this dNSName (RFC 5280, section 4.2.1.6), compared byte by byte: a
+/// host is given in lower case, as an authority writes it.
 pub fn is_for(cert: &Cert, host: &[u8]) -> bool
     ensures { result ≡ list_any (λ name. bytes_eq name host.now)
         (dns_names_in cert.now.extensions.now) }
