@@ -58,6 +58,49 @@ pub enum MonitorError {
     Memory,
 }
 
+// The hexadecimal digits of a hash, as they are displayed.
+struct Digits<'a>(&'a [u8; 32]);
+
+impl<'a> fmt::Display for Digits<'a> {
+    ghost use Rattle.hex.specs.Hex.{encode_lower};
+    ghost use Rattle.std.specs.Prelude.{Some};
+
+    ghost output = { λ hash. Some (encode_lower hash.0.now) };
+
+    fn fmt<W: fmt::Write>(&self, f: &mut fmt::Formatter<W>) -> fmt::Result {
+        let mut digits = [0; 64];
+        if hex::encode_to_slice(self.0.as_slice(), &mut digits).is_err() {
+            return Err(fmt::Error);
+        }
+        match str::from_utf8(&digits) {
+            Ok(text) => f.write_str(text),
+            Err(_) => Err(fmt::Error),
+        }
+    }
+}
+
+impl fmt::Display for MonitorError {
+    ghost use Rattle.std.specs.Prelude.{Some};
+    ghost use Rattle.monitor_core.specs.Reasons.{run_fault_text};
+
+    ghost output = { λ why. Some (run_fault_text why) };
+
+    fn fmt<W: fmt::Write>(&self, f: &mut fmt::Formatter<W>) -> fmt::Result {
+        match self {
+            MonitorError::WrongLog => f.write_str("WrongLog"),
+            MonitorError::NotNewer(size) => write!(f, "NotNewer {size}"),
+            MonitorError::ItemCount { have, want } => write!(f, "ItemCount {have} {want}"),
+            MonitorError::BadProof => f.write_str("BadProof"),
+            MonitorError::RootDiffers { wanted, found } => {
+                write!(f, "RootDiffers {} {}", Digits(wanted), Digits(found))
+            }
+            MonitorError::Memory => f.write_str("Memory"),
+        }
+    }
+}
+
+impl Error for MonitorError {}
+
 impl From<NoMemory> for MonitorError {
     ghost use Rattle.std.specs.Prelude.{◌≡◌};
     ghost use Rattle.monitor_core.specs.declared.error.MonitorError.TheVariants.{Memory};

@@ -12,7 +12,7 @@ use Rattle.entry_list.specs.Reading.{items_in}
 use Rattle.entry_list.specs.Reasons.{items_fault_text}
 use Rattle.monitor_core.specs.Monitor.{monitor_of}
 use Rattle.monitor_core.specs.Reading.{state_in, watch_in}
-use Rattle.monitor_core.specs.Reasons.{text_fault_text}
+use Rattle.monitor_core.specs.Reasons.{run_fault_text, text_fault_text}
 use Rattle.monitor_core.specs.Report.{Findings}
 use Rattle.monitor_core.specs.Written.{found_text}
 use Rattle.monitor_core.specs.declared.error.MonitorError.{MonitorError}
@@ -28,7 +28,6 @@ use Rattle.mtc_command.specs.declared.answer.Stopped.TheVariants.{NotAllowed}
 use Rattle.mtc_monitor.specs.MonitorOutcome.{kept_says, monitor_outcome, new_items_say}
 use Rattle.mtc_monitor.specs.MonitorOutcome.{new_size_says}
 use Rattle.mtc_monitor.specs.MonitorOutcome.{run_says, watch_says}
-use Rattle.mtc_monitor.specs.Reasons.{run_fault_text}
 use Rattle.mtc_plans.specs.Heard.{OfSaid}
 use Rattle.mtc_plans.proofs.Planned.{outcome_planned}
 use Rattle.mtc_top.specs.Executions.{program}

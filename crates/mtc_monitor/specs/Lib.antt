@@ -1,4 +1,3 @@
-pub mod Reasons
 pub mod RootOutcome
 pub mod HeldOutcome
 pub mod MonitorOutcome

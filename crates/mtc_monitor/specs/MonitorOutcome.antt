@@ -15,8 +15,7 @@ use Rattle.mtc_command.specs.declared.answer.Stopped.TheVariants.{NotAllowed}
 use Rattle.mtc_command.specs.Steps.{Outcome, Files, says, stops, with_bytes, with_form}
 use Rattle.cosigner_core.specs.Reasons.{form_fault_text}
 use Rattle.entry_list.specs.Reasons.{items_fault_text}
-use Rattle.monitor_core.specs.Reasons.{text_fault_text}
-use Rattle.mtc_monitor.specs.Reasons.{run_fault_text}
+use Rattle.monitor_core.specs.Reasons.{run_fault_text, text_fault_text}
 
 -- The outcome of `monitor-init LOGID`: the line of the state without entries.
 abbrev pub monitor_init_outcome : Text → Outcome

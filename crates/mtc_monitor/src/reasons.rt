@@ -2,8 +2,7 @@
 
 ghost use Rattle.std.specs.Prelude.{◌≡◌};
 ghost use Rattle.mtc_command.specs.Answers.{reason_text};
-ghost use Rattle.monitor_core.specs.Reasons.{text_fault_text};
-ghost use Rattle.mtc_monitor.specs.Reasons.{run_fault_text};
+ghost use Rattle.monitor_core.specs.Reasons.{run_fault_text, text_fault_text};
 
 use monitor_core::{MonitorError, TextError};
 use mtc_command::Reason;

@@ -14,9 +14,8 @@ use Rattle.monitor_core.specs.declared.error.MonitorError.{MonitorError}
 use Rattle.mtc_command.specs.declared.answer.Said.TheVariants.{Done}
 use Rattle.cosigner_core.specs.Reasons.{export_fault_text, form_fault_text}
 use Rattle.entry_list.specs.Reasons.{items_fault_text}
-use Rattle.monitor_core.specs.Reasons.{text_fault_text}
+use Rattle.monitor_core.specs.Reasons.{run_fault_text, text_fault_text}
 use Rattle.mtc_monitor.specs.HeldOutcome.{held_text}
-use Rattle.mtc_monitor.specs.Reasons.{run_fault_text}
 use Rattle.mtc_monitor.specs.RootOutcome.{root_text}
 use Rattle.command_plans.specs.Kinds.{Kinds}
 use Rattle.command_plans.specs.Plans.{Input, Judged, Plan, Read, Step, forbids, in_form}
