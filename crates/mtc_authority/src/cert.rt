@@ -135,13 +135,13 @@ fn refuse_signatures<'a>(file: &'a str, why: ProofError) -> Stop<'a>
 {
     let bad = Stopped::BadForm;
     match why {
-        ProofError::Short(place) => {
-            refuse_file(bad, file, Reason::with_number("Short", place as u64))
+        ProofError::Short(offset) => {
+            refuse_file(bad, file, Reason::with_number("Short", offset as u64))
         }
         ProofError::HashLength => refuse_file(bad, file, Reason::named("HashLength")),
         ProofError::Trailing => refuse_file(bad, file, Reason::named("Trailing")),
-        ProofError::EmptyId(place) => {
-            refuse_file(bad, file, Reason::with_number("EmptyId", place as u64))
+        ProofError::EmptyId(offset) => {
+            refuse_file(bad, file, Reason::with_number("EmptyId", offset as u64))
         }
     }
 }

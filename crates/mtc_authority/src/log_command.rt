@@ -44,11 +44,11 @@ fn refuse_log<'a>(journal: &'a str, why: LogOpenError) -> Stop<'a>
         LogOpenError::Open(OpenError::NotJournal) => {
             refuse_file(bad, journal, Reason::named("NotJournal"))
         }
-        LogOpenError::Open(OpenError::BadLength(place)) => {
-            refuse_file(bad, journal, Reason::with_number("BadLength", place))
+        LogOpenError::Open(OpenError::BadLength(offset)) => {
+            refuse_file(bad, journal, Reason::with_number("BadLength", offset))
         }
-        LogOpenError::Open(OpenError::CutShort(place)) => {
-            refuse_file(bad, journal, Reason::with_number("CutShort", place))
+        LogOpenError::Open(OpenError::CutShort(offset)) => {
+            refuse_file(bad, journal, Reason::with_number("CutShort", offset))
         }
         LogOpenError::Open(OpenError::Failed) => Stop::Room(journal),
         LogOpenError::Open(OpenError::Memory) => Stop::Memory,

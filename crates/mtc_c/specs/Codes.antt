@@ -54,16 +54,16 @@ store_code Memory = (0, 0)
 
 -- A fault of an element, with the element's offset.
 abbrev pub der_code : DerError → ℕ × ℕ
-der_code (Truncated place) = (16, place)
-der_code (LongForm place) = (17, place)
-der_code (HighTag place) = (18, place)
-der_code (WrongTag place) = (19, place)
-der_code (BadInteger place) = (20, place)
-der_code (BadBool place) = (21, place)
-der_code (BadOid place) = (22, place)
-der_code (BadBits place) = (23, place)
-der_code (SetOrder place) = (24, place)
-der_code (Trailing place) = (25, place)
+der_code (Truncated offset) = (16, offset)
+der_code (LongForm offset) = (17, offset)
+der_code (HighTag offset) = (18, offset)
+der_code (WrongTag offset) = (19, offset)
+der_code (BadInteger offset) = (20, offset)
+der_code (BadBool offset) = (21, offset)
+der_code (BadOid offset) = (22, offset)
+der_code (BadBits offset) = (23, offset)
+der_code (SetOrder offset) = (24, offset)
+der_code (Trailing offset) = (25, offset)
 
 -- Why bytes are no certificate.
 abbrev pub cert_code : CertError → ℕ × ℕ
@@ -79,10 +79,10 @@ cert_code BadName = (39, 0)
 
 -- Why the bytes of a signature are no proof.
 abbrev pub proof_code : ProofError → ℕ × ℕ
-proof_code (proof_error.Short place) = (48, place)
+proof_code (proof_error.Short offset) = (48, offset)
 proof_code proof_error.HashLength = (49, 0)
 proof_code proof_error.Trailing = (50, 0)
-proof_code (proof_error.EmptyId place) = (51, place)
+proof_code (proof_error.EmptyId offset) = (51, offset)
 
 -- Why a proof has not the form of its interval.
 abbrev pub shape_code : EvalError → ℕ × ℕ

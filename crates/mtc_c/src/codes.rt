@@ -45,16 +45,16 @@ fn der_code(why: DerError) -> (u32, u64)
     ensures { result ≡ der_code why }
 {
     match why {
-        DerError::Truncated(place) => (16, place as u64),
-        DerError::LongForm(place) => (17, place as u64),
-        DerError::HighTag(place) => (18, place as u64),
-        DerError::WrongTag(place) => (19, place as u64),
-        DerError::BadInteger(place) => (20, place as u64),
-        DerError::BadBool(place) => (21, place as u64),
-        DerError::BadOid(place) => (22, place as u64),
-        DerError::BadBits(place) => (23, place as u64),
-        DerError::SetOrder(place) => (24, place as u64),
-        DerError::Trailing(place) => (25, place as u64),
+        DerError::Truncated(offset) => (16, offset as u64),
+        DerError::LongForm(offset) => (17, offset as u64),
+        DerError::HighTag(offset) => (18, offset as u64),
+        DerError::WrongTag(offset) => (19, offset as u64),
+        DerError::BadInteger(offset) => (20, offset as u64),
+        DerError::BadBool(offset) => (21, offset as u64),
+        DerError::BadOid(offset) => (22, offset as u64),
+        DerError::BadBits(offset) => (23, offset as u64),
+        DerError::SetOrder(offset) => (24, offset as u64),
+        DerError::Trailing(offset) => (25, offset as u64),
     }
 }
 
@@ -80,10 +80,10 @@ pub(crate) fn proof_code(why: ProofError) -> (u32, u64)
     ensures { result ≡ proof_code why }
 {
     match why {
-        ProofError::Short(place) => (48, place as u64),
+        ProofError::Short(offset) => (48, offset as u64),
         ProofError::HashLength => (49, 0),
         ProofError::Trailing => (50, 0),
-        ProofError::EmptyId(place) => (51, place as u64),
+        ProofError::EmptyId(offset) => (51, offset as u64),
     }
 }
 

@@ -94,7 +94,7 @@ module _ {R S D : Type 0} (rooms : Rooms R S D) (g : Ghosts D) (name : List ℕ)
     (d d' e e' : D) (ending : Ending) (opened : HasOpened rooms g name old mid d)
     (opened_beside : HasOpenedBeside rooms g (tiles_name name) mid both e)
     (closed_beside : HasClosed rooms g (tiles_name name) both kept e')
-    (taken : HasClosed rooms g name kept new d') where
+    (closed : HasClosed rooms g name kept new d') where
   abbrev held : List ℕ
   held = held_in (rooms.file old (tiles_name name))
 
@@ -110,10 +110,10 @@ module _ {R S D : Type 0} (rooms : Rooms R S D) (g : Ghosts D) (name : List ℕ)
       (closed_beside.others name (longer_other name)).bytes ∙ stays.0
 
   pub put_back : rooms.is_modelled old → IsSomeAnd (rooms.device new name) (λ x. SameDevice g d' x)
-  put_back t = taken.device (through t) (subst IsSome (sym stays_kept) (opened.bytes t).there)
+  put_back t = closed.device (through t) (subst IsSome (sym stays_kept) (opened.bytes t).there)
 
   no_new : rooms.is_modelled old → rooms.file old name ≡ None → rooms.file new name ≡ None
-  no_new t none = taken.none (through t) (stays_kept ∙ none)
+  no_new t none = closed.none (through t) (stays_kept ∙ none)
 
   fault_tiled : IsNamed files name → IsNamed files (tiles_name name)
       → FailsAt (Rose (g.faults d) (g.faults d')) name (Rose (g.faults e) (g.faults e'))
@@ -123,7 +123,7 @@ module _ {R S D : Type 0} (rooms : Rooms R S D) (g : Ghosts D) (name : List ℕ)
       failed_at ending _ _ _ name (tiles_name name) files among among_tiles
       (λ rose. rose_since (rooms.faults old) (rooms.faults kept) (rooms.faults new)
       (omega (arith, closed_beside.count, opened_beside.fine, opened.fine))
-      (subst (Rose (rooms.faults kept)) (sym taken.count)
+      (subst (Rose (rooms.faults kept)) (sym closed.count)
       (rose_with (rooms.faults kept) (g.faults d')
       (subst (λ n. Rose n (g.faults d')) opened.begins rose))))
       (λ rose. rose_on (rooms.faults old) (rooms.faults kept) (rooms.faults new)
@@ -131,7 +131,7 @@ module _ {R S D : Type 0} (rooms : Rooms R S D) (g : Ghosts D) (name : List ℕ)
       (subst (Rose (rooms.faults both)) (sym closed_beside.count)
       (rose_with (rooms.faults both) (g.faults e')
       (subst (λ n. Rose n (g.faults e')) opened_beside.begins rose))))
-      (omega (arith, taken.count)))
+      (omega (arith, closed.count)))
       fails
 
   given_by : (contents : Option (List ℕ)) → contents ≡ Some held
@@ -146,13 +146,13 @@ module _ {R S D : Type 0} (rooms : Rooms R S D) (g : Ghosts D) (name : List ℕ)
   served_tiled worked among among_tiles = record {
     back = record {
       opened =
-          omega (arith, opened.opened, opened_beside.opened, taken.opened, closed_beside.opened);
-      later = omega (arith, opened.fine, opened_beside.fine, taken.count, closed_beside.count);
-      is_modelled = λ t. taken.is_modelled (through t);
+          omega (arith, opened.opened, opened_beside.opened, closed.opened, closed_beside.opened);
+      later = omega (arith, opened.fine, opened_beside.fine, closed.count, closed_beside.count);
+      is_modelled = λ t. closed.is_modelled (through t);
       others = λ other is. record {
-        bytes = (taken.others other is.1.0).bytes ∙ (closed_beside.others other is.0).bytes
+        bytes = (closed.others other is.1.0).bytes ∙ (closed_beside.others other is.0).bytes
             ∙ (opened_beside.others other is.0).bytes ∙ (opened.stay other).bytes;
-        disk = (taken.others other is.1.0).disk ∙ (closed_beside.others other is.0).disk
+        disk = (closed.others other is.1.0).disk ∙ (closed_beside.others other is.0).disk
             ∙ (opened_beside.others other is.0).disk ∙ (opened.stay other).disk;
       };
     };
@@ -248,14 +248,14 @@ module _ {R S D : Type 0} (rooms : Rooms R S D) (g : Ghosts D) where
       (opened : HasOpened rooms g name old mid d)
       (opened_beside : HasOpenedBeside rooms g (tiles_name name) mid both e)
       (closed_beside : HasClosed rooms g (tiles_name name) both kept e')
-      (taken : HasClosed rooms g name kept new d') where
+      (closed : HasClosed rooms g name kept new d') where
     abbrev beside : List ℕ
     beside = tiles_name name
 
     pub put_beside : rooms.is_modelled old
         → IsSomeAnd (rooms.device new beside) (λ x. SameDevice g e' x)
     put_beside t =
-        let other = taken.others beside (λ same. longer_other name (sym same)) in
+        let other = closed.others beside (λ same. longer_other name (sym same)) in
         subst (λ (o : Option D). IsSomeAnd o (λ x. SameDevice g e' x)) (sym other.disk)
         (closed_beside.device (opened_beside.is_modelled (opened.is_modelled t))
         (opened_beside.bytes (opened.is_modelled t)).there)
@@ -290,7 +290,7 @@ module _ {R S D : Type 0} (rooms : Rooms R S D) (g : Ghosts D) where
 module _ {R S D : Type 0} (rooms : Rooms R S D) (g : Ghosts D) (name : List ℕ)
     (old mid both new : R) (d d' : D) (opened : HasOpened rooms g name old mid d)
     (failed : HasFailedBeside rooms (tiles_name name) mid both)
-    (taken : HasClosed rooms g name both new d') (only_reads : OnlyReads g d d') where
+    (closed : HasClosed rooms g name both new d') (only_reads : OnlyReads g d d') where
   stays_failed : (rooms.file both name ≡ rooms.file old name)
       × (rooms.device both name ≡ rooms.device old name)
   stays_failed =
@@ -299,25 +299,25 @@ module _ {R S D : Type 0} (rooms : Rooms R S D) (g : Ghosts D) (name : List ℕ)
 
   pub put_failed : rooms.is_modelled old
       → IsSomeAnd (rooms.device new name) (λ x. SameDevice g d' x)
-  put_failed t = taken.device (failed.is_modelled (opened.is_modelled t))
+  put_failed t = closed.device (failed.is_modelled (opened.is_modelled t))
       (subst IsSome (sym stays_failed.0) (opened.bytes t).there)
 
   none_failed : rooms.is_modelled old → rooms.file old name ≡ None → rooms.file new name ≡ None
   none_failed t none =
-      taken.none (failed.is_modelled (opened.is_modelled t)) (stays_failed.0 ∙ none)
+      closed.none (failed.is_modelled (opened.is_modelled t)) (stays_failed.0 ∙ none)
 
   pub failed_tiled : (files : List (List ℕ)) (wanted : Outcome) → IsNamed files (tiles_name name)
       → HasServedBeside rooms g files name (tiles_name name) wanted old new
       (room_failed (tiles_name name))
   failed_tiled files wanted among = record {
     back = record {
-      opened = omega (arith, opened.opened, failed.opened, taken.opened);
-      later = omega (arith, opened.fine, failed.later, taken.count);
-      is_modelled = λ t. taken.is_modelled (failed.is_modelled (opened.is_modelled t));
+      opened = omega (arith, opened.opened, failed.opened, closed.opened);
+      later = omega (arith, opened.fine, failed.later, closed.count);
+      is_modelled = λ t. closed.is_modelled (failed.is_modelled (opened.is_modelled t));
       others = λ other is. record {
-        bytes = (taken.others other is.1.0).bytes ∙ (failed.others other is.0).bytes
+        bytes = (closed.others other is.1.0).bytes ∙ (failed.others other is.0).bytes
             ∙ (opened.stay other).bytes;
-        disk = (taken.others other is.1.0).disk ∙ (failed.others other is.0).disk
+        disk = (closed.others other is.1.0).disk ∙ (failed.others other is.0).disk
             ∙ (opened.stay other).disk;
       };
     };
@@ -328,7 +328,7 @@ module _ {R S D : Type 0} (rooms : Rooms R S D) (g : Ghosts D) (name : List ℕ)
       fault = (
         rose_on (rooms.faults old) (rooms.faults both) (rooms.faults new)
             (subst (λ n. Rose n (rooms.faults both)) opened.fine failed.rose)
-            (omega (arith, taken.count)),
+            (omega (arith, closed.count)),
         among,
       );
       early = tt;
@@ -361,5 +361,5 @@ module _ {R S D : Type 0} (rooms : Rooms R S D) (g : Ghosts D) (name : List ℕ)
   pub failed_only_read : OnlyNow g → OnlyReadsBeside rooms g old new (tiles_name name)
   failed_only_read only_now = λ t. still g (rooms.device old (tiles_name name))
       (rooms.device new (tiles_name name)) untouched only_now
-      ((taken.others (tiles_name name) (λ same. longer_other name (sym same))).disk
+      ((closed.others (tiles_name name) (λ same. longer_other name (sym same))).disk
       ∙ failed.stays.disk ∙ (opened.stay (tiles_name name)).disk)

@@ -155,7 +155,7 @@ module _ (goes : List Text → Text → Type 0) (Valid : List Text → Type 0) {
     (old mid both kept new : R) (d d' e e' : D) (opened : HasOpened rooms g name old mid d)
     (opened_beside : HasOpenedBeside rooms g (tiles_name name) mid both e)
     (closed_beside : HasClosed rooms g (tiles_name name) both kept e')
-    (taken : HasClosed rooms g name kept new d') (all : ModelsAll rooms g) where
+    (closed : HasClosed rooms g name kept new d') (all : ModelsAll rooms g) where
   abbrev held : Text
   held = held_in (rooms.file old (tiles_name name))
 
@@ -194,16 +194,16 @@ module _ (goes : List Text → Text → Type 0) (Valid : List Text → Type 0) {
       → LeavesBoth goes Valid rooms g old new name did
   both_so t is =
       let back = put_back rooms g name [] says old mid both kept new d d' e e' no_memory opened
-      opened_beside closed_beside taken t in
+      opened_beside closed_beside closed t in
       let beside = put_beside rooms g name old mid both kept new d d' e e' opened opened_beside
-      closed_beside taken t in
+      closed_beside closed t in
       elim is [
         | inl only ↦ inl (record {
           journal = left_opened g no_memory untouched _ _ d d' (opened.device t) back
               (kept_of g d d' untouched only.0);
           contents = contents_opened g _ _ d d' (opened.device t) back only.0.contents;
           beside = only_read_tiled rooms g name old mid both kept new d d' e e' opened
-              opened_beside closed_beside taken all only.1 t;
+              opened_beside closed_beside closed all only.1 t;
         })
         | inr works ↦ inr (stores_through goes Valid (g.may_leave d')
             (states_at g (rooms.device new name)) (g.may_leave e)
@@ -229,17 +229,18 @@ module _ (goes : List Text → Text → Type 0) (Valid : List Text → Type 0) {
     (rooms : Rooms R S D) (g : Disks D) (name : Text) (old mid both new : R) (d d' : D)
     (opened : HasOpened rooms g name old mid d)
     (failed : HasFailedBeside rooms (tiles_name name) mid both)
-    (taken : HasClosed rooms g name both new d') (only_reads : OnlyReads g d d') where
+    (closed : HasClosed rooms g name both new d') (only_reads : OnlyReads g d d') where
   pub failed_stored : (wanted : Outcome) → OnlyNow g
       → StoresBeside goes Valid rooms g old new (name ∷ []) (tiles_name name ∷ []) wanted
   failed_stored wanted only_now = λ t. (
     λ named.
-        let back = put_failed rooms g name old mid both new d d' opened failed taken only_reads t in
+        let back =
+        put_failed rooms g name old mid both new d d' opened failed closed only_reads t in
         inl (record {
           journal = left_opened g no_memory untouched _ _ d d' (opened.device t) back
               (kept_of g d d' untouched only_reads);
           contents = contents_opened g _ _ d d' (opened.device t) back only_reads.contents;
-          beside = failed_only_read rooms g name old mid both new d d' opened failed taken
+          beside = failed_only_read rooms g name old mid both new d d' opened failed closed
               only_reads only_now t;
         }),
     tt,
@@ -252,9 +253,9 @@ module _ (goes : List Text → Text → Type 0) (Valid : List Text → Type 0) {
       → HasOpened rooms g name old mid d → HasClosed rooms g name mid new d' → OnlyReads g d d'
       → OnlyNow g
       → StoresBeside goes Valid rooms g old new (name ∷ []) (tiles_name name ∷ []) wanted
-  header_stored name wanted old mid new d d' opened taken only_reads only_now = λ t. (
+  header_stored name wanted old mid new d d' opened closed only_reads only_now = λ t. (
     λ named.
-        let back = taken.device (opened.is_modelled t)
+        let back = closed.device (opened.is_modelled t)
         (subst IsSome (sym (opened.stay name).bytes) (opened.bytes t).there) in
         inl (record {
           journal = left_opened g no_memory untouched _ _ d d' (opened.device t) back
@@ -262,7 +263,7 @@ module _ (goes : List Text → Text → Type 0) (Valid : List Text → Type 0) {
           contents = contents_opened g _ _ d d' (opened.device t) back only_reads.contents;
           beside = still g (rooms.device old (tiles_name name))
               (rooms.device new (tiles_name name)) untouched only_now
-              ((taken.others (tiles_name name) (λ same. longer_other name (sym same))).disk
+              ((closed.others (tiles_name name) (λ same. longer_other name (sym same))).disk
               ∙ (opened.stay (tiles_name name)).disk);
         }),
     tt,

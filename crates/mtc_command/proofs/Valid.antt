@@ -64,11 +64,11 @@ module _ {R S D : Type 0} (rooms : Rooms R S D) (disks : Disks D)
       → HasOpened rooms disks name old mid d → ServesValidly disks Valid says d e
       → HasClosed rooms disks name mid new e
       → KeepsValid rooms disks Valid (name ∷ []) (with_file name (rooms.file old name) says) old new
-  served_valid name says old mid new d e opened valid taken = λ t. (
+  served_valid name says old mid new d e opened valid closed = λ t. (
     elim valid [
       | inl only_reads ↦
           (let did = journaled_by (with_file name (rooms.file old name) says) in
-          let put = taken.device (opened.is_modelled t)
+          let put = closed.device (opened.is_modelled t)
           (subst IsSome (sym (opened.stay name).bytes) (opened.bytes t).there) in
           inl (
             left_opened disks no_memory did _ _ d e (opened.device t) put

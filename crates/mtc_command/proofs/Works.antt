@@ -231,10 +231,10 @@ module _ {R S D : Type 0} (rooms : Rooms R S D) (g : Ghosts D) (name : List ℕ)
   fault_of : HasOpened rooms g name old mid d → HasClosed rooms g name mid new e
       → IsNamed files name → FailedOnly (Rose (g.faults d) (g.faults e)) (name ∷ []) ending
       → FailedOnly (Rose (rooms.faults old) (rooms.faults new)) files ending
-  fault_of opened taken among =
+  fault_of opened closed among =
       failed_so ending _ _ (name ∷ []) files
       (λ rose. subst (λ n. Rose n (rooms.faults new)) opened.fine
-      (subst (Rose (rooms.faults mid)) (sym taken.count)
+      (subst (Rose (rooms.faults mid)) (sym closed.count)
       (rose_with (rooms.faults mid) (g.faults e)
       (subst (λ n. Rose n (g.faults e)) opened.begins rose))))
       (λ file is. elim is [
@@ -246,14 +246,14 @@ module _ {R S D : Type 0} (rooms : Rooms R S D) (g : Ghosts D) (name : List ℕ)
   pub served : HasOpened rooms g name old mid d → HasWorkedOn g name says d e ending
       → HasClosed rooms g name mid new e → IsNamed files name
       → HasServed rooms g files name wanted old new ending
-  served opened worked taken among = record {
+  served opened worked closed among = record {
     back = record {
-      opened = omega (arith, opened.opened, taken.opened);
-      later = omega (arith, opened.fine, taken.count);
-      is_modelled = λ t. taken.is_modelled (opened.is_modelled t);
+      opened = omega (arith, opened.opened, closed.opened);
+      later = omega (arith, opened.fine, closed.count);
+      is_modelled = λ t. closed.is_modelled (opened.is_modelled t);
       others = λ other is. record {
-        bytes = (taken.others other is.0).bytes ∙ (opened.stay other).bytes;
-        disk = (taken.others other is.0).disk ∙ (opened.stay other).disk;
+        bytes = (closed.others other is.0).bytes ∙ (opened.stay other).bytes;
+        disk = (closed.others other is.0).disk ∙ (opened.stay other).disk;
       };
     };
     ends = record {
@@ -261,7 +261,7 @@ module _ {R S D : Type 0} (rooms : Rooms R S D) (g : Ghosts D) (name : List ℕ)
           (opened.bytes t) is) worked.reply;
       words = λ bad. absurd bad;
       not_words = worked.ends.plain;
-      fault = fault_of opened taken among worked.ends.fault;
+      fault = fault_of opened closed among worked.ends.fault;
       early = reply_so ending _ _ (λ reply is t. (
         of_bytes
             (λ o. journaled_by o ≡ untouched → IsEarly (status_of reply)) name _ _ says
@@ -271,12 +271,12 @@ module _ {R S D : Type 0} (rooms : Rooms R S D) (g : Ghosts D) (name : List ℕ)
     };
     made = λ t. record {
       no_file =
-          (λ on none. taken.none (opened.is_modelled t) ((opened.stay name).bytes ∙ none), tt);
+          (λ on none. closed.none (opened.is_modelled t) ((opened.stay name).bytes ∙ none), tt);
       unmade = λ memory.
-          (λ none. taken.none (opened.is_modelled t) ((opened.stay name).bytes ∙ none), tt);
+          (λ none. closed.none (opened.is_modelled t) ((opened.stay name).bytes ∙ none), tt);
       left = (
         left_opened g ending (journaled_by wanted) _ _ d e (opened.device t)
-            (taken.device (opened.is_modelled t)
+            (closed.device (opened.is_modelled t)
             (subst IsSome (sym (opened.stay name).bytes) (opened.bytes t).there))
             (of_bytes (λ o. Leaves g (LeftBy ending (journaled_by o)) (Some d) (Some e)) name _ _
             says (opened.bytes t) worked.left),

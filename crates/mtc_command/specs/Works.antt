@@ -187,7 +187,7 @@ module _ {R S D : Type 0} (rooms : Rooms R S D) (g : Ghosts D) (name : Text) whe
     pub made : Result (Unit {0}) StartError
     pub fine : g.faults opened ≡ 0
     pub begins : BeginsOn g first opened left made
-    pub taken : HasClosed rooms g name mid new left
+    pub closed : HasClosed rooms g name mid new left
     pub ends : ending ≡ made_ending name text made
 
   -- For a command that makes a journal of this name, over any file system: none was begun, and the

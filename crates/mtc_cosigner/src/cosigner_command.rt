@@ -29,11 +29,11 @@ fn refuse_cosigner<'a>(journal: &'a str, why: CosignerOpenError) -> Stop<'a>
         CosignerOpenError::Open(OpenError::NotJournal) => {
             refuse_file(bad, journal, Reason::named("NotJournal"))
         }
-        CosignerOpenError::Open(OpenError::BadLength(place)) => {
-            refuse_file(bad, journal, Reason::with_number("BadLength", place))
+        CosignerOpenError::Open(OpenError::BadLength(offset)) => {
+            refuse_file(bad, journal, Reason::with_number("BadLength", offset))
         }
-        CosignerOpenError::Open(OpenError::CutShort(place)) => {
-            refuse_file(bad, journal, Reason::with_number("CutShort", place))
+        CosignerOpenError::Open(OpenError::CutShort(offset)) => {
+            refuse_file(bad, journal, Reason::with_number("CutShort", offset))
         }
         CosignerOpenError::Open(OpenError::Failed) => Stop::Room(journal),
         CosignerOpenError::Open(OpenError::Memory) => Stop::Memory,

@@ -204,13 +204,13 @@ fn refuse_journal(file: &impl FileExt, length: u64) -> io::Result<()> {
 // page for written although its sync failed, and keep it in memory: after this call the next sync
 // has to write it, or fails.
 fn write_end_again(file: &impl FileExt, length: u64) -> io::Result<()> {
-    let mut place = length.saturating_sub(TAIL);
+    let mut offset = length.saturating_sub(TAIL);
     let mut piece = [0; PIECE];
     for _ in 0..PIECES {
-        let size = length.saturating_sub(place).min(PIECE as u64) as usize;
-        file.read_exact_at(&mut piece[..size], place)?;
-        file.write_all_at(&piece[..size], place)?;
-        place = place.saturating_add(size as u64);
+        let size = length.saturating_sub(offset).min(PIECE as u64) as usize;
+        file.read_exact_at(&mut piece[..size], offset)?;
+        file.write_all_at(&piece[..size], offset)?;
+        offset = offset.saturating_add(size as u64);
     }
     Ok(())
 }

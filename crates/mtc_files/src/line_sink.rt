@@ -60,12 +60,12 @@ impl<W: Write> Line<W> {
     // Holds a piece of the line.
     fn gather(&mut self, piece: &[u8]) -> io::Result<()> {
         let mut before = 0;
-        for (place, byte) in piece.iter().enumerate() {
+        for (index, byte) in piece.iter().enumerate() {
             if self.is_ended {
                 self.encode(b'\n')?;
                 self.is_ended = false;
             }
-            let following = piece.get(place.saturating_add(1)).copied().unwrap_or(0);
+            let following = piece.get(index.saturating_add(1)).copied().unwrap_or(0);
             if *byte == b'\n' {
                 self.is_ended = true;
             } else if is_control(before, *byte, following) {

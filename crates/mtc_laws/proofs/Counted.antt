@@ -132,13 +132,13 @@ counts_so : (h : HashFunction) (settings : CosignerSettings) (public first : Lis
     (bodies : List (List ℕ)) (s : CosignerState) (r : SubtreeParts)
     → StartsWith (Cosigner settings public) first → IsBytes first
     → cosigner_of h (first ∷ bodies) ≡ Ok s → s.key.next < key_count s
-    → (store : Store) (place : ℕ) (known : Known) (proof : ProofParts) (list : List SigParts)
-    → slice_get store.cosigners place ≡ Some known → known.id ≡ settings.id
-    → known.key ≡ public → is_named store.rules place ≡ true → store.log ≡ settings.log
+    → (store : Store) (index : ℕ) (known : Known) (proof : ProofParts) (list : List SigParts)
+    → slice_get store.cosigners index ≡ Some known → known.id ≡ settings.id
+    → known.key ≡ public → is_named store.rules index ≡ true → store.log ≡ settings.log
     → proof.start ≡ r.start → proof.end ≡ r.end → AllByRecursion IsMtcSignature list
     → proof.signatures ≡ flat_map signature_text list → Contains list (signature_of s r)
-    → is_in_set (counted store proof r.hash) place ≡ true
-counts_so h settings public first bodies s r starts bytes made few store place known proof list
+    → is_in_set (counted store proof r.hash) index ≡ true
+counts_so h settings public first bodies s r starts bytes made few store index known proof list
     there id key named log start end each encoded among =
     let secret = starts.0 in
     let takes = (cosigner_takes first settings secret bytes starts.1.0).1 in
@@ -158,7 +158,7 @@ counts_so h settings public first bodies s r starts bytes made few store place k
     ∙ ap (λ (l : List ℕ). signed_text known.id l r.start r.end r.hash) (own.1 ∙ sym log)
     ∙ ap (λ (n : ℕ). signed_text known.id store.log n r.end r.hash) (sym start)
     ∙ ap (λ (n : ℕ). signed_text known.id store.log proof.start n r.hash) (sym end) in
-    signed_counts store proof r.hash place known list signature there named each encoded
+    signed_counts store proof r.hash index known list signature there named each encoded
     (subst (λ (i : List ℕ). Contains list (record { cosigner = i; signature = signature })) id_is
     among)
     (subst (λ (m : List ℕ). Verifies known.key m signature) text_is
@@ -211,13 +211,13 @@ module _ {R S D O E : Type 0} (h : HashFunction) (rooms : Rooms R S D) (disks : 
       events begun execution (λ list. IsPrefix list found)
       (OfHeard h p (cosign name file) (λ before run.
       (signed : HasCosigned h p name file before run)
-      × ((store : Store) (place : ℕ) (known : Known) (proof : ProofParts) (list : List SigParts)
-      → slice_get store.cosigners place ≡ Some known → known.id ≡ settings.id
-      → known.key ≡ public → is_named store.rules place ≡ true → store.log ≡ settings.log
+      × ((store : Store) (index : ℕ) (known : Known) (proof : ProofParts) (list : List SigParts)
+      → slice_get store.cosigners index ≡ Some known → known.id ≡ settings.id
+      → known.key ≡ public → is_named store.rules index ≡ true → store.log ≡ settings.log
       → proof.start ≡ signed.request.start → proof.end ≡ signed.request.end
       → AllByRecursion IsMtcSignature list → proof.signatures ≡ flat_map signature_text list
       → Contains list (signature_of signed.state signed.request)
-      → is_in_set (counted store proof signed.request.hash) place ≡ true)))
+      → is_in_set (counted store proof signed.request.hash) index ≡ true)))
       (λ list held. held_prefix h rooms disks outs errs crash_state only contents bytes name start
       first begins new events begun execution list found held (one.0, (one.1, stands.1)))
       (λ old run is_modelled is_run prefixes spoken heard.

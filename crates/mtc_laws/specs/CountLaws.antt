@@ -30,10 +30,10 @@ module _ (h : HashFunction) (p : Program) where
       (settings : CosignerSettings) (public file : Text) → start ≡ Cosigner settings public
       → EachRun p (OfHeard h p (cosign name file) (λ before run.
       (signed : HasCosigned h p name file before run)
-      × ((store : Store) (place : ℕ) (known : Known) (proof : ProofParts) (list : List SigParts)
-      → slice_get store.cosigners place ≡ Some known → known.id ≡ settings.id
-      → known.key ≡ public → is_named store.rules place ≡ true → store.log ≡ settings.log
+      × ((store : Store) (index : ℕ) (known : Known) (proof : ProofParts) (list : List SigParts)
+      → slice_get store.cosigners index ≡ Some known → known.id ≡ settings.id
+      → known.key ≡ public → is_named store.rules index ≡ true → store.log ≡ settings.log
       → proof.start ≡ signed.request.start → proof.end ≡ signed.request.end
       → AllByRecursion IsMtcSignature list → proof.signatures ≡ flat_map signature_text list
       → Contains list (signature_of signed.state signed.request)
-      → is_in_set (counted store proof signed.request.hash) place ≡ true))) old events)
+      → is_in_set (counted store proof signed.request.hash) index ≡ true))) old events)

@@ -14,7 +14,7 @@ pub fn items_reason(why: ItemsError) -> Reason
     ensures { reason_text result ≡ items_fault_text why }
 {
     match why {
-        ItemsError::Short(place) => Reason::with_number("Short", place as u64),
+        ItemsError::Short(offset) => Reason::with_number("Short", offset as u64),
         ItemsError::BadItem(number) => Reason::with_number("BadItem", number),
         ItemsError::Memory => Reason::named("Memory"),
     }
@@ -25,7 +25,7 @@ pub fn export_reason(why: ReadExportError) -> Reason
     ensures { reason_text result ≡ export_fault_text why }
 {
     match why {
-        ReadExportError::Short(place) => Reason::with_number("Short", place as u64),
+        ReadExportError::Short(offset) => Reason::with_number("Short", offset as u64),
         ReadExportError::BadKey => Reason::named("BadKey"),
         ReadExportError::BadId => Reason::named("BadId"),
         ReadExportError::BadRecord(number) => Reason::with_number("BadRecord", number),
@@ -38,7 +38,7 @@ pub fn form_reason(why: FormError) -> Reason
     ensures { reason_text result ≡ form_fault_text why }
 {
     match why {
-        FormError::Short(place) => Reason::with_number("Short", place as u64),
+        FormError::Short(offset) => Reason::with_number("Short", offset as u64),
         FormError::HashLength => Reason::named("HashLength"),
         FormError::Trailing => Reason::named("Trailing"),
         FormError::EmptyId => Reason::named("EmptyId"),

@@ -21,16 +21,16 @@ fn der_reason(fault: DerError) -> Reason
     ensures { reason_text result ≡ der_fault_text fault }
 {
     match fault {
-        DerError::Truncated(place) => Reason::with_number("Truncated", place as u64),
-        DerError::LongForm(place) => Reason::with_number("LongForm", place as u64),
-        DerError::HighTag(place) => Reason::with_number("HighTag", place as u64),
-        DerError::WrongTag(place) => Reason::with_number("WrongTag", place as u64),
-        DerError::BadInteger(place) => Reason::with_number("BadInteger", place as u64),
-        DerError::BadBool(place) => Reason::with_number("BadBool", place as u64),
-        DerError::BadOid(place) => Reason::with_number("BadOid", place as u64),
-        DerError::BadBits(place) => Reason::with_number("BadBits", place as u64),
-        DerError::SetOrder(place) => Reason::with_number("SetOrder", place as u64),
-        DerError::Trailing(place) => Reason::with_number("Trailing", place as u64),
+        DerError::Truncated(offset) => Reason::with_number("Truncated", offset as u64),
+        DerError::LongForm(offset) => Reason::with_number("LongForm", offset as u64),
+        DerError::HighTag(offset) => Reason::with_number("HighTag", offset as u64),
+        DerError::WrongTag(offset) => Reason::with_number("WrongTag", offset as u64),
+        DerError::BadInteger(offset) => Reason::with_number("BadInteger", offset as u64),
+        DerError::BadBool(offset) => Reason::with_number("BadBool", offset as u64),
+        DerError::BadOid(offset) => Reason::with_number("BadOid", offset as u64),
+        DerError::BadBits(offset) => Reason::with_number("BadBits", offset as u64),
+        DerError::SetOrder(offset) => Reason::with_number("SetOrder", offset as u64),
+        DerError::Trailing(offset) => Reason::with_number("Trailing", offset as u64),
     }
 }
 
@@ -66,10 +66,10 @@ pub fn proof_reason(fault: ProofError) -> Reason
     ensures { reason_text result ≡ proof_fault_text fault }
 {
     match fault {
-        ProofError::Short(place) => Reason::with_number("Short", place as u64),
+        ProofError::Short(offset) => Reason::with_number("Short", offset as u64),
         ProofError::HashLength => Reason::named("HashLength"),
         ProofError::Trailing => Reason::named("Trailing"),
-        ProofError::EmptyId(place) => Reason::with_number("EmptyId", place as u64),
+        ProofError::EmptyId(offset) => Reason::with_number("EmptyId", offset as u64),
     }
 }
 

@@ -275,9 +275,9 @@ module _ {R S D O E : Type 0} (h : HashFunction) (rooms : Rooms R S D) (disks : 
     (bytes : (d : D) (b : List ℕ) → disks.contents d ≡ Some b → IsBytes b) where
   all_go_on : (event : Event) (before now : CrashStates) → Leads (AreRecords h) event before now
       → AllGoOn h event before now
-  all_go_on event before now leads starts place start first steps out there begins history =
-      step (AreRecords h) (Continues h starts place first steps)
-      (takes h starts place start there first begins steps) out before now event history leads
+  all_go_on event before now leads starts index start first steps out there begins history =
+      step (AreRecords h) (Continues h starts index first steps)
+      (takes h starts index start there first begins steps) out before now event history leads
 
   module _ (old : R) (run : Run R O E) (is_modelled : rooms.is_modelled old)
       (is_run : IsRun h rooms disks outs errs old run) (name : List ℕ) where

@@ -34,10 +34,10 @@ TookSome (Some old) (Some new) = length old < length new
 -- Each history that led to a journal with the crash states before continues to those now, and
 -- releases what the event releases.
 abbrev pub AllGoOn : HashFunction → Event → CrashStates → CrashStates → Type 0
-AllGoOn h event before now = (starts : List PartyStart) (place : ℕ) (start : PartyStart)
-    (first : Text) (steps : List PartyStep) (out : List Text) → slice_get starts place ≡ Some start
-    → StartsWith start first → IsHistory (Continues h starts place first steps) out before
-    → IsHistory (Continues h starts place first steps) (out ++ released_by event) now
+AllGoOn h event before now = (starts : List PartyStart) (index : ℕ) (start : PartyStart)
+    (first : Text) (steps : List PartyStep) (out : List Text) → slice_get starts index ≡ Some start
+    → StartsWith start first → IsHistory (Continues h starts index first steps) out before
+    → IsHistory (Continues h starts index first steps) (out ++ released_by event) now
 
 module _ {R S D O E : Type 0} (h : HashFunction) (rooms : Rooms R S D) (disks : Disks D)
     (outs : Sinks O) (errs : Sinks E) where

@@ -14,13 +14,13 @@ pub fn word_reason(why: WordError) -> Reason
     match why {
         WordError::NoCommand => Reason::named("NoCommand"),
         WordError::UnknownCommand => Reason::named("UnknownCommand"),
-        WordError::BadWord(place) => Reason::with_number("BadWord", place as u64),
+        WordError::BadWord(index) => Reason::with_number("BadWord", index as u64),
         WordError::WrongCount { have, want } => {
             Reason::with_numbers("WrongCount", have as u64, want as u64)
         }
-        WordError::TilesName(place) => Reason::with_number("TilesName", place as u64),
-        WordError::BadNumber(place) => Reason::with_number("BadNumber", place as u64),
-        WordError::BadId(place) => Reason::with_number("BadId", place as u64),
+        WordError::TilesName(index) => Reason::with_number("TilesName", index as u64),
+        WordError::BadNumber(index) => Reason::with_number("BadNumber", index as u64),
+        WordError::BadId(index) => Reason::with_number("BadId", index as u64),
         WordError::Memory => Reason::named("Memory"),
     }
 }

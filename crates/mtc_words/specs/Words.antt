@@ -60,16 +60,16 @@ word ws k = slice_index_or ws k []
 
 -- A number that passes a test; else the argument of this number is a bad one.
 abbrev pub ranged : ℕ → (ℕ → Bool) → Option ℕ → Result ℕ WordError
-ranged place test None = Err (BadNumber place)
-ranged place test (Some n) = if test n then Ok n else Err (BadNumber place)
+ranged index test None = Err (BadNumber index)
+ranged index test (Some n) = if test n then Ok n else Err (BadNumber index)
 
 -- The number that an argument is, where it passes a test.
 abbrev pub number_word : ℕ → (ℕ → Bool) → Text → Result ℕ WordError
-number_word place test w = ranged place test (number_of w)
+number_word index test w = ranged index test (number_of w)
 
 -- The anchor id with this text; else the argument of this number is a bad one.
 abbrev pub id_word : ℕ → Text → Result Text WordError
-id_word place w = blamed (BadId place) (anchor_text w)
+id_word index w = blamed (BadId index) (anchor_text w)
 
 -- The command of this name with its arguments, of which there are as many as it wants.
 abbrev pub command_from : Name → List Text → Result CommandValue WordError

@@ -37,8 +37,8 @@ fn fault(words: &[String], want: usize) -> Option<WordError>
     ensures exact { result ≡ word_fault want (map string_bytes words.now) }
     ensures counted { IfNone result (length words.now ≡ want) }
 {
-    if let Some(place) = first_bad(words) {
-        return Some(WordError::BadWord(place));
+    if let Some(index) = first_bad(words) {
+        return Some(WordError::BadWord(index));
     }
     let have = words.len();
     if have == want {

@@ -33,8 +33,8 @@ const CERTIFICATE: [u8; 231] = [
 // The certificate with other bytes at some offsets.
 fn changed(changes: &[(usize, u8)]) -> [u8; 231] {
     let mut bytes = CERTIFICATE;
-    for (place, byte) in changes {
-        if let Some(old) = bytes.get_mut(*place) {
+    for (offset, byte) in changes {
+        if let Some(old) = bytes.get_mut(*offset) {
             *old = *byte;
         }
     }
@@ -139,46 +139,46 @@ fn an_unknown_critical_extension_is_reported(rt: HostRuntime) {
     assert!(rt; !unknown_critical(b""));
 }
 
-fn end_of_version(place: usize) -> Option<usize> {
-    if place > CERTIFICATE.len() {
+fn end_of_version(offset: usize) -> Option<usize> {
+    if offset > CERTIFICATE.len() {
         return None;
     }
-    check_version(&CERTIFICATE, place).ok()
+    check_version(&CERTIFICATE, offset).ok()
 }
 
-fn end_of_algorithm(place: usize) -> Option<usize> {
-    if place > CERTIFICATE.len() {
+fn end_of_algorithm(offset: usize) -> Option<usize> {
+    if offset > CERTIFICATE.len() {
         return None;
     }
-    check_algorithm(&CERTIFICATE, place).ok()
+    check_algorithm(&CERTIFICATE, offset).ok()
 }
 
-fn end_of_name(place: usize) -> Option<usize> {
-    if place > CERTIFICATE.len() {
+fn end_of_name(offset: usize) -> Option<usize> {
+    if offset > CERTIFICATE.len() {
         return None;
     }
-    check_name(&CERTIFICATE, place).ok()
+    check_name(&CERTIFICATE, offset).ok()
 }
 
-fn end_of_validity(place: usize) -> Option<(Validity, usize)> {
-    if place > CERTIFICATE.len() {
+fn end_of_validity(offset: usize) -> Option<(Validity, usize)> {
+    if offset > CERTIFICATE.len() {
         return None;
     }
-    check_validity(&CERTIFICATE, place).ok()
+    check_validity(&CERTIFICATE, offset).ok()
 }
 
-fn end_of_key(place: usize) -> Option<usize> {
-    if place > CERTIFICATE.len() {
+fn end_of_key(offset: usize) -> Option<usize> {
+    if offset > CERTIFICATE.len() {
         return None;
     }
-    check_spki(&CERTIFICATE, place).ok()
+    check_spki(&CERTIFICATE, offset).ok()
 }
 
-fn end_of_extensions(place: usize) -> Option<usize> {
-    if place > CERTIFICATE.len() {
+fn end_of_extensions(offset: usize) -> Option<usize> {
+    if offset > CERTIFICATE.len() {
         return None;
     }
-    check_extensions(&CERTIFICATE, place).ok()
+    check_extensions(&CERTIFICATE, offset).ok()
 }
 
 fn name_without_attributes() -> Option<CertError> {

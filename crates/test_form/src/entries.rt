@@ -46,9 +46,9 @@ const WEEK: Validity = Validity {
 };
 
 // The entry with another byte at one offset.
-fn changed(place: usize, byte: u8) -> [u8; 131] {
+fn changed(offset: usize, byte: u8) -> [u8; 131] {
     let mut bytes = ENTRY;
-    if let Some(old) = bytes.get_mut(place) {
+    if let Some(old) = bytes.get_mut(offset) {
         *old = byte;
     }
     bytes
@@ -84,13 +84,13 @@ fn the_fields_of_an_entry_are_parts_of_its_bytes(rt: HostRuntime) {
 }
 
 // The fault that is reported of the entry with another byte at one offset.
-fn reported(place: usize, byte: u8) -> Option<EntryError> {
-    fault_of(&changed(place, byte))
+fn reported(offset: usize, byte: u8) -> Option<EntryError> {
+    fault_of(&changed(offset, byte))
 }
 
 // That of the body.
-fn reported_of_body(place: usize, byte: u8) -> Option<CertError> {
-    match reported(place, byte) {
+fn reported_of_body(offset: usize, byte: u8) -> Option<CertError> {
+    match reported(offset, byte) {
         Some(EntryError::Body(fault)) => Some(fault),
         _ => None,
     }

@@ -27,9 +27,9 @@ fn the_name_of_a_log_holds_its_id(rt: HostRuntime) -> Result<(), Fail> {
 }
 
 // The name with another byte at one offset.
-fn changed(place: usize, value: u8) -> [u8; 27] {
+fn changed(offset: usize, value: u8) -> [u8; 27] {
     let mut other = NAME;
-    if let Some(byte) = other.get_mut(place) {
+    if let Some(byte) = other.get_mut(offset) {
         *byte = value;
     }
     other
@@ -38,8 +38,8 @@ fn changed(place: usize, value: u8) -> [u8; 27] {
 // Another attribute, another kind of text, a leading zero, and a letter.
 #[test]
 fn a_changed_name_is_none_of_a_log(rt: HostRuntime) {
-    for (place, value) in [(17, 0x00), (18, 0x13), (20, 0x30), (26, 0x61)] {
-        assert!(rt; id_in(&changed(place, value)) == None, "at {place}");
+    for (offset, value) in [(17, 0x00), (18, 0x13), (20, 0x30), (26, 0x61)] {
+        assert!(rt; id_in(&changed(offset, value)) == None, "at {offset}");
     }
 }
 

@@ -11,11 +11,11 @@ const EIGHT: &[u8] = b"abcdefgh";
 const PIECE: [u8; 8] = *b"WXYZ!?+-";
 
 // Writes after a call for the length.
-fn write(disk: &mut MemDisk, place: u64, bytes: &[u8]) -> Result<(), Failed> {
-    if disk.len()? < place || place > 1000 || bytes.len() > 1000 {
+fn write(disk: &mut MemDisk, offset: u64, bytes: &[u8]) -> Result<(), Failed> {
+    if disk.len()? < offset || offset > 1000 || bytes.len() > 1000 {
         return Err(Failed);
     }
-    disk.write_at(place, bytes)
+    disk.write_at(offset, bytes)
 }
 
 fn sync(disk: &mut MemDisk) -> Result<(), Failed> {

@@ -75,10 +75,10 @@ fn add_pieces(
     last: usize,
 ) -> Result<(), AllocError> {
     for piece in 0..pieces {
-        let place = from.saturating_add(piece.saturating_mul(4096));
+        let offset = from.saturating_add(piece.saturating_mul(4096));
         let size = if piece + 1 == pieces { last } else { 4096 };
-        calls.push(Call::Read(place, size))?;
-        calls.push(Call::Write(place, size))?;
+        calls.push(Call::Read(offset, size))?;
+        calls.push(Call::Write(offset, size))?;
     }
     Ok(())
 }
@@ -111,11 +111,11 @@ fn make<R: Files<File = File>>(
     length: u64,
 ) -> io::Result<Vec<u8>> {
     let mut bytes = vec![in alloc; 0; length as usize]?;
-    for (place, byte) in bytes.iter_mut().enumerate() {
-        *byte = if place < begins.len() {
-            begins[place]
+    for (index, byte) in bytes.iter_mut().enumerate() {
+        *byte = if index < begins.len() {
+            begins[index]
         } else {
-            (place % 251) as u8
+            (index % 251) as u8
         };
     }
     fs::write(files, path, bytes.as_slice())?;

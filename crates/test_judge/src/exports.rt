@@ -150,8 +150,8 @@ fn is_answered(alloc: Global, bytes: &[u8], word: &str) -> bool {
 
 // Puts a byte at its offset, as `OFFSET=BYTE` says.
 fn change(bytes: &mut [u8], word: &str) -> Option<()> {
-    let (place, byte) = word.split_once('=')?;
-    *bytes.get_mut(place.parse::<usize>().ok()?)? = byte.parse::<u8>().ok()?;
+    let (offset, byte) = word.split_once('=')?;
+    *bytes.get_mut(offset.parse::<usize>().ok()?)? = byte.parse::<u8>().ok()?;
     Some(())
 }
 

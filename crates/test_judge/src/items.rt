@@ -11,11 +11,11 @@ fn read(alloc: Global, bytes: &[u8]) -> Result<Items<'_, Toy>, ItemsError> {
 }
 
 // Whether the item at this index is that of the letter.
-fn is_item(items: &Items<'_, Toy>, place: usize, letter: u8) -> bool {
-    if place >= items.len() {
+fn is_item(items: &Items<'_, Toy>, index: usize, letter: u8) -> bool {
+    if index >= items.len() {
         return false;
     }
-    let item = items.item(place);
+    let item = items.item(index);
     item.entry == entry_of(letter) && item.spki == key_of(letter)
 }
 

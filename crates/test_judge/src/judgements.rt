@@ -156,12 +156,12 @@ const CHANGES: &str = "\
 // Puts a byte at its offset, as `OFFSET=BYTE` says, where the word says it.
 fn change(bytes: &mut [u8; 231], word: &str) -> Result<bool, Fail> {
     match word.split_once('=') {
-        Some((place, byte)) => match bytes.get_mut(place.parse::<usize>()?) {
+        Some((offset, byte)) => match bytes.get_mut(offset.parse::<usize>()?) {
             Some(old) => {
                 *old = byte.parse::<u8>()?;
                 Ok(true)
             }
-            None => Err(Fail::from("no place")),
+            None => Err(Fail::from("no offset")),
         },
         None => Ok(false),
     }

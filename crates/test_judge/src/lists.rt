@@ -56,8 +56,8 @@ pub fn entry_of(letter: u8) -> &'static [u8] {
         b'd' => &OTHER_ENTRY,
         b'0' => &[0, 0],
         digit => {
-            let place = usize::from(digit.saturating_sub(b'0'));
-            DIGITS.get(place..place.saturating_add(1)).unwrap_or(&[])
+            let index = usize::from(digit.saturating_sub(b'0'));
+            DIGITS.get(index..index.saturating_add(1)).unwrap_or(&[])
         }
     }
 }

@@ -249,8 +249,8 @@ fn host_names_are_labels_with_dots_between_them(rt: HostRuntime) -> Result<(), F
 // So many bytes, `a` and dots at these offsets alone.
 fn long_name(alloc: Global, size: u64, dots: &[u64]) -> Result<Vec<u8>, Fail> {
     let mut name = Vec::new(alloc);
-    for place in 0..size {
-        name.push(if dots.contains(&place) { b'.' } else { b'a' })?;
+    for index in 0..size {
+        name.push(if dots.contains(&index) { b'.' } else { b'a' })?;
     }
     Ok(name)
 }

@@ -53,8 +53,8 @@ fn a_full_log_takes_no_entry(rt: HostRuntime) -> Result<(), Fail> {
 fn long_key(alloc: Global, size: usize) -> Result<Bytes, Memory> {
     let mut key = Vec::from_slice(alloc, &LONG_KEY)?;
     let (whole, bits) = (size.saturating_sub(4), size.saturating_sub(15));
-    for (place, number) in [(2, whole >> 8), (3, whole), (13, bits >> 8), (14, bits)] {
-        if let Some(byte) = key.get_mut(place) {
+    for (offset, number) in [(2, whole >> 8), (3, whole), (13, bits >> 8), (14, bits)] {
+        if let Some(byte) = key.get_mut(offset) {
             *byte = (number & 255) as u8;
         }
     }

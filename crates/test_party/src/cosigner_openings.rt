@@ -32,10 +32,10 @@ fn held_on(alloc: Global, disk: MemDisk) -> Result<u64, CosignerOpenError> {
 fn held_with(
     alloc: Global,
     journal: &[u8],
-    place: usize,
+    offset: usize,
     byte: u8,
 ) -> Result<Result<u64, CosignerOpenError>, Memory> {
-    let bytes = changed(alloc, journal, place, byte)?;
+    let bytes = changed(alloc, journal, offset, byte)?;
     Ok(held_on(alloc, disk(alloc, bytes.as_slice(), &[])?))
 }
 
@@ -62,10 +62,10 @@ fn a_changed_byte_is_reported(rt: HostRuntime) -> Result<(), Fail> {
         (0, 0x00, Err(CosignerOpenError::Open(OpenError::NotJournal))),
     ];
     let journal = signed(rt.alloc())?.ok_or("the journal")?;
-    for (place, byte, wanted) in changes {
+    for (offset, byte, wanted) in changes {
         assert!(rt;
-            held_with(rt.alloc(), journal.bytes(), place, byte)? == wanted,
-            "byte {place}"
+            held_with(rt.alloc(), journal.bytes(), offset, byte)? == wanted,
+            "byte {offset}"
         );
     }
     Ok(())

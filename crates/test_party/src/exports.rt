@@ -145,7 +145,7 @@ fn an_export_that_is_cut_is_refused_at_its_form(rt: HostRuntime) -> Result<(), F
     ];
     let text = exported(rt.alloc())?.ok_or("the export")?;
     for (count, wanted) in cases {
-        let prefix = text.as_slice().get(..count).ok_or("its front")?;
+        let prefix = text.as_slice().get(..count).ok_or("its prefix")?;
         assert!(rt; steps_of(rt.alloc(), prefix) == wanted, "{count} bytes");
     }
     Ok(())
@@ -155,11 +155,11 @@ fn an_export_that_is_cut_is_refused_at_its_form(rt: HostRuntime) -> Result<(), F
 fn steps_with(
     alloc: Global,
     text: &[u8],
-    place: usize,
+    offset: usize,
     byte: u8,
 ) -> Result<Result<Option<usize>, ReadExportError>, Memory> {
     let mut bytes = Vec::from_slice(alloc, text)?;
-    if let Some(old) = bytes.get_mut(place) {
+    if let Some(old) = bytes.get_mut(offset) {
         *old = byte;
     }
     Ok(steps_of(alloc, &bytes))
@@ -179,9 +179,9 @@ fn each_part_of_an_export_is_tested(rt: HostRuntime) -> Result<(), Fail> {
         (84, 5, ReadExportError::BadRecord(2)),
     ];
     let text = exported(rt.alloc())?.ok_or("the export")?;
-    for (place, byte, wanted) in cases {
-        let read = steps_with(rt.alloc(), text.as_slice(), place, byte)?;
-        assert!(rt; read == Err(wanted), "place {place}");
+    for (offset, byte, wanted) in cases {
+        let read = steps_with(rt.alloc(), text.as_slice(), offset, byte)?;
+        assert!(rt; read == Err(wanted), "offset {offset}");
     }
     Ok(())
 }
@@ -273,7 +273,7 @@ fn after_failure(alloc: Global, call: u64) -> Result<Option<Bytes>, Memory> {
 #[test]
 fn a_failed_append_is_not_exported(rt: HostRuntime) -> Result<(), Fail> {
     let text = exported(rt.alloc())?.ok_or("the export")?;
-    let before = text.as_slice().get(..198).ok_or("its front")?;
+    let before = text.as_slice().get(..198).ok_or("its prefix")?;
     for call in 12..16 {
         let found = after_failure(rt.alloc(), call)?.ok_or("another export")?;
         assert!(rt; found.as_slice() == before, "call {call}");

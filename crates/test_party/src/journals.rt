@@ -210,11 +210,11 @@ pub(crate) fn add_entry(journal: &mut Bytes) -> Result<(), Memory> {
 pub(crate) fn changed(
     alloc: Global,
     bytes: &[u8],
-    place: usize,
+    offset: usize,
     byte: u8,
 ) -> Result<Bytes, Memory> {
     let mut bytes = Vec::from_slice(alloc, bytes)?;
-    if let Some(old) = bytes.get_mut(place) {
+    if let Some(old) = bytes.get_mut(offset) {
         *old = byte;
     }
     Ok(Bytes::from_vec(bytes))
@@ -223,8 +223,8 @@ pub(crate) fn changed(
 /// The entry with the hash of another key.
 pub(crate) fn entry_for(alloc: Global, key: &[u8]) -> Result<Bytes, Memory> {
     let mut entry = Vec::from_slice(alloc, &ENTRY)?;
-    for (place, byte) in key_hash::<Sha>(key).iter().enumerate() {
-        if let Some(old) = entry.get_mut(70 + place) {
+    for (index, byte) in key_hash::<Sha>(key).iter().enumerate() {
+        if let Some(old) = entry.get_mut(70 + index) {
             *old = *byte;
         }
     }

@@ -38,10 +38,10 @@ fn a_changed_byte_is_reported(rt: HostRuntime) -> Result<(), Fail> {
         (40, 0x04, Err(LogOpenError::BadRecord(1))),
         (113, 0x73, Err(LogOpenError::BadRecord(1))),
     ];
-    for (place, byte, wanted) in changes {
+    for (offset, byte, wanted) in changes {
         assert!(rt;
-            size_with(rt.alloc(), (place, byte), 221)? == wanted,
-            "byte {place}"
+            size_with(rt.alloc(), (offset, byte), 221)? == wanted,
+            "byte {offset}"
         );
     }
     Ok(())

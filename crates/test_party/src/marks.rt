@@ -73,10 +73,10 @@ fn landmarks_are_set_and_found_again(rt: HostRuntime) -> Result<(), Fail> {
 }
 
 // What is found where a byte of that journal is another one.
-fn size_with(alloc: Global, place: usize, byte: u8) -> Result<Result<u64, LogOpenError>, Memory> {
+fn size_with(alloc: Global, offset: usize, byte: u8) -> Result<Result<u64, LogOpenError>, Memory> {
     let bytes = with_landmarks(alloc)?;
     let mut bytes = Vec::from_slice(alloc, bytes.as_slice())?;
-    if let Some(old) = bytes.get_mut(place) {
+    if let Some(old) = bytes.get_mut(offset) {
         *old = byte;
     }
     size_of(alloc, bytes.as_slice())
@@ -95,10 +95,10 @@ fn a_changed_landmark_is_reported(rt: HostRuntime) -> Result<(), Fail> {
         (247, 0x03, Err(LogOpenError::BadRecord(3))),
         (234, 0x00, Ok(2)),
     ];
-    for (place, byte, wanted) in changes {
+    for (offset, byte, wanted) in changes {
         assert!(rt;
-            size_with(rt.alloc(), place, byte)? == wanted,
-            "byte {place}"
+            size_with(rt.alloc(), offset, byte)? == wanted,
+            "byte {offset}"
         );
     }
     Ok(())

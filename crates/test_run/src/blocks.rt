@@ -57,10 +57,10 @@ impl Block {
 
     /// Another byte at an offset: `N HEX`.
     pub fn change(&mut self, words: &str) -> Option<bool> {
-        let (place, digits) = parted(words);
-        let place = place.parse::<usize>().ok()?;
+        let (offset, digits) = parted(words);
+        let offset = offset.parse::<usize>().ok()?;
         let new = hex::decode(self.alloc, digits).ok()?;
-        match (self.bytes.get_mut(place), new.as_slice()) {
+        match (self.bytes.get_mut(offset), new.as_slice()) {
             (Some(old), [byte]) => {
                 *old = *byte;
                 Some(true)

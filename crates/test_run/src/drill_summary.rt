@@ -80,8 +80,8 @@ fn store_with(alloc: Global, exports: &[Export]) -> Result<ValidStore, Memory> {
     for export in exports {
         cosigners.push(known(alloc, export)?)?;
     }
-    for place in [0, 1, 2] {
-        indices.push(place)?;
+    for index in [0, 1, 2] {
+        indices.push(index)?;
     }
     rules.push(Rule {
         count: 2,

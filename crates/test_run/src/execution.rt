@@ -117,10 +117,10 @@ fn is_printed(printed: &Printed, text: &Text) -> bool {
 fn is_released(
     alloc: Global,
     state: &PartyState,
-    place: usize,
+    index: usize,
     printed: &Printed,
 ) -> Result<bool, Difference> {
-    let Some(number) = state.released.as_slice().get(place) else {
+    let Some(number) = state.released.as_slice().get(index) else {
         return Ok(false);
     };
     let Some(bodies) = state.durable.as_slice().get(..*number as usize) else {
@@ -297,16 +297,16 @@ impl Execution {
     // What the runs of a party printed are the records that were released.
     fn compare_printed(&self, party: Party) -> Result<(), Difference> {
         let state = self.state(party)?;
-        let mut place = 0usize;
+        let mut index = 0usize;
         for printed in &self.printed {
             if printed.is_of(party) {
-                if !is_released(self.alloc, state, place, printed)? {
+                if !is_released(self.alloc, state, index, printed)? {
                     return Err(Difference::Printed);
                 }
-                place = place.saturating_add(1);
+                index = index.saturating_add(1);
             }
         }
-        if place == state.released.len() {
+        if index == state.released.len() {
             Ok(())
         } else {
             Err(Difference::Printed)

@@ -65,8 +65,8 @@ fn body_after(alloc: Global, head: &[u8], request: &[u8]) -> Result<Bytes, Diffe
 
 // Changes one byte, where one is named.
 fn spoil(bytes: &mut Vec<u8>, spoilt: Option<usize>) {
-    if let Some(place) = spoilt {
-        if let Some(byte) = bytes.get_mut(place) {
+    if let Some(offset) = spoilt {
+        if let Some(byte) = bytes.get_mut(offset) {
             *byte ^= 1;
         }
     }

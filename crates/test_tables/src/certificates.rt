@@ -16,16 +16,16 @@ pub(crate) type Parsed = std::result::Result<Summary, CertError>;
 // A fault of an element, and its offset.
 fn named(fault: DerError) -> (&'static str, usize) {
     match fault {
-        DerError::Truncated(place) => ("Truncated", place),
-        DerError::LongForm(place) => ("LongForm", place),
-        DerError::HighTag(place) => ("HighTag", place),
-        DerError::WrongTag(place) => ("WrongTag", place),
-        DerError::BadInteger(place) => ("BadInteger", place),
-        DerError::BadBool(place) => ("BadBool", place),
-        DerError::BadOid(place) => ("BadOid", place),
-        DerError::BadBits(place) => ("BadBits", place),
-        DerError::SetOrder(place) => ("SetOrder", place),
-        DerError::Trailing(place) => ("Trailing", place),
+        DerError::Truncated(offset) => ("Truncated", offset),
+        DerError::LongForm(offset) => ("LongForm", offset),
+        DerError::HighTag(offset) => ("HighTag", offset),
+        DerError::WrongTag(offset) => ("WrongTag", offset),
+        DerError::BadInteger(offset) => ("BadInteger", offset),
+        DerError::BadBool(offset) => ("BadBool", offset),
+        DerError::BadOid(offset) => ("BadOid", offset),
+        DerError::BadBits(offset) => ("BadBits", offset),
+        DerError::SetOrder(offset) => ("SetOrder", offset),
+        DerError::Trailing(offset) => ("Trailing", offset),
     }
 }
 
@@ -73,8 +73,8 @@ pub(crate) fn parsed(bytes: &[u8]) -> Parsed {
 fn refused(alloc: Global, fault: CertError) -> Result<String> {
     let name = match fault {
         CertError::Der(fault) => {
-            let (name, place) = named(fault);
-            return Ok(format!(in alloc; "{name} {place}")?);
+            let (name, offset) = named(fault);
+            return Ok(format!(in alloc; "{name} {offset}")?);
         }
         CertError::BadVersion => "BadVersion",
         CertError::BadSerial => "BadSerial",

@@ -59,12 +59,12 @@ fn add_runs(
     text: &mut String,
     asked: Asked,
     changed: &mut [u8],
-    place: usize,
+    offset: usize,
 ) -> Result<()> {
     let mut from = 0;
     let mut before = None;
     for value in 0..=255u8 {
-        if let Some(byte) = changed.get_mut(place) {
+        if let Some(byte) = changed.get_mut(offset) {
             *byte = value;
         }
         let next = ask(asked, changed);
@@ -90,10 +90,10 @@ fn add_changes(
     text: &mut String,
     asked: Asked,
     certificate: &[u8],
-    place: usize,
+    offset: usize,
 ) -> Result<()> {
     let mut changed = Vec::from_slice(alloc, certificate)?;
-    add_runs(alloc, text, asked, changed.as_mut_slice(), place)
+    add_runs(alloc, text, asked, changed.as_mut_slice(), offset)
 }
 
 fn add_number(alloc: Global, text: &mut String, number: usize) -> Result<()> {
@@ -108,10 +108,10 @@ fn add_row(
     text: &mut String,
     asked: Asked,
     certificate: &[u8],
-    place: usize,
+    offset: usize,
 ) -> Result<()> {
-    add_number(alloc, text, place)?;
-    add_changes(alloc, text, asked, certificate, place)?;
+    add_number(alloc, text, offset)?;
+    add_changes(alloc, text, asked, certificate, offset)?;
     text.push_str("\n")?;
     Ok(())
 }
@@ -125,8 +125,8 @@ fn line_of(alloc: Global, label: &str, asked: Asked, certificate: &[u8]) -> Resu
 // The lines that answer a certificate.
 fn table(alloc: Global, label: &str, asked: Asked, certificate: &[u8]) -> Result<String> {
     let mut text = line_of(alloc, label, asked, certificate)?;
-    for place in 0..certificate.len() {
-        add_row(alloc, &mut text, asked, certificate, place)?;
+    for offset in 0..certificate.len() {
+        add_row(alloc, &mut text, asked, certificate, offset)?;
     }
     Ok(text)
 }

@@ -39,8 +39,8 @@ fn hash_of(bytes: &[u8]) -> Result<[u8; 32]> {
     Ok(hash)
 }
 
-fn hash_at(alloc: Global, line: &str, place: usize) -> Result<[u8; 32]> {
-    let bytes = bytes_of(alloc, word(line, place)?)?;
+fn hash_at(alloc: Global, line: &str, index: usize) -> Result<[u8; 32]> {
+    let bytes = bytes_of(alloc, word(line, index)?)?;
     hash_of(&bytes)
 }
 

@@ -31,7 +31,7 @@ struct Line<'a> {
 #[derive(Clone, Copy)]
 struct Change<'a> {
     name: &'a str,
-    place: usize,
+    offset: usize,
     value: u8,
 }
 
@@ -69,7 +69,7 @@ fn changed(alloc: Global, name: &str, digits: &str, change: Option<Change<'_>>) 
     let mut bytes = bytes_of(alloc, digits)?;
     match change {
         Some(change) if change.name == name => {
-            if let Some(byte) = bytes.get_mut(change.place) {
+            if let Some(byte) = bytes.get_mut(change.offset) {
                 *byte = change.value;
             }
         }
@@ -270,14 +270,14 @@ fn add_answers(
     text: &mut String,
     line: Line<'_>,
     name: &str,
-    place: usize,
+    offset: usize,
     values: &[u8],
 ) -> Result<()> {
     let mut last = String::new(alloc);
     for value in values {
         let change = Change {
             name,
-            place,
+            offset,
             value: *value,
         };
         let next = answer_to(alloc, line, Some(change))?;
@@ -293,12 +293,12 @@ fn add_row(
     text: &mut String,
     line: Line<'_>,
     name: &str,
-    place: usize,
+    offset: usize,
     values: &[u8],
 ) -> Result<()> {
-    let number = format!(in alloc; "{name} {place}")?;
+    let number = format!(in alloc; "{name} {offset}")?;
     text.push_str(number.as_str())?;
-    add_answers(alloc, text, line, name, place, values)?;
+    add_answers(alloc, text, line, name, offset, values)?;
     text.push_str("\n")?;
     Ok(())
 }
@@ -307,8 +307,8 @@ fn add_row(
 fn rows(alloc: Global, line: Line<'_>, name: &str, values: &str) -> Result<String> {
     let values = bytes_of(alloc, values)?;
     let mut text = String::new(alloc);
-    for place in 0..length_of(line.files, name)? {
-        add_row(alloc, &mut text, line, name, place, values.as_slice())?;
+    for offset in 0..length_of(line.files, name)? {
+        add_row(alloc, &mut text, line, name, offset, values.as_slice())?;
     }
     Ok(text)
 }

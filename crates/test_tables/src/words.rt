@@ -12,11 +12,11 @@ pub(crate) fn bytes_of(alloc: Global, word: &str) -> Result<Vec<u8>> {
 }
 
 /// The word at this index of a line, counted from 0.
-pub(crate) fn word(line: &str, place: usize) -> Result<&str> {
-    line.split(' ').nth(place).context("too few words")
+pub(crate) fn word(line: &str, index: usize) -> Result<&str> {
+    line.split(' ').nth(index).context("too few words")
 }
 
 /// The number at this index of a line.
-pub(crate) fn number(line: &str, place: usize) -> Result<u64> {
-    word(line, place)?.parse().context("no number")
+pub(crate) fn number(line: &str, index: usize) -> Result<u64> {
+    word(line, index)?.parse().context("no number")
 }

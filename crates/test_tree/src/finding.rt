@@ -109,12 +109,12 @@ fn two_lists_with_one_hash_are_the_same_or_collide(rt: HostRuntime) -> Result<()
     let empty = compared(alloc, &[], &[]);
     assert!(rt; is(&empty, None));
     // the leaves differ in their hash, and collide in the node above them
-    let turned = compared(
+    let exchanged = compared(
         alloc,
         &[b"\x01", b"\x02", b"\x03"],
         &[b"\x02", b"\x01", b"\x03"],
     );
-    assert!(rt; is_of_nodes(&turned, (1, 2), (2, 1)));
+    assert!(rt; is_of_nodes(&exchanged, (1, 2), (2, 1)));
     Ok(())
 }
 

@@ -76,8 +76,8 @@ fn length(cache: &Cache<Sha>, level: u32) -> usize {
 }
 
 // Whether the hash at an index of a row is this one.
-fn is_in_row(cache: &Cache<Sha>, level: u32, place: usize, wanted: &[u8; 32]) -> bool {
-    cache.row(level).get(place) == Some(wanted)
+fn is_in_row(cache: &Cache<Sha>, level: u32, index: usize, wanted: &[u8; 32]) -> bool {
+    cache.row(level).get(index) == Some(wanted)
 }
 
 // Whether the rows of seven entries hold the known hashes.

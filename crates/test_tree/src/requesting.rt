@@ -83,11 +83,11 @@ fn a_written_subtree_is_read_again(rt: HostRuntime) -> Result<(), Fail> {
 }
 
 // What reading the first bytes of an advance is refused with, where one of them is changed.
-fn refused(place: usize, value: u8, count: usize) -> Option<FormError> {
+fn refused(offset: usize, value: u8, count: usize) -> Option<FormError> {
     let mut bytes = [0; 90];
     bytes[0] = 4;
     bytes[46] = 32;
-    if let Some(byte) = bytes.get_mut(place) {
+    if let Some(byte) = bytes.get_mut(offset) {
         *byte = value;
     }
     read_advance(bytes.get(..count)?).err()
@@ -109,10 +109,10 @@ fn an_advance_outside_the_form_is_reported_by_its_offset(rt: HostRuntime) {
         (46, 31, 79, Some(FormError::HashLength)),
         (0, 4, 80, Some(FormError::Trailing)),
     ];
-    for (place, value, count, wanted) in cases {
+    for (offset, value, count, wanted) in cases {
         assert!(rt;
-            refused(place, value, count) == wanted,
-            "{value} at {place} of {count}"
+            refused(offset, value, count) == wanted,
+            "{value} at {offset} of {count}"
         );
     }
 }

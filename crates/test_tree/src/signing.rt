@@ -13,9 +13,9 @@ const PROOF: [u8; 65] = [
 ];
 
 // The proof with another byte at one offset.
-fn changed(place: usize, byte: u8) -> [u8; 65] {
+fn changed(offset: usize, byte: u8) -> [u8; 65] {
     let mut bytes = PROOF;
-    if let Some(old) = bytes.get_mut(place) {
+    if let Some(old) = bytes.get_mut(offset) {
         *old = byte;
     }
     bytes
@@ -77,10 +77,10 @@ fn a_changed_byte_is_reported_by_its_offset(rt: HostRuntime) {
         (58, 0x01, ProofError::Short(60)),
         (58, 0x03, ProofError::Short(64)),
     ];
-    for (place, byte, wanted) in faults {
+    for (offset, byte, wanted) in faults {
         assert!(rt;
-            fault(&changed(place, byte)) == Some(wanted),
-            "{byte} at {place}"
+            fault(&changed(offset, byte)) == Some(wanted),
+            "{byte} at {offset}"
         );
     }
 }
@@ -88,9 +88,9 @@ fn a_changed_byte_is_reported_by_its_offset(rt: HostRuntime) {
 #[test]
 fn a_proof_of_another_length_is_refused(rt: HostRuntime) {
     let cuts: [(usize, usize); 6] = [(0, 0), (7, 0), (15, 8), (17, 16), (49, 16), (51, 50)];
-    for (length, place) in cuts {
+    for (length, offset) in cuts {
         assert!(rt;
-            PROOF.get(..length).and_then(fault) == Some(ProofError::Short(place)),
+            PROOF.get(..length).and_then(fault) == Some(ProofError::Short(offset)),
             "{length}"
         );
     }

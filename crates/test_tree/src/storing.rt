@@ -201,8 +201,8 @@ fn lengthen(file: &mut Vec<u8>, count: usize) -> Result<(), Memory> {
     Ok(())
 }
 
-fn turn(file: &mut [u8], place: usize) {
-    if let Some(byte) = file.get_mut(place) {
+fn flip(file: &mut [u8], offset: usize) {
+    if let Some(byte) = file.get_mut(offset) {
         *byte ^= 1;
     }
 }
@@ -214,7 +214,7 @@ fn changed(alloc: Global, bytes: &[u8], change: &str, number: usize) -> Result<M
     match change {
         "cut" => file.truncate(number),
         "longer" => lengthen(&mut file, number)?,
-        _ => turn(file.as_mut_slice(), number),
+        _ => flip(file.as_mut_slice(), number),
     }
     Ok(MemDisk::over(alloc, Bytes::from_vec(file), Vec::new(alloc)))
 }
