@@ -3,7 +3,7 @@
 use crate::fold::ItemFold;
 use mtc_io::Memory;
 
-/// Nothing is kept: the pass gives the number of the items, or the fault of the file.
+/// Nothing is retained: the pass gives the number of the items, or the fault of the file.
 impl ItemFold for () {
     ghost has_taken = { λ _ _. Unit {0} };
 

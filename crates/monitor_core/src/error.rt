@@ -59,6 +59,7 @@ pub enum MonitorError {
 }
 
 // The hexadecimal digits of a hash, as they are displayed.
+#[derive(Drop)]
 struct Digits<'a>(&'a [u8; 32]);
 
 impl<'a> fmt::Display for Digits<'a> {

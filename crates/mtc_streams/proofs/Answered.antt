@@ -10,13 +10,13 @@ use Rattle.mtc_command.specs.Steps.{Outcome, with_bytes}
 use Rattle.mtc_command.proofs.Inputs.{bytes_read}
 use Rattle.mtc_command.proofs.Made.{OnlyNow}
 use Rattle.mtc_command.proofs.Served.{answered}
-use Rattle.mtc_streams.specs.Inputs.{IsInput}
+use Rattle.mtc_streams.specs.Inputs.{IsStreamed}
 
 module _ {R S D : Type 0} (rooms : Rooms R S D) (disks : Disks D) (only_now : OnlyNow disks)
     (files : List Text) (limit : ℕ) (name : Text) (next : Text → Outcome)
     (Holds : Text → Type 0) (old new : R) (back : ClosesAll rooms old new []) where
   pub streamed : (ending : Ending)
-      → IsInput (rooms.is_modelled old) limit (rooms.file old name) Holds
+      → IsStreamed (rooms.is_modelled old) limit (rooms.file old name) Holds
       → ((bytes : Text) → Holds bytes → Replies (next bytes).answer ending)
       → HasAnswered rooms disks files (with_bytes limit name (rooms.file old name) next) old new
       ending

@@ -5,7 +5,7 @@ use Rattle.std.specs.Io.KnownBytes.{Consumes, IsAtEnd}
 use Rattle.byte_formats.specs.Types.{Text}
 use Rattle.entry_stream.specs.Streams.{IsReadWhole}
 use Rattle.mtc_room.specs.Room.{OpensBytes}
-use Rattle.mtc_streams.specs.Inputs.{IsInput}
+use Rattle.mtc_streams.specs.Inputs.{IsStreamed}
 
 all_given : (left left' : Option Text) (bytes : Text) → Consumes left left' bytes → IsAtEnd left'
     → IsSome left → left ≡ Some bytes
@@ -16,7 +16,7 @@ all_given (Some xs) (Some ys) bytes gave spent there =
 
 pub file_read : (Models : Type 0) (file left left' : Option Text) (limit : ℕ)
     (Holds : Text → Type 0) → (Models → OpensBytes file left)
-    → IsReadWhole limit left left' Holds → IsInput Models limit file Holds
+    → IsReadWhole limit left left' Holds → IsStreamed Models limit file Holds
 file_read Models file left left' limit Holds opens read = record {
   bytes = read.bytes;
   is = λ t. let opened = opens t in (

@@ -4,7 +4,7 @@ use Rattle.byte_formats.specs.Types.{Text}
 
 -- These bytes were read, and this holds of them. If the model knows the files, they are those of
 -- the file, and at most so many.
-pub record IsInput (Models : Type 0) (limit : ℕ) (file : Option Text) (Holds : Text → Type 0)
+pub record IsStreamed (Models : Type 0) (limit : ℕ) (file : Option Text) (Holds : Text → Type 0)
     : Type 0 where
   pub bytes : Text
   pub is : Models → (file ≡ Some bytes) × (length bytes ≤ limit)

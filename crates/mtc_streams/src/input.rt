@@ -7,7 +7,7 @@ ghost use Rattle.mtc_command.specs.Answers.{stop_ending};
 ghost use Rattle.mtc_command.specs.Endings.{IsInputStop, IsNamed};
 ghost use Rattle.mtc_command.specs.Served.{ClosesAll, HasDone};
 ghost use Rattle.mtc_command.specs.Steps.{Outcome, with_bytes};
-ghost use Rattle.mtc_streams.specs.Inputs.{IsInput};
+ghost use Rattle.mtc_streams.specs.Inputs.{IsStreamed};
 
 use entry_list::ItemsError;
 use entry_stream::{ItemFold, fold_items};
@@ -30,7 +30,7 @@ pub fn fold_input<'a, H: TreeHash, R: Room, F: ItemFold>(
     requires opened { R.opened room.old < 2 ^ 32 }
     requires none { F.has_taken fold.old empty_list }
     ensures all_closed { ClosesAll R.Room room.old room.new [] }
-    ensures items { IfOk result (λ answer. IsInput (R.is_modelled room.old) limit
+    ensures items { IfOk result (λ answer. IsStreamed (R.is_modelled room.old) limit
         (R.file room.old name.now) (AreItemsOf H.hash (F.has_taken fold.new) answer)) }
     ensures same { F.made_with fold.new ≡ F.made_with fold.old }
     ensures kind { IfErr result (λ stop. IsInputStop name.now (stop_ending stop)) }

@@ -6,7 +6,7 @@
 //! key stand at their index, or two different strings with one hash; or else that the export does
 //! not support the acceptance. [`walk`] does the same for one signature of a cosigner: through the
 //! proofs in its export, from what the cosigner holds at last back to what it held when it signed.
-//! [`wanted_hash`] and [`recorded_at`] are what an audit asks before it looks at any entry: which
+//! [`wanted_hash`] and [`recorded_at`] are what an audit asks before it reads any entry: which
 //! hash the list has to have, and whether the export supports the acceptance.
 #![tactic(auto)]
 

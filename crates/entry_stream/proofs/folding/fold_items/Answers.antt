@@ -138,7 +138,7 @@ each-preserved-in-Ok g c =
       total = inv.total;
       within = inv.within;
       list = items_with inv.list item.entry.now item.spki.now;
-      taken = c.in_ok-take-in-Ok.ensures.taken {u = tt} inv.list inv.taken;
+      taken = c.in_ok-take-in-Ok.ensures.taken inv.list inv.taken;
       many = omega arith;
       reading =
           reading_item g.H.TreeHash.hash inv.read c.each.window item.entry.now item.spki.now
