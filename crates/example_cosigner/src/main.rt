@@ -12,8 +12,8 @@ ghost use Rattle.mtc_library.specs.Cosigning.{cosigner_state, signature_by, sign
 use anyhow::bail;
 use mtc_library::cosigning::{
     AnchorId, Bytes, Cosigner, CosignerSettings, Disk, FileDisk, LmsType, OtsType,
-    ReservedSignature, Secret, Sha, SigBuf, SubtreeRequest, create, new_journal, open_journal,
-    read_advance, read_subtree,
+    ReservedSignature, Secret, Sha, SigBuf, SubtreeRequest, begin_cosigner, new_journal,
+    open_journal, read_advance, read_subtree,
 };
 use std::alloc::Global;
 use std::env;
@@ -30,8 +30,12 @@ fn id_of(alloc: Global, text: &str) -> anyhow::Result<AnchorId> {
     }
 }
 
-// Begins the journal of a new cosigner, and gives its device.
-fn begun(alloc: Global, device: FileDisk, secret: &[u8]) -> anyhow::Result<FileDisk> {
+// The cosigner of a new journal, which begins with the secret.
+fn begun(
+    alloc: Global,
+    device: FileDisk,
+    secret: &[u8],
+) -> anyhow::Result<Cosigner<Sha, FileDisk>> {
     let settings = CosignerSettings {
         id: id_of(alloc, "32473.2")?,
         log: id_of(alloc, "32473.1")?,
@@ -41,23 +45,31 @@ fn begun(alloc: Global, device: FileDisk, secret: &[u8]) -> anyhow::Result<FileD
     let Some(secret) = Secret::from_slice(secret) else {
         bail!("a secret has 48 bytes");
     };
-    match create(alloc, device, &settings, &secret) {
-        Ok(journal) => Ok(journal.into_disk()),
+    match begin_cosigner(alloc, device, &settings, &secret) {
+        Ok(cosigner) => Ok(cosigner),
         Err(refused) => bail!("the journal: {}", refused.why),
     }
 }
 
-// The device of the journal of this name, for this process alone. With a secret the journal is new,
-// and a file of its name is refused: a secret begins one journal, once.
-fn device_of<R: Files<File = File>>(
+// The cosigner that the records of a journal make.
+fn opened(alloc: Global, device: FileDisk) -> anyhow::Result<Cosigner<Sha, FileDisk>> {
+    match Cosigner::open(alloc, device) {
+        Ok(cosigner) => Ok(cosigner),
+        Err(refused) => bail!("the journal: {}", refused.why),
+    }
+}
+
+// The cosigner of the journal of this name, for this process alone. With a secret the journal is
+// new, and a file of its name is refused: a secret begins one journal, once.
+fn cosigner_of<R: Files<File = File>>(
     files: &R,
     alloc: Global,
     journal: &str,
     secret: Option<&[u8]>,
-) -> anyhow::Result<FileDisk> {
+) -> anyhow::Result<Cosigner<Sha, FileDisk>> {
     match secret {
         Some(secret) => begun(alloc, new_journal(files, journal)?, secret),
-        None => Ok(open_journal(files, journal)?),
+        None => opened(alloc, open_journal(files, journal)?),
     }
 }
 
@@ -93,14 +105,6 @@ fn held<D: Disk>(cosigner: &mut Cosigner<Sha, D>, request: &[u8]) -> anyhow::Res
     }
 }
 
-// The device as the cosigner that its records make.
-fn cosigner_of(alloc: Global, device: FileDisk) -> anyhow::Result<Cosigner<Sha, FileDisk>> {
-    match Cosigner::open(alloc, device) {
-        Ok(cosigner) => Ok(cosigner),
-        Err(refused) => bail!("the journal: {}", refused.why),
-    }
-}
-
 // The signature that a request asks for.
 fn signed<D: Disk>(
     alloc: Global,
@@ -123,14 +127,13 @@ fn main(rt: HostRuntime) -> anyhow::Result<()> {
     };
     let larger = fs::read(&rt, larger.as_str())?;
     let subtree = fs::read(&rt, subtree.as_str())?;
-    let device = match secret {
+    let mut cosigner = match secret {
         Some(secret) => {
             let secret = fs::read(&rt, secret.as_str())?;
-            device_of(&rt, alloc, journal.as_str(), Some(secret.as_slice()))?
+            cosigner_of(&rt, alloc, journal.as_str(), Some(secret.as_slice()))?
         }
-        None => device_of(&rt, alloc, journal.as_str(), None)?,
+        None => cosigner_of(&rt, alloc, journal.as_str(), None)?,
     };
-    let mut cosigner = cosigner_of(alloc, device)?;
     println!(rt; "held {}", held(&mut cosigner, larger.as_slice())?)?;
     let text = signed(alloc, &mut cosigner, subtree.as_slice())?;
     println!(rt; "{}", hex::encode(alloc, text.as_slice())?)?;

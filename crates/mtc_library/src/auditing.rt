@@ -1,5 +1,5 @@
 //! An auditor: a certificate that a store accepts is compared with the entries of a log and with
-//! the export of a cosigner.
+//! the export of a cosigner; and the signatures in an export are compared with one another.
 
 pub use crate::accepting::{JudgedCert, accept, read_steps};
 pub use crate::judging::{
@@ -9,5 +9,6 @@ pub use cosigner_core::{Export, ReadExportError, Step, StepList};
 pub use entry_list::{Entries, Item, Items, ItemsError, read_items};
 pub use mtc_io::{Bytes, Memory};
 pub use mtc_proof::Proof;
+pub use quarrel_core::{Quarrel, quarrel};
 pub use tree_core::{Sha, TreeHash};
 pub use world_core::{Audit, audit, walk};
