@@ -1,5 +1,5 @@
 -- The outcomes of `cert J INDEX START END SIGNATURES` and `light-cert J INDEX`.
-use Rattle.std.specs.Prelude.{ℕ, [], codes, slice_index_or, Option, Some, None, Result, Ok}
+use Rattle.std.specs.Prelude.{ℕ, [], slice_index_or, Option, Some, None, Result, Ok}
 use Rattle.std.specs.Prelude.{Err}
 use Rattle.byte_formats.specs.Offsets.{at}
 use Rattle.byte_formats.specs.Readings.{◌>>=◌}
@@ -15,6 +15,7 @@ use Rattle.mtc_proof.specs.declared.fault.ProofError.{ProofError}
 use Rattle.issuance_log.specs.Folds.{LogState, view_in}
 use Rattle.authority_core.specs.Certificates.{cert_refusal, covering_in, light_refusal, parts_with}
 use Rattle.authority_core.specs.Certificates.{proof_for}
+use Rattle.authority_core.specs.Reasons.{write_fault_text}
 use Rattle.authority_core.specs.declared.writing.error.WriteError.{WriteError}
 use Rattle.authority_core.specs.declared.writing.error.WriteError.TheVariants as write_error
 use Rattle.tree_core.specs.declared.spans.Span.{Span}
@@ -22,7 +23,7 @@ use Rattle.mtc_command.specs.declared.answer.Said.TheVariants.{Done}
 use Rattle.mtc_command.specs.declared.answer.Stopped.TheVariants.{Beyond, BadForm}
 use Rattle.mtc_command.specs.Answers.{Reply, Ending, replied, room_failed, no_memory, said}
 use Rattle.mtc_command.specs.Answers.{refused, tiles_name}
-use Rattle.mtc_authority.specs.LogOutcomes.{beyond, not_allowed}
+use Rattle.mtc_authority.specs.LogOutcomes.{not_allowed}
 
 -- What comes of a file that isn't signatures.
 abbrev pub signatures_ending : Text → ProofError → Ending
@@ -34,16 +35,14 @@ signatures_in bytes = checked_signatures (at bytes 0) >>= λ done. Ok bytes
 
 -- Why no certificate is written.
 abbrev pub cert_refused : WriteError → Reply
-cert_refused write_error.NoSuchEntry = not_allowed (codes "NoSuchEntry")
-cert_refused write_error.NullEntry = not_allowed (codes "NullEntry")
-cert_refused write_error.BadSubtree = not_allowed (codes "BadSubtree")
-cert_refused write_error.Outside = not_allowed (codes "Outside")
-cert_refused (write_error.Beyond size) = beyond size
-cert_refused write_error.NotCovered = not_allowed (codes "NotCovered")
-cert_refused write_error.TooManySignatures = refused Beyond None (codes "TooManySignatures")
-cert_refused write_error.JournalFailed = refused Beyond None (codes "Failed")
-cert_refused write_error.TilesFailed = refused Beyond None (codes "Failed")
-cert_refused write_error.Memory = refused Beyond None (codes "Memory")
+cert_refused write_error.TooManySignatures =
+    refused Beyond None (write_fault_text write_error.TooManySignatures)
+cert_refused write_error.JournalFailed =
+    refused Beyond None (write_fault_text write_error.JournalFailed)
+cert_refused write_error.TilesFailed =
+    refused Beyond None (write_fault_text write_error.TilesFailed)
+cert_refused write_error.Memory = refused Beyond None (write_fault_text write_error.Memory)
+cert_refused why = not_allowed (write_fault_text why)
 
 -- What comes of it in a command on this journal: it is reported, unless a device failed or memory
 -- was refused.

@@ -33,7 +33,7 @@ next_line v = landmark_line (length v.marks + 1) v.size
 
 -- Why a log takes no landmark.
 abbrev pub mark_refused : LogError → Reply
-mark_refused log_error.NothingNew = not_allowed (codes "NothingNew")
+mark_refused log_error.NothingNew = not_allowed (log_fault_text log_error.NothingNew)
 mark_refused why = refused Beyond None (log_fault_text why)
 
 -- What comes of it in a command on this journal: the landmark is refused, unless the device failed

@@ -23,7 +23,7 @@ tiled_line size = codes "tiled " ++ (decimal size ++ codes "\n")
 
 -- Why a log stores no tiles.
 abbrev pub tiles_refused : LogError → Reply
-tiles_refused log_error.NothingNew = not_allowed (codes "NothingNew")
+tiles_refused log_error.NothingNew = not_allowed (log_fault_text log_error.NothingNew)
 tiles_refused why = refused Beyond None (log_fault_text why)
 
 -- What comes of it in a command on this journal: they are refused, unless a device failed or memory
