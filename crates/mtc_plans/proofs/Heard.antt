@@ -59,7 +59,7 @@ module _ {k : Kinds} {inputs : List Input} {journals : List (Journal k)} where
       (say : Finds journals → Deed journals) → misreads read reason ≡ works say → ⊥
   misread_works read reason say is = cc
 
-  form_passed : {F E : Type 0} (read : Read inputs) (fault_text : E → List ℕ) (r : Result F E)
+  pub form_passed : {F E : Type 0} (read : Read inputs) (fault_text : E → List ℕ) (r : Result F E)
       (next : F → Step inputs journals) (say : Finds journals → Deed journals)
       → in_form read fault_text r next ≡ works say
       → (form : F) × ((r ≡ Ok form) × (next form ≡ works say))
@@ -68,12 +68,12 @@ module _ {k : Kinds} {inputs : List Input} {journals : List (Journal k)} where
       absurd (misread_works read (fault_text why) say is)
 
   -- the work of a step, or other work
-  abbrev work_in : (Finds journals → Deed journals) → Step inputs journals → Finds journals
+  abbrev pub work_in : (Finds journals → Deed journals) → Step inputs journals → Finds journals
       → Deed journals
   work_in other (misreads read reason) = other
   work_in other (works say) = say
 
-  same_work : (one other : Finds journals → Deed journals) (founds : Finds journals)
+  pub same_work : (one other : Finds journals → Deed journals) (founds : Finds journals)
       (step : Step inputs journals) → step ≡ works one → works other ≡ step
       → other founds ≡ one founds
   same_work one other founds step is so =
@@ -94,7 +94,7 @@ module _ {k : Kinds} {inputs : List Input} {journals : List (Journal k)} where
       (test_passed (nat_lt (length secret.text) 48) secret (codes "Short " ++ decimal 0)
       (if nat_lt 48 (length secret.text) then misreads secret (codes "Trailing") else next) say is)
 
-not_refused : (status : Said) (text : List ℕ) (why : Stopped) (file : Option (List ℕ))
+pub not_refused : (status : Said) (text : List ℕ) (why : Stopped) (file : Option (List ℕ))
     (reason : List ℕ) → said status text ≡ refused why file reason → ⊥
 not_refused status text why file reason is = cc
 
