@@ -13,7 +13,7 @@ use Rattle.world_core.specs.Audit.{wanted_hash}
 use Rattle.world_core.specs.declared.answer.Audit.{Audit}
 use Rattle.world_core.specs.declared.answer.Audit.TheVariants.{Foreign, Pair, Stands, Unrecorded}
 use Rattle.world_core.specs.declared.wanted.WantedHash.{WantedHash}
-use Rattle.audit_stream.specs.declared.summary.Summary.{Summary}
+use Rattle.audit_stream.specs.declared.asking.Summary.{Summary}
 
 -- How many entries a list has, the tree hash of a part of them, and the item at an index.
 pub record SummaryParts : Type 0 where

@@ -7,7 +7,7 @@ ghost use Rattle.mtc_proof.specs.Proofs.{ProofParts};
 ghost use Rattle.world_core.specs.Audit.{is_recorded_by};
 ghost use Rattle.audit_stream.specs.Summaries.{answer_by, foreign_by, own_by, summary_parts};
 
-use crate::summary::Summary;
+use crate::asking::Summary;
 use cert_fields::Cert;
 use cosigner_core::Export;
 use log_entry::entry_of;

@@ -43,7 +43,7 @@ pub fn summing<H: TreeHash>(
 }
 
 /// The summary of the items that were taken.
-pub fn summary<H: TreeHash>(fold: &Both<RangeHash<H>, ItemAt>) -> Summary<'_>
+pub fn summary_of<H: TreeHash>(fold: &Both<RangeHash<H>, ItemAt>) -> Summary<'_>
     ensures { (items : ItemLists) (wanted : Option WantedHash) (index : ℕ)
         → ⟦<Both<RangeHash<H>, ItemAt> as ItemFold>⟧.has_taken fold.now items
         → ⟦<Both<RangeHash<H>, ItemAt> as ItemFold>⟧.made_with fold.now ≡ asked_for wanted index
