@@ -59,6 +59,32 @@ $ root e
 | size 2
 | root 77566825cd25f263271e3fa5341db28ed2c87945ee98f731b2aa96b9e6b11cf6
 
+case the root of a list of many pieces
+file e
+times 2000 00000000
+$ root e
+| size 2000
+| root 174971e1778cd40579eeb7c994a20b03d2c0ef6e168a15a250efd860683be8b0
+
+case the root of entries that are longer than a piece
+file e ffff
+times 65535 00
+ 0000 ffff
+times 65535 00
+ 0000 ffff
+times 65535 00
+ 0000
+$ root e
+| size 3
+| root 00c27f00fec4de87ff11315afcd2ae9e52aea93b8a31f5d069ebb72dc253b3db
+
+case a read that fails after a fault is reported
+file e 00020000000105
+fails 1
+$ root e
+status 5
+! mtc: root: e: Failed
+
 case what is no list of entries has no root
 $ root e
 status 7
@@ -76,7 +102,7 @@ status 2
 #[test]
 fn roots(rt: HostRuntime) {
     let outcome = outcome_after(rt.alloc(), GIVEN, ROOTS);
-    assert!(rt; outcome == Ok(Outcome::Passed(6)), "{outcome:?}");
+    assert!(rt; outcome == Ok(Outcome::Passed(9)), "{outcome:?}");
 }
 
 const HELD: &str = r#"
