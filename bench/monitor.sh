@@ -1,8 +1,9 @@
 #!/bin/bash
 # Runs a monitor that watches 1,000 domains, from the state of no entries: over logs of 1,024 up to 1,048,576 entries, over lists
 # of the shortest items, four bytes each, of which each is reported as unread, and over lists of entries with as many of the
-# shortest names as they can have, each of which is compared with each domain. It prints seconds of the processor, the least of
-# five runs, and the most memory held. Needs python3 and GNU time. Not part of the gate.
+# shortest names as they can have, each of which is compared with each domain. Runs `root` over the same logs and the same
+# shortest items. It prints seconds of the processor, the least of five runs, and the most memory held. Needs python3 and GNU
+# time. Not part of the gate.
 # Usage: bench/monitor.sh [--write] [MOST]   with --write the figures go into bench/monitor/figures.txt. Logs of more than MOST
 # entries are left out, and lists of more than 64 times MOST bytes
 # The variable PROGRAM names another program than that of ./mtc.
@@ -44,6 +45,8 @@ sys.stdout.buffer.write(bytes.fromhex("0481fd5901") + int(size).to_bytes(8, "big
 # Backquotes are meant as such: the page has them.
 # shellcheck disable=SC2016
 { watched='`monitor` of 1,000 domains'; shortest='`monitor`, the shortest items'; names='`monitor` of 1,000 domains, the shortest names'; }
+# shellcheck disable=SC2016
+{ hashed='`root`'; shortest_hashed='`root`, the shortest items'; }
 for count in 1024 10000 100000 1048576; do
     [ "$count" -le "$most" ] || continue
     python3 "$root/bench/log/make_journal.py" "$count" journal
@@ -51,6 +54,8 @@ for count in 1024 10000 100000 1048576; do
     "$program" entries-from journal 0 "$count" >entries
     row "$watched" "$count entries" "$program" monitor state watch request entries
     [ "$(wc -l <found)" = 1 ] || { echo "wrong: $count entries: $(head -n 1 found)"; exit 1; }
+    row "$hashed" "$count entries" "$program" root entries
+    [ "$(head -n 1 found)" = "size $count" ] || { echo "wrong: $count entries: $(cat found)"; exit 1; }
 done
 for size in 1048576 16777216 67108864; do
     [ "$size" -le $((most * 64)) ] || continue
@@ -58,6 +63,8 @@ for size in 1048576 16777216 67108864; do
     request_of entries >request
     row "$shortest" "$size bytes" "$program" monitor state watch request entries
     [ "$(wc -l <found)" = $((size / 4 + 1)) ] || { echo "wrong: $size bytes: $(wc -l <found) lines"; exit 1; }
+    row "$shortest_hashed" "$size bytes" "$program" root entries
+    [ "$(head -n 1 found)" = "size $((size / 4))" ] || { echo "wrong: $size bytes: $(cat found)"; exit 1; }
 done
 for size in 1048576 16777216; do
     [ "$size" -le $((most * 64)) ] || continue
