@@ -88,16 +88,14 @@ fn is_rule(rule: &Rule, known: usize) -> bool
 }
 
 // Each rule is one over so many cosigners.
-#[tactic(auto, using(crate::proofs::Wholes::rules_are))]
 fn are_rules(rules: &[Rule], known: usize) -> bool
-    ensures value { result ≡ list_all (is_rule known) rules.now }
-    ensures rules { result ≡ true → AllByRecursion (IsRule known) rules.now }
+    ensures { result ≡ list_all (is_rule known) rules.now }
 {
     rules.iter().all(|rule| is_rule(rule, known))
 }
 
 // The store has the name of its log, and each rule is one over its cosigners.
-#[tactic(auto, unfolding(crate::specs::Files::valid_store))]
+#[tactic(auto, using(crate::proofs::Wholes::rules_are), unfolding(crate::specs::Files::valid_store))]
 fn check_parts(alloc: Global, store: &Store) -> Result<(), StoreError>
     ensures refused { IfErr result
         (λ why. why ≢ StoreError.Memory → valid_store store.now ≡ Err why) }
