@@ -18,6 +18,8 @@ mod exports;
 #[cfg(test)]
 mod fields;
 #[cfg(test)]
+mod filled;
+#[cfg(test)]
 mod issuing;
 #[cfg(test)]
 mod items;
