@@ -1,6 +1,6 @@
 -- A source that was read to its end gave the bytes of its file.
 use Rattle.std.proofs.Common.{◌≡◌, ℕ, ◌++◌, Option, None, Some, IsSome, sym, ap, subst, ◌∙◌}
-use Rattle.std.proofs.Common.{append-nil}
+use Rattle.std.proofs.Common.{append-nil, rules}
 use Rattle.std.specs.Io.KnownBytes.{Consumes, IsAtEnd}
 use Rattle.byte_formats.specs.Types.{Text}
 use Rattle.entry_stream.specs.Streams.{IsReadWhole}
@@ -9,7 +9,7 @@ use Rattle.mtc_streams.specs.Inputs.{IsStreamed}
 
 all_given : (left left' : Option Text) (bytes : Text) → Consumes left left' bytes → IsAtEnd left'
     → IsSome left → left ≡ Some bytes
-all_given None left' bytes gave spent there = absurd there
+all_given None left' bytes gave spent there = absurd (grind (rules, there))
 all_given (Some xs) None bytes gave spent there = absurd gave
 all_given (Some xs) (Some ys) bytes gave spent there =
     ap (λ (t : Text). Some t) (gave ∙ ap (λ (t : Text). bytes ++ t) spent ∙ append-nil bytes)

@@ -25,6 +25,6 @@ pub returns-in-Err-Memory-clause-stops : goal.returns-in-Err-Memory-clause-stops
 returns-in-Err-Memory-clause-stops g c =
     out_of_memory g.R.Room g.R.Dsk.Disk _ _ _ _ (search rules) g.met.R.Dsk.Disk.only_now
 
-pub returns-in-Ok-clause-items : goal.returns-in-Ok-clause-items
-returns-in-Ok-clause-items g c =
+pub returns-in-Ok-read-clause-items : goal.returns-in-Ok-read-clause-items
+returns-in-Ok-read-clause-items g c =
     file_read _ _ _ _ _ _ c.in-Ok.ensures.bytes c.in-Ok-read.ensures.whole
