@@ -1,5 +1,5 @@
 -- A command that has read one file as a stream answers.
-use Rattle.std.proofs.Common.{◌≡◌, ℕ, List, [], ap, sym}
+use Rattle.std.proofs.Common.{ℕ, List, [], ap, sym}
 use Rattle.byte_formats.specs.Types.{Text}
 use Rattle.disk_core.specs.declared.disk.Disk.{Ghosts as Disks}
 use Rattle.mtc_room.specs.declared.room.Room.{Ghosts as Rooms}
