@@ -2,15 +2,13 @@
 //! an audit requires.
 
 ghost use Rattle.std.specs.Prelude.{◌≡◌, Ok, Err, IfOk, IfErr, IfSome};
-ghost use Rattle.std.specs.List.{list_any};
-ghost use Rattle.std.specs.Str.{bytes_eq};
 ghost use Rattle.byte_formats.specs.Readings.{Answers};
 ghost use Rattle.cert_fields.specs.Certificate.{parts_of};
-ghost use Rattle.cert_fields.specs.Extensions.{dns_names_in};
 ghost use Rattle.cert_fields.specs.Views.{parts};
 ghost use Rattle.cosigner_core.specs.ExportReading.{export_in};
 ghost use Rattle.cosigner_core.specs.declared.error.ReadExportError.TheVariants.{Memory as NoCapacity};
 ghost use Rattle.cosigner_steps.specs.Steps.{AreSteps};
+ghost use Rattle.mtc_library.specs.Hosts.{is_for};
 ghost use Rattle.mtc_proof.specs.Views.{proof_parts};
 ghost use Rattle.policy_core.specs.Judgement.{judgement};
 ghost use Rattle.world_core.specs.Audit.{WasJudged};
@@ -59,8 +57,7 @@ pub fn accept<'a, H: TreeHash>(
 /// Whether the certificate has this dNSName (RFC 5280, section 4.2.1.6), compared byte by byte: a
 /// host is given in lower case, as an authority writes it.
 pub fn is_for(cert: &Cert, host: &[u8]) -> bool
-    ensures { result ≡ list_any (λ name. bytes_eq name host.now)
-        (dns_names_in cert.now.extensions.now) }
+    ensures { result ≡ is_for host.now (parts cert.now) }
 {
     for name in dns_names(cert) {
         if name == host {
