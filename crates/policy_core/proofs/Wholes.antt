@@ -90,12 +90,12 @@ rule_is known r h =
       most = grind (arith, nat_tests, counts.1);
     }
 
-pub rules_are : (known : ℕ) (rs : List Rule) → list_all (is_rule known) rs ≡ true
+pub all_are : (known : ℕ) (rs : List Rule) → list_all (is_rule known) rs ≡ true
     → AllByRecursion (IsRule known) rs
-rules_are known [] h = tt
-rules_are known (r ∷ rs) h =
+all_are known [] h = tt
+all_are known (r ∷ rs) h =
     let (here, more) = and_parts (is_rule known r) (list_all (is_rule known) rs) h in
-    (rule_is known r here, rules_are known rs more)
+    (rule_is known r here, all_are known rs more)
 
 -- ---- a valid store passes each test
 

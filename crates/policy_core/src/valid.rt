@@ -95,7 +95,7 @@ fn are_rules(rules: &[Rule], known: usize) -> bool
 }
 
 // The store has the name of its log, and each rule is one over its cosigners.
-#[tactic(auto, using(crate::proofs::Wholes::rules_are), unfolding(crate::specs::Files::valid_store))]
+#[tactic(auto, using(crate::proofs::Wholes::all_are), unfolding(crate::specs::Files::valid_store))]
 fn check_parts(alloc: Global, store: &Store) -> Result<(), StoreError>
     ensures refused { IfErr result
         (λ why. why ≢ StoreError.Memory → valid_store store.now ≡ Err why) }
