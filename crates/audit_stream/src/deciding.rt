@@ -18,10 +18,7 @@ use tree_core::TreeHash;
 use world_core::{Audit, WantedHash, recorded_at, wanted_hash};
 
 // The hash that is wanted and the one that is there, where the list is too short or they differ.
-fn foreign_by(
-    summary: &Summary<'_>,
-    wanted: Option<WantedHash>,
-) -> Option<([u8; 32], [u8; 32])>
+fn foreign_by(summary: &Summary<'_>, wanted: Option<WantedHash>) -> Option<([u8; 32], [u8; 32])>
     ensures { result ≡ foreign_by (summary_parts summary.now) wanted }
 {
     let wanted = wanted?;

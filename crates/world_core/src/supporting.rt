@@ -63,12 +63,7 @@ fn sign_index(accepted: &Accepted, steps: &[Step]) -> Option<usize>
 /// The index of a Sign of what was accepted, if the export is of the store's log and of a cosigner
 /// that counts.
 #[tactic(auto, unfolding(crate::specs::Audit::is_recorded))]
-pub fn recorded_at(
-    store: &Store,
-    accepted: &Accepted,
-    set: u64,
-    export: &Export,
-) -> Option<usize>
+pub fn recorded_at(store: &Store, accepted: &Accepted, set: u64, export: &Export) -> Option<usize>
     ensures none { MatchOption result (is_recorded store.now accepted.now set export.now ≡ false)
         (λ place. is_recorded store.now accepted.now set export.now ≡ true) }
     ensures there { IfSome result (λ place.

@@ -22,10 +22,7 @@ pub struct WantedHash {
 
 /// What is wanted of a list: by a landmark the accepted hash of the interval; by cosigners that of
 /// all that is held at last by the one of the export.
-pub fn wanted_hash<H: TreeHash>(
-    accepted: &Accepted,
-    kept: Option<&Export>,
-) -> Option<WantedHash>
+pub fn wanted_hash<H: TreeHash>(accepted: &Accepted, kept: Option<&Export>) -> Option<WantedHash>
     ensures { result ≡ wanted_hash H.hash accepted.now (option_map (λ e. e.now) kept.entry)
         accepted.now.by }
 {
