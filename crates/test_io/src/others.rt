@@ -1,12 +1,13 @@
 //! Files that the file system of real files refuses, though they can be opened.
 
-use crate::system::{disk_refusal, fresh_refusal, scratch_refusal};
+use crate::system::{disk_refusal, fresh_refusal, scratch_refusal, tiles_refusal};
 use journal_core::HEADER;
+use mtc_files::open_tiles;
 use mtc_room::RoomError;
 use std::alloc::{AllocError, Global};
 use std::fs::{self, File, Permissions};
 use std::io;
-use std::os::unix::fs::PermissionsExt;
+use std::os::unix::fs::{MetadataExt, PermissionsExt};
 use std::rt::Files;
 use std::test::Fail;
 
@@ -93,6 +94,42 @@ fn tiles_are_never_written_over_a_journal(rt: HostRuntime) -> Result<(), Fail> {
         assert!(rt; is_answered(&rt, line), "{line}");
     }
     assert!(rt; !fs::exists(&rt, "mtc_files_others/nowhere")?);
+    fs::remove_dir_all(&rt, FOLDER)?;
+    Ok(())
+}
+
+// The same by the names of journals, of which each has its file of tiles beside it.
+const BESIDE: &str = "\
+mtc_files_others/hard refused
+mtc_files_others/soft refused
+mtc_files_others/tiled refused
+mtc_files_others/dangling refused
+mtc_files_others/nofolder/log refused
+mtc_files_others/log opened
+mtc_files_others/cosigner opened
+";
+
+// Whether it answers as a line says for a journal's name.
+fn is_answered_beside<R: Files<File = File>>(files: &R, alloc: Global, line: &str) -> bool {
+    match line.split_once(' ') {
+        Some((name, "refused")) => tiles_refusal(alloc, files, name) == FAILED,
+        Some((name, "opened")) => tiles_refusal(alloc, files, name) == None,
+        _ => false,
+    }
+}
+
+// The file of tiles is made beside its journal, for one device at a time.
+#[test]
+fn tiles_stand_beside_their_journal(rt: HostRuntime) -> Result<(), Fail> {
+    make(&rt, rt.alloc())?;
+    for line in BESIDE.lines() {
+        assert!(rt; is_answered_beside(&rt, rt.alloc(), line), "{line}");
+    }
+    let held = open_tiles(rt.alloc(), &rt, "mtc_files_others/log")?;
+    assert!(rt; tiles_refusal(rt.alloc(), &rt, "mtc_files_others/log") == FAILED);
+    drop(held);
+    assert!(rt; tiles_refusal(rt.alloc(), &rt, "mtc_files_others/log") == None);
+    assert!(rt; fs::metadata(&rt, "mtc_files_others/log.tiles")?.mode() & 0o777 == 0o600);
     fs::remove_dir_all(&rt, FOLDER)?;
     Ok(())
 }

@@ -1,7 +1,7 @@
 //! The file system of real files.
 
 use disk_core::{Disk, FileDisk};
-use mtc_files::{FileRoom, Held, new_journal, open_journal};
+use mtc_files::{FileRoom, Held, new_journal, open_journal, open_tiles};
 use mtc_io::{Bytes, Failed, ReadError, Source, read_all};
 use mtc_room::{Cause, Room, RoomError};
 use std::alloc::Global;
@@ -88,6 +88,17 @@ where
     R::File: Held,
 {
     match new_journal(files, name) {
+        Ok(_device) => None,
+        Err(_) => Some(RoomError::Failed),
+    }
+}
+
+// The same of the file of tiles beside a journal.
+pub fn tiles_refusal<R: Files>(alloc: Global, files: &R, journal: &str) -> Option<RoomError>
+where
+    R::File: Held,
+{
+    match open_tiles(alloc, files, journal) {
         Ok(_device) => None,
         Err(_) => Some(RoomError::Failed),
     }
