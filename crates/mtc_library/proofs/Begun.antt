@@ -1,5 +1,5 @@
 -- What is opened over a journal that was just started is the new cosigner, or the new log.
-use Rattle.std.proofs.Common.{◌≡◌, refl, sym, ◌∙◌, ap, subst, tt, false, List, [], ◌∷◌}
+use Rattle.std.proofs.Common.{ℕ, ◌≤◌, ◌≡◌, ◌∙◌, ap, subst, false, List, [], ◌∷◌}
 use Rattle.std.proofs.Common.{Option, Some, None, Ok}
 use Rattle.std.specs.Prelude.{option_map, IfSome}
 use Rattle.byte_formats.specs.Types.{HashFunction, Text}
@@ -46,6 +46,7 @@ stands {D} {g} first disk new journal started reads = record {
   written = reads.contents ∙ started.written;
   all = left_by g first (g.contents disk) (records journal) (disk_of journal) new started.list
       started.all reads.crash;
+  later = subst (λ (n : ℕ). n ≤ g.faults new) started.fine reads.faults;
 }
 
 list_is : {D : Type 0} {g : Ghosts D} (first : Text) (disk new : D) (journal : Journal D g)

@@ -30,6 +30,7 @@ pub record HasNewJournal {D : Type 0} (g : Ghosts D) (first : Text) (old new : D
   pub written : g.contents new
       ≡ option_map (λ _. header ++ record_bytes first) (g.contents old)
   pub all : IfSome (g.contents old) (λ _. AllRepresent g new (first ∷ []))
+  pub later : g.faults old ≤ g.faults new
 
 module _ {H D : Type 0} {hashes : Hashes H} {g : Ghosts D} where
   -- The cosigner that its one record makes, which holds no entries and has signed nothing, over the
