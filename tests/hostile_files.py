@@ -58,8 +58,9 @@ class Run:
             return ended.returncode, out.read(), ended.stderr
 
     def left(self, name):
-        """What a file holds."""
-        return (self.folder / name).read_bytes()
+        """What a file holds; none of no file."""
+        place = self.folder / name
+        return place.read_bytes() if place.exists() else None
 
 
 def limited(most):

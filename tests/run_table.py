@@ -16,7 +16,7 @@ from hostile import rows, single_bytes
 from reference import commands, tables
 
 # Each file of which the bytes are set here.
-SET = ("certificate", "store", "export", "entries", "request")
+SET = ("certificate", "store", "export", "entries", "request", "log")
 
 
 def file_words(files, failing, reported):
@@ -53,12 +53,20 @@ def row_of(label, output, words):
     return rows.Row(label, words[end + 1:], files, failing, int(count), call, reported)
 
 
+def shown(text):
+    """What an output took, by lines; bytes that are no text in hexadecimal."""
+    try:
+        return text.decode().replace("\n", "|")
+    except UnicodeDecodeError:
+        return f"hex:{text.hex()}"
+
+
 def text_of(row):
     """The answer to a run."""
     (status, out, err), *left = rows.answer(row)
-    parts = [sign + text.decode() for sign, text in (("", out), ("! ", err)) if text]
-    return " ".join([str(status), *(part.replace("\n", "|") for part in parts),
-                     *(f"{name}={text.hex()}" for name, text in zip(row.reported, left))])
+    parts = [sign + shown(text) for sign, text in (("", out), ("! ", err)) if text]
+    return " ".join([str(status), *parts,
+                     *(name if text is None else f"{name}={text.hex()}" for name, text in zip(row.reported, left))])
 
 
 def line_of(row, name, place, values):

@@ -1,11 +1,13 @@
 """Files that are cut or longer, and such with other records or items, and what the commands on them have to say."""
 
+from itertools import product
+
 from cosigned_log import vector
 from reference import cosigner, journal
 from reference.cosigner import Sign
 from reference.hss import u32
 
-from .scenes import LARGER, LATER, SPAN, advance, advanced, export, items, log, sign_body, steps
+from .scenes import LARGER, LATER, SPAN, advance, advanced, export, items, log, log_bodies, sign_body, steps
 from .single_bytes import answered, found, scenes
 
 
@@ -48,6 +50,8 @@ def lists():
         yield "export", exported(parts)
     for parts in lists_of([first, *bodies()[:4]]):
         yield "journal", journal.written(parts)
+    for label, parts in product(("log", "issue", "cert"), lists_of(log_bodies())):
+        yield label, journal.written(parts)
     for parts in lists_of([vector(text) + vector(key) for text, key in items()[:4]]):
         yield "entries", b"".join(parts)
     for parts in lists_of([vector(text) for item in items()[:3] for text in item]):

@@ -1,11 +1,13 @@
 """Files that are refused, an output that fails and a file that can't be read: what the commands on them have to say."""
 
+from itertools import product
 from typing import NamedTuple
 
-from reference import commands
+from reference import commands, journal
 
 from .files import LOG, asked
-from .scenes import HELD, NOW, advance_request, advanced, cosigned, entries, export, ruled, trusting
+from .scenes import HELD, NOW, advance_request, advanced, cosigned, entries, export, grown_log, issue_request, new_log, ruled
+from .scenes import trusting
 
 # So many bytes a call an output takes that takes all.
 ALL = 1000
@@ -59,6 +61,20 @@ def requests(text):
             "no-id": bytes(1) + text[5:], "hashes-of-31-bytes": changed(text, {46: 0x1F})}
 
 
+def logs():
+    """Journals of a log: a good one of a new log, others made of it, and the one of a longer log."""
+    text, size = new_log(), len(journal.HEADER)
+    return {"new": text, "a-closed-commit-byte": changed(text, {size: 0x00}),
+            "another-open-commit-byte": changed(text, {size: 0x80}), "no-last-commit-byte": text[:-1],
+            "a-record-that-is-cut": text[:30], "a-record-of-no-bytes": text[:size + 1] + bytes(4) + text[size + 5:],
+            "a-header-that-is-cut": text[:size - 1], "longer": grown_log()}
+
+
+def log_words():
+    """The commands on such a journal, by their names."""
+    return {words.split()[0]: words.split() for words in ("checkpoint j", "issue j r", "cert j 1 0 2 e")}
+
+
 def rows():
     """Each row with its label."""
     cert, files = asked()["small"], {"c": asked()["small"], "store": trusting()}
@@ -74,6 +90,9 @@ def rows():
     asked_for = {"s": advanced(), "r": advance_request()}
     for label, text in requests(asked_for["r"]).items():
         yield Row(f"request:{label}", ["advance", "s", "r"], {**asked_for, "r": text}, reported=("s",))
+    for (name, words), (label, text) in product(log_words().items(), logs().items()):
+        given = {"j": text, "r": issue_request(), "e": b""}
+        yield Row(f"{name}:{label}", words, {file: given[file] for file in words if file in given}, reported=("j", "j.tiles"))
     yield Row("show:good", ["show", "c"], files)
     yield Row("show:the-output-fails", ["show", "c"], files, takes=1, call=7)
     yield Row("verify:the-store-fails", verify_words(), files, failing="store")
@@ -89,7 +108,7 @@ def answer(row):
     taken = len(found[1]) if row.call is None else row.takes * row.call
     if taken < len(found[1]):
         found = 6, found[1][:taken], f"mtc: {name}: OutputFailed\n".encode()
-    return [found, *(files[file] for file in row.reported)]
+    return [found, *map(files.get, row.reported)]
 
 
 def tables():

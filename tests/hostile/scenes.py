@@ -1,11 +1,12 @@
 """Files that belong together: a log of a few entries, a certificate of it, stores, an export, and a cosigner's journal."""
 
+import base64
 from functools import cache
 from hashlib import sha384
 
 from cosigned_log import vector
 from hss_vectors import Tree
-from reference import certificate, cosigner, entry, journal, merkle, request, store
+from reference import certificate, cosigner, entry, journal, log as log_records, merkle, request, store
 from reference.cosigner import Advance, Sign
 from reference.hss import u32
 
@@ -121,3 +122,32 @@ def advanced():
 def advance_request():
     """The request to hold more of the log."""
     return short(store.anchor_id(LOG)) + cosigner.advance_body(advance(LARGER, HELD))[1:]
+
+
+def log_settings():
+    """The body of the first record of a log's journal, as in docs/FORMATS.md, "A journal byte by byte"."""
+    return log_records.log_body(store.anchor_id(LOG), 2, 64)
+
+
+def new_log():
+    """The journal of a new log."""
+    return journal.written([log_settings()])
+
+
+@cache
+def log_bodies():
+    """The records of a longer log: two entries, the first of which is that of the certificate `small`, and two landmarks."""
+    entries = [log_records.entry_body(*item) for item in items()[1:3]]
+    return [log_settings(), entries[0], log_records.landmark_body(2), entries[1], log_records.landmark_body(3)]
+
+
+def grown_log():
+    """The journal of that log."""
+    return journal.written(log_bodies())
+
+
+def issue_request():
+    """The request file of docs/FORMATS.md."""
+    key = base64.b64encode(KEY_HEAD + bytes(32)).decode()
+    dates = {"not_before": "2026-01-01T00:00:00Z", "not_after": "2026-01-08T00:00:00Z"}
+    return text_of({**dates, "dns": ["a.example"], "key": key})

@@ -7,8 +7,8 @@ from itertools import product
 from reference import commands
 
 from .files import asked
-from .rows import audit_words, changed, verify_words
-from .scenes import LARGER, advance_request, advanced, cosigned, entries, export, ruled, trusting
+from .rows import audit_words, changed, log_words, verify_words
+from .scenes import LARGER, advance_request, advanced, cosigned, entries, export, grown_log, issue_request, ruled, trusting
 
 # Sixteen values of a byte of DER and of other bytes, and of TOML: small numbers, lengths and tags, signs and digits.
 BYTES = bytes.fromhex("00 01 02 03 04 12 13 1f 20 30 31 40 7f 80 81 ff")
@@ -20,7 +20,8 @@ EACH = bytes(range(256))
 def scenes():
     """The words and the files of a run, with the file of which the bytes are set and their values, by its label."""
     small = {"c": asked()["small"], "store": trusting()}
-    ruled_by = {"c": cosigned(), "store": ruled()}
+    ruled_by, held = {"c": cosigned(), "store": ruled()}, {"j": grown_log()}
+    words = log_words()
     return {
         "certificate": (verify_words(), small, "c", BYTES),
         "store": (verify_words(), ruled_by, "store", SIGNS),
@@ -28,20 +29,27 @@ def scenes():
         "entries": (audit_words(), {**small, "e": entries(2), "x": b""}, "e", BYTES),
         "journal": (["advance", "s", "r"], {"s": advanced(), "r": advance_request()}, "s", BYTES),
         "request": (["advance", "s", "r"], {"s": advanced(), "r": advance_request()}, "r", BYTES),
+        "log": (words["checkpoint"], held, "j", BYTES),
+        "issue": (words["issue"], {**held, "r": issue_request()}, "j", BYTES),
+        "cert": (words["cert"], {**held, "e": b""}, "j", BYTES),
     }
 
 
+# What is compared of what a command leaves: the journal of a cosigner, that of a log and the file of its tiles.
+LEFT = ("s", "j", "j.tiles")
+
+
 def answered(label, text):
-    """What the readers say where the file that is tried is this one, and the journal that is to be left."""
+    """What the readers say where the file that is tried is this one, and the files that are to be left."""
     words, files, name, _ = scenes()[label]
     left = {**files, name: text}
-    return [commands.answer(words, left), *([left["s"]] if "s" in left else [])]
+    return [commands.answer(words, left), *map(left.get, LEFT)]
 
 
 def found(run, label, text):
-    """What the program says, and the journal that it leaves."""
+    """What the program says, and what it leaves."""
     words, files, name, _ = scenes()[label]
-    return [run({**files, name: text}, words), *([run.left("s")] if "s" in files else [])]
+    return [run({**files, name: text}, words), *map(run.left, LEFT)]
 
 
 def cases(label):
@@ -94,4 +102,9 @@ def requests():
     return cases("request")
 
 
-KINDS = [(kind, wanted, said) for kind in (certificates, stores, exports, entries_files, requests, journals)]
+def logs():
+    """the same of the journal of a log, with the files that are left"""
+    return cases("log")
+
+
+KINDS = [(kind, wanted, said) for kind in (certificates, stores, exports, entries_files, requests, journals, logs)]

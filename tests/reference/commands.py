@@ -5,7 +5,7 @@ Words name files by their bytes in `files`, of which those that are written are 
 
 from datetime import UTC, datetime
 
-from . import auditing, certificate, cosigner, entry, journal, judging, proof, store
+from . import auditing, certificate, cosigner, entry, journal, judging, log, merkle, proof, request, store
 from .fault import Fault
 
 EMPTY_NAME, PRINTED = b"\x30\0", range(0x21, 0x7F)
@@ -93,9 +93,64 @@ def advance(words, files):
     return lines(f"advanced {asked.size}")
 
 
+def opened_log(words, files):
+    """The log of the journal that is named first; beside a journal the file of its tiles is made, if it isn't there."""
+    if files[words[1]].startswith(journal.HEADER):
+        files.setdefault(f"{words[1]}.tiles", b"")
+    held = checked(words, words[1], 2, log.opened, files[words[1]])
+    assert held.tiled == 0, "tiles are not compared here"
+    return held
+
+
+def checkpoint(words, files):
+    held = opened_log(words, files)
+    tree = merkle.List([text for text, _ in held.items])
+    return lines(f"size {held.size}", f"root {tree.hash(0, held.size).hex()}")
+
+
+def issue(words, files):
+    _, name, file = words
+    asked = checked(words, file, 2, request.read, files[file])
+    held = opened_log(words, files)
+    if held.size == held.limit:
+        raise Refused(9, b"", b"mtc: issue: Full\n")
+    text = request.entry(asked, store.id_text(held.id))
+    files[name] = journal.appended(files[name], log.entry_body(text, asked.key))
+    return lines(f"issued {held.size}")
+
+
+def asked_subtree(held, index, start, end):
+    """That a certificate can be had of an entry, in this subtree."""
+    if index >= held.size:
+        raise Fault("NoSuchEntry")
+    if index == 0:
+        raise Fault("NullEntry")
+    if not merkle.is_subtree(start, end):
+        raise Fault("BadSubtree")
+    if not start <= index < end:
+        raise Fault("Outside")
+    if end > held.size:
+        raise Fault("Beyond", held.size)
+
+
+def cert(words, files):
+    *_, file = words
+    checked(words, file, 2, proof.signatures_in, proof.Cursor(files[file], 0, len(files[file])))
+    held = opened_log(words, files)
+    index, start, end = map(int, words[2:5])
+    checked(words, None, 4, asked_subtree, held, index, start, end)
+    path = merkle.List([text for text, _ in held.items]).path(index, start, end)
+    written = proof.written(start, end, path, files[file])
+    return entry.certificate_of(index, *held.items[index], judging.MTC_PROOF, written)
+
+
+COMMANDS = {"show": show, "verify": verify, "audit": audit, "advance": advance, "checkpoint": checkpoint, "issue": issue,
+            "cert": cert}
+
+
 def answer(words, files):
     """The status and the two texts of a command."""
     try:
-        return 0, {"show": show, "verify": verify, "audit": audit, "advance": advance}[words[0]](words, files), b""
+        return 0, COMMANDS[words[0]](words, files), b""
     except Refused as refused:
         return refused.args

@@ -3,7 +3,7 @@
 import hashlib
 
 from . import certificate
-from .der import OCTET_STRING, Fields
+from .der import BIT_STRING, INTEGER, OCTET_STRING, SEQUENCE, Fields, encoded
 from .fault import Fault
 from .proof import HASH, Cursor
 
@@ -12,6 +12,16 @@ def of_certificate(read):
     """The entry from which a certificate was made."""
     key_hash = b"\x04\x20" + hashlib.sha256(read.key).digest()
     return b"\0\1" + read.version + read.issuer + read.validity + read.subject + key_hash + read.extensions
+
+
+def certificate_of(index, text, key, algorithm, proof):
+    """The certificate of an entry with this index and key, by docs/FORMATS.md, "Certificates"."""
+    fields = Fields(text, 2, len(text))
+    version, *prefix = (fields.next().whole for _ in range(4))
+    fields.next(OCTET_STRING)
+    serial = encoded(INTEGER, index.to_bytes(index.bit_length() // 8 + 1, "big"))
+    body = encoded(SEQUENCE, b"".join([version, serial, algorithm, *prefix, key, text[fields.place:]]))
+    return encoded(SEQUENCE, body + algorithm + encoded(BIT_STRING, b"\0" + proof))
 
 
 def fields_of(text):

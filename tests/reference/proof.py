@@ -69,6 +69,13 @@ def read(text):
     return Proof(start, end, path, signatures)
 
 
+def written(start, end, path, signatures):
+    """The bytes of a proof."""
+    hashes = b"".join(path)
+    lengths = [len(part).to_bytes(2, "big") for part in (hashes, signatures)]
+    return start.to_bytes(8, "big") + end.to_bytes(8, "big") + lengths[0] + hashes + lengths[1] + signatures
+
+
 def signed_bytes(cosigner, log, start, end, node):
     """What a cosigner signs for a subtree of a log."""
     ids = bytes([len(cosigner)]) + cosigner + bytes([len(log)]) + log

@@ -1,0 +1,91 @@
+"""The records of a log's journal, by docs/FORMATS.md, "The journal of a log": its entries, or the first record that breaks the
+rules."""
+
+from typing import NamedTuple
+
+from . import entry, journal
+from .cosigner import close, id_at
+from .fault import Fault
+from .proof import Cursor
+
+LOG, ENTRY, LANDMARK, TILES = 1, 2, 3, 4
+MOST_ACTIVE, MOST_ENTRIES, TILE = 10_000, 1 << 20, 256
+NULL = bytes(2)
+
+
+class State(NamedTuple):
+    """The id of a log, the limit of its entries, these with their keys, and the last sizes of a landmark and of its tiles."""
+
+    id: bytes
+    limit: int
+    items: list
+    marked: int
+    tiled: int
+
+    @property
+    def size(self):
+        return len(self.items)
+
+
+def started(cursor):
+    """The log of a first record."""
+    if cursor.number(1) != LOG:
+        raise Fault("WrongTag")
+    id, active, limit = id_at(cursor), cursor.number(4), cursor.number(4)
+    if not 1 <= active <= MOST_ACTIVE or not 2 <= limit <= MOST_ENTRIES:
+        raise Fault("BadSettings")
+    return State(id, limit, [(NULL, b"")], 0, 0)
+
+
+def following(state, cursor):
+    """The log after a later record."""
+    tag = cursor.number(1)
+    if tag == ENTRY:
+        text, key = cursor.vector(2), cursor.vector(2)
+        fits = state.size < state.limit and entry.key_hash_in(text) is not None and entry.fits(text, key)
+        after = state._replace(items=[*state.items, (text, key)])
+    elif tag in (LANDMARK, TILES):
+        size = cursor.number(8)
+        is_next = size == state.size > state.marked, size % TILE == 0 and state.tiled < size <= state.size
+        fits = is_next[tag - LANDMARK]
+        after = state._replace(marked=size) if tag == LANDMARK else state._replace(tiled=size)
+    else:
+        fits = False
+    if not fits:
+        raise Fault("BreaksTheRules")
+    return after
+
+
+def opened(text):
+    """The log of a journal."""
+    state, count = None, 0
+    for body in journal.bodies(text):
+        cursor = Cursor(body, 0, len(body))
+        try:
+            state = started(cursor) if state is None else following(state, cursor)
+            close(cursor)
+        except Fault:
+            raise Fault("BadRecord", count) from None
+        count += 1
+    if state is None:
+        raise Fault("BadRecord", 0)
+    return state
+
+
+def short(text):
+    return bytes([len(text)]) + text
+
+
+def log_body(id, active, limit):
+    """The body of the first record."""
+    return bytes([LOG]) + short(id) + active.to_bytes(4, "big") + limit.to_bytes(4, "big")
+
+
+def entry_body(text, key):
+    """The body of the record of an entry."""
+    return bytes([ENTRY]) + b"".join(len(part).to_bytes(2, "big") + part for part in (text, key))
+
+
+def landmark_body(size):
+    """The body of the record of a landmark."""
+    return bytes([LANDMARK]) + size.to_bytes(8, "big")
