@@ -6,17 +6,23 @@ library refuses one of its allocations. Some of these are its own: they read the
 them is refused no answer comes. All others are those of the command and of what it works on. The command then ends with
 status 8; or as if nothing had been refused; or, only where a file or an output found no memory, with status 5 or 6, or
 with a line that is cut. Its journals then have their records from before, or these and the one of the command. Of a drill,
-which makes many, one allocation in so many is refused. Needs a C compiler and both built programs. It is no part of the
-gate, and takes half a minute.
-Usage: tests/refused_growth.py [COMMAND ..]     as tests/allocations.py has them; all where none is given
+which makes many, one allocation in so many is refused.
+
+The gate takes a sample: of each command one allocation in EACH, and of a drill one in as many as ever. The day says which:
+that whose number leaves the rest DAY when it is divided. DAY is the number of the day since 1970 in UTC, if none is given,
+so each allocation is refused in the gates of EACH days, one after the other. The last line says the day, by which a
+sample can be taken again. Needs a C compiler and both built programs. All of it takes half a minute, a sample less.
+Usage: tests/refused_growth.py [--sample] [--day DAY] [COMMAND ..]   commands of tests/allocations.py; all where none is given
 """
 
+import argparse
 import os
 import re
 import shutil
 import subprocess
 import sys
 import tempfile
+import time
 from collections import Counter
 from functools import partial
 from multiprocessing import Pool
@@ -31,6 +37,9 @@ PROGRAM, TABLES = ROOT / "crates/mtc_main/out/mtc_main", ROOT / "crates/test_tab
 # The commands that make a journal.
 MAKING = ("init-log", "init-cosigner")
 OWN, CUT = "of the tables", "with a line that is cut"
+# A sample has one allocation in so many.
+EACH = 4
+A_DAY = 24 * 60 * 60
 
 
 class Ended(NamedTuple):
@@ -126,12 +135,20 @@ def kind_of(wanted, found):
     return "as ever" if found[:3] == wanted[:3] else f"of status {found.status}"
 
 
-def tried(library, files, words):
+def numbers(words, day):
+    """The number of the first allocation that is refused, and how far the next ones are apart; of a sample if there is a day."""
+    step = STEPS.get(words, 1)
+    if day is None:
+        return step, step
+    step = max(step, EACH)
+    return day % step or step, step
+
+
+def tried(library, files, day, words):
     """The endings of a command by their kinds, and what is wrong where one of its allocations was refused."""
-    run, number, step = run_of(words, files), 0, STEPS.get(words, 1)
+    run, (number, step) = run_of(words, files), numbers(words, day)
     wanted, counts, wrong = refused(library, run, 0)[1], Counter(), []
     while True:
-        number += step
         came, found = refused(library, run, number)
         if not came:
             break
@@ -139,16 +156,30 @@ def tried(library, files, words):
         counts[kind_of(wanted, None if isinstance(found, str) else found)] += 1
         if fault:
             wrong.append(f"{words}: allocation {number}: {fault}: {str(found)[:500]}")
+        number += step
     # The tables keep the line, and each command, or what it writes to, takes memory.
-    if step == 1 and not counts[OWN] or counts[OWN] == sum(counts.values()) or found != wanted:
+    is_strange = step == 1 and not counts[OWN] or day is None and counts[OWN] == sum(counts.values())
+    if is_strange or found != wanted:
         wrong.append(f"{words}: {number} allocations: {dict(counts)}")
     return counts, wrong
 
 
-def main(commands):
+def arguments():
+    """The commands that are tried, and the day of the sample; none where all allocations are refused."""
+    parser = argparse.ArgumentParser()
+    parser.add_argument("--sample", action="store_true")
+    parser.add_argument("--day", type=int)
+    parser.add_argument("commands", nargs="*")
+    given = parser.parse_args()
+    today = int(time.time()) // A_DAY if given.sample else None
+    return given.commands, today if given.day is None else given.day
+
+
+def main():
     if not shutil.which("cc"):
         print("left out: refused growth: there is no C compiler (cc)")
         return 0
+    commands, day = arguments()
     folder = Folder(PROGRAM)
     os.umask(0o077)
     make_files(folder)
@@ -158,15 +189,16 @@ def main(commands):
         library = Path(made, "refuse.so")
         subprocess.run(["cc", "-O1", "-shared", "-fPIC", "-fno-builtin", "-o", library, ROOT / "tests/allocations/refuse.c"],
                        check=True)
-        for count, faults in pool.imap_unordered(partial(tried, library, files), commands or COMMANDS):
+        for count, faults in pool.imap_unordered(partial(tried, library, files, day), commands or COMMANDS):
             counts, wrong = counts + count, wrong + faults
     if not commands and not all(counts[f"of status {status}"] for status in (5, 6, 8)):
         wrong.append("an ending never came")
+    sample = "" if day is None else f", the sample of day {day}"
     reported = ", ".join(f"{count} {kind}" for kind, count in sorted(counts.items()))
     print(*wrong[:20], f"{'wrong' if wrong else 'ok'}: {sum(counts.values())} allocations of {len(commands or COMMANDS)} commands "
-          f"over memory were refused in turn: {reported}", sep="\n")
+          f"over memory were refused in turn{sample}: {reported}", sep="\n")
     return int(bool(wrong))
 
 
 if __name__ == "__main__":
-    sys.exit(main(sys.argv[1:]))
+    sys.exit(main())
