@@ -6,6 +6,7 @@
 //! run WORD ..     the command, which adds one record to its journal
 //! device NAME     the file whose device stops
 //! journal NAME    the command's journal
+//! limit N         how many entries its log may have, if it is that of a log and not new
 //! tiled BYTES     the journal when the tiles were stored that it has at first
 //! old BYTES       its header and its records at first, without the commit byte that closes it
 //! record BYTES    the record, with its commit byte
@@ -44,6 +45,7 @@ pub const ISSUE: &str = "
 run issue j r
 device j
 journal j
+limit 64
 old HEADER LOG
 record ENTRY
 ask checkpoint j
@@ -59,6 +61,7 @@ pub const LANDMARK: &str = "
 run landmark j
 device j
 journal j
+limit 64
 old HEADER LOG ENTRY
 record 0100000009030000000000000002
 ask landmarks j
@@ -77,6 +80,7 @@ run tile j
 device j
 journal j
 tiled HEADER LONG 255*ENTRY
+limit 1024
 old HEADER LONG 255*ENTRY TILED_256 256*ENTRY
 record TILED_512
 ask checkpoint j
@@ -93,6 +97,7 @@ run tile j
 device j
 journal j
 tiled HEADER LONG 255*ENTRY
+limit 1024
 old HEADER LONG 255*ENTRY TILED_256 256*ENTRY
 record TILED_512
 ask checkpoint j
@@ -111,6 +116,7 @@ run tile j
 device j.tiles
 journal j
 tiled HEADER LONG 255*ENTRY
+limit 1024
 old HEADER LONG 255*ENTRY TILED_256 256*ENTRY
 record TILED_512
 ask checkpoint j

@@ -1,5 +1,6 @@
 //! Commands whose device stops at each of its calls, over a file system in memory: what a crash may
-//! leave of the files is opened again, and has the old records or the new ones.
+//! leave of the files is opened again, and has the old records or the new ones, as the history of
+//! their party has them.
 #![tactic(auto)]
 
 #[cfg(test)]
@@ -8,5 +9,7 @@ mod cases;
 mod coded;
 #[cfg(test)]
 mod files;
+#[cfg(test)]
+mod model;
 #[cfg(test)]
 mod stops;

@@ -5,6 +5,7 @@ use crate::cases::{
 };
 use crate::coded::{coded, field, lines, numbers};
 use crate::files::{Answer, CrashState, Files, Stopped};
+use crate::model::Model;
 use std::alloc::Global;
 
 const REQUEST: &str = "not_before = \"2026-01-01T00:00:00Z\"
@@ -44,21 +45,46 @@ fn wanted_by(alloc: Global, case: &str, bytes: &str, text: &str, line: &str) -> 
     Some(Wanted { out, report })
 }
 
+// The journal with these records.
+fn journal_of(alloc: Global, case: &str, key: &str) -> Option<Vec<u8>> {
+    let mut bytes = coded(alloc, field(case, key))?;
+    bytes.push(0).ok()?;
+    Some(bytes)
+}
+
 // The lists of records that are allowed, as the bytes of a journal without its last commit byte and
-// the record that may follow them; and what the command answers that opens the one and the other.
+// the record that may follow them; the party whose they are, if the journal is not new; and what
+// the command answers that opens the one and the other.
 #[derive(Drop)]
 struct Allowed {
     old: Vec<u8>,
     record: Vec<u8>,
+    model: Option<Model>,
     before: Wanted,
     after: Wanted,
 }
 
+// The party of a case whose command adds a record to those of its journal. The body of the record
+// follows a commit byte and four bytes of length.
+fn model_of(alloc: Global, case: &str, record: &[u8]) -> Option<Model> {
+    let journal = journal_of(alloc, case, "old")?;
+    let (_, body) = record.split_at_checked(5)?;
+    Model::of(alloc, case, journal.as_slice(), body)
+}
+
 fn allowed_by(alloc: Global, case: &str) -> Option<Allowed> {
+    let record = coded(alloc, field(case, "record"))?;
+    let before = wanted_by(alloc, case, "before", "before|", "before!")?;
+    let model = if before.is_empty() {
+        None
+    } else {
+        Some(model_of(alloc, case, record.as_slice())?)
+    };
     Some(Allowed {
         old: coded(alloc, field(case, "old"))?,
-        record: coded(alloc, field(case, "record"))?,
-        before: wanted_by(alloc, case, "before", "before|", "before!")?,
+        record,
+        model,
+        before,
         after: wanted_by(alloc, case, "after", "after|", "after!")?,
     })
 }
@@ -89,6 +115,14 @@ impl Allowed {
         }
     }
 
+    // Whether the history of the party says the same of the records of a file.
+    fn is_of_history(&self, alloc: Global, crash_state: &[u8]) -> bool {
+        match &self.model {
+            Some(model) => model.keeps(alloc, crash_state) == self.keeps(crash_state),
+            None => true,
+        }
+    }
+
     // Whether the command that opens the file answers as its records want it. A file that is no
     // journal with a record yet is refused.
     fn answers(&self, keeps: Option<bool>, answer: &Answer) -> bool {
@@ -115,11 +149,12 @@ fn with_inputs(alloc: Global) -> Option<Files> {
     Some(files)
 }
 
-// A journal with these records.
+// Places a journal with these records.
 fn place_journal(alloc: Global, files: &mut Files, case: &str, key: &str) -> Option<()> {
-    let mut bytes = coded(alloc, field(case, key))?;
-    bytes.push(0).ok()?;
-    files.place(field(case, "journal"), bytes.as_slice())
+    files.place(
+        field(case, "journal"),
+        journal_of(alloc, case, key)?.as_slice(),
+    )
 }
 
 // Stores the tiles of an earlier journal.
@@ -210,6 +245,9 @@ fn count(alloc: Global, case: &str, allowed: &Allowed, files: &mut Files) -> Opt
     for state in journals.iter() {
         let journal = state.bytes.as_slice();
         open_each(alloc, case, allowed, journal, tiles.as_slice())?;
+        if !allowed.is_of_history(alloc, journal) {
+            return None;
+        }
         if allowed.keeps(journal) == Some(true) {
             count = count.saturating_add(state.picks);
         }
@@ -219,12 +257,11 @@ fn count(alloc: Global, case: &str, allowed: &Allowed, files: &mut Files) -> Opt
 
 // Whether a command was done over a device that passes so many calls, and how many crash states
 // have the new record.
-fn stop(alloc: Global, case: &str, passes: u64) -> Option<(bool, u64)> {
-    let allowed = allowed_by(alloc, case)?;
-    let files = ready(alloc, case, &allowed)?;
+fn stop(alloc: Global, case: &str, allowed: &Allowed, passes: u64) -> Option<(bool, u64)> {
+    let files = ready(alloc, case, allowed)?;
     let mut stopped = files.run_until(field(case, "run"), field(case, "device"), passes)?;
     let done = is_done(alloc, case, &stopped)?;
-    Some((done, count(alloc, case, &allowed, &mut stopped.files)?))
+    Some((done, count(alloc, case, allowed, &mut stopped.files)?))
 }
 
 // How many calls the device passes at the first stop of a case.
@@ -237,7 +274,8 @@ fn first_stop(case: &str) -> Option<u64> {
 
 // The first stop that isn't as the case says, or the run after them that doesn't stop.
 fn wrong_stop(alloc: Global, case: &str) -> Option<u64> {
-    let (Some(stops), Some(whole), Some(first)) = (
+    let (Some(allowed), Some(stops), Some(whole), Some(first)) = (
+        allowed_by(alloc, case),
         numbers(alloc, field(case, "stops")),
         numbers(alloc, field(case, "then")),
         first_stop(case),
@@ -246,13 +284,13 @@ fn wrong_stop(alloc: Global, case: &str) -> Option<u64> {
     };
     let mut passes = first;
     for count in stops.iter() {
-        if stop(alloc, case, passes) != Some((false, *count)) {
+        if stop(alloc, case, &allowed, passes) != Some((false, *count)) {
             return Some(passes);
         }
         passes = passes.saturating_add(1);
     }
     for count in whole.iter() {
-        if stop(alloc, case, passes) != Some((true, *count)) {
+        if stop(alloc, case, &allowed, passes) != Some((true, *count)) {
             return Some(passes);
         }
     }
