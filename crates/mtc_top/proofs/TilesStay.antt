@@ -103,7 +103,7 @@ tile_there h leaves t level place tile =
     let whole = tile.size in
     record { there = grind (arith, cut, rest, whole); tile = tile }
 
-has_its : (h : HashFunction) (s : LogState) (t : Text)
+pub has_its : (h : HashFunction) (s : LogState) (t : Text)
     → HoldsTiles h (map (leaf_hash h) s.entries) s.tiled t → HasItsTiles h s t
 has_its h s t holds = λ level place new.
     tile_there h (map (leaf_hash h) s.entries) t level place (holds level place new.full)
@@ -127,7 +127,7 @@ module _ {R S D O E : Type 0} (h : HashFunction) (rooms : Rooms R S D) (disks : 
     (counts : CountsNow disks)
     (left : (d : D) (t : ℕ) (c : List ℕ) → disks.left_since d t c → IsBytes c) where
   -- what a crash leaves are bytes
-  left_crash_state : (x : Option D) (c : Text) → states_at disks x c → IsBytes c
+  pub left_crash_state : (x : Option D) (c : Text) → states_at disks x c → IsBytes c
   left_crash_state None c is = subst IsBytes (sym is) (λ i. omega arith)
   left_crash_state (Some d) c at =
       left d (disks.clock_at d) c (counts d (disks.clock_at d) c (omega arith) at)
