@@ -143,10 +143,10 @@ def common_name_of(subject):
             raise Refused(f"the subject has {called(identifier)}: ask with one commonName, or without a subject")
         if found is not None or parts.tag() is not None:
             raise Refused("the subject has two parts: ask with one commonName, or without a subject")
-        if one.tag() not in TEXTS:
+        if (kind := one.tag()) not in TEXTS:
             raise Refused("the commonName is no UTF8String, PrintableString or IA5String")
         try:
-            found = one.contents(one.tag()).decode(TEXTS[one.tag()])
+            found = one.contents(kind).decode(TEXTS[kind])
         except UnicodeDecodeError:
             raise Refused("the commonName isn't in its encoding") from None
         one.end()
@@ -224,7 +224,7 @@ def host_name(octets):
     shown = ascii(octets.decode("latin-1"))
     name = octets.decode("ascii", "replace")
     labels = name.split(".")
-    wild = labels[0] == "*"
+    wild = labels[0] == "*" and len(labels) > 1
     if len(octets) > MOST_NAME or not all(map(LABEL.fullmatch, labels[wild:])):
         raise Refused(f"no host name: {shown}")
     if labels[-1].isdigit():

@@ -51,10 +51,10 @@ def elements_of(data):
     """The elements of DER that follow one another; nothing where the last one is cut."""
     found, at = [], 0
     while at < len(data):
-        count = data[at + 1] - 128 if at + 1 < len(data) and data[at + 1] > 128 else 0
-        length = int.from_bytes(data[at + 2:at + 2 + count], "big") if count else int.from_bytes(data[at + 1:at + 2], "big")
-        end = at + 2 + count + length
-        if count > 3 or end > len(data):
+        first = data[at + 1] if at + 1 < len(data) else 128
+        count = max(first - 128, 0)
+        end = at + 2 + count + (int.from_bytes(data[at + 2:at + 2 + count], "big") if count else first)
+        if first == 128 or count > 3 or end > len(data):
             return []
         found.append(data[at:end])
         at = end

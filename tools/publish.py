@@ -14,6 +14,7 @@ It is tested, and not proved. The note says that the holder of the key vouches f
 `mtc` doesn't read it. A note without a signature is none, so a key is needed; `key` makes one by the program `openssl`, version 3.
 
 Usage: tools/publish.py key NAME KEY                       makes KEY for the log NAME, as log.example/1, and prints the verifier's
+       tools/publish.py verifier KEY                       prints the verifier's again
        tools/publish.py log ENTRIES CHECKPOINT KEY FOLDER  publishes; FOLDER has to be there
 Status: 0 done, 1 arguments, 2 a file isn't in its form, 3 the folder has another log, a forked one, or a changed file, 4 the folder
        is ahead of CHECKPOINT, 5 the system failed, or another run has the folder.
@@ -242,6 +243,8 @@ def refuse_other_logs(note, name, rows, size):
 
 
 def publish(entries, checkpoint, key, folder):
+    if not entries.is_file():
+        raise Failed(2, f"{entries}: no plain file; it is read more than once")
     match = CHECKPOINT.fullmatch(checkpoint.read_bytes())
     if not match:
         raise Failed(2, f"{checkpoint}: not the two lines of `mtc checkpoint`")
@@ -279,13 +282,15 @@ def main(words):
     try:
         if words[:1] == ["key"] and len(words) == 3:
             make_key(words[1], Path(words[2]))
+        elif words[:1] == ["verifier"] and len(words) == 2:
+            print(Key.read(Path(words[1])).texts()[1])
         elif words[:1] == ["log"] and len(words) == 5:
             entries, checkpoint, key, folder = map(Path, words[1:])
             lock = os.open(folder, os.O_RDONLY | os.O_DIRECTORY)
             fcntl.flock(lock, fcntl.LOCK_EX | fcntl.LOCK_NB)
             publish(entries, checkpoint, Key.read(key), folder)
         else:
-            print("usage: publish.py key NAME KEY | publish.py log ENTRIES CHECKPOINT KEY FOLDER", file=sys.stderr)
+            print("usage: publish.py key NAME KEY | verifier KEY | log ENTRIES CHECKPOINT KEY FOLDER", file=sys.stderr)
             return 1
         sys.stdout.flush()
     except Failed as why:
