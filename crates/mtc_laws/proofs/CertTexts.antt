@@ -1,5 +1,5 @@
 -- What follows from the text of `cert` and of `light-cert`, by their plans.
-use Rattle.std.proofs.Common.{◌≡◌, ℕ, List, [], ◌∷◌, Option, None, Some, Result, Ok, Err, refl, sym}
+use Rattle.std.proofs.Common.{◌≡◌, ℕ, List, [], ◌∷◌, Option, None, Some, Ok, refl, sym}
 use Rattle.std.proofs.Common.{ap, subst, ◌∙◌}
 use Rattle.byte_formats.specs.Types.{HashFunction}
 use Rattle.mtc_proof.specs.Reasons.{proof_fault_text}
@@ -9,21 +9,18 @@ use Rattle.authority_core.specs.Certificates.{cert_refusal, covering_in, light_r
 use Rattle.authority_core.specs.declared.writing.error.WriteError.{WriteError}
 use Rattle.authority_core.specs.declared.writing.error.WriteError.TheVariants as write_error
 use Rattle.mtc_words.specs.Commands.{cert, light_cert}
-use Rattle.mtc_command.specs.Answers.{Reply, refused, said}
+use Rattle.mtc_command.specs.Answers.{Reply, said}
 use Rattle.mtc_command.specs.Made.{reads}
 use Rattle.mtc_command.specs.Steps.{Files, Outcome}
 use Rattle.mtc_command.specs.Wanted.{Meets}
 use Rattle.mtc_command.specs.declared.answer.Said.{Said}
 use Rattle.mtc_command.specs.declared.answer.Said.TheVariants.{Done}
-use Rattle.mtc_command.specs.declared.answer.Stopped.{Stopped}
 use Rattle.mtc_authority.specs.CertOutcome.{certificate_in, light_text}
 use Rattle.mtc_authority.specs.CertOutcome.{signatures_in}
 use Rattle.mtc_authority.specs.declared.work.Work.{Work}
 use Rattle.mtc_authority.specs.declared.work.Work.TheVariants.{Cert, LightCert}
-use Rattle.command_plans.specs.Kinds.{Kinds}
 use Rattle.command_plans.specs.Outcomes.{deed_outcome, wanted_of}
-use Rattle.command_plans.specs.Plans.{Deed, Finds, Input, Journal, Read, Step, in_form}
-use Rattle.command_plans.specs.Plans.{misreads, only_reads, works}
+use Rattle.command_plans.specs.Plans.{Deed, only_reads, works}
 use Rattle.command_plans.proofs.Facts.{heard_passed}
 use Rattle.mtc_plans.specs.Commands.{planned_outcome}
 use Rattle.mtc_plans.specs.Heard.{HoldsSmall, OfSaid}
@@ -31,39 +28,9 @@ use Rattle.mtc_plans.specs.LogPlans.{cert_plan, work_plan, work_step}
 use Rattle.mtc_plans.specs.LogWork.{cert_judged, work_reported, write_judged}
 use Rattle.mtc_plans.specs.PartyKinds.{party_kinds}
 use Rattle.mtc_plans.specs.Steps.{deed_on}
+use Rattle.mtc_plans.proofs.Heard.{form_passed, not_refused, same_work}
 
--- ---- which step was taken
-
-module _ {k : Kinds} {inputs : List Input} {journals : List (Journal k)} where
-  misread_works : (read : Read inputs) (reason : List ℕ)
-      (say : Finds journals → Deed journals) → misreads read reason ≡ works say → ⊥
-  misread_works read reason say is = cc
-
-  form_passed : {F E : Type 0} (read : Read inputs) (fault_text : E → List ℕ) (r : Result F E)
-      (next : F → Step inputs journals) (say : Finds journals → Deed journals)
-      → in_form read fault_text r next ≡ works say
-      → (form : F) × ((r ≡ Ok form) × (next form ≡ works say))
-  form_passed read fault_text (Ok form) next say is = (form, (refl, is))
-  form_passed read fault_text (Err why) next say is =
-      absurd (misread_works read (fault_text why) say is)
-
-  -- the work of a step, or other work
-  abbrev work_in : (Finds journals → Deed journals) → Step inputs journals → Finds journals
-      → Deed journals
-  work_in other (misreads read reason) = other
-  work_in other (works say) = say
-
-  same_work : (one other : Finds journals → Deed journals) (founds : Finds journals)
-      (step : Step inputs journals) → step ≡ works one → works other ≡ step
-      → other founds ≡ one founds
-  same_work one other founds step is so =
-      ap (λ (s : Step inputs journals). work_in one s founds) (so ∙ is)
-
--- ---- a text is no refusal
-
-not_refused : (status : Said) (text : List ℕ) (why : Stopped) (file : Option (List ℕ))
-    (reason : List ℕ) → said status text ≡ refused why file reason → ⊥
-not_refused status text why file reason is = cc
+-- ---- a certificate is no refusal
 
 never_written : (why : WriteError) (status : Said) (text : List ℕ)
     → Meets (wanted_of (write_judged why)) (said status text) → ⊥
