@@ -1,19 +1,23 @@
 -- What `cosign` printed counts for each store that has the cosigner's id and key.
 use Rattle.std.proofs.Common.{◌≡◌, ℕ, ◌+◌, ◌^◌, ◌<◌, Bool, true, false, not, nat_lt, List, []}
 use Rattle.std.proofs.Common.{◌∷◌, ◌++◌, Option, None, Some, Ok, Err, refl, sym, subst, ap}
-use Rattle.std.proofs.Common.{◌∙◌, if◌then◌else◌, option_map}
+use Rattle.std.proofs.Common.{◌∙◌, if◌then◌else◌, option_map, arith}
+use Rattle.std.specs.Int.{w32, to_be_bytes}
 use Rattle.std.specs.Prelude.{slice_get}
 use Rattle.std.specs.Str.{bytes_eq}
 use Rattle.std.specs.List.{AllByRecursion, Contains, flat_map}
 use Rattle.std.proofs.lemmas.Bool.{ltb-true}
+use Rattle.std.proofs.lemmas.List.{length-append}
 use Rattle.byte_formats.specs.Offsets.{IsBytes}
 use Rattle.byte_formats.specs.Readings.{◌>>=◌, some_or}
 use Rattle.byte_formats.specs.Types.{HashFunction}
 use Rattle.byte_formats.proofs.Steps.{bind_ok, ok_is, some_or_ok}
+use Rattle.tls_wire.specs.Arcs.{IsAnchorId}
 use Rattle.tree_core.specs.Subtree.{is_subtree}
 use Rattle.tree_proofs.specs.Checkpoints.{has_subtree}
 use Rattle.lms_core.specs.Heights.{height}
-use Rattle.lms_core.specs.Trees.{private_key}
+use Rattle.lms_core.specs.Trees.{lms_signature, private_key}
+use Rattle.lms_core.proofs.Verifies.{length-lms_signature}
 use Rattle.lms_core.specs.declared.private_key.PrivateKey.{PrivateKey}
 use Rattle.hss_core.specs.Hss.{Verifies, one_level_public, one_level_signature}
 use Rattle.hss_core.proofs.Verifies.{signature_verifies}
@@ -48,6 +52,7 @@ use Rattle.cosigner_core.specs.declared.error.CosignError.TheVariants.{Beyond, E
 use Rattle.cosigner_core.specs.declared.error.CosignError.TheVariants.{WrongLog}
 use Rattle.cosigner_core.specs.declared.settings.CosignerSettings.{CosignerSettings}
 use Rattle.cosigner_core.proofs.FirstRecords.{cosigner_takes, then_some}
+use Rattle.cosigner_core.proofs.Lengths.{signature_short}
 use Rattle.cosigner_core.proofs.Forms.{subtree_only}
 use Rattle.cosigner_core.proofs.Tagged.{some_value, when_some}
 use Rattle.party_history.specs.Rules.{StartsWith}
@@ -127,6 +132,25 @@ next_below h s broken end r is =
     (journal_refusal broken end (sign_record s.key.next r.start r.end r.hash r.proof)) is)
 
 -- ---- what it signs counts
+
+signature_is : (h : HashFunction) (settings : CosignerSettings) (public first : List ℕ)
+    (bodies : List (List ℕ)) (s : CosignerState) (r : SubtreeParts)
+    → StartsWith (Cosigner settings public) first → IsBytes first
+    → cosigner_of h (first ∷ bodies) ≡ Ok s → IsMtcSignature (signature_of s r)
+unfolding one_level_signature
+signature_is h settings public first bodies s r starts bytes made =
+    let takes = (cosigner_takes first settings starts.0 bytes starts.1.0).1 in
+    let own = of_first h settings public first bodies s starts made in
+    let id : IsAnchorId s.id = subst IsAnchorId (sym own.0) takes.id in
+    let text = signed_text s.id s.log r.start r.end r.hash in
+    let size = length-lms_signature s.key.key s.key.next text in
+    let short = signature_short s.key.key.lms s.key.key.ots in
+    let whole = length-append (to_be_bytes w32 0) (lms_signature s.key.key s.key.next text) in
+    record {
+      some = id.some;
+      cosigner = omega (arith, id.short);
+      signature = omega (arith, whole, size, short);
+    }
 
 counts_so : (h : HashFunction) (settings : CosignerSettings) (public first : List ℕ)
     (bodies : List (List ℕ)) (s : CosignerState) (r : SubtreeParts)
@@ -211,13 +235,14 @@ module _ {R S D O E : Type 0} (h : HashFunction) (rooms : Rooms R S D) (disks : 
       events begun execution (λ list. IsPrefix list found)
       (OfHeard h p (cosign name file) (λ before run.
       (signed : HasCosigned h p name file before run)
+      × (IsMtcSignature (signature_of signed.state signed.request)
       × ((store : Store) (index : ℕ) (known : Known) (proof : ProofParts) (list : List SigParts)
       → slice_get store.cosigners index ≡ Some known → known.id ≡ settings.id
       → known.key ≡ public → is_named store.rules index ≡ true → store.log ≡ settings.log
       → proof.start ≡ signed.request.start → proof.end ≡ signed.request.end
       → AllByRecursion IsMtcSignature list → proof.signatures ≡ flat_map signature_text list
       → Contains list (signature_of signed.state signed.request)
-      → is_in_set (counted store proof signed.request.hash) index ≡ true)))
+      → is_in_set (counted store proof signed.request.hash) index ≡ true))))
       (λ list held. held_prefix h rooms disks outs errs crash_state only contents bytes name start
       first begins new events begun execution list found held (one.0, (one.1, stands.1)))
       (λ old run is_modelled is_run prefixes spoken heard.
@@ -242,7 +267,9 @@ module _ {R S D O E : Type 0} (h : HashFunction) (rooms : Rooms R S D) (disks : 
       let begins_with = begins_so h list body first prefix.0 begun.others whole.0 found state held.1
       prefix.1 whole.1 in
       let first_bytes = first_are_bytes s.held first begins_with.0 are
-      (subst (λ (l : List (List ℕ)). AreRecordsAt s.held 16 l) begins_with.1 held.0.holds) in (
+      (subst (λ (l : List (List ℕ)). AreRecordsAt s.held 16 l) begins_with.1 held.0.holds) in
+      let made =
+      subst (λ (l : List (List ℕ)). cosigner_of h l ≡ Ok state) begins_with.1 held.1 in (
         record {
           text = s.bytes;
           has_text = record { there = s.has_bytes.there; few = s.has_bytes.few };
@@ -259,7 +286,9 @@ module _ {R S D O E : Type 0} (h : HashFunction) (rooms : Rooms R S D) (disks : 
           printed = printed_so h rooms disks outs errs old run is_run heard (cosigned_text state r)
               s.reply_is;
         },
-        counts_so h settings public first begins_with.0 state r starts first_bytes
-            (subst (λ (l : List (List ℕ)). cosigner_of h l ≡ Ok state) begins_with.1 held.1)
-            (next_below h state false (end_offset list) r s.fits),
+        (
+          signature_is h settings public first begins_with.0 state r starts first_bytes made,
+          counts_so h settings public first begins_with.0 state r starts first_bytes made
+              (next_below h state false (end_offset list) r s.fits),
+        ),
       ))

@@ -22,18 +22,20 @@ abbrev pub signature_of : CosignerState → SubtreeParts → SigParts
 signature_of s r = record { cosigner = s.id; signature = signature_by s r.start r.end r.hash }
 
 module _ (h : HashFunction) (p : Program) where
-  -- The signature that a run of `cosign` of an execution printed counts in each store of the
-  -- cosigner's log that has its id and public key, where some rule names it: for each proof of the
-  -- interval and the hash of the request whose signatures are a list with it.
+  -- The signature that a run of `cosign` of an execution printed has the form of those in a list.
+  -- It counts in each store of the cosigner's log that has its id and public key, where some rule
+  -- names it: for each proof of the interval and the hash of the request, whose signatures are a
+  -- list with it.
   abbrev pub PrintedSignaturesCount : Type 0
   PrintedSignaturesCount = OfExecutions h p (λ name start first old events new.
       (settings : CosignerSettings) (public file : Text) → start ≡ Cosigner settings public
       → EachRun p (OfHeard h p (cosign name file) (λ before run.
       (signed : HasCosigned h p name file before run)
+      × (IsMtcSignature (signature_of signed.state signed.request)
       × ((store : Store) (index : ℕ) (known : Known) (proof : ProofParts) (list : List SigParts)
       → slice_get store.cosigners index ≡ Some known → known.id ≡ settings.id
       → known.key ≡ public → is_named store.rules index ≡ true → store.log ≡ settings.log
       → proof.start ≡ signed.request.start → proof.end ≡ signed.request.end
       → AllByRecursion IsMtcSignature list → proof.signatures ≡ flat_map signature_text list
       → Contains list (signature_of signed.state signed.request)
-      → is_in_set (counted store proof signed.request.hash) index ≡ true))) old events)
+      → is_in_set (counted store proof signed.request.hash) index ≡ true)))) old events)

@@ -25,8 +25,9 @@ pub fn law_certificates_are_printed_and_judged<H: TreeHash, R: Room, O: Sink, E:
         (program H.hash R.Room R.Dsk.Disk O.Sink E.Sink) }
 {}
 
-/// A signature that a run of `cosign` of an execution printed counts, for the interval and the hash
-/// of its request, in each store of the cosigner's log that has its id and public key in a rule.
+/// A signature that a run of `cosign` of an execution printed has the form of those in a list. It
+/// counts, for the interval and the hash of its request, in each store of the cosigner's log that
+/// has its id and public key in a rule.
 pub fn law_printed_signatures_count<H: TreeHash, R: Room, O: Sink, E: Sink>()
     ensures { PrintedSignaturesCount H.hash (program H.hash R.Room R.Dsk.Disk O.Sink E.Sink) }
 {}
