@@ -1,3 +1,4 @@
+pub mod AcceptanceLaws
 pub mod CertLaws
 pub mod CountLaws
 pub mod Killed

@@ -1,12 +1,14 @@
 //! What certificates are printed, and which are accepted: the clauses are the laws, and the
-//! functions do nothing.
+//! functions do nothing, but that one calls another law.
 
 ghost use Rattle.mtc_top.specs.Executions.{program};
+ghost use Rattle.mtc_laws.specs.AcceptanceLaws.{IssuedCertificatesAreAccepted};
 ghost use Rattle.mtc_laws.specs.CertLaws.{AcceptedIsPrinted, CertificatesArePrinted};
 ghost use Rattle.mtc_laws.specs.CertLaws.{LightCertificatesArePrinted};
 ghost use Rattle.mtc_laws.specs.CountLaws.{PrintedSignaturesCount};
 
 use disk_core::Disk;
+use issuance_log::laws::law_records_keep_to_the_rules;
 use mtc_io::Sink;
 use mtc_room::Room;
 use tree_core::TreeHash;
@@ -31,3 +33,16 @@ pub fn law_certificates_are_printed_and_judged<H: TreeHash, R: Room, O: Sink, E:
 pub fn law_printed_signatures_count<H: TreeHash, R: Room, O: Sink, E: Sink>()
     ensures { PrintedSignaturesCount H.hash (program H.hash R.Room R.Dsk.Disk O.Sink E.Sink) }
 {}
+
+/// What is issued is accepted. If a run of an execution of a log's journal issued an entry, and a
+/// later run of `cert` or `light-cert` printed a certificate for the index that was printed, each
+/// run of `verify` over these bytes accepts them, at each time of the request's period, by each
+/// store for the log that trusts the subtree with the log's hash, or whose rules are met by the
+/// signatures, as they are by those that runs of `cosign` printed. The store may not revoke the
+/// entry, nor hold another hash for the subtree. Or the run ends with status 5, 6 or 8.
+pub fn law_issued_certificates_are_accepted<H: TreeHash, R: Room, O: Sink, E: Sink>()
+    ensures { IssuedCertificatesAreAccepted H.hash
+        (program H.hash R.Room R.Dsk.Disk O.Sink E.Sink) }
+{
+    law_records_keep_to_the_rules();
+}

@@ -1,5 +1,6 @@
 //! Laws of the program that it doesn't call: of files in memory, of what `cert`, `light-cert` and
-//! `verify` print, of monitors, and of recorded signatures in conflict.
+//! `verify` print, that what is issued is accepted, of monitors, and of recorded signatures in
+//! conflict.
 //!
 //! No clause says which device of a real system stops when a program is killed: of real files it is
 //! supposed that they stop taking calls.
