@@ -49,9 +49,10 @@ pub fn summary_of<H: TreeHash>(fold: &Both<RangeHash<H>, ItemAt>) -> Summary<'_>
         → ⟦<Both<RangeHash<H>, ItemAt> as ItemFold>⟧.made_with fold.now ≡ asked_for wanted index
         → IsSummaryOf H.hash items wanted index (summary_parts result) }
 {
+    let part_hash = fold.first.root();
     Summary {
         count: fold.first.len(),
-        part_hash: fold.first.root(),
+        part_hash,
         entry: fold.second.entry(),
         spki: fold.second.spki(),
     }

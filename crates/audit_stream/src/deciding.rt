@@ -23,7 +23,9 @@ fn foreign_by(summary: &Summary<'_>, wanted: Option<WantedHash>) -> Option<([u8;
 {
     let wanted = wanted?;
     if summary.count < wanted.end || summary.part_hash != wanted.hash {
-        return Some((wanted.hash, summary.part_hash));
+        let hash = wanted.hash;
+        let found = summary.part_hash;
+        return Some((hash, found));
     }
     None
 }
@@ -73,7 +75,9 @@ pub fn decided<H: TreeHash>(
           kept = option_map (λ e. e.now) kept.entry;
         }) (summary_parts summary.now)) }
 {
-    if let Some((wanted, found)) = foreign_by(summary, wanted_hash::<H>(accepted, kept)) {
+    if let Some(hashes) = foreign_by(summary, wanted_hash::<H>(accepted, kept)) {
+        let wanted = hashes.0;
+        let found = hashes.1;
         return Ok(Some(Audit::Foreign { wanted, found }));
     }
     if !is_supported(accepted, store, kept) {
