@@ -77,6 +77,9 @@ status 7
 $ audit none none 1767225600 none x
 status 7
 ! mtc: audit: x: Absent
+$ audit none none 1767225600 x y
+status 7
+! mtc: audit: x: Absent
 $ audit none none 1767225600 cert cert
 status 2
 ! mtc: audit: none: Missing LogId
@@ -236,7 +239,7 @@ status 2
 #[test]
 fn audits_by_landmarks(rt: HostRuntime) {
     let outcome = outcome_of(rt.alloc(), BY_LANDMARKS);
-    assert!(rt; outcome == Ok(Outcome::Passed(47)), "{outcome:?}");
+    assert!(rt; outcome == Ok(Outcome::Passed(48)), "{outcome:?}");
 }
 
 #[test]
