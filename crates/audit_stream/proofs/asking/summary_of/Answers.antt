@@ -14,7 +14,7 @@ returns g c = λ items wanted index taken made.
     let at = index_asked r.start r.end p.index wanted index made in
     record {
       count = c.len.ensures items taken.0;
-      part_hash = λ w some. c.root.ensures items taken.0
+      part_hash = λ w some. c.root-part_hash.ensures items taken.0
           ∙ (λ i. tree_hash h (part_of items.entries
           (start_asked r.start r.end p.index wanted index w made some i)
           (end_asked r.start r.end p.index wanted index w made some i)));
