@@ -53,6 +53,14 @@ the_case store items kept a c p = record {
   kept = Some kept;
 }
 
+-- the audit by a store that is the same
+pub same_audit : (h : HashFunction) (store same : Store) (items : ItemLists) (kept : Export)
+    (a : Accepted) (c : Parts) (p : ProofParts) (answer : Audit) → store ≡ same
+    → IsAudit h (the_case store items kept a c p) answer
+    → IsAudit h (the_case same items kept a c p) answer
+same_audit h store same items kept a c p answer e is =
+    subst (λ (s : Store). IsAudit h (the_case s items kept a c p) answer) e is
+
 -- the audit of what is accepted of a certificate that stands
 pub it_stands : (h : HashFunction) (store : Store) (cert : Text) (items : ItemLists)
     (kept : Export) (a : Accepted) (c : Parts) (p : ProofParts) (answer : Audit)
