@@ -16,7 +16,7 @@ PRIVATE_PARTS = {
     "anew": "again, rebuilt", "spell": "encode", "spelled": "encoded", "spelling": "encoding", "course": "execution", "courses": "executions",
 }
 # Names of the kit, and what it calls a step of a proof or a field of one.
-KITS = {"tells_all_ascii_digits", "tells_digits", "leb_tells", "Lends", "lender", "looked_up"}
+KITS = {"tells_all_ascii_digits", "tells_digits", "leb_tells", "eqb_tells", "Lends", "lender", "looked_up"}
 KITS_STEP = re.compile(r"(?:\.told\d?(?![\w])|\bc\.behind-\w+\.(?:inside|fields|ranges)|invariant_of-behind-|\.ensures\.front(?:_len)?\b)")
 NAME = re.compile(r"[A-Za-z_]\w*")
 PIECE = re.compile(r"[A-Z]+(?![a-z])|[A-Z][a-z0-9]*|[a-z0-9]+")

@@ -79,7 +79,7 @@ module _ (h : HashFunction) (sized : (bytes : Text) → length (h bytes) ≡ 32)
       let several = leb-false (length leaves) 1 more in
       let half = half_within (length leaves) e several few in
       let bounds = split_bounds (length leaves) in
-      let front : length (take k leaves) ≤ 2 ^ (e - 1) =
+      let prefix : length (take k leaves) ≤ 2 ^ (e - 1) =
       omega (arith, length-take k leaves, half.half) in
       let back : length (drop k leaves) ≤ 2 ^ (e - 1) =
       omega (arith, length-drop k leaves, half.half, bounds.half) in
@@ -88,7 +88,7 @@ module _ (h : HashFunction) (sized : (bytes : Text) → length (h bytes) ≡ 32)
       (path_within depth h (m - k) (drop k leaves) ++ root_of h (take k leaves) ∷ [])
       (AreFew e)
       (λ left. one_more e (path_within depth h m (take k leaves)) (root_of h (drop k leaves))
-      half.some (path_is depth (e - 1) m (take k leaves) front (all_take IsHash k leaves all))
+      half.some (path_is depth (e - 1) m (take k leaves) prefix (all_take IsHash k leaves all))
       (root_of_is (drop k leaves) (all_drop IsHash k leaves all)))
       (λ right. one_more e (path_within depth h (m - k) (drop k leaves))
       (root_of h (take k leaves)) half.some
