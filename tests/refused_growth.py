@@ -8,10 +8,10 @@ status 8; or as if nothing had been refused; or, only where a file or an output 
 with a line that is cut. Its journals then have their records from before, or these and the one of the command. Of a drill,
 which makes many, one allocation in so many is refused.
 
-The gate takes a sample: of each command one allocation in EACH, and of a drill one in as many as ever. The day says which:
-that whose number leaves the rest DAY when it is divided. DAY is the number of the day since 1970 in UTC, if none is given,
-so each allocation is refused in the gates of EACH days, one after the other. The last line says the day, by which a
-sample can be taken again. Needs a C compiler and both built programs. All of it takes half a minute, a sample less.
+The gate takes a sample: of each command one allocation in ONE_IN, of a drill fewer. The day says which: those whose number
+leaves the same rest as DAY. That is the number of the day since 1970 in UTC, if none is given, so the gates of ONE_IN
+days, one after the other, refuse each. The last line says the day, by which the sample can be taken again. Needs a C compiler
+and both built programs. All of it takes half a minute, a sample less.
 Usage: tests/refused_growth.py [--sample] [--day DAY] [COMMAND ..]   commands of tests/allocations.py; all where none is given
 """
 
@@ -38,7 +38,7 @@ PROGRAM, TABLES = ROOT / "crates/mtc_main/out/mtc_main", ROOT / "crates/test_tab
 MAKING = ("init-log", "init-cosigner")
 OWN, CUT = "of the tables", "with a line that is cut"
 # A sample has one allocation in so many.
-EACH = 4
+ONE_IN = 4
 A_DAY = 24 * 60 * 60
 
 
@@ -140,7 +140,7 @@ def numbers(words, day):
     step = STEPS.get(words, 1)
     if day is None:
         return step, step
-    step = max(step, EACH)
+    step = max(step, ONE_IN)
     return day % step or step, step
 
 
@@ -191,7 +191,9 @@ def main():
                        check=True)
         for count, faults in pool.imap_unordered(partial(tried, library, files, day), commands or COMMANDS):
             counts, wrong = counts + count, wrong + faults
-    if not commands and not all(counts[f"of status {status}"] for status in (5, 6, 8)):
+    # A sample may have none of the few allocations that end with 5 or 6.
+    statuses = (8,) if day is not None else (5, 6, 8)
+    if not commands and not all(counts[f"of status {status}"] for status in statuses):
         wrong.append("an ending never came")
     sample = "" if day is None else f", the sample of day {day}"
     reported = ", ".join(f"{count} {kind}" for kind, count in sorted(counts.items()))
