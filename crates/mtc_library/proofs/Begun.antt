@@ -1,5 +1,5 @@
 -- What is opened over a journal that was just started is the new cosigner, or the new log.
-use Rattle.std.proofs.Common.{ℕ, ◌≤◌, ◌≡◌, ◌∙◌, ap, subst, false, List, [], ◌∷◌}
+use Rattle.std.proofs.Common.{ℕ, ◌≤◌, le_refl, ◌≡◌, ◌∙◌, ap, subst, false, List, [], ◌∷◌}
 use Rattle.std.proofs.Common.{Option, Some, None, Ok}
 use Rattle.std.specs.Prelude.{option_map, IfSome}
 use Rattle.byte_formats.specs.Types.{HashFunction, Text}
@@ -47,6 +47,18 @@ stands {D} {g} first disk new journal started reads = record {
   all = left_by g first (g.contents disk) (records journal) (disk_of journal) new started.list
       started.all reads.crash;
   later = subst (λ (n : ℕ). n ≤ g.faults new) started.fine reads.faults;
+}
+
+-- The disk of the journal that was started.
+pub just_begun : {D : Type 0} {g : Ghosts D} (first : Text) (disk : D) (journal : Journal D g)
+    → HasStarted first disk journal → HasNewJournal g first disk (disk_of journal)
+just_begun {D} {g} first disk journal started = record {
+  empty = started.empty;
+  written = started.written;
+  all = left_by g first (g.contents disk) (records journal) (disk_of journal) (disk_of journal)
+      started.list started.all (λ c left. left);
+  later = subst (λ (n : ℕ). n ≤ g.faults (disk_of journal)) started.fine
+      (le_refl (g.faults (disk_of journal)));
 }
 
 list_is : {D : Type 0} {g : Ghosts D} (first : Text) (disk new : D) (journal : Journal D g)

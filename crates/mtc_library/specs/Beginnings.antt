@@ -1,6 +1,6 @@
 -- What a program has that begins a cosigner or a log on an empty device.
 use Rattle.std.specs.Prelude.{◌≡◌, ◌≤◌, ◌++◌, false, [], ◌∷◌, option_map, IfSome}
-use Rattle.byte_formats.specs.Types.{Text}
+use Rattle.byte_formats.specs.Types.{HashFunction, Text}
 use Rattle.disk_core.specs.Times.{OnlyReads}
 use Rattle.disk_core.specs.declared.disk.Disk.{Ghosts}
 use Rattle.tree_core.specs.declared.hashing.TreeHash.{Ghosts as Hashes}
@@ -8,12 +8,14 @@ use Rattle.journal_core.specs.Format.{header, record_bytes}
 use Rattle.journal_core.specs.Starts.{IsNotStarted}
 use Rattle.journal_core.specs.Words.{AllRepresent}
 use Rattle.cosigner_core.specs.Folds.{new_cosigner}
+use Rattle.cosigner_core.specs.Openings.{CosignerCountsNoOther, HasCosignerCause}
 use Rattle.cosigner_core.specs.Records.{cosigner_record}
 use Rattle.cosigner_core.specs.declared.settings.CosignerSettings.{CosignerSettings}
 use Rattle.cosigner_core.specs.Words.{cosigner_broken, cosigner_disk, cosigner_records}
 use Rattle.cosigner_core.specs.Words.{cosigner_state}
 use Rattle.cosigner_core.specs.declared.cosigner.Cosigner.{Cosigner}
 use Rattle.issuance_log.specs.Folds.{new_log}
+use Rattle.issuance_log.specs.Opened.{LogIsNotOpened}
 use Rattle.issuance_log.specs.Records.{settings_record}
 use Rattle.issuance_log.specs.Settings.{Settings}
 use Rattle.issuance_log.specs.Words.{log_broken, log_disk, log_records, log_tiles_disk}
@@ -58,12 +60,25 @@ module _ {H D T : Type 0} {hashes : Hashes H} {g : Ghosts D} {k : Ghosts T} wher
     pub state : modelled_state it ≡ option_map (λ _. new_log settings) (g.contents disk)
     pub only_reads : OnlyReads k tiles (log_tiles_disk it)
 
--- What a refusal leaves of the device: what the start of a journal leaves by its reason, or the
--- journal that was begun.
-abbrev pub CosignerIsNotBegun : {D : Type 0} → Ghosts D → Text → D → D → CosignerBeginError → Type 0
-CosignerIsNotBegun g first old new (cosigner_begin.Start why) = IsNotStarted g old new why
-CosignerIsNotBegun g first old new (cosigner_begin.Open why) = HasNewJournal g first old new
+-- A new journal stands on the device. It was begun on one that was refused so by its opening.
+pub record IsBegunUnopened {D : Type 0} (g : Ghosts D) (first : Text) (old new : D)
+    (IsRefused : D → Type 0) : Type 0 where
+  pub stands : HasNewJournal g first old new
+  pub begun : D
+  pub journal : HasNewJournal g first old begun
+  pub refused : IsRefused begun
 
-abbrev pub LogIsNotBegun : {D : Type 0} → Ghosts D → Text → D → D → LogBeginError → Type 0
-LogIsNotBegun g first old new (log_begin.Start why) = IsNotStarted g old new why
-LogIsNotBegun g first old new (log_begin.Open why) = HasNewJournal g first old new
+-- What a refusal leaves of the device, and its cause: what the start of a journal leaves by its
+-- reason, or the new journal, by what its opening refuses.
+abbrev pub CosignerIsNotBegun : {D : Type 0} → Ghosts D → HashFunction → Text → D → D
+    → CosignerBeginError → Type 0
+CosignerIsNotBegun g h first old new (cosigner_begin.Start why) = IsNotStarted g old new why
+CosignerIsNotBegun g h first old new (cosigner_begin.Open why) = IsBegunUnopened g first old new
+    (λ begun. OnlyReads g begun new
+    × (HasCosignerCause g h begun new why × CosignerCountsNoOther g begun new why))
+
+abbrev pub LogIsNotBegun : {D T : Type 0} → Ghosts D → Ghosts T → HashFunction → Text → D → D → T
+    → T → LogBeginError → Type 0
+LogIsNotBegun g k h first old new tiles tiles' (log_begin.Start why) = IsNotStarted g old new why
+LogIsNotBegun g k h first old new tiles tiles' (log_begin.Open why) =
+    IsBegunUnopened g first old new (λ begun. LogIsNotOpened g k h begun new tiles tiles' why)

@@ -5,6 +5,7 @@ pub use crate::accepting::{JudgedCert, accept, read_steps};
 pub use crate::judging::{
     Accepted, By, Cert, CertError, ProofError, Refusal, Store, StoreError, ValidStore,
 };
+pub use collide::Finding;
 pub use cosigner_core::{Export, ReadExportError, Step, StepList};
 pub use entry_list::{Entries, Item, Items, ItemsError, read_items};
 pub use mtc_io::{Bytes, Memory};

@@ -84,8 +84,8 @@ pub struct LogNotBegun<D, T> {
 /// the journal, whatever this call answered, unless the disk is still empty.
 ///
 /// Errors, in the order of the tests: `Start` with `Memory`, `Failed`, or `NotEmpty` where the disk
-/// holds bytes, which stay; then `Open`, after which the journal of the new cosigner stands on the
-/// disk that is returned.
+/// holds bytes, which stay; then `Open` with what [`Cosigner::open`] refuses, after which the
+/// journal of the new cosigner stands on the disk that is returned.
 pub fn begin_cosigner<H: TreeHash, D: Disk>(
     alloc: Global,
     disk: D,
@@ -94,7 +94,7 @@ pub fn begin_cosigner<H: TreeHash, D: Disk>(
 ) -> Result<Cosigner<H, D>, Refused<D, CosignerBeginError>>
     requires { IsSigningHeight settings.now.lms }
     ensures begun { IfOk result (IsNewCosigner settings.now secret.now disk) }
-    ensures refused { IfErr result (λ e. CosignerIsNotBegun D.Disk
+    ensures refused { IfErr result (λ e. CosignerIsNotBegun D.Disk H.hash
         (cosigner_record settings.now secret.now) disk e.disk e.why) }
 {
     let journal = match cosigner_core::create(alloc, disk, settings, secret) {
@@ -119,8 +119,8 @@ pub fn begin_cosigner<H: TreeHash, D: Disk>(
 /// frames hold no tile. It has the null entry alone.
 ///
 /// Errors, in the order of the tests: `Start` with `Memory`, `Failed`, or `NotEmpty` where the disk
-/// holds bytes, which stay; then `Open`, after which the journal of the new log stands on the disk
-/// that is returned.
+/// holds bytes, which stay; then `Open` with what [`Log::open`] refuses, after which the journal of
+/// the new log stands on the disk that is returned.
 pub fn begin_log<H: TreeHash, D: Disk, T: Disk>(
     alloc: Global,
     disk: D,
@@ -130,8 +130,8 @@ pub fn begin_log<H: TreeHash, D: Disk, T: Disk>(
 ) -> Result<Log<H, D, T>, LogNotBegun<D, T>>
     requires { (slot : ℕ) (key : Key) → HoldsKey pool slot key → ⊥ }
     ensures begun { IfOk result (IsNewLog settings.now disk tiles) }
-    ensures refused { IfErr result (λ e. LogIsNotBegun D.Disk (settings_record settings.now) disk
-        e.disk e.why) }
+    ensures refused { IfErr result (λ e. LogIsNotBegun D.Disk T.Disk H.hash
+        (settings_record settings.now) disk e.disk tiles e.tiles e.why) }
     ensures only_reads { IfErr result (λ e. OnlyReads T.Disk tiles e.tiles) }
 {
     let journal = match issuance_log::create(alloc, disk, settings) {

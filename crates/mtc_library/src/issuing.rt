@@ -11,7 +11,7 @@ pub use disk_core::{Disk, FileDisk, MemDisk};
 pub use frame_pool::Pool;
 pub use issuance_log::{Log, LogError, LogOpenError, LogRefused, LogSettings};
 pub use journal_core::{AppendError, OpenError, StartError};
-pub use landmarks::Landmarks;
+pub use landmarks::{Landmarks, MOST_ACTIVE, MOST_ENTRIES};
 pub use mtc_files::{Held, new_journal, open_journal, open_tiles};
 pub use mtc_io::{Bytes, Failed, Memory};
 pub use mtc_proof::{ProofError, check_signatures};

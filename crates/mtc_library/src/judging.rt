@@ -5,12 +5,13 @@ pub use crate::accepting::{JudgedCert, accept, is_for};
 pub use cert_fields::{Cert, DnsNames, dns_names, parse};
 pub use cert_time::Validity;
 pub use der_core::{CertError, DerError};
+pub use hss_core::PUBLIC_KEY_LEN;
 pub use mtc_io::{Bytes, Memory};
-pub use mtc_proof::ProofError;
+pub use mtc_proof::{Proof, ProofError};
 pub use policy_core::{
-    Accepted, By, Cosigners, Indices, Known, Refusal, Revoked, Rule, Rules, Store, StoreError,
-    Subtrees, Trusted, ValidStore,
+    Accepted, By, Cosigners, Indices, Key, Known, MOST_COSIGNERS, Refusal, Revoked, Rule, Rules,
+    Store, StoreError, Subtrees, Trusted, ValidStore,
 };
 pub use relying_party::{judge, judge_cert};
-pub use tls_wire::AnchorId;
+pub use tls_wire::{AnchorBytesError, AnchorError, AnchorId};
 pub use tree_core::{EvalError, Sha, Span, TreeHash};

@@ -2,7 +2,9 @@ use Rattle.std.proofs.Common.{subst, ◌∙◌, ap}
 use Rattle.disk_core.specs.Times.{OnlyReads}
 use Rattle.cosigner_core.specs.Records.{cosigner_record}
 use Rattle.cosigner_core.specs.Words.{cosigner_disk}
-use Rattle.mtc_library.proofs.Begun.{new_cosigner_is, stands}
+use Rattle.journal_core.specs.Words.{disk_of}
+use Rattle.cosigner_core.specs.Openings.{CosignerCountsNoOther, HasCosignerCause}
+use Rattle.mtc_library.proofs.Begun.{just_begun, new_cosigner_is, stands}
 use Rattle.mtc_library.proofs.beginning.begin_cosigner.Goals as goal
 
 pub returns-in-Ok-open-clause-begun : goal.returns-in-Ok-open-clause-begun
@@ -22,8 +24,23 @@ returns-in-Ok-open-clause-begun g c =
 pub returns-in-Err-open-clause-refused : goal.returns-in-Err-open-clause-refused
 returns-in-Err-open-clause-refused g c =
     let left = c.in-Err-open.refused.disk in
-    stands (cosigner_record c.args.settings.now c.args.secret.now) c.args.disk left
-    c.in-Ok.journal
-    c.in-Ok.ensures.ok
-    (subst (λ (d : g.row.D.Denot). OnlyReads g.D.Disk d left) c.into_disk.ensures
-    c.in-Err-open.ensures.err)
+    let why = c.in-Err-open.refused.why in
+    let journal = c.in-Ok.journal in
+    let first = cosigner_record c.args.settings.now c.args.secret.now in
+    let h = g.H.TreeHash.hash in
+    let reads = subst (λ (d : g.row.D.Denot). OnlyReads g.D.Disk d left) c.into_disk.ensures
+    c.in-Err-open.ensures.err in
+    record {
+      stands = stands first c.args.disk left journal c.in-Ok.ensures.ok reads;
+      begun = disk_of journal;
+      journal = just_begun first c.args.disk journal c.in-Ok.ensures.ok;
+      refused = (
+        reads,
+        (
+          subst (λ (d : g.row.D.Denot). HasCosignerCause g.D.Disk h d left why)
+              c.into_disk.ensures c.in-Err-open.ensures.cause,
+          subst (λ (d : g.row.D.Denot). CosignerCountsNoOther g.D.Disk d left why)
+              c.into_disk.ensures c.in-Err-open.ensures.fine_err,
+        ),
+      );
+    }
