@@ -8,8 +8,8 @@
 #   certs        INDEX.cert: light certificates
 #   cosigners    a folder each, with its `export` (none at first); into it go `consist` and `subtree`, the requests to it
 #   public       `entries` and `landmarks`; and tiles and a checkpoint too, if FOLDER has the file `note.key` of publish.py
-# A request is issued once, over any stop: the file `begun` says which one is at work, and at which size of the log. No command
-# but this script may issue meanwhile. Certificates with signatures are made by `mtc cert`, once the signatures are there.
+# A request is issued once, over any stop: while it is at work it is `begun.request`, and `begun` has the size of the log before it, and
+# its name. No command but this script may issue meanwhile. Certificates with signatures are made by `mtc cert`, once the signatures are there.
 # It is tested, and not proved; `mtc` is.
 # Usage: tools/authority_hour.sh FOLDER
 # MTC names the program, and else it is `mtc`. The statuses are those of the program, where it fails, and these:
@@ -17,6 +17,7 @@
 #   22  another run has FOLDER
 #   64  the argument is no folder with a log
 set -euo pipefail
+shopt -s inherit_errexit
 mtc=${MTC-mtc}
 tools=$(dirname "$(readlink -f "${BASH_SOURCE[0]}")")
 
@@ -42,57 +43,73 @@ size() {
 into() {
     local file=$1
     shift
-    "$@" >"$file.new" && sync -- "$file.new" && mv -f -- "$file.new" "$file" && sync -- "$(dirname -- "$file")"
-}
-
-# Records that a request has been issued.
-done_with() {
-    mv -f -- "requests/$1" "issued/$2.request"
-    sync -- requests issued
-    rm begun
-}
-
-# Ends what a run began that was stopped: its request is in the log exactly if the log has grown.
-end_begun() {
-    local old name now
-    [ -e begun ] || return 0
-    read -r old name <begun
-    now=$(size)
-    [ "$now" -le $((old + 1)) ] || refuse 20 "$name was begun at $old entries, and there are $now"
-    if [ "$now" -gt "$old" ] && [ -e "requests/$name" ]; then
-        done_with "$name" "$old"
+    if "$@" >"$file.new" && sync -- "$file.new" && mv -f -- "$file.new" "$file"; then
+        sync -- "$(dirname -- "$file")"
     else
-        rm begun
+        local status=$?
+        rm -f -- "$file.new"
+        return $status
     fi
 }
 
-# Takes a request out of those that wait.
+# Records at which index the request that was at work stands.
+done_at() {
+    mv -f -- begun.request "issued/$1.request"
+    sync -- . issued
+    rm begun
+    now=$(($1 + 1))
+}
+
+# Takes a request, under a name, out of those that wait or are at work, and says why.
 send_back() {
-    printf '%s\n' "$2" >"refused/${1%.request}.why"
-    mv -f -- "requests/$1" "refused/$1"
+    printf '%s\n' "$3" >"refused/${2%.request}.why"
+    rm -rf -- "refused/$2"
+    mv -- "$1" "refused/$2"
+    sync -- . requests refused
     rm -f begun
 }
 
-# Issues one request at a known size of the log, and prints the size after it.
+# Issues the request that is at work, and counts the log.
+issue_begun() {
+    local name=$1 status=0 printed why
+    printed=$("$mtc" issue log begun.request 2>why) || status=$?
+    why=$(cat why)
+    case "$status $why" in
+        "0 "*) done_at "${printed#issued }" ;;
+        "2 mtc: issue: begun.request: "* | "9 mtc: issue: TooLarge") send_back begun.request "$name" "$why" ;;
+        *) refuse $status "$why" ;;
+    esac
+}
+
+# Ends what a run began that was stopped: its request is in the log exactly if the log has grown. Without `begun.request` it was
+# not yet given to the log, or is done.
+end_begun() {
+    local old name
+    [ -e begun ] || return 0
+    read -r old name <begun
+    if [ ! -e begun.request ]; then
+        rm begun
+    elif [ "$now" -eq "$old" ]; then
+        issue_begun "$name"
+    elif [ "$now" -eq $((old + 1)) ]; then
+        done_at "$old"
+    else
+        refuse 20 "$name was begun at $old entries, and there are $now"
+    fi
+}
+
+# Issues one request that waits. What is no plain file, or can't be read, is sent back, so that it stops no other one.
 issue() {
-    local name=$1 now=$2 status=0 printed why
-    if [ -L "requests/$name" ] || [ "$(wc -c <"requests/$name")" -gt 65536 ]; then
-        send_back "$name" "a link, or more than 65536 bytes"
-        echo "$now"
+    local name=$1
+    if [ -L "requests/$name" ] || [ ! -f "requests/$name" ] || [ ! -r "requests/$name" ] ||
+        [ "$(wc -c <"requests/$name")" -gt 65536 ]; then
+        send_back "requests/$name" "$name" "no plain file that can be read, or more than 65536 bytes"
         return
     fi
     into begun printf '%s %s\n' "$now" "$name"
-    printed=$("$mtc" issue log "requests/$name" 2>why) || status=$?
-    why=$(cat why)
-    case "$status $why" in
-        "0 "*)
-            done_with "$name" "${printed#issued }"
-            now=$((${printed#issued } + 1))
-            ;;
-        "2 mtc: issue: requests/"* | "9 mtc: issue: TooLarge") send_back "$name" "$why" ;;
-        *) refuse $status "$why" ;;
-    esac
-    echo "$now"
+    mv -- "requests/$name" begun.request
+    sync -- requests .
+    issue_begun "$name"
 }
 
 # Writes the requests to each cosigner, from the size that its export says to the log's.
@@ -108,13 +125,13 @@ ask_cosigners() {
     done
 }
 
-end_begun
 now=$(size)
+end_begun
 for request in requests/*.request; do
     name=${request##*/}
     if [[ $name =~ ^[A-Za-z0-9._-]+$ ]]; then
-        now=$(issue "$name" "$now")
-    elif [ -e "$request" ]; then
+        issue "$name"
+    elif [ -e "$request" ] || [ -L "$request" ]; then
         echo "authority_hour: left where it is, since its name has other signs: $(printf %q "$request")" >&2
     fi
 done
@@ -127,7 +144,10 @@ for request in issued/*.request; do
     index=${request##*/}
     index=${index%.request}
     if [ ! -e "$request" ] || [ -e "certs/$index.cert" ]; then continue; fi
-    into "certs/$index.cert" "$mtc" light-cert log "$index" || echo "authority_hour: no light certificate of $index" >&2
+    status=0
+    into "certs/$index.cert" "$mtc" light-cert log "$index" || status=$?
+    # No landmark covers it any more: it gets a certificate with signatures.
+    [ $status -eq 0 ] || [ $status -eq 4 ] || refuse $status "no light certificate of $index"
 done
 into public/entries "$mtc" entries log "$now"
 into public/landmarks "$mtc" landmarks log

@@ -4,12 +4,14 @@
 #   journal            made by `mtc init-cosigner`
 #   consist, subtree   the requests of the log, fetched by whoever runs this
 #   signature, export  what goes back to the log, and what is published
-#   signed             the request of `signature`: the same one isn't signed again, since each signature costs a one-time key
+#   signed             the request of `signature`: the same one isn't signed again, since each signature costs a one-time key. Only
+#                      a run that is stopped after its record costs one more: the next run signs that request again
 # KEPT is the stored export, on another disk: guarded_cosign.sh says what it is for, and its `begin` makes it, once.
 # It is tested, and not proved; `mtc` is.
 # Usage: tools/cosigner_day.sh FOLDER KEPT
 # MTC names the program, and else it is `mtc`. The statuses are those of guarded_cosign.sh.
 set -euo pipefail
+shopt -s inherit_errexit
 mtc=${MTC-mtc}
 tools=$(dirname "$(readlink -f "${BASH_SOURCE[0]}")")
 if [ $# -ne 2 ] || [ ! -f "$1/journal" ]; then

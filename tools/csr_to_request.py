@@ -30,7 +30,7 @@ import tempfile
 import tomllib
 
 MOST_BYTES = 65536
-MOST_NAMES, MOST_NAME, MOST_DAYS = 100, 253, 36500
+MOST_NAMES, MOST_NAME, MOST_OID, MOST_DAYS = 100, 253, 64, 36500
 BOOLEAN, INTEGER, BITS, OCTETS, OID, SEQUENCE, SET, ATTRIBUTES, DNS = 0x01, 0x02, 0x03, 0x04, 0x06, 0x30, 0x31, 0xA0, 0x82
 TEXTS = {0x0C: "utf-8", 0x13: "ascii", 0x16: "ascii"}  # UTF8String, PrintableString, IA5String
 EXTENSION_REQUEST, ALT_NAME, COMMON_NAME = "1.2.840.113549.1.9.14", "2.5.29.17", "2.5.4.3"
@@ -43,6 +43,8 @@ KNOWN = {"2.5.4.6": "countryName", "2.5.4.7": "localityName", "2.5.4.8": "stateO
          "1.3.6.1.4.1.311.2.1.14": "Microsoft's request for extensions"}
 VERIFIED = ("verify OK", "Certificate request self-signature verify OK")
 PEM = re.compile(r"\s*-----BEGIN ((?:NEW )?CERTIFICATE REQUEST)-----\r?\n([A-Za-z0-9+/=\r\n]*)-----END \1-----\s*")
+NUMBER = re.compile(r"\d+|0[xX][0-9A-Fa-f]*")  # a name that ends so is an IPv4 address to browsers
+TIME = re.compile(r"\d{4}-\d\d-\d\dT\d\d:\d\d:\d\dZ")
 LABEL = re.compile(r"[A-Za-z0-9](?:[A-Za-z0-9-]{0,61}[A-Za-z0-9])?")
 
 
@@ -107,10 +109,13 @@ class Reader:
 def dotted(octets):
     """An object identifier as text."""
     arcs, value = [], 0
+    if len(octets) > MOST_OID:
+        raise Refused("an object identifier is too long")
     for octet in octets:
         value = value << 7 | octet & 127
         if octet < 128:
-            arcs, value = [*arcs, value], 0
+            arcs.append(value)
+            value = 0
     if not arcs or octets[-1] >= 128:
         raise Refused("an object identifier is cut")
     first = min(arcs[0] // 40, 2)
@@ -175,8 +180,8 @@ def names_of(extensions):
             raise Refused(f"the extension {called(identifier)} isn't taken: the certificate would not have it")
         if found is not None:
             raise Refused("there are two subjectAltNames")
-        if one.tag() == BOOLEAN:
-            one.contents(BOOLEAN)
+        if one.tag() == BOOLEAN and one.contents(BOOLEAN) != b"\xff":
+            raise Refused("an extension says neither that it is critical nor nothing")
         found = names_in(one.contents(OCTETS))
         one.end()
     return found
@@ -227,7 +232,7 @@ def host_name(octets):
     wild = labels[0] == "*" and len(labels) > 1
     if len(octets) > MOST_NAME or not all(map(LABEL.fullmatch, labels[wild:])):
         raise Refused(f"no host name: {shown}")
-    if labels[-1].isdigit():
+    if NUMBER.fullmatch(labels[-1]):
         raise Refused(f"an IP address, or no top domain: {shown}")
     if wild and len(labels) < 3:
         raise Refused(f"a wildcard over a whole top domain: {shown}")
@@ -250,7 +255,8 @@ def taken_common_name(common_name, names, rule):
         return None
     if not 1 <= len(common_name.encode()) <= 64 or not common_name.isprintable():
         raise Refused(f"the commonName isn't a printable text of 1 to 64 bytes: {ascii(common_name)}")
-    if rule == "same" and common_name.lower() not in [name.lower() for name in names]:
+    # Beyond ASCII another sign may have the lower case of one in a name.
+    if rule == "same" and not (common_name.isascii() and common_name.lower() in [name.lower() for name in names]):
         raise Refused(f"the commonName is none of the names: {ascii(common_name)}")
     return common_name
 
@@ -292,6 +298,9 @@ def write(path, text):
             file.write(text)
             file.flush()
             os.fsync(file.fileno())
+        mask = os.umask(0)
+        os.umask(mask)
+        os.chmod(new, 0o666 & ~mask)  # the authority may be another user
         os.replace(new, path)
     except OSError:
         os.unlink(new)
@@ -308,7 +317,7 @@ def read(path):
 
 def time_of(text):
     time = datetime.datetime.strptime(text, "%Y-%m-%dT%H:%M:%SZ")
-    if not 1950 <= time.year < 9900:
+    if not TIME.fullmatch(text) or not 1950 <= time.year < 9900:
         raise ValueError("the year is too low or too high")
     return time
 

@@ -61,7 +61,8 @@ def sync(folder):
 def write(path, data):
     """Puts bytes into a file, which appears whole or not at all."""
     new = path.with_name(path.name + ".new")
-    with open(new, "wb") as file:
+    new.unlink(missing_ok=True)  # of a run that was stopped; it is never followed, where it is a link
+    with open(new, "xb") as file:
         file.write(data)
         file.flush()
         os.fsync(file.fileno())
@@ -258,8 +259,9 @@ def publish(entries, checkpoint, key, folder):
         yield from tiles_of(rows, size)
         yield from bundles_of(entries_of(entries))
 
-    missing = set()
+    missing, folders = set(), {folder}
     for name, data in files():
+        folders.update(place for place in (folder / name).parents if place.is_relative_to(folder))
         same = has(folder / name, data)
         if same is False:
             raise Failed(3, f"{folder / name}: it has other bytes")
@@ -269,7 +271,8 @@ def publish(entries, checkpoint, key, folder):
         if name in missing:
             (folder / name).parent.mkdir(parents=True, exist_ok=True)
             write(folder / name, data)
-    for place in {place for name in missing for place in (folder / name).parents if place.is_relative_to(folder)}:
+    # Of all files: a run that was stopped may have put some of them there, and synced no folder.
+    for place in folders:
         sync(place)
     note = key.signed(f"{key.name}\n{size}\n{base64.b64encode(root).decode()}\n")
     if not has(folder / "checkpoint", note):

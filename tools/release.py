@@ -105,7 +105,7 @@ def arguments(words):
     parser.add_argument("--program", type=Path, default=PROGRAM)
     parser.add_argument("--kit")
     given = parser.parse_args(words)
-    if not PASSED.fullmatch(given.line):
+    if not PASSED.fullmatch(given.line) or given.line.count("failed") != 1:
         parser.error("the line isn't one of a gate that passed: `N passed, 0 failed`")
     return given
 

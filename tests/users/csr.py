@@ -93,7 +93,8 @@ def hostile_names(requester):
             ("a star in a label", b"a*.a.example"), ("an escape", b"a.example\x1b[2J"), ("brackets", b"a.example]"),
             ("a comment", b"a.example#")):
         yield what, requester.csr(attribute_of(dns("a.example", name))), 2, "no host name: "
-    yield "an address", requester.csr("10.0.0.1"), 2, "an IP address"
+    for name in ("10.0.0.1", "127.0.0.0x1", "a.0x"):
+        yield f"an address, {name}", requester.csr(name), 2, "an IP address"
     yield "a star alone", requester.csr("*"), 2, "no host name"
     yield "a star over a top domain", requester.csr("*.example"), 2, "a wildcard over a whole top domain"
     yield "a name twice", requester.csr("a.example", "b.example", "a.example"), 2, "a name stands twice: a.example"
@@ -114,6 +115,12 @@ def hostile_parts(requester):
                                     ("another extension", bytes.fromhex("06032a0304"), "1.2.3.4")):
         asked = attribute(alt_name(*names), der(0x30, identifier, der(0x04, b"\x30\0")))
         yield what, requester.unsigned(asked), 2, f"the extension {words} isn't taken"
+    for critical, words in ((b"\0", "neither that it is critical"), (b"\1", "neither that it is critical"), (b"", "neither that it")):
+        asked = attribute(der(0x30, ALT_NAME, der(1, critical), der(0x04, der(0x30, *names))))
+        yield f"critical {critical!r}", requester.unsigned(asked), 2, words
+    for arcs in (b"\1" * 60000, b"\x81" * 20000 + b"\1"):
+        asked = attribute(der(0x30, der(0x06, b"\x2a" + arcs), der(0x04, b"\x30\0")))
+        yield "a long identifier", requester.unsigned(asked), 2, "an object identifier is too long"
     for what, asked in (("no attribute", []), ("an empty subjectAltName", [attribute_of([])]), ("no extension", [attribute()])):
         yield what, requester.unsigned(*asked), 2, "it asks for no dNSName"
     yield "no value", requester.unsigned(der(0x30, REQUEST, der(0x31))), 2, "the request for extensions: element 30 is missing"
@@ -136,6 +143,8 @@ def hostile_subjects(requester):
     pair = der(0x31, *(der(0x30, COMMON_NAME, der(UTF8, text)) for text in (b"a.example", b"b.example")))
     yield "two in one set", requester.unsigned(asked, name=[pair]), 2, "the subject has two parts"
     yield "another common name", requester.csr(asked, name=subject(b"bank.example")), 2, "the commonName is none of the names"
+    sign = "ban\u212a.example".encode()  # whose lower case is bank.example
+    yield "one of another sign", requester.csr(attribute_of(dns("bank.example")), name=subject(sign)), 2, "none of the names"
     yield "an empty one", requester.csr(asked, name=subject(b"")), 2, "the commonName isn't a printable text"
     yield "one with a newline", requester.csr(asked, name=subject(b"a.example\n")), 2, "the commonName isn't a printable text"
     yield "one with a zero", requester.csr(asked, name=subject(b"a.example\0")), 2, "the commonName isn't a printable text"
@@ -200,7 +209,7 @@ def check_hostile_requests(scene):
     yield from refused("no CSR", scene.tool("csr_to_request.py", "none", "7"), 5, "No such file")
     scene.file("csr", requester.csr("a.example"))
     yield from refused("no openssl", scene.tool("csr_to_request.py", "csr", "7", env={"PATH": "/nowhere"}), 5, "openssl: ")
-    for words in (("csr", "0"), ("csr", "07"), ("csr",), ("csr", "7", "--begin", "2026-01-01")):
+    for words in (("csr", "0"), ("csr", "07"), ("csr",), ("csr", "7", "--begin", "2026-01-01"), ("csr", "7", "--begin", "2026-1-1T0:0:0Z")):
         yield from differ(f"arguments {words}", scene.tool("csr_to_request.py", *words)[0], 1)
     # What makes the first row dangerous: OpenSSL prints its one name as two.
     csr = requester.csr("mine.example, DNS:bank.example")
@@ -248,8 +257,8 @@ def check_requests(scene):
     scene.mtc("init-log", "j", LOG, 2, 1000)
     rows = [*by_openssl(scene), *by_hand(scene)]
     for what, file, _, _ in rows:
-        ended = scene.tool("csr_to_request.py", file, "7", "--begin", BEGIN, "--out", "r")
-        yield from differ(what, ended, (0, b"", ""))
+        ended = scene.tool("csr_to_request.py", file, "7", "--begin", BEGIN, "--out", "r", umask=0o022)
+        yield from differ(what, (ended, (scene.path / "r").stat().st_mode & 0o777), ((0, b"", ""), 0o644))
         scene.mtc("issue", "j", "r")
         (scene.path / "r").unlink()
     scene.mtc("landmark", "j")

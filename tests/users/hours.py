@@ -1,6 +1,7 @@
 """The hour of an authority and the day of a cosigner, by tools/authority_hour.sh and tools/cosigner_day.sh."""
 
 import os
+import shutil
 
 from .scene import DATES, IN_TIME, KEY, LOG, TOOLS, differ, lacks, refused
 
@@ -44,15 +45,17 @@ def check_authority_hour(scene):
     for name, text in (("1", request("a.example")), ("2", "not_before = 1\n"), ("3", request("b.example")), ("4", " " * 65537)):
         scene.file(f"a/requests/{name}.request", text)
     os.symlink("../log", folder / "requests/5.request")
+    (folder / "requests/6.request").mkdir()
+    os.mkfifo(folder / "requests/7.request")
     scene.file("a/requests/a b.request", request("c.example"))
     status, out, err = hour(scene)
     yield from differ("an hour", (status, out), (0, b"landmark 1 3\npublished 3: 2 files\n"))
     yield from differ("what it says", err.count("\n"), 1)
     yield from differ("what waits", names_in(folder / "requests"), ["a b.request"])
     yield from differ("issued", names_in(folder / "issued"), ["1.request", "2.request"])
-    sent_back = sorted(f"{number}.{end}" for number in (2, 4, 5) for end in ("request", "why"))
+    sent_back = sorted(f"{number}.{end}" for number in (2, 4, 5, 6, 7) for end in ("request", "why"))
     yield from differ("sent back", names_in(folder / "refused"), sent_back)
-    yield from differ("why", (folder / "refused/2.why").read_text(), "mtc: issue: requests/2.request: BadValue NotBefore\n")
+    yield from differ("why", (folder / "refused/2.why").read_text(), "mtc: issue: begun.request: BadValue NotBefore\n")
     yield from differ("certificates", names_in(folder / "certs"), ["1.cert", "2.cert"])
     yield from differ("one of them", (folder / "certs/2.cert").read_bytes(), scene.mtc("light-cert", "a/log", 2))
     yield from differ("public", names_in(folder / "public"), ["checkpoint", "entries", "landmarks", "tile"])
@@ -80,14 +83,43 @@ def wrong_stops(scene, folder):
         yield from differ(f"{what}: issued", (folder / f"issued/{size}.request").read_text(), request("x.example"))
         yield from differ(f"{what}: its certificate", (folder / f"certs/{size}.cert").is_file(), True)
         yield from differ(f"{what}: what waits", names_in(folder / "requests"), ["a b.request"])
-        yield from differ(f"{what}: what is begun", (folder / "begun").exists(), False)
+        yield from differ(f"{what}: what is begun", [path.name for path in folder.glob("begun*")], [])
+    yield from wrong_disks(scene, folder)
     scene.file("a/begun", f"{size_of(scene) - 2} x.request\n")
+    scene.file("a/begun.request", request("x.example"))
     yield from refused("entries of others", hour(scene), 20, "x.request was begun at")
-    (folder / "begun").unlink()
+    (folder / "begun.request").unlink()
+    yield from differ("none of it", (hour(scene)[0], (folder / "begun").exists()), (0, False))
     yield from refused("no folder", scene.tool("authority_hour.sh", "b"), 64, "FOLDER")
     (folder / "log").rename(folder / "gone")
     scene.file("a/log", "no journal")
     yield from refused("no journal", hour(scene), 2, "NotJournal")
+
+
+def failing(scene, tool, word):
+    """A path on which a tool fails where an argument has this word."""
+    stand_in = scene.file(f"bin_{tool}/{tool}", f'#!/bin/bash\n[[ "$*" != *{word}* ]] || exit 1\nexec {shutil.which(tool)} "$@"\n')
+    stand_in.chmod(0o755)
+    return {"PATH": f"{stand_in.parent}:{os.environ['PATH']}"}
+
+
+def wrong_disks(scene, folder):
+    """A disk that fails after a record, and before one; a name that is used again meanwhile; a certificate that can't be made."""
+    size = size_of(scene)
+    scene.file("a/requests/x.request", request("x.example"))
+    for number in range(2):
+        yield from differ(f"no mv {number}", hour(scene, **failing(scene, "mv", "issued/"))[0], 1)
+        yield from differ(f"no mv {number}: the log", size_of(scene), size + 1)
+    scene.file("a/requests/x.request", request("y.example"))
+    yield from differ("a name used again", (hour(scene)[0], size_of(scene)), (0, size + 2))
+    issued = [(folder / f"issued/{index}.request").read_text() for index in (size, size + 1)]
+    yield from differ("both requests", issued, [request("x.example"), request("y.example")])
+    scene.file("a/requests/x.request", request("x.example"))
+    yield from differ("no sync", (hour(scene, **failing(scene, "sync", "begun"))[0], size_of(scene)), (1, size + 2))
+    line = 'if [ "$1" = light-cert ]; then exit 5; fi'
+    yield from differ("no certificate", (hour(scene, **stand_in(scene, line))[0], size_of(scene)), (5, size + 3))
+    yield from differ("nothing half", [path.name for path in folder.rglob("*.new")], [])
+    yield from differ("then", (hour(scene)[0], (folder / f"certs/{size + 2}.cert").is_file()), (0, True))
 
 
 def day(scene, **env):

@@ -135,7 +135,10 @@ def check_refused_to_publish(scene):
     yield from differ("a file that can't be written", publish(scene, 600)[0], 5)
     yield from differ("its checkpoint", (public / "checkpoint").read_bytes(), before["checkpoint"])
     (public / "tile/entries/002.p/88.new").rmdir()
+    (public / "tile/entries/002.p/88.new").symlink_to(scene.file("elsewhere", "elsewhere"))
     yield from differ("then", publish(scene, 600)[0], 0)
+    yield from differ("a link", ((scene.path / "elsewhere").read_bytes(), (public / "tile/entries/002.p/88").is_symlink()),
+                      (b"elsewhere", False))
     before = files_in(public)
     changed = bytearray(before["tile/0/001"])
     changed[0] ^= 1

@@ -65,10 +65,10 @@ def check_entries_to_certs(scene):
     yield from differ("later ones", (later[0], blocks_of(later[1])), (0, ({2: found[2], 3: found[3]}, "")))
     some = scene.tool("entries_to_certs.py", "entries", "3", "1")
     yield from differ("chosen ones", (some[0], blocks_of(some[1])), (0, ({1: found[1], 3: found[3]}, "")))
-    yield from wrong_entries(scene, (scene.path / "entries").read_bytes())
+    yield from wrong_entries(scene, (scene.path / "entries").read_bytes(), printed)
 
 
-def wrong_entries(scene, text):
+def wrong_entries(scene, text, all_printed):
     """Files that aren't whole, keys of other entries, and entries of other forms."""
     null = len(b"\0\2\0\0" + b"\0\0")
     cut = null + 2 + int.from_bytes(text[null:null + 2], "big")  # after entry 1, before its key
@@ -83,5 +83,5 @@ def wrong_entries(scene, text):
             ("a word", text, ("x",), 1, "x")):
         scene.file("bad", entries)
         ended = scene.tool("entries_to_certs.py", "bad", *words)
-        yield from refused(what, ended, status, line, ended[1])
+        yield from refused(what, ended, status, line, all_printed if what == "a cut length" else b"")
     yield from refused("no file", scene.tool("entries_to_certs.py", "none"), 5, "none")

@@ -27,6 +27,8 @@ def check_units(scene):
         units.append(unit)
     yield from differ("units", [unit.name for unit in units],
                       [f"mtc-{who}.{kind}" for who in ("authority", "cosigner") for kind in ("service", "timer")])
+    yield from differ("users", [re.findall(r"^User=(.*)", unit.read_text(), re.M) for unit in units],
+                      [["mtc-authority"], [], ["mtc-cosigner"], []])
     yield from differ("systemd-analyze", scene.ended("systemd-analyze", "verify", *units), (0, b"", ""))
     # It sees a wrong one.
     bad = scene.file("bad.service", units[0].read_text().replace("ExecStart=", "ExecStart=/nowhere"))
@@ -52,7 +54,7 @@ def check_release(scene):
     one = (scene.path / "one.tar.gz").read_bytes()
     yield from differ("both", hashlib.sha256((scene.path / "two.tar.gz").read_bytes()).hexdigest(), hashlib.sha256(one).hexdigest())
     yield from wrong_contents(scene, one)
-    for line in ("1234 passed, 1 failed", "0 passed, 0 failed", "", "1 passed, 0 failed\nmore"):
+    for line in ("1234 passed, 1 failed", "0 passed, 0 failed", "", "1 passed, 0 failed\nmore", "1 failed: no; 3 passed, 0 failed"):
         yield from refused(f"the line {line!r}", scene.tool("release.py", "out", line, "--program", "program"), 1, "the line isn't")
     yield from refused("no program", scene.tool("release.py", "out", LINE, "--program", "one.tar.gz", *kit), 2, "no program")
     yield from differ("a file that isn't there", scene.tool("release.py", "out", LINE, "--program", "none", *kit)[0], 2)
