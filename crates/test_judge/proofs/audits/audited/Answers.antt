@@ -12,6 +12,8 @@ use Rattle.cosigner_core.specs.declared.error.ReadExportError.TheVariants.{Memor
 use Rattle.cosigner_core.specs.declared.lists.Export.{Export}
 use Rattle.cosigner_steps.specs.Steps.{AreSteps}
 use Rattle.cosigner_steps.proofs.Exported.{export_steps}
+use Rattle.policy_core.specs.declared.store.Store.{Store}
+use Rattle.world_core.specs.Audit.{WasJudged}
 use Rattle.world_core.proofs.Premises.{was_judged}
 use Rattle.test_judge.proofs.audits.audited.Goals as goal
 
@@ -20,13 +22,18 @@ audit-requires-clause-judged c =
     let accepted : c.judge.result ≡ Ok c.in_ok-accepted.accepted = search rules in
     let parsed : c.parse.result ≡ Ok c.in_ok-cert.cert = search rules in
     let read : c.read_proof.result ≡ Ok c.in_ok-proof.proof = search rules in
+    let judged : WasJudged toy_hash c.args.store.now (parts c.in_ok-cert.cert)
+    (proof_parts c.in_ok-proof.proof) c.in_ok-accepted.accepted =
     was_judged toy_hash c.args.certificate.now c.args.store.now _ c.in_ok-accepted.accepted
     (parts c.in_ok-cert.cert) (proof_parts c.in_ok-proof.proof)
     (λ i. (c.type_inv.certificate i).fits)
     (sym c.judge.ensures ∙ accepted)
     (subst (λ r. Gives parts r (parts_of c.args.certificate.now)) parsed c.parse.ensures.exact)
     (subst (λ r. Gives proof_parts r (proof_in c.in_ok-cert.cert.proof.now)) read
-    c.read_proof.ensures.exact)
+    c.read_proof.ensures.exact) in
+    subst (λ (s : Store). WasJudged toy_hash s (parts c.in_ok-cert.cert)
+    (proof_parts c.in_ok-proof.proof) c.in_ok-accepted.accepted)
+    (sym c.as_store.ensures.same) judged
 
 borrowed_steps : (borrowed : Option (Bor Export)) (kept : Option Export)
     → option_copied borrowed ≡ kept
