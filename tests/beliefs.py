@@ -12,11 +12,12 @@ from functools import cache
 from checks import ledger
 from checks.sources import CLAUSE, FUNCTION, ROOT, after_braces, after_head, crates
 
-TOP = ROOT / "crates" / "mtc_top" / "src"
+# The sources in which they stand.
+SOURCES = (*sorted((ROOT / "crates" / "mtc_top" / "src").rglob("*.rt")), ROOT / "crates" / "mtc_laws" / "src" / "laws.rt")
 # Each statement: what its table is headed by, the functions whose contracts it is, and its page of definitions. First the
 # record that `run` ensures with the laws of each run, then the laws of executions, and those of what is printed.
-RUNS = ("The statement names", r"run|law_runs_\w+", ("mtc_top.specs.Run", "mtc_top.specs.RunLaws"))
-LAWS = "mtc_top.specs.{}Laws"
+RUNS = ("The statement names", r"run|law_runs_\w+", ("mtc_top.specs.Run", "mtc_laws.specs.RunLaws"))
+LAWS = "mtc_laws.specs.{}Laws"
 PRINTED = tuple(map(LAWS.format, ("Export", "Audit", "Print", "Status")))
 PRINTS = ("The laws of what is printed name", r"law_(?:exports|audits|printed|misread)_\w+", PRINTED)
 LINKED = ("mtc_top.specs.Executions", *map(LAWS.format, ("Execution", "Room", "Tile")))
@@ -30,7 +31,7 @@ TRAITS = ("mtc_room/src/room.rt", "disk_core/src/disk.rt", "mtc_io/src/source.rt
 # on which it rests, with their types of the code, has at most so many. It ends at the words of the crates below, which are those of
 # these standards and formats; the definitions of its level on which such a word rests are in the list too.
 WHOLE = r"law_the_whole_\w+"
-LEVEL = ("file_events", "party_history", "mtc_top")
+LEVEL = ("file_events", "party_history", "mtc_top", "mtc_laws")
 MOST = 97
 STANDARDS = {
     "the words for bytes, readings and forms": ("byte_formats",),
@@ -118,8 +119,8 @@ def module_of(dotted):
 
 
 def contracts(functions):
-    """The contracts of these public functions of the top, each with the imports of its file."""
-    for path in sorted(TOP.rglob("*.rt")):
+    """The contracts of these public functions, each with the imports of its file."""
+    for path in SOURCES:
         text = path.read_text()
         for match in re.finditer(rf"^pub fn (?:{functions})\b.*?^\{{", text, re.M | re.S):
             bare = re.sub(r"//[^\n]*", "", match.group())

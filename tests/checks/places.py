@@ -34,7 +34,7 @@ PLACES = [
     Place("crates/mtc_plans", "in `specs/Commands.antt` a line of `plan_of`: the plan, which stands beside it in `specs/`, has its inputs, "
           "its journals and its steps. In `specs/Cited.antt` a line of `command_outcome`: the outcome that its contract cites, a nest of the "
           "steps of `Steps`, in `specs/` of its crate. In `proofs/Planned.antt` a line of `outcome_planned`: that is what comes of the plan. "
-          "Where it opens a cosigner's journal, or is given a secret file, a line of `says_so` in `crates/mtc_top/proofs/Secrets.antt`: what "
+          "Where it opens a cosigner's journal, or is given a secret file, a line of `says_so` in `crates/mtc_laws/proofs/Secrets.antt`: what "
           "it prints",
           [("specs/Commands.antt", r"^plan_of h \({value} "), ("specs/Cited.antt", r"^command_outcome h \({value} "),
            ("proofs/Planned.antt", r"^ *outcome_planned \({value} ")]),

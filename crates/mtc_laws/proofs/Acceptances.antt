@@ -43,15 +43,15 @@ use Rattle.mtc_words.specs.Commands.{cert, issue, light_cert}
 use Rattle.mtc_words.specs.Words.{command_of}
 use Rattle.mtc_authority.specs.CertOutcome.{certificate_in, certificate_with}
 use Rattle.mtc_command.proofs.Made.{OnlyNow, ReadsCrashState}
-use Rattle.mtc_top.specs.AuditLaws.{HoldsText}
+use Rattle.mtc_laws.specs.AuditLaws.{HoldsText}
 use Rattle.mtc_top.specs.Executions.{Run, program}
-use Rattle.mtc_top.specs.PrintLaws.{OfHeard}
-use Rattle.mtc_top.proofs.Aliases.{IsHeard, IsRun}
-use Rattle.mtc_top.proofs.Audits.{printed_text}
-use Rattle.mtc_top.proofs.HeardRuns.{contents_crash_state, heard_held, modelled_file}
-use Rattle.mtc_top.proofs.Printed.{indices_printed}
-use Rattle.mtc_top.proofs.Recovered.{each_held, held_prefix, modelled_then}
-use Rattle.mtc_top.proofs.RunLaws.{done_heard}
+use Rattle.mtc_laws.specs.PrintLaws.{OfHeard}
+use Rattle.mtc_laws.proofs.Aliases.{IsHeard, IsRun}
+use Rattle.mtc_laws.proofs.Audits.{printed_text}
+use Rattle.mtc_laws.proofs.HeardRuns.{contents_crash_state, heard_held, modelled_file}
+use Rattle.mtc_laws.proofs.Printed.{indices_printed}
+use Rattle.mtc_laws.proofs.Recovered.{each_held, held_prefix, modelled_then}
+use Rattle.mtc_laws.proofs.RunLaws.{done_heard}
 use Rattle.mtc_laws.specs.AcceptanceLaws.{AsksForCertificate, Backs, IsAcceptedFor}
 use Rattle.mtc_laws.specs.AcceptanceLaws.{IssuedCertificatesAreAccepted, WritesCertificate}
 use Rattle.mtc_laws.specs.AcceptanceLaws.{certified_hash}

@@ -21,11 +21,11 @@ use Rattle.mtc_command.specs.Made.{reads}
 use Rattle.mtc_command.specs.Answers.{said}
 use Rattle.mtc_command.specs.declared.answer.Said.TheVariants.{Done}
 use Rattle.mtc_authority.specs.CertOutcome.{certificate_in, light_text, signatures_in}
-use Rattle.mtc_top.specs.AuditLaws.{HoldsText}
+use Rattle.mtc_laws.specs.AuditLaws.{HoldsText}
 use Rattle.mtc_top.specs.Executions.{Run, program}
-use Rattle.mtc_top.proofs.Aliases.{IsHeard, IsRun}
-use Rattle.mtc_top.proofs.HeardRuns.{file_bytes, printed_so}
-use Rattle.mtc_top.proofs.Printed.{did_so, heard_so}
+use Rattle.mtc_laws.proofs.Aliases.{IsHeard, IsRun}
+use Rattle.mtc_laws.proofs.HeardRuns.{file_bytes, printed_so}
+use Rattle.mtc_laws.proofs.Printed.{did_so, heard_so}
 use Rattle.mtc_laws.specs.CertLaws.{CertificatesArePrinted, LightCertificatesArePrinted}
 use Rattle.mtc_laws.specs.CertLaws.{PrintsCertificate}
 use Rattle.mtc_laws.proofs.CertTexts.{CertSaysSo, LightCertSaysSo, cert_says, light_cert_says}

@@ -66,11 +66,11 @@ use Rattle.mtc_cosigner.specs.CosignerOutcomes.{cosigned_text}
 use Rattle.mtc_plans.specs.Heard.{CosignsSo}
 use Rattle.mtc_plans.proofs.Heard.{cosigned_so}
 use Rattle.mtc_top.specs.Executions.{program}
-use Rattle.mtc_top.specs.PrintLaws.{HasCosigned, OfHeard}
-use Rattle.mtc_top.proofs.HeardRuns.{file_bytes, heard_held, printed_so}
-use Rattle.mtc_top.proofs.Leaves.{first_own, serves}
-use Rattle.mtc_top.proofs.Printed.{did_so, heard_so}
-use Rattle.mtc_top.proofs.Recovered.{crash_state_list, each_held, held_prefix, modelled_then}
+use Rattle.mtc_laws.specs.PrintLaws.{HasCosigned, OfHeard}
+use Rattle.mtc_laws.proofs.HeardRuns.{file_bytes, heard_held, printed_so}
+use Rattle.mtc_laws.proofs.Leaves.{first_own, serves}
+use Rattle.mtc_laws.proofs.Printed.{did_so, heard_so}
+use Rattle.mtc_laws.proofs.Recovered.{crash_state_list, each_held, held_prefix, modelled_then}
 use Rattle.mtc_laws.specs.CountLaws.{PrintedSignaturesCount, signature_of}
 
 -- ---- a cosigner keeps its key

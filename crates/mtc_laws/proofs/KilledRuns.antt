@@ -29,9 +29,9 @@ use Rattle.mtc_authority.specs.StoredTiles.{HasTilesOf}
 use Rattle.party_history.specs.Rules.{AreRecords}
 use Rattle.mtc_top.specs.Executions.{owner, program}
 use Rattle.mtc_top.specs.Facts.{facts}
-use Rattle.mtc_top.specs.TileLaws.{tiled_log}
-use Rattle.mtc_top.proofs.Leaves.{serves}
-use Rattle.mtc_top.proofs.LogLeaves.{serves_log}
+use Rattle.mtc_laws.specs.TileLaws.{tiled_log}
+use Rattle.mtc_laws.proofs.Leaves.{serves}
+use Rattle.mtc_laws.proofs.LogLeaves.{serves_log}
 use Rattle.mtc_laws.specs.Killed.{DiesOverFuses, JournalsMayBreak, LogsMayBreak}
 
 -- ---- any files

@@ -1,3 +1,24 @@
+pub mod Commands
+pub mod Aliases
+pub mod Opened
+pub mod Beside
+pub mod Leaves
+pub mod RunLaws
+pub mod HeardRuns
+pub mod Recovered
+pub mod Exports
+pub mod Audits
+pub mod AuditsDecide
+pub mod Convicted
+pub mod Printed
+pub mod Secrets
+pub mod ExportsGrow
+pub mod PrintedStands
+pub mod Misread
+pub mod Together
+pub mod TilesBeside
+pub mod LogLeaves
+pub mod TilesStay
 mod Acceptances
 mod CertTexts
 mod Certified

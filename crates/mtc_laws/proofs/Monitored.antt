@@ -31,8 +31,8 @@ use Rattle.mtc_monitor.specs.MonitorOutcome.{run_says, watch_says}
 use Rattle.mtc_plans.specs.Heard.{OfSaid}
 use Rattle.mtc_plans.proofs.Planned.{outcome_planned}
 use Rattle.mtc_top.specs.Executions.{program}
-use Rattle.mtc_top.proofs.HeardRuns.{printed_so}
-use Rattle.mtc_top.proofs.Printed.{heard_so}
+use Rattle.mtc_laws.proofs.HeardRuns.{printed_so}
+use Rattle.mtc_laws.proofs.Printed.{heard_so}
 use Rattle.mtc_laws.specs.MonitorLaws.{MonitorsArePrinted}
 
 -- ---- an outcome that may say a text says that text

@@ -22,12 +22,12 @@ use Rattle.cosigner_core.proofs.ExportAgain.{export_again}
 use Rattle.quarrel_core.proofs.FoundSigns.{signs_found}
 use Rattle.mtc_plans.specs.Heard.{ExportsSo}
 use Rattle.mtc_plans.proofs.Heard.{exported_so}
-use Rattle.mtc_top.proofs.Audits.{printed_text}
-use Rattle.mtc_top.proofs.Convicted.{IsInConflict, conflict_convicts}
-use Rattle.mtc_top.proofs.Exports.{step_there}
-use Rattle.mtc_top.proofs.Printed.{heard_so}
-use Rattle.mtc_top.proofs.RunLaws.{done_heard}
-use Rattle.mtc_top.proofs.HeardRuns.{file_bytes, printed_so}
+use Rattle.mtc_laws.proofs.Audits.{printed_text}
+use Rattle.mtc_laws.proofs.Convicted.{IsInConflict, conflict_convicts}
+use Rattle.mtc_laws.proofs.Exports.{step_there}
+use Rattle.mtc_laws.proofs.Printed.{heard_so}
+use Rattle.mtc_laws.proofs.RunLaws.{done_heard}
+use Rattle.mtc_laws.proofs.HeardRuns.{file_bytes, printed_so}
 use Rattle.mtc_top.specs.Executions.{program}
 use Rattle.mtc_laws.specs.RecordedTwice.{HasRecordedTwice, RecordedSignaturesCollide}
 use Rattle.mtc_laws.specs.RecordedTwice.{SignIsRecorded}

@@ -20,7 +20,7 @@ use Rattle.mtc_command.specs.declared.answer.Said.TheVariants.{Done}
 use Rattle.mtc_command.proofs.Inputs.{bytes_read}
 use Rattle.mtc_relying.specs.VerifyOutcome.{verdict_says, verify_outcome, verify_says}
 use Rattle.mtc_plans.proofs.Planned.{outcome_planned}
-use Rattle.mtc_top.specs.AuditLaws.{HoldsText}
+use Rattle.mtc_laws.specs.AuditLaws.{HoldsText}
 use Rattle.mtc_top.specs.Concluded.{Prints}
 use Rattle.mtc_top.specs.Executions.{program}
 use Rattle.mtc_top.specs.Facts.{facts}

@@ -20,10 +20,10 @@ use Rattle.authority_core.specs.Certificates.{covering_in, proof_for}
 use Rattle.file_events.specs.Worlds.{EachRun, IsFileExecution, Program}
 use Rattle.mtc_words.specs.Commands.{cert, cosign, issue, light_cert}
 use Rattle.mtc_words.specs.Words.{command_of}
-use Rattle.mtc_top.specs.AuditLaws.{HoldsText}
-use Rattle.mtc_top.specs.ExecutionLaws.{OfExecutions}
+use Rattle.mtc_laws.specs.AuditLaws.{HoldsText}
+use Rattle.mtc_laws.specs.ExecutionLaws.{OfExecutions}
 use Rattle.mtc_top.specs.Executions.{FileEvent, IsBegun, Run, owner}
-use Rattle.mtc_top.specs.PrintLaws.{HasIssued, OfHeard}
+use Rattle.mtc_laws.specs.PrintLaws.{HasIssued, OfHeard}
 use Rattle.mtc_laws.specs.CertLaws.{PrintsCertificate, HasVerified, PrintsAccepted}
 
 module _ (h : HashFunction) (p : Program) where

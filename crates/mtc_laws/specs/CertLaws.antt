@@ -15,10 +15,10 @@ use Rattle.mtc_words.specs.Commands.{cert, light_cert, verify}
 use Rattle.mtc_words.specs.Words.{command_of}
 use Rattle.mtc_command.specs.Made.{reads}
 use Rattle.mtc_authority.specs.CertOutcome.{certificate_in, signatures_in}
-use Rattle.mtc_top.specs.AuditLaws.{HoldsText}
+use Rattle.mtc_laws.specs.AuditLaws.{HoldsText}
 use Rattle.mtc_top.specs.Concluded.{Prints}
 use Rattle.mtc_top.specs.Executions.{HasPrinted, Run}
-use Rattle.mtc_top.specs.PrintLaws.{OfEachRun, OfHeard}
+use Rattle.mtc_laws.specs.PrintLaws.{OfEachRun, OfHeard}
 
 -- What `verify` prints of a certificate of this index that it accepts.
 abbrev pub accepted_line : ℕ → Text

@@ -14,8 +14,8 @@ use Rattle.cosigner_core.specs.declared.settings.CosignerSettings.{CosignerSetti
 use Rattle.party_history.specs.declared.start.PartyStart.TheVariants.{Cosigner}
 use Rattle.file_events.specs.Worlds.{EachRun, Program}
 use Rattle.mtc_words.specs.Commands.{cosign}
-use Rattle.mtc_top.specs.ExecutionLaws.{OfExecutions}
-use Rattle.mtc_top.specs.PrintLaws.{HasCosigned, OfHeard}
+use Rattle.mtc_laws.specs.ExecutionLaws.{OfExecutions}
+use Rattle.mtc_laws.specs.PrintLaws.{HasCosigned, OfHeard}
 
 -- The signature whose text `cosign` prints.
 abbrev pub signature_of : CosignerState → SubtreeParts → SigParts

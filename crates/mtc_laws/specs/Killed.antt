@@ -14,7 +14,7 @@ use Rattle.file_events.specs.Owners.{RunsMayBreak}
 use Rattle.file_events.specs.Worlds.{FileOwner, IsFileEvent, Program, died}
 use Rattle.mtc_words.specs.Names.{is_tiles_name}
 use Rattle.mtc_top.specs.Executions.{Run, owner, program}
-use Rattle.mtc_top.specs.TileLaws.{tiled_log}
+use Rattle.mtc_laws.specs.TileLaws.{tiled_log}
 
 module _ (h : HashFunction) (p : Program) where
   -- Each run leaves of a journal what a run leaves that broke off. The name of a journal isn't that

@@ -1,3 +1,12 @@
+pub mod RunLaws
+pub mod ExecutionLaws
+pub mod RoomLaws
+pub mod ExportLaws
+pub mod AuditLaws
+pub mod QuarrelLaws
+pub mod PrintLaws
+pub mod StatusLaws
+pub mod TileLaws
 pub mod AcceptanceLaws
 pub mod CertLaws
 pub mod CountLaws

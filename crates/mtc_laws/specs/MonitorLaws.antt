@@ -4,7 +4,7 @@ use Rattle.file_events.specs.Worlds.{Program}
 use Rattle.mtc_words.specs.Commands.{monitor}
 use Rattle.mtc_monitor.specs.StateFiles.{IsPrinted, MonitorCommand}
 use Rattle.mtc_top.specs.Executions.{HasPrinted, Run}
-use Rattle.mtc_top.specs.PrintLaws.{OfEachRun, OfHeard}
+use Rattle.mtc_laws.specs.PrintLaws.{OfEachRun, OfHeard}
 
 module _ (h : HashFunction) (p : Program) where
   -- The run is one of `monitor` over these four files: it has to print this text, and what went out

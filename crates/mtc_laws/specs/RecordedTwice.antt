@@ -8,9 +8,9 @@ use Rattle.mtc_words.specs.Commands.{export, quarrel}
 use Rattle.mtc_words.specs.Words.{command_of}
 use Rattle.cosigner_core.specs.Records.{step_in}
 use Rattle.cosigner_core.specs.declared.step.Step.TheVariants.{Sign}
-use Rattle.mtc_top.specs.AuditLaws.{HoldsText}
+use Rattle.mtc_laws.specs.AuditLaws.{HoldsText}
 use Rattle.mtc_top.specs.Executions.{Run}
-use Rattle.mtc_top.specs.QuarrelLaws.{Convicts}
+use Rattle.mtc_laws.specs.QuarrelLaws.{Convicts}
 
 -- One of these records, but the first, is of a signature of this interval and hash.
 pub record SignIsRecorded (list : List Text) (start end : ℕ) (hash : Hash) : Type 0 where

@@ -4,7 +4,7 @@ ghost use Rattle.std.specs.Prelude.{◌≡◌, false};
 ghost use Rattle.byte_formats.specs.Types.{Text};
 ghost use Rattle.mtc_words.specs.Names.{is_tiles_name};
 ghost use Rattle.mtc_top.specs.Executions.{owner, program};
-ghost use Rattle.mtc_top.specs.TileLaws.{tiled_log};
+ghost use Rattle.mtc_laws.specs.TileLaws.{tiled_log};
 ghost use Rattle.mtc_laws.specs.Killed.{DiesOverFuses, JournalsMayBreak, LogsMayBreak};
 
 use disk_core::{Disk, Fuse, MemDisk};

@@ -3,13 +3,4 @@ pub mod Cited
 pub mod Concluded
 pub mod Run
 pub mod Executions
-pub mod RunLaws
 pub mod Stops
-pub mod ExecutionLaws
-pub mod RoomLaws
-pub mod ExportLaws
-pub mod AuditLaws
-pub mod QuarrelLaws
-pub mod PrintLaws
-pub mod StatusLaws
-pub mod TileLaws

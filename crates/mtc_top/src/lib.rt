@@ -8,7 +8,6 @@
 #![tactic(auto)]
 
 mod finish;
-pub mod laws;
 mod refused_words;
 mod stopping;
 mod top;

@@ -1,0 +1,255 @@
+-- What a run leaves of the journal of a log and of the file of its tiles, at once.
+use Rattle.std.proofs.Common.{◌≡◌, ◌⊎◌, inl, inr, ℕ, Bool, true, false, List, [], ◌∷◌, ◌++◌, Option}
+use Rattle.std.proofs.Common.{Some, subst, ◌∙◌}
+use Rattle.byte_formats.specs.Offsets.{IsBytes}
+use Rattle.byte_formats.specs.Types.{HashFunction, Text}
+use Rattle.disk_core.specs.Disk.{NoNew}
+use Rattle.disk_core.specs.declared.disk.Disk.{Ghosts as Disks}
+use Rattle.file_events.specs.Events.{CrashStates, Done, HalfDone, Happens}
+use Rattle.file_events.specs.Owners.{ServesLog}
+use Rattle.file_events.specs.Tiles.{AllGo, LeavesTiles, stored}
+use Rattle.file_events.specs.Works.{LeavesAll, Work, journal_work, tiles_work}
+use Rattle.file_events.specs.Worlds.{all_states, breaks_off, done_to, event_with}
+use Rattle.file_events.specs.Worlds.{states_at, heard_of}
+use Rattle.file_events.proofs.Records.{one_list}
+use Rattle.journal_core.specs.Format.{Represents}
+use Rattle.mtc_io.specs.declared.sink.Sink.{Ghosts as Sinks}
+use Rattle.mtc_room.specs.Room.{ModelsFile}
+use Rattle.mtc_room.specs.declared.room.Room.{Ghosts as Rooms}
+use Rattle.mtc_words.specs.Words.{command_of}
+use Rattle.mtc_command.specs.Answers.{tiles_name}
+use Rattle.mtc_command.specs.Endings.{IsNamed}
+use Rattle.mtc_command.specs.Made.{Journaled, appended, reads, started, untouched}
+use Rattle.mtc_command.specs.Served.{IsOther, Journals}
+use Rattle.mtc_command.specs.Stored.{KeepsBoth, LeavesBoth, StoresBoth}
+use Rattle.mtc_command.proofs.Made.{OnlyNow, ReadsCrashState}
+use Rattle.mtc_command.proofs.Served.{other_both}
+use Rattle.mtc_authority.specs.StoredTiles.{HasTilesOf}
+use Rattle.party_history.specs.Rules.{AreRecords}
+use Rattle.mtc_top.specs.Facts.{Facts, facts}
+use Rattle.mtc_laws.proofs.Beside.{IsOwn, none_beside}
+use Rattle.mtc_laws.proofs.Commands.{spoken_records}
+use Rattle.mtc_laws.proofs.Leaves.{Knows, contents_crash_state, empty_before, file_bytes, find_name}
+use Rattle.mtc_laws.proofs.Leaves.{found}
+use Rattle.mtc_laws.proofs.Leaves.{knows, leaves, may_append, of_each, one_longer, serves, reported}
+use Rattle.mtc_laws.proofs.TilesBeside.{added_to, named_or_other, named_other, no_cosigner_log}
+use Rattle.mtc_laws.proofs.TilesBeside.{tiles_no_journal, tiles_other}
+use Rattle.mtc_top.specs.Executions.{program, Run}
+use Rattle.mtc_laws.specs.RunLaws.{AreAmong}
+use Rattle.mtc_laws.proofs.Aliases.{IsRun, crash_states_in}
+
+-- a run that isn't about the journal leaves nothing new of it
+still_kept : (Valid : List Text → Type 0) (broken heard : Bool) (did : Journaled)
+    (before now : CrashStates) → did ≡ untouched
+    → Happens Valid (event_with broken heard did) before now → NoNew before now
+still_kept Valid true heard did before now is happens =
+    elim (subst (λ (d : Journaled). Happens Valid (event_with true heard d) before now) is
+    happens) [
+      | inl kept ↦ kept
+      | inr kept ↦ kept
+    ]
+still_kept Valid false heard did before now is happens =
+    subst (λ (d : Journaled). Happens Valid (event_with false heard d) before now) is happens
+
+-- The tiles were only read: they go with the record of a log.
+module _ (goes : List Text → Text → Type 0) (now before after : CrashStates)
+    (kept : NoNew before after) where
+  -- the tiles go with a record that is added
+  abbrev Continues : Journaled → Type 0
+  Continues untouched = Unit {0}
+  Continues (reads list) = Unit {0}
+  Continues (appended list body) = (c : Text) → now c → Represents c (list ++ body ∷ [])
+      → AllGo goes (list ++ body ∷ []) after
+  Continues (started body) = Unit {0}
+
+  read_left : (did : Journaled) → Continues did
+      → LeavesTiles goes (λ list body. ⊥) stored did before now after
+  read_left untouched on = kept
+  read_left (reads list) on = λ all c at. all c (kept c at)
+  read_left (appended list body) on =
+      record
+      { keeps = λ all c at. all c (kept c at); following = λ all c at stands. on c at stands }
+  read_left (started body) on = kept
+
+module _ {R S D O E : Type 0} (h : HashFunction) (rooms : Rooms R S D) (disks : Disks D)
+    (outs : Sinks O) (errs : Sinks E) (crash_state : ReadsCrashState disks) (only : OnlyNow disks)
+    (contents : (room : R) (name : List ℕ) → rooms.is_modelled room
+    → ModelsFile disks.contents (rooms.file room name) (rooms.device room name))
+    (bytes : (d : D) (b : List ℕ) → disks.contents d ≡ Some b → IsBytes b) where
+  module _ (name : Text) (own : IsOwn name) (old : R) (run : Run R O E)
+      (is_modelled : rooms.is_modelled old) (is_run : IsRun h rooms disks outs errs old run) where
+    abbrev asked : Facts
+    asked = facts h (command_of run.words)
+
+    abbrev keeps : (list : List Text) → asked.Valid list → AreRecords h list
+    keeps = spoken_records h (command_of run.words)
+
+    abbrev beside : Text
+    beside = tiles_name name
+
+    abbrev js : Journals
+    js = (program h rooms disks outs errs).journals old run
+
+    abbrev did : Journaled
+    did = done_to js name
+
+    abbrev heard : Bool
+    heard = heard_of (program h rooms disks outs errs) run
+
+    abbrev Before : CrashStates
+    Before = crash_states_in h rooms disks outs errs old name
+
+    abbrev Now : CrashStates
+    Now = crash_states_in h rooms disks outs errs run.room name
+
+    abbrev TilesBefore : CrashStates
+    TilesBefore = crash_states_in h rooms disks outs errs old beside
+
+    abbrev TilesNow : CrashStates
+    TilesNow = crash_states_in h rooms disks outs errs run.room beside
+
+    abbrev KnowsOf : Journaled → Type 0
+    KnowsOf =
+        Knows h rooms disks outs errs crash_state only contents bytes name old run is_modelled
+        is_run
+        (AreRecords h) keeps
+
+    abbrev Both : Journaled → Type 0
+    Both d = LeavesBoth (HasTilesOf h) asked.Valid rooms disks old run.room name d
+
+    abbrev Left : Journaled → Type 0
+    Left d = LeavesTiles (HasTilesOf h) (λ list body. ⊥) stored d TilesBefore Now TilesNow
+
+    abbrev works : Journaled → List Work
+    works d = journal_work (AreRecords h) name d
+        ∷ tiles_work (HasTilesOf h) (λ list body. ⊥) name beside d stored ∷ []
+
+    abbrev All : Bool → Journaled → Type 0
+    All broken d = LeavesAll broken (works d) (all_states (program h rooms disks outs errs) old)
+        (all_states (program h rooms disks outs errs) run.room)
+
+    happens : Happens (AreRecords h) (event_with (breaks_off run.status) heard did) Before Now
+    happens =
+        (leaves h rooms disks outs errs crash_state only contents bytes name old run is_modelled
+        is_run (AreRecords h) keeps (none_beside h (command_of run.words) name own)).leads.happens
+
+    -- ---- a log, with the file of its tiles
+
+    -- a run that came to its end and left nothing new has added nothing
+    kept_left : (d : Journaled) → KnowsOf d → Done (AreRecords h) d Before Now
+        → KeepsBoth (HasTilesOf h) asked.Valid rooms disks old run.room name → Left d
+    kept_left untouched known done kept = kept.beside.crash_states.now_is
+    kept_left (reads list) known done kept =
+        λ all c at. all c (kept.beside.crash_states.now_is c at)
+    kept_left (appended list body) known done kept =
+        let is = known.finds in
+        absurd (one_longer list body (one_list is.bytes list (list ++ body ∷ []) is.stands
+        (done.1 is.bytes
+        (contents_crash_state disks (rooms.device run.room name) is.bytes crash_state
+        (kept.contents
+        ∙ reported h rooms disks outs errs crash_state only contents bytes name old run
+        is_modelled is_run (AreRecords h) keeps is.bytes is.there)))))
+    kept_left (started body) known done kept = kept.beside.crash_states.now_is
+
+    half_left : (d : Journaled) → KnowsOf d
+        → NoNew Before Now ⊎ HalfDone (AreRecords h) d Before Now
+        → StoresBoth (HasTilesOf h) asked.Valid d Now TilesBefore TilesNow
+        → HalfDone (AreRecords h) d Before Now
+    half_left untouched known is began = elim is [ inl kept ↦ kept | inr kept ↦ kept ]
+    half_left (reads list) known is began = (
+      found h rooms disks outs errs crash_state only contents bytes name old run is_modelled is_run
+          (AreRecords h) keeps list known.finds,
+      began.stands,
+    )
+    half_left (appended list body) known is began = (
+      may_append h rooms disks outs errs crash_state only contents bytes name old run is_modelled
+          is_run
+          (AreRecords h) keeps list body known.finds began.valid,
+      began.stands,
+    )
+    half_left (started body) known is began =
+        empty_before h rooms disks outs errs crash_state only contents bytes name old run
+        is_modelled is_run
+        (AreRecords h) keeps body known.is_new
+
+    both_left : (broken : Bool) (d : Journaled) → KnowsOf d
+        → Happens (AreRecords h) (event_with broken heard d) Before Now → Both d → All broken d
+    both_left false d known is both = elim both [
+      | inl kept ↦ (is, (kept_left d known is kept, tt))
+      | inr began ↦ (is, (began.left, tt))
+    ]
+    both_left true d known is both = elim both [
+      | inl kept ↦ inl (kept.journal.crash_states.now_is, (kept.beside.crash_states.now_is, tt))
+      | inr began ↦ inr (half_left d known is began, (began.left, tt))
+    ]
+
+    -- ---- any other journal, or none
+
+    module _ (other : IsOther asked.besides beside) where
+      still_tiles : NoNew TilesBefore TilesNow
+      still_tiles c at = subst (λ (x : Option D). states_at disks x c)
+          (is_run.back.others beside (other_both asked.besides asked.journals beside other
+          (tiles_no_journal h run.words name))).disk at
+
+      alone_left : (broken : Bool) (d : Journaled)
+          → Continues (HasTilesOf h) Now TilesBefore TilesNow still_tiles d
+          → Happens (AreRecords h) (event_with broken heard d) Before Now → All broken d
+      alone_left false d on is = (
+        is,
+        (read_left (HasTilesOf h) Now TilesBefore TilesNow still_tiles d on, tt),
+      )
+      alone_left true d on is = elim is [
+        | inl kept ↦ inl (kept, (still_tiles, tt))
+        | inr half ↦ inr (
+          half,
+          (read_left (HasTilesOf h) Now TilesBefore TilesNow still_tiles d on, tt),
+        )
+      ]
+
+      -- a record is added to the journal of a cosigner
+      cosigner_on : (d : Journaled) → AreAmong js name d
+          → Continues (HasTilesOf h) Now TilesBefore TilesNow still_tiles d
+      cosigner_on untouched among = tt
+      cosigner_on (reads list) among = tt
+      cosigner_on (appended list body) among = λ c at stands t there s made.
+          elim (added_to h (rooms.file old) name list body (λ n b is. file_bytes disks
+          (rooms.file old n) (rooms.device old n) b bytes (contents old n is_modelled) is)
+          (command_of run.words) among) [
+            | inl named ↦ absurd (named_other asked.besides beside named other)
+            | inr is ↦ absurd (no_cosigner_log h list body s is made)
+          ]
+      cosigner_on (started body) among = tt
+
+      untouched_on : (d : Journaled) → d ≡ untouched
+          → Continues (HasTilesOf h) Now TilesBefore TilesNow still_tiles d
+      untouched_on untouched is = tt
+      untouched_on (reads list) is = tt
+      untouched_on (appended list body) is =
+          let wrong : appended list body ≡ untouched = is in absurd cc
+      untouched_on (started body) is = tt
+
+    pub log_leaves : All (breaks_off run.status) did
+    log_leaves = elim (find_name asked.journals (asked.outcome (rooms.file old)).journals name) [
+      | inl none ↦
+          (let other = tiles_other h (command_of run.words) name none.0 in
+          alone_left other (breaks_off run.status) did (untouched_on other did none.1) happens)
+      | inr among ↦ elim (named_or_other asked.besides beside) [
+        | inl named ↦ both_left (breaks_off run.status) did
+            (knows h rooms disks outs errs crash_state only contents bytes name old run is_modelled
+            is_run
+            (AreRecords h) keeps did among) happens
+            (of_each (λ n d. IsNamed asked.besides (tiles_name n)
+            → LeavesBoth (HasTilesOf h) asked.Valid rooms disks old run.room n d) js name did
+            (is_run.stores is_modelled) among named)
+        | inr other ↦
+            alone_left other (breaks_off run.status) did (cosigner_on other did among) happens
+      ]
+    ]
+
+  -- runs leave of both files what they have to leave
+  pub serves_log : (name : Text) → IsOwn name → ServesLog (program h rooms disks outs errs)
+      (HasTilesOf h) (λ list body. ⊥) (AreRecords h) name (tiles_name name) (λ old is_run. stored)
+  serves_log name own = record {
+    rooms = (serves h rooms disks outs errs crash_state only contents bytes name own).rooms;
+    leaves = λ old run is_modelled is_run. log_leaves name own old run is_modelled is_run;
+  }

@@ -1,0 +1,74 @@
+-- What becomes of the records of what went out in an execution.
+use Rattle.std.proofs.Common.{◌≡◌, ℕ, List, [], ◌∷◌, ◌++◌, Some}
+use Rattle.byte_formats.specs.Offsets.{IsBytes}
+use Rattle.byte_formats.specs.Types.{HashFunction}
+use Rattle.file_events.specs.Executions.{IsPrefix}
+use Rattle.disk_core.specs.declared.disk.Disk.{Ghosts as Disks}
+use Rattle.mtc_io.specs.declared.sink.Sink.{Ghosts as Sinks}
+use Rattle.mtc_room.specs.Room.{ModelsFile}
+use Rattle.mtc_room.specs.declared.room.Room.{Ghosts as Rooms}
+use Rattle.mtc_words.specs.Commands.{cosign, issue}
+use Rattle.authority_core.specs.Issues.{issued_entry}
+use Rattle.mtc_command.proofs.Made.{OnlyNow, ReadsCrashState}
+use Rattle.mtc_laws.specs.PrintLaws.{HasCosigned, IsInLog, IssuedEntriesStand, OfHeard}
+use Rattle.mtc_laws.specs.PrintLaws.{SignaturesStand}
+use Rattle.mtc_laws.proofs.Printed.{indices_printed, signatures_printed}
+use Rattle.mtc_laws.proofs.Recovered.{added_stand, each_held, held_prefix, crash_state_list}
+use Rattle.mtc_laws.proofs.HeardRuns.{heard_held}
+use Rattle.mtc_top.specs.Executions.{program, WasHeld}
+
+module _ {R S D O E : Type 0} (h : HashFunction) (rooms : Rooms R S D) (disks : Disks D)
+    (outs : Sinks O) (errs : Sinks E) (crash_state : ReadsCrashState disks) (only : OnlyNow disks)
+    (contents : (room : R) (name : List ℕ) → rooms.is_modelled room
+    → ModelsFile disks.contents (rooms.file room name) (rooms.device room name))
+    (bytes : (d : D) (b : List ℕ) → disks.contents d ≡ Some b → IsBytes b) where
+  pub signatures_stand : SignaturesStand h (program h rooms disks outs errs)
+  signatures_stand name start first begins new events begun execution file c at =
+      let stands =
+      crash_state_list h rooms disks outs errs crash_state only contents bytes name start first
+      begins
+      new events begun execution c at in
+      let found = stands.0 in (
+        found,
+        (
+          stands.1,
+          each_held h rooms disks outs errs crash_state only contents bytes name start first begins
+              new
+              events begun execution (λ list. IsPrefix list found)
+              (OfHeard h (program h rooms disks outs errs) (cosign name file) (λ old run.
+              (signed : HasCosigned h (program h rooms disks outs errs) name file old run)
+              × IsPrefix (signed.list ++ signed.body ∷ []) found))
+              (λ list held. held_prefix h rooms disks outs errs crash_state only contents bytes name
+              start
+              first begins new events begun execution list found held (c, (at, stands.1)))
+              (λ old run is_modelled is_run prefixes spoken heard.
+              let s = signatures_printed h rooms disks outs errs contents bytes name file old run
+              is_modelled
+              is_run spoken heard in (
+                s,
+                prefixes (s.list ++ s.body ∷ []) (heard_held h rooms disks outs errs old run is_run
+                    heard name s.list s.body s.did),
+              )),
+        ),
+      )
+
+  pub issued_stand : IssuedEntriesStand h (program h rooms disks outs errs)
+  issued_stand name start first begins new events begun execution settings file found is recovered =
+      each_held h rooms disks outs errs crash_state only contents bytes name start first begins new
+      events
+      begun execution (WasHeld h (program h rooms disks outs errs) name begins events)
+      (OfHeard h (program h rooms disks outs errs) (issue name file) (λ old run.
+      IsInLog h (program h rooms disks outs errs) name file old run found)) (λ list held. held)
+      (λ old run is_modelled is_run held spoken heard.
+      let i = indices_printed h rooms disks outs errs contents bytes name file old run is_modelled
+      is_run
+      spoken heard in
+      let log =
+      added_stand h rooms disks outs errs crash_state only contents bytes name start first begins
+      new
+      events begun execution settings i.list found i.body
+      (issued_entry h i.state.settings i.request)
+      i.request.key i.state is (held (i.list ++ i.body ∷ [])
+      (heard_held h rooms disks outs errs old run is_run heard name i.list i.body i.did)) i.log_is
+      i.item recovered in
+      record { issued = i; log = log.0; log_is = log.1.0; at_index = log.1.1 })

@@ -1,0 +1,346 @@
+-- What follows of each run, and how it ends as steps of a party.
+use Rattle.std.proofs.Common.{◌≡◌, ◌≢◌, ◌≤◌, ◌<◌, ◌⊎◌, inl, inr, ℕ, List, [], ◌∷◌, Option}
+use Rattle.std.proofs.Common.{None, Some, codes, length, take, refl, sym, ap, subst, ◌∙◌}
+use Rattle.std.proofs.Common.{arith, rules, length-take, take_all, Bool, true, false, ◌||◌, ◌==◌}
+use Rattle.std.proofs.Common.{nat_lt}
+use Rattle.std.proofs.lemmas.Bool.{eq-eqb, eqb-true, lt-ltb, ltb-true, ne_eqb, or_left}
+use Rattle.std.proofs.lemmas.Bool.{or_right}
+use Rattle.std.proofs.lemmas.Bool.Decides.{leb_tells}
+use Rattle.std.proofs.lemmas.List.{append_cancel_left, take-take}
+use Rattle.std.specs.Io.KnownBytes.{Appends}
+use Rattle.byte_formats.specs.Offsets.{IsBytes}
+use Rattle.byte_formats.specs.Types.{HashFunction}
+use Rattle.disk_core.specs.declared.disk.Disk.{Ghosts as Disks}
+use Rattle.file_events.specs.Events.{CrashStates, Event, Leads, broke}
+use Rattle.file_events.specs.Worlds.{breaks_off, clock_of, done_to, is_heard}
+use Rattle.file_events.proofs.Histories.{step}
+use Rattle.file_events.specs.Owners.{did_to}
+use Rattle.mtc_io.specs.Counts.{Rose}
+use Rattle.mtc_io.specs.Streams.{AppendsPrefix}
+use Rattle.mtc_io.specs.declared.sink.Sink.{Ghosts as Sinks}
+use Rattle.mtc_room.specs.Room.{ModelsFile}
+use Rattle.mtc_room.specs.declared.room.Room.{Ghosts as Rooms}
+use Rattle.mtc_command.specs.Answers.{Ending, Reply, replied, room_failed, no_memory, said}
+use Rattle.mtc_command.specs.Answers.{refused, status_of, out_of}
+use Rattle.mtc_command.specs.Made.{HasKept, HasMade, Journaled, Leaves, Leaving, MayHaveMade}
+use Rattle.mtc_command.specs.Served.{IsOther, Journals, LeavesEach}
+use Rattle.mtc_command.specs.declared.answer.Said.TheVariants.{Done, Against, Collided}
+use Rattle.mtc_command.specs.Lines.{line_of}
+use Rattle.mtc_command.proofs.Made.{OnlyNow, ReadsCrashState}
+use Rattle.mtc_words.specs.Words.{command_of, known_word}
+use Rattle.party_history.specs.Journals.{Continues}
+use Rattle.party_history.specs.Rules.{AreRecords}
+use Rattle.party_history.proofs.Taking.{takes}
+use Rattle.mtc_top.specs.Concluded.{Concludes, Prints, PrintsPrefix, Reports}
+use Rattle.mtc_top.specs.Facts.{Facts, facts}
+use Rattle.mtc_top.specs.Run.{Answered, HasRun}
+use Rattle.mtc_laws.specs.RunLaws.{AllGoOn, PrefixesAreRuns, RunShows, RunSteps, RunsAreSteps}
+use Rattle.mtc_laws.specs.RunLaws.{TookSome, AreAmong}
+use Rattle.mtc_laws.proofs.Beside.{journal_own, none_beside}
+use Rattle.mtc_laws.proofs.Commands.{spoken_records}
+use Rattle.mtc_laws.proofs.Leaves.{contents_crash_state, find_name, leaves, modelled_file, of_each}
+use Rattle.mtc_laws.proofs.Leaves.{still}
+use Rattle.mtc_top.proofs.Runs.{HasFailed, RanOutOfMemory, all_early, answered, ended, first_words}
+use Rattle.mtc_top.proofs.Runs.{lost_of, not5_of, not8_of, only_words, prefix_of, reply_code}
+use Rattle.mtc_top.proofs.Runs.{wrote_of}
+use Rattle.mtc_top.specs.Executions.{program, Run}
+use Rattle.mtc_laws.proofs.Aliases.{IsRun, owner_of, crash_states_in}
+
+-- where nothing was appended, no byte went out
+pub took_none : (old new : Option (List ℕ)) → Appends old new [] → TookSome old new → ⊥
+took_none None new none took = took
+took_none (Some xs) None none took = took
+took_none (Some xs) (Some ys) none took = grind (rules, arith, none, took)
+
+pub prefix_none : (old new : Option (List ℕ)) → AppendsPrefix old new [] → TookSome old new → ⊥
+prefix_none old new prefix took =
+    took_none old new (subst (Appends old new) (take_all prefix.0 [] (omega arith)) prefix.1) took
+
+-- a text of which a byte went out isn't empty
+prefix_some : (old new : Option (List ℕ)) (text : List ℕ) → AppendsPrefix old new text
+    → TookSome old new → 0 < length text
+prefix_some old new [] prefix took = absurd (prefix_none old new prefix took)
+prefix_some old new (x ∷ xs) prefix took = omega arith
+
+-- a run that was heard did its work, or a byte of it may have gone out
+abbrev Heard : ℕ → Option (List ℕ) → Option (List ℕ) → Type 0
+Heard status old new = (status ≡ 0) ⊎ (TookSome old new ⊎ ((status ≡ 6) × (old ≡ None)))
+
+either_true : (a b : Bool) → (a || b) ≡ true → (a ≡ true) ⊎ (b ≡ true)
+either_true true b is = inl refl
+either_true false b is = inr is
+
+pub heard_ways : (status : ℕ) (old new : Option (List ℕ)) → is_heard status old new ≡ true
+    → Heard status old new
+heard_ways status None new is = elim (either_true (status == 0) (status == 6) is) [
+  | inl zero_ ↦ inl (eqb-true status 0 zero_)
+  | inr six ↦ inr (inr (eqb-true status 6 six, refl))
+]
+heard_ways status (Some xs) None is = inl (eqb-true status 0 is)
+heard_ways status (Some xs) (Some ys) is =
+    elim (either_true (status == 0) (nat_lt (length xs) (length ys)) is) [
+      | inl zero_ ↦ inl (eqb-true status 0 zero_)
+      | inr less ↦ inr (inl (ltb-true (length xs) (length ys) less))
+    ]
+
+took_heard : (status : ℕ) (old new : Option (List ℕ)) → TookSome old new
+    → is_heard status old new ≡ true
+took_heard status None new took = absurd took
+took_heard status (Some xs) None took = absurd took
+took_heard status (Some xs) (Some ys) took = or_right (status == 0)
+    (nat_lt (length xs) (length ys)) (lt-ltb (length xs) (length ys) took)
+
+pub done_heard : (status : ℕ) (old new : Option (List ℕ)) → status ≡ 0
+    → is_heard status old new ≡ true
+done_heard status None new is = or_left (status == 0) (status == 6) (eq-eqb status 0 is)
+done_heard status (Some xs) None is = eq-eqb status 0 is
+done_heard status (Some xs) (Some ys) is = or_left (status == 0) (nat_lt (length xs) (length ys))
+    (eq-eqb status 0 is)
+
+-- a run with such a status that appended nothing isn't heard
+pub unheard : (status n : ℕ) (old new : Option (List ℕ)) → status ≡ n → 0 < n → n ≢ 6
+    → Appends old new [] → is_heard status old new ≡ true → ⊥
+unheard status n old new is some other none heard = elim (heard_ways status old new heard) [
+  | inl zero_ ↦ omega (arith, is, some, zero_)
+  | inr any ↦ elim any [
+    | inl took ↦ took_none old new none took
+    | inr lost ↦ other (sym is ∙ lost.0)
+  ]
+]
+
+-- a prefix of a prefix
+take_both : (j k : ℕ) (l : List ℕ) → (n : ℕ) × (take j (take k l) ≡ take n l)
+take_both j k l = elim (leb_tells j k) [
+  | inl less ↦ (j, take-take j k l less.1)
+  | inr more ↦ (k, take_all j (take k l) (omega (arith, more.1, length-take k l)))
+]
+
+-- a prefix of what went out of a text is one of the text
+prefix_on : (old new failed : Option (List ℕ)) (text whole : List ℕ) → TookSome old new
+    → Appends old new text → AppendsPrefix old new whole → AppendsPrefix old failed text
+    → AppendsPrefix old failed whole
+prefix_on None new failed text whole took is of prefix = absurd took
+prefix_on (Some xs) None failed text whole took is of prefix = absurd took
+prefix_on (Some xs) (Some ys) failed text whole took is of prefix =
+    let same : text ≡ take of.0 whole = append_cancel_left xs text (take of.0 whole)
+    (sym is ∙ of.1) in
+    let both = take_both prefix.0 of.0 whole in
+    (both.0, subst (Appends (Some xs) failed) (ap (take prefix.0) same ∙ both.1) prefix.1)
+
+-- a reply with another status than 0, 3 and 10 prints nothing
+silent_reply : (P : List ℕ → Type 0) (reply : Reply) (status : ℕ) → status ≡ status_of reply
+    → status ≢ 0 → status ≢ 3 → status ≢ 10 → P (out_of reply) → P []
+silent_reply P (said Done text) status is not0 not3 not10 prints = absurd (not0 is)
+silent_reply P (said Against text) status is not0 not3 not10 prints = absurd (not3 is)
+silent_reply P (said Collided text) status is not0 not3 not10 prints = absurd (not10 is)
+silent_reply P (refused why file reason) status is not0 not3 not10 prints = prints
+
+module _ {R S D O E : Type 0} (h : List ℕ → List ℕ) (rooms : Rooms R S D) (disks : Disks D)
+    (outs : Sinks O) (errs : Sinks E) (words : List (List ℕ))
+    (old new : R) (out out' : O) (err err' : E) (status : ℕ)
+    (is_run : HasRun h rooms disks outs errs words old new out out' err err' status) where
+  abbrev Failed : Type 0
+  Failed = HasFailed h rooms disks outs errs words old new out out' err err' status
+
+  abbrev OutOfMemory : Type 0
+  OutOfMemory = RanOutOfMemory h rooms disks outs errs words old new out out' err err' status
+
+  abbrev how : Answered h rooms disks outs errs words old new out out' err err' status
+      ⊎ (Failed ⊎ OutOfMemory)
+  how = ended h rooms disks outs errs words old new out out' err err' status is_run
+
+  abbrev went : Type 0
+  went = is_heard status (outs.taken out) (outs.taken out') ≡ true
+
+  -- no byte of a run goes out that the file system or memory ended
+  not_failed : Failed → went → ⊥
+  not_failed failed any = unheard status 5 (outs.taken out) (outs.taken out') failed.code
+      (omega arith) (λ six. omega (arith, six)) failed.text any
+
+  not_out_of_memory : OutOfMemory → went → ⊥
+  not_out_of_memory out_of_memory any =
+      unheard status 8 (outs.taken out) (outs.taken out') out_of_memory.code
+      (omega arith) (λ six. omega (arith, six)) out_of_memory.text any
+
+  -- one that answered didn't break off
+  whole_of : Answered h rooms disks outs errs words old new out out' err err' status
+      → breaks_off status ≡ false
+  whole_of a = ap (λ (b : Bool). b || (status == 8))
+      (ne_eqb status 5 (not5_of outs errs (known_word words) out out' err err' a.reply status
+      a.concludes))
+      ∙ ne_eqb status 8 (not8_of outs errs (known_word words) out out' err err' a.reply status
+      a.concludes)
+
+  pub run_shows : RunShows h rooms disks outs errs words old new out out' err err' status
+  run_shows = record {
+    known = elim how [
+      | inl a ↦ elim a.concludes [
+        | inl wrote ↦ subst (λ n. n ≤ 10) (sym wrote.code) (reply_code a.reply).known
+        | inr lost ↦ omega (arith, lost.code)
+      ]
+      | inr other ↦ elim other [
+        | inl failed ↦ omega (arith, failed.code)
+        | inr out_of_memory ↦ omega (arith, out_of_memory.code)
+      ]
+    ];
+    only = only_words h rooms disks outs errs words old new out out' err err' status is_run;
+    first = first_words h rooms disks outs errs words old new out out' err err' status is_run;
+    early = all_early h rooms disks outs errs words old new out out' err err' status is_run;
+    answers = answered h rooms disks outs errs words old new out out' err err' status is_run;
+    complete = λ room sink memory. elim how [
+      | inl a ↦ (
+        λ is. sink (lost_of outs errs (known_word words) out out' err err' a.reply status
+            a.concludes is).cause,
+        a,
+      )
+      | inr other ↦ elim other [
+        | inl failed ↦ absurd (room failed.cause)
+        | inr out_of_memory ↦ absurd (memory out_of_memory.code)
+      ]
+    ];
+    silent = λ not0 not3 not6 not10. elim how [
+      | inl a ↦ (let wrote = wrote_of outs errs (known_word words) out out' err err' a.reply status
+          a.concludes not6 in
+          silent_reply (Prints outs out out') a.reply status wrote.code not0 not3 not10 wrote.text)
+      | inr other ↦ elim other [
+        | inl failed ↦ failed.text
+        | inr out_of_memory ↦ out_of_memory.text
+      ]
+    ];
+    heard = λ any. elim how [
+      | inl a ↦ a
+      | inr other ↦ elim other [
+        | inl failed ↦ absurd (not_failed failed any)
+        | inr out_of_memory ↦ absurd (not_out_of_memory out_of_memory any)
+      ]
+    ];
+    whole = λ any. elim how [
+      | inl a ↦ whole_of a
+      | inr other ↦ elim other [
+        | inl failed ↦ absurd (not_failed failed any)
+        | inr out_of_memory ↦ absurd (not_out_of_memory out_of_memory any)
+      ]
+    ];
+  }
+
+  -- ---- a prefix of what went out
+
+  module _ (some : TookSome (outs.taken out) (outs.taken out')) (failed : O) (contents : E)
+      (text : List ℕ) (is : Prints outs out out' text) (prefix : PrintsPrefix outs out failed text)
+      (cause : Rose (outs.faults out) (outs.faults failed))
+      (line : Reports errs err contents (line_of (known_word words) None (codes "OutputFailed")))
+    where
+      lost_by : (ending : Ending)
+          → Concludes outs errs (known_word words) out out' err err' ending (rooms.why new) status
+          → Concludes outs errs (known_word words) out failed err contents ending (rooms.why new) 6
+      lost_by (replied reply) ends =
+          let whole = prefix_of outs errs (known_word words) out out' err err' reply status ends in
+          inr (record {
+            code = refl;
+            some = prefix_some _ _ _ whole some;
+            cause = cause;
+            prefix = prefix_on _ _ _ _ _ some is whole prefix;
+            line = line;
+          })
+      lost_by (room_failed file) ends = absurd (took_none _ _ ends.nothing some)
+      lost_by no_memory ends = absurd (took_none _ _ ends.nothing some)
+
+      prefix_is_run : HasRun h rooms disks outs errs words old new out failed err contents 6
+      prefix_is_run = record {
+        ending = is_run.ending;
+        ends = is_run.ends;
+        concludes = lost_by is_run.ending is_run.concludes;
+        back = is_run.back;
+        made = is_run.made;
+        began = is_run.began;
+        only_read = is_run.only_read;
+        spares = is_run.spares;
+        stores = is_run.stores;
+        valid = is_run.valid;
+      }
+
+pub prefixes_are_runs : {R S D O E : Type 0} (h : List ℕ → List ℕ) (rooms : Rooms R S D)
+    (disks : Disks D) (outs : Sinks O) (errs : Sinks E) → PrefixesAreRuns h rooms disks outs errs
+prefixes_are_runs {R} {S} {D} {O} {E} h rooms disks outs errs words old new out out' failed err err'
+    contents status text is_run some is prefix cause line =
+    prefix_is_run h rooms disks outs errs words old new out out' err err' status is_run some failed
+    contents text is prefix cause line
+
+-- ---- a run is steps
+
+module _ {R S D O E : Type 0} (h : HashFunction) (rooms : Rooms R S D) (disks : Disks D)
+    (outs : Sinks O) (errs : Sinks E) (crash_state : ReadsCrashState disks) (only : OnlyNow disks)
+    (contents : (room : R) (name : List ℕ) → rooms.is_modelled room
+    → ModelsFile disks.contents (rooms.file room name) (rooms.device room name))
+    (bytes : (d : D) (b : List ℕ) → disks.contents d ≡ Some b → IsBytes b) where
+  all_go_on : (event : Event) (before now : CrashStates) → Leads (AreRecords h) event before now
+      → AllGoOn h event before now
+  all_go_on event before now leads starts index start first steps out there begins history =
+      step (AreRecords h) (Continues h starts index first steps)
+      (takes h starts index start there first begins steps) out before now event history leads
+
+  module _ (old : R) (run : Run R O E) (is_modelled : rooms.is_modelled old)
+      (is_run : IsRun h rooms disks outs errs old run) (name : List ℕ) where
+    abbrev asked : Facts
+    asked = facts h (command_of run.words)
+
+    abbrev js : Journals
+    js = (program h rooms disks outs errs).journals old run
+
+    not_beside : ((did : Journaled) × AreAmong js name did)
+        ⊎ IsOther asked.besides name → IsOther asked.besides name
+    not_beside named = elim named [
+      | inl did ↦ none_beside h (command_of run.words) name (journal_own h run.words
+          (asked.outcome (rooms.file old)).journals name did.0 did.1)
+      | inr other ↦ other
+    ]
+
+    -- the clock of the device doesn't go back
+    later : IsOther asked.besides name
+        → clock_of disks (rooms.device old name) ≤ clock_of disks (rooms.device run.room name)
+    later beside = elim (find_name asked.journals (asked.outcome (rooms.file old)).journals name) [
+      | inl none ↦ subst (λ (x : Option D). clock_of disks (rooms.device old name)
+          ≤ clock_of disks x)
+          (sym (still h rooms disks outs errs crash_state only contents bytes name old
+          run is_modelled is_run (AreRecords h) (spoken_records h (command_of run.words)) beside
+          none.0)) (omega arith)
+      | inr among ↦ elim (ended h rooms disks outs errs run.words old run.room run.out
+          run.out_after run.err run.err_after run.status is_run) [
+            | inl a ↦ at HasMade (a.made is_modelled) among
+            | inr other ↦ elim other [
+              | inl failed ↦ at MayHaveMade (failed.made is_modelled) among
+              | inr out_of_memory ↦ at HasKept (out_of_memory.made is_modelled) among
+            ]
+          ]
+    ]
+      where
+        at : (How : Journaled → Leaving) → LeavesEach rooms disks old run.room js How
+            → AreAmong js name (done_to js name)
+            → clock_of disks (rooms.device old name) ≤ clock_of disks (rooms.device run.room name)
+        at How all among = (of_each (λ n d. Leaves disks (How d) (rooms.device old n)
+            (rooms.device run.room n)) js name (done_to js name) all among).later
+
+    pub run_steps : ((did : Journaled) × AreAmong js name did)
+        ⊎ IsOther asked.besides name → RunSteps h (program h rooms disks outs errs) old run name
+    run_steps named =
+        let beside = not_beside named in
+        let left = leaves h rooms disks outs errs crash_state only contents bytes name old run
+        is_modelled is_run (AreRecords h) (spoken_records h (command_of run.words)) beside in
+        record {
+          leaves = left;
+          continues = all_go_on ((owner_of h rooms disks outs errs name).run_event old run)
+              (crash_states_in h rooms disks outs errs old name)
+              (crash_states_in h rooms disks outs errs run.room name) left.leads;
+          stops = λ c at. all_go_on
+              (broke (did_to (program h rooms disks outs errs) name old run))
+              (crash_states_in h rooms disks outs errs old name) (λ d. d ≡ c) (left.times c at);
+          as_read =
+              λ c there. contents_crash_state disks (rooms.device run.room name) c crash_state
+              (modelled_file disks (rooms.file run.room name) (rooms.device run.room name)
+              (contents run.room name (is_run.back.is_modelled is_modelled)) ∙ there);
+          later = later beside;
+        }
+
+  pub runs_are_steps : RunsAreSteps h (program h rooms disks outs errs)
+  runs_are_steps old run is_modelled is_run name named =
+      run_steps old run is_modelled is_run name named

@@ -1,0 +1,167 @@
+-- What goes out of a command that is given a secret.
+use Rattle.std.proofs.Common.{◌≡◌, inl, ℕ, Bool, true, false, List, [], ◌∷◌, None, Some}
+use Rattle.std.proofs.Common.{Result, Ok, Err, refl, sym, subst, true≢false}
+use Rattle.byte_formats.specs.Offsets.{IsBytes}
+use Rattle.byte_formats.specs.Types.{HashFunction}
+use Rattle.disk_core.specs.declared.disk.Disk.{Ghosts as Disks}
+use Rattle.journal_core.proofs.Standing.{found_stands}
+use Rattle.mtc_io.specs.declared.sink.Sink.{Ghosts as Sinks}
+use Rattle.mtc_room.specs.Room.{ModelsFile}
+use Rattle.mtc_room.specs.declared.room.Room.{Ghosts as Rooms}
+use Rattle.mtc_words.specs.Commands.{CommandValue, advance, cosign, export, init_cosigner, keygen}
+use Rattle.mtc_words.specs.Words.{command_of}
+use Rattle.mtc_words.specs.declared.error.WordError.{WordError}
+use Rattle.cosigner_core.specs.Exports.{export_text}
+use Rattle.cosigner_core.specs.Folds.{cosigner_fold}
+use Rattle.mtc_command.specs.Answers.{Reply}
+use Rattle.mtc_command.specs.Made.{reads}
+use Rattle.mtc_command.specs.Wanted.{Meets}
+use Rattle.mtc_command.specs.declared.answer.Stopped.TheVariants.{BadWords}
+use Rattle.mtc_command.proofs.Made.{OnlyNow, ReadsCrashState}
+use Rattle.mtc_cosigner.specs.CosignerOutcomes.{advanced_text}
+use Rattle.mtc_cosigner.specs.KeygenOutcome.{lms_type, ots_type, public_line}
+use Rattle.mtc_authority.specs.Works.{IsLog}
+use Rattle.command_plans.specs.Plans.{Journal, makes, opens}
+use Rattle.command_plans.specs.Rules.{AreOfFirst}
+use Rattle.mtc_plans.specs.Commands.{plan_of, planned_outcome}
+use Rattle.mtc_plans.specs.Heard.{AdvancesSo, BeginsSo, ExportsSo, KeysSo, OfSaid}
+use Rattle.mtc_plans.specs.PartyKinds.{cosigner, log, party_kinds}
+use Rattle.mtc_plans.proofs.Heard.{advanced_so, begun_so, exported_so, keyed_so}
+use Rattle.mtc_top.specs.Facts.{facts}
+use Rattle.mtc_laws.specs.PrintLaws.{OnlyCosignSigns, Says}
+use Rattle.mtc_words.specs.Reasons.{word_fault_text}
+use Rattle.mtc_laws.proofs.Printed.{did_so, heard_so, signatures_printed}
+use Rattle.mtc_laws.proofs.HeardRuns.{file_bytes, heard_run, held_rules, not_refused, printed_so}
+use Rattle.mtc_top.specs.Executions.{program, Run}
+use Rattle.mtc_laws.proofs.Aliases.{IsRun, HasHeld, IsHeard}
+
+-- each of these journals is a log's
+abbrev are_logs : (h : HashFunction) → List (Journal (party_kinds h)) → Bool
+are_logs h [] = true
+are_logs h (opens log beside name ∷ rest) = are_logs h rest
+are_logs h (opens cosigner beside name ∷ rest) = false
+are_logs h (makes log name ∷ rest) = are_logs h rest
+are_logs h (makes cosigner name ∷ rest) = false
+
+first_log : (h : HashFunction) (journals : List (Journal (party_kinds h))) (list : List (List ℕ))
+    → are_logs h journals ≡ true → AreOfFirst (party_kinds h) journals list → IsLog h list
+first_log h [] list logs is = absurd is
+first_log h (opens log beside name ∷ rest) list logs is = is
+first_log h (opens cosigner beside name ∷ rest) list logs is = absurd (true≢false (sym logs))
+first_log h (makes log name ∷ rest) list logs is = is
+first_log h (makes cosigner name ∷ rest) list logs is = absurd (true≢false (sym logs))
+
+module _ {R S D O E : Type 0} (h : HashFunction) (rooms : Rooms R S D) (disks : Disks D)
+    (outs : Sinks O) (errs : Sinks E) (crash_state : ReadsCrashState disks) (only : OnlyNow disks)
+    (contents : (room : R) (name : List ℕ) → rooms.is_modelled room
+    → ModelsFile disks.contents (rooms.file room name) (rooms.device room name))
+    (bytes : (d : D) (b : List ℕ) → disks.contents d ≡ Some b → IsBytes b) where
+  module _ (old : R) (run : Run R O E) (is_modelled : rooms.is_modelled old)
+      (is_run : IsRun h rooms disks outs errs old run) (heard : IsHeard outs run) where
+    abbrev Speaks : CommandValue → Type 0
+    Speaks command = command_of run.words ≡ Ok command
+
+    abbrev SaysSo : CommandValue → Type 0
+    SaysSo command = Says h (program h rooms disks outs errs) command old run
+
+    abbrev answer : Reply
+    answer = (heard_run h rooms disks outs errs old run is_run heard).reply
+
+    by_text : (command : CommandValue) → Speaks command → (P : Reply → Type 0)
+        → OfSaid (planned_outcome h command (rooms.file old)) P → P answer
+    by_text command spoken P each =
+        heard_so h rooms disks outs errs old run command spoken is_modelled is_run heard P each
+
+    keys_printed : (height width : ℕ) (file : List ℕ)
+        → KeysSo (rooms.file old) height width file answer
+        → SaysSo (keygen height width file)
+    keys_printed height width file s = (
+      s.secret,
+      (
+        record { there = s.has_secret.there; few = s.has_secret.few },
+        printed_so h rooms disks outs errs old run is_run heard
+            (public_line (lms_type height) (ots_type width) s.secret) s.reply_is,
+      ),
+    )
+
+    advanced : (name file : List ℕ) → Speaks (advance name file) → SaysSo (advance name file)
+    advanced name file spoken =
+        let s = by_text (advance name file) spoken (AdvancesSo h (rooms.file old) name file)
+        (advanced_so h (rooms.file old) name file) in (
+          s.bytes,
+          (
+            s.request,
+            (
+              record { there = s.has_bytes.there; few = s.has_bytes.few },
+              s.asked,
+              printed_so h rooms disks outs errs old run is_run heard (advanced_text s.request.size)
+                  s.reply_is,
+            ),
+          ),
+        )
+
+    exported : (name : List ℕ) → Speaks (export name) → SaysSo (export name)
+    exported name spoken =
+        let s = by_text (export name) spoken (ExportsSo h (rooms.file old) name)
+        (exported_so h (rooms.file old) name) in
+        let list = s.found.records in
+        let are = file_bytes disks (rooms.file old name) (rooms.device old name) s.held bytes
+        (contents old name is_modelled) s.there in (
+          list,
+          (
+            s.found.state,
+            (
+              (found_stands (cosigner_fold h) s.held s.found are s.is_cosigner).1,
+              did_so h rooms disks outs errs old run (export name) spoken name (reads list) refl
+                  s.did,
+              printed_so h rooms disks outs errs old run is_run heard
+                  (export_text s.found.state list)
+                  s.reply_is,
+            ),
+          ),
+        )
+
+    -- the others open logs
+    logs : (command : CommandValue) → Speaks command
+        → are_logs h (plan_of h command).journals ≡ true → (name : List ℕ) (list : List (List ℕ))
+        → HasHeld h rooms disks outs errs name old run list → IsLog h list
+    logs command spoken are name list held =
+        first_log h (plan_of h command).journals list are
+        (subst (λ (r : Result CommandValue WordError). (facts h r).Valid list) spoken
+        (held_rules h rooms disks outs errs crash_state only contents bytes name old run list
+        is_modelled
+        is_run
+        held))
+
+    pub says_so : (command : CommandValue) → Speaks command → SaysSo command
+    says_so (cosign name file) spoken =
+        signatures_printed h rooms disks outs errs contents bytes name file old run is_modelled
+        is_run
+        spoken
+        heard
+    says_so (advance name file) spoken = advanced name file spoken
+    says_so (export name) spoken = exported name spoken
+    says_so (init_cosigner name id log_id height width file) spoken =
+        keys_printed height width file (by_text (init_cosigner name id log_id height width file)
+        spoken (BeginsSo h (rooms.file old) name id log_id height width file)
+        (begun_so h (rooms.file old) name id log_id height width file)).keys
+    says_so (keygen height width file) spoken =
+        keys_printed height width file (by_text (keygen height width file) spoken
+        (KeysSo (rooms.file old) height width file) (keyed_so h (rooms.file old) height width file))
+    says_so other spoken = logs other spoken refl
+
+    -- arguments that are no command are refused
+    has_command : (r : Result CommandValue WordError) → command_of run.words ≡ r
+        → (command : CommandValue) × Speaks command
+    has_command (Ok command) is = (command, is)
+    has_command (Err why) is =
+        let run_so = heard_run h rooms disks outs errs old run is_run heard in
+        absurd (not_refused h rooms disks outs errs old run is_run heard BadWords None
+        (word_fault_text why) (subst (λ (r : Result CommandValue WordError).
+        Meets ((facts h r).outcome (rooms.file old)).answer run_so.reply) is
+        (run_so.is (inl is_modelled))))
+
+  pub only_cosign : OnlyCosignSigns h (program h rooms disks outs errs)
+  only_cosign old run is_modelled is_run heard =
+      let has = has_command old run is_modelled is_run heard (command_of run.words) refl in
+      (has.0, (has.1, says_so old run is_modelled is_run heard has.0 has.1))

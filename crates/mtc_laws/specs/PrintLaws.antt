@@ -1,0 +1,148 @@
+-- What goes out of `issue` and `cosign`, in addition to the request that they read and the record
+-- that they add, and what becomes of that record.
+use Rattle.std.specs.Prelude.{◌≡◌, true, List, [], ◌∷◌, ◌++◌, length, Some, Ok}
+use Rattle.byte_formats.specs.Types.{HashFunction, Text}
+use Rattle.file_events.specs.Executions.{IsPrefix}
+use Rattle.file_events.specs.Worlds.{Program, EachRun, states_of, heard_of}
+use Rattle.file_events.specs.Owners.{did_to}
+use Rattle.file_events.specs.Events.{MayRecover, EventHolds}
+use Rattle.journal_core.specs.Format.{Represents}
+use Rattle.mtc_words.specs.Commands.{CommandValue, advance, cosign, export, init_cosigner, issue}
+use Rattle.mtc_words.specs.Commands.{keygen}
+use Rattle.mtc_words.specs.Words.{command_of}
+use Rattle.authority_core.specs.Files.{request_of}
+use Rattle.authority_core.specs.Issues.{issued_entry}
+use Rattle.authority_core.specs.Requests.{RequestParts}
+use Rattle.cosigner_core.specs.Exports.{export_text}
+use Rattle.cosigner_core.specs.Folds.{CosignerState, cosigner_of}
+use Rattle.cosigner_core.specs.Reading.{advance_in, subtree_in}
+use Rattle.cosigner_core.specs.Records.{step_in}
+use Rattle.cosigner_core.specs.Requests.{AdvanceParts, SubtreeParts}
+use Rattle.cosigner_core.specs.declared.step.Step.TheVariants.{Sign}
+use Rattle.issuance_log.specs.Folds.{LogState, log_of}
+use Rattle.issuance_log.specs.Records.{item_in}
+use Rattle.issuance_log.specs.Settings.{Settings}
+use Rattle.mtc_command.specs.Made.{appended, reads}
+use Rattle.mtc_cosigner.specs.CosignerOutcomes.{advanced_text, cosigned_text}
+use Rattle.mtc_cosigner.specs.KeygenOutcome.{lms_type, ots_type, public_line}
+use Rattle.mtc_authority.specs.IssueOutcome.{issued_text}
+use Rattle.mtc_authority.specs.Works.{IsLog}
+use Rattle.party_history.specs.Laws.{HasItemAt}
+use Rattle.party_history.specs.declared.start.PartyStart.TheVariants.{Log}
+use Rattle.mtc_laws.specs.AuditLaws.{HoldsText}
+use Rattle.mtc_laws.specs.ExecutionLaws.{OfExecutions, UsesKey}
+use Rattle.mtc_top.specs.Executions.{owner, HasPrinted, Run}
+
+module _ (h : HashFunction) (p : Program) where
+  -- The run read a request from this file, and added a record to a log with these records: the
+  -- entry and the key of the request. What went out is the index of the entry, which counts those
+  -- before it.
+  pub record HasIssued (name file : Text) (old : p.R) (run : Run p.R p.O p.E) : Type 0 where
+    pub text : Text
+    pub has_text : HoldsText (p.rooms.file old) file 16777216 text
+    pub request : RequestParts
+    pub asked : request_of text ≡ Ok request
+    pub list : List Text
+    pub state : LogState
+    pub log_is : log_of h list ≡ Ok state
+    pub body : Text
+    pub did : did_to p name old run ≡ appended list body
+    pub item : item_in body ≡ Some (issued_entry h state.settings request, request.key)
+    pub printed : HasPrinted p run (issued_text (length state.entries))
+
+  -- The run read a request from this file, and added a Sign record to a cosigner with these
+  -- records. It adds the number of the next one-time key to those that were used. What went out is
+  -- the signature by that key, over the interval and the hash of the request.
+  pub record HasCosigned (name file : Text) (old : p.R) (run : Run p.R p.O p.E) : Type 0 where
+    pub text : Text
+    pub has_text : HoldsText (p.rooms.file old) file 16777216 text
+    pub request : SubtreeParts
+    pub asked : subtree_in text ≡ Ok request
+    pub list : List Text
+    pub state : CosignerState
+    pub cosigner_is : cosigner_of h list ≡ Ok state
+    pub body : Text
+    pub did : did_to p name old run ≡ appended list body
+    pub uses : UsesKey list body state.key.next
+    pub signs : step_in body
+        ≡ Some (Sign state.key.next request.start request.end request.hash request.proof)
+    pub printed : HasPrinted p run (cosigned_text state request)
+
+  -- What goes out of a command that opens a cosigner's journal, or is given a secret file as such.
+  -- `cosign` prints a signature, and has added its record. `advance` prints the size in the request
+  -- that it read, `export` the ids, the public key and the records after the first of those that it
+  -- read, and those that are given a secret file print its public key. Each journal that another
+  -- command opens or makes is a log's, and of what goes out of it nothing is said here.
+  abbrev pub Says : CommandValue → p.R → Run p.R p.O p.E → Type 0
+  Says (cosign name file) old run = HasCosigned name file old run
+  Says (advance name file) old run = (text : Text) × ((request : AdvanceParts)
+      × (HoldsText (p.rooms.file old) file 16777216 text × (advance_in text ≡ Ok request)
+      × HasPrinted p run (advanced_text request.size)))
+  Says (export name) old run = (list : List Text) × ((state : CosignerState)
+      × ((cosigner_of h list ≡ Ok state)
+      × (did_to p name old run ≡ reads list)
+      × HasPrinted p run (export_text state list)))
+  Says (init_cosigner name id log height width file) old run = (secret : Text)
+      × (HoldsText (p.rooms.file old) file 16777216 secret
+      × HasPrinted p run (public_line (lms_type height) (ots_type width) secret))
+  Says (keygen height width file) old run = (secret : Text)
+      × (HoldsText (p.rooms.file old) file 16777216 secret
+      × HasPrinted p run (public_line (lms_type height) (ots_type width) secret))
+  Says other old run = (name : Text) (list : List Text)
+      → EventHolds list ((owner h p name).run_event old run) → IsLog h list
+
+  -- This holds of each run by this command that did its work, or of which a byte may have gone out.
+  abbrev pub OfHeard : CommandValue → (p.R → Run p.R p.O p.E → Type 0) → p.R
+      → Run p.R p.O p.E → Type 0
+  OfHeard command P old run =
+      command_of run.words ≡ Ok command → heard_of p run ≡ true → P old run
+
+  -- This holds of each run over files whose contents are known.
+  abbrev pub OfEachRun : (p.R → Run p.R p.O p.E → Type 0) → Type 0
+  OfEachRun P = (old : p.R) (run : Run p.R p.O p.E) → p.rooms.is_modelled old
+      → p.HasRun old run → P old run
+
+  -- Each such run of `issue` has issued.
+  abbrev pub IndicesArePrinted : Type 0
+  IndicesArePrinted = (name file : Text)
+      → OfEachRun (OfHeard (issue name file) (HasIssued name file))
+
+  -- Each such run of `cosign` has cosigned.
+  abbrev pub SignaturesArePrinted : Type 0
+  SignaturesArePrinted = (name file : Text)
+      → OfEachRun (OfHeard (cosign name file) (HasCosigned name file))
+
+  -- Each run that did its work, or of which a byte may have gone out, has a command, and so it is
+  -- of it. Of the commands that open a cosigner's journal, or are given a secret file as such, only
+  -- `cosign` prints a signature by it.
+  abbrev pub OnlyCosignSigns : Type 0
+  OnlyCosignSigns = (old : p.R) (run : Run p.R p.O p.E) → p.rooms.is_modelled old
+      → p.HasRun old run → heard_of p run ≡ true
+      → (command : CommandValue) × ((command_of run.words ≡ Ok command) × Says command old run)
+
+  -- The entry is at its index, with its key, in the log of these records.
+  pub record IsInLog (name file : Text) (old : p.R) (run : Run p.R p.O p.E) (found : List Text)
+      : Type 0 where
+    pub issued : HasIssued name file old run
+    pub log : LogState
+    pub log_is : log_of h found ≡ Ok log
+    pub at_index : HasItemAt (length issued.state.entries)
+        (issued_entry h issued.state.settings issued.request) issued.request.key log
+
+  -- For each run of an execution: this holds of each log with which the journal may be recovered.
+  abbrev pub IssuedEntriesStand : Type 0
+  IssuedEntriesStand = OfExecutions h p (λ name start first old events new.
+      (settings : Settings) (file : Text) (found : List Text) → start ≡ Log settings
+      → MayRecover (states_of p name new) found
+      → EachRun p (OfHeard (issue name file) (λ old run.
+      IsInLog name file old run found)) old events)
+
+  -- Each crash state of the journal represents records. For each run of the execution these begin
+  -- with those that were there and the record of the signature.
+  abbrev pub SignaturesStand : Type 0
+  SignaturesStand = OfExecutions h p (λ name start first old events new.
+      (file c : Text) → states_of p name new c
+      → (found : List Text) × (Represents c found
+      × EachRun p (OfHeard (cosign name file) (λ old run.
+      (signed : HasCosigned name file old run)
+      × IsPrefix (signed.list ++ signed.body ∷ []) found)) old events))
