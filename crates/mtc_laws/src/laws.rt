@@ -1,6 +1,7 @@
 //! Laws of runs, and of executions of runs and stops: the clauses are the laws, and the functions
-//! do nothing.
+//! do nothing, but that one calls another law.
 
+ghost use Rattle.mtc_laws.specs.AcceptanceLaws.{IssuedCertificatesAreAccepted};
 ghost use Rattle.mtc_laws.specs.AuditLaws.{AuditsDecide, AuditsStand};
 ghost use Rattle.mtc_laws.specs.QuarrelLaws.{TwoSignaturesCollide};
 ghost use Rattle.mtc_laws.specs.ExecutionLaws.{AddedEntriesStand, ExecutionsHaveHistories};
@@ -18,6 +19,7 @@ ghost use Rattle.mtc_laws.specs.RunLaws.{PrefixesAreRuns, RunsShow, RunsAreSteps
 ghost use Rattle.mtc_laws.specs.StatusLaws.{MisreadFilesAreInputs};
 ghost use Rattle.mtc_laws.specs.TileLaws.{NoTileIsBad, TilesSurviveStops};
 
+use issuance_log::laws::law_records_keep_to_the_rules;
 use mtc_io::Sink;
 use mtc_room::Room;
 use tree_core::TreeHash;
@@ -196,7 +198,9 @@ pub fn law_printed_texts_stand<H: TreeHash, R: Room, O: Sink, E: Sink>()
 /// prints that the entry stands, or two different strings with one hash. Or it ends with status 5,
 /// 6 or 8. If runs of an execution held the records of two signatures of one interval with
 /// different hashes, a run of `quarrel` over a later export prints two different strings with one
-/// hash, or ends so.
+/// hash, or ends so. What `cert` or `light-cert` prints for an index that `issue` printed before,
+/// each run of `verify` accepts, by each store that backs the certificate, at each time of the
+/// request's period, or it ends so.
 pub fn law_the_whole_promise<H: TreeHash, R: Room, O: Sink, E: Sink>()
     ensures once { KeysSignOnce H.hash (program H.hash R.Room R.Dsk.Disk O.Sink E.Sink) }
     ensures messages { KeysSignOneMessage H.hash (program H.hash R.Room R.Dsk.Disk O.Sink E.Sink) }
@@ -208,4 +212,8 @@ pub fn law_the_whole_promise<H: TreeHash, R: Room, O: Sink, E: Sink>()
     ensures audits { AuditsDecide H.hash (program H.hash R.Room R.Dsk.Disk O.Sink E.Sink) }
     ensures conflicts { TwoSignaturesCollide H.hash
         (program H.hash R.Room R.Dsk.Disk O.Sink E.Sink) }
-{}
+    ensures accepted { IssuedCertificatesAreAccepted H.hash
+        (program H.hash R.Room R.Dsk.Disk O.Sink E.Sink) }
+{
+    law_records_keep_to_the_rules();
+}

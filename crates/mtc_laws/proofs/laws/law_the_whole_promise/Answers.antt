@@ -1,3 +1,4 @@
+use Rattle.mtc_laws.proofs.Acceptances.{issued_certificates_accepted}
 use Rattle.mtc_laws.proofs.AuditsDecide.{audits_decide}
 use Rattle.mtc_laws.proofs.Convicted.{two_signatures_collide}
 use Rattle.mtc_laws.proofs.Exports.{exports_hold}
@@ -50,3 +51,10 @@ pub returns-clause-conflicts : goal.returns-clause-conflicts
 returns-clause-conflicts g c = two_signatures_collide g.H.TreeHash.hash g.R.Room g.R.Dsk.Disk
     g.O.Sink g.E.Sink g.met.R.Dsk.Disk.reads_crash_state g.met.R.Dsk.Disk.only_now
     g.met.R.Room.modelled_file g.met.R.Dsk.Disk.contents_bytes
+
+pub returns-clause-accepted : goal.returns-clause-accepted
+returns-clause-accepted g c = issued_certificates_accepted g.H.TreeHash.hash g.R.Room g.R.Dsk.Disk
+    g.O.Sink g.E.Sink g.met.R.Dsk.Disk.reads_crash_state g.met.R.Dsk.Disk.only_now
+    g.met.R.Room.modelled_file g.met.R.Dsk.Disk.contents_bytes g.met.H.TreeHash.sized
+    c.law_records_keep_to_the_rules.ensures.only_first
+    c.law_records_keep_to_the_rules.ensures.only_next
