@@ -4,6 +4,7 @@ use Rattle.std.proofs.Common.{length, Ok, Err, Option, Some, None, IfSome, refl,
 use Rattle.std.proofs.Common.{arith, ◌⊎◌, lit<}
 use Rattle.std.specs.Prelude.{if◌then◌else◌, not, is_some}
 use Rattle.std.specs.List.{flat_map}
+use Rattle.std.proofs.lemmas.Bool.{not-true, not_from_false}
 use Rattle.std.proofs.lemmas.List.{length-append}
 use Rattle.byte_formats.specs.Types.{Text}
 use Rattle.byte_formats.specs.Offsets.{At, IsBytes, begins_with}
@@ -195,14 +196,6 @@ names_from x f = go (is_alt_name x) refl
     go true e = general_names_again x.octets (f e)
     go false e = refl
 
-not_true : (b : Bool) → not b ≡ true → b ≡ false
-not_true true e = absurd cc
-not_true false e = refl
-
-not_false : (b : Bool) → b ≡ false → not b ≡ true
-not_false true e = absurd cc
-not_false false e = refl
-
 contents_short : (seen : List Text) (x : ExtensionFields) → IsExtension seen x
     → (length x.identifier < 2 ^ 24) × (length x.octets < 2 ^ 24)
 contents_short seen x f =
@@ -224,14 +217,14 @@ extension_form seen =
     0x30 (tag_of 0x30 (lit< tt) refl))
     (λ x f. record {
       identifier = f.0.0.0.0.0;
-      new = not_true (is_among x.identifier seen) f.0.0.0.1;
+      new = not-true (is_among x.identifier seen) f.0.0.0.1;
       names = f.0.1;
       short = f.1;
     })
     (λ x f.
     let short = contents_short seen x f in (
       (
-        (((f.identifier, short.0), not_false (is_among x.identifier seen) f.new), (tt, short.1)),
+        (((f.identifier, short.0), not_from_false (is_among x.identifier seen) f.new), (tt, short.1)),
         f.names,
       ),
       f.short,

@@ -1,6 +1,6 @@
 -- The fields of a certificate but its extensions are encoded as the bytes from which they were
 -- read, and each encoding is read again.
-use Rattle.std.proofs.Common.{◌≡◌, ◌≢◌, ℕ, ◌+◌, ◌-◌, ◌%◌, ◌<◌, ◌≤◌, true, false}
+use Rattle.std.proofs.Common.{◌≡◌, ◌≢◌, ℕ, ◌+◌, ◌-◌, ◌%◌, ◌<◌, ◌≤◌, true}
 use Rattle.std.proofs.Common.{List, [], ◌∷◌, ◌++◌, length, slice_index, Result, Ok, Err, refl, sym}
 use Rattle.std.proofs.Common.{ap, subst, ◌∙◌, arith, inl, inr, ◌⊎◌, lit<, lit≤}
 use Rattle.std.proofs.Common.{eqb-true, ne_eqb, lt-ltb}
@@ -17,6 +17,7 @@ use Rattle.byte_formats.proofs.Steps.{bind_ok, guard_ok, pass_ok, ok_is, discard
 use Rattle.byte_formats.proofs.Steps.{some_or_ok}
 use Rattle.byte_formats.proofs.FormLaws.{fits_form, ended_form, then_form, mapped_form, last_form}
 use Rattle.byte_formats.proofs.FormLaws.{one_value, to_end_takes, to_end_again}
+use Rattle.byte_formats.proofs.Values.{not_zero}
 use Rattle.byte_formats.proofs.FormLists.{many_form, up_to_end_drains, each_drains}
 use Rattle.der_core.specs.Elements.{element, IsTag, FitsElement}
 use Rattle.der_core.specs.Items.{Item, inside}
@@ -190,7 +191,7 @@ set_takes a x b h e =
     let all = to_end_takes attributes_form (inside i) xs t.0 read.0.bytes step.1
     (up_to_end_drains attribute_form attribute_some (inside i) xs t.0 read.0.bytes step.1) in
     let rise = attributes_rise i xs r.0 read.0.bytes all.0 all.1 (der_ok (order_of i) r.0 r.1) in
-    let some : length i.contents ≢ 0 = λ none. absurd (differ (length i.contents) none g.0) in
+    let some : 0 < length i.contents = not_zero (length i.contents) g.0 in
     let text : element i.tag i.contents ≡ element 0x31 (flat_map itself xs) =
     ap (λ (n : ℕ). element n i.contents) read.1 ∙ ap (element 0x31) all.0 in
     let size : length i.contents ≡ length (flat_map itself xs) = ap length all.0 in
@@ -207,12 +208,6 @@ set_takes a x b h e =
         read.0.whole ∙ text,
       ),
     )
-  where
-    differ : (n : ℕ) → n ≡ 0 → (n == 0) ≡ false → ⊥
-    differ n same other =
-        let P : ℕ → Type 0 = λ m. (m == 0) ≡ false in
-        let no : (0 == 0) ≡ false = subst P same other in
-        cc
 
 set_again : (bytes : Text) (p : ℕ) (rest : Text) → IsSet bytes
     → set_at (record { place = p; rest = bytes ++ rest }) ≡ Ok (

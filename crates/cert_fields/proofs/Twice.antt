@@ -24,12 +24,13 @@ use Rattle.std.proofs.lemmas.Map.Keys.{sorted_from_all_adjacent}
 use Rattle.std.proofs.lemmas.Map.Text.{is_eq-slice_cmp}
 use Rattle.std.proofs.lemmas.Slice.Eq.{bytes_eq-Decides}
 use Rattle.byte_formats.specs.Types.{Text}
+use Rattle.byte_formats.proofs.Values.{or_swap}
 use Rattle.cert_fields.specs.Extensions.{is_among, are_repeated, any_among}
 use Rattle.cert_fields.specs.Views.{texts, AreSorted}
 
 -- ---- tests
 
-same_true : (a b : Bool) → (a ≡ true → b ≡ true) → (b ≡ true → a ≡ true) → a ≡ b
+pub same_true : (a b : Bool) → (a ≡ true → b ≡ true) → (b ≡ true → a ≡ true) → a ≡ b
 same_true true b to from = sym (to refl)
 same_true false true to from = from refl
 same_true false false to from = refl
@@ -43,14 +44,7 @@ or_right : (a b : Bool) → b ≡ true → (a || b) ≡ true
 or_right true b e = refl
 or_right false b e = e
 
-or_swap : (p q r s : Bool) → ((p || q) || (r || s)) ≡ ((p || r) || (q || s))
-or_swap true q r s = refl
-or_swap false true true s = refl
-or_swap false true false s = refl
-or_swap false false true s = refl
-or_swap false false false s = refl
-
-bytes_flip : (a b : Text) → bytes_eq a b ≡ bytes_eq b a
+pub bytes_flip : (a b : Text) → bytes_eq a b ≡ bytes_eq b a
 bytes_flip a b =
     same_true (bytes_eq a b) (bytes_eq b a)
     (λ e. (bytes_eq-Decides b a).1 (sym ((bytes_eq-Decides a b).0 e)))
