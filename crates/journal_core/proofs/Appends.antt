@@ -2,6 +2,7 @@
 -- records and the new one, or the call left the journal's disk alone.
 use Rattle.std.proofs.Common.{◌≡◌, inl, ℕ, List, [], ◌∷◌, ◌++◌, Option, Some, None, IfSome}
 use Rattle.std.proofs.Common.{option_map, sym, ap, ◌∙◌, subst}
+use Rattle.std.proofs.lemmas.Option.{same_Some}
 use Rattle.disk_core.specs.Times.{LeavesOnly}
 use Rattle.disk_core.specs.declared.disk.Disk.{Ghosts}
 use Rattle.disk_core.proofs.Times.{started}
@@ -9,9 +10,6 @@ use Rattle.journal_core.specs.Format.{Represents, RepresentsEither, records_of}
 use Rattle.journal_core.specs.Durable.{IsDurable}
 use Rattle.journal_core.specs.Words.{AllRepresent}
 use Rattle.journal_core.proofs.Modelled.{of_records}
-
-some_records : (x y : List (List ℕ)) → Some x ≡ Some y → x ≡ y
-some_records x y is = cc
 
 -- every crash state represents the old records and the new one
 pub all_kept : {D : Type 0} (g : Ghosts D) (disk : D) (contents : Option (List ℕ))
@@ -23,7 +21,7 @@ all_kept {D} g disk contents None body other news is all = tt
 all_kept {D} g disk None (Some list) body other news is all =
     let wrong : None ≡ Some (list ++ body ∷ []) = news in cc
 all_kept {D} g disk (Some b) (Some list) body other news is all =
-    subst (AllRepresent g disk) (some_records _ _ news
+    subst (AllRepresent g disk) (same_Some _ _ news
     ∙ ap (λ (last : List ℕ). list ++ last ∷ []) is) all
 
 -- a journal whose disk had no call

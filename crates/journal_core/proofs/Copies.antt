@@ -18,12 +18,7 @@ use Rattle.journal_core.proofs.Records.{after_later}
 use Rattle.mtc_io.specs.Streams.{AppendsPrefix}
 use Rattle.mtc_io.proofs.Streams.{prefix_more, prefix_whole}
 
--- ---- facts if the model knows the bytes of a disk
-
-pub any_some : {X : Type 0} (P : X → Type 0) (contents : Option X) → ((x : X) → P x)
-    → IfSome contents P
-any_some P None is = tt
-any_some P (Some x) is = is x
+-- ---- facts if a call went well
 
 pub when_ok : {T E : Type 0} (r : Result T E) (P Q : Type 0) → (P → Q) → OnOk r P → OnOk r Q
 when_ok (Ok x) P Q f is = f is

@@ -2,6 +2,7 @@
 use Rattle.std.proofs.Common.{◌≡◌, ◌≢◌, ℕ, false, List, [], ◌∷◌, ◌++◌, length, take, Option, Some}
 use Rattle.std.proofs.Common.{None, IfSome, option_map, Ok, Err, refl, ap, sym, ◌∙◌, subst}
 use Rattle.std.proofs.Common.{append_assoc, arith}
+use Rattle.std.proofs.lemmas.Option.{same_Some}
 use Rattle.disk_core.specs.Times.{OnlyReads}
 use Rattle.disk_core.specs.declared.disk.Disk.{Ghosts}
 use Rattle.journal_core.specs.Folds.{Fold, state_after, read_by, AreRefused, IsCauseOf}
@@ -37,9 +38,6 @@ pub all_empty : (contents : Option (List ℕ)) (list : Option (List (List ℕ)))
 all_empty None list is = subst (λ (o : Option (List (List ℕ))). IfSome o (λ l. l ≡ [])) (sym is) tt
 all_empty (Some b) list is = subst (λ (o : Option (List (List ℕ))). IfSome o (λ l. l ≡ []))
     (sym is) refl
-
-some_is : (x y : List (List ℕ)) → Some x ≡ Some y → x ≡ y
-some_is x y is = cc
 
 module _ {D : Type 0} {g : Ghosts D} {S E : Type 0} (fold : Fold S E) (old new : Opening D g) where
   -- the bytes of the disk and the records that were read, if the model knows the bytes
@@ -96,7 +94,7 @@ module _ {D : Type 0} {g : Ghosts D} {S E : Type 0} (fold : Fold S E) (old new :
           (new.reading b contents_new) in
           let more : records_before b (next_offset new)
           ≡ pushed body (records_before b (next_offset old))
-          = some_is _ _ (sym (read_at new b contents_new) ∙ list_is
+          = same_Some _ _ (sym (read_at new b contents_new) ∙ list_is
           ∙ ap (option_map (pushed body)) (read_at old b contents)) in (
             begin.0,
             begin.1 ∙ ap (λ (list : List (List ℕ)). list ++ begin.0) more
