@@ -7,17 +7,15 @@ use Rattle.file_events.specs.Apart.{AnyRecords, ClocksGoApart, OneByOneFails, on
 use Rattle.file_events.specs.Events.{MayAppend}
 use Rattle.file_events.specs.Executions.{IsPrefix}
 use Rattle.file_events.proofs.Records.{one_list, prefix_more, prefix_same}
+use Rattle.file_events.proofs.Uses.{tail_is}
 
 -- no list is one with more after it
 no_end : (x : Text) (ys : List Text) → x ∷ ys ≡ [] → ⊥
 no_end x ys is = absurd cc
 
-tail_is : (x : Text) (xs ys : List Text) → x ∷ xs ≡ x ∷ ys → xs ≡ ys
-tail_is x xs ys is = cc
-
 no_longer : (xs ys : List Text) (x : Text) → xs ++ x ∷ ys ≡ xs → ⊥
 no_longer [] ys x is = no_end x ys is
-no_longer (z ∷ xs) ys x is = no_longer xs ys x (tail_is z (xs ++ x ∷ ys) xs is)
+no_longer (z ∷ xs) ys x is = no_longer xs ys x (tail_is z z (xs ++ x ∷ ys) xs is)
 
 no_prefix : (list : List Text) (body : Text) → IsPrefix (list ++ body ∷ []) list → ⊥
 no_prefix list body prefix =

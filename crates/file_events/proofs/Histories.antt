@@ -2,6 +2,7 @@
 use Rattle.std.proofs.Common.{◌≡◌, inl, inr, Bool, true, false, List, [], ◌∷◌, ◌++◌, Option, None}
 use Rattle.std.proofs.Common.{Some, sym, subst, append_assoc, if◌then◌else◌}
 use Rattle.std.proofs.lemmas.List.{append-nil}
+use Rattle.std.proofs.lemmas.Option.{none-some}
 use Rattle.byte_formats.specs.Types.{Text}
 use Rattle.disk_core.specs.Disk.{NoNew}
 use Rattle.journal_core.specs.Format.{Represents}
@@ -13,7 +14,7 @@ use Rattle.file_events.specs.Histories.{ExecutionsAreHistories, HistoriesContinu
 use Rattle.file_events.specs.Histories.{IsHistory}
 use Rattle.file_events.specs.Histories.{ReachesAll, RepresentsPending, TakesSteps}
 use Rattle.file_events.specs.Laws.{IsJournalExecution}
-use Rattle.file_events.proofs.Records.{no_records, none_is, one_list}
+use Rattle.file_events.proofs.Records.{no_records, one_list}
 
 no_pending : (list : List Text) (pending : Option Text) (c : Text) → c ≡ []
     → RepresentsPending list pending c → ⊥
@@ -119,7 +120,7 @@ module _ (Valid : List Text → Type 0) (Reaches : History) (takes : TakesSteps 
     first_whole : ReachesAll Valid Reaches → (heard : Bool) (did : Journaled) (list : List Text)
         → records_after did ≡ Some list → Done Valid did before now
         → IsHistory Reaches (released_if heard did) now
-    first_whole makes_durable heard untouched list held done = absurd (none_is list held)
+    first_whole makes_durable heard untouched list held done = absurd (none-some list held)
     first_whole makes_durable heard (reads found) list held done = record {
       list = found;
       pending = None;

@@ -1,7 +1,7 @@
 -- With one tree no key is used twice where the numbers of the records count up.
 use Rattle.std.proofs.Common.{◌≡◌, ℕ, List, [], ◌∷◌, ◌++◌, Option, None, Some, refl, sym, ap, ◌∙◌}
 use Rattle.std.proofs.Common.{map, option_map, slice_get}
-use Rattle.std.proofs.lemmas.Option.{slice_get-map}
+use Rattle.std.proofs.lemmas.Option.{same_Some, slice_get-map}
 use Rattle.byte_formats.specs.Types.{Text}
 use Rattle.file_events.specs.Keys.{KeyUse, OneLevelUsesOnce, lower, numbers_in, one_level}
 use Rattle.file_events.specs.Keys.{uses_after, with_number, with_use}
@@ -16,10 +16,7 @@ use_is (Some number) numbers = refl
 number_is : (found : Option ℕ) (key : KeyUse) → option_map (lower 0) found ≡ Some key
     → (number : ℕ) × ((found ≡ Some number) × (lower 0 number ≡ key))
 number_is None key is = absurd cc
-number_is (Some number) key is = (number, (refl, lower_some (lower 0 number) key is))
-  where
-    lower_some : (x y : KeyUse) → Some x ≡ Some y → x ≡ y
-    lower_some x y same = cc
+number_is (Some number) key is = (number, (refl, same_Some (lower 0 number) key is))
 
 lower_is : (n m : ℕ) → lower 0 n ≡ lower 0 m → n ≡ m
 lower_is n m is = cc

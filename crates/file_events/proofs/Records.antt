@@ -2,6 +2,7 @@
 use Rattle.std.proofs.Common.{◌≡◌, inl, inr, Bool, List, [], ◌∷◌, ◌++◌, None, Some, sym, ap, subst}
 use Rattle.std.proofs.Common.{◌∙◌, append_assoc, take}
 use Rattle.std.proofs.lemmas.List.{append-nil}
+use Rattle.std.proofs.lemmas.Option.{none-some, same_Some}
 use Rattle.byte_formats.specs.Types.{Text}
 use Rattle.disk_core.specs.Disk.{NoNew}
 use Rattle.journal_core.specs.Format.{Represents, header}
@@ -35,12 +36,6 @@ prefix_more xs ys body prefix = (
   sym (append_assoc xs prefix.0 (body ∷ []))
       ∙ ap (λ (l : List Text). l ++ body ∷ []) prefix.1,
 )
-
-pub some_is : (xs ys : List Text) → Some xs ≡ Some ys → xs ≡ ys
-some_is xs ys is = cc
-
-pub none_is : (xs : List Text) → None ≡ Some xs → ⊥
-none_is xs is = absurd cc
 
 -- ---- an event
 
@@ -121,23 +116,23 @@ module _ (Valid : List Text → Type 0) where
   held_by : (list : List Text) (did : Journaled) (before now : CrashStates)
       → records_after did ≡ Some list → Done Valid did before now → (c : Text) → now c
       → IsReadAfter Valid list c
-  held_by list untouched before now held done c at = absurd (none_is list held)
+  held_by list untouched before now held done c at = absurd (none-some list held)
   held_by list (reads found) before now held done c at = record {
     list = found;
     stands = done.1 c at;
-    begins = prefix_same list found (some_is found list held);
+    begins = prefix_same list found (same_Some found list held);
     valid = done.0.valid;
   }
   held_by list (appended found body) before now held done c at = record {
     list = found ++ body ∷ [];
     stands = done.1 c at;
-    begins = prefix_same list (found ++ body ∷ []) (some_is (found ++ body ∷ []) list held);
+    begins = prefix_same list (found ++ body ∷ []) (same_Some (found ++ body ∷ []) list held);
     valid = done.0.valid;
   }
   held_by list (started body) before now held done c at = record {
     list = body ∷ [];
     stands = done.1.1 c at;
-    begins = prefix_same list (body ∷ []) (some_is (body ∷ []) list held);
+    begins = prefix_same list (body ∷ []) (same_Some (body ∷ []) list held);
     valid = done.1.0;
   }
 
@@ -151,13 +146,13 @@ module _ (Valid : List Text → Type 0) where
   -- and they are valid
   valid_by : (list : List Text) (did : Journaled) (before now : CrashStates)
       → records_after did ≡ Some list → Done Valid did before now → Valid list
-  valid_by list untouched before now held done = absurd (none_is list held)
+  valid_by list untouched before now held done = absurd (none-some list held)
   valid_by list (reads found) before now held done =
-      subst Valid (some_is found list held) done.0.valid
+      subst Valid (same_Some found list held) done.0.valid
   valid_by list (appended found body) before now held done =
-      subst Valid (some_is (found ++ body ∷ []) list held) done.0.valid
+      subst Valid (same_Some (found ++ body ∷ []) list held) done.0.valid
   valid_by list (started body) before now held done =
-      subst Valid (some_is (body ∷ []) list held) done.1.0
+      subst Valid (same_Some (body ∷ []) list held) done.1.0
 
   pub held_valid : (list : List Text) (event : Event) (before now : CrashStates)
       → EventHolds list event → Leads Valid event before now → Valid list

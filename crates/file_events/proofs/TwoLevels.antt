@@ -2,6 +2,7 @@
 use Rattle.std.proofs.Common.{◌≡◌, ℕ, zero, suc, ◌+◌, ◌*◌, ◌/◌, ◌%◌, ◌^◌, ◌≤◌, List, [], ◌∷◌, ◌++◌}
 use Rattle.std.proofs.Common.{Option, None, Some, refl, sym, ap, subst, ◌∙◌, arith, slice_get}
 use Rattle.std.proofs.lemmas.Nat.{div-add-mod'}
+use Rattle.std.proofs.lemmas.Option.{same_Some}
 use Rattle.byte_formats.specs.Types.{Text}
 use Rattle.file_events.specs.Keys.{CountUpFrom, KeyUse, TwoLevelsUseOnce, either_use, lower}
 use Rattle.file_events.specs.Keys.{numbers_in, two_levels, upper, uses_after, with_number}
@@ -25,9 +26,6 @@ record AreKeys (size signs trees : ℕ) (keys : List KeyUse) : Type 0 where
   pub start : KeysFrom size signs trees keys
   pub once : Once keys
 
-some_key : (x y : KeyUse) → Some x ≡ Some y → x ≡ y
-some_key x y is = cc
-
 later : (size signs trees more others : ℕ) (key : KeyUse) → signs ≤ more → trees ≤ others
     → KeyFrom size more others key → KeyFrom size signs trees key
 later size signs trees more others (upper tree) far far' start =
@@ -48,7 +46,7 @@ from_more : (size signs trees more others : ℕ) (head : KeyUse) (keys : List Ke
     → signs ≤ more → trees ≤ others → KeyFrom size signs trees head
     → KeysFrom size more others keys → KeysFrom size signs trees (head ∷ keys)
 from_more size signs trees more others head keys far far' start all zero key is =
-    subst (λ (k : KeyUse). KeyFrom size signs trees k) (some_key head key is) start
+    subst (λ (k : KeyUse). KeyFrom size signs trees k) (same_Some head key is) start
 from_more size signs trees more others head keys far far' start all (suc i) key is =
     later size signs trees more others key far far' (all i key is)
 

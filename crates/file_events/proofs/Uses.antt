@@ -35,10 +35,10 @@ same_rest None keys others is = is
 same_rest (Some first) keys others is =
     let longer : suc (length keys) ≡ suc (length others) = is in omega (arith, longer)
 
-head_is : (x y : Text) (xs ys : List Text) → x ∷ xs ≡ y ∷ ys → x ≡ y
+pub head_is : (x y : Text) (xs ys : List Text) → x ∷ xs ≡ y ∷ ys → x ≡ y
 head_is x y xs ys is = cc
 
-tail_is : (x y : Text) (xs ys : List Text) → x ∷ xs ≡ y ∷ ys → xs ≡ ys
+pub tail_is : (x y : Text) (xs ys : List Text) → x ∷ xs ≡ y ∷ ys → xs ≡ ys
 tail_is x y xs ys is = cc
 
 module _ (use_of : List Text → Text → Option KeyUse) where

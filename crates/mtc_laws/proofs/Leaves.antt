@@ -6,6 +6,7 @@ use Rattle.std.proofs.Common.{if◌then◌else◌}
 use Rattle.std.proofs.lemmas.Bool.{eq-eqb, ne_eqb, or_left, or_right}
 use Rattle.std.proofs.lemmas.Slice.Eq.{bytes_eq-Decides}
 use Rattle.std.specs.Str.{bytes_eq}
+use Rattle.std.proofs.lemmas.Option.{none-some}
 use Rattle.byte_formats.specs.Offsets.{IsBytes}
 use Rattle.byte_formats.specs.Types.{HashFunction}
 use Rattle.disk_core.specs.Disk.{NoNew}
@@ -15,7 +16,7 @@ use Rattle.file_events.specs.Events.{MayAppend, WasFound, EventHolds, FirstHolds
 use Rattle.file_events.specs.Owners.{LeavesJournal, ServesJournal}
 use Rattle.file_events.specs.Worlds.{breaks_off, clock_of, done_to, event_with}
 use Rattle.file_events.specs.Worlds.{states_at, states_since, exited, heard_of}
-use Rattle.file_events.proofs.Records.{held_valid, no_records, none_is, one_list}
+use Rattle.file_events.proofs.Records.{held_valid, no_records, one_list}
 use Rattle.journal_core.specs.Format.{Represents, RepresentsEither}
 use Rattle.mtc_io.specs.declared.sink.Sink.{Ghosts as Sinks}
 use Rattle.mtc_room.specs.Room.{ModelsFile}
@@ -134,7 +135,7 @@ idle_happens Valid before now false heard kept = kept
 idle_holds : (list : List (List ℕ)) (broken heard : Bool)
     → EventHolds list (event_with broken heard untouched) → ⊥
 idle_holds list true heard held = held
-idle_holds list false heard held = none_is list held
+idle_holds list false heard held = none-some list held
 
 module _ {R S D O E : Type 0} (h : HashFunction) (rooms : Rooms R S D) (disks : Disks D)
     (outs : Sinks O) (errs : Sinks E) (crash_state : ReadsCrashState disks) (only : OnlyNow disks)

@@ -3,6 +3,7 @@ use Rattle.std.proofs.Common.{◌≡◌, inl, inr, ℕ, List, [], ◌∷◌, ◌
 use Rattle.std.proofs.Common.{arith, rules, drop, sym, subst, ap, ◌∙◌}
 use Rattle.std.specs.Prelude.{map}
 use Rattle.std.proofs.lemmas.List.{length-drop, length-take}
+use Rattle.std.proofs.lemmas.Option.{none-some, same_Some}
 use Rattle.byte_formats.specs.Offsets.{IsBytes}
 use Rattle.byte_formats.specs.Types.{Hash, HashFunction, Text}
 use Rattle.byte_formats.proofs.Steps.{ok_is}
@@ -15,7 +16,7 @@ use Rattle.file_events.specs.Tiles.{Goes}
 use Rattle.file_events.specs.Worlds.{IsFileEvent, cut, died, states_at, stops, exited}
 use Rattle.file_events.specs.Worlds.{writes, IsFileExecution}
 use Rattle.file_events.proofs.Owners.{tiles_survive}
-use Rattle.file_events.proofs.Records.{held_durable, none_is, one_list, some_is}
+use Rattle.file_events.proofs.Records.{held_durable, one_list}
 use Rattle.file_events.specs.Tiles.{stored}
 use Rattle.journal_core.specs.Folds.{taken_from}
 use Rattle.journal_core.proofs.Standing.{found_stands}
@@ -69,13 +70,13 @@ first_goes h first t s made =
 states_hold : (Valid : List Text → Type 0) (list : List Text) (did : Journaled)
     (before now : CrashStates) → records_after did ≡ Some list → Done Valid did before now
     → StatesRepresent now list
-states_hold Valid list untouched before now held done = absurd (none_is list held)
+states_hold Valid list untouched before now held done = absurd (none-some list held)
 states_hold Valid list (reads records) before now held done =
-    subst (StatesRepresent now) (some_is records list held) done.1
+    subst (StatesRepresent now) (same_Some records list held) done.1
 states_hold Valid list (appended records body) before now held done =
-    subst (StatesRepresent now) (some_is (records ++ body ∷ []) list held) done.1
+    subst (StatesRepresent now) (same_Some (records ++ body ∷ []) list held) done.1
 states_hold Valid list (started body) before now held done =
-    subst (StatesRepresent now) (some_is (body ∷ []) list held) done.1.1
+    subst (StatesRepresent now) (same_Some (body ∷ []) list held) done.1.1
 
 event_holds : (Valid : List Text → Type 0) (list : List Text) (event : Event)
     (before now : CrashStates) → EventHolds list event → Happens Valid event before now
