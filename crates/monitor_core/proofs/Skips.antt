@@ -21,10 +21,11 @@ skips-from text =
     let all : length text - 0 ≡ length text = omega arith in
     record { few = omega arith; same = ap (λ k. after_report k 0 text) all }
 
-one_line : (left n : ℕ) (text rest : Text) → after_report_line (first_line text) ≡ Some rest
+-- a line of a report
+pub skips_one : (left n : ℕ) (text rest : Text) → after_report_line (first_line text) ≡ Some rest
     → after_report (suc left) n text ≡ after_report left (n + 1) rest
 unfolding after_report
-one_line left n text rest is = ap (λ o. skipped n text o (after_report left)) is
+skips_one left n text rest is = ap (λ o. skipped n text o (after_report left)) is
 
 pub skips-more : (text : Text) (n : ℕ) (rest following : Text) → Skips text n rest
     → after_report_line (first_line rest) ≡ Some following → length following < length rest
@@ -35,7 +36,7 @@ skips-more text n rest following so_far is shorter =
     record {
       few = omega arith;
       same = sym (ap (λ k. after_report k n rest) more
-          ∙ one_line (length text - (n + 1)) n rest following is)
+          ∙ skips_one (length text - (n + 1)) n rest following is)
           ∙ so_far.same;
     }
 
@@ -50,11 +51,6 @@ pub skips-end : (text : Text) (n : ℕ) (rest : Text) → Skips text n rest
     → (n, rest) ≡ after_report (length text) 0 text
 skips-end text n rest so_far none =
     sym (no_line (length text - n) n rest none) ∙ so_far.same
-
--- a line of a report
-pub skips_one : (left n : ℕ) (text rest : Text) → after_report_line (first_line text) ≡ Some rest
-    → after_report (suc left) n text ≡ after_report left (n + 1) rest
-skips_one = one_line
 
 -- ---- where a word ends
 

@@ -5,28 +5,14 @@ use Rattle.std.specs.Prelude.{◌==◌, nat_eq, map, bytes_eq}
 use Rattle.std.specs.Char.{to_ascii_lowercase}
 use Rattle.std.specs.List.{ends_with}
 use Rattle.std.specs.Str.{str_eq_ignore_ascii_case, str_to_ascii_lowercase}
+use Rattle.std.proofs.Math.Bool.{or-false}
 use Rattle.std.proofs.lemmas.Bool.{eq-eqb, false_from_ne_true, ne_eqb}
 use Rattle.std.proofs.lemmas.Bool.Decides.{nat_tests}
 use Rattle.std.proofs.lemmas.List.{drop-map, drop_more, length-drop, length-map}
 use Rattle.std.proofs.lemmas.Slice.Eq.{bytes_eq-Decides}
 use Rattle.byte_formats.specs.Types.{Text}
+use Rattle.cert_fields.proofs.Twice.{bytes_flip}
 use Rattle.monitor_core.specs.Report.{is_under}
-
-or_false : (b : Bool) → (b || false) ≡ b
-or_false true = refl
-or_false false = refl
-
-same_tests : (a b : Bool) → (a ≡ true → b ≡ true) → (b ≡ true → a ≡ true) → a ≡ b
-same_tests true b there back = sym (there refl)
-same_tests false true there back = back refl
-same_tests false false there back = refl
-
--- the order of two texts is free
-turned : (a b : Text) → bytes_eq a b ≡ bytes_eq b a
-turned a b =
-    same_tests (bytes_eq a b) (bytes_eq b a)
-    (λ same. (bytes_eq-Decides b a).1 (sym ((bytes_eq-Decides a b).0 same)))
-    (λ same. (bytes_eq-Decides a b).1 (sym ((bytes_eq-Decides b a).0 same)))
 
 -- texts of two lengths differ
 other_length : (a b : Text) → length a ≢ length b → bytes_eq a b ≡ false
@@ -50,7 +36,7 @@ is_under-short name domain short =
     other_length needle (drop (length lower - length needle) lower)
     (λ same. absurd (omega arith)) in
     sym (ap (λ b. str_eq_ignore_ascii_case name domain || b) none
-    ∙ or_false (str_eq_ignore_ascii_case name domain))
+    ∙ or-false (str_eq_ignore_ascii_case name domain))
 
 -- a longer one
 pub is_under-long : (name domain : Text) (dot : ℕ) → length domain < length name
@@ -78,7 +64,7 @@ is_under-long name domain dot longer is =
     ∙ ap (λ b. b && bytes_eq (str_to_ascii_lowercase domain)
     (str_to_ascii_lowercase (drop (dot + 1) name))) (dot_alone (get_or name dot 0))
     ∙ ap (λ b. (get_or name dot 0 == 0x2E) && b)
-    (turned (str_to_ascii_lowercase domain) (str_to_ascii_lowercase (drop (dot + 1) name))))
+    (bytes_flip (str_to_ascii_lowercase domain) (str_to_ascii_lowercase (drop (dot + 1) name))))
 
 -- a longer one with a dot before its end, and with another byte there
 pub is_under-dot : (name domain part : Text) (dot : ℕ) → length domain < length name
