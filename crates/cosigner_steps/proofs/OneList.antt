@@ -30,7 +30,7 @@ abbrev Shown : HashFunction → List Text → List Step → Type 0 → Type 0
 Shown h entries steps so =
     so ⊎ HasCollision h (prefix_inputs h entries steps) (proof_inputs h steps)
 
-hashes_at : (steps : List Step) (k : ℕ) (s : Step) → AllByRecursion HasHashes steps
+pub hashes_at : (steps : List Step) (k : ℕ) (s : Step) → AllByRecursion HasHashes steps
     → k < length steps → s ≡ get_or steps k s → HasHashes s
 hashes_at [] k s all below is = absurd (omega arith)
 hashes_at (x ∷ xs) zero s all below is = subst HasHashes (sym is) all.0

@@ -11,6 +11,7 @@ use Rattle.byte_formats.specs.Types.{Hash, HashFunction}
 use Rattle.collide.proofs.Extracting.{IsSized, found_wider}
 use Rattle.collide.specs.Extraction.{HasCollision}
 use Rattle.collide.specs.Inputs.{open_inputs_of}
+use Rattle.cosigner_steps.proofs.OneList.{hashes_at}
 use Rattle.cosigner_core.specs.Progress.{first_progress, with_step}
 use Rattle.cosigner_core.specs.declared.progress.Progress.{Progress}
 use Rattle.cosigner_core.specs.declared.step.Step.{Step}
@@ -31,12 +32,6 @@ use Rattle.quarrel_core.specs.declared.joined.Joined.TheVariants.{Neither, Pair,
 pub read_at : (steps : List Step) (k : ℕ) (s : Step) → slice_get steps k ≡ Some s
     → s ≡ get_or steps k s
 read_at steps k s is = sym (get_or_from_slice_get steps k s s is)
-
-hashes_at : (steps : List Step) (k : ℕ) (s : Step) → AllByRecursion HasHashes steps
-    → k < length steps → s ≡ get_or steps k s → HasHashes s
-hashes_at [] k s all below is = let no : ⊥ = omega arith in absurd no
-hashes_at (x ∷ steps) zero s all below is = subst HasHashes (sym is) all.0
-hashes_at (x ∷ steps) (suc k) s all below is = hashes_at steps k s all.1 (omega arith) is
 
 -- One step on, and many.
 

@@ -4,7 +4,7 @@ use Rattle.std.proofs.Common.{eqb, eqb-true, List, [], ◌∷◌, ◌++◌, leng
 use Rattle.std.proofs.Common.{Some, None, sym, ◌∙◌, ap, refl, subst, arith, inl, inr, ◌⊎◌}
 use Rattle.std.specs.Prelude.{Option, bytes_eq, not, slice_get}
 use Rattle.std.specs.List.{position}
-use Rattle.std.proofs.lemmas.Bool.{and_from, and_parts, cases_lt, eq-eqb, false≢true}
+use Rattle.std.proofs.lemmas.Bool.{and_from, and_parts, cases_lt, eq-eqb, false≢true, not-true}
 use Rattle.std.proofs.lemmas.List.{append-nil, length_push}
 use Rattle.std.proofs.lemmas.List.Quantifiers.{position-Some}
 use Rattle.std.proofs.lemmas.Option.{get_or_from_slice_get, none-some, same_Some}
@@ -20,10 +20,6 @@ use Rattle.quarrel_core.specs.ConflictLaws.{IsFirstConflict}
 
 -- The test and the definition agree.
 
-not_true : (b : Bool) → not b ≡ true → b ≡ false
-not_true true is = absurd (false≢true is)
-not_true false is = refl
-
 pub in_conflict : (x y : Step) → conflicts x y ≡ true → AreInConflict y x
 in_conflict (Sign i s e a p) (Sign j t f b q) is =
     let first = and_parts (eqb t s) (eqb f e && not (bytes_eq a b)) is in
@@ -31,7 +27,7 @@ in_conflict (Sign i s e a p) (Sign j t f b q) is =
     let decides = bytes_eq-Decides a b in (
       eqb-true t s first.0,
       eqb-true f e second.0,
-      λ same. false≢true (sym (not_true (bytes_eq a b) second.1) ∙ decides.1 (sym same)),
+      λ same. false≢true (sym (not-true (bytes_eq a b) second.1) ∙ decides.1 (sym same)),
     )
 in_conflict (Sign i s e a p) (Advance size root q) is = absurd (false≢true is)
 in_conflict (Advance size root p) y is = absurd (false≢true is)
