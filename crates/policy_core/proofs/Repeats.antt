@@ -9,6 +9,7 @@ use Rattle.std.specs.BTreeMap.{is_at}
 use Rattle.std.specs.BTreeSet.{BTreeSet, contains, Updates, IsEmpty}
 use Rattle.std.specs.List.{list_any}
 use Rattle.std.specs.Ordering.{ordering_then}
+use Rattle.std.proofs.Math.Bool.{or-false}
 use Rattle.std.proofs.lemmas.Bool.{not-true}
 use Rattle.std.proofs.lemmas.Bool.{not-false}
 use Rattle.byte_formats.proofs.Values.{or_swap}
@@ -28,17 +29,13 @@ pub record Holds (set : BTreeSet (ℕ × ℕ)) (xs : List Trusted) : Type 0 wher
 
 -- ---- lists
 
-or_nothing : (b : Bool) → (b || false) ≡ b
-or_nothing true = refl
-or_nothing false = refl
-
 or_joined : (a b c : Bool) → ((a || b) || c) ≡ (a || (b || c))
 or_joined true b c = refl
 or_joined false b c = refl
 
 list_any-push : {X : Type 0} (test : X → Bool) (xs : List X) (x : X)
     → list_any test (xs ++ x ∷ []) ≡ (list_any test xs || test x)
-list_any-push test [] x = or_nothing (test x)
+list_any-push test [] x = or-false (test x)
 list_any-push test (y ∷ ys) x = ap (λ (b : Bool). test y || b) (list_any-push test ys x)
     ∙ sym (or_joined (test y) (list_any test ys) (test x))
 
@@ -66,7 +63,7 @@ following : (seen xs : List Trusted) → has_repeat has_same_interval (seen ++ x
     ≡ (has_repeat has_same_interval seen || repeats_after seen xs)
 unfolding repeats_after
 following seen [] = ap (has_repeat has_same_interval) (append-nil seen)
-    ∙ sym (or_nothing (has_repeat has_same_interval seen))
+    ∙ sym (or-false (has_repeat has_same_interval seen))
 following seen (x ∷ xs) =
     ap (has_repeat has_same_interval) (sym (append_assoc seen (x ∷ []) xs))
     ∙ (following (seen ++ x ∷ []) xs
@@ -119,7 +116,7 @@ same_key x k =
 one_more : (b c : Bool) → cond b true c ≡ (c || b)
 one_more true true = refl
 one_more true false = refl
-one_more false c = sym (or_nothing c)
+one_more false c = sym (or-false c)
 
 pub holds_nothing : (set : BTreeSet (ℕ × ℕ)) → IsEmpty set → Holds set []
 holds_nothing set empty = record {
