@@ -17,6 +17,7 @@ use Rattle.file_events.proofs.Records.{one_list}
 use Rattle.file_events.proofs.Stays.{first_held, held_stand, recovered_valid}
 use Rattle.file_events.proofs.Stays.{released_held as was_held}
 use Rattle.file_events.specs.Worlds.{states_of}
+use Rattle.file_events.proofs.Uses.{head_is}
 use Rattle.journal_core.specs.Format.{Represents}
 use Rattle.mtc_io.specs.declared.sink.Sink.{Ghosts as Sinks}
 use Rattle.mtc_room.specs.Room.{ModelsFile}
@@ -33,7 +34,7 @@ use Rattle.party_history.specs.Journals.{Continues, HasHistory}
 use Rattle.party_history.specs.Rules.{AreRecords, StartsWith, may_follow}
 use Rattle.party_history.specs.declared.start.PartyStart.{PartyStart}
 use Rattle.party_history.specs.declared.start.PartyStart.TheVariants.{Log, Cosigner}
-use Rattle.party_history.proofs.Agreement.{agree, cons_is, made_so, read, starts_so}
+use Rattle.party_history.proofs.Agreement.{agree, made_so, read, starts_so}
 use Rattle.party_history.proofs.Items.{item_added, items_kept}
 use Rattle.party_history.proofs.Keys.{one_record}
 use Rattle.party_history.proofs.Taking.{no_records, reaches_all, takes_steps}
@@ -68,11 +69,11 @@ first_is : (first other c : List ℕ) (others durable list : List (List ℕ))
     (pending : Option (List ℕ)) → RepresentsPending (other ∷ durable) pending c → Represents c list
     → first ∷ others ≡ list → other ≡ first
 first_is first other c others durable list None stands found is =
-    cons_is other first durable others (one_list c (other ∷ durable) list stands found ∙ sym is)
+    head_is other first durable others (one_list c (other ∷ durable) list stands found ∙ sym is)
 first_is first other c others durable list (Some body) stands found is = elim stands [
-  | inl old ↦ cons_is other first durable others
+  | inl old ↦ head_is other first durable others
       (one_list c (other ∷ durable) list old found ∙ sym is)
-  | inr new ↦ cons_is other first (durable ++ body ∷ []) others
+  | inr new ↦ head_is other first (durable ++ body ∷ []) others
       (one_list c (other ∷ (durable ++ body ∷ [])) list new found ∙ sym is)
 ]
 

@@ -30,7 +30,8 @@ use Rattle.command_plans.proofs.Facts.{found_valid}
 use Rattle.mtc_plans.specs.Commands.{plan_of}
 use Rattle.mtc_plans.specs.PartyKinds.{cosigner, log, party_kinds}
 use Rattle.mtc_plans.proofs.Names.{journals_named}
-use Rattle.party_history.proofs.Agreement.{apart, cons_is, made_so}
+use Rattle.party_history.proofs.Agreement.{apart, made_so}
+use Rattle.file_events.proofs.Uses.{head_is}
 use Rattle.mtc_top.specs.Facts.{facts}
 use Rattle.mtc_laws.proofs.Beside.{IsOwn}
 use Rattle.mtc_laws.specs.RunLaws.{AreAmong}
@@ -163,6 +164,6 @@ no_cosigner_log h list body s is made =
     let two = only_begins h (list ++ body ∷ []) s made in
     let joined : one.0 ∷ (one.1.0 ++ body ∷ []) ≡ two.0 ∷ two.1.0
     = ap (λ (l : List Text). l ++ body ∷ []) (sym one.1.1.1.1.0) ∙ two.1.1.0 in
-    let same = cons_is one.0 two.0 (one.1.0 ++ body ∷ []) two.1.0 joined in
+    let same = head_is one.0 two.0 (one.1.0 ++ body ∷ []) two.1.0 joined in
     apart one.0 s.settings (one.1.1.0, one.1.1.1.0) (ap settings_in same ∙ two.1.1.1)
     one.1.1.1.1.1

@@ -14,6 +14,7 @@ use Rattle.std.specs.Int.{w8}
 use Rattle.journal_core.specs.Folds.{Fold, read_by, state_after, taken_from}
 use Rattle.journal_core.specs.Format.{Represents}
 use Rattle.journal_core.proofs.Found.{read_standing}
+use Rattle.file_events.proofs.Uses.{head_is}
 use Rattle.issuance_log.specs.Folds.{LogState, log_fold, log_of}
 use Rattle.issuance_log.specs.Records.{settings_at, settings_in, log_settings_with, tagged}
 use Rattle.issuance_log.specs.Settings.{Settings}
@@ -61,15 +62,12 @@ pub made_so : {S : Type 0} (r : Result S ℕ) → IsOk r → (s : S) × (r ≡ O
 made_so (Ok s) is = (s, refl)
 made_so (Err k) is = let wrong : false ≡ true = is in absurd cc
 
-pub cons_is : (x y : Text) (xs ys : List Text) → x ∷ xs ≡ y ∷ ys → x ≡ y
-cons_is x y xs ys is = cc
-
 first_of_log : (h : HashFunction) (first : Text) (bodies : List Text)
     → IsOk (log_of h (first ∷ bodies)) → (s : Settings) × (settings_in first ≡ Some s)
 first_of_log h first bodies is =
     let made = made_so (log_of h (first ∷ bodies)) is in
     let found = logs.only_begins h (first ∷ bodies) made.0 made.1 in
-    let same = cons_is first found.0 bodies found.1.0 found.1.1.0 in
+    let same = head_is first found.0 bodies found.1.0 found.1.1.0 in
     (made.0.settings, ap settings_in same ∙ found.1.1.1)
 
 first_of_cosigner : (h : HashFunction) (first : Text) (bodies : List Text)
@@ -78,7 +76,7 @@ first_of_cosigner : (h : HashFunction) (first : Text) (bodies : List Text)
 first_of_cosigner h first bodies is =
     let made = made_so (cosigner_of h (first ∷ bodies)) is in
     let found = cosigners.only_begins h (first ∷ bodies) made.0 made.1 in
-    let same = cons_is first found.0 bodies found.1.0 found.1.1.1.1.0 in
+    let same = head_is first found.0 bodies found.1.0 found.1.1.1.1.0 in
     ((found.1.1.0, found.1.1.1.0), ap cosigner_in same ∙ found.1.1.1.1.1)
 
 -- each journal of a log or a cosigner is that of a party
