@@ -6,7 +6,6 @@ use Rattle.std.proofs.lemmas.Option.{same_Some}
 use Rattle.byte_formats.specs.Readings.{◌>>=◌, some_or}
 use Rattle.byte_formats.specs.Offsets.{IsBytes}
 use Rattle.byte_formats.specs.Types.{HashFunction}
-use Rattle.byte_formats.proofs.Steps.{ok_is}
 use Rattle.byte_formats.proofs.Values.{map_some}
 use Rattle.disk_core.specs.declared.disk.Disk.{Ghosts as Disks}
 use Rattle.mtc_io.specs.declared.sink.Sink.{Ghosts as Sinks}
@@ -19,7 +18,7 @@ use Rattle.party_history.specs.Rules.{may_follow}
 use Rattle.party_history.specs.declared.step.PartyStep.{PartyStep}
 use Rattle.party_history.specs.declared.step.PartyStep.TheVariants.{Begin, MakeDurable, Release}
 use Rattle.party_history.specs.declared.step.PartyStep.TheVariants.{Stop}
-use Rattle.party_history.proofs.Chains.{first_step, no_some}
+use Rattle.party_history.proofs.Chains.{first_step, no_some, no_steps}
 use Rattle.mtc_laws.specs.RoomLaws.{AreOneHistory, IsJournalOf, JournalsAreOneHistory}
 use Rattle.mtc_laws.proofs.Recovered.{reached}
 use Rattle.mtc_top.specs.Executions.{program}
@@ -89,16 +88,11 @@ module _ (valid : Valid) where
   unfolding states_from
   none k states = refl
 
-  none_is : (k : ℕ) (states ends : List HistoryState) → states_from valid k states [] ≡ Ok ends
-      → states ≡ ends
-  unfolding states_from
-  none_is k states ends is = ok_is ℕ states ends is
-
   -- the number of the first step doesn't matter
   any_number : (k j : ℕ) (states ends : List HistoryState) (steps : List PartyStep)
       → states_from valid k states steps ≡ Ok ends → states_from valid j states steps ≡ Ok ends
   any_number k j states ends [] is =
-      ap (λ (l : List HistoryState). states_from valid j l []) (none_is k states ends is)
+      ap (λ (l : List HistoryState). states_from valid j l []) (no_steps valid k states ends is)
       ∙ none j ends
   any_number k j states ends (step ∷ steps) is =
       let first = first_step valid k states step steps ends is in
@@ -110,7 +104,7 @@ module _ (valid : Valid) where
       → states_from valid k states earlier ≡ Ok mid → states_from valid 0 mid more ≡ Ok ends
       → states_from valid k states (earlier ++ more) ≡ Ok ends
   goes_after k states mid ends [] more is rest =
-      ap (λ (l : List HistoryState). states_from valid k l more) (none_is k states mid is)
+      ap (λ (l : List HistoryState). states_from valid k l more) (no_steps valid k states mid is)
       ∙ any_number 0 k mid ends more rest
   goes_after k states mid ends (step ∷ earlier) more is rest =
       let first = first_step valid k states step earlier mid is in
@@ -122,7 +116,7 @@ module _ (valid : Valid) where
       (steps : List PartyStep) → states_from valid k states steps ≡ Ok ends
       → states_from valid k (x ∷ states) (map later steps) ≡ Ok (x ∷ ends)
   with_first k x states ends [] is =
-      none k (x ∷ states) ∙ ap (λ (l : List HistoryState). Ok (x ∷ l)) (none_is k states ends is)
+      none k (x ∷ states) ∙ ap (λ (l : List HistoryState). Ok (x ∷ l)) (no_steps valid k states ends is)
   with_first k x states ends (step ∷ steps) is =
       let first = first_step valid k states step steps ends is in
       goes_first k (x ∷ states) (later step) (map later steps) (x ∷ first.0) (x ∷ ends)
@@ -136,7 +130,7 @@ module _ (valid : Valid) where
       → (t : HistoryState) × (ends ≡ t ∷ [])
       × (states_from valid k (x ∷ others) steps ≡ Ok (t ∷ others))
   with_others k x others ends [] is =
-      (x, sym (none_is k (x ∷ []) ends is), none k (x ∷ others))
+      (x, sym (no_steps valid k (x ∷ []) ends is), none k (x ∷ others))
   with_others k x others ends (step ∷ steps) is =
       let first = first_step valid k (x ∷ []) step steps ends is in
       let only = only_moved x others (λ s. moved valid s step) (party_of_step step) first.0 first.1

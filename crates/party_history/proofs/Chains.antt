@@ -59,7 +59,7 @@ module _ (valid : Valid) where
       (λ (next : List HistoryState). states_from valid (k + 1) next steps) ends is in
       (found.0, some_or_ok k (states_after valid states step) found.0 found.1, found.2)
 
-  no_steps : (k : ℕ) (states ends : List HistoryState) → states_from valid k states [] ≡ Ok ends
+  pub no_steps : (k : ℕ) (states ends : List HistoryState) → states_from valid k states [] ≡ Ok ends
       → states ≡ ends
   unfolding states_from
   no_steps k states ends is = ok_is ℕ states ends is
