@@ -13,6 +13,7 @@ use Rattle.mtc_command.specs.Made.{IsOnOld, Journaled, Leaves}
 use Rattle.mtc_command.specs.Served.{IsOther, IsUnmade, OfEach, done_with, first_journaled}
 use Rattle.mtc_command.specs.Steps.{held_in}
 use Rattle.mtc_command.specs.Works.{HasClosed, HasOpenedBeside}
+use Rattle.mtc_command.proofs.Beside.{held_as, rose_on}
 use Rattle.mtc_command.proofs.Made.{left_opened}
 use Rattle.mtc_command.proofs.Served.{other_last, reply_so, rose_since}
 use Rattle.mtc_command.proofs.Works.{rose_with}
@@ -63,20 +64,8 @@ other_first (x ∷ xs) ys name other = (other.0, other_first xs ys name other.1)
 
 -- ---- small facts
 
-rose_on : (before count more : ℕ) → Rose before count → count ≤ more → Rose before more
-rose_on before count more rose later = elim rose [
-  | inl rises ↦ inl (omega (arith, rises, later))
-  | inr last ↦ inr (omega (arith, last, later))
-]
-
 pub there_not : (file : Option (List ℕ)) → IsSome file → file ≡ None → ⊥
 there_not file there none = let wrong = subst IsSome none there in cc
-
-held_as : (file now contents : Option (List ℕ)) → OpensBytes now contents
-    → (IsSome file → now ≡ file) → (file ≡ None → now ≡ Some [])
-    → contents ≡ Some (held_in file)
-held_as None now contents opens kept made = opens.same ∙ made refl
-held_as (Some bytes) now contents opens kept made = opens.same ∙ kept refl
 
 -- ---- from the devices to the file system
 

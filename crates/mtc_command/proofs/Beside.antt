@@ -36,22 +36,24 @@ longer_other name same =
     let six : length (codes ".tiles") ≡ 6 = refl in
     absurd (omega (arith, long, length_is, six))
 
-rose_on : (before count more : ℕ) → Rose before count → count ≤ more → Rose before more
+-- more failures may follow
+pub rose_on : (before count more : ℕ) → Rose before count → count ≤ more → Rose before more
 rose_on before count more rose later = elim rose [
   | inl rises ↦ inl (omega (arith, rises, later))
   | inr last ↦ inr (omega (arith, last, later))
 ]
 
+-- a device that was opened has the bytes of its file, and none if it was made
+pub held_as : (file now contents : Option (List ℕ)) → OpensBytes now contents
+    → (IsSome file → now ≡ file) → (file ≡ None → now ≡ Some [])
+    → contents ≡ Some (held_in file)
+held_as None now contents opens kept made = opens.same ∙ made refl
+held_as (Some bytes) now contents opens kept made = opens.same ∙ kept refl
+
 -- The device of the journal was opened, and then that of its tiles.
 module _ {R S D : Type 0} (rooms : Rooms R S D) (g : Ghosts D) (name : List ℕ)
     (old mid both : R) (d e : D) (opened : HasOpened rooms g name old mid d)
     (beside : HasOpenedBeside rooms g (tiles_name name) mid both e) where
-  held_as : (file now contents : Option (List ℕ)) → OpensBytes now contents
-      → (IsSome file → now ≡ file) → (file ≡ None → now ≡ Some [])
-      → contents ≡ Some (held_in file)
-  held_as None now contents opens kept made = opens.same ∙ made refl
-  held_as (Some bytes) now contents opens kept made = opens.same ∙ kept refl
-
   -- the bytes that it has are what the file held before
   pub held_is : rooms.is_modelled old
       → g.contents e ≡ Some (held_in (rooms.file old (tiles_name name)))
