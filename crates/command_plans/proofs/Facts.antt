@@ -254,7 +254,7 @@ made_new k plan files = plan_new plan files (outcome_of plan files) (outcomes_co
 
 -- ---- what was passed
 
-not_refused : (status : Said) (text : List ℕ) (why : Stopped) (file : Option (List ℕ))
+pub not_refused : (status : Said) (text : List ℕ) (why : Stopped) (file : Option (List ℕ))
     (reason : List ℕ) → said status text ≡ refused why file reason → ⊥
 not_refused status text why file reason is = cc
 

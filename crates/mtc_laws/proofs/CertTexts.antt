@@ -21,14 +21,14 @@ use Rattle.mtc_authority.specs.declared.work.Work.{Work}
 use Rattle.mtc_authority.specs.declared.work.Work.TheVariants.{Cert, LightCert}
 use Rattle.command_plans.specs.Outcomes.{deed_outcome, wanted_of}
 use Rattle.command_plans.specs.Plans.{Deed, only_reads, works}
-use Rattle.command_plans.proofs.Facts.{heard_passed}
+use Rattle.command_plans.proofs.Facts.{heard_passed, not_refused}
 use Rattle.mtc_plans.specs.Commands.{planned_outcome}
 use Rattle.mtc_plans.specs.Heard.{HoldsSmall, OfSaid}
 use Rattle.mtc_plans.specs.LogPlans.{cert_plan, work_plan, work_step}
 use Rattle.mtc_plans.specs.LogWork.{cert_judged, work_reported, write_judged}
 use Rattle.mtc_plans.specs.PartyKinds.{party_kinds}
 use Rattle.mtc_plans.specs.Steps.{deed_on}
-use Rattle.mtc_plans.proofs.Heard.{form_passed, not_refused, same_work}
+use Rattle.mtc_plans.proofs.Heard.{form_passed, same_work}
 
 -- ---- a certificate is no refusal
 

@@ -38,7 +38,7 @@ use Rattle.command_plans.specs.Outcomes.{deed_outcome, opened_did, outcome_of, w
 use Rattle.command_plans.specs.Plans.{Beside, Deed, Finds, Input, Journal, Plan, Read, Step}
 use Rattle.command_plans.specs.Plans.{in_form, misreads, only_reads, only_prints, opens, prints}
 use Rattle.command_plans.specs.Plans.{works}
-use Rattle.command_plans.proofs.Facts.{heard_passed}
+use Rattle.command_plans.proofs.Facts.{heard_passed, not_refused}
 use Rattle.mtc_plans.specs.CosignerPlans.{advance_reported, cosign_reported, export_plan}
 use Rattle.mtc_plans.specs.CosignerPlans.{export_reported}
 use Rattle.mtc_plans.specs.CosignerPlans.{init_cosigner_plan, step_reported}
@@ -93,10 +93,6 @@ module _ {k : Kinds} {inputs : List Input} {journals : List (Journal k)} where
       test_passed (nat_lt 48 (length secret.text)) secret (codes "Trailing") next say
       (test_passed (nat_lt (length secret.text) 48) secret (codes "Short " ++ decimal 0)
       (if nat_lt 48 (length secret.text) then misreads secret (codes "Trailing") else next) say is)
-
-pub not_refused : (status : Said) (text : List ℕ) (why : Stopped) (file : Option (List ℕ))
-    (reason : List ℕ) → said status text ≡ refused why file reason → ⊥
-not_refused status text why file reason is = cc
 
 -- ---- a command that reads one file in some form, and then works on a journal that is there
 
