@@ -36,7 +36,8 @@ fn ended(total: u64, pending: usize, items: u64, short: Short) -> Result<u64, It
 
 /// Reads a file of entries to its end and lets the fold, which has taken no item so far, take each
 /// item in its order. The answer is the number of the items, or the first fault of the file as
-/// [`entry_list::read_items`] finds it; the fold has then taken the items before the fault.
+/// [`entry_list::read_items`] finds it. No clause says what the fold has taken of a file that has a
+/// fault.
 ///
 /// Errors: those of [`mtc_io::read_all`], also where the file has a fault. `Failed` comes only with
 /// a failure of the source, and `TooLong` only if it gives more than `limit` bytes. `Memory` comes
