@@ -6,8 +6,7 @@
 //! command has to answer, and what it leaves of the journal, are definitions in `specs/`.
 //!
 //! No clause says that the tiles are closed before the journal, or that no call asks for their file
-//! if there is no journal: that is tested alone. What `tile` leaves in that file is said by
-//! `issuance_log::Log::tile` alone; and no clause says that there are 64 frames.
+//! if there is no journal: that is tested alone. No clause says that there are 64 frames.
 #![tactic(auto)]
 
 pub mod cert;
