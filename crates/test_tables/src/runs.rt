@@ -4,10 +4,9 @@
 //! OUT is how many bytes a call the output takes, or `COUNT/CALL` where the call with this number
 //! on it fails, counted from 0. A FILE is `NAME=BYTES`, or `NAME=BYTES/CALL` where that call on it
 //! fails; `?NAME` asks what a file holds at the end. An answer has the status; what the output
-//! took; ` ! ` and the line on standard error; ` failed_allocations` where a file or an output
-//! found no memory; and ` NAME=BYTES` for each file that was asked for, or ` NAME` where there is
-//! none. What is empty is left out, `|` is the end of a line, and bytes that are no text follow
-//! `hex:`.
+//! took; ` ! ` and the line on standard error; ` out-of-memory` where a file or an output found no
+//! memory; and ` NAME=BYTES` for each file that was asked for, or ` NAME` where there is none. What
+//! is empty is left out, `|` is the end of a line, and bytes that are no text follow `hex:`.
 
 ghost use Rattle.std.specs.Prelude.{◌≡◌};
 
