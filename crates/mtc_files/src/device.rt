@@ -44,11 +44,11 @@ where
 /// opens it for this process alone until the device is dropped. It is locked, and it and the folder
 /// of its name are synced, before anything is written. A log or a cosigner is begun on the device.
 ///
-/// Errors are those of the system: `AlreadyExists` where the name has a file or a link, or is so
-/// long that the name of its file of tiles, which ends in `.tiles`, would be too long for the
-/// system; `NotFound` where its folder isn't there, or the name no longer leads to the new file;
-/// `WouldBlock` where another process has locked it since. A file that was made stays where a later
-/// step fails: its name may lead to another program's by now.
+/// Errors are those of the system: `AlreadyExists` where the name has a file or a link; `NotFound`
+/// where its folder isn't there, where the name of its file of tiles, which ends in `.tiles`, would
+/// be too long for the system, or where the name no longer leads to the new file; `WouldBlock`
+/// where another process has locked it since. A file that was made stays where a later step fails:
+/// its name may lead to another program's by now.
 pub fn new_journal<R: Files>(files: &R, name: &str) -> io::Result<FileDisk<R::File>>
 where
     R::File: Held,
