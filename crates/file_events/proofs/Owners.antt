@@ -12,7 +12,7 @@ use Rattle.file_events.specs.Owners.{NewTilesSurvive, RunsAreEvents, log_files}
 use Rattle.file_events.specs.Owners.{mirror_files}
 use Rattle.file_events.specs.Tiles.{TilesWork}
 use Rattle.file_events.specs.Worlds.{LeavesStopped, FileEventsLead, Program, Run, all_states}
-use Rattle.file_events.specs.Worlds.{breaks_off, event_with, own_events, heard_of, states_between}
+use Rattle.file_events.specs.Worlds.{broke_off, event_with, own_events, heard_of, states_between}
 use Rattle.file_events.specs.Worlds.{states_of}
 use Rattle.file_events.proofs.OwnEvents.{owners_execute, each_run}
 use Rattle.file_events.proofs.Mirrors.{always_agree}
@@ -71,7 +71,7 @@ module _ (p : Program) (Valid : List Text → Type 0) (name : Text) where
 
   pub journal_breaks : JournalRunsMayBreak p Valid name
   journal_breaks serves old run modelled is =
-      event_breaks Valid (breaks_off run.status) (heard_of p run) (did_to p name old run)
+      event_breaks Valid (broke_off p run) (heard_of p run) (did_to p name old run)
       (states_of p name old) (states_of p name run.room)
       (serves.leaves old run modelled is).leads
 
@@ -90,7 +90,7 @@ module _ (p : Program) (goes : List Text → Text → Type 0) (Plain : List Text
     modelled = serves.rooms.modelled;
     runs = λ old run modelled is. record {
       some = serves.rooms.some run.room name (serves.rooms.modelled old run modelled is);
-      happens = log_with_tiles goes Plain Valid name tiles (breaks_off run.status)
+      happens = log_with_tiles goes Plain Valid name tiles (broke_off p run)
           (heard_of p run) (did_to p name old run) (how_of old run) (all_states p old)
           (all_states p run.room) (serves.leaves old run modelled is);
     };
@@ -106,7 +106,7 @@ module _ (p : Program) (goes : List Text → Text → Type 0) (Plain : List Text
   log_runs_break serves old run modelled is =
       let leads = (log_lead serves).runs old run modelled is in record {
         some = leads.some;
-        happens = log_breaks goes Plain Valid (breaks_off run.status) (heard_of p run)
+        happens = log_breaks goes Plain Valid (broke_off p run) (heard_of p run)
             (did_to p name old run) (how_of old run) (states_of p name old)
             (states_of p tiles old) (states_of p name run.room)
             (states_of p tiles run.room) leads.happens;
@@ -135,7 +135,7 @@ module _ (p : Program) (agrees : List Text → List Text → Type 0)
           some_mirror = serves.rooms.some run.room mirror modelled';
           some_cosigner = serves.rooms.some run.room cosigner modelled';
           happens = cosigner_with_mirror agrees Computed Neutral ValidMirror ValidCosigner
-              mirror cosigner (breaks_off run.status) (heard_of p run) (did_to p mirror old run)
+              mirror cosigner (broke_off p run) (heard_of p run) (did_to p mirror old run)
               (did_to p cosigner old run) (all_states p old)
               (all_states p run.room) (serves.may old run modelled is)
               (serves.leaves old run modelled is);
@@ -156,7 +156,7 @@ module _ (p : Program) (agrees : List Text → List Text → Type 0)
         some_mirror = leads.some_mirror;
         some_cosigner = leads.some_cosigner;
         happens = mirror_breaks agrees Computed Neutral ValidMirror ValidCosigner
-            (breaks_off run.status) (heard_of p run) (did_to p mirror old run)
+            (broke_off p run) (heard_of p run) (did_to p mirror old run)
             (did_to p cosigner old run) (states_of p mirror old)
             (states_of p cosigner old) (states_of p mirror run.room)
             (states_of p cosigner run.room) leads.happens;

@@ -42,8 +42,8 @@ records_after (started body) = Some (body ∷ [])
 pub data Event : Type 0 where
   -- Nothing of it is done to the journal: the machine stopped, or other files were worked on.
   elsewhere : Event
-  -- A run came to its end and has done this. It is heard where a byte of its answer may have gone
-  -- out.
+  -- A run has done this: it came to its end, or it failed after a byte of its answer went out. It
+  -- is heard where a byte of its answer may have gone out.
   ran : Bool → Journaled → Event
   -- A run that was about to do this broke off: a file failed, memory was refused, or the run was
   -- killed.
@@ -63,7 +63,7 @@ module _ (Valid : List Text → Type 0) where
     pub found : WasFound before list
     pub valid : Valid (list ++ body ∷ [])
 
-  -- What a run leaves that came to its end.
+  -- What a run leaves that didn't break off.
   abbrev pub Done : Journaled → CrashStates → CrashStates → Type 0
   Done untouched before now = NoNew before now
   Done (reads list) before now = WasFound before list × StatesRepresent now list
@@ -92,7 +92,7 @@ module _ (Valid : List Text → Type 0) where
     pub some : (c : Text) × now c
     pub happens : Happens event before now
 
--- A run that came to its end held these records: it found or made them.
+-- A run that didn't break off held these records: it found or made them.
 abbrev pub EventHolds : List Text → Event → Type 0
 EventHolds list elsewhere = ⊥
 EventHolds list (ran heard did) = records_after did ≡ Some list

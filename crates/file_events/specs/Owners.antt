@@ -14,7 +14,7 @@ use Rattle.file_events.specs.Tiles.{TilesWork, log_event_with, broke as broke_lo
 use Rattle.file_events.specs.Tiles.{elsewhere as none_of_log}
 use Rattle.file_events.specs.Works.{LeavesAll, journal_work, tiles_work}
 use Rattle.file_events.specs.Worlds.{LeavesStopped, IsFileExecution, FileEvent, FileOwner, Program}
-use Rattle.file_events.specs.Worlds.{Run, all_states, breaks_off, done_to, event_with, own_events}
+use Rattle.file_events.specs.Worlds.{Run, all_states, broke_off, done_to, event_with, own_events}
 use Rattle.file_events.specs.Worlds.{EachRun, heard_of, states_between, states_of}
 
 module _ (p : Program) where
@@ -42,7 +42,7 @@ module _ (p : Program) (Valid : List Text → Type 0) (name : Text) where
   -- is left is an event too: of a run that broke off.
   pub record LeavesJournal (old : p.R) (run : Run p.R p.O p.E) : Type 0 where
     pub leads : Leads Valid
-        (event_with (breaks_off run.status) (heard_of p run) (did_to p name old run))
+        (event_with (broke_off p run) (heard_of p run) (did_to p name old run))
         (states_of p name old) (states_of p name run.room)
     pub times : (c : Text) → states_between p name old run.room c
         → Leads Valid (broke (did_to p name old run)) (states_of p name old) (λ d. d ≡ c)
@@ -54,7 +54,7 @@ module _ (p : Program) (Valid : List Text → Type 0) (name : Text) where
     LeadsTo = λ event old new. Leads Valid event (states_of p name old) (states_of p name new);
     none = elsewhere;
     run_event = λ old run.
-        event_with (breaks_off run.status) (heard_of p run) (did_to p name old run);
+        event_with (broke_off p run) (heard_of p run) (did_to p name old run);
     broken_event = λ old run. broke (did_to p name old run);
     Cuts = λ old run room.
         LeavesStopped p (λ n. states_between p n old run.room) run.room room;
@@ -105,7 +105,7 @@ module _ (p : Program) (goes : List Text → Text → Type 0) (Plain : List Text
     EventOf = LogEvent;
     LeadsTo = LeadsLog goes Plain Valid (states_of p name) (states_of p tiles);
     none = none_of_log;
-    run_event = λ old run. log_event_with (breaks_off run.status) (heard_of p run)
+    run_event = λ old run. log_event_with (broke_off p run) (heard_of p run)
         (did_to p name old run) (how_of old run);
     broken_event = λ old run. broke_log (did_to p name old run) (how_of old run);
     Cuts = λ old run room. ⊥;
@@ -115,7 +115,7 @@ module _ (p : Program) (goes : List Text → Text → Type 0) (Plain : List Text
   pub record ServesLog : Type 0 where
     pub rooms : KeepsRooms p
     pub leaves : (old : p.R) (run : Run p.R p.O p.E) → p.rooms.is_modelled old → p.HasRun old run
-        → LeavesAll (breaks_off run.status)
+        → LeavesAll (broke_off p run)
         (journal_work Valid name (did_to p name old run)
         ∷ tiles_work goes Plain name tiles (did_to p name old run) (how_of old run) ∷ [])
         (all_states p old) (all_states p run.room)
@@ -149,7 +149,7 @@ module _ (p : Program) (agrees : List Text → List Text → Type 0)
     LeadsTo = LeadsMirror agrees Computed Neutral ValidMirror ValidCosigner
         (states_of p mirror) (states_of p cosigner);
     none = none_of_mirror;
-    run_event = λ old run. mirror_event_with (breaks_off run.status) (heard_of p run)
+    run_event = λ old run. mirror_event_with (broke_off p run) (heard_of p run)
         (did_to p mirror old run) (did_to p cosigner old run);
     broken_event = λ old run.
         broke_mirror (did_to p mirror old run) (did_to p cosigner old run);
@@ -163,7 +163,7 @@ module _ (p : Program) (agrees : List Text → List Text → Type 0)
     pub may : (old : p.R) (run : Run p.R p.O p.E) → p.rooms.is_modelled old → p.HasRun old run
         → MayDo agrees Computed Neutral (did_to p mirror old run) (did_to p cosigner old run)
     pub leaves : (old : p.R) (run : Run p.R p.O p.E) → p.rooms.is_modelled old → p.HasRun old run
-        → LeavesAll (breaks_off run.status)
+        → LeavesAll (broke_off p run)
         (journal_work ValidMirror mirror (did_to p mirror old run)
         ∷ journal_work ValidCosigner cosigner (did_to p cosigner old run) ∷ [])
         (all_states p old) (all_states p run.room)

@@ -1,7 +1,7 @@
 -- Runs of a program over files, with stops of the machine between and in the middle of them, with
 -- runs that are killed, and with other files that change: which event each of these is.
-use Rattle.std.specs.Prelude.{◌≡◌, ℕ, nat_lt, ◌==◌, ◌||◌, Bool, List, [], ◌∷◌, length, Option}
-use Rattle.std.specs.Prelude.{None, Some, IfSome, if◌then◌else◌}
+use Rattle.std.specs.Prelude.{◌≡◌, ℕ, nat_lt, ◌==◌, ◌||◌, ◌&&◌, not, Bool, List, [], ◌∷◌, length}
+use Rattle.std.specs.Prelude.{Option, None, Some, IfSome, if◌then◌else◌}
 use Rattle.std.specs.Str.{bytes_eq}
 use Rattle.byte_formats.specs.Types.{Text}
 use Rattle.disk_core.specs.declared.disk.Disk.{Ghosts as Disks}
@@ -42,14 +42,15 @@ module _ {D : Type 0} (disks : Disks D) where
 -- ---- how a run ended
 
 -- A byte of the answer may have gone out: the run did its work; or standard output took some; or it
--- failed, and the model doesn't know what it took.
+-- failed, and the model doesn't know what it took. If the model doesn't know that and a file failed
+-- or memory was refused, this says no, though a command that writes while it reads may have begun.
 abbrev pub is_heard : ℕ → Option Text → Option Text → Bool
 is_heard status None after = (status == 0) || (status == 6)
 is_heard status (Some before) None = status == 0
 is_heard status (Some before) (Some after) =
     (status == 0) || nat_lt (length before) (length after)
 
--- The run broke off: a file failed, or memory was refused.
+-- The status says that a file failed, or that memory was refused.
 abbrev pub breaks_off : ℕ → Bool
 breaks_off status = (status == 5) || (status == 8)
 
@@ -93,8 +94,8 @@ pub data FileEvent (R O E : Type 0) : Type 0 where
   died : Run R O E → R → FileEvent R O E
   -- The machine stops in the middle of a run, before a byte of it went out: the run as it would
   -- have ended, and the files that the stop leaves. A stop after the first byte is a run whose
-  -- standard output failed there, and then a stop: it has worked on its files before its first
-  -- byte.
+  -- standard output failed there, and then a stop: before its first byte it has done to its files
+  -- all that it does, and after it it only reads them.
   cut : Run R O E → R → FileEvent R O E
   -- the machine stops between two runs
   stops : R → FileEvent R O E
@@ -120,6 +121,12 @@ module _ (p : Program) where
   abbrev pub heard_of : Run p.R p.O p.E → Bool
   heard_of run =
       is_heard run.status (p.outs.taken run.out) (p.outs.taken run.out_after)
+
+  -- The run broke off: a file failed, or memory was refused, before a byte of its answer went out.
+  -- One that fails after its first byte has done with its journals all that it does: it only reads
+  -- them from there on.
+  abbrev pub broke_off : Run p.R p.O p.E → Bool
+  broke_off run = breaks_off run.status && not (heard_of run)
 
   -- The files that it leaves.
   abbrev pub files_after : FileEvent p.R p.O p.E → p.R
