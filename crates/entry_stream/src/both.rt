@@ -18,6 +18,10 @@ impl<A: ItemFold, B: ItemFold> ItemFold for Both<A, B> {
 
     ghost made_with = { λ both. A.made_with both.first ++ B.made_with both.second };
 
+    ghost Purpose = { A.Purpose × B.Purpose };
+
+    ghost purpose = { λ both. (A.purpose both.first, B.purpose both.second) };
+
     fn take(&mut self, entry: &[u8], spki: &[u8]) -> Result<(), Memory> {
         self.first.take(entry, spki)?;
         self.second.take(entry, spki)

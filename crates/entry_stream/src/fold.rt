@@ -14,10 +14,16 @@ pub trait ItemFold {
     /// The numbers that it was made with, as the interval of a hash. They stay.
     ghost made_with: { Self → List ℕ } = { λ _. [] };
 
+    /// What it serves, as the domains that are watched. It stays.
+    ghost Purpose: { Type 0 } = { Unit {0} };
+
+    ghost purpose: { Self → Purpose };
+
     /// Takes one item more: an entry and its key. `Memory` comes only if memory was refused.
     fn take(&mut self, entry: &[u8], spki: &[u8]) -> Result<(), Memory>
         requires { CanTakeMore (has_taken self.old) }
         ensures taken { OnOk result ((items : ItemLists) → has_taken self.old items
             → has_taken self.new (items_with items entry.now spki.now)) }
-        ensures same { made_with self.new ≡ made_with self.old };
+        ensures same { made_with self.new ≡ made_with self.old }
+        ensures kept { purpose self.new ≡ purpose self.old };
 }

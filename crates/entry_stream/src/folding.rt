@@ -57,6 +57,7 @@ pub fn fold_items<H: TreeHash, S: Source, F: ItemFold>(
         → Rose (S.faults source.old) (S.faults source.new) }
     ensures count { S.faults source.old ≤ S.faults source.new }
     ensures same { F.made_with fold.new ≡ F.made_with fold.old }
+    ensures kept { F.purpose fold.new ≡ F.purpose fold.old }
     ensures fine { MatchResult result (λ _. S.faults source.new ≡ S.faults source.old)
         (λ why. why ≢ ReadError.Failed → S.faults source.new ≡ S.faults source.old) }
 

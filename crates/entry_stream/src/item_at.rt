@@ -72,6 +72,8 @@ impl ItemFold for ItemAt {
 
     ghost made_with = { λ picked. picked.index ∷ [] };
 
+    ghost purpose = { λ _. tt };
+
     fn take(&mut self, entry: &[u8], spki: &[u8]) -> Result<(), Memory>
         requires { CanTakeMore (IsPickOf self.old) }
         ensures taken { OnOk result ((items : ItemLists) → IsPickOf self.old items

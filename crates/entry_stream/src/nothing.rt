@@ -7,6 +7,8 @@ use mtc_io::Memory;
 impl ItemFold for () {
     ghost has_taken = { λ _ _. Unit {0} };
 
+    ghost purpose = { λ _. tt };
+
     fn take(&mut self, _entry: &[u8], _spki: &[u8]) -> Result<(), Memory> {
         Ok(())
     }

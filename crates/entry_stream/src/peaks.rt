@@ -13,6 +13,8 @@ impl<H: TreeHash> ItemFold for Peaks<H> {
     ghost has_taken = { λ peaks items.
         ArePeaksOf H.TreeHash.hash (map (leaf_hash H.TreeHash.hash) items.entries) peaks };
 
+    ghost purpose = { λ _. tt };
+
     fn take(&mut self, entry: &[u8], _spki: &[u8]) -> Result<(), Memory> {
         self.push(&leaf::<H>(entry));
         Ok(())

@@ -77,6 +77,8 @@ impl<H: TreeHash> ItemFold for RangeHash<H> {
 
     ghost made_with = { λ range. range.start ∷ range.end ∷ [] };
 
+    ghost purpose = { λ _. tt };
+
     fn take(&mut self, entry: &[u8], _spki: &[u8]) -> Result<(), Memory>
         requires { CanTakeMore (IsRangeOf H.TreeHash.hash self.old) }
         ensures taken { OnOk result ((items : ItemLists) → IsRangeOf H.TreeHash.hash self.old items

@@ -23,6 +23,7 @@ each-init g c = record {
   many = refl;
   reading = reading_first g.H.TreeHash.hash _ c.new-window.ensures;
   same = refl;
+  kept = refl;
   count = refl;
 }
 
@@ -144,6 +145,7 @@ each-preserved-in-Ok g c =
           reading_item g.H.TreeHash.hash inv.read c.each.window item.entry.now item.spki.now
           inv.list inv.reading first c.pass.new.self own c.pass.ensures;
       same = c.in_ok-take-in-Ok.ensures.same ∙ inv.same;
+      kept = c.in_ok-take-in-Ok.ensures.kept ∙ inv.kept;
       count = inv.count;
     }
 
@@ -213,5 +215,6 @@ each-preserved g c =
           reading_more g.H.TreeHash.hash inv.read c.each.window _ inv.list piece inv.reading
           (c.in_ok-append-in-Err.ensures {u = tt});
       same = inv.same;
+      kept = inv.kept;
       count = c.in_ok-count-in-Err.ensures.cause.fine ∙ inv.count;
     }

@@ -16,6 +16,7 @@ pub record Invariant (g : goal.Over) (l : goal.Live-each g) : Type 0 where
   pub many : l.items ≡ length list.entries
   pub reading : IsReading g.H.TreeHash.hash read l.window list
   pub same : g.F.ItemFold.made_with l.fold ≡ g.F.ItemFold.made_with l.initial.fold
+  pub kept : g.F.ItemFold.purpose l.fold ≡ g.F.ItemFold.purpose l.initial.fold
   pub count : g.S.Source.faults l.source ≡ g.S.Source.faults l.initial.source
 
 abbrev pub invariant-each : goal.invariant-each
