@@ -33,6 +33,7 @@ pub fn fold_input<'a, H: TreeHash, R: Room, F: ItemFold>(
     ensures items { IfOk result (λ answer. IsStreamed (R.is_modelled room.old) limit
         (R.file room.old name.now) (AreItemsOf H.hash (F.has_taken fold.new) answer)) }
     ensures same { F.made_with fold.new ≡ F.made_with fold.old }
+    ensures kept { F.purpose fold.new ≡ F.purpose fold.old }
     ensures kind { IfErr result (λ stop. IsInputStop name.now (stop_ending stop)) }
     ensures stops { IfErr result (λ stop. (files names : List Text)
         (next : Text → Outcome) → IsNamed files name.now
