@@ -1,7 +1,7 @@
 -- Records that are taken one by one after the first record of a log.
 use Rattle.std.proofs.Common.{◌≡◌, ℕ, ◌+◌, ◌<◌, ◌≤◌, Bool, true, false}
 use Rattle.std.proofs.Common.{List, [], ◌∷◌, ◌++◌, length, drop, get_or, Option, Some, None, Result}
-use Rattle.std.proofs.Common.{Ok, Err, is_ok, option_map, refl, ap, sym, ◌∙◌}
+use Rattle.std.proofs.Common.{Ok, Err, is_ok, option_map, refl, ap, sym, subst, ◌∙◌}
 use Rattle.std.specs.Prelude.{if◌then◌else◌, map, flat_map, option_to_list}
 use Rattle.std.proofs.lemmas.List.{append_assoc, append-nil, map-append}
 use Rattle.std.proofs.lemmas.Option.{same_Some}
@@ -11,11 +11,12 @@ use Rattle.byte_formats.proofs.Steps.{bind_ok, ok_is, some_or_ok}
 use Rattle.journal_core.specs.Folds.{Fold, state_after, taken_from}
 use Rattle.journal_core.proofs.Bodies.{none_left, rest_at}
 use Rattle.issuance_log.specs.Folds.{LogState, begun_log, log_after, log_fold, log_of, new_log}
-use Rattle.issuance_log.specs.Folds.{next_log, takes_entry, takes_landmark, takes_tiles, view_in}
-use Rattle.issuance_log.specs.Folds.{with_item, with_mark, with_tiles}
-use Rattle.issuance_log.specs.Records.{item_in, mark_in, tiled_in, settings_in}
+use Rattle.issuance_log.specs.Folds.{log_by_step, next_log, takes_log_step, view_in}
+use Rattle.issuance_log.specs.LogSteps.{LogStep, adds_item, log_step_in, sets_mark, stores_tiles}
+use Rattle.issuance_log.specs.LogSteps.{unknown_step}
+use Rattle.issuance_log.specs.Records.{item_in, settings_in}
 use Rattle.issuance_log.specs.Settings.{Settings}
-use Rattle.issuance_log.proofs.Encoded.{changed_log}
+use Rattle.issuance_log.proofs.Steps.{step_item, step_item_is}
 
 module _ {S E : Type 0} (fold : Fold S E) where
   -- the first of these records is taken, or breaks the rules
@@ -104,36 +105,35 @@ pub record HasItems (s t : LogState) (items : List (Text × Text)) : Type 0 wher
   pub entries : t.entries ≡ s.entries ++ entries_of items
   pub keys : t.keys ≡ s.keys ++ keys_of items
 
-no_items : (s t u : LogState) → u.settings ≡ s.settings → u.entries ≡ s.entries
-    → u.keys ≡ s.keys → u ≡ t → HasItems s t []
-no_items s t u settings entries keys made = record {
-  settings = sym (ap (λ (x : LogState). x.settings) made) ∙ settings;
-  entries = sym (ap (λ (x : LogState). x.entries) made) ∙ entries ∙ sym (append-nil s.entries);
-  keys = sym (ap (λ (x : LogState). x.keys) made) ∙ keys ∙ sym (append-nil s.keys);
+-- so it is after a step that is taken
+step_items : (s : LogState) (x : LogStep)
+    → HasItems s (log_by_step x s) (option_to_list (step_item x))
+step_items s (adds_item x) = record { settings = refl; entries = refl; keys = refl }
+step_items s (sets_mark size) = record {
+  settings = refl;
+  entries = sym (append-nil s.entries);
+  keys = sym (append-nil s.keys);
 }
-
-by_items : (h : HashFunction) (s t : LogState) (item : Option (Text × Text))
-    (mark tiled : Option ℕ) → changed_log h s item mark tiled ≡ Some t
-    → HasItems s t (option_to_list item)
-by_items h s t (Some x) mark tiled is =
-    let made = when (takes_entry h (view_in s) x) (with_item x.0 x.1 s) t is in
-    record {
-      settings = sym (ap (λ (u : LogState). u.settings) made);
-      entries = sym (ap (λ (u : LogState). u.entries) made);
-      keys = sym (ap (λ (u : LogState). u.keys) made);
-    }
-by_items h s t None (Some size) tiled is =
-    no_items s t (with_mark s) refl refl refl
-    (when (takes_landmark (view_in s) size) (with_mark s) t is)
-by_items h s t None None (Some size) is =
-    no_items s t (with_tiles size s) refl refl refl
-    (when (takes_tiles (view_in s) size) (with_tiles size s) t is)
-by_items h s t None None None is = let wrong : None ≡ Some t = is in absurd cc
+step_items s (stores_tiles size) = record {
+  settings = refl;
+  entries = sym (append-nil s.entries);
+  keys = sym (append-nil s.keys);
+}
+step_items s unknown_step = record {
+  settings = refl;
+  entries = sym (append-nil s.entries);
+  keys = sym (append-nil s.keys);
+}
 
 pub next_items : (h : HashFunction) (s t : LogState) (body : Text) → next_log h s body ≡ Some t
     → HasItems s t (option_to_list (item_in body))
 unfolding next_log
-next_items h s t body is = by_items h s t (item_in body) (mark_in body) (tiled_in body) is
+next_items h s t body is =
+    let x = log_step_in body in
+    let made = when (takes_log_step h (view_in s) x) (log_by_step x s) t is in
+    subst (λ (u : LogState). HasItems s u (option_to_list (item_in body))) made
+    (subst (λ o. HasItems s (log_by_step x s) (option_to_list o)) (sym (step_item_is body))
+    (step_items s x))
 
 pub following_items : (h : HashFunction) (k : ℕ) (s t : LogState) (bodies : List Text)
     → taken_from (log_fold h) k s bodies ≡ Ok t → HasItems s t (later_items bodies)

@@ -20,8 +20,9 @@ use Rattle.tls_wire.proofs.Vectors.{vector_form}
 use Rattle.tls_wire.proofs.AnchorForm.{anchor_again}
 use Rattle.landmarks.specs.Limits.{most_active, most_entries}
 use Rattle.issuance_log.specs.Folds.{LogState, new_log, with_item, with_mark, with_tiles, view_in}
-use Rattle.issuance_log.specs.Folds.{changed, begun_log, next_log, log_fold, log_of, takes_entry}
-use Rattle.issuance_log.specs.Folds.{takes_landmark, takes_tiles}
+use Rattle.issuance_log.specs.Folds.{begun_log, log_by_step, next_log, log_fold, log_of}
+use Rattle.issuance_log.specs.Folds.{takes_entry, takes_landmark, takes_log_step, takes_tiles}
+use Rattle.issuance_log.specs.LogSteps.{LogStep, adds_item, log_step_in, sets_mark, stores_tiles}
 use Rattle.issuance_log.specs.Marks.{last_mark}
 use Rattle.log_entry.specs.Matching.{matches}
 use Rattle.issuance_log.specs.Records.{log_tag, entry_tag, landmark_tag, tiles_tag, settings_at}
@@ -33,6 +34,7 @@ use Rattle.issuance_log.specs.Results.{LogFinds}
 use Rattle.issuance_log.specs.declared.error.RecordError.{RecordError}
 use Rattle.issuance_log.specs.declared.error.RecordError.TheVariants.{Unfit, Memory}
 use Rattle.issuance_log.specs.Settings.{Settings, most_item, are_allowed, AreAllowed}
+use Rattle.issuance_log.proofs.Steps.{says_item, says_mark, says_tiles}
 use Rattle.journal_core.proofs.Folds.{state_begins, state_next}
 
 pub length-settings : (s : Settings) → length (settings_record s) ≡ 10 + length s.id
@@ -107,22 +109,14 @@ pub no_item : (body : List ℕ) (why : RecordError) → why ≡ Unfit
 no_item body Unfit is none = none
 no_item body Memory is none = let wrong : Memory ≡ Unfit = is in cc
 
--- the log after an Entry, and after any other record
--- what a record makes of a log, by what it says
-abbrev pub changed_log : (h : List ℕ → List ℕ) → LogState → Option (List ℕ × List ℕ) → Option ℕ
-    → Option ℕ → Option LogState
-changed_log h s item mark tiled =
-    changed h (view_in s) (λ x. with_item x.0 x.1 s) (with_mark s) (λ size. with_tiles size s) item
-    mark tiled
-
-pub next_says : (h : List ℕ → List ℕ) (s : LogState) (body : List ℕ)
-    (item : Option (List ℕ × List ℕ)) (mark tiled : Option ℕ) → item_in body ≡ item
-    → mark_in body ≡ mark → tiled_in body ≡ tiled
-    → next_log h s body ≡ changed_log h s item mark tiled
+-- the log after a record that says this
+pub next_says : (h : List ℕ → List ℕ) (s : LogState) (body : List ℕ) (x : LogStep)
+    → log_step_in body ≡ x
+    → next_log h s body
+    ≡ (if takes_log_step h (view_in s) x then Some (log_by_step x s) else None)
 unfolding next_log
-next_says h s body item mark tiled one two three =
-    ap (λ o. changed_log h s o (mark_in body) (tiled_in body)) one
-    ∙ ap (λ o. changed_log h s item o (tiled_in body)) two ∙ ap (changed_log h s item mark) three
+next_says h s body x is =
+    ap (λ (y : LogStep). if takes_log_step h (view_in s) y then Some (log_by_step y s) else None) is
 
 -- ---- a Landmark and a Tiles
 
@@ -217,8 +211,8 @@ pub next_added : (h : List ℕ → List ℕ) (s : LogState) (entry key : List �
 next_added h s entry key capacity few_entry few_key belongs =
     let test : takes_entry h (view_in s) (entry, key) ≡ true =
     rw (lt-ltb (length s.entries) s.settings.limit capacity, belongs) refl in
-    next_says h s (entry_record entry key) (Some (entry, key)) _ _
-    (item_again entry key few_entry few_key) refl refl
+    next_says h s (entry_record entry key) (adds_item (entry, key))
+    (says_item (entry_record entry key) (entry, key) (item_again entry key few_entry few_key))
     ∙ ap (λ (b : Bool). if b then Some (with_item entry key s) else None) test
 
 -- of one Landmark more
@@ -229,8 +223,9 @@ next_marked h s fits above =
     let size = length s.entries in
     let test : takes_landmark (view_in s) size ≡ true =
     rw (eq-eqb size size refl, lt-ltb (last_mark s.marks) size above) refl in
-    next_says h s (landmark_record size) None (Some size) _ (mark_alone size)
-    (size_again landmark_tag (omega arith) size fits) refl
+    next_says h s (landmark_record size) (sets_mark size)
+    (says_mark (landmark_record size) size (mark_alone size)
+    (size_again landmark_tag (omega arith) size fits))
     ∙ ap (λ (b : Bool). if b then Some (with_mark s) else None) test
 
 -- of one Tiles more
@@ -244,8 +239,9 @@ next_tiled h s size fits multiple above within =
       lt-ltb s.tiled size above,
       le-leb size (length s.entries) within,
     ) refl in
-    next_says h s (tiles_record size) None None (Some size) (tiles_no_item size)
-    (tiles_no_mark size) (size_again tiles_tag (omega arith) size fits)
+    next_says h s (tiles_record size) (stores_tiles size)
+    (says_tiles (tiles_record size) size (tiles_no_item size) (tiles_no_mark size)
+    (size_again tiles_tag (omega arith) size fits))
     ∙ ap (λ (b : Bool). if b then Some (with_tiles size s) else None) test
 
 pub log_added : (h : List ℕ → List ℕ) (list : List (List ℕ)) (s : LogState) (entry key : List ℕ)

@@ -1,7 +1,7 @@
 -- A record more of a journal that is read, as a log keeps it.
 use Rattle.std.proofs.Common.{◌≡◌, ℕ, ◌<◌, ◌≤◌, List, [], ◌∷◌, ◌++◌, length, Option}
 use Rattle.std.proofs.Common.{Some, None, IfSome, option_map, Ok, refl, ap, sym, subst, ◌∙◌, arith}
-use Rattle.std.proofs.Common.{◌%◌, ◌==◌, ◌&&◌, nat_le, nat_lt}
+use Rattle.std.proofs.Common.{◌%◌, ◌==◌, ◌&&◌, nat_le, nat_lt, true, false}
 use Rattle.std.specs.Prelude.{map, option_to_list}
 use Rattle.std.proofs.lemmas.Bool.{and_parts, eqb-true, leb-true, ltb-true}
 use Rattle.std.proofs.lemmas.List.{map-append}
@@ -13,21 +13,23 @@ use Rattle.journal_core.proofs.Folds.{state_begins, state_next}
 use Rattle.log_entry.specs.Matching.{matches}
 use Rattle.tree_core.specs.Tree.{leaf_hash}
 use Rattle.issuance_log.specs.Folds.{LogState, LogView, begun_log, log_fold, log_of, new_log}
-use Rattle.issuance_log.specs.Folds.{next_log, next_view, null_entry, takes_entry, with_tiles}
-use Rattle.issuance_log.specs.Folds.{takes_landmark, takes_tiles, view_in, with_item, with_mark}
+use Rattle.issuance_log.specs.Folds.{log_by_step, next_log, next_view, null_entry}
+use Rattle.issuance_log.specs.Folds.{takes_log_step, view_in, with_mark, with_tiles}
 use Rattle.issuance_log.specs.Items.{AreKept, HasShortItem}
+use Rattle.issuance_log.specs.LogSteps.{LogStep, adds_item, log_step_in, sets_mark, stores_tiles}
+use Rattle.issuance_log.specs.LogSteps.{unknown_step}
 use Rattle.issuance_log.specs.Marks.{last_mark}
 use Rattle.issuance_log.specs.ItemOffsets.{offsets_after}
-use Rattle.issuance_log.specs.Records.{item_in, mark_in, settings_in, tiled_in}
+use Rattle.issuance_log.specs.Records.{item_in, settings_in}
 use Rattle.issuance_log.specs.Settings.{Settings}
 use Rattle.issuance_log.specs.Shown.{recorded_items, shown_with}
 use Rattle.issuance_log.specs.Sound.{HasSoundNumbers, IsSound}
-use Rattle.issuance_log.proofs.After.{entries_of, next_items, when}
+use Rattle.issuance_log.proofs.After.{entries_of, next_items}
 use Rattle.issuance_log.proofs.Growth.{numbers_marked, numbers_tiled, sound_with}
 use Rattle.issuance_log.proofs.Shown.{all_shown, shown_size, shown_so}
 use Rattle.issuance_log.proofs.Shown.{shown_view}
-use Rattle.issuance_log.proofs.Encoded.{changed_log}
 use Rattle.issuance_log.proofs.Standing.{offsets_with}
+use Rattle.issuance_log.proofs.Steps.{step_item, step_item_is}
 use Rattle.issuance_log.proofs.Views.{views_follow}
 
 -- ---- sound with one record more
@@ -52,38 +54,36 @@ sound_tiled h s size is multiple within = record {
   items = is.items;
 }
 
-sound_by : (h : HashFunction) (s t : LogState) (item : Option (Text × Text)) (mark tiled : Option ℕ)
-    → IsSound h s → HasShortItem item → changed_log h s item mark tiled ≡ Some t → IsSound h t
-sound_by h s t (Some x) mark tiled sound short is =
-    let made = when (takes_entry h (view_in s) x) (with_item x.0 x.1 s) t is in
-    let test = when_some (takes_entry h (view_in s) x) (Some (with_item x.0 x.1 s)) t is in
-    let tests = and_parts (nat_lt (length s.entries) s.settings.limit) (matches h x.0 x.1) test.0 in
+-- so it is with a step that is taken
+sound_step : (h : HashFunction) (s : LogState) (x : LogStep) → IsSound h s
+    → HasShortItem (step_item x) → takes_log_step h (view_in s) x ≡ true
+    → IsSound h (log_by_step x s)
+sound_step h s (adds_item x) sound short takes =
+    let tests = and_parts (nat_lt (length s.entries) s.settings.limit) (matches h x.0 x.1) takes in
     let both = short x.0 x.1 refl in
-    subst (IsSound h) made (sound_with h s x.0 x.1 sound
-    (ltb-true (length s.entries) s.settings.limit tests.0)
-    (record { belongs = tests.1; short_entry = both.0; short_key = both.1 }))
-sound_by h s t None (Some size) tiled sound short is =
-    let made = when (takes_landmark (view_in s) size) (with_mark s) t is in
-    let test = when_some (takes_landmark (view_in s) size) (Some (with_mark s)) t is in
-    let tests = and_parts (size == length s.entries) (nat_lt (last_mark s.marks) size) test.0 in
+    sound_with h s x.0 x.1 sound (ltb-true (length s.entries) s.settings.limit tests.0)
+    (record { belongs = tests.1; short_entry = both.0; short_key = both.1 })
+sound_step h s (sets_mark size) sound short takes =
+    let tests = and_parts (size == length s.entries) (nat_lt (last_mark s.marks) size) takes in
     let same : size ≡ length s.entries = eqb-true size (length s.entries) tests.0 in
-    subst (IsSound h) made (sound_marked h s sound
-    (subst (λ (n : ℕ). last_mark s.marks < n) same (ltb-true (last_mark s.marks) size tests.1)))
-sound_by h s t None None (Some size) sound short is =
-    let made = when (takes_tiles (view_in s) size) (with_tiles size s) t is in
-    let test = when_some (takes_tiles (view_in s) size) (Some (with_tiles size s)) t is in
+    sound_marked h s sound
+    (subst (λ (n : ℕ). last_mark s.marks < n) same (ltb-true (last_mark s.marks) size tests.1))
+sound_step h s (stores_tiles size) sound short takes =
     let tests = and_parts (size % 256 == 0)
-    (nat_lt s.tiled size && nat_le size (length s.entries)) test.0 in
+    (nat_lt s.tiled size && nat_le size (length s.entries)) takes in
     let both = and_parts (nat_lt s.tiled size) (nat_le size (length s.entries)) tests.1 in
-    subst (IsSound h) made (sound_tiled h s size sound (eqb-true (size % 256) 0 tests.0)
-    (leb-true size (length s.entries) both.1))
-sound_by h s t None None None sound short is = let wrong : None ≡ Some t = is in absurd cc
+    sound_tiled h s size sound (eqb-true (size % 256) 0 tests.0)
+    (leb-true size (length s.entries) both.1)
+sound_step h s unknown_step sound short takes = let wrong : false ≡ true = takes in absurd cc
 
 sound_next : (h : HashFunction) (s t : LogState) (body : Text) → IsSound h s
     → HasShortItem (item_in body) → next_log h s body ≡ Some t → IsSound h t
 unfolding next_log
 sound_next h s t body sound short is =
-    sound_by h s t (item_in body) (mark_in body) (tiled_in body) sound short is
+    let x = log_step_in body in
+    let made = when_some (takes_log_step h (view_in s) x) (Some (log_by_step x s)) t is in
+    subst (IsSound h) (same_Some (log_by_step x s) t made.1)
+    (sound_step h s x sound (subst HasShortItem (step_item_is body) short) made.0)
 
 -- ---- what a record makes of the log that is shown
 

@@ -17,6 +17,7 @@ mod Rereading
 mod Rules
 mod Shown
 pub mod Encoded
+pub mod Steps
 mod Standing
 mod Taking
 mod Telling

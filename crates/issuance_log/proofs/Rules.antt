@@ -3,6 +3,7 @@ use Rattle.std.proofs.Common.{◌≡◌, inl, inr, ℕ, ◌%◌, ◌^◌, ◌<�
 use Rattle.std.proofs.Common.{true, List, ◌++◌, length, Option, Some, sym, ◌∙◌, arith}
 use Rattle.std.proofs.Common.{None, option_map, option_and_then, Result, Ok, Err, refl, subst, ap}
 use Rattle.std.specs.Int.{w8, w32}
+use Rattle.std.specs.Prelude.{if◌then◌else◌}
 use Rattle.std.proofs.lemmas.Bool.{and_parts, eqb-true, leb-true, ltb-true}
 use Rattle.std.proofs.lemmas.Option.{same_Some}
 use Rattle.byte_formats.specs.Offsets.{at, IsBytes}
@@ -16,7 +17,9 @@ use Rattle.tls_wire.proofs.AnchorForm.{anchor_takes}
 use Rattle.landmarks.specs.Limits.{most_active, most_entries}
 use Rattle.log_entry.specs.Matching.{matches}
 use Rattle.issuance_log.specs.Folds.{LogState, new_log, with_item, with_mark, with_tiles, view_in}
-use Rattle.issuance_log.specs.Folds.{begun_log, next_log, takes_entry, takes_landmark, takes_tiles}
+use Rattle.issuance_log.specs.Folds.{begun_log, log_by_step, next_log, takes_entry}
+use Rattle.issuance_log.specs.Folds.{takes_landmark, takes_log_step, takes_tiles}
+use Rattle.issuance_log.specs.LogSteps.{log_step}
 use Rattle.issuance_log.specs.Marks.{last_mark}
 use Rattle.issuance_log.specs.Records.{log_tag, settings_at, with_id, log_settings_with, tagged}
 use Rattle.issuance_log.specs.Records.{settings_in, item_in, mark_in, tiled_in, settings_record}
@@ -25,7 +28,7 @@ use Rattle.issuance_log.specs.Rules.{IsFirst, IsNext}
 use Rattle.issuance_log.specs.Settings.{Settings, are_allowed, AreAllowed}
 use Rattle.issuance_log.proofs.Encoded.{settings_text, settings_form}
 use Rattle.issuance_log.proofs.Encoded.{settings_again, item_takes, size_takes, tagged_takes}
-use Rattle.issuance_log.proofs.Encoded.{changed_log, next_added, next_marked, next_tiled}
+use Rattle.issuance_log.proofs.Encoded.{next_added, next_marked, next_tiled}
 
 pub is_next : (h : List ℕ → List ℕ) (s : LogState) (body : List ℕ) (t : LogState)
     → IsNext h s body t → next_log h s body ≡ Some t
@@ -46,7 +49,9 @@ next_is h s body t bytes is =
   where
     go : (item : Option (List ℕ × List ℕ)) (mark tiled : Option ℕ) → item_in body ≡ item
         → mark_in body ≡ mark → tiled_in body ≡ tiled
-        → changed_log h s item mark tiled ≡ Some t → IsNext h s body t
+        → (if takes_log_step h (view_in s) (log_step item mark tiled)
+        then Some (log_by_step (log_step item mark tiled) s) else None) ≡ Some t
+        → IsNext h s body t
     go (Some x) mark tiled one two three is =
         let encoded = item_takes body x.0 x.1 bytes one in
         let made = when_some (takes_entry h (view_in s) x) (Some (with_item x.0 x.1 s)) t is in

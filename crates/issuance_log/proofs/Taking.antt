@@ -1,40 +1,40 @@
 -- What a record makes of the machine of a log.
-use Rattle.std.proofs.Common.{◌≡◌, ℕ, ◌+◌, List, ◌++◌, length, Option, Some, None, Result, Ok, Err}
-use Rattle.std.proofs.Common.{Bool, true, false, ap, sym, subst, ◌∙◌, arith}
-use Rattle.std.specs.Prelude.{IfErr, if◌then◌else◌, map, option_to_list}
+use Rattle.std.proofs.Common.{◌≡◌, ℕ, ◌+◌, List, ◌++◌, length, Option, Some, Result, Ok, Err}
+use Rattle.std.proofs.Common.{refl, ap, sym, subst, ◌∙◌, arith}
+use Rattle.std.specs.Prelude.{IfErr, map, option_to_list}
 use Rattle.std.proofs.lemmas.List.{length-append, length-map}
 use Rattle.std.proofs.lemmas.Option.{same_Some}
 use Rattle.byte_formats.specs.Types.{HashFunction, Text}
 use Rattle.state_journal.specs.Steps.{HasNextMachine, TakesRecord}
 use Rattle.state_journal.specs.declared.error.Misfit.{Misfit}
 use Rattle.state_journal.specs.declared.error.Misfit.TheVariants.{Memory, Unfit}
-use Rattle.issuance_log.specs.Folds.{LogView, changed, next_view, one_item_more, one_mark_more}
-use Rattle.issuance_log.specs.Folds.{takes_entry, takes_landmark, takes_tiles, tiled_to}
+use Rattle.byte_formats.proofs.Values.{when_some}
+use Rattle.issuance_log.specs.Folds.{LogView, next_view, takes_log_step, view_by_step}
 use Rattle.issuance_log.specs.Items.{AreBelow}
-use Rattle.issuance_log.specs.Records.{item_in, mark_in, tiled_in}
+use Rattle.issuance_log.specs.LogSteps.{LogStep, adds_item, log_step_in, sets_mark, stores_tiles}
+use Rattle.issuance_log.specs.LogSteps.{unknown_step}
+use Rattle.issuance_log.specs.Records.{item_in}
 use Rattle.issuance_log.proofs.Standing.{below_item, below_more}
+use Rattle.issuance_log.proofs.Steps.{step_item, step_item_is}
 
 -- ---- what a record makes of the numbers
 
-size_if : (b : Bool) (v w : LogView) → (if b then Some v else None) ≡ Some w → w.size ≡ v.size
-size_if true v w is = sym (ap (λ (u : LogView). u.size) (same_Some v w is))
-size_if false v w is = let wrong : None ≡ Some w = is in absurd cc
-
 -- it has as many items more as the record
-size_by : (h : HashFunction) (v w : LogView) (item : Option (Text × Text)) (mark tiled : Option ℕ)
-    → changed h v (λ x. one_item_more v) (one_mark_more v) (λ size. tiled_to size v) item mark tiled
-    ≡ Some w → w.size ≡ v.size + length (option_to_list item)
-size_by h v w (Some x) mark tiled is = size_if (takes_entry h v x) (one_item_more v) w is
-size_by h v w None (Some size) tiled is =
-    let same = size_if (takes_landmark v size) (one_mark_more v) w is in omega arith
-size_by h v w None None (Some size) is =
-    let same = size_if (takes_tiles v size) (tiled_to size v) w is in omega arith
-size_by h v w None None None is = let wrong : None ≡ Some w = is in absurd cc
+size_step : (v : LogView) (x : LogStep)
+    → (view_by_step x v).size ≡ v.size + length (option_to_list (step_item x))
+size_step v (adds_item x) = refl
+size_step v (sets_mark size) = omega arith
+size_step v (stores_tiles size) = omega arith
+size_step v unknown_step = omega arith
 
 size_next : (h : HashFunction) (v w : LogView) (body : Text) → next_view h v body ≡ Some w
     → w.size ≡ v.size + length (option_to_list (item_in body))
 unfolding next_view
-size_next h v w body is = size_by h v w (item_in body) (mark_in body) (tiled_in body) is
+size_next h v w body is =
+    let x = log_step_in body in
+    let made = when_some (takes_log_step h v x) (Some (view_by_step x v)) w is in
+    sym (ap (λ (u : LogView). u.size) (same_Some (view_by_step x v) w made.1)) ∙ size_step v x
+    ∙ ap (λ o. v.size + length (option_to_list o)) (sym (step_item_is body))
 
 -- ---- what is retained of the items
 

@@ -12,18 +12,21 @@ use Rattle.journal_core.specs.Folds.{Fold, state_after, taken_from}
 use Rattle.log_entry.specs.Matching.{matches}
 use Rattle.state_journal.specs.declared.error.StateOpenError.{StateOpenError}
 use Rattle.state_journal.specs.declared.error.StateOpenError.TheVariants.{BadRecord, Open}
-use Rattle.issuance_log.specs.Folds.{LogState, LogView, begun_log, begun_view, changed, log_fold}
-use Rattle.issuance_log.specs.Folds.{next_log}
+use Rattle.issuance_log.specs.Folds.{LogState, LogView, begun_log, begun_view, log_by_step}
+use Rattle.issuance_log.specs.Folds.{log_fold, next_log}
 use Rattle.issuance_log.specs.Folds.{next_view, one_item_more, one_mark_more, takes_entry}
-use Rattle.issuance_log.specs.Folds.{takes_landmark, takes_tiles, tiled_to, view_in, with_item}
-use Rattle.issuance_log.specs.Folds.{with_mark, with_tiles}
+use Rattle.issuance_log.specs.Folds.{takes_landmark, takes_log_step, takes_tiles, tiled_to}
+use Rattle.issuance_log.specs.Folds.{view_by_step, view_in, with_item}
+use Rattle.issuance_log.specs.LogSteps.{LogStep, adds_item, log_step_in, sets_mark, stores_tiles}
+use Rattle.issuance_log.specs.LogSteps.{unknown_step}
 use Rattle.issuance_log.specs.Marks.{last_mark}
-use Rattle.issuance_log.specs.Records.{IsShort, entry_record, item_in, landmark_record, mark_in}
-use Rattle.issuance_log.specs.Records.{landmark_tag, tiled_in, tiles_record, tiles_tag}
+use Rattle.issuance_log.specs.Records.{IsShort, entry_record, item_in, landmark_record}
+use Rattle.issuance_log.specs.Records.{landmark_tag, tiles_record, tiles_tag}
 use Rattle.issuance_log.specs.Results.{HasTried}
 use Rattle.issuance_log.proofs.After.{last_follows, last_not}
 use Rattle.issuance_log.proofs.Encoded.{item_again, mark_alone, size_again, tiles_no_item}
 use Rattle.issuance_log.proofs.Encoded.{tiles_no_mark}
+use Rattle.issuance_log.proofs.Steps.{says_item, says_mark, says_tiles}
 
 -- what is shown as a kind of journal
 abbrev pub view_fold : HashFunction → Fold LogView StateOpenError
@@ -45,24 +48,20 @@ map_if : (b : Bool) (s : LogState) (v : LogView) → v ≡ view_in s
 map_if true s v is = ap Some is
 map_if false s v is = refl
 
-by_parts : (h : HashFunction) (s : LogState) (item : Option (Text × Text)) (mark tiled : Option ℕ)
-    → changed h (view_in s) (λ x. one_item_more (view_in s)) (one_mark_more (view_in s))
-    (λ size. tiled_to size (view_in s)) item mark tiled
-    ≡ option_map view_in (changed h (view_in s) (λ x. with_item x.0 x.1 s) (with_mark s)
-    (λ size. with_tiles size s) item mark tiled)
-by_parts h s (Some x) mark tiled =
-    map_if (takes_entry h (view_in s) x) (with_item x.0 x.1 s) (one_item_more (view_in s))
-    (sym (view_item s x.0 x.1))
-by_parts h s None (Some size) tiled =
-    map_if (takes_landmark (view_in s) size) (with_mark s) (one_mark_more (view_in s)) refl
-by_parts h s None None (Some size) =
-    map_if (takes_tiles (view_in s) size) (with_tiles size s) (tiled_to size (view_in s)) refl
-by_parts h s None None None = refl
+view_step : (x : LogStep) (s : LogState)
+    → view_in (log_by_step x s) ≡ view_by_step x (view_in s)
+view_step (adds_item x) s = view_item s x.0 x.1
+view_step (sets_mark size) s = refl
+view_step (stores_tiles size) s = refl
+view_step unknown_step s = refl
 
 pub views_follow : (h : HashFunction) (s : LogState) (body : Text)
     → next_view h (view_in s) body ≡ option_map view_in (next_log h s body)
 unfolding next_log next_view
-views_follow h s body = by_parts h s (item_in body) (mark_in body) (tiled_in body)
+views_follow h s body =
+    let x = log_step_in body in
+    map_if (takes_log_step h (view_in s) x) (log_by_step x s) (view_by_step x (view_in s))
+    (sym (view_step x s))
 
 -- ---- records, by what is shown and by what they are
 
@@ -129,22 +128,18 @@ was_not wanted w E true tried is = let wrong : true ≡ false = is in absurd cc
 
 -- ---- the three records, by what is shown
 
-view_says : (h : HashFunction) (v : LogView) (body : Text) (item : Option (Text × Text))
-    (mark tiled : Option ℕ) → item_in body ≡ item → mark_in body ≡ mark → tiled_in body ≡ tiled
-    → next_view h v body ≡ changed h v (λ x. one_item_more v) (one_mark_more v)
-    (λ size. tiled_to size v) item mark tiled
+view_says : (h : HashFunction) (v : LogView) (body : Text) (x : LogStep) → log_step_in body ≡ x
+    → next_view h v body ≡ (if takes_log_step h v x then Some (view_by_step x v) else None)
 unfolding next_view
-view_says h v body item mark tiled one two three =
-    let by = changed h v (λ x. one_item_more v) (one_mark_more v) (λ size. tiled_to size v) in
-    ap (λ o. by o (mark_in body) (tiled_in body)) one ∙ ap (λ o. by item o (tiled_in body)) two
-    ∙ ap (λ o. by item mark o) three
+view_says h v body x is =
+    ap (λ (y : LogStep). if takes_log_step h v y then Some (view_by_step y v) else None) is
 
 -- an item that is taken, or isn't
 view_item_is : (h : HashFunction) (v : LogView) (body : Text) (x : Text × Text) (b : Bool)
     → item_in body ≡ Some x → takes_entry h v x ≡ b
     → next_view h v body ≡ (if b then Some (one_item_more v) else None)
 view_item_is h v body x b is takes =
-    view_says h v body (Some x) _ _ is refl refl
+    view_says h v body (adds_item x) (says_item body x is)
     ∙ ap (λ (t : Bool). if t then Some (one_item_more v) else None) takes
 
 pub item_taken : (h : HashFunction) (v : LogView) (body : Text) (x : Text × Text)
@@ -166,8 +161,8 @@ pub view_added : (h : HashFunction) (v : LogView) (entry key : Text)
 view_added h v entry key capacity few_entry few_key belongs =
     let test : takes_entry h v (entry, key) ≡ true =
     rw (lt-ltb v.size v.settings.limit capacity, belongs) refl in
-    view_says h v (entry_record entry key) (Some (entry, key)) _ _
-    (item_again entry key few_entry few_key) refl refl
+    view_says h v (entry_record entry key) (adds_item (entry, key))
+    (says_item (entry_record entry key) (entry, key) (item_again entry key few_entry few_key))
     ∙ ap (λ (b : Bool). if b then Some (one_item_more v) else None) test
 
 pub view_marked : (h : HashFunction) (v : LogView) → v.size < 2 ^ 64 → last_mark v.marks < v.size
@@ -175,8 +170,9 @@ pub view_marked : (h : HashFunction) (v : LogView) → v.size < 2 ^ 64 → last_
 view_marked h v fits above =
     let test : takes_landmark v v.size ≡ true =
     rw (eq-eqb v.size v.size refl, lt-ltb (last_mark v.marks) v.size above) refl in
-    view_says h v (landmark_record v.size) None (Some v.size) _ (mark_alone v.size)
-    (size_again landmark_tag (omega arith) v.size fits) refl
+    view_says h v (landmark_record v.size) (sets_mark v.size)
+    (says_mark (landmark_record v.size) v.size (mark_alone v.size)
+    (size_again landmark_tag (omega arith) v.size fits))
     ∙ ap (λ (b : Bool). if b then Some (one_mark_more v) else None) test
 
 pub view_tiled : (h : HashFunction) (v : LogView) (size : ℕ) → size < 2 ^ 64 → size % 256 ≡ 0
@@ -189,6 +185,7 @@ view_tiled h v size fits multiple above within =
       lt-ltb v.tiled size above,
       le-leb size v.size within,
     ) refl in
-    view_says h v (tiles_record size) None None (Some size) (tiles_no_item size)
-    (tiles_no_mark size) (size_again tiles_tag (omega arith) size fits)
+    view_says h v (tiles_record size) (stores_tiles size)
+    (says_tiles (tiles_record size) size (tiles_no_item size) (tiles_no_mark size)
+    (size_again tiles_tag (omega arith) size fits))
     ∙ ap (λ (b : Bool). if b then Some (tiled_to size v) else None) test

@@ -2,12 +2,14 @@
 -- it by what it says.
 use Rattle.std.specs.Prelude.{ℕ, ◌+◌, ◌%◌, ◌==◌, ◌&&◌, nat_lt, nat_le, List, [], ◌∷◌, ◌++◌, length}
 use Rattle.std.specs.Prelude.{Option, Some, None, option_map, Result, is_ok}
-use Rattle.std.specs.Prelude.{if◌then◌else◌, Bool}
+use Rattle.std.specs.Prelude.{if◌then◌else◌, Bool, false}
 use Rattle.byte_formats.specs.Types.{Text, HashFunction}
 use Rattle.journal_core.specs.Folds.{Fold, state_after, taken_from}
 use Rattle.log_entry.specs.Matching.{matches}
+use Rattle.issuance_log.specs.LogSteps.{LogStep, adds_item, log_step_in, sets_mark, stores_tiles}
+use Rattle.issuance_log.specs.LogSteps.{unknown_step}
 use Rattle.issuance_log.specs.Marks.{last_mark}
-use Rattle.issuance_log.specs.Records.{settings_in, item_in, mark_in, tiled_in}
+use Rattle.issuance_log.specs.Records.{settings_in}
 use Rattle.issuance_log.specs.Settings.{Settings}
 use Rattle.issuance_log.specs.declared.error.LogOpenError.{LogOpenError}
 use Rattle.issuance_log.specs.declared.error.LogOpenError.TheVariants.{BadRecord, Open}
@@ -95,29 +97,37 @@ takes_landmark v size = size == v.size && nat_lt (last_mark v.marks) size
 abbrev pub takes_tiles : LogView → ℕ → Bool
 takes_tiles v size = (size % 256 == 0) && (nat_lt v.tiled size && nat_le size v.size)
 
--- what a record makes of something, by what it says: an item, a landmark or tiles, each where the
--- log takes it; any other record breaks the rules
-abbrev pub changed : {S : Type 0} → HashFunction → LogView → (Text × Text → S) → S → (ℕ → S)
-    → Option (Text × Text) → Option ℕ → Option ℕ → Option S
-changed h v item mark tiles (Some x) at to =
-    if takes_entry h v x then Some (item x) else None
-changed h v item mark tiles None (Some size) to =
-    if takes_landmark v size then Some mark else None
-changed h v item mark tiles None None (Some size) =
-    if takes_tiles v size then Some (tiles size) else None
-changed h v item mark tiles None None None = None
+-- Whether a log that shows this takes what a record says.
+abbrev pub takes_log_step : HashFunction → LogView → LogStep → Bool
+takes_log_step h v (adds_item x) = takes_entry h v x
+takes_log_step h v (sets_mark size) = takes_landmark v size
+takes_log_step h v (stores_tiles size) = takes_tiles v size
+takes_log_step h v unknown_step = false
+
+-- what it makes of the log
+abbrev pub log_by_step : LogStep → LogState → LogState
+log_by_step (adds_item x) s = with_item x.0 x.1 s
+log_by_step (sets_mark size) s = with_mark s
+log_by_step (stores_tiles size) s = with_tiles size s
+log_by_step unknown_step s = s
+
+-- and of what the log shows over every disk
+abbrev pub view_by_step : LogStep → LogView → LogView
+view_by_step (adds_item x) v = one_item_more v
+view_by_step (sets_mark size) v = one_mark_more v
+view_by_step (stores_tiles size) v = tiled_to size v
+view_by_step unknown_step v = v
 
 -- the log after one record more, or none where the record breaks the rules
 unfoldable pub next_log : HashFunction → LogState → Text → Option LogState
 next_log h s body =
-    changed h (view_in s) (λ x. with_item x.0 x.1 s) (with_mark s) (λ size. with_tiles size s)
-    (item_in body) (mark_in body) (tiled_in body)
+    if takes_log_step h (view_in s) (log_step_in body) then Some (log_by_step (log_step_in body) s)
+    else None
 
 -- what it shows over every disk after one record more
 unfoldable pub next_view : HashFunction → LogView → Text → Option LogView
 next_view h v body =
-    changed h v (λ x. one_item_more v) (one_mark_more v) (λ size. tiled_to size v)
-    (item_in body) (mark_in body) (tiled_in body)
+    if takes_log_step h v (log_step_in body) then Some (view_by_step (log_step_in body) v) else None
 
 -- A log as a kind of journal.
 abbrev pub log_fold : HashFunction → Fold LogState LogOpenError

@@ -5,6 +5,7 @@ pub mod Entries
 pub mod Faults
 pub mod Folds
 pub mod Items
+pub mod LogSteps
 pub mod Machine
 pub mod Marks
 pub mod Opened
