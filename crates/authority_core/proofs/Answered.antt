@@ -6,9 +6,7 @@ use Rattle.std.proofs.lemmas.Result.{err_from_is_err_and}
 use Rattle.byte_formats.specs.Types.{Text}
 use Rattle.issuance_log.specs.Refusals.{ItemKeepsTo}
 use Rattle.issuance_log.specs.declared.error.LogError.{LogError}
-use Rattle.issuance_log.specs.declared.error.LogError.TheVariants.{Append, Failed, Full, Memory}
-use Rattle.issuance_log.specs.declared.error.LogError.TheVariants.{NoSuchEntry, NothingNew}
-use Rattle.issuance_log.specs.declared.error.LogError.TheVariants.{TooLarge}
+use Rattle.issuance_log.specs.declared.error.LogError.TheVariants.{Memory}
 use Rattle.authority_core.specs.Certificates.{IsOfDisks, KeepsToLightRefusal, KeepsToRefusal}
 use Rattle.authority_core.specs.Issues.{KeepsToOrMemory, of_log}
 use Rattle.authority_core.specs.declared.issuing.error.IssueError.{IssueError}
@@ -25,13 +23,8 @@ of_refusal P result why is holds =
 
 pub or_memory : (wanted : Option LogError) (why : LogError) → ItemKeepsTo wanted (Err why)
     → KeepsToOrMemory wanted (Err why)
-or_memory wanted Full keeps = keeps
-or_memory wanted TooLarge keeps = keeps
-or_memory wanted NoSuchEntry keeps = keeps
-or_memory wanted NothingNew keeps = keeps
-or_memory wanted Failed keeps = keeps
-or_memory wanted (Append why) keeps = keeps
 or_memory wanted Memory keeps = tt
+or_memory wanted other keeps = keeps
 
 -- after the tests a disk failed, or memory was refused
 pub kept_after : (wanted : Option WriteError) (result : Result Text WriteError) → wanted ≡ None

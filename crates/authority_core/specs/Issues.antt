@@ -32,12 +32,5 @@ of_log (Err (Log why)) = Err why
 -- The answer is the refusal that the log's state and journal determine, but memory may be refused
 -- before any test.
 abbrev pub KeepsToOrMemory : Option LogError → Result ℕ LogError → Type 0
-KeepsToOrMemory wanted (Ok index) = ItemKeepsTo wanted (Ok index)
-KeepsToOrMemory wanted (Err log_error.Full) = ItemKeepsTo wanted (Err log_error.Full)
-KeepsToOrMemory wanted (Err log_error.TooLarge) = ItemKeepsTo wanted (Err log_error.TooLarge)
-KeepsToOrMemory wanted (Err log_error.NoSuchEntry) = ItemKeepsTo wanted (Err log_error.NoSuchEntry)
-KeepsToOrMemory wanted (Err log_error.NothingNew) = ItemKeepsTo wanted (Err log_error.NothingNew)
-KeepsToOrMemory wanted (Err log_error.Failed) = ItemKeepsTo wanted (Err log_error.Failed)
-KeepsToOrMemory wanted (Err (log_error.Append why)) = ItemKeepsTo wanted
-    (Err (log_error.Append why))
 KeepsToOrMemory wanted (Err log_error.Memory) = Unit {0}
+KeepsToOrMemory wanted other = ItemKeepsTo wanted other

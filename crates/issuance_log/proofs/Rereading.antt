@@ -44,19 +44,15 @@ none_is s index past = item_is s index false (le-ltb index (length s.entries) pa
 -- the answers that say nothing of an item, at an index that has one
 no_answer : (s : LogState) (index : ℕ) (why : LogError) (entry key : Text)
     → index < length s.entries → IsNoAnswer why → GivesItem (item_at s index) (Err why) entry key
-no_answer s index Full entry key there is = absurd is
-no_answer s index TooLarge entry key there is = absurd is
-no_answer s index NoSuchEntry entry key there is = absurd is
-no_answer s index NothingNew entry key there is = absurd is
 no_answer s index Failed entry key there is = (
   λ not_memory not_failed. absurd (not_failed refl),
   λ none. let wrong = sym (there_is s index there) ∙ none in absurd cc,
 )
-no_answer s index (Append why) entry key there is = absurd is
 no_answer s index Memory entry key there is = (
   λ not_memory not_failed. absurd (not_memory refl),
   λ none. let wrong = sym (there_is s index there) ∙ none in absurd cc,
 )
+no_answer s index other entry key there is = absurd is
 
 -- what holds of the log that is shown
 pub shown_of : (v : LogView) (P : LogState → Type 0) {K : List Text → Type 0}

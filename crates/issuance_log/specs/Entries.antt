@@ -4,9 +4,7 @@ use Rattle.byte_formats.specs.Types.{Text}
 use Rattle.journal_core.specs.Format.{following}
 use Rattle.mtc_io.specs.Counts.{Rose}
 use Rattle.issuance_log.specs.declared.error.LogError.{LogError}
-use Rattle.issuance_log.specs.declared.error.LogError.TheVariants.{Full, TooLarge, NoSuchEntry}
-use Rattle.issuance_log.specs.declared.error.LogError.TheVariants.{NothingNew, Failed, Append}
-use Rattle.issuance_log.specs.declared.error.LogError.TheVariants.{Memory}
+use Rattle.issuance_log.specs.declared.error.LogError.TheVariants.{Failed, Memory}
 
 -- The bytes are the body of the record at an offset, if these records have one there.
 abbrev pub IsBodyAt : ℕ → Text → List Text → Type 0
@@ -15,22 +13,13 @@ IsBodyAt place read list = (prefix : List Text) (body : Text) (back : List Text)
 
 -- Nothing is said of the item: memory was refused, or a disk failed.
 abbrev pub IsNoAnswer : LogError → Type 0
-IsNoAnswer Full = ⊥
-IsNoAnswer TooLarge = ⊥
-IsNoAnswer NoSuchEntry = ⊥
-IsNoAnswer NothingNew = ⊥
 IsNoAnswer Failed = Unit {0}
-IsNoAnswer (Append why) = ⊥
 IsNoAnswer Memory = Unit {0}
+IsNoAnswer other = ⊥
 
 -- A count of failures rose where a call answers `Failed`, and is as it was where it answers
 -- anything else.
 abbrev pub LogCounts : {X : Type 0} → ℕ → ℕ → Result X LogError → Type 0
 LogCounts before after (Ok answer) = after ≡ before
-LogCounts before after (Err Full) = after ≡ before
-LogCounts before after (Err TooLarge) = after ≡ before
-LogCounts before after (Err NoSuchEntry) = after ≡ before
-LogCounts before after (Err NothingNew) = after ≡ before
 LogCounts before after (Err Failed) = Rose before after
-LogCounts before after (Err (Append why)) = after ≡ before
-LogCounts before after (Err Memory) = after ≡ before
+LogCounts before after (Err other) = after ≡ before

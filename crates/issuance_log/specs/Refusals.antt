@@ -53,40 +53,33 @@ abbrev pub ItemKeepsTo : Option LogError → Result ℕ LogError → Type 0
 ItemKeepsTo wanted (Ok index) = wanted ≡ None
 ItemKeepsTo wanted (Err Full) = wanted ≡ Some Full
 ItemKeepsTo wanted (Err TooLarge) = wanted ≡ Some TooLarge
-ItemKeepsTo wanted (Err NoSuchEntry) = ⊥
-ItemKeepsTo wanted (Err NothingNew) = ⊥
-ItemKeepsTo wanted (Err Failed) = ⊥
 ItemKeepsTo wanted (Err (Append append_error.Failed)) = wanted ≡ None
 ItemKeepsTo wanted (Err (Append append_error.Broken)) = wanted ≡ Some (Append append_error.Broken)
 ItemKeepsTo wanted (Err (Append append_error.Full)) = wanted ≡ Some (Append append_error.Full)
 ItemKeepsTo wanted (Err Memory) = (wanted ≢ Some Full) × (wanted ≢ Some TooLarge)
+ItemKeepsTo wanted (Err other) = ⊥
 
 -- So does the answer to a landmark, but memory may be refused after the first test.
 abbrev pub MarkKeepsTo : Option LogError → Result (ℕ × ℕ) LogError → Type 0
 MarkKeepsTo wanted (Ok landmark) = wanted ≡ None
-MarkKeepsTo wanted (Err Full) = ⊥
-MarkKeepsTo wanted (Err TooLarge) = ⊥
-MarkKeepsTo wanted (Err NoSuchEntry) = ⊥
 MarkKeepsTo wanted (Err NothingNew) = wanted ≡ Some NothingNew
-MarkKeepsTo wanted (Err Failed) = ⊥
 MarkKeepsTo wanted (Err (Append append_error.Failed)) = wanted ≡ None
 MarkKeepsTo wanted (Err (Append append_error.Broken)) = wanted ≡ Some (Append append_error.Broken)
 MarkKeepsTo wanted (Err (Append append_error.Full)) = wanted ≡ Some (Append append_error.Full)
 MarkKeepsTo wanted (Err Memory) = wanted ≢ Some NothingNew
+MarkKeepsTo wanted (Err other) = ⊥
 
 -- And so does the answer to tiles. After the first test memory may be refused, and then a failure
 -- of the disk of the tiles reported, also where the journal would refuse.
 abbrev pub TilesKeepTo : Option LogError → Result ℕ LogError → Type 0
 TilesKeepTo wanted (Ok size) = wanted ≡ None
-TilesKeepTo wanted (Err Full) = ⊥
-TilesKeepTo wanted (Err TooLarge) = ⊥
-TilesKeepTo wanted (Err NoSuchEntry) = ⊥
 TilesKeepTo wanted (Err NothingNew) = wanted ≡ Some NothingNew
 TilesKeepTo wanted (Err Failed) = wanted ≢ Some NothingNew
 TilesKeepTo wanted (Err (Append append_error.Failed)) = wanted ≡ None
 TilesKeepTo wanted (Err (Append append_error.Broken)) = wanted ≡ Some (Append append_error.Broken)
 TilesKeepTo wanted (Err (Append append_error.Full)) = wanted ≡ Some (Append append_error.Full)
 TilesKeepTo wanted (Err Memory) = wanted ≢ Some NothingNew
+TilesKeepTo wanted (Err other) = ⊥
 
 -- the entry and the key at an index
 unfoldable pub item_at : LogState → ℕ → Result (Text × Text) LogError

@@ -18,20 +18,13 @@ use Rattle.issuance_log.specs.Folds.{LogState, LogView, log_of}
 use Rattle.issuance_log.specs.Items.{items_tiles}
 use Rattle.issuance_log.specs.Shown.{shown_with}
 use Rattle.issuance_log.specs.declared.error.LogError.{LogError}
-use Rattle.issuance_log.specs.declared.error.LogError.TheVariants.{Full, TooLarge, NoSuchEntry}
-use Rattle.issuance_log.specs.declared.error.LogError.TheVariants.{NothingNew, Failed, Append}
-use Rattle.issuance_log.specs.declared.error.LogError.TheVariants.{Memory}
+use Rattle.issuance_log.specs.declared.error.LogError.TheVariants.{Append}
 use Rattle.issuance_log.specs.declared.log.Log.{Log}
 
 -- the journal's refusal, where it is one
 abbrev pub of_log_journal : LogError → Option AppendError
-of_log_journal Full = None
-of_log_journal TooLarge = None
-of_log_journal NoSuchEntry = None
-of_log_journal NothingNew = None
-of_log_journal Failed = None
 of_log_journal (Append why) = Some why
-of_log_journal Memory = None
+of_log_journal other = None
 
 module _ {H D T : Type 0} {hashes : Hashes H} {g : Ghosts D} {k : Ghosts T} where
   -- the disk of the journal
