@@ -22,7 +22,6 @@ use Rattle.issuance_log.specs.Words.{KeepsTiles, LogAppends, TilesStandAfter, bo
 use Rattle.issuance_log.specs.Words.{log_broken, log_disk, log_end, log_leaves, log_records}
 use Rattle.issuance_log.specs.Words.{log_tiles_disk, modelled_state, view_of}
 use Rattle.issuance_log.specs.declared.error.LogError.{LogError}
-use Rattle.issuance_log.specs.declared.error.LogError.TheVariants.{Full, TooLarge, NoSuchEntry}
 use Rattle.issuance_log.specs.declared.error.LogError.TheVariants.{NothingNew, Append, Memory}
 use Rattle.issuance_log.specs.declared.error.LogError.TheVariants.{Failed as DiskFailed}
 use Rattle.issuance_log.specs.declared.log.Log.{Log as OpenLog}
@@ -79,15 +78,13 @@ module _ {H D : Type 0} {hashes : Hashes H} {g : Ghosts D}
   same_disk : (result : Result ℕ LogError) → TilesKeepTo refusal result → HasTiled result
       → refusal ≢ None → log_disk new ≡ log_disk old
   same_disk (Ok answer) is run some = absurd (some is)
-  same_disk (Err Full) is run some = absurd is
-  same_disk (Err TooLarge) is run some = absurd is
-  same_disk (Err NoSuchEntry) is run some = absurd is
   same_disk (Err NothingNew) is run some = run.journal.leaves.disk
   same_disk (Err DiskFailed) is run some = run.journal.leaves.disk
   same_disk (Err (Append append_error.Full)) is run some = run.journal.leaves.disk
   same_disk (Err (Append append_error.Broken)) is run some = run.journal.leaves.disk
   same_disk (Err (Append append_error.Failed)) is run some = absurd (some is)
   same_disk (Err Memory) is run some = run.journal.leaves.disk
+  same_disk (Err other) is run some = absurd is
 
   module _ (now : CountsNow g) (list : List Text)
       (made : log_of hashes.hash list ≡ Ok (state list)) (opened : IsOpen g (log_disk old) list)

@@ -12,9 +12,7 @@ use Rattle.issuance_log.specs.Words.{LogAppends, log_broken, log_disk, log_end, 
 use Rattle.issuance_log.specs.Shown.{shown_with}
 use Rattle.issuance_log.specs.Words.{view_of}
 use Rattle.issuance_log.specs.declared.error.LogError.{LogError}
-use Rattle.issuance_log.specs.declared.error.LogError.TheVariants.{Full, TooLarge, NoSuchEntry}
-use Rattle.issuance_log.specs.declared.error.LogError.TheVariants.{NothingNew, Append, Memory}
-use Rattle.issuance_log.specs.declared.error.LogError.TheVariants.{Failed as DiskFailed}
+use Rattle.issuance_log.specs.declared.error.LogError.TheVariants.{Full, TooLarge, Append, Memory}
 use Rattle.issuance_log.specs.declared.log.Log.{Log as OpenLog}
 use Rattle.authority_core.specs.Issues.{KeepsToOrMemory, issued_entry, issued_log, issued_record}
 use Rattle.authority_core.specs.Issues.{of_log}
@@ -27,7 +25,8 @@ use Rattle.mtc_command.specs.Valid.{AddsValid}
 use Rattle.mtc_command.specs.Works.{journaled_by}
 use Rattle.mtc_command.specs.declared.answer.Said.TheVariants.{Done}
 use Rattle.mtc_command.specs.declared.answer.Stopped.TheVariants.{Beyond}
-use Rattle.mtc_authority.specs.IssueOutcome.{issue_ending, issue_says, issued_by, issued_text}
+use Rattle.mtc_authority.specs.IssueOutcome.{MayRefuseEntry, issue_ending, issue_says, issued_by}
+use Rattle.mtc_authority.specs.IssueOutcome.{issued_text}
 use Rattle.issuance_log.specs.Reasons.{log_fault_text}
 use Rattle.mtc_authority.specs.Works.{HasWorkedOnLog, IsLog, IsReadyLog, StaysLog}
 use Rattle.mtc_authority.proofs.Appends.{done_so, failed_so, out_of_memory_so, modelled_so}
@@ -73,15 +72,18 @@ module _ {H D : Type 0} {hashes : Hashes H} {g : Ghosts D} (h : HashFunction) (r
   pub refused_so : (why : IssueError) → HasIssued (of_log (Err why))
       → KeepsToOrMemory refusal (of_log (Err why))
       → HasWorkedOnLog name (issue_says h r) old new (issue_ending name why)
-  refused_so (Log NoSuchEntry) run is = absurd is
-  refused_so (Log NothingNew) run is = absurd is
-  refused_so (Log DiskFailed) run is = absurd is
+  refused_so (Log Full) run is = contents Full is run.journal.leaves.disk
+  refused_so (Log TooLarge) run is = contents TooLarge is run.journal.leaves.disk
+  refused_so (Log (Append append_error.Full)) run is =
+      contents (Append append_error.Full) is run.journal.leaves.disk
+  refused_so (Log (Append append_error.Broken)) run is =
+      contents (Append append_error.Broken) is run.journal.leaves.disk
   refused_so (Log (Append append_error.Failed)) run is =
       failed_so outcome_by refusal_by name old new ready body line one_item_more
       (issued_log h (view_of old).settings r) (λ list. refl) is run
   refused_so (Log Memory) run is =
       out_of_memory_so outcome_by refusal_by name old new ready run.journal.leaves.disk
-  refused_so (Log other) run is = contents other is run.journal.leaves.disk
+  refused_so (Log other) run is = absurd is
 
   -- a log that no append has broken doesn't refuse an entry as a broken one
   first : (full large over : Bool)
@@ -94,11 +96,21 @@ module _ {H D : Type 0} {hashes : Hashes H} {g : Ghosts D} (h : HashFunction) (r
   first false false true is = absurd cc
   first false false false is = absurd cc
 
-  pub never_broken : refusal ≢ Some (Append append_error.Broken)
+  never_broken : refusal ≢ Some (Append append_error.Broken)
   unfolding add_refusal
   never_broken is =
       first _ _ _
       (sym (ap (λ broken. refusal_by (view_of old) broken (log_end old)) ready.sound) ∙ is)
+
+  pub may_refuse : (why : IssueError) → KeepsToOrMemory refusal (of_log (Err why))
+      → MayRefuseEntry why
+  may_refuse (Log Full) is = tt
+  may_refuse (Log TooLarge) is = tt
+  may_refuse (Log Memory) is = tt
+  may_refuse (Log (Append append_error.Failed)) is = tt
+  may_refuse (Log (Append append_error.Full)) is = tt
+  may_refuse (Log (Append append_error.Broken)) is = absurd (never_broken is)
+  may_refuse (Log other) is = absurd is
 
   -- the record makes a log with those before it
   abbrev pub IsSoundAfter : List Text → Type 0

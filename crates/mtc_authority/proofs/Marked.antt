@@ -82,14 +82,14 @@ module _ {H D : Type 0} {hashes : Hashes H} {g : Ghosts D} (name : Text)
 
   pub may_refuse : (why : LogError) → MarkKeepsTo refusal (Err why) → MayRefuseMark why
   unfolding mark_refusal
-  may_refuse Full is = absurd is
-  may_refuse TooLarge is = absurd is
-  may_refuse NoSuchEntry is = absurd is
-  may_refuse DiskFailed is = absurd is
+  may_refuse NothingNew is = tt
+  may_refuse Memory is = tt
+  may_refuse (Append append_error.Failed) is = tt
+  may_refuse (Append append_error.Full) is = tt
   may_refuse (Append append_error.Broken) is =
       first _ _
       (sym (ap (λ broken. refusal_by (view_of old) broken (log_end old)) ready.sound) ∙ is)
-  may_refuse other is = tt
+  may_refuse other is = absurd is
 
   -- the record makes a log with those before it
   module _ (h : HashFunction) where

@@ -37,6 +37,15 @@ log_ending journal why = replied (refused Beyond None (log_fault_text why))
 abbrev pub issue_ending : Text → IssueError → Ending
 issue_ending journal (Log why) = log_ending journal why
 
+-- These are the refusals of an entry by a log that was opened just now.
+abbrev pub MayRefuseEntry : IssueError → Type 0
+MayRefuseEntry (Log log_error.Full) = Unit {0}
+MayRefuseEntry (Log log_error.TooLarge) = Unit {0}
+MayRefuseEntry (Log log_error.Memory) = Unit {0}
+MayRefuseEntry (Log (log_error.Append append_error.Failed)) = Unit {0}
+MayRefuseEntry (Log (log_error.Append append_error.Full)) = Unit {0}
+MayRefuseEntry why = ⊥
+
 -- The line of an entry that was added at this index.
 abbrev pub issued_text : ℕ → Text
 issued_text index = codes "issued " ++ (decimal index ++ codes "\n")

@@ -43,7 +43,7 @@ mark_ending journal (log_error.Append append_error.Failed) = room_failed journal
 mark_ending journal log_error.Memory = no_memory
 mark_ending journal why = replied (mark_refused why)
 
--- These are no refusals of a landmark by a log that was opened just now.
+-- These are the refusals of a landmark by a log that was opened just now.
 abbrev pub MayRefuseMark : LogError → Type 0
 MayRefuseMark log_error.NothingNew = Unit {0}
 MayRefuseMark log_error.Memory = Unit {0}

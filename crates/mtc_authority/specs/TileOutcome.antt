@@ -34,7 +34,7 @@ tiles_ending journal (log_error.Append append_error.Failed) = room_failed journa
 tiles_ending journal log_error.Memory = no_memory
 tiles_ending journal why = replied (tiles_refused why)
 
--- These are no refusals of tiles by a log that was opened just now.
+-- These are the refusals of tiles by a log that was opened just now.
 abbrev pub MayRefuseTiles : LogError → Type 0
 MayRefuseTiles log_error.NothingNew = Unit {0}
 MayRefuseTiles log_error.Memory = Unit {0}

@@ -1,6 +1,6 @@
 //! The command `issue`: the entry of a request is added to a log.
 
-ghost use Rattle.std.specs.Prelude.{◌≡◌, ◌≢◌, ◌<◌, ◌+◌, ◌^◌, [], ◌∷◌, IfOk};
+ghost use Rattle.std.specs.Prelude.{◌≡◌, ◌<◌, ◌+◌, ◌^◌, [], ◌∷◌, IfOk};
 ghost use Rattle.issuance_log.specs.Words.{log_tiles_disk};
 ghost use Rattle.mtc_command.specs.Answers.{stop_ending, ending_of, tiles_name};
 ghost use Rattle.mtc_command.specs.Served.{HasServedBeside, OnlyReadsBeside};
@@ -9,7 +9,7 @@ ghost use Rattle.mtc_command.specs.Valid.{KeepsValid};
 ghost use Rattle.mtc_authority.specs.NoJournal.{SparesTiles};
 ghost use Rattle.authority_core.specs.Reasons.{field_text};
 ghost use Rattle.mtc_authority.specs.IssueOutcome.{issue_ending, issue_says};
-ghost use Rattle.mtc_authority.specs.IssueOutcome.{issued_text};
+ghost use Rattle.mtc_authority.specs.IssueOutcome.{issued_text, MayRefuseEntry};
 ghost use Rattle.mtc_authority.specs.IssueOutcome.{request_ending};
 ghost use Rattle.mtc_authority.specs.IssueCommand.{issue_outcome};
 ghost use Rattle.mtc_authority.specs.StoredTiles.{HasTilesOf};
@@ -38,10 +38,7 @@ fn text_of_index(alloc: Global, index: u64) -> Result<Bytes, Memory>
 
 // Why a log that was opened just now takes no entry.
 fn refuse_entry<'a>(journal: &'a str, why: IssueError) -> Stop<'a>
-    requires sound { why ≢ IssueError.Log (LogError.Append AppendError.Broken) }
-    requires reads { why ≢ IssueError.Log LogError.NoSuchEntry }
-    requires marks { why ≢ IssueError.Log LogError.NothingNew }
-    requires disks { why ≢ IssueError.Log LogError.Failed }
+    requires { MayRefuseEntry why }
     ensures { stop_ending result ≡ issue_ending journal.now why }
 {
     let beyond = Stopped::Beyond;
@@ -52,11 +49,8 @@ fn refuse_entry<'a>(journal: &'a str, why: IssueError) -> Stop<'a>
             refuse(beyond, Reason::named("JournalFull"))
         }
         IssueError::Log(LogError::Append(AppendError::Failed)) => Stop::Room(journal),
-        IssueError::Log(LogError::Append(AppendError::Broken)) => unreachable!(),
-        IssueError::Log(LogError::NoSuchEntry) => unreachable!(),
-        IssueError::Log(LogError::NothingNew) => unreachable!(),
-        IssueError::Log(LogError::Failed) => unreachable!(),
         IssueError::Log(LogError::Memory) => Stop::Memory,
+        _ => unreachable!(),
     }
 }
 

@@ -37,11 +37,7 @@ fn refuse_landmark<'a>(journal: &'a str, why: LogError) -> Stop<'a>
         }
         LogError::Append(AppendError::Failed) => Stop::Room(journal),
         LogError::Memory => Stop::Memory,
-        LogError::Append(AppendError::Broken)
-        | LogError::Failed
-        | LogError::Full
-        | LogError::TooLarge
-        | LogError::NoSuchEntry => unreachable!(),
+        _ => unreachable!(),
     }
 }
 

@@ -38,10 +38,7 @@ fn refuse_tiles<'a>(journal: &'a str, why: LogError) -> Stop<'a>
         LogError::Append(AppendError::Failed) => Stop::Room(journal),
         LogError::Failed => Stop::Tiles(journal),
         LogError::Memory => Stop::Memory,
-        LogError::Append(AppendError::Broken)
-        | LogError::Full
-        | LogError::TooLarge
-        | LogError::NoSuchEntry => unreachable!(),
+        _ => unreachable!(),
     }
 }
 

@@ -1,21 +1,17 @@
-use Rattle.std.proofs.Common.{inl, refl, ◌≡◌, ◌∙◌, Some, ap, rules, subst, sym}
+use Rattle.std.proofs.Common.{inl, refl, ◌≡◌, ◌∙◌, ap, subst, sym}
 use Rattle.byte_formats.specs.Types.{Text}
-use Rattle.issuance_log.specs.declared.error.LogError.TheVariants.{Append}
-use Rattle.journal_core.specs.declared.error.AppendError.TheVariants.{Broken}
 use Rattle.mtc_command.specs.Answers.{Ending, replied, said}
 use Rattle.mtc_command.specs.declared.answer.Said.TheVariants.{Done}
 use Rattle.mtc_authority.specs.IssueOutcome.{issue_says, issued_text}
 use Rattle.mtc_authority.specs.Works.{HasWorkedOnLog}
-use Rattle.mtc_authority.proofs.Issued.{issued_so, issued_valid, never_broken, refusal, refused_so}
+use Rattle.mtc_authority.proofs.Issued.{issued_so, issued_valid, may_refuse, refused_so}
 use Rattle.mtc_authority.proofs.Issued.{refused_valid}
 use Rattle.mtc_authority.proofs.issue.issue_on.Goals as goal
 
-pub refuse_entry-requires-clause-sound : goal.refuse_entry-requires-clause-sound
-refuse_entry-requires-clause-sound g c = λ broken.
-    let is : refusal g.H.TreeHash.hash c.args.request.now c.args.journal.now c.args.log.now
-    c.issue.new.log c.requires ≡ Some (Append Broken) = search rules in
-    never_broken g.H.TreeHash.hash c.args.request.now c.args.journal.now c.args.log.now
-    c.issue.new.log c.requires is
+pub refuse_entry-requires : goal.refuse_entry-requires
+refuse_entry-requires g c =
+    may_refuse g.H.TreeHash.hash c.args.request.now c.args.journal.now c.args.log.now
+    c.issue.new.log c.requires c.in-Err.why c.in-Err.ensures.answer
 
 pub returns-in-Ok-clause-works : goal.returns-in-Ok-clause-works
 returns-in-Ok-clause-works g c =
