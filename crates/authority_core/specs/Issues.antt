@@ -1,10 +1,9 @@
 -- What issuing answers, in addition to what the log answers when an entry is added.
 use Rattle.std.specs.Prelude.{ℕ, Option, Result, Ok, Err}
 use Rattle.byte_formats.specs.Types.{Text, HashFunction}
-use Rattle.issuance_log.specs.Folds.{LogState, with_item}
+use Rattle.issuance_log.specs.Folds.{LogState, LogView, with_item}
 use Rattle.issuance_log.specs.Records.{entry_record}
 use Rattle.issuance_log.specs.Refusals.{ItemKeepsTo}
-use Rattle.issuance_log.specs.Settings.{Settings}
 use Rattle.issuance_log.specs.declared.error.LogError.{LogError}
 use Rattle.issuance_log.specs.declared.error.LogError.TheVariants as log_error
 use Rattle.authority_core.specs.Issuing.{entry_for}
@@ -12,17 +11,17 @@ use Rattle.authority_core.specs.Requests.{RequestParts}
 use Rattle.authority_core.specs.declared.issuing.error.IssueError.{IssueError}
 use Rattle.authority_core.specs.declared.issuing.error.IssueError.TheVariants.{Log}
 
--- The entry that is issued for a request: under the id in the log's settings.
-abbrev pub issued_entry : HashFunction → Settings → RequestParts → Text
-issued_entry h settings r = entry_for h settings.id r
+-- The entry that a log which shows this issues for a request: under its id.
+abbrev pub issued_entry : HashFunction → LogView → RequestParts → Text
+issued_entry h v r = entry_for h v.settings.id r
 
 -- The record of that entry with the key of the request.
-abbrev pub issued_record : HashFunction → Settings → RequestParts → Text
-issued_record h settings r = entry_record (issued_entry h settings r) r.key
+abbrev pub issued_record : HashFunction → LogView → RequestParts → Text
+issued_record h v r = entry_record (issued_entry h v r) r.key
 
 -- The log with that entry and its key.
-abbrev pub issued_log : HashFunction → Settings → RequestParts → LogState → LogState
-issued_log h settings r s = with_item (issued_entry h settings r) r.key s
+abbrev pub issued_log : HashFunction → LogView → RequestParts → LogState → LogState
+issued_log h v r s = with_item (issued_entry h v r) r.key s
 
 -- The answer as one of the log.
 abbrev pub of_log : Result ℕ IssueError → Result ℕ LogError

@@ -3,9 +3,9 @@ use Rattle.std.proofs.Common.{◌≡◌, ◌∙◌, ◌+◌, ℕ, zero, suc, Lis
 use Rattle.std.proofs.Common.{arith, add-one}
 use Rattle.std.proofs.lemmas.List.{length-append}
 use Rattle.byte_formats.specs.Types.{HashFunction}
-use Rattle.issuance_log.specs.Folds.{LogState}
+use Rattle.issuance_log.specs.Folds.{LogState, view_in}
 use Rattle.authority_core.specs.Issues.{issued_log}
-use Rattle.drill_core.specs.Entries.{entries_to, keys_to, log_settings, log_with, request_for}
+use Rattle.drill_core.specs.Entries.{entries_to, keys_to, log_with, request_for}
 use Rattle.drill_core.specs.Played.{issued_to}
 
 pub entries_length : (h : HashFunction) (size : ℕ) → length (entries_to h size) ≡ size
@@ -15,19 +15,20 @@ entries_length h (suc size) =
     let before = entries_length h size in grind (arith, length-append, before)
 
 one_more : (h : HashFunction) (before : ℕ) (marks : List ℕ)
-    → issued_log h log_settings (request_for (suc before)) (log_with h (suc before) marks)
+    → issued_log h (view_in (log_with h (suc before) marks)) (request_for (suc before))
+    (log_with h (suc before) marks)
     ≡ log_with h (suc (suc before)) marks
 unfolding entries_to keys_to
 one_more h before marks = refl
 
 next_issued : (h : HashFunction) (t : LogState) (before : ℕ) (marks : List ℕ)
     → t ≡ log_with h (suc before) marks
-    → issued_log h t.settings (request_for (length t.entries)) t
+    → issued_log h (view_in t) (request_for (length t.entries)) t
     ≡ log_with h (suc (suc before)) marks
 next_issued h t before marks same =
-    subst (λ (u : LogState). issued_log h u.settings (request_for (length u.entries)) u
+    subst (λ (u : LogState). issued_log h (view_in u) (request_for (length u.entries)) u
     ≡ log_with h (suc (suc before)) marks) (sym same)
-    (subst (λ (k : ℕ). issued_log h log_settings (request_for k)
+    (subst (λ (k : ℕ). issued_log h (view_in (log_with h (suc before) marks)) (request_for k)
     (log_with h (suc before) marks)
     ≡ log_with h (suc (suc before)) marks) (sym (entries_length h (suc before)))
     (one_more h before marks))
@@ -47,10 +48,10 @@ issued_is h (suc count) before size marks same =
 
 -- one entry more
 pub issued_next : (h : HashFunction) (count : ℕ) (s t u : LogState) → t ≡ issued_to h count s
-    → u ≡ issued_log h t.settings (request_for (length t.entries)) t → u ≡ issued_to h (count + 1) s
+    → u ≡ issued_log h (view_in t) (request_for (length t.entries)) t → u ≡ issued_to h (count + 1) s
 unfolding issued_to
 issued_next h count s t u before now =
-    rw (add-one count) (now ∙ ap (λ (x : LogState). issued_log h x.settings
+    rw (add-one count) (now ∙ ap (λ (x : LogState). issued_log h (view_in x)
     (request_for (length x.entries)) x) before)
 
 pub issued_length : (h : HashFunction) (count : ℕ) (s : LogState)

@@ -8,7 +8,6 @@ use Rattle.journal_core.specs.Format.{Represents, RepresentsEither}
 use Rattle.journal_core.specs.Words.{AllRepresent}
 use Rattle.issuance_log.specs.Folds.{LogState, LogView, log_of, view_in, with_mark}
 use Rattle.issuance_log.specs.Records.{landmark_record}
-use Rattle.issuance_log.specs.Settings.{Settings}
 use Rattle.issuance_log.specs.Shown.{shown_with}
 use Rattle.issuance_log.specs.Words.{log_broken, log_disk, log_records, modelled_state, view_of}
 use Rattle.issuance_log.specs.declared.log.Log.{Log}
@@ -18,17 +17,17 @@ use Rattle.drill_core.specs.declared.calls.LogCall.TheVariants.{Issue, Mark}
 
 -- the record of a call of a log
 abbrev pub record_of : HashFunction → LogView → LogCall → Text
-record_of h v (Issue request) = issued_record h v.settings request
+record_of h v (Issue request) = issued_record h v request
 record_of h v Mark = landmark_record v.size
 
--- what the record of a call makes of a log with these settings
-abbrev pub made_by : HashFunction → Settings → LogCall → LogState → LogState
-made_by h settings (Issue request) = issued_log h settings request
-made_by h settings Mark = with_mark
+-- what the record of a call makes of a log that shows this
+abbrev pub made_by : HashFunction → LogView → LogCall → LogState → LogState
+made_by h v (Issue request) = issued_log h v request
+made_by h v Mark = with_mark
 
 -- the log that the record of a call makes
 abbrev pub log_called : HashFunction → LogState → LogCall → LogState
-log_called h s call = made_by h s.settings call s
+log_called h s call = made_by h (view_in s) call s
 
 -- how many entries the log has, or how many landmarks, by the kind of the call
 abbrev pub count_in : LogState → LogCall → ℕ
@@ -56,7 +55,7 @@ module _ {H D T : Type 0} {hashes : Hashes H} {g : Ghosts D} {k : Ghosts T} wher
         → g.may_leave (log_disk new) c
         → RepresentsEither list (record_of h (view_of old) call) c)
     pub grown : done ≡ true → HasGrownBy (record_of h (view_of old) call)
-        (made_by h (view_of old).settings call) old new
+        (made_by h (view_of old) call) old new
 
   -- An open log with this state, over the records that make it.
   pub record IsLogWith (h : HashFunction) (s : LogState) (it : Log H D T hashes g k)

@@ -10,7 +10,7 @@ use Rattle.tree_core.specs.Tree.{tree_hash}
 use Rattle.tree_core.specs.declared.hashing.TreeHash.{Ghosts as Hashes}
 use Rattle.tree_proofs.specs.Checkpoints.{empty_checkpoint}
 use Rattle.tree_proofs.specs.declared.checkpoint.Checkpoint.{Checkpoint}
-use Rattle.issuance_log.specs.Folds.{LogState, with_mark}
+use Rattle.issuance_log.specs.Folds.{LogState, view_in, with_mark}
 use Rattle.cosigner_core.specs.Folds.{CosignerState}
 use Rattle.policy_core.specs.Judgement.{judgement}
 use Rattle.authority_core.specs.Certificates.{IsWritten}
@@ -37,7 +37,7 @@ unfoldable pub issued_to : HashFunction → ℕ → LogState → LogState
 issued_to h zero s = s
 issued_to h (suc count) s =
     let t = issued_to h count s in
-    issued_log h t.settings (request_for (length t.entries)) t
+    issued_log h (view_in t) (request_for (length t.entries)) t
 
 -- the log with a landmark more, if there is one
 abbrev pub with_landmark : Option (Option Stop) → LogState → LogState

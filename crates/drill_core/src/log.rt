@@ -4,7 +4,7 @@ ghost use Rattle.std.specs.Prelude.{◌≡◌, ◌+◌, List, [], ◌∷◌, len
 ghost use Rattle.byte_formats.specs.Types.{Text};
 ghost use Rattle.disk_core.specs.Memory.{bytes_of, crash_states_of};
 ghost use Rattle.journal_core.specs.Format.{Represents};
-ghost use Rattle.issuance_log.specs.Folds.{LogState, log_of, new_log, with_mark};
+ghost use Rattle.issuance_log.specs.Folds.{LogState, log_of, new_log, view_in, with_mark};
 ghost use Rattle.authority_core.specs.Issues.{issued_log};
 ghost use Rattle.drill_core.specs.Calls.{IsLogWith, count_in, log_called};
 ghost use Rattle.drill_core.specs.Entries.{log_settings, request_for};
@@ -161,7 +161,7 @@ impl<H: TreeHash> LogParty<H> {
     /// Issues the next entry.
     pub(crate) fn issue(self, alloc: Global, turn: Turn) -> Result<LogParty<H>, Memory>
         ensures state { IfOk result (λ it. log_shown it
-            ≡ issued_log H.hash (log_shown self).settings
+            ≡ issued_log H.hash (view_in (log_shown self))
             (request_for (length (log_shown self).entries)) (log_shown self)) }
         ensures stops { IfOk result (λ it. log_stops it ≡ log_stops self + stops_in (turn ∷ [])) }
     {

@@ -39,7 +39,7 @@ failed why = Err why
 module _ {H D : Type 0} {hashes : Hashes H} {g : Ghosts D} (h : HashFunction) (r : RequestParts)
     (name : Text) (old new : OpenLog H D D hashes g g) (ready : IsReadyLog old) where
   abbrev refusal_by : LogView → Bool → ℕ → Option LogError
-  refusal_by v broken end = add_refusal v broken end (issued_entry h v.settings r) r.key
+  refusal_by v broken end = add_refusal v broken end (issued_entry h v r) r.key
 
   abbrev pub refusal : Option LogError
   refusal = refusal_by (view_of old) (log_broken old) (log_end old)
@@ -48,20 +48,20 @@ module _ {H D : Type 0} {hashes : Hashes H} {g : Ghosts D} (h : HashFunction) (r
   outcome_by = issued_by h r
 
   abbrev body : Text
-  body = issued_record h (view_of old).settings r
+  body = issued_record h (view_of old) r
 
   abbrev line : Text
   line = issued_text (view_of old).size
 
   -- what the call leaves, by its answer
   abbrev pub HasIssued : Result ℕ LogError → Type 0
-  HasIssued result = LogAppends body one_item_more (issued_log h (view_of old).settings r) old new
+  HasIssued result = LogAppends body one_item_more (issued_log h (view_of old) r) old new
       result
 
   pub issued_so : (index : ℕ) → refusal ≡ None → HasIssued (Ok index)
       → HasWorkedOnLog name (issue_says h r) old new (replied (said Done line))
   issued_so index free run = done_so outcome_by refusal_by name old new ready body
-      line one_item_more (issued_log h (view_of old).settings r) (λ list. refl) free index run
+      line one_item_more (issued_log h (view_of old) r) (λ list. refl) free index run
 
   contents : (why : LogError) → refusal ≡ Some why → log_disk new ≡ log_disk old
       → HasWorkedOnLog name (issue_says h r) old new
@@ -80,7 +80,7 @@ module _ {H D : Type 0} {hashes : Hashes H} {g : Ghosts D} (h : HashFunction) (r
       contents (Append append_error.Broken) is run.journal.leaves.disk
   refused_so (Log (Append append_error.Failed)) run is =
       failed_so outcome_by refusal_by name old new ready body line one_item_more
-      (issued_log h (view_of old).settings r) (λ list. refl) is run
+      (issued_log h (view_of old) r) (λ list. refl) is run
   refused_so (Log Memory) run is =
       out_of_memory_so outcome_by refusal_by name old new ready run.journal.leaves.disk
   refused_so (Log other) run is = absurd is
@@ -115,7 +115,7 @@ module _ {H D : Type 0} {hashes : Hashes H} {g : Ghosts D} (h : HashFunction) (r
   -- the record makes a log with those before it
   abbrev pub IsSoundAfter : List Text → Type 0
   IsSoundAfter list = log_of h (list ++ body ∷ [])
-      ≡ Ok (issued_log h (view_of old).settings r (shown_with (view_of old) list))
+      ≡ Ok (issued_log h (view_of old) r (shown_with (view_of old) list))
 
   adds_valid : (list : List Text) (why : Option LogError) → (why ≡ None → IsSoundAfter list)
       → AddsValid (IsLog h) (journaled_by (outcome_by (view_of old) list why))

@@ -53,7 +53,7 @@ issued_text index = codes "issued " ++ (decimal index ++ codes "\n")
 -- The entry of a request is added with its key, where the log shows this and has these records,
 -- unless the log refuses it.
 abbrev pub issued_by : HashFunction → RequestParts → LogView → List Text → Option LogError → Outcome
-issued_by h r v list None = appends list (issued_record h v.settings r) (issued_text v.size)
+issued_by h r v list None = appends list (issued_record h v r) (issued_text v.size)
 issued_by h r v list (Some why) = stops_on list Beyond (log_fault_text why)
 
 abbrev pub issued : HashFunction → RequestParts → FoundLog → Option LogError → Outcome
@@ -62,4 +62,4 @@ issued h r found why = issued_by h r (view_in found.state) found.records why
 -- What `issue` makes of a log that was found.
 abbrev pub issue_says : HashFunction → RequestParts → FoundLog → Outcome
 issue_says h r found = issued h r found (add_refusal (view_in found.state) false
-    (end_offset found.records) (issued_entry h found.state.settings r) r.key)
+    (end_offset found.records) (issued_entry h (view_in found.state) r) r.key)

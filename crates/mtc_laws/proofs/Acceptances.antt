@@ -34,8 +34,7 @@ use Rattle.issuance_log.proofs.After.{following_items}
 use Rattle.issuance_log.proofs.Encoded.{item_takes}
 use Rattle.authority_core.specs.Acceptance.{IsSetUpFor}
 use Rattle.authority_core.specs.Certificates.{HoldsEntry, parts_with, proof_for}
-use Rattle.authority_core.specs.Issues.{issued_entry}
-use Rattle.authority_core.specs.Issuing.{tbs_for}
+use Rattle.authority_core.specs.Issuing.{entry_for, tbs_for}
 use Rattle.authority_core.specs.Requests.{CanBeIssued, RequestParts}
 use Rattle.authority_core.proofs.Issued.{all_known}
 use Rattle.party_history.proofs.Items.{item_added}
@@ -72,15 +71,15 @@ use Rattle.mtc_laws.proofs.Writing.{issued_accepted, issued_read}
 -- It is at its index in a log whose records begin with its own and those before it. The log has the
 -- settings of that one, and entry and key are short.
 record IsItemAt (h : HashFunction) (s t : LogState) (r : RequestParts) : Type 0 where
-  entry_is : slice_index_or t.entries (length s.entries) [] ≡ issued_entry h t.settings r
+  entry_is : slice_index_or t.entries (length s.entries) [] ≡ entry_for h t.settings.id r
   key_is : slice_index_or t.keys (length s.entries) [] ≡ r.key
   key_bytes : IsBytes r.key
-  few : length (issued_entry h t.settings r) + length r.key ≤ 131070
+  few : length (entry_for h t.settings.id r) + length r.key ≤ 131070
 
 added_at : (h : HashFunction) (list found : List Text) (body : Text) (s t : LogState)
     (r : RequestParts) → log_of h list ≡ Ok s → log_of h found ≡ Ok t
     → (prefix : IsPrefix (list ++ body ∷ []) found) → AllByRecursion IsBytes found
-    → item_in body ≡ Some (issued_entry h s.settings r, r.key) → IsItemAt h s t r
+    → item_in body ≡ Some (entry_for h s.settings.id r, r.key) → IsItemAt h s t r
 added_at h list found body s t r was is prefix bytes item =
     let joined : list ++ body ∷ prefix.0 ≡ found =
     sym (append_assoc list (body ∷ []) prefix.0) ∙ prefix.1 in
@@ -89,16 +88,16 @@ added_at h list found body s t r was is prefix bytes item =
     let whole : log_of h (list ++ body ∷ prefix.0) ≡ Ok t = ap (log_of h) joined ∙ is in
     let has = following_items h (length list) s t (body ∷ prefix.0)
     (sym (state_more (log_fold h) list (body ∷ prefix.0) s was) ∙ whole) in
-    let there = item_added h list body prefix.0 (issued_entry h s.settings r) r.key s t was item
+    let there = item_added h list body prefix.0 (entry_for h s.settings.id r) r.key s t was item
     (ap (log_of h) prefix.1 ∙ is) in
-    let settings : issued_entry h s.settings r ≡ issued_entry h t.settings r =
-    ap (λ (x : Settings). issued_entry h x r) (sym has.settings) in
-    let short = item_takes body (issued_entry h s.settings r) r.key body_is item in
+    let settings : entry_for h s.settings.id r ≡ entry_for h t.settings.id r =
+    ap (λ (x : Settings). entry_for h x.id r) (sym has.settings) in
+    let short = item_takes body (entry_for h s.settings.id r) r.key body_is item in
     record {
-      entry_is = get_or_from_slice_get t.entries (length s.entries) (issued_entry h s.settings r) []
+      entry_is = get_or_from_slice_get t.entries (length s.entries) (entry_for h s.settings.id r) []
           there.entry_is ∙ settings;
       key_is = get_or_from_slice_get t.keys (length s.entries) r.key [] there.key_is;
-      key_bytes = (item_is_bytes body (issued_entry h s.settings r) r.key body_is item).1;
+      key_bytes = (item_is_bytes body (entry_for h s.settings.id r) r.key body_is item).1;
       few = omega (arith, short.1, short.2, ap length settings);
     }
 
@@ -217,9 +216,9 @@ module _ {R S D O E : Type 0} (h : HashFunction) (rooms : Rooms R S D) (disks : 
   module _ (name : Text) (index : ℕ) (old : R) (run : Run R O E)
       (c : IsCertified name index old run) (r : RequestParts) (asked : CanBeIssued r)
       (entry_is : slice_index_or c.writes.prints.state.entries index []
-      ≡ issued_entry h c.writes.prints.state.settings r)
+      ≡ entry_for h c.writes.prints.state.settings.id r)
       (key_is : slice_index_or c.writes.prints.state.keys index [] ≡ r.key)
-      (few : length (issued_entry h c.writes.prints.state.settings r) + length r.key ≤ 131070)
+      (few : length (entry_for h c.writes.prints.state.settings.id r) + length r.key ≤ 131070)
     where
       abbrev w : WritesCertificate h p name index old run
       w = c.writes
@@ -305,7 +304,7 @@ module _ {R S D O E : Type 0} (h : HashFunction) (rooms : Rooms R S D) (disks : 
               i,
               λ index_is store unix_time room verifying v backs from to.
                   let entry = subst (λ (n : ℕ). slice_index_or w.prints.state.entries n []
-                  ≡ issued_entry h w.prints.state.settings i.request) index_is item.entry_is in
+                  ≡ entry_for h w.prints.state.settings.id i.request) index_is item.entry_is in
                   let key = subst (λ (n : ℕ). slice_index_or w.prints.state.keys n []
                   ≡ i.request.key) index_is item.key_is in
                   let proof = proof_for h w.prints.state index w.span.start w.span.end

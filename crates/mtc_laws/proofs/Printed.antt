@@ -125,7 +125,7 @@ module _ {R S D O E : Type 0} (h : HashFunction) (rooms : Rooms R S D) (disks : 
       let list = s.found.records in
       let are = file_bytes disks (rooms.file old name) (rooms.device old name) s.held bytes
       (contents old name is_modelled) s.there in
-      let body = issued_record h state.settings s.request in
+      let body = issued_record h (view_in state) s.request in
       record {
         text = s.bytes;
         has_text = record { there = s.has_bytes.there; few = s.has_bytes.few };
@@ -138,7 +138,7 @@ module _ {R S D O E : Type 0} (h : HashFunction) (rooms : Rooms R S D) (disks : 
         did = did_so h rooms disks outs errs old run command spoken name (appended list body) refl
             s.did;
         item = item_read (view_in state) false (end_offset list)
-            (issued_entry h state.settings s.request) s.request.key s.fits;
+            (issued_entry h (view_in state) s.request) s.request.key s.fits;
         printed = printed_so h rooms disks outs errs old run is_run heard
             (issued_text (length state.entries)) s.reply_is;
       }

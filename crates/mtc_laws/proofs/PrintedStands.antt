@@ -8,6 +8,7 @@ use Rattle.mtc_io.specs.declared.sink.Sink.{Ghosts as Sinks}
 use Rattle.mtc_room.specs.Room.{ModelsFile}
 use Rattle.mtc_room.specs.declared.room.Room.{Ghosts as Rooms}
 use Rattle.mtc_words.specs.Commands.{cosign, issue}
+use Rattle.issuance_log.specs.Folds.{view_in}
 use Rattle.authority_core.specs.Issues.{issued_entry}
 use Rattle.mtc_command.proofs.Made.{OnlyNow, ReadsCrashState}
 use Rattle.mtc_laws.specs.PrintLaws.{HasCosigned, IsInLog, IssuedEntriesStand, OfHeard}
@@ -67,7 +68,7 @@ module _ {R S D O E : Type 0} (h : HashFunction) (rooms : Rooms R S D) (disks : 
       added_stand h rooms disks outs errs crash_state only contents bytes name start first begins
       new
       events begun execution settings i.list found i.body
-      (issued_entry h i.state.settings i.request)
+      (issued_entry h (view_in i.state) i.request)
       i.request.key i.state is (held (i.list ++ i.body ∷ [])
       (heard_held h rooms disks outs errs old run is_run heard name i.list i.body i.did)) i.log_is
       i.item recovered in

@@ -23,7 +23,6 @@ use Rattle.log_entry.proofs.Matches.{made_encoded}
 use Rattle.issuance_log.specs.Folds.{LogState}
 use Rattle.authority_core.specs.Acceptance.{StoresAccept}
 use Rattle.authority_core.specs.Certificates.{IsWritten, parts_with, proof_for}
-use Rattle.authority_core.specs.Issues.{issued_entry}
 use Rattle.authority_core.specs.Issuing.{entry_for, tbs_for}
 use Rattle.authority_core.specs.Requests.{CanBeIssued, RequestParts}
 use Rattle.authority_core.proofs.Accepted.{accepts}
@@ -99,9 +98,9 @@ module _ (h : HashFunction) (sized : (bytes : Text) → length (h bytes) ≡ 32)
   }
 
   module _ (r : RequestParts) (can : CanBeIssued r)
-      (entry_is : slice_index_or s.entries index [] ≡ issued_entry h s.settings r)
+      (entry_is : slice_index_or s.entries index [] ≡ entry_for h s.settings.id r)
       (key_is : slice_index_or s.keys index [] ≡ r.key)
-      (few : length (issued_entry h s.settings r) + length r.key ≤ 131070) (some : 1 ≤ index) where
+      (few : length (entry_for h s.settings.id r) + length r.key ≤ 131070) (some : 1 ≤ index) where
     abbrev fields : TbsParts
     fields = tbs_for h s.settings.id r
 
@@ -115,7 +114,7 @@ module _ (h : HashFunction) (sized : (bytes : Text) → length (h bytes) ≡ 32)
     pub issued_read : entry_in (slice_index_or s.entries index []) ≡ Ok (Some fields)
     issued_read = ap entry_in entry_is ∙ entry_read h s.settings.id r sized sound.anchor can
 
-    text_is : tbs_text fields ≡ issued_entry h s.settings r
+    text_is : tbs_text fields ≡ entry_for h s.settings.id r
     unfolding entry_for
     text_is = refl
 

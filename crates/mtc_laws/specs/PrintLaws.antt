@@ -19,7 +19,7 @@ use Rattle.cosigner_core.specs.Reading.{advance_in, subtree_in}
 use Rattle.cosigner_core.specs.Records.{step_in}
 use Rattle.cosigner_core.specs.Requests.{AdvanceParts, SubtreeParts}
 use Rattle.cosigner_core.specs.declared.step.Step.TheVariants.{Sign}
-use Rattle.issuance_log.specs.Folds.{LogState, log_of}
+use Rattle.issuance_log.specs.Folds.{LogState, log_of, view_in}
 use Rattle.issuance_log.specs.Records.{item_in}
 use Rattle.issuance_log.specs.Settings.{Settings}
 use Rattle.mtc_command.specs.Made.{appended, reads}
@@ -47,7 +47,7 @@ module _ (h : HashFunction) (p : Program) where
     pub log_is : log_of h list ≡ Ok state
     pub body : Text
     pub did : did_to p name old run ≡ appended list body
-    pub item : item_in body ≡ Some (issued_entry h state.settings request, request.key)
+    pub item : item_in body ≡ Some (issued_entry h (view_in state) request, request.key)
     pub printed : HasPrinted p run (issued_text (length state.entries))
 
   -- The run read a request from this file, and added a Sign record to a cosigner with these
@@ -127,7 +127,7 @@ module _ (h : HashFunction) (p : Program) where
     pub log : LogState
     pub log_is : log_of h found ≡ Ok log
     pub at_index : HasItemAt (length issued.state.entries)
-        (issued_entry h issued.state.settings issued.request) issued.request.key log
+        (issued_entry h (view_in issued.state) issued.request) issued.request.key log
 
   -- For each run of an execution: this holds of each log with which the journal may be recovered.
   abbrev pub IssuedEntriesStand : Type 0

@@ -157,7 +157,7 @@ module _ {F E : Type 0} (h : HashFunction) (files : Files) (kind : PartyKind) (b
 issue_so : (h : HashFunction) (r : RequestParts) (v : LogView) (why : Option LogError)
     (status : Said) (text : List ℕ)
     → Meets (wanted_of (issue_reported h r v why).0) (said status text)
-    → (why ≡ None) × (((issue_reported h r v why).1 ≡ Some (issued_record h v.settings r))
+    → (why ≡ None) × (((issue_reported h r v why).1 ≡ Some (issued_record h v r))
     × (said status text ≡ said Done (issued_text v.size)))
 issue_so h r v None status text meets = (refl, (refl, meets))
 issue_so h r v (Some why) status text meets =
@@ -169,7 +169,7 @@ issued_so h files journal file status text meets =
     (λ (r : RequestParts) (found : FoundLog). work_reported h (Issue r) found) status text meets in
     let v = view_in t.found.state in
     let so = issue_so h t.form v (add_refusal v false (end_offset t.found.records)
-    (issued_entry h t.found.state.settings t.form) t.form.key) status text t.meets in
+    (issued_entry h (view_in t.found.state) t.form) t.form.key) status text t.meets in
     record {
       bytes = t.bytes;
       has_bytes = t.has_bytes;

@@ -112,7 +112,7 @@ module _ (h : HashFunction) where
       (entries_from_judged first size found.state) (entries_from_same first size found.state)
   work_same (Issue request) found = issued_same request found
       (add_refusal (view_in found.state) false (end_offset found.records)
-      (issued_entry h found.state.settings request) request.key)
+      (issued_entry h (view_in found.state) request) request.key)
   work_same (Consist old new) found = on_list found.records (consist_reply h old new found.state)
       (consist_judged h old new found.state) (consist_same old new found.state)
   work_same (Subtree start end size) found =

@@ -53,9 +53,9 @@ pub record IssuesSo (h : HashFunction) (files : Files) (journal file : Text) (re
   pub found : FoundLog
   pub is_log : log_read h held ≡ Ok found
   pub fits : add_refusal (view_in found.state) false (end_offset found.records)
-      (issued_entry h found.state.settings request) request.key ≡ None
+      (issued_entry h (view_in found.state) request) request.key ≡ None
   pub did : (planned_outcome h (issue journal file) files).journals
-      ≡ appended found.records (issued_record h (view_in found.state).settings request) ∷ []
+      ≡ appended found.records (issued_record h (view_in found.state) request) ∷ []
   pub reply_is : reply ≡ said Done (issued_text (view_in found.state).size)
 
 -- So it is of each text that `issue` may say.

@@ -93,7 +93,7 @@ cert_judged (Some why) text = write_judged why
 
 -- The entry of a request is added with its key, unless the log refuses it.
 abbrev pub issue_reported : HashFunction → RequestParts → LogView → Option LogError → StepReport
-issue_reported h r v None = (prints Done (issued_text v.size), Some (issued_record h v.settings r))
+issue_reported h r v None = (prints Done (issued_text v.size), Some (issued_record h v r))
 issue_reported h r v (Some why) = (exceeds (log_fault_text why), None)
 
 -- Why a log takes no landmark, and stores no tiles.
@@ -119,7 +119,7 @@ work_reported h (Entries size) found = (entries_judged size found.state, None)
 work_reported h (EntriesFrom first size) found = (entries_from_judged first size found.state, None)
 work_reported h (Issue request) found = issue_reported h request (view_in found.state)
     (add_refusal (view_in found.state) false (end_offset found.records)
-    (issued_entry h found.state.settings request) request.key)
+    (issued_entry h (view_in found.state) request) request.key)
 work_reported h (Consist old new) found = (consist_judged h old new found.state, None)
 work_reported h (Subtree start end size) found = (subtree_judged h start end size found.state, None)
 work_reported h Landmark found = mark_reported (view_in found.state)

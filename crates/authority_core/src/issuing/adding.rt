@@ -33,8 +33,8 @@ pub fn issue<H: TreeHash, D: Disk, T: Disk>(
     log: &mut Log<H, D, T>,
     request: &Request,
 ) -> Result<u64, IssueError>
-    ensures appends { LogAppends (issued_record H.hash (view_of log.old).settings request.now)
-        one_item_more (issued_log H.hash (view_of log.old).settings request.now) log.old log.new
+    ensures appends { LogAppends (issued_record H.hash (view_of log.old) request.now)
+        one_item_more (issued_log H.hash (view_of log.old) request.now) log.old log.new
         (of_log result) }
     ensures tiles { log_tiles_disk log.new ≡ log_tiles_disk log.old }
     ensures index { IfOk result (λ index. index ≡ (view_of log.old).size) }
@@ -42,14 +42,14 @@ pub fn issue<H: TreeHash, D: Disk, T: Disk>(
         IsOwnEntry s.settings.id (slice_index_or s.entries index []))) }
     ensures answer { KeepsToOrMemory
         (add_refusal (view_of log.old) (log_broken log.old) (log_end log.old)
-        (issued_entry H.hash (view_of log.old).settings request.now) request.now.key)
+        (issued_entry H.hash (view_of log.old) request.now) request.now.key)
         (of_log result) }
     ensures valid { result ≢ Err (IssueError.Log NoMemory)
         → add_refusal (view_of log.old) (log_broken log.old) (log_end log.old)
-        (issued_entry H.hash (view_of log.old).settings request.now) request.now.key ≡ None
+        (issued_entry H.hash (view_of log.old) request.now) request.now.key ≡ None
         → IfSome (log_records log.old) (λ list. log_of H.hash
-        (list ++ issued_record H.hash (view_of log.old).settings request.now ∷ [])
-        ≡ Ok (issued_log H.hash (view_of log.old).settings request.now
+        (list ++ issued_record H.hash (view_of log.old) request.now ∷ [])
+        ≡ Ok (issued_log H.hash (view_of log.old) request.now
         (shown_with (view_of log.old) list))) }
 {
     log.law_sound();

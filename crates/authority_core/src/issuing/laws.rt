@@ -9,7 +9,7 @@ ghost use Rattle.cert_names.specs.LogNames.{log_in};
 ghost use Rattle.cert_fields.specs.Extensions.{dns_names_in, has_unknown_critical};
 ghost use Rattle.log_entry.specs.Matching.{matches};
 ghost use Rattle.log_entry.specs.Reading.{entry_in};
-ghost use Rattle.issuance_log.specs.Folds.{LogState, log_of, with_item};
+ghost use Rattle.issuance_log.specs.Folds.{LogState, log_of, view_in, with_item};
 ghost use Rattle.issuance_log.specs.Settings.{most_item};
 ghost use Rattle.authority_core.specs.Acceptance.{IsOwnEntry};
 ghost use Rattle.authority_core.specs.Issues.{issued_entry, issued_record};
@@ -44,7 +44,7 @@ pub fn law_issued_entries_keep_to_the_rules()
     ensures { (h : HashFunction) (list : List Text) (s : LogState) (r : RequestParts)
         → ((bytes : Text) → length (h bytes) ≡ 32) → IsAnchorId s.settings.id → CanBeIssued r
         → log_of h list ≡ Ok s → length s.entries < s.settings.limit
-        → length (issued_entry h s.settings r) + length r.key ≤ most_item
-        → log_of h (list ++ issued_record h s.settings r ∷ [])
-        ≡ Ok (with_item (issued_entry h s.settings r) r.key s) }
+        → length (issued_entry h (view_in s) r) + length r.key ≤ most_item
+        → log_of h (list ++ issued_record h (view_in s) r ∷ [])
+        ≡ Ok (with_item (issued_entry h (view_in s) r) r.key s) }
 {}

@@ -33,7 +33,7 @@ returns-clause-appends g c =
     let r = c.args.request.now in
     of_same (λ (entry key : Text). LogAppends (entry_record entry key) one_item_more
     (with_item entry key) log c.add.new.self (Ok c.in_ok-index.index)) _ _
-    (issued_entry h (view_of log).settings r) r.key
+    (issued_entry h (view_of log) r) r.key
     (c.as_slice.ensures ∙ c.in_ok-entry.ensures.bytes
     ∙ ap (λ (s : Settings). entry_for h s.id r) (c.settings.view_is
     ∙ c.settings-settings.ensures.value))
@@ -54,7 +54,7 @@ returns-clause-own g c =
 pub returns-clause-valid : goal.returns-clause-valid
 returns-clause-valid g c = λ made.
     c.law_unrefused_records_are_taken.ensures.added (issued_entry g.H.TreeHash.hash
-    (view_of c.args.log.now).settings c.args.request.now) c.args.request.now.key
+    (view_of c.args.log.now) c.args.request.now) c.args.request.now.key
     (subst (λ (s : Settings). matches g.H.TreeHash.hash
     (entry_for g.H.TreeHash.hash s.id c.args.request.now) c.args.request.now.key ≡ true)
     (c.settings.view_is ∙ c.settings-settings.ensures.value) c.entry_of_request.ensures.belongs)
@@ -66,7 +66,7 @@ returns-clause-answer g c =
     let r = c.args.request.now in
     of_same (λ (entry key : Text). add_refusal (view_of log) (log_broken log) (log_end log) entry
     key ≡ None) _ _
-    (issued_entry h (view_of log).settings r) r.key
+    (issued_entry h (view_of log) r) r.key
     (c.as_slice.ensures ∙ c.in_ok-entry.ensures.bytes
     ∙ ap (λ (s : Settings). entry_for h s.id r) (c.settings.view_is
     ∙ c.settings-settings.ensures.value))
@@ -78,8 +78,8 @@ returns-in_err-entry-clause-appends g c =
     let log = c.args.log.now in
     let h = g.H.TreeHash.hash in
     let r = c.args.request.now in
-    let body = issued_record h (view_of log).settings r in
-    let next = issued_log h (view_of log).settings r in
+    let body = issued_record h (view_of log) r in
+    let next = issued_log h (view_of log) r in
     of_refusal (λ (o : Result ℕ LogError). LogAppends body one_item_more next log log o)
     c.from_residual.result Memory c.from_residual.ensures.1
     (not_touched log body one_item_more next (g.met.D.Disk.only_now _))
@@ -98,13 +98,13 @@ returns-in_err-index-clause-appends g c =
     let log = c.args.log.now in
     let h = g.H.TreeHash.hash in
     let r = c.args.request.now in
-    of_refusal (λ (o : Result ℕ LogError). LogAppends (issued_record h (view_of log).settings r)
-    one_item_more (issued_log h (view_of log).settings r) log c.add.new.self o)
+    of_refusal (λ (o : Result ℕ LogError). LogAppends (issued_record h (view_of log) r)
+    one_item_more (issued_log h (view_of log) r) log c.add.new.self o)
     c.from_residual-in_err-index.result c.in_err-index.field-0.0
     c.from_residual-in_err-index.ensures.1
     (of_same (λ (entry key : Text). LogAppends (entry_record entry key) one_item_more
     (with_item entry key) log c.add.new.self (Err c.in_err-index.field-0.0)) _ _
-    (issued_entry h (view_of log).settings r) r.key
+    (issued_entry h (view_of log) r) r.key
     (c.as_slice.ensures ∙ c.in_ok-entry.ensures.bytes
     ∙ ap (λ (s : Settings). entry_for h s.id r) (c.settings.view_is
     ∙ c.settings-settings.ensures.value))
@@ -121,7 +121,7 @@ returns-in_err-index-clause-answer g c =
     c.from_residual-in_err-index.ensures.1
     (or_memory _ why (of_same (λ (entry key : Text). ItemKeepsTo (add_refusal (view_of log)
     (log_broken log) (log_end log) entry key) (Err why)) _ _
-    (issued_entry h (view_of log).settings r) r.key
+    (issued_entry h (view_of log) r) r.key
     (c.as_slice.ensures ∙ c.in_ok-entry.ensures.bytes
     ∙ ap (λ (s : Settings). entry_for h s.id r) (c.settings.view_is
     ∙ c.settings-settings.ensures.value))
@@ -131,7 +131,7 @@ returns-in_err-index-clause-answer g c =
 pub returns-in_err-index-clause-valid : goal.returns-in_err-index-clause-valid
 returns-in_err-index-clause-valid g c = λ made.
     c.law_unrefused_records_are_taken.ensures.added (issued_entry g.H.TreeHash.hash
-    (view_of c.args.log.now).settings c.args.request.now) c.args.request.now.key
+    (view_of c.args.log.now) c.args.request.now) c.args.request.now.key
     (subst (λ (s : Settings). matches g.H.TreeHash.hash
     (entry_for g.H.TreeHash.hash s.id c.args.request.now) c.args.request.now.key ≡ true)
     (c.settings.view_is ∙ c.settings-settings.ensures.value) c.entry_of_request.ensures.belongs)
