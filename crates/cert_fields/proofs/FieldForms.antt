@@ -60,7 +60,7 @@ algorithm_form =
     whole_form (then_form identifier_form (last_form any_form element_some tt)) 0x30
     (tag_of 0x30 (lit< tt) refl)
 
-bits_form : IsForm (λ b. element 0x03 (bit_string b)) IsBits Anything (decoded_at 0x03 bits_of)
+pub bits_form : IsForm (λ b. element 0x03 (bit_string b)) IsBits Anything (decoded_at 0x03 bits_of)
 bits_form = decoded_form bits_contents 0x03 (tag_of 0x03 (lit< tt) refl)
 
 pub spki_form : IsForm itself IsPublicKey Anything spki_at

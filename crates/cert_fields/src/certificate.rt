@@ -17,7 +17,7 @@ ghost use Rattle.der_core.specs.declared.fault.CertError.TheVariants.{BadVersion
 
 use crate::cert::Cert;
 use crate::extensions::read_extensions;
-use crate::keys::{algorithm, signature, spki};
+use crate::keys::{read_algorithm, signature, spki};
 use crate::names::read_name;
 use crate::tags::VERSION;
 use crate::times::read_validity;
@@ -93,7 +93,7 @@ fn has_unique_id(reader: &Reader) -> bool
 fn after_serial<'a>(reader: &mut Reader<'a>) -> Result<Fields<'a>, CertError>
     ensures { Moves body after_serial_at reader.old result reader.new }
 {
-    let algorithm = algorithm(reader)?;
+    let algorithm = read_algorithm(reader)?;
     let issuer = read_name(reader)?;
     let (validity_der, validity) = read_validity(reader)?;
     let (subject, spki, extensions) = after_validity(reader)?;

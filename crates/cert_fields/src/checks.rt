@@ -14,7 +14,7 @@ ghost use Rattle.cert_fields.specs.FieldOffsets.{offset_after, unix_times_after}
 
 use crate::certificate::read_version;
 use crate::extensions::read_extensions;
-use crate::keys::{algorithm, reads_as_key, spki};
+use crate::keys::{read_algorithm, reads_as_key, spki};
 use crate::names::read_name;
 use crate::times::read_validity;
 use cert_time::Validity;
@@ -87,7 +87,7 @@ pub fn check_algorithm(input: &[u8], place: usize) -> Result<usize, CertError>
     ensures within { IfOk result (λ p. (place ≤ p) × (p ≤ length input.now)) }
 {
     let mut reader = Reader::at(input, place);
-    algorithm(&mut reader)?;
+    read_algorithm(&mut reader)?;
     Ok(reader.place())
 }
 

@@ -2,8 +2,8 @@
 
 ghost use Rattle.std.specs.Prelude.{◌≡◌};
 ghost use Rattle.byte_formats.specs.Readings.{Moves, Gives};
-ghost use Rattle.cert_fields.specs.Keys.{algorithm_at, spki_at, is_public_key, whole_bits_of};
-ghost use Rattle.cert_fields.specs.Keys.{signature_at};
+ghost use Rattle.cert_fields.specs.Keys.{algorithm_at, spki_at, is_public_key, key_algorithm};
+ghost use Rattle.cert_fields.specs.Keys.{key_parts_at, signature_at, whole_bits_of};
 ghost use Rattle.der_core.specs.Contents.{oid_of};
 ghost use Rattle.der_core.specs.Fields.{decoded_at};
 
@@ -18,9 +18,10 @@ pub fn object_identifier<'a>(reader: &mut Reader<'a>) -> Result<&'a [u8], CertEr
     Ok(oid(&element)?)
 }
 
-/// An AlgorithmIdentifier: an object identifier, and at most one element of parameters.
+/// Reads an AlgorithmIdentifier (RFC 5280, section 4.1.1.2) as its bytes: an object identifier, and
+/// at most one element of parameters.
 #[tactic(auto, unfolding(crate::specs::Keys::algorithm_at))]
-pub fn algorithm<'a>(reader: &mut Reader<'a>) -> Result<&'a [u8], CertError>
+pub fn read_algorithm<'a>(reader: &mut Reader<'a>) -> Result<&'a [u8], CertError>
     ensures { Moves (λ bytes. bytes.now) algorithm_at reader.old result reader.new }
 {
     let outer = reader.wanted(SEQUENCE)?;
@@ -40,11 +41,39 @@ pub fn spki<'a>(reader: &mut Reader<'a>) -> Result<&'a [u8], CertError>
 {
     let outer = reader.wanted(SEQUENCE)?;
     let mut inner = Reader::inside(&outer);
-    algorithm(&mut inner)?;
+    read_algorithm(&mut inner)?;
     let key = inner.wanted(BIT_STRING)?;
     bits(&key)?;
     inner.end()?;
     Ok(outer.whole)
+}
+
+// The parts of a subjectPublicKeyInfo: its algorithm, and its bits.
+#[tactic(auto, unfolding(crate::specs::Keys::key_parts_at))]
+fn key_parts<'a>(reader: &mut Reader<'a>) -> Result<(&'a [u8], (u8, &'a [u8])), CertError>
+    ensures { Moves (λ x. (x.0.now, (x.1.0, x.1.1.now))) key_parts_at reader.old result
+        reader.new }
+{
+    let outer = reader.wanted(SEQUENCE)?;
+    let mut inner = Reader::inside(&outer);
+    let algorithm = read_algorithm(&mut inner)?;
+    let key = inner.wanted(BIT_STRING)?;
+    let bits = bits(&key)?;
+    inner.end()?;
+    Ok((algorithm, bits))
+}
+
+/// The AlgorithmIdentifier of a subjectPublicKeyInfo, which is its first part (RFC 5280, section
+/// 4.1.2.7). No bytes where these aren't one subjectPublicKeyInfo. It takes no memory.
+#[tactic(auto, unfolding(crate::specs::Keys::key_algorithm))]
+pub fn key_algorithm(bytes: &[u8]) -> &[u8]
+    ensures { result.now ≡ key_algorithm bytes.now }
+{
+    let mut reader = Reader::at(bytes, 0);
+    match key_parts(&mut reader) {
+        Ok((algorithm, _bits)) if reader.is_at_end() => algorithm,
+        _ => &[],
+    }
 }
 
 /// The bytes are one subjectPublicKeyInfo, and nothing follows it.

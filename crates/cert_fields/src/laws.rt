@@ -7,7 +7,8 @@ ghost use Rattle.byte_formats.specs.Types.{Text};
 ghost use Rattle.byte_formats.specs.Offsets.{IsBytes};
 ghost use Rattle.byte_formats.specs.Forms.{IsForm, Anything, OtherThan, itself};
 ghost use Rattle.der_core.specs.Elements.{element};
-ghost use Rattle.cert_fields.specs.Keys.{algorithm_at, spki_at, signature_at};
+ghost use Rattle.der_core.specs.Forms.{bit_string};
+ghost use Rattle.cert_fields.specs.Keys.{algorithm_at, key_algorithm, spki_at, signature_at};
 ghost use Rattle.cert_fields.specs.Names.{name_at};
 ghost use Rattle.cert_fields.specs.Times.{validity_at};
 ghost use Rattle.cert_fields.specs.AltNames.{are_general_names, names_in};
@@ -18,7 +19,7 @@ ghost use Rattle.cert_fields.specs.Found.{sequence_text, extensions_text, AreExt
 ghost use Rattle.cert_fields.specs.Found.{AreNamesOf, dns_only};
 ghost use Rattle.cert_fields.specs.Certificate.{Parts, parts_of};
 ghost use Rattle.cert_fields.specs.Encoding.{certificate};
-ghost use Rattle.cert_fields.specs.Grammar.{IsAlgorithm, IsPublicKey, IsName, IsValidity};
+ghost use Rattle.cert_fields.specs.Grammar.{IsAlgorithm, IsBits, IsPublicKey, IsName, IsValidity};
 ghost use Rattle.cert_fields.specs.Grammar.{IsSignatureValue, IsGeneralNames, AreExtensions};
 ghost use Rattle.cert_fields.specs.Grammar.{IsExtensionsField, IsCertificate};
 
@@ -31,6 +32,14 @@ pub fn law_fields_decode_as_encoded()
     ensures validities { IsForm (λ v. v.0) IsValidity Anything validity_at }
     ensures signatures { IsForm (λ proof. element 0x03 (0 ∷ proof)) IsSignatureValue Anything
         signature_at }
+{}
+
+/// The algorithm of a public key is its first part, the AlgorithmIdentifier before its BIT STRING.
+pub fn law_keys_begin_with_their_algorithms()
+    ensures first { (algorithm : Text) (bits : ℕ × Text) → IsAlgorithm algorithm → IsBits bits
+        → length (algorithm ++ element 0x03 (bit_string bits)) < 2 ^ 24
+        → key_algorithm (element 0x30 (algorithm ++ element 0x03 (bit_string bits))) ≡ algorithm }
+    ensures every { (bytes : Text) → IsPublicKey bytes → IsAlgorithm (key_algorithm bytes) }
 {}
 
 /// The extensions field is read exactly from its encoding where nothing with its tag follows, and

@@ -35,6 +35,7 @@ pub use checks::{
 };
 pub use extensions::{dns_names, names_of, read_extensions, unknown_critical};
 pub use identifiers::{MTC_PROOF, SUBJECT_ALT_NAME};
+pub use keys::{key_algorithm, read_algorithm};
 pub use names::read_name;
 pub use parts::CertParts;
 pub use times::read_validity;

@@ -9,5 +9,5 @@ pub returns-clause-within : goal.returns-clause-within
 returns-clause-within c =
     read_within itself IsAlgorithm Anything algorithm_at algorithm_form c.args.input.now
     c.args.place (λ i. (c.type_inv.input i).fits) c.requires
-    c.at-reader.result c.in_ok-algorithm.field-0.now c.algorithm.new.reader c.place.result
-    c.at-reader.ensures c.in_ok-algorithm.ensures c.place.ensures
+    c.at-reader.result c.in_ok-read_algorithm.field-0.now c.read_algorithm.new.reader c.place.result
+    c.at-reader.ensures c.in_ok-read_algorithm.ensures c.place.ensures
