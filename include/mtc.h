@@ -94,7 +94,8 @@ enum {
     MTC_FIELD_START = 5,
     MTC_FIELD_END = 6,
     MTC_FIELD_HASH = 7,
-    MTC_FIELD_TABLE = 8
+    MTC_FIELD_TABLE = 8,
+    MTC_FIELD_ALGORITHM_FROM = 9
 };
 
 /* What is judged of a certificate. */
@@ -134,9 +135,13 @@ uint32_t mtc_public_key(const uint8_t *cert, size_t cert_length, uint8_t *out, s
 uint32_t mtc_dns_name(const uint8_t *cert, size_t cert_length, uint64_t number, uint8_t *out,
                       size_t out_length, uint64_t *length);
 
-/* The hash of the certificate's entry in the log, 32 bytes: a leaf of the tree of RFC 9162. */
-uint32_t mtc_entry_hash(const uint8_t *cert, size_t cert_length, uint8_t *out, size_t out_length,
-                        uint64_t *length);
+/*
+ * The hash of the certificate's entry in the log, 32 bytes: a leaf of the tree of RFC 9162. The
+ * form of the entry is 2 where the store has an `algorithm_from` that isn't above the index, and
+ * else 1; MTC_BAD_FORM answers any other number.
+ */
+uint32_t mtc_entry_hash(const uint8_t *cert, size_t cert_length, uint32_t form, uint8_t *out,
+                        size_t out_length, uint64_t *length);
 
 #ifdef __cplusplus
 }

@@ -6,7 +6,7 @@ use Rattle.byte_formats.specs.Types.{Hash, HashFunction, Text}
 use Rattle.tree_core.specs.Path.{part_of}
 use Rattle.tree_core.specs.Tree.{tree_hash}
 use Rattle.entry_list.specs.Items.{ItemLists}
-use Rattle.log_entry.specs.EntryOf.{entry_of}
+use Rattle.policy_core.specs.Judgement.{entry_by}
 use Rattle.world_core.specs.Audit.{AuditCase, IsAudit, foreign_in, foreign_of, has_own}
 use Rattle.world_core.specs.Audit.{is_supported}
 use Rattle.world_core.specs.declared.answer.Audit.{Audit}
@@ -42,7 +42,7 @@ foreign_is h items (Some w) index s is = part_is h items w s is.count (is.part_h
 module _ (h : HashFunction) (x : AuditCase) where
   answers : (there : Option (Hash × Hash)) (supported own : Bool) (answer : Audit)
       → foreign_of h x ≡ there → is_supported x ≡ supported
-      → has_own h x.items x.accepted x.cert ≡ own
+      → has_own h x.store x.items x.accepted x.cert ≡ own
       → answer_from there supported own x.accepted.index ≡ Some answer → IsAudit h x answer
   answers (Some hashes) supported own (Foreign wanted found) f s o e =
       let one : hashes.0 ≡ wanted = cc in
@@ -64,7 +64,7 @@ module _ (h : HashFunction) (x : AuditCase) where
 
   pairs : (there : Option (Hash × Hash)) (supported own : Bool) (answer : Audit)
       → foreign_of h x ≡ there → is_supported x ≡ supported
-      → has_own h x.items x.accepted x.cert ≡ own
+      → has_own h x.store x.items x.accepted x.cert ≡ own
       → answer_from there supported own x.accepted.index ≡ None → IsAudit h x answer
       → IsTwoStrings answer
   pairs (Some hashes) supported own answer f s o e is = absurd cc
@@ -79,10 +79,11 @@ module _ (h : HashFunction) (x : AuditCase) where
 pub AuditsAreOfSummaries_always : (h : HashFunction) → AuditsAreOfSummaries h
 AuditsAreOfSummaries_always h x s is =
     let f = foreign_is h x.items (wanted_of_case h x) x.accepted.index s is in
-    let o : has_own h x.items x.accepted x.cert ≡ own_by h s x.cert =
-    ap (λ (entry : Text). bytes_eq entry (entry_of h x.cert)
+    let o : has_own h x.store x.items x.accepted x.cert ≡ own_by h x.store s x.cert =
+    ap (λ (entry : Text). bytes_eq entry (entry_by h x.store x.cert)
     && bytes_eq (slice_index_or x.items.keys x.accepted.index []) x.cert.spki) (sym is.entry)
-    ∙ ap (λ (spki : Text). bytes_eq s.entry (entry_of h x.cert) && bytes_eq spki x.cert.spki)
+    ∙ ap (λ (spki : Text). bytes_eq s.entry (entry_by h x.store x.cert)
+    && bytes_eq spki x.cert.spki)
     (sym is.spki) in
     record {
       foreign = f;

@@ -6,7 +6,8 @@ use Rattle.byte_formats.specs.Types.{Hash, HashFunction, Text}
 use Rattle.cert_fields.specs.Certificate.{Parts}
 use Rattle.tree_core.specs.Path.{part_of}
 use Rattle.tree_core.specs.Tree.{tree_hash}
-use Rattle.log_entry.specs.EntryOf.{entry_of}
+use Rattle.policy_core.specs.Judgement.{entry_by}
+use Rattle.policy_core.specs.declared.store.Store.{Store}
 use Rattle.entry_list.specs.Items.{ItemLists}
 use Rattle.world_core.specs.Audit.{AuditCase, IsAudit, foreign_of, has_own, is_supported}
 use Rattle.world_core.specs.Audit.{wanted_hash}
@@ -51,9 +52,10 @@ foreign_by s (Some w) =
     if nat_lt s.count w.end || not (bytes_eq s.part_hash w.hash) then Some (w.hash, s.part_hash)
     else None
 
--- The item at the index is the certificate's entry with its key.
-abbrev pub own_by : HashFunction → SummaryParts → Parts → Bool
-own_by h s c = bytes_eq s.entry (entry_of h c) && bytes_eq s.spki c.spki
+-- The item at the index is the certificate's entry, in the form that the store gives it, with its
+-- key.
+abbrev pub own_by : HashFunction → Store → SummaryParts → Parts → Bool
+own_by h store s c = bytes_eq s.entry (entry_by h store c) && bytes_eq s.spki c.spki
 
 -- The answer, if it isn't a pair: what is foreign, whether the acceptance is supported, and whether
 -- the list has the item.
@@ -70,7 +72,7 @@ wanted_of_case h x = wanted_hash h x.accepted x.kept x.accepted.by
 -- The answer of the case by a summary of its list.
 abbrev pub answer_by : HashFunction → AuditCase → SummaryParts → Option Audit
 answer_by h x s =
-    answer_from (foreign_by s (wanted_of_case h x)) (is_supported x) (own_by h s x.cert)
+    answer_from (foreign_by s (wanted_of_case h x)) (is_supported x) (own_by h x.store s x.cert)
     x.accepted.index
 
 -- The answer is two strings.
@@ -83,7 +85,7 @@ IsTwoStrings (Pair one other) = Unit {0}
 -- The answers of an audit, by a summary of its list.
 pub record FollowsFrom (h : HashFunction) (x : AuditCase) (s : SummaryParts) : Type 0 where
   pub foreign : foreign_of h x ≡ foreign_by s (wanted_of_case h x)
-  pub own : has_own h x.items x.accepted x.cert ≡ own_by h s x.cert
+  pub own : has_own h x.store x.items x.accepted x.cert ≡ own_by h x.store s x.cert
   pub answer : (answer : Audit) → answer_by h x s ≡ Some answer → IsAudit h x answer
   pub pair : (answer : Audit) → answer_by h x s ≡ None → IsAudit h x answer → IsTwoStrings answer
 

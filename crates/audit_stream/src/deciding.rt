@@ -44,12 +44,17 @@ fn is_supported(accepted: &Accepted, store: &Store, kept: Option<&Export>) -> bo
     }
 }
 
-// Whether the item is the certificate's entry with its key.
-fn is_own<H: TreeHash>(alloc: Global, cert: &Cert, summary: &Summary<'_>) -> Result<bool, Memory>
-    ensures { IfOk result (λ own. own ≡ own_by H.hash (summary_parts summary.now)
+// Whether the item is the certificate's entry, in the form that the store gives it, with its key.
+fn is_own<H: TreeHash>(
+    alloc: Global,
+    cert: &Cert,
+    store: &Store,
+    summary: &Summary<'_>,
+) -> Result<bool, Memory>
+    ensures { IfOk result (λ own. own ≡ own_by H.hash store.now (summary_parts summary.now)
         (parts cert.now)) }
 {
-    let entry = entry_of::<H>(alloc, cert)?;
+    let entry = entry_of::<H>(alloc, cert, store.form_at(cert.serial))?;
     Ok(summary.entry == entry.as_slice() && summary.spki == cert.spki)
 }
 
@@ -83,7 +88,7 @@ pub fn decided<H: TreeHash>(
     if !is_supported(accepted, store, kept) {
         return Ok(Some(Audit::Unrecorded));
     }
-    if is_own::<H>(alloc, cert, summary)? {
+    if is_own::<H>(alloc, cert, store, summary)? {
         return Ok(Some(Audit::Stands(accepted.index)));
     }
     Ok(None)

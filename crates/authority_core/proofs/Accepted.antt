@@ -18,7 +18,10 @@ use Rattle.cert_names.specs.LogNames.{name_with}
 use Rattle.mtc_proof.specs.Proofs.{ProofParts, IsProof, proof_text}
 use Rattle.log_entry.specs.EntryOf.{entry_of}
 use Rattle.log_entry.specs.Entries.{TbsParts}
+use Rattle.log_entry.specs.Forms.{form_of}
+use Rattle.log_entry.specs.declared.entry.Form.{Form}
 use Rattle.log_entry.specs.Reading.{entry_in}
+use Rattle.policy_core.specs.Judgement.{entry_by, form_by}
 use Rattle.policy_core.proofs.Judgements.{accepted_so}
 use Rattle.issuance_log.specs.Folds.{LogState}
 use Rattle.authority_core.specs.Acceptance.{StoresAccept}
@@ -60,8 +63,11 @@ accepts h s index start end signatures bytes valid from below within fits is own
     let issuer : is.fields.issuer ≡ store.name =
     ap (λ (t : TbsParts). t.issuer) (sym same) ∙ own.issuer
     ∙ (ap (λ (id : Text). name_with (text_of id)) (sym set.log) ∙ sym set.valid.name) in
-    let evaluates : evaluation h (leaf_hash h (entry_of h c)) index start end p.path ≡ Ok hash =
-    ap (λ (e : Text). evaluation h (leaf_hash h e) index start end p.path) is.made
+    let form : form_by store index ≡ form_of is.fields = set.form ∙ ap form_of same in
+    let evaluates : evaluation h (leaf_hash h (entry_by h store c)) index start end p.path
+    ≡ Ok hash =
+    ap (λ (f : Form). evaluation h (leaf_hash h (entry_of h f c)) index start end p.path) form
+    ∙ ap (λ (e : Text). evaluation h (leaf_hash h e) index start end p.path) is.made
     ∙ evaluated h s index start end signatures valid from below within in
     accepted_so h bytes store now c p hash set.valid is.fits is.written
     (record {

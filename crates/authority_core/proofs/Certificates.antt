@@ -25,7 +25,7 @@ use Rattle.log_entry.specs.declared.entry.Entry.TheVariants.{Tbs}
 use Rattle.log_entry.specs.declared.entry.TbsEntry.{TbsEntry}
 use Rattle.log_entry.specs.declared.fault.EntryError.{EntryError}
 use Rattle.log_entry.proofs.EntryForm.{entries_again, entries_only}
-use Rattle.log_entry.proofs.Matches.{made_encoded, matches_only}
+use Rattle.log_entry.proofs.Matches.{IsOfKey, made_encoded, matches_only}
 use Rattle.issuance_log.specs.Folds.{LogState}
 use Rattle.issuance_log.specs.Refusals.{item_at}
 use Rattle.issuance_log.specs.Sound.{IsItem, IsSound}
@@ -66,7 +66,7 @@ pub no_null : (h : HashFunction) (entry key : Text) → matches h entry key ≡ 
 unfolding matches
 no_null h entry key is none =
     let wrong = subst (λ (r : Result (Option TbsParts) EntryError).
-    (holds (h key) r && is_public_key key) ≡ true) none is in
+    (holds h key r && is_public_key key) ≡ true) none is in
     absurd cc
 
 pub no_fault : (h : HashFunction) (entry key : Text) (why : EntryError)
@@ -74,7 +74,7 @@ pub no_fault : (h : HashFunction) (entry key : Text) (why : EntryError)
 unfolding matches
 no_fault h entry key why is none =
     let wrong = subst (λ (r : Result (Option TbsParts) EntryError).
-    (holds (h key) r && is_public_key key) ≡ true) none is in
+    (holds h key r && is_public_key key) ≡ true) none is in
     absurd cc
 
 -- ---- sizes
@@ -144,14 +144,20 @@ fits_so {E} (Err e) p is = tt
 
 made_of : (h : HashFunction) (entry key : Text) (t : TbsParts) → IsBytes entry → IsBytes key
     → matches h entry key ≡ true → entry_in entry ≡ Ok (Some t)
-    → IsTbs t × (IsPublicKey key × (h key ≡ t.key_hash))
+    → IsTbs t × (IsPublicKey key × ((h key ≡ t.key_hash) × IsOfKey t.algorithm key))
 made_of h entry key t of_entry of_key belongs read =
     let m = matches_only h entry key of_entry of_key belongs in
     let again : entry_in entry ≡ Ok (Some m.parts) = ap entry_in m.encoded
     ∙ entries_again (Some m.parts) m.fits in
     let same : m.parts ≡ t = cc in (
       (entries_only entry (Some t) of_entry read).1,
-      (m.key, sym m.hash ∙ ap (λ (x : TbsParts). x.key_hash) same),
+      (
+        m.key,
+        (
+          sym m.hash ∙ ap (λ (x : TbsParts). x.key_hash) same,
+          subst (λ (x : TbsParts). IsOfKey x.algorithm key) same m.algorithm,
+        ),
+      ),
     )
 
 pub certified : (h : HashFunction) (index : ℕ) (entry key proof bytes : Text) (t : TbsParts)
@@ -185,7 +191,8 @@ certified h index entry key proof bytes t p of_entry of_key belongs read some be
         issuer = refl;
         validity = refl;
         subject = refl;
-        key = facts.1.1;
+        algorithm = facts.1.1.1;
+        key = facts.1.1.0;
         extensions = refl;
       }) ∙ sym (entries_only entry (Some t) of_entry read).0;
       written = is ∙ ap certificate same;

@@ -29,8 +29,10 @@ use Rattle.cert_fields.specs.Found.{name_text, FitsName, dns_only}
 use Rattle.cert_fields.proofs.Found.{extensions_found, names_found}
 use Rattle.log_entry.specs.Entries.{IsTbs}
 use Rattle.log_entry.specs.Reading.{entry_in}
-use Rattle.log_entry.specs.Matching.{matches}
+use Rattle.log_entry.specs.Matching.{has_form, matches}
+use Rattle.log_entry.specs.declared.entry.Form.{Form}
 use Rattle.log_entry.proofs.EntryForm.{entries_again}
+use Rattle.log_entry.proofs.Matches.{algorithm_is, algorithm_own, form_again, form_alone}
 use Rattle.log_entry.proofs.Matches.{written_matches}
 use Rattle.issuance_log.specs.Folds.{LogState, with_item}
 use Rattle.authority_core.specs.Acceptance.{IsOwnEntry}
@@ -206,24 +208,33 @@ field_is r f =
 
 -- ---- the entry
 
-module _ (h : List ℕ → List ℕ) (id : List ℕ) (r : RequestParts) (sized : (bytes : List ℕ)
-    → length (h bytes) ≡ 32) (anchor : IsAnchorId id) (f : CanBeIssued r) where
-  pub fields_are : IsTbs (tbs_for h id r)
+module _ (h : List ℕ → List ℕ) (form : Form) (id : List ℕ) (r : RequestParts)
+    (sized : (bytes : List ℕ) → length (h bytes) ≡ 32) (anchor : IsAnchorId id)
+    (f : CanBeIssued r) where
+  pub fields_are : IsTbs (tbs_for h form id r)
   fields_are = record {
     issuer = issuer_is id anchor;
     validity = record { period = f.validity; encoded = refl };
     subject = subject_is r.common_name f.common_name;
+    algorithm = algorithm_is form r.key f.key;
     key_hash = sized r.key;
     extensions = inr (field_is r f);
   }
 
-  pub entry_read : entry_in (entry_for h id r) ≡ Ok (Some (tbs_for h id r))
+  pub entry_read : entry_in (entry_for h form id r) ≡ Ok (Some (tbs_for h form id r))
   unfolding entry_for
-  entry_read = entries_again (Some (tbs_for h id r)) fields_are
+  entry_read = entries_again (Some (tbs_for h form id r)) fields_are
 
-  pub key_belongs : matches h (entry_for h id r) r.key ≡ true
+  pub key_belongs : matches h (entry_for h form id r) r.key ≡ true
   unfolding entry_for
-  key_belongs = written_matches h (tbs_for h id r) r.key fields_are f.key refl
+  key_belongs =
+      written_matches h (tbs_for h form id r) r.key fields_are f.key (algorithm_own form r.key) refl
+
+  -- It has the form that was asked for.
+  pub form_asked : has_form form (entry_for h form id r) ≡ true
+  form_asked =
+      (form_alone form (entry_for h form id r) (tbs_for h form id r) entry_read).1
+      (form_again form r.key)
 
 -- ---- what is found in the extensions
 
@@ -283,12 +294,12 @@ all_known r f = ap (list_any is_unknown_critical) (alone_found r f) ∙ alone_kn
 
 -- ---- an entry of the log
 
-pub own_entry : (h : List ℕ → List ℕ) (id : List ℕ) (r : RequestParts)
+pub own_entry : (h : List ℕ → List ℕ) (form : Form) (id : List ℕ) (r : RequestParts)
     → ((bytes : List ℕ) → length (h bytes) ≡ 32) → IsAnchorId id → CanBeIssued r
-    → IsOwnEntry id (entry_for h id r)
-own_entry h id r sized anchor f = record {
-  fields = tbs_for h id r;
-  read = entry_read h id r sized anchor f;
+    → IsOwnEntry id (entry_for h form id r)
+own_entry h form id r sized anchor f = record {
+  fields = tbs_for h form id r;
+  read = entry_read h form id r sized anchor f;
   issuer = refl;
   known = all_known r f;
 }

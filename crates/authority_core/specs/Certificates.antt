@@ -18,6 +18,7 @@ use Rattle.cert_fields.specs.Encoding.{certificate}
 use Rattle.mtc_proof.specs.Proofs.{ProofParts, proof_text}
 use Rattle.log_entry.specs.EntryOf.{entry_of}
 use Rattle.log_entry.specs.Entries.{TbsParts}
+use Rattle.log_entry.specs.Forms.{form_of}
 use Rattle.log_entry.specs.Reading.{entry_in}
 use Rattle.issuance_log.specs.Folds.{LogState, LogView, view_in}
 use Rattle.authority_core.specs.declared.writing.error.WriteError.{WriteError}
@@ -112,13 +113,14 @@ parts_with index t key proof = record {
   proof = proof;
 }
 
--- The bytes are a certificate: that of this entry, with its key, index and proof.
+-- The bytes are a certificate: that of this entry, in the form that it has, with its key, index and
+-- proof.
 pub record IsCertificateOf (h : HashFunction) (index : ℕ) (entry key proof bytes : Text)
     : Type 0 where
   pub fields : TbsParts
   pub read : entry_in entry ≡ Ok (Some fields)
   pub fits : IsCertificate (parts_with index fields key proof)
-  pub made : entry_of h (parts_with index fields key proof) ≡ entry
+  pub made : entry_of h (form_of fields) (parts_with index fields key proof) ≡ entry
   pub written : bytes ≡ certificate (parts_with index fields key proof)
 
 -- The bytes are the certificate of the log's entry at this index, in this subtree.

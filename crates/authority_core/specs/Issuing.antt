@@ -12,6 +12,8 @@ use Rattle.cert_fields.specs.AltNames.{dns_name}
 use Rattle.cert_fields.specs.Extensions.{ExtensionFields}
 use Rattle.cert_fields.specs.Found.{extensions_text}
 use Rattle.log_entry.specs.Entries.{TbsParts, tbs_text}
+use Rattle.log_entry.specs.Forms.{algorithm_for}
+use Rattle.log_entry.specs.declared.entry.Form.{Form}
 use Rattle.authority_core.specs.Requests.{RequestParts}
 
 -- ---- the subject (RFC 5280, sections 4.1.2.4 and 4.1.2.6)
@@ -45,17 +47,19 @@ extensions_of r = extensions_text (alt_name_of r ∷ [])
 
 -- ---- the entry
 
--- The fields of the entry of a request in the log with this id, under the hash function h.
-abbrev pub tbs_for : HashFunction → Text → RequestParts → TbsParts
-tbs_for h id r = record {
+-- The fields of the entry of a request, in this form, in the log with this id, under the hash
+-- function h.
+abbrev pub tbs_for : HashFunction → Form → Text → RequestParts → TbsParts
+tbs_for h form id r = record {
   issuer = name_with (text_of id);
   validity = r.validity;
   validity_der = validity_element r.validity;
   subject = subject_of r.common_name;
+  algorithm = algorithm_for form r.key;
   key_hash = h r.key;
   extensions = extensions_of r;
 }
 
 -- The entry: of type 1, with these fields.
-unfoldable pub entry_for : HashFunction → Text → RequestParts → Text
-entry_for h id r = tbs_text (tbs_for h id r)
+unfoldable pub entry_for : HashFunction → Form → Text → RequestParts → Text
+entry_for h form id r = tbs_text (tbs_for h form id r)

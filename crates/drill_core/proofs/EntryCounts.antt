@@ -48,7 +48,8 @@ issued_is h (suc count) before size marks same =
 
 -- one entry more
 pub issued_next : (h : HashFunction) (count : ℕ) (s t u : LogState) → t ≡ issued_to h count s
-    → u ≡ issued_log h (view_in t) (request_for (length t.entries)) t → u ≡ issued_to h (count + 1) s
+    → u ≡ issued_log h (view_in t) (request_for (length t.entries)) t
+    → u ≡ issued_to h (count + 1) s
 unfolding issued_to
 issued_next h count s t u before now =
     rw (add-one count) (now ∙ ap (λ (x : LogState). issued_log h (view_in x)

@@ -13,6 +13,7 @@ use Rattle.hss_core.specs.Hss.{Verifies, one_level_public}
 use Rattle.mtc_proof.specs.Inputs.{signed_text}
 use Rattle.mtc_proof.specs.Proofs.{IsMtcSignature, ProofParts, SigParts, signature_text}
 use Rattle.cosigner_core.specs.Folds.{CosignerState}
+use Rattle.log_entry.specs.declared.entry.Form.TheVariants.{One}
 use Rattle.policy_core.specs.Counting.{counted, counts, has_signed, is_signature_of}
 use Rattle.policy_core.specs.Stores.{IsValid}
 use Rattle.policy_core.specs.Acceptance.{accepted_by}
@@ -133,10 +134,11 @@ all_count number p hash a b c short_a short_b short_c encoded first second third
 
 set_up : (number index : ℕ) (p : ProofParts) (hash : Hash)
     → counted (drill_store number) p hash ≡ 7
-    → IsSetUpFor drill_log_id index p hash (drill_store number)
+    → IsSetUpFor drill_log_id index One p hash (drill_store number)
 set_up number index p hash all = record {
   valid = is_valid number;
   log = refl;
+  form = refl;
   not_revoked = tt;
   no_other = tt;
   enough = inr (record { some = omega arith; met = rw all (omega arith, tt) });

@@ -14,6 +14,7 @@ use Rattle.tree_core.specs.declared.spans.Cover.{Cover}
 use Rattle.tree_core.specs.declared.spans.Span.{Span}
 use Rattle.landmarks.specs.Landmarks.{LandmarkList, above_count, active_of, least_of}
 use Rattle.landmarks.specs.Landmarks.{landmarks_of, or_second, part_with, subtrees_of}
+use Rattle.log_entry.specs.Forms.{form_of}
 use Rattle.policy_core.specs.Acceptance.{IsAmong, accepted_by}
 use Rattle.policy_core.specs.Judgement.{accepted as accepted_as, is_of, judgement}
 use Rattle.policy_core.specs.Stores.{IsOfSubtree, IsValid}
@@ -112,7 +113,7 @@ Accepts h s index span cert id =
     let p = proof_for h s index span.start span.end [] in
     let hash = tree_hash h (part_of s.entries span.start span.end) in
     (own : IsOwnEntry id (slice_index_or s.entries index [])) (store : Store) (now : ℤ)
-    → IsSetUpFor id index p hash store
+    → IsSetUpFor id index (form_of own.fields) p hash store
     → own.fields.validity.not_before ≤ℤ now → now ≤ℤ own.fields.validity.not_after
     → judgement h cert store now ≡ Ok (accepted_as (accepted_by store p hash) index p hash)
 
@@ -149,6 +150,7 @@ accepted_lightly h s index cert store trusts id due accepts =
               (record {
                 valid = is_valid_light h s.entries _ list trusts.active.are;
                 log = refl;
+                form = sym due.form;
                 not_revoked = tt;
                 no_other = no_other h s.entries span.start span.end list trusts.active.are.own;
                 enough = inl (trusts_part h s.entries (subtrees_of l number) index list has);

@@ -15,6 +15,7 @@ use Rattle.issuance_log.specs.Folds.{LogState}
 use Rattle.cosigner_core.specs.Words.{cosigner_disk}
 use Rattle.policy_core.specs.Judgement.{judgement}
 use Rattle.policy_core.specs.declared.store.Store.{Store}
+use Rattle.authority_core.specs.Certificates.{IsWritten}
 use Rattle.drill_parties.specs.CosignerParties.{IsCosignerDisk}
 use Rattle.drill_parties.specs.CosignerViews.{cosigner_shown, records_shown}
 use Rattle.drill_parties.specs.Cosigners.{IsSignatureBy, Paired}
@@ -36,6 +37,7 @@ use Rattle.drill_core.specs.Played.{log_root}
 use Rattle.drill_core.specs.Stores.{IsAcceptedByAll, IsDrillEntry, StoresAcceptNow, drill_store}
 use Rattle.drill_core.specs.Stores.{one_accepted}
 use Rattle.drill_core.specs.declared.parties.DrillParties.{DrillParties}
+use Rattle.drill_core.proofs.Accepting.{form_one}
 use Rattle.drill_core.proofs.EachStanding.{all_stand, arcs_count, none_larger, signs_more}
 use Rattle.drill_core.proofs.EntryCounts.{entries_length, issued_is}
 use Rattle.drill_core.proofs.Judged.{SignsUnder, is_accepted, signs_under}
@@ -67,11 +69,21 @@ one_written h number (c ∷ cs) [] cert w are is accepted = absurd are
 one_written h number (c ∷ cs) (v ∷ vs) cert w are is accepted =
     (are.0, one_written h number cs vs cert w are.1 is accepted)
 
-written_of : (h : HashFunction) (size index : ℕ) (marks : List ℕ) (log : LogState) (cert : Text)
-    → log ≡ log_with h size marks → IsWrittenOf h log index cert
-    → IsWrittenOf h (log_with h size []) index cert
-written_of h size index marks log cert same is =
-    subst (λ (l : LogState). IsWrittenOf h (record l { marks = [] }) index cert) same is
+written_of : (h : HashFunction) (size index : ℕ) (marks : List ℕ) (log : LogState)
+    (signatures cert : Text) → ((b : Text) → length (h b) ≡ 32) → log ≡ log_with h size marks
+    → IsWritten h log index 0 (length log.entries) signatures cert → 1 ≤ index → index < size
+    → size ≤ 64 → IsWrittenOf h (log_with h size []) index cert
+written_of h size index marks log signatures cert sized same is some below few =
+    let log' : LogState = log_with h size [] in
+    let written : IsWritten h log' index 0 (length (entries_to h size)) signatures cert =
+    subst (λ (l : LogState). IsWritten h (record l { marks = [] }) index 0 (length l.entries)
+    signatures cert) same is in
+    record {
+      signatures = signatures;
+      written = written;
+      form = form_one h log' index written.fields sized (is_entry h size index [] some below few)
+          written.read;
+    }
 
 -- it was counted
 one_counted : (h : HashFunction) (number index size : ℕ) (store : Store) (cert : Text)
@@ -120,6 +132,7 @@ newest_due h size marks log same some few =
 -- A round was played after so many others. Its index lies in the log.
 pub record IsNext {H : Type 0} {hashes : Hashes H} (h : HashFunction) (number count : ℕ) (d : Drill)
     (r : Round) (old new : DrillParties H hashes) : Type 0 where
+  pub sized : (b : Text) → length (h b) ≡ 32
   pub was : IsAfter h number count d old
   pub played : HasPlayed h r old new
   pub disks : AllByRecursion (λ party. IsCosignerDisk h (cosigner_shown party)
@@ -207,8 +220,9 @@ module _ {H : Type 0} {hashes : Hashes H} (h : HashFunction) (number count next 
       log_is is.played.accepts) is.first is.below is.within
 
   written_next : IsWrittenOf h (log_with h size []) r.index is.played.cert
-  written_next = written_of h size r.index (marks_after d.marks r.landmark size) log is.played.cert
-      log_is (is.played.signatures, is.played.written)
+  written_next = written_of h size r.index (marks_after d.marks r.landmark size) log
+      is.played.signatures is.played.cert is.sized log_is is.played.written is.first is.below
+      is.within
 
   stand_next : AllStand h old.store is.played.cert log new.cosigners.parties.items
   stand_next =

@@ -2,7 +2,7 @@
 use Rattle.std.proofs.Common.{◌≡◌, ◌∙◌, ◌+◌, ◌*◌, ◌<◌, ◌≤◌, ℕ, suc, length, refl, ap, subst}
 use Rattle.std.proofs.Common.{arith, add-one}
 use Rattle.std.specs.List.{AllByRecursion}
-use Rattle.byte_formats.specs.Types.{HashFunction}
+use Rattle.byte_formats.specs.Types.{HashFunction, Text}
 use Rattle.tree_core.specs.declared.hashing.TreeHash.{Ghosts as Hashes}
 use Rattle.issuance_log.specs.Folds.{LogState}
 use Rattle.cosigner_core.specs.Words.{cosigner_disk}
@@ -21,6 +21,7 @@ use Rattle.drill_core.proofs.Rounding.{IsNext, after_next}
 -- the next draw, and it was played.
 pub record IsRound {H : Type 0} {hashes : Hashes H} (h : HashFunction) (number count x y : ℕ)
     (r : Round) (old new : DrillParties H hashes) : Type 0 where
+  pub sized : (b : Text) → length (h b) ≡ 32
   pub was : IsStanding h number count x old
   pub drawn : (r, y) ≡ round (length (log_shown old.log).entries) x
   pub played : HasPlayed h r old new
@@ -63,6 +64,7 @@ module _ {H : Type 0} {hashes : Hashes H} (h : HashFunction) (number count x y :
       let index = is.index.1 in
       let size = size_is in
       after_next h number count y before r old new (record {
+        sized = is.sized;
         was = is.was.after;
         played = is.played;
         disks = is.disks;

@@ -33,7 +33,8 @@ use Rattle.lms_core.specs.Trees.{private_key}
 use Rattle.lms_core.specs.declared.private_key.PrivateKey.{PrivateKey}
 use Rattle.hss_core.specs.Hss.{one_level_public}
 use Rattle.journal_core.specs.Format.{Represents}
-use Rattle.policy_core.specs.Judgement.{admitted, decided, judged, judgement}
+use Rattle.log_entry.specs.declared.entry.Form.{Form}
+use Rattle.policy_core.specs.Judgement.{admitted, decided, entry_by, judged, judgement}
 use Rattle.policy_core.specs.declared.answer.Accepted.{Accepted}
 use Rattle.policy_core.specs.declared.answer.By.TheVariants.{Cosigners}
 use Rattle.policy_core.specs.declared.refusal.Refusal.{Refusal}
@@ -174,8 +175,8 @@ proof_of h bytes store unix_time a c accepted read =
     let here : judged h store unix_time c ≡ Ok a =
     subst (λ (x : Parts). judged h store unix_time x ≡ Ok a) same s.2 in
     let with_proof : ProofParts → Result Accepted Refusal =
-    λ q. lifted ProofShape (evaluation h (leaf_hash h (entry_of h c)) c.serial q.start q.end
-    q.path) >>= λ (hash : Hash). decided store c.serial q hash in
+    λ q. lifted ProofShape (evaluation h (leaf_hash h (entry_by h store c)) c.serial q.start
+    q.end q.path) >>= λ (hash : Hash). decided store c.serial q hash in
     let t = bind_ok (admitted store unix_time c) (λ (done : Unit {0}).
     lifted ProofGrammar (proof_in c.proof) >>= with_proof) a here in
     let u = bind_ok (lifted ProofGrammar (proof_in c.proof)) with_proof a t.2 in
@@ -228,22 +229,23 @@ module _ (h : HashFunction) (number last size larger index : ℕ) (marks : List 
       → HasSign 0 size (tree_hash h (entries_to h size)) list
       → StandsWith h (drill_store number) cert (log_with h larger marks) s list
   audit_stands within written accepted counts id log_id key held are stands made sign =
-      let w = written.1 in
+      let w = written.written in
       let c : Parts = parts_with index w.fields (slice_index_or (keys_to size) index [])
-      (proof_text (proof_for h (log_with h size []) index 0 (length (entries_to h size)) written.0))
-      in
+      (proof_text (proof_for h (log_with h size []) index 0 (length (entries_to h size))
+      written.signatures)) in
       let a : Accepted = accepted_of h index size in
       let store : Store = drill_store number in
       let read : parts_of cert ≡ Ok c = ap parts_of w.written ∙ parts_again c w.fits in
       let p = proof_of h cert store (pos 1767225600) a c accepted read in
       let judged_so : WasJudged h store c p.0 a =
       record { certificate = w.fits; proof = p.1; unix_time = pos 1767225600; accepted = p.2 } in
-      let inside = eval_inside h (leaf_hash h (entry_of h c)) index 0 size p.0.path a.hash
+      let inside = eval_inside h (leaf_hash h (entry_by h store c)) index 0 size p.0.path a.hash
       (judged_path h store c p.0 a judged_so) in
       let more : larger ≡ (larger - size) + size = omega (arith, within) in
-      let entry : slice_index_or (entries_to h larger) index [] ≡ entry_of h c =
+      let entry : slice_index_or (entries_to h larger) index [] ≡ entry_by h store c =
       ap (λ (n : ℕ). slice_index_or (entries_to h n) index []) more
-      ∙ entries_prefix h (larger - size) size index inside.1 ∙ sym w.made in
+      ∙ entries_prefix h (larger - size) size index inside.1 ∙ sym w.made
+      ∙ ap (λ (form : Form). entry_of h form c) written.form in
       let own_key : slice_index_or (keys_to larger) index [] ≡ c.spki =
       ap (λ (n : ℕ). slice_index_or (keys_to n) index []) more
       ∙ keys_prefix (larger - size) size index inside.1 in

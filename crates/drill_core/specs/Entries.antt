@@ -2,6 +2,7 @@
 use Rattle.std.specs.Prelude.{ℕ, zero, suc, pos, List, [], ◌∷◌, ◌++◌, codes, decimal, None}
 use Rattle.std.specs.Int.{w64, to_be_bytes}
 use Rattle.byte_formats.specs.Types.{Text, HashFunction}
+use Rattle.log_entry.specs.declared.entry.Form.TheVariants.{One}
 use Rattle.authority_core.specs.Issuing.{entry_for}
 use Rattle.authority_core.specs.Requests.{RequestParts}
 use Rattle.issuance_log.specs.Folds.{LogState, null_entry}
@@ -36,7 +37,7 @@ request_for index = record {
 -- the entry at an index; the first is the null entry
 abbrev pub drill_entry : HashFunction → ℕ → Text
 drill_entry h zero = null_entry
-drill_entry h (suc before) = entry_for h drill_log_id (request_for (suc before))
+drill_entry h (suc before) = entry_for h One drill_log_id (request_for (suc before))
 
 -- the key to the entry at an index; the null entry has none
 abbrev pub drill_key : ℕ → Text

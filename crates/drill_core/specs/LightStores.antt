@@ -20,6 +20,8 @@ use Rattle.policy_core.specs.declared.answer.Accepted.{Accepted}
 use Rattle.policy_core.specs.declared.lists.Trusted.{Trusted}
 use Rattle.policy_core.specs.declared.store.Store.{Store}
 use Rattle.issuance_log.specs.Folds.{LogState}
+use Rattle.log_entry.specs.Forms.{form_of}
+use Rattle.log_entry.specs.declared.entry.Form.TheVariants.{One}
 use Rattle.authority_core.specs.Acceptance.{IsOwnEntry}
 use Rattle.authority_core.specs.Certificates.{IsLightlyWritten}
 use Rattle.drill_parties.specs.Ids.{drill_log_id}
@@ -72,6 +74,7 @@ abbrev pub light_store : List Trusted → Store
 light_store list = record {
   log = drill_log_id;
   name = name_with (text_of drill_log_id);
+  algorithm_from = None;
   cosigners = [];
   rules = [];
   subtrees = list;
@@ -86,9 +89,10 @@ pub record TrustsActive (h : HashFunction) (s : LogState) (store : Store) : Type
       let l = landmarks_of s.marks s.settings.max_active in
       AreOfLandmarks h s.entries l (active_of l).start (active_of l).end list
 
--- The entry reads as one of the drill's log, and 2026-01-01 lies in its validity.
+-- The entry reads as one of the drill's log, in form one, and 2026-01-01 lies in its validity.
 pub record IsDueEntry (entry : Text) : Type 0 where
   pub own : IsOwnEntry drill_log_id entry
+  pub form : form_of own.fields ≡ One
   pub begun : own.fields.validity.not_before ≤ℤ pos 1767225600
   pub lasting : pos 1767225600 ≤ℤ own.fields.validity.not_after
 

@@ -13,6 +13,8 @@ use Rattle.tree_proofs.specs.declared.checkpoint.Checkpoint.{Checkpoint}
 use Rattle.issuance_log.specs.Folds.{LogState, view_in, with_mark}
 use Rattle.cosigner_core.specs.Folds.{CosignerState}
 use Rattle.policy_core.specs.Judgement.{judgement}
+use Rattle.log_entry.specs.Forms.{form_of}
+use Rattle.log_entry.specs.declared.entry.Form.TheVariants.{One}
 use Rattle.authority_core.specs.Certificates.{IsWritten}
 use Rattle.authority_core.specs.Issues.{issued_log}
 use Rattle.drill_parties.specs.CosignerParties.{HasSign, secret_of}
@@ -48,10 +50,13 @@ with_landmark (Some turn) s = with_mark s
 abbrev pub log_root : HashFunction → LogState → Hash
 log_root h s = tree_hash h s.entries
 
--- The bytes are a certificate of the log's entry at an index, in the subtree of all its entries.
-abbrev pub IsWrittenOf : HashFunction → LogState → ℕ → Text → Type 0
-IsWrittenOf h s index bytes =
-    (signatures : Text) × IsWritten h s index 0 (length s.entries) signatures bytes
+-- The bytes are a certificate of the log's entry at an index, which has form one, in the subtree of
+-- all its entries.
+pub record IsWrittenOf (h : HashFunction) (s : LogState) (index : ℕ) (bytes : Text)
+    : Type 0 where
+  pub signatures : Text
+  pub written : IsWritten h s index 0 (length s.entries) signatures bytes
+  pub form : form_of written.fields ≡ One
 
 -- ---- a round
 

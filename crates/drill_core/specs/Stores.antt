@@ -1,6 +1,6 @@
 -- What a relying party of a drill holds, and the certificates that it accepts.
 use Rattle.std.specs.Prelude.{◌≡◌, ℕ, pos, List, [], ◌∷◌, length, slice_index_or, Ok, Err, Result}
-use Rattle.std.specs.Prelude.{◌==◌, if◌then◌else◌}
+use Rattle.std.specs.Prelude.{◌==◌, if◌then◌else◌, None}
 use Rattle.byte_formats.specs.Types.{HashFunction, Text}
 use Rattle.tls_wire.specs.Anchors.{text_of}
 use Rattle.tls_wire.specs.Arcs.{IsAnchorId}
@@ -19,6 +19,7 @@ use Rattle.policy_core.specs.declared.answer.By.TheVariants.{Cosigners, Landmark
 use Rattle.policy_core.specs.declared.cosigners.Known.{Known}
 use Rattle.policy_core.specs.declared.refusal.Refusal.{Refusal}
 use Rattle.policy_core.specs.declared.store.Store.{Store}
+use Rattle.log_entry.specs.declared.entry.Form.TheVariants.{One}
 use Rattle.authority_core.specs.Acceptance.{IsSetUpFor}
 use Rattle.authority_core.specs.Certificates.{proof_for}
 use Rattle.authority_core.specs.Issuing.{entry_for}
@@ -42,6 +43,7 @@ abbrev pub store_with : List Known → Store
 store_with cosigners = record {
   log = drill_log_id;
   name = name_with (text_of drill_log_id);
+  algorithm_from = None;
   cosigners = cosigners;
   rules = record { count = 2; cosigners = 0 ∷ 1 ∷ 2 ∷ [] } ∷ [];
   subtrees = [];
@@ -83,12 +85,12 @@ abbrev pub one_accepted : Result Accepted Refusal → ℕ
 one_accepted (Ok a) = one_by_three a.by
 one_accepted (Err why) = 0
 
--- The log's entry at an index is that of a drill, and can be issued.
+-- The log's entry at an index is that of a drill, in form one, and can be issued.
 pub record IsDrillEntry (h : HashFunction) (s : LogState) (index : ℕ) : Type 0 where
   pub id : IsAnchorId s.settings.id
   pub can : CanBeIssued (request_for index)
   pub entry : slice_index_or s.entries index []
-      ≡ entry_for h s.settings.id (request_for index)
+      ≡ entry_for h One s.settings.id (request_for index)
 
 -- Each store that is set up for the entry of a drill, in the subtree of all entries of the log,
 -- accepts the bytes at 2026-01-01.
@@ -96,6 +98,6 @@ abbrev pub StoresAcceptNow : HashFunction → LogState → ℕ → Text → Text
 StoresAcceptNow h s index signatures bytes =
     let p = proof_for h s index 0 (length s.entries) signatures in
     IsDrillEntry h s index → (store : Store)
-    → IsSetUpFor s.settings.id index p (tree_hash h s.entries) store
+    → IsSetUpFor s.settings.id index One p (tree_hash h s.entries) store
     → judgement h bytes store (pos 1767225600)
     ≡ Ok (accepted (accepted_by store p (tree_hash h s.entries)) index p (tree_hash h s.entries))

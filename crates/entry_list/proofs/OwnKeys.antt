@@ -6,7 +6,7 @@ use Rattle.std.specs.List.{concat, range_with_len}
 use Rattle.std.proofs.lemmas.List.{append-nil}
 use Rattle.std.proofs.lemmas.List.Folds.{concat-append}
 use Rattle.std.proofs.lemmas.List.FromFn.{map-range_with_len_more}
-use Rattle.byte_formats.specs.Types.{Hash, HashFunction, Text}
+use Rattle.byte_formats.specs.Types.{HashFunction, Text}
 use Rattle.cert_fields.specs.Keys.{is_public_key}
 use Rattle.log_entry.specs.Entries.{TbsParts}
 use Rattle.log_entry.specs.Matching.{holds, matches}
@@ -32,17 +32,17 @@ items_more items count =
     let here : 0 + count ≡ count = omega arith in
     part_more items 0 count ∙ ap (λ n. file_text items count ++ listed_text items n) here
 
-has_hash : (hash : Hash) (key : Text) (read : Result (Option TbsParts) EntryError)
-    → (holds hash read && is_public_key key) ≡ true → has_key read ≡ true
-has_hash hash key (Ok (Some p)) is = refl
-has_hash hash key (Ok None) is = absurd cc
-has_hash hash key (Err e) is = absurd cc
+has_hash : (h : HashFunction) (key : Text) (read : Result (Option TbsParts) EntryError)
+    → (holds h key read && is_public_key key) ≡ true → has_key read ≡ true
+has_hash h key (Ok (Some p)) is = refl
+has_hash h key (Ok None) is = absurd cc
+has_hash h key (Err e) is = absurd cc
 
 -- A key that matches an entry is its key.
 pub own_key : (h : HashFunction) (entry key : Text) → matches h entry key ≡ true
     → is_key_of h entry key ≡ true
 unfolding is_key_of matches
-own_key h entry key is = rw (has_hash (h key) key (entry_in entry) is) is
+own_key h entry key is = rw (has_hash h key (entry_in entry) is) is
 
 -- The null entry has no key.
 pub no_key : (h : HashFunction) → is_key_of h (0 ∷ 0 ∷ []) [] ≡ true

@@ -1,29 +1,34 @@
 -- A whole entry is encoded as the bytes from which it was read, and each encoding is read again.
 use Rattle.std.proofs.Common.{◌≡◌, ℕ, ◌+◌, ◌*◌, ◌<◌, [], ◌∷◌, length, Option, Some}
-use Rattle.std.proofs.Common.{None, Result, Ok, Err, IfOk, refl, sym, ap, subst, ◌∙◌}
+use Rattle.std.proofs.Common.{◌++◌, None, Result, Ok, Err, IfOk, IfSome, true, refl, sym, ap}
+use Rattle.std.proofs.Common.{subst, ◌∙◌}
 use Rattle.std.proofs.Common.{arith, inl, inr, lit<, eqb-true, eq-eqb}
 use Rattle.std.specs.Prelude.{◌==◌, if◌then◌else◌}
 use Rattle.std.proofs.lemmas.List.{nil_from_length}
 use Rattle.byte_formats.specs.Types.{Text}
-use Rattle.byte_formats.specs.Offsets.{At, IsBytes, at}
-use Rattle.byte_formats.specs.Readings.{◌>>=◌, lifted, mapped_at, Gives}
-use Rattle.byte_formats.specs.Forms.{IsForm, Anything, Nothing, itself, both, FitsBoth}
+use Rattle.byte_formats.specs.Offsets.{At, IsBytes, at, begins_with}
+use Rattle.byte_formats.specs.Readings.{◌>>=◌, both_at, lifted, mapped_at, Gives}
+use Rattle.byte_formats.specs.Forms.{IsForm, Anything, Nothing, OtherThan, itself, both, FitsBoth}
+use Rattle.byte_formats.specs.Forms.{optional}
 use Rattle.byte_formats.proofs.Steps.{bind_ok, chosen, pass_ok, ok_is, lifted_ok, IsBytes-rest}
-use Rattle.byte_formats.proofs.FormLaws.{fits_form, encoded_form, ended_form, then_form}
-use Rattle.byte_formats.proofs.FormLaws.{mapped_form}
+use Rattle.byte_formats.proofs.FormLaws.{fits_form, encoded_form, ended_form, both_form}
+use Rattle.byte_formats.proofs.FormLaws.{mapped_form, optional_form, then_form}
 use Rattle.byte_formats.proofs.FormLaws.{tested_form, lifted_form, to_end_takes, to_end_again}
 use Rattle.der_core.specs.Elements.{element}
 use Rattle.der_core.specs.Reading.{end_at}
 use Rattle.der_core.specs.Fields.{der}
+use Rattle.der_core.proofs.Elements.{begins_with-element}
 use Rattle.der_core.proofs.Fields.{der_ok, end_ok, tag_of, contents_form}
 use Rattle.cert_time.specs.Calendar.{Period}
-use Rattle.cert_fields.specs.Grammar.{IsName, IsValidity}
-use Rattle.cert_fields.proofs.FieldForms.{name_form, validity_form}
+use Rattle.cert_fields.specs.Extensions.{extensions_at}
+use Rattle.cert_fields.specs.Grammar.{IsAlgorithm, IsName, IsValidity}
+use Rattle.cert_fields.proofs.FieldForms.{algorithm_form, name_form, validity_form}
 use Rattle.cert_fields.proofs.CertificateForm.{NoValue, version_text, version_form}
 use Rattle.cert_fields.proofs.ExtensionForms.{IsExtensions, extensions_form}
 use Rattle.log_entry.specs.Entries.{TbsParts, key_hash_text, body_text, tbs_text, entry_text, IsTbs}
 use Rattle.log_entry.specs.Entries.{IsEntry}
-use Rattle.log_entry.specs.Reading.{has_hash_length, key_hash_at, Fields, to_tbs}
+use Rattle.log_entry.specs.Reading.{field_at, has_hash_length, key_hash_at, named_algorithm_at}
+use Rattle.log_entry.specs.Reading.{Fields, to_tbs}
 use Rattle.log_entry.specs.Reading.{fields_at, body_of, as_tbs, typed, entry_in}
 use Rattle.log_entry.specs.Views.{entry_parts}
 use Rattle.log_entry.specs.declared.entry.Entry.{Entry}
@@ -47,6 +52,21 @@ key_hash_form =
     refl)) Body) has_hash_length BadHashLength) (λ hash f. eqb-true (length hash) 32 f.1)
     (λ hash e. (omega arith, eq-eqb (length hash) 32 e))) hash_is
 
+-- ---- the algorithm of the public key
+
+algorithm_begins : (bytes rest : Text) → IsAlgorithm bytes
+    → begins_with 0x30 (bytes ++ rest) ≡ true
+algorithm_begins bytes rest f =
+    let P : Text → Type 0 = λ t. begins_with 0x30 (t ++ rest) ≡ true in
+    subst P (sym f.2) (begins_with-element 0x30 (both (element 0x06) itself f.0) rest)
+
+abbrev Names : Option Text → Type 0
+Names algorithm = IfSome algorithm IsAlgorithm
+
+named_form : IsForm (optional itself) Names (λ rest. Anything rest × OtherThan 0x30 rest)
+    named_algorithm_at
+named_form = optional_form (lifted_form algorithm_form Body) 48 algorithm_begins
+
 -- ---- the body
 
 abbrev unix_times_text : Text × Period → Text
@@ -54,17 +74,26 @@ unix_times_text v = v.0
 
 abbrev fields_text : Fields → Text
 fields_text = both version_text (both itself
-    (both unix_times_text (both itself (both key_hash_text itself))))
+    (both unix_times_text (both itself (both (optional itself) (both key_hash_text itself)))))
 
 abbrev AreFields : Fields → Type 0
 AreFields = FitsBoth NoValue (FitsBoth IsName
-    (FitsBoth IsValidity (FitsBoth IsName (FitsBoth IsHash IsExtensions))))
+    (FitsBoth IsValidity (FitsBoth IsName (FitsBoth Names (FitsBoth IsHash IsExtensions)))))
+
+-- After the subject: the hash does not begin as an algorithm.
+key_form : IsForm (both (optional itself) (both key_hash_text itself))
+    (FitsBoth Names (FitsBoth IsHash IsExtensions)) Nothing
+    (both_at named_algorithm_at (both_at key_hash_at (field_at extensions_at)))
+key_form =
+    both_form named_form (then_form key_hash_form
+    (lifted_form (ended_form extensions_form (tt, tt)) Body))
+    (λ y rest f q. (tt, λ e. absurd (omega arith)))
 
 fields_form : IsForm fields_text AreFields Nothing fields_at
 fields_form =
     then_form (lifted_form version_form Body) (then_form (lifted_form name_form Body)
     (then_form (lifted_form validity_form Body) (then_form (lifted_form name_form Body)
-    (then_form key_hash_form (lifted_form (ended_form extensions_form (tt, tt)) Body)))))
+    key_form)))
 
 abbrev from_tbs : TbsParts → Fields
 from_tbs p = (
@@ -73,7 +102,7 @@ from_tbs p = (
     p.issuer,
     (
       (p.validity_der, p.validity),
-      (p.subject, (p.key_hash, p.extensions)),
+      (p.subject, (p.algorithm, (p.key_hash, p.extensions))),
     ),
   ),
 )
@@ -83,13 +112,14 @@ tbs_to p f = record {
   issuer = f.1.0;
   validity = f.1.1.0;
   subject = f.1.1.1.0;
-  key_hash =
-      f.1.1.1.1.0;
-  extensions = f.1.1.1.1.1;
+  algorithm = f.1.1.1.1.0;
+  key_hash = f.1.1.1.1.1.0;
+  extensions = f.1.1.1.1.1.1;
 }
 
 tbs_from : (p : TbsParts) → IsTbs p → AreFields (from_tbs p)
-tbs_from p f = (tt, (f.issuer, (f.validity, (f.subject, (f.key_hash, f.extensions)))))
+tbs_from p f =
+    (tt, (f.issuer, (f.validity, (f.subject, (f.algorithm, (f.key_hash, f.extensions))))))
 
 tbs_form : IsForm body_text IsTbs Nothing (mapped_at to_tbs fields_at)
 tbs_form =

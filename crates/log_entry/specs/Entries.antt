@@ -1,18 +1,21 @@
 -- Entries: how their parts are encoded, one after the other, and what the parts are, apart from any
 -- reader.
-use Rattle.std.specs.Prelude.{◌≡◌, ◌⊎◌, [], ◌∷◌, ◌++◌, length, Option, Some, None}
+use Rattle.std.specs.Prelude.{◌≡◌, ◌⊎◌, [], ◌∷◌, ◌++◌, length, Option, Some, None, IfSome}
 use Rattle.byte_formats.specs.Types.{Text, Hash}
+use Rattle.byte_formats.specs.Forms.{itself, optional}
 use Rattle.cert_time.specs.Calendar.{Period}
 use Rattle.cert_fields.specs.Encoding.{version}
-use Rattle.cert_fields.specs.Grammar.{IsName, IsValidity, IsExtensionsField}
+use Rattle.cert_fields.specs.Grammar.{IsAlgorithm, IsName, IsValidity, IsExtensionsField}
 
--- The parts of an entry of type 1. Issuer, validity, subject and extensions are whole elements; the
--- extensions are absent where their list is empty.
+-- The parts of an entry of type 1. Issuer, validity, subject, algorithm and extensions are whole
+-- elements. The algorithm is that of the public key, in an entry of form two alone; the extensions
+-- are absent where their list is empty.
 pub record TbsParts : Type 0 where
   pub issuer : Text
   pub validity : Period
   pub validity_der : Text
   pub subject : Text
+  pub algorithm : Option Text
   pub key_hash : Hash
   pub extensions : Text
 
@@ -20,10 +23,11 @@ pub record TbsParts : Type 0 where
 abbrev pub key_hash_text : Hash → Text
 key_hash_text hash = 0x04 ∷ 0x20 ∷ hash
 
--- The body: the fields as they stand in a certificate, with the hash instead of the key.
+-- The body: the fields as they stand in a certificate, with the hash instead of the key, and in
+-- form two the algorithm of the key before it.
 abbrev pub body_text : TbsParts → Text
-body_text p = version ++ (p.issuer ++ (p.validity_der ++
-    (p.subject ++ (key_hash_text p.key_hash ++ p.extensions))))
+body_text p = version ++ (p.issuer ++ (p.validity_der ++ (p.subject ++
+    (optional itself p.algorithm ++ (key_hash_text p.key_hash ++ p.extensions)))))
 
 -- An entry of type 1: its type in two bytes, and its body.
 unfoldable pub tbs_text : TbsParts → Text
@@ -39,6 +43,7 @@ pub record IsTbs (p : TbsParts) : Type 0 where
   pub issuer : IsName p.issuer
   pub validity : IsValidity (p.validity_der, p.validity)
   pub subject : IsName p.subject
+  pub algorithm : IfSome p.algorithm IsAlgorithm
   pub key_hash : length p.key_hash ≡ 32
   pub extensions : (p.extensions ≡ []) ⊎ IsExtensionsField p.extensions
 

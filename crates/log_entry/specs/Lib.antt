@@ -1,4 +1,5 @@
 pub mod Entries
+pub mod Forms
 pub mod Reading
 pub mod EntryOf
 pub mod Matching

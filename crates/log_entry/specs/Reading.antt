@@ -4,12 +4,13 @@ use Rattle.std.specs.Prelude.{Ok, Err, if◌then◌else◌}
 use Rattle.byte_formats.specs.Types.{Text, Hash}
 use Rattle.byte_formats.specs.Offsets.{At, at}
 use Rattle.byte_formats.specs.Readings.{Reading, ◌>>=◌, lifted, lifted_at, both_at, mapped_at}
-use Rattle.byte_formats.specs.Readings.{tested_at}
+use Rattle.byte_formats.specs.Readings.{optional_at, tested_at}
 use Rattle.der_core.specs.Reading.{end_at}
 use Rattle.der_core.specs.Fields.{der, contents_at}
 use Rattle.der_core.specs.declared.fault.CertError.{CertError}
 use Rattle.cert_time.specs.Calendar.{Period}
 use Rattle.cert_fields.specs.Certificate.{version_at}
+use Rattle.cert_fields.specs.Keys.{algorithm_at}
 use Rattle.cert_fields.specs.Names.{name_at}
 use Rattle.cert_fields.specs.Times.{validity_at}
 use Rattle.cert_fields.specs.Extensions.{extensions_at}
@@ -30,9 +31,13 @@ has_hash_length hash = length hash == 32
 unfoldable pub key_hash_at : Reading Hash EntryError
 key_hash_at = tested_at has_hash_length BadHashLength (field_at (contents_at 0x04))
 
--- Version, issuer, validity, subject, hash, extensions.
+-- The algorithm of the key, where a SEQUENCE stands.
+abbrev pub named_algorithm_at : Reading (Option Text) EntryError
+named_algorithm_at = optional_at 0x30 (field_at algorithm_at)
+
+-- Version, issuer, validity, subject, algorithm, hash, extensions.
 abbrev pub Fields : Type 0
-Fields = Unit {0} × (Text × ((Text × Period) × (Text × (Hash × Text))))
+Fields = Unit {0} × (Text × ((Text × Period) × (Text × (Option Text × (Hash × Text)))))
 
 -- The parts of what was read.
 abbrev pub to_tbs : Fields → TbsParts
@@ -42,15 +47,17 @@ to_tbs x =
       validity = x.1.1.0.1;
       validity_der = x.1.1.0.0;
       subject = x.1.1.1.0;
-      key_hash = x.1.1.1.1.0;
-      extensions = x.1.1.1.1.1;
+      algorithm = x.1.1.1.1.0;
+      key_hash = x.1.1.1.1.1.0;
+      extensions = x.1.1.1.1.1.1;
     }
 
 -- The fields, one after the other.
 abbrev pub fields_at : Reading Fields EntryError
 fields_at =
     both_at (field_at version_at) (both_at (field_at name_at) (both_at (field_at validity_at)
-    (both_at (field_at name_at) (both_at key_hash_at (field_at extensions_at)))))
+    (both_at (field_at name_at) (both_at named_algorithm_at
+    (both_at key_hash_at (field_at extensions_at))))))
 
 -- The fields after the type, and nothing after them.
 unfoldable pub body_of : At → Result TbsParts EntryError

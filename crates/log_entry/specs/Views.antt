@@ -1,5 +1,5 @@
 -- Parts of the code's values as contracts see them: slices as their bytes.
-use Rattle.std.specs.Prelude.{Option, Some, None}
+use Rattle.std.specs.Prelude.{Option, Some, None, option_map}
 use Rattle.cert_time.specs.Times.{validity_element}
 use Rattle.cert_time.specs.Periods.{period}
 use Rattle.log_entry.specs.Entries.{TbsParts}
@@ -15,6 +15,7 @@ tbs_parts t = record {
   validity = period t.validity;
   validity_der = t.validity_der.now;
   subject = t.subject.now;
+  algorithm = option_map (λ bytes. bytes.now) t.algorithm;
   key_hash = t.key_hash.now;
   extensions = t.extensions.now;
 }
@@ -31,6 +32,7 @@ given_entry p = record {
   validity = period p.validity;
   validity_der = validity_element (period p.validity);
   subject = p.subject.now;
+  algorithm = option_map (λ bytes. bytes.now) p.algorithm;
   key_hash = p.key_hash.now;
   extensions = p.extensions.now;
 }

@@ -1,14 +1,15 @@
 //! Hashes of entries and of keys, without taking memory.
 
-ghost use Rattle.std.specs.Prelude.{◌≡◌};
+ghost use Rattle.std.specs.Prelude.{◌≡◌, option_map};
 ghost use Rattle.tree_core.specs.Tree.{leaf_hash};
 ghost use Rattle.cert_fields.specs.Views.{parts};
 ghost use Rattle.log_entry.specs.Entries.{tbs_text};
 ghost use Rattle.log_entry.specs.EntryOf.{entry_of};
+ghost use Rattle.log_entry.specs.Forms.{algorithm_for};
 ghost use Rattle.log_entry.specs.Views.{tbs_parts};
 
-use crate::entry::TbsEntry;
-use cert_fields::Cert;
+use crate::entry::{Form, TbsEntry};
+use cert_fields::{Cert, key_algorithm};
 use tree_core::{LEAF, TreeHash};
 
 /// The bytes before the issuer: type 1, and version 3 as an INTEGER of 2 in its tag.
@@ -37,17 +38,18 @@ fn tbs_hash<H: TreeHash>(tbs: &TbsEntry) -> [u8; 32]
     running.add(tbs.issuer);
     running.add(tbs.validity_der);
     running.add(tbs.subject);
+    running.add(tbs.algorithm_bytes());
     running.add(&HASH_HEAD);
     running.add(tbs.key_hash);
     running.add(tbs.extensions);
     running.end()
 }
 
-/// The hash, as a leaf of a tree, of the entry from which a certificate was made. It is that of
-/// [`entry_of`](crate::entry_of), and takes no memory.
+/// The hash, as a leaf of a tree, of the entry in this form from which a certificate was made. It
+/// is that of [`entry_of`](crate::entry_of), and takes no memory.
 #[tactic(auto, unfolding(crate::specs::EntryOf::entry_of))]
-pub fn entry_hash<H: TreeHash>(cert: &Cert) -> [u8; 32]
-    ensures { result ≡ leaf_hash H.hash (entry_of H.hash (parts cert.now)) }
+pub fn entry_hash<H: TreeHash>(cert: &Cert, form: Form) -> [u8; 32]
+    ensures { result ≡ leaf_hash H.hash (entry_of H.hash form (parts cert.now)) }
 {
     let key = key_hash::<H>(cert.spki);
     tbs_hash::<H>(&TbsEntry {
@@ -55,7 +57,19 @@ pub fn entry_hash<H: TreeHash>(cert: &Cert) -> [u8; 32]
         validity: cert.validity,
         validity_der: cert.validity_der,
         subject: cert.subject,
+        algorithm: algorithm_for(form, cert.spki),
         key_hash: key.as_slice(),
         extensions: cert.extensions,
     })
+}
+
+/// What an entry of this form has of a key before its hash: the algorithm with which a
+/// subjectPublicKeyInfo begins, in form two alone.
+pub fn algorithm_for(form: Form, spki: &[u8]) -> Option<&[u8]>
+    ensures { option_map (λ bytes. bytes.now) result ≡ algorithm_for form spki.now }
+{
+    match form {
+        Form::One => None,
+        Form::Two => Some(key_algorithm(spki)),
+    }
 }

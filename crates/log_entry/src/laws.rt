@@ -1,14 +1,17 @@
 //! Laws of entries: the clauses are the laws, and the functions do nothing.
 
-ghost use Rattle.std.specs.Prelude.{◌≡◌, length, Option, Some, Ok, true};
+ghost use Rattle.std.specs.Prelude.{◌≡◌, ◌↔◌, length, Option, Some, Ok, true, IfSome};
 ghost use Rattle.byte_formats.specs.Types.{Text, HashFunction};
 ghost use Rattle.byte_formats.specs.Offsets.{IsBytes};
 ghost use Rattle.cert_fields.specs.Certificate.{Parts};
 ghost use Rattle.cert_fields.specs.Grammar.{IsPublicKey, IsCertificate};
+ghost use Rattle.cert_fields.specs.Keys.{key_algorithm};
 ghost use Rattle.log_entry.specs.Entries.{TbsParts, tbs_text, IsTbs, entry_text, IsEntry};
 ghost use Rattle.log_entry.specs.EntryOf.{tbs_with, entry_of, IsMadeOf};
+ghost use Rattle.log_entry.specs.Forms.{form_of};
 ghost use Rattle.log_entry.specs.Reading.{entry_in};
-ghost use Rattle.log_entry.specs.Matching.{matches};
+ghost use Rattle.log_entry.specs.Matching.{has_form, matches};
+ghost use Rattle.log_entry.specs.declared.entry.Form.{Form};
 
 /// What is read as an entry is its encoding, and the encoding of each entry is read as its parts.
 pub fn law_entries_decode_as_encoded()
@@ -23,30 +26,41 @@ pub fn law_entries_have_one_encoding()
         → e ≡ f }
 {}
 
-/// An entry that holds the hash of a public key matches that key, for every hash function.
+/// An entry that holds the hash of a public key, and no algorithm but that of the key, matches that
+/// key, for every hash function.
 pub fn law_written_entries_match_their_keys()
     ensures { (h : HashFunction) (p : TbsParts) (spki : Text) → IsTbs p → IsPublicKey spki
-        → p.key_hash ≡ h spki
+        → IfSome p.algorithm (λ algorithm. algorithm ≡ key_algorithm spki) → p.key_hash ≡ h spki
         → matches h (tbs_text p) spki ≡ true }
 {}
 
-/// The entry of a certificate is an entry with its fields, and matches its key, for every hash
-/// function with hashes of 32 bytes.
-pub fn law_entries_of_certificates()
-    ensures fields { (h : HashFunction) (p : Parts) → ((bytes : Text) → length (h bytes) ≡ 32)
-        → IsCertificate p
-        → entry_in (entry_of h p) ≡ Ok (Some (tbs_with p (h p.spki))) }
-    ensures key { (h : HashFunction) (p : Parts) → ((bytes : Text) → length (h bytes) ≡ 32)
-        → IsCertificate p
-        → matches h (entry_of h p) p.spki ≡ true }
+/// An entry has one form alone: that of its fields.
+pub fn law_entries_have_one_form()
+    ensures { (form : Form) (entry : Text) (p : TbsParts) → entry_in entry ≡ Ok (Some p)
+        → ((has_form form entry ≡ true) ↔ (form_of p ≡ form)) }
 {}
 
-/// An entry is the one of each certificate made of it: of one with its issuer, validity, subject
-/// and extensions, and with a key whose hash it holds.
+/// The entry of a certificate in a form is an entry with its fields, has that form, and matches its
+/// key, for every hash function with hashes of 32 bytes.
+pub fn law_entries_of_certificates()
+    ensures fields { (h : HashFunction) (form : Form) (p : Parts)
+        → ((bytes : Text) → length (h bytes) ≡ 32) → IsCertificate p
+        → entry_in (entry_of h form p) ≡ Ok (Some (tbs_with p form (h p.spki))) }
+    ensures key { (h : HashFunction) (form : Form) (p : Parts)
+        → ((bytes : Text) → length (h bytes) ≡ 32) → IsCertificate p
+        → matches h (entry_of h form p) p.spki ≡ true }
+    ensures form { (h : HashFunction) (form : Form) (p : Parts)
+        → ((bytes : Text) → length (h bytes) ≡ 32) → IsCertificate p
+        → has_form form (entry_of h form p) ≡ true }
+{}
+
+/// An entry is the one, in its form, of each certificate made of it: of one with its issuer,
+/// validity, subject and extensions, and with a key whose hash it holds, and whose algorithm if it
+/// holds one.
 pub fn law_entries_are_of_their_certificates()
     ensures encoded { (h : HashFunction) (t : TbsParts) (p : Parts) → IsTbs t → IsCertificate p
-        → IsMadeOf h t p → entry_of h p ≡ tbs_text t }
+        → IsMadeOf h t p → entry_of h (form_of t) p ≡ tbs_text t }
     ensures read { (h : HashFunction) (entry : Text) (t : TbsParts) (p : Parts) → IsBytes entry
         → entry_in entry ≡ Ok (Some t)
-        → IsCertificate p → IsMadeOf h t p → entry_of h p ≡ entry }
+        → IsCertificate p → IsMadeOf h t p → entry_of h (form_of t) p ≡ entry }
 {}

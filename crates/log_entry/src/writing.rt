@@ -7,8 +7,8 @@ ghost use Rattle.log_entry.specs.EntryOf.{entry_of};
 ghost use Rattle.log_entry.specs.Reading.{entry_in};
 ghost use Rattle.log_entry.specs.Views.{tbs_parts, given_entry};
 
-use crate::entry::{EntryParts, TbsEntry};
-use crate::hashing::{HASH_HEAD, HEAD, key_hash};
+use crate::entry::{EntryParts, Form, TbsEntry};
+use crate::hashing::{HASH_HEAD, HEAD, algorithm_for, key_hash};
 use cert_fields::Cert;
 use cert_time::put_validity;
 use mtc_io::{Bytes, Memory};
@@ -34,17 +34,19 @@ fn put_fields(tbs: &TbsEntry, out: &mut Bytes) -> Result<(), Memory>
     out.append(tbs.issuer)?;
     out.append(tbs.validity_der)?;
     out.append(tbs.subject)?;
+    out.append(tbs.algorithm_bytes())?;
     out.append(&HASH_HEAD)?;
     out.append(tbs.key_hash)?;
     out.append(tbs.extensions)?;
     Ok(())
 }
 
-/// The entry from which a certificate was made: its version, issuer, validity and subject, the hash
-/// of its public key, and its extensions. The call refuses only if memory runs out.
+/// The entry in this form from which a certificate was made: its version, issuer, validity and
+/// subject, for form two the algorithm of its public key, the hash of that key, and its extensions.
+/// The call refuses only if memory runs out.
 #[tactic(auto, unfolding(crate::specs::EntryOf::entry_of))]
-pub fn entry_of<H: TreeHash>(alloc: Global, cert: &Cert) -> Result<Bytes, Memory>
-    ensures { IfOk result (λ bytes. bytes ≡ entry_of H.hash (parts cert.now)) }
+pub fn entry_of<H: TreeHash>(alloc: Global, cert: &Cert, form: Form) -> Result<Bytes, Memory>
+    ensures { IfOk result (λ bytes. bytes ≡ entry_of H.hash form (parts cert.now)) }
 {
     let key = key_hash::<H>(cert.spki);
     written(
@@ -54,6 +56,7 @@ pub fn entry_of<H: TreeHash>(alloc: Global, cert: &Cert) -> Result<Bytes, Memory
             validity: cert.validity,
             validity_der: cert.validity_der,
             subject: cert.subject,
+            algorithm: algorithm_for(form, cert.spki),
             key_hash: key.as_slice(),
             extensions: cert.extensions,
         },
@@ -62,9 +65,10 @@ pub fn entry_of<H: TreeHash>(alloc: Global, cert: &Cert) -> Result<Bytes, Memory
 
 /// Writes an entry of type 1. The call refuses only if memory runs out.
 ///
-/// The parts are put together as they are. If issuer, subject and extensions are elements in the
-/// grammar of their fields, [`read_entry`](crate::read_entry) reads them again from what is
-/// written, and the entry matches the key whose hash was given.
+/// The parts are put together as they are. If issuer, subject, algorithm and extensions are
+/// elements in the grammar of their fields, [`read_entry`](crate::read_entry) reads them again from
+/// what is written, and the entry matches the key whose hash, and whose algorithm in form two, was
+/// given.
 pub fn write_entry(alloc: Global, parts: &EntryParts) -> Result<Bytes, Memory>
     ensures exact { IfOk result (λ bytes. bytes ≡ tbs_text (given_entry parts.now)) }
     ensures read { IsTbs (given_entry parts.now) → IfOk result
@@ -86,6 +90,7 @@ fn with_validity(alloc: Global, parts: &EntryParts) -> Result<Bytes, Memory>
             validity: parts.validity,
             validity_der: validity.as_slice(),
             subject: parts.subject,
+            algorithm: parts.algorithm,
             key_hash: parts.key_hash.as_slice(),
             extensions: parts.extensions,
         },

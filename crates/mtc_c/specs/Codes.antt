@@ -16,7 +16,7 @@ use Rattle.mtc_proof.specs.declared.fault.ProofError.TheVariants as proof_error
 use Rattle.policy_core.specs.declared.error.Key.{Key}
 use Rattle.policy_core.specs.declared.error.Key.TheVariants.{LogId, CosignerId, CosignerKey}
 use Rattle.policy_core.specs.declared.error.Key.TheVariants.{Count, Cosigners, Start, End, Hash}
-use Rattle.policy_core.specs.declared.error.Key.TheVariants.{Table}
+use Rattle.policy_core.specs.declared.error.Key.TheVariants.{Table, AlgorithmFrom}
 use Rattle.policy_core.specs.declared.error.StoreError.{StoreError}
 use Rattle.policy_core.specs.declared.error.StoreError.TheVariants.{NotToml, UnknownKey}
 use Rattle.policy_core.specs.declared.error.StoreError.TheVariants.{Missing as MissingKey, BadValue}
@@ -40,6 +40,7 @@ key_code Start = 5
 key_code End = 6
 key_code Hash = 7
 key_code Table = 8
+key_code AlgorithmFrom = 9
 
 -- Why a text is no store file.
 abbrev pub store_code : StoreError → ℕ × ℕ

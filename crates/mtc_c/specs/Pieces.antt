@@ -1,5 +1,5 @@
 -- What the C library writes of a certificate.
-use Rattle.std.specs.Prelude.{ℕ, ◌≡◌, ◌++◌, drop, length, nat_le, if◌then◌else◌}
+use Rattle.std.specs.Prelude.{ℕ, ◌≡◌, ◌==◌, ◌++◌, drop, length, nat_le, if◌then◌else◌}
 use Rattle.std.specs.Prelude.{Option, Some, None, Result, Ok, Err}
 use Rattle.std.specs.List.{slice_get}
 use Rattle.byte_formats.specs.Types.{Hash, HashFunction, Text}
@@ -8,6 +8,8 @@ use Rattle.cert_fields.specs.Certificate.{Parts, parts_of}
 use Rattle.cert_fields.specs.Extensions.{dns_names_in}
 use Rattle.der_core.specs.declared.fault.CertError.{CertError}
 use Rattle.log_entry.specs.EntryOf.{entry_of}
+use Rattle.log_entry.specs.declared.entry.Form.{Form}
+use Rattle.log_entry.specs.declared.entry.Form.TheVariants.{One, Two}
 use Rattle.tree_core.specs.Tree.{leaf_hash}
 
 -- Whatever is wrong with bytes that are no certificate is the status 2.
@@ -33,9 +35,15 @@ abbrev pub name_in : Text → ℕ → Result Text ℕ
 name_in bytes number =
     cert_in bytes >>= λ c. is_there (slice_get (dns_names_in c.extensions) number)
 
--- The hash of its entry in the log.
-abbrev pub entry_hash_in : HashFunction → Text → Result Hash ℕ
-entry_hash_in h bytes = cert_in bytes >>= λ c. Ok (leaf_hash h (entry_of h c))
+-- The form of an entry that a number names; 2 where it names none.
+abbrev pub form_numbered : ℕ → Result Form ℕ
+form_numbered number =
+    if number == 1 then Ok One else (if number == 2 then Ok Two else Err 2)
+
+-- The hash of its entry in the log, in the form with this number.
+abbrev pub entry_hash_in : HashFunction → ℕ → Text → Result Hash ℕ
+entry_hash_in h number bytes =
+    cert_in bytes >>= λ c. form_numbered number >>= λ form. Ok (leaf_hash h (entry_of h form c))
 
 -- Bytes are put at the start of a buffer, if they fit, and the rest of it stays; or the status is 9
 -- and the buffer as it was.

@@ -22,6 +22,7 @@ fn key_code(key: Key) -> u64
         Key::End => 6,
         Key::Hash => 7,
         Key::Table => 8,
+        Key::AlgorithmFrom => 9,
     }
 }
 

@@ -63,13 +63,14 @@ pub extern "C" fn mtc_dns_name(cert: &[u8], number: u64, out: &mut [u8], length:
 }
 
 /// Writes the hash that the log has for the entry of a certificate (RFC 9162, section 2.1) into a
-/// buffer, 32 bytes, and its length.
+/// buffer, 32 bytes, and its length. The form of the entry is 2 from the store's `algorithm_from`
+/// on, and else 1.
 #[unsafe(no_mangle)]
-pub extern "C" fn mtc_entry_hash(cert: &[u8], out: &mut [u8], length: &mut u64) -> u32
-    ensures { IsPutInBuffer (entry_hash_in ⟦<Sha as TreeHash>⟧.hash cert.now) out.old out.new
+pub extern "C" fn mtc_entry_hash(cert: &[u8], form: u32, out: &mut [u8], length: &mut u64) -> u32
+    ensures { IsPutInBuffer (entry_hash_in ⟦<Sha as TreeHash>⟧.hash form cert.now) out.old out.new
         length.new result }
 {
-    match entry_hash_of::<Sha>(cert) {
+    match entry_hash_of::<Sha>(cert, form) {
         Ok(hash) => copy_out(&hash, out, length),
         Err(status) => nothing(status, length),
     }

@@ -4,10 +4,11 @@ ghost use Rattle.std.specs.Prelude.{◌≡◌, Ok, option_map};
 ghost use Rattle.std.specs.List.{slice_get};
 ghost use Rattle.byte_formats.specs.Readings.{Gives};
 ghost use Rattle.cert_fields.specs.Views.{parts};
-ghost use Rattle.mtc_c.specs.Pieces.{IsPutInBuffer, cert_in, entry_hash_in, name_in, public_key_in};
+ghost use Rattle.mtc_c.specs.Pieces.{IsPutInBuffer, cert_in, entry_hash_in, form_numbered};
+ghost use Rattle.mtc_c.specs.Pieces.{name_in, public_key_in};
 
 use cert_fields::{Cert, DnsNames, dns_names, parse};
-use log_entry::entry_hash;
+use log_entry::{Form, entry_hash};
 use tree_core::TreeHash;
 
 const DONE: u32 = 0;
@@ -64,10 +65,22 @@ pub(crate) fn name_of(cert: &[u8], number: u64) -> Result<&[u8], u32>
     numbered(dns_names(&cert), number).ok_or(NO_SUCH_NAME)
 }
 
-/// The hash of the entry of a certificate.
-pub(crate) fn entry_hash_of<H: TreeHash>(cert: &[u8]) -> Result<[u8; 32], u32>
-    ensures { result ≡ entry_hash_in H.hash cert.now }
+// The form of an entry that a number names.
+fn form_numbered(number: u32) -> Result<Form, u32>
+    ensures { result ≡ form_numbered number }
+{
+    match number {
+        1 => Ok(Form::One),
+        2 => Ok(Form::Two),
+        _ => Err(BAD_FORM),
+    }
+}
+
+/// The hash of the entry of a certificate, in the form with this number.
+pub(crate) fn entry_hash_of<H: TreeHash>(cert: &[u8], number: u32) -> Result<[u8; 32], u32>
+    ensures { result ≡ entry_hash_in H.hash number cert.now }
 {
     let cert = cert_of(cert)?;
-    Ok(entry_hash::<H>(&cert))
+    let form = form_numbered(number)?;
+    Ok(entry_hash::<H>(&cert, form))
 }

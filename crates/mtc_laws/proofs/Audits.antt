@@ -216,7 +216,7 @@ module _ {R S D O E : Type 0} (h : HashFunction) (rooms : Rooms R S D) (disks : 
 
   -- the reply is that the entry stands, or a pair
   by_reply : (x : AuditCase) (run : Run R O E) (own : Bool)
-      → has_own h x.items x.accepted x.cert ≡ own → (reply : Reply)
+      → has_own h x.store x.items x.accepted x.cert ≡ own → (reply : Reply)
       → Meets (audit_by h x None true own).answer reply → run.status ≡ status_of reply
       → Prints outs run.out run.out_after (out_of reply)
       → StandsOrPair h (program h rooms disks outs errs) x run
@@ -241,9 +241,10 @@ module _ {R S D O E : Type 0} (h : HashFunction) (rooms : Rooms R S D) (disks : 
       let asked = ap (λ (q : Result CommandValue WordError). (facts h q).outcome (rooms.file old))
       spoken ∙ sym (outcome_planned h (audit cert store unix_time entries kept) (rooms.file old))
       ∙ audit_asked h (rooms.file old) cert store unix_time entries kept x is
-      ∙ ap (λ f. audit_by h x f (is_supported x) (has_own h x.items x.accepted x.cert)) own_list
-      ∙ ap (λ (b : Bool). audit_by h x None b (has_own h x.items x.accepted x.cert))
+      ∙ ap (λ f. audit_by h x f (is_supported x)
+      (has_own h x.store x.items x.accepted x.cert)) own_list
+      ∙ ap (λ (b : Bool). audit_by h x None b (has_own h x.store x.items x.accepted x.cert))
       (supported x is.kept_text is.kept_read backed) in
-      by_reply x run (has_own h x.items x.accepted x.cert) refl a.reply
+      by_reply x run (has_own h x.store x.items x.accepted x.cert) refl a.reply
       (subst (λ (w : Outcome). Meets w.answer a.reply) asked (a.is (inl is_modelled)))
       wrote.code wrote.text

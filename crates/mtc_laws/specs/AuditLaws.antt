@@ -122,7 +122,7 @@ module _ (h : HashFunction) (p : Program) where
   -- The same in the words of an audit (`has_own`), and the first of the two strings is one of the
   -- list's, the second one of the certificate's or the cosigner's.
   abbrev pub StandsOrPair : AuditCase → Run p.R p.O p.E → Type 0
-  StandsOrPair x run = ((run.status ≡ 0) × (has_own h x.items x.accepted x.cert ≡ true)
+  StandsOrPair x run = ((run.status ≡ 0) × (has_own h x.store x.items x.accepted x.cert ≡ true)
       × Prints p.outs run.out run.out_after (stands_text x.accepted.index))
       ⊎ ((text : Text) × ((run.status ≡ 10)
       × IsPair h collision_text (firsts_of h x) (seconds_of h x) text

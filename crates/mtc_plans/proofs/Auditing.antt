@@ -51,7 +51,7 @@ module _ (k : Kinds) (h : HashFunction) (files : Files) (inputs : List Input) wh
       ≡ step_outcome {k = k} [] (audited_step h c store items kept r) files
   audited_same c store items kept (Ok j) =
       let x = case_of store items kept j in
-      by_same h x (foreign_of h x) (is_supported x) (has_own h x.items x.accepted x.cert)
+      by_same h x (foreign_of h x) (is_supported x) (has_own h x.store x.items x.accepted x.cert)
   audited_same c store items kept (Err why) = verdict_same k h files inputs c (Err why)
 
   audit_same : (unix_time : ℕ) (c s e x : Read inputs)

@@ -40,7 +40,8 @@ audit_judged_by h x None true false =
 
 abbrev pub audit_judged : HashFunction → AuditCase → Judged
 audit_judged h x =
-    audit_judged_by h x (foreign_of h x) (is_supported x) (has_own h x.items x.accepted x.cert)
+    audit_judged_by h x (foreign_of h x) (is_supported x)
+    (has_own h x.store x.items x.accepted x.cert)
 
 -- A refused certificate is answered as by `verify`.
 abbrev pub audited_step : {k : Kinds} {inputs : List Input} → HashFunction → Read inputs → Store

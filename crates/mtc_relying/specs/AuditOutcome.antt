@@ -88,7 +88,7 @@ audit_by h x None true false = record {
 
 abbrev pub audit_says : HashFunction → AuditCase → Outcome
 audit_says h x =
-    audit_by h x (foreign_of h x) (is_supported x) (has_own h x.items x.accepted x.cert)
+    audit_by h x (foreign_of h x) (is_supported x) (has_own h x.store x.items x.accepted x.cert)
 
 -- ---- the command
 

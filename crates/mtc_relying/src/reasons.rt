@@ -78,6 +78,7 @@ fn key_name(key: Key) -> &'static str
 {
     match key {
         Key::LogId => "LogId",
+        Key::AlgorithmFrom => "AlgorithmFrom",
         Key::CosignerId => "CosignerId",
         Key::CosignerKey => "CosignerKey",
         Key::Count => "Count",

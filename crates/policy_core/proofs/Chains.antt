@@ -1,5 +1,5 @@
 -- The first fault of two fields of a store file is that of the store.
-use Rattle.std.proofs.Common.{◌≡◌, List, Result, Ok, Err, refl}
+use Rattle.std.proofs.Common.{◌≡◌, ℕ, List, Option, Result, Ok, Err, refl}
 use Rattle.std.specs.Prelude.{codes}
 use Rattle.byte_formats.specs.Readings.{◌>>=◌}
 use Rattle.byte_formats.specs.Types.{Text}
@@ -22,10 +22,11 @@ chain_err : {A B C E : Type 0} (r : Result A E) (f : A → Result B E) (g : A �
 chain_err (Ok x) f g e h = rw h refl
 chain_err (Err d) f g e h = cc
 
-abbrev made : Text → List Known → List Rule → List Trusted → List Span → Store
+abbrev made : Text × Option ℕ → List Known → List Rule → List Trusted → List Span → Store
 made log known rules subtrees revoked = record {
-  log = log;
-  name = name_with (text_of log);
+  log = log.0;
+  name = name_with (text_of log.0);
+  algorithm_from = log.1;
   cosigners = known;
   rules = rules;
   subtrees = subtrees;
@@ -33,7 +34,7 @@ made log known rules subtrees revoked = record {
 }
 
 -- A fault of the cosigners or the rules.
-pub rules_fault : (ms : Members) (log : Text) (e : StoreError)
+pub rules_fault : (ms : Members) (log : Text × Option ℕ) (e : StoreError)
     → log_at (get_member (codes "log") ms) ≡ Ok log → rules_in ms ≡ Err e → store_in ms ≡ Err e
 unfolding store_in
 rules_fault ms log e l h =
@@ -45,7 +46,7 @@ rules_fault ms log e l h =
     checked_store (made log known rules subtrees revoked)) e h)
 
 -- A fault of the subtrees or the revoked ranges.
-pub revoked_fault : (ms : Members) (log : Text) (known : List Known) (rules : List Rule)
+pub revoked_fault : (ms : Members) (log : Text × Option ℕ) (known : List Known) (rules : List Rule)
     (e : StoreError) → log_at (get_member (codes "log") ms) ≡ Ok log
     → cosigners_at (get_member (codes "cosigner") ms) ≡ Ok known
     → rules_at known (get_member (codes "rule") ms) ≡ Ok rules

@@ -16,7 +16,6 @@ use Rattle.cert_fields.specs.Grammar.{IsCertificate}
 use Rattle.cert_fields.proofs.CertificateForm.{parts_only, parts_again}
 use Rattle.tree_core.specs.Evaluation.{evaluation}
 use Rattle.tree_core.specs.Tree.{leaf_hash}
-use Rattle.log_entry.specs.EntryOf.{entry_of}
 use Rattle.mtc_proof.specs.Proofs.{ProofParts, proof_text, IsProof}
 use Rattle.mtc_proof.specs.Reading.{proof_in}
 use Rattle.mtc_proof.proofs.Forms.{proofs_only, proofs_again}
@@ -33,7 +32,7 @@ use Rattle.policy_core.specs.Acceptance.{IsAmong, Trusts, HoldsNoOther, IsTruste
 use Rattle.policy_core.specs.Acceptance.{IsCosigned, IsAccepted, accepted_by}
 use Rattle.policy_core.specs.Counting.{counted, first_unmet}
 use Rattle.policy_core.specs.Judgement.{admitted, is_of, accepted, by_rules, by_cosigners, by_trust}
-use Rattle.policy_core.specs.Judgement.{decided, judged, judgement}
+use Rattle.policy_core.specs.Judgement.{decided, entry_by, judged, judgement}
 use Rattle.policy_core.proofs.Asked.{IsAdmitted, admitted_only, admitted_again}
 use Rattle.policy_core.proofs.Policies.{all_met, met_all}
 use Rattle.policy_core.proofs.TrustedHash.{any_of, any_trusted, find_only, find_again, find_none}
@@ -121,7 +120,8 @@ decided_again store index p hash by valid (inr c) =
 
 abbrev with_proof : (List ℕ → List ℕ) → Store → Parts → ProofParts → Result Accepted Refusal
 with_proof h store c p =
-    lifted ProofShape (evaluation h (leaf_hash h (entry_of h c)) c.serial p.start p.end p.path) >>=
+    lifted ProofShape
+    (evaluation h (leaf_hash h (entry_by h store c)) c.serial p.start p.end p.path) >>=
     λ hash. decided store c.serial p hash
 
 abbrev admitted_with : (List ℕ → List ℕ) → Store → Parts → Result Accepted Refusal
@@ -152,7 +152,7 @@ accepted_only h bytes store now a ok e =
     let u = bind_ok (lifted ProofGrammar (proof_in c.proof))
     (λ (p : ProofParts). with_proof h store c p) a t.2 in
     let p : ProofParts = u.0 in
-    let eval = evaluation h (leaf_hash h (entry_of h c)) c.serial p.start p.end p.path in
+    let eval = evaluation h (leaf_hash h (entry_by h store c)) c.serial p.start p.end p.path in
     let v = bind_ok (lifted ProofShape eval) (λ (hash : List ℕ). decided store c.serial p hash)
     a u.2 in
     let cert = parts_only bytes c ok (lifted_ok Grammar (parts_of bytes) c s.1) in
@@ -238,7 +238,7 @@ pub accepted_so : (h : List ℕ → List ℕ) (bytes : List ℕ) (store : Store)
     (p : ProofParts) (hash : List ℕ)
     → IsValid store → IsCertificate c → bytes ≡ certificate c → IsAdmitted store now c
     → IsProof p → c.proof ≡ proof_text p
-    → evaluation h (leaf_hash h (entry_of h c)) c.serial p.start p.end p.path ≡ Ok hash
+    → evaluation h (leaf_hash h (entry_by h store c)) c.serial p.start p.end p.path ≡ Ok hash
     → HoldsNoOther store p.start p.end hash
     → Trusts store p.start p.end hash ⊎ IsSatisfied store p hash
     → judgement h bytes store now ≡ Ok (accepted (accepted_by store p hash) c.serial p hash)

@@ -10,7 +10,6 @@ use Rattle.cert_fields.specs.Grammar.{IsCertificate}
 use Rattle.cert_fields.specs.Encoding.{certificate}
 use Rattle.tree_core.specs.Evaluation.{evaluation}
 use Rattle.tree_core.specs.Tree.{leaf_hash}
-use Rattle.log_entry.specs.EntryOf.{entry_of}
 use Rattle.mtc_proof.specs.Proofs.{ProofParts, proof_text, IsProof}
 use Rattle.policy_core.specs.declared.answer.Accepted.{Accepted}
 use Rattle.policy_core.specs.declared.answer.By.{By}
@@ -19,7 +18,7 @@ use Rattle.policy_core.specs.declared.lists.Trusted.{Trusted}
 use Rattle.policy_core.specs.declared.rules.Rule.{Rule}
 use Rattle.policy_core.specs.declared.store.Store.{Store}
 use Rattle.policy_core.specs.Counting.{counted, is_in_set}
-use Rattle.policy_core.specs.Judgement.{is_in, is_of, accepted}
+use Rattle.policy_core.specs.Judgement.{entry_by, is_in, is_of, accepted}
 
 -- The subtree is one of these.
 abbrev pub IsAmong : Trusted → List Trusted → Type 0
@@ -67,8 +66,9 @@ accepted_by store p hash =
 
 -- The bytes encode a certificate of the store's log, with the algorithm of Merkle tree proofs, that
 -- is valid at the time, isn't revoked, and has no critical extension that isn't known; its
--- signature encodes a proof, whose path gives the interval a hash that the store trusts there, or,
--- if it trusts none there, one for which enough cosigners count.
+-- signature encodes a proof, whose path gives the interval, from the entry in the form that the
+-- store gives it, a hash that the store trusts there, or, if it trusts none there, one for which
+-- enough cosigners count.
 pub record IsAccepted (h : HashFunction) (bytes : Text) (store : Store) (now : ℤ) (a : Accepted)
     : Type 0 where
   pub parts : Parts
@@ -84,7 +84,7 @@ pub record IsAccepted (h : HashFunction) (bytes : Text) (store : Store) (now : �
   pub proof_fits : IsProof proof
   pub proof_encoded : parts.proof ≡ proof_text proof
   pub evaluates :
-      evaluation h (leaf_hash h (entry_of h parts)) parts.serial proof.start proof.end proof.path
-      ≡ Ok a.hash
+      evaluation h (leaf_hash h (entry_by h store parts)) parts.serial proof.start proof.end
+      proof.path ≡ Ok a.hash
   pub by : IsTrusted store proof a.hash a.by ⊎ IsCosigned store proof a.hash a.by
   pub known : a ≡ accepted a.by parts.serial proof a.hash

@@ -1,7 +1,7 @@
 -- The store file: what a text says, or why it is none. The faults stand in the order of their
 -- tests.
-use Rattle.std.specs.Prelude.{◌&&◌, not, nat_lt, Bool, List, [], ◌∷◌, length, codes, Option, Some}
-use Rattle.std.specs.Prelude.{None, Result, Ok, Err, if◌then◌else◌}
+use Rattle.std.specs.Prelude.{ℕ, ◌&&◌, not, nat_lt, Bool, List, [], ◌∷◌, length, codes, Option}
+use Rattle.std.specs.Prelude.{Some, None, Result, Ok, Err, if◌then◌else◌}
 use Rattle.std.specs.List.{list_all}
 use Rattle.std.specs.Str.{bytes_eq}
 use Rattle.byte_formats.specs.Types.{Text}
@@ -11,9 +11,11 @@ use Rattle.tls_wire.specs.Anchors.{text_of}
 use Rattle.toml.specs.Data.{Data, Members, get_member}
 use Rattle.toml_fields.specs.Tree.{tree_of, has_only}
 use Rattle.toml_fields.specs.Codes.{number_data, hash_data}
+use Rattle.toml_fields.specs.Fields.{optional_field}
 use Rattle.tree_core.specs.Subtree.{is_subtree}
 use Rattle.tree_core.specs.declared.spans.Span.{Span}
-use Rattle.policy_core.specs.declared.error.Key.TheVariants.{LogId, Cosigners, Start, End, Hash}
+use Rattle.policy_core.specs.declared.error.Key.TheVariants.{LogId, AlgorithmFrom, Cosigners}
+use Rattle.policy_core.specs.declared.error.Key.TheVariants.{Start, End, Hash}
 use Rattle.policy_core.specs.declared.error.StoreError.{StoreError}
 use Rattle.policy_core.specs.declared.error.StoreError.TheVariants.{NotToml, UnknownKey, Missing}
 use Rattle.policy_core.specs.declared.error.StoreError.TheVariants.{RepeatedId, RepeatedSubtree}
@@ -31,7 +33,7 @@ root_keys =
     codes "log" ∷ codes "cosigner" ∷ codes "rule" ∷ codes "subtree" ∷ codes "revoked" ∷ []
 
 abbrev pub log_keys : List Text
-log_keys = codes "id" ∷ []
+log_keys = codes "id" ∷ codes "algorithm_from" ∷ []
 
 abbrev pub subtree_keys : List Text
 subtree_keys = codes "start" ∷ codes "end" ∷ codes "hash" ∷ []
@@ -39,11 +41,15 @@ subtree_keys = codes "start" ∷ codes "end" ∷ codes "hash" ∷ []
 abbrev pub revoked_keys : List Text
 revoked_keys = codes "start" ∷ codes "end" ∷ []
 
--- The log's table, which has to be there, and its id.
-abbrev pub log_at : Option Data → Result Text StoreError
+-- The log's table, which has to be there: its id, and from which index on entries name the
+-- algorithm of the key, if that is said.
+abbrev pub log_at : Option Data → Result (Text × Option ℕ) StoreError
 log_at None = Err (Missing LogId)
 log_at (Some d) =
-    table_with log_keys d >>= λ ms. store_field LogId id_data (get_member (codes "id") ms)
+    table_with log_keys d >>= λ ms.
+    store_field LogId id_data (get_member (codes "id") ms) >>= λ id.
+    optional_field (BadValue AlgorithmFrom) number_data (get_member (codes "algorithm_from") ms)
+    >>= λ from. Ok (id, from)
 
 -- One subtree, and one range.
 unfoldable pub subtree_data : Data → Result Trusted StoreError
@@ -103,8 +109,9 @@ store_in ms = do
   subtrees ← list_at subtree_data (get_member (codes "subtree") ms)
   revoked ← list_at range_data (get_member (codes "revoked") ms)
   checked_store (record {
-    log = log;
-    name = name_with (text_of log);
+    log = log.0;
+    name = name_with (text_of log.0);
+    algorithm_from = log.1;
     cosigners = cosigners;
     rules = rules;
     subtrees = subtrees;

@@ -13,6 +13,8 @@ use Rattle.tree_core.specs.Evaluation.{evaluation}
 use Rattle.tree_core.specs.Tree.{leaf_hash}
 use Rattle.tree_core.specs.declared.spans.Span.{Span}
 use Rattle.log_entry.specs.EntryOf.{entry_of}
+use Rattle.log_entry.specs.Forms.{form_at}
+use Rattle.log_entry.specs.declared.entry.Form.{Form}
 use Rattle.mtc_proof.specs.Proofs.{ProofParts}
 use Rattle.mtc_proof.specs.Reading.{proof_in}
 use Rattle.policy_core.specs.declared.answer.Accepted.{Accepted}
@@ -27,6 +29,14 @@ use Rattle.policy_core.specs.declared.refusal.Refusal.TheVariants.{Revoked, Proo
 use Rattle.policy_core.specs.declared.refusal.Refusal.TheVariants.{ProofShape, LandmarkDiffers}
 use Rattle.policy_core.specs.declared.refusal.Refusal.TheVariants.{TooFewCosigners}
 use Rattle.policy_core.specs.Counting.{counted, first_unmet}
+
+-- The form that the store gives the entry at an index.
+abbrev pub form_by : Store → ℕ → Form
+form_by store index = form_at store.algorithm_from index
+
+-- The entry of a certificate, in the form that the store gives its index.
+abbrev pub entry_by : HashFunction → Store → Parts → Text
+entry_by h store c = entry_of h (form_by store c.serial) c
 
 -- A range holds its start and not its end.
 abbrev pub is_in : ℕ → Span → Bool
@@ -77,14 +87,14 @@ decided store index p hash =
     by_trust store index p hash (find (is_of p.start p.end) store.subtrees)
 
 -- The judgement of a certificate that has these parts, under the hash function h. The certificate's
--- entry stands in the log at its serial number, and the proof's path is evaluated there, in the
--- proof's interval.
+-- entry, in the form that the store gives it, stands in the log at its serial number, and the
+-- proof's path is evaluated there, in the proof's interval.
 unfoldable pub judged : HashFunction → Store → ℤ → Parts → Result Accepted Refusal
 judged h store now c =
     admitted store now c >>= λ done.
     lifted ProofGrammar (proof_in c.proof) >>= λ p.
     lifted ProofShape
-    (evaluation h (leaf_hash h (entry_of h c)) c.serial p.start p.end p.path) >>= λ hash.
+    (evaluation h (leaf_hash h (entry_by h store c)) c.serial p.start p.end p.path) >>= λ hash.
     decided store c.serial p hash
 
 -- The judgement of bytes: that of the certificate which they are.

@@ -15,6 +15,7 @@ use Rattle.policy_core.specs.declared.refusal.Refusal.TheVariants as refusal
 -- A field of a store file.
 abbrev pub key_text : Key → Text
 key_text store_key.LogId = codes "LogId"
+key_text store_key.AlgorithmFrom = codes "AlgorithmFrom"
 key_text store_key.CosignerId = codes "CosignerId"
 key_text store_key.CosignerKey = codes "CosignerKey"
 key_text store_key.Count = codes "Count"

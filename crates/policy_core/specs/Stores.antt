@@ -1,7 +1,7 @@
 -- Stores, and which of them are valid. Trusted intervals are subtrees, as the draft on Merkle Tree
 -- Certificates defines them.
 use Rattle.std.specs.Prelude.{◌≡◌, ℕ, ◌<◌, ◌≤◌, ◌==◌, ◌&&◌, ◌||◌, Bool, false, List, [], ◌∷◌}
-use Rattle.std.specs.Prelude.{length, not, nat_le, nat_lt}
+use Rattle.std.specs.Prelude.{length, not, nat_le, nat_lt, None}
 use Rattle.std.specs.List.{list_all, list_any, AllByRecursion, IsDistinct}
 use Rattle.std.specs.Str.{bytes_eq}
 use Rattle.byte_formats.specs.Types.{Text}
@@ -67,6 +67,7 @@ abbrev pub empty_store : Text → Store
 empty_store id = record {
   log = id;
   name = name_with (text_of id);
+  algorithm_from = None;
   cosigners = [];
   rules = [];
   subtrees = [];

@@ -10,6 +10,8 @@ use std::fmt;
 pub enum Key {
     /// The log's `id`.
     LogId,
+    /// The log's `algorithm_from`.
+    AlgorithmFrom,
     /// A cosigner's `id`.
     CosignerId,
     /// A cosigner's `key`.
@@ -37,6 +39,7 @@ impl fmt::Display for Key {
     fn fmt<W: fmt::Write>(&self, f: &mut fmt::Formatter<W>) -> fmt::Result {
         match self {
             Key::LogId => f.write_str("LogId"),
+            Key::AlgorithmFrom => f.write_str("AlgorithmFrom"),
             Key::CosignerId => f.write_str("CosignerId"),
             Key::CosignerKey => f.write_str("CosignerKey"),
             Key::Count => f.write_str("Count"),

@@ -5,6 +5,7 @@ ghost use Rattle.byte_formats.specs.Readings.{Answers, Gives};
 ghost use Rattle.toml.specs.Data.{Data, get_member};
 ghost use Rattle.toml.specs.View.{items_view, table_view, view};
 ghost use Rattle.toml_fields.specs.Codes.{hash_data, number_data};
+ghost use Rattle.toml_fields.specs.Fields.{optional_field};
 ghost use Rattle.policy_core.specs.declared.error.StoreError.{StoreError};
 ghost use Rattle.policy_core.specs.Fields.{each_of, store_field, id_data, items_at, list_at};
 ghost use Rattle.policy_core.specs.Fields.{table_with};
@@ -44,6 +45,20 @@ fn number_at(table: &Table, name: &str, key: Key) -> Result<u64, StoreError>
     number_of(value).ok_or(StoreError::BadValue(key))
 }
 
+// The number at a key, where there is one.
+fn number_or_none(table: &Table, name: &str, key: Key) -> Result<Option<u64>, StoreError>
+    ensures { result ≡ optional_field (StoreError.BadValue key) number_data
+        (get_member name.now (table_view table.now)) }
+{
+    let Some(value) = value_at(table, name) else {
+        return Ok(None);
+    };
+    match number_of(value) {
+        Some(number) => Ok(Some(number)),
+        None => Err(StoreError::BadValue(key)),
+    }
+}
+
 // The hash of a subtree.
 fn hash_at(table: &Table) -> Result<[u8; 32], StoreError>
     ensures { result
@@ -81,15 +96,18 @@ fn id_at(alloc: Global, table: &Table) -> Result<AnchorId, StoreError>
     id_of(alloc, value)?.ok_or(StoreError::BadValue(Key::LogId))
 }
 
-/// The id of the log.
-pub fn log_id_of(alloc: Global, root: &Table) -> Result<AnchorId, StoreError>
+/// The id of the log, and from which index on its entries name the algorithm of the key.
+pub fn log_of(alloc: Global, root: &Table) -> Result<(AnchorId, Option<u64>), StoreError>
     ensures { Answers StoreError.Memory
         (log_at (get_member (codes "log") (table_view root.now))) result }
 {
     let Some(value) = value_at(root, "log") else {
         return Err(StoreError::Missing(Key::LogId));
     };
-    id_at(alloc, table_with(value, &["id"])?)
+    let table = table_with(value, &["id", "algorithm_from"])?;
+    let id = id_at(alloc, table)?;
+    let from = number_or_none(table, "algorithm_from", Key::AlgorithmFrom)?;
+    Ok((id, from))
 }
 
 // What is read from an item of a list of tables.

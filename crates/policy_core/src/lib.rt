@@ -1,7 +1,8 @@
 //! What a relying party holds of a log, and how it judges a certificate by that.
 //!
-//! A [`Store`] has the log's id, the issuer name of its certificates, cosigners and rules over
-//! them, the subtrees whose hashes are trusted, and the ranges of serial numbers that are revoked.
+//! A [`Store`] has the log's id, the issuer name of its certificates, the index from which on its
+//! entries name the algorithm of the key, cosigners and rules over them, the subtrees whose hashes
+//! are trusted, and the ranges of serial numbers that are revoked.
 //! A [`ValidStore`] is valid by its type: [`ValidStore::read`] reads one from a TOML file, and
 //! [`Store::checked`] makes one of a store that a program fills. The judgement of a certificate
 //! stands here as a definition, with its answers [`Accepted`] and [`Refusal`]; the call that makes
@@ -13,6 +14,7 @@ mod cosigner_fields;
 mod cosigners;
 mod error;
 mod fields;
+mod forms;
 mod lists;
 mod reading;
 mod refusal;

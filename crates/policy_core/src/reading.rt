@@ -15,7 +15,7 @@ ghost use Rattle.policy_core.specs.Stores.{IsRule, IsValid};
 use crate::cosigner_fields::cosigners_of;
 use crate::cosigners::Cosigners;
 use crate::error::StoreError;
-use crate::fields::{log_id_of, revoked_of, subtrees_of};
+use crate::fields::{log_of, revoked_of, subtrees_of};
 use crate::lists::{Revoked, Subtrees};
 use crate::rule_fields::rules_of;
 use crate::rules::Rules;
@@ -59,13 +59,14 @@ fn store_from(alloc: Global, root: &Table) -> Result<Store, StoreError>
     ensures exact { Answers StoreError.Memory (store_in (table_view root.now)) result }
     ensures valid { IfOk result IsValid }
 {
-    let log = log_id_of(alloc, root)?;
+    let (log, algorithm_from) = log_of(alloc, root)?;
     let name = log_name(alloc, &log)?;
     let (cosigners, rules) = signers_of(alloc, root)?;
     let (subtrees, revoked) = lists_of(alloc, root)?;
     let store = Store {
         log,
         name,
+        algorithm_from,
         cosigners,
         rules,
         subtrees,
@@ -93,13 +94,14 @@ fn read_store(alloc: Global, text: &[u8]) -> Result<Store, StoreError>
 }
 
 impl Store {
-    /// Reads a store file. It has a table `log` with the text `id`, an anchor id in dotted decimal;
-    /// and may have lists of tables: `cosigner`, at most 64, with the texts `id`, an anchor id, and
-    /// `key`, an HSS public key (RFC 8554, section 6.1) in base64; `rule` with the list `cosigners`
-    /// of ids of different cosigners and the number `count`, from 1 to their number; `subtree` with
-    /// the numbers `start` and `end` and the text `hash` of 64 hexadecimal digits; and `revoked`
-    /// with the numbers `start` and `end`. The first fault is answered, in the order of
-    /// [`StoreError`]; what is answered is a valid store.
+    /// Reads a store file. It has a table `log` with the text `id`, an anchor id in dotted decimal,
+    /// and where entries name the algorithm of the key the number `algorithm_from`, the first index
+    /// of one; and may have lists of tables: `cosigner`, at most 64, with the texts `id`, an anchor
+    /// id, and `key`, an HSS public key (RFC 8554, section 6.1) in base64; `rule` with the list
+    /// `cosigners` of ids of different cosigners and the number `count`, from 1 to their number;
+    /// `subtree` with the numbers `start` and `end` and the text `hash` of 64 hexadecimal digits;
+    /// and `revoked` with the numbers `start` and `end`. The first fault is answered, in the order
+    /// of [`StoreError`]; what is answered is a valid store.
     pub fn read(alloc: Global, text: &[u8]) -> Result<Store, StoreError>
         ensures exact { Answers StoreError.Memory (store_of text.now) result }
         ensures valid { IfOk result IsValid }

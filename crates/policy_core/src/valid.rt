@@ -122,6 +122,7 @@ impl Store {
         Ok(Store {
             name: log_name(alloc, &log)?,
             log,
+            algorithm_from: None,
             cosigners: Cosigners::from_vec(Vec::new(alloc)),
             rules: Rules::from_vec(Vec::new(alloc)),
             subtrees: Subtrees::from_vec(Vec::new(alloc)),

@@ -38,7 +38,7 @@ pub fn judge_cert<H: TreeHash>(
     let store = store.as_store();
     admit(cert, store, now)?;
     let proof = read_proof(cert.proof)?;
-    let leaf = entry_hash::<H>(cert);
+    let leaf = entry_hash::<H>(cert, store.form_at(cert.serial));
     let hash = evaluate::<H>(&leaf, cert.serial, proof.start, proof.end, proof.path)?;
     decide(store, cert.serial, &proof, &hash)
 }

@@ -5,7 +5,7 @@ use cert_fields::Cert;
 use cert_time::Validity;
 use der_core::{CertError, DerError};
 use log_entry::{
-    Entry, EntryError, EntryParts, entry_hash, entry_of, key_hash, key_matches, read_entry,
+    Entry, EntryError, EntryParts, Form, entry_hash, entry_of, key_hash, key_matches, read_entry,
     write_entry,
 };
 use mtc_io::{Bytes, Memory};
@@ -15,7 +15,7 @@ use tree_core::{Sha, TreeHash};
 
 // Issuer of log 32473.1, 2026-01-01 to 2026-01-08, no subject, the SHA-256 of an Ed25519 key of
 // zeros, one critical subjectAltName with `a.example`.
-const ENTRY: [u8; 131] = [
+pub(crate) const ENTRY: [u8; 131] = [
     0x00, 0x01, 0xA0, 0x03, 0x02, 0x01, 0x02, 0x30, 0x19, 0x31, 0x17, 0x30, 0x15, 0x06, 0x0A, 0x2B,
     0x06, 0x01, 0x04, 0x01, 0x82, 0xDA, 0x4B, 0x2F, 0x01, 0x0C, 0x07, 0x33, 0x32, 0x34, 0x37, 0x33,
     0x2E, 0x31, 0x30, 0x1E, 0x17, 0x0D, 0x32, 0x36, 0x30, 0x31, 0x30, 0x31, 0x30, 0x30, 0x30, 0x30,
@@ -34,13 +34,13 @@ const LEAF_HASH: [u8; 32] = [
 ];
 
 // The Ed25519 key of zeros, as a subjectPublicKeyInfo.
-const KEY: [u8; 44] = [
+pub(crate) const KEY: [u8; 44] = [
     0x30, 0x2A, 0x30, 0x05, 0x06, 0x03, 0x2B, 0x65, 0x70, 0x03, 0x21, 0x00, 0x00, 0x00, 0x00, 0x00,
     0x00, 0x00, 0x00, 0x00, 0x00, 0x00, 0x00, 0x00, 0x00, 0x00, 0x00, 0x00, 0x00, 0x00, 0x00, 0x00,
     0x00, 0x00, 0x00, 0x00, 0x00, 0x00, 0x00, 0x00, 0x00, 0x00, 0x00, 0x00,
 ];
 
-const WEEK: Validity = Validity {
+pub(crate) const WEEK: Validity = Validity {
     not_before: 1_767_225_600,
     not_after: 1_767_830_400,
 };
@@ -66,6 +66,7 @@ fn fields_are_parts() -> bool {
                 && tbs.validity == WEEK
                 && tbs.validity_der == &ENTRY[34..66]
                 && tbs.subject == &ENTRY[66..68]
+                && tbs.algorithm.is_none()
                 && tbs.key_hash == &ENTRY[70..102]
                 && tbs.extensions == &ENTRY[102..]
         }
@@ -126,8 +127,8 @@ fn short_entries_have_their_faults(rt: HostRuntime) {
     assert!(rt; fault_of(&ENTRY[..102]) == None);
 }
 
-// The entry of a certificate with these fields, and its hash as a leaf.
-fn made_of_certificate(alloc: Global) -> Result<(Bytes, [u8; 32]), Memory> {
+/// The entry in this form of the certificate with these fields, and its hash as a leaf.
+pub(crate) fn made_of_certificate(alloc: Global, form: Form) -> Result<(Bytes, [u8; 32]), Memory> {
     let cert = Cert {
         serial: 1,
         issuer: &ENTRY[7..34],
@@ -139,7 +140,10 @@ fn made_of_certificate(alloc: Global) -> Result<(Bytes, [u8; 32]), Memory> {
         algorithm: &[],
         proof: &[],
     };
-    Ok((entry_of::<Sha>(alloc, &cert)?, entry_hash::<Sha>(&cert)))
+    Ok((
+        entry_of::<Sha>(alloc, &cert, form)?,
+        entry_hash::<Sha>(&cert, form),
+    ))
 }
 
 fn made_of_parts(alloc: Global) -> Result<Bytes, Memory> {
@@ -148,6 +152,7 @@ fn made_of_parts(alloc: Global) -> Result<Bytes, Memory> {
         issuer: &ENTRY[7..34],
         validity: WEEK,
         subject: &ENTRY[66..68],
+        algorithm: None,
         key_hash: &key,
         extensions: &ENTRY[102..],
     };
@@ -156,7 +161,7 @@ fn made_of_parts(alloc: Global) -> Result<Bytes, Memory> {
 
 #[test]
 fn an_entry_is_made_of_a_certificate_and_of_parts(rt: HostRuntime) -> Result<(), Fail> {
-    let (entry, hash) = made_of_certificate(rt.alloc())?;
+    let (entry, hash) = made_of_certificate(rt.alloc(), Form::One)?;
     assert!(rt; entry.as_slice() == ENTRY.as_slice());
     assert!(rt; hash == LEAF_HASH);
     assert!(rt; made_of_parts(rt.alloc())?.as_slice() == ENTRY.as_slice());

@@ -13,6 +13,8 @@ mod entries;
 #[cfg(test)]
 mod extensions;
 #[cfg(test)]
+mod forms;
+#[cfg(test)]
 mod names;
 #[cfg(test)]
 mod times;

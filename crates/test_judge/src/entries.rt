@@ -3,6 +3,7 @@
 use crate::judgements::anchor;
 use crate::texts::{joined, joined_bytes};
 use authority_core::{Request, entry_of_request, read_request};
+use log_entry::Form;
 use mtc_io::Bytes;
 use std::alloc::Global;
 use std::test::Fail;
@@ -115,7 +116,7 @@ pub(crate) fn request_of(alloc: Global, lines: &[&str]) -> Result<Request, Fail>
 
 // The entry of a request in the log with this id.
 fn entry_of(alloc: Global, id: &AnchorId, request: &Request) -> Result<Bytes, Fail> {
-    Ok(entry_of_request::<Sha>(alloc, id, request)?)
+    Ok(entry_of_request::<Sha>(alloc, id, Form::One, request)?)
 }
 
 // The entry of the request of these lines in the log 32473.1.

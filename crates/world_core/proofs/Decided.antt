@@ -25,7 +25,9 @@ use Rattle.tree_core.specs.Tree.{leaf_hash, tree_hash}
 use Rattle.tree_proofs.proofs.Parts.{part_of-zero}
 use Rattle.tree_proofs.specs.declared.checkpoint.Checkpoint.{Checkpoint}
 use Rattle.log_entry.specs.EntryOf.{entry_of}
-use Rattle.log_entry.specs.Matching.{holds, matches}
+use Rattle.log_entry.specs.Forms.{algorithm_for}
+use Rattle.log_entry.specs.Matching.{algorithm_agrees, holds, matches}
+use Rattle.log_entry.specs.declared.entry.Form.{Form}
 use Rattle.log_entry.specs.Reading.{entry_in}
 use Rattle.log_entry.proofs.Matches.{certificate_entry}
 use Rattle.entry_list.specs.Items.{ItemLists, has_key, is_key_of}
@@ -35,7 +37,7 @@ use Rattle.mtc_proof.specs.Reading.{proof_in}
 use Rattle.cosigner_core.specs.declared.lists.Export.{Export}
 use Rattle.cosigner_core.specs.declared.step.Step.{Step}
 use Rattle.cosigner_core.specs.declared.step.Step.TheVariants.{Advance, Sign}
-use Rattle.policy_core.specs.Judgement.{admitted, decided, judged}
+use Rattle.policy_core.specs.Judgement.{admitted, decided, entry_by, form_by, judged}
 use Rattle.policy_core.specs.declared.answer.Accepted.{Accepted}
 use Rattle.policy_core.specs.declared.answer.By.{By}
 use Rattle.policy_core.specs.declared.answer.By.TheVariants.{Cosigners, Landmark}
@@ -80,10 +82,10 @@ eval_inside h leaf index start end path value e =
 
 pub judged_path : (h : HashFunction) (store : Store) (c : Parts) (p : ProofParts) (a : Accepted)
     → WasJudged h store c p a
-    → evaluation h (leaf_hash h (entry_of h c)) a.index a.start a.end p.path ≡ Ok a.hash
+    → evaluation h (leaf_hash h (entry_by h store c)) a.index a.start a.end p.path ≡ Ok a.hash
 unfolding judged
 judged_path h store c p a w =
-    let leaf = leaf_hash h (entry_of h c) in
+    let leaf = leaf_hash h (entry_by h store c) in
     let eval : ProofParts → Result Hash EvalError =
     λ q. evaluation h leaf c.serial q.start q.end q.path in
     let with_proof : ProofParts → Result Accepted Refusal =
@@ -195,18 +197,20 @@ and_left true b e = absurd cc
 and_left false b e = refl
 
 -- two keys of one entry have one hash
-one_hash : (h : HashFunction) (entry key : Text) (c : Parts)
-    → ((bytes : Text) → length (h bytes) ≡ 32) → IsCertificate c → entry ≡ entry_of h c
+one_hash : (h : HashFunction) (form : Form) (entry key : Text) (c : Parts)
+    → ((bytes : Text) → length (h bytes) ≡ 32) → IsCertificate c → entry ≡ entry_of h form c
     → is_key_of h entry key ≡ true → h key ≡ h c.spki
 unfolding is_key_of matches
-one_hash h entry key c sized fits is own =
-    let read = ap entry_in is ∙ certificate_entry h c sized fits in
+one_hash h form entry key c sized fits is own =
+    let read = ap entry_in is ∙ certificate_entry h form c sized fits in
     let has : has_key (entry_in entry) ≡ true = ap has_key read in
     let matched : matches h entry key ≡ true =
     ap (λ (b : Bool). if b then matches h entry key else length key == 0) (sym has) ∙ own in
-    let two = and_parts (holds (h key) (entry_in entry)) (is_public_key key) matched in
-    let held = ap (holds (h key)) (sym read) ∙ two.0 in
-    sym ((bytes_eq-Decides (h c.spki) (h key)).0 held)
+    let two = and_parts (holds h key (entry_in entry)) (is_public_key key) matched in
+    let held = ap (holds h key) (sym read) ∙ two.0 in
+    let both = and_parts (algorithm_agrees (algorithm_for form c.spki) key)
+    (bytes_eq (h c.spki) (h key)) held in
+    sym ((bytes_eq-Decides (h c.spki) (h key)).0 both.1)
 
 last_in : (xs ys : List Text) (x : Text) → Contains (xs ++ (ys ++ x ∷ [])) x
 last_in xs ys x =
@@ -216,16 +220,19 @@ last_in xs ys x =
 pub keys_decide : (h : HashFunction) (x : AuditCase) (entry key one other : Text)
     → ((bytes : Text) → length (h bytes) ≡ 32) → IsCertificate x.cert
     → entry ≡ listed_entry x.items x.accepted.index → key ≡ listed_key x.items x.accepted.index
-    → is_key_of h entry key ≡ true → listed_entry x.items x.accepted.index ≡ entry_of h x.cert
+    → is_key_of h entry key ≡ true
+    → listed_entry x.items x.accepted.index ≡ entry_by h x.store x.cert
     → bytes_eq key x.cert.spki ≡ false → one ≡ key → other ≡ x.cert.spki
     → Decides h x (Pair one other)
 keys_decide h x entry key one other sized fits at is own same differ first second =
-    let hash = one_hash h entry key x.cert sized fits (at ∙ same) own in
+    let hash = one_hash h (form_by x.store x.cert.serial) entry key x.cert sized fits (at ∙ same)
+    own in
     let apart : key ≢ x.cert.spki = λ e.
     true≢false (sym ((bytes_eq-Decides key x.cert.spki).1 e) ∙ differ) in
     let unlike : bytes_eq (listed_key x.items x.accepted.index) x.cert.spki ≡ false =
     ap (λ (k : Text). bytes_eq k x.cert.spki) (sym is) ∙ differ in (
-      and_right (bytes_eq (listed_entry x.items x.accepted.index) (entry_of h x.cert)) _ unlike,
+      and_right (bytes_eq (listed_entry x.items x.accepted.index) (entry_by h x.store x.cert)) _
+          unlike,
       record {
         differ = λ e. apart (sym first ∙ (e ∙ second));
         one_hash = ap h first ∙ (hash ∙ ap h (sym second));
@@ -234,7 +241,7 @@ keys_decide h x entry key one other sized fits at is own same differ first secon
             (prefix_inputs_of h x.items.entries x.kept) (listed_key x.items x.accepted.index));
         second = subst (Contains (seconds_of h x)) (sym second)
             (last_in (eval_inputs_of h (x.accepted.index - x.accepted.start)
-            (x.accepted.end - x.accepted.start) (entry_of h x.cert) x.proof.path)
+            (x.accepted.end - x.accepted.start) (entry_by h x.store x.cert) x.proof.path)
             (proof_inputs_of h x.kept) x.cert.spki);
       },
     )
@@ -242,7 +249,8 @@ keys_decide h x entry key one other sized fits at is own same differ first secon
 -- ---- two strings of the tree of the interval and of the path
 
 pub list_decides : (h : HashFunction) (x : AuditCase) (entries : List Text) (entry one other : Text)
-    (f : Finding) → entries ≡ x.items.entries → entry ≡ entry_of h x.cert → f ≡ Found one other
+    (f : Finding) → entries ≡ x.items.entries → entry ≡ entry_by h x.store x.cert
+    → f ≡ Found one other
     → Extracts h (get_or entries x.accepted.index [] ≡ entry)
     (inputs_of h (part_of entries x.accepted.start x.accepted.end))
     (eval_inputs_of h (x.accepted.index - x.accepted.start) (x.accepted.end - x.accepted.start)
@@ -253,15 +261,16 @@ list_decides h x entries entry one other f is made found e =
     let At : List Text → Text → Type 0 = λ es en.
     Extracts h (get_or es a.index [] ≡ en) (inputs_of h (part_of es a.start a.end))
     (eval_inputs_of h (a.index - a.start) (a.end - a.start) en x.proof.path) (Found one other) in
-    let here : At x.items.entries (entry_of h x.cert) =
+    let here : At x.items.entries (entry_by h x.store x.cert) =
     subst (At x.items.entries) made (subst (λ (es : List Text). At es entry) is
     (subst (λ (g : Finding). Extracts h (get_or entries a.index [] ≡ entry)
     (inputs_of h (part_of entries a.start a.end))
     (eval_inputs_of h (a.index - a.start) (a.end - a.start) entry x.proof.path) g) found e)) in (
       and_left _ (bytes_eq (listed_key x.items a.index) x.cert.spki)
-          (decides_false (listed_entry x.items a.index) (entry_of h x.cert) here.0),
+          (decides_false (listed_entry x.items a.index) (entry_by h x.store x.cert) here.0),
       collision_widened h (inputs_of h (part_of x.items.entries a.start a.end))
-          (eval_inputs_of h (a.index - a.start) (a.end - a.start) (entry_of h x.cert) x.proof.path)
+          (eval_inputs_of h (a.index - a.start) (a.end - a.start) (entry_by h x.store x.cert)
+          x.proof.path)
           (firsts_of h x) (seconds_of h x) one other
           (Contains-append_left _ _ one) (Contains-append_left _ _ other) here.1,
     )
@@ -271,7 +280,7 @@ list_decides h x entries entry one other f is made found e =
 pub sign_decides : (h : HashFunction) (x : AuditCase) (e : Export) (entries : List Text)
     (given : List Step) (one other : Text) (f : Finding) (same : Type 0) → x.kept ≡ Some e
     → entries ≡ x.items.entries → given ≡ e.steps → f ≡ Found one other
-    → has_own h x.items x.accepted x.cert ≡ false
+    → has_own h x.store x.items x.accepted x.cert ≡ false
     → Extracts h same (prefix_inputs h entries given) (proof_inputs h given) f
     → Decides h x (Pair one other)
 sign_decides h x e entries given one other f same kept is reported found own shown =
@@ -297,7 +306,7 @@ sign_decides h x e entries given one other f same kept is reported found own sho
           (subst (λ (xs : List Text). Contains xs one) (sym prefixes) c)))
           (λ (c : Contains (proof_inputs h e.steps) other).
           Contains-append_right (eval_inputs_of h (a.index - a.start) (a.end - a.start)
-          (entry_of h x.cert) x.proof.path) _ other
+          (entry_by h x.store x.cert) x.proof.path) _ other
           (Contains-append_left (proof_inputs_of h x.kept) (x.cert.spki ∷ []) other
           (subst (λ (xs : List Text). Contains xs other) (sym proofs) c))) here.1,
     )

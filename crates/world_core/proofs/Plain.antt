@@ -11,9 +11,11 @@ use Rattle.tree_core.specs.Tree.{tree_hash}
 use Rattle.tree_proofs.proofs.Parts.{part_of-zero}
 use Rattle.log_entry.specs.Entries.{body_text, tbs_text}
 use Rattle.log_entry.specs.EntryOf.{entry_of, tbs_with}
+use Rattle.log_entry.specs.declared.entry.Form.{Form}
 use Rattle.entry_list.specs.Items.{AreItems}
 use Rattle.cosigner_core.specs.declared.lists.Export.{Export}
 use Rattle.cosigner_steps.specs.Steps.{HasPrefix, held_by}
+use Rattle.policy_core.specs.Judgement.{entry_by, form_by}
 use Rattle.policy_core.specs.declared.answer.By.{By}
 use Rattle.policy_core.specs.declared.answer.By.TheVariants.{Cosigners, Landmark}
 use Rattle.world_core.specs.Audit.{AuditCase, HasInterval, HasOwn, foreign_in, foreign_of, has_own}
@@ -53,10 +55,10 @@ by_prefix h x set export by kept has =
 
 -- ---- the entry and the key are there
 
-entry_starts : (h : HashFunction) (c : Parts)
-    → entry_of h c ≡ 0 ∷ (1 ∷ body_text (tbs_with c (h c.spki)))
+entry_starts : (h : HashFunction) (form : Form) (c : Parts)
+    → entry_of h form c ≡ 0 ∷ (1 ∷ body_text (tbs_with c form (h c.spki)))
 unfolding entry_of tbs_text
-entry_starts h c = refl
+entry_starts h form c = refl
 
 -- what an index past the end would have is no string with a first byte
 within_list : (xs : List Text) (i b : ℕ) (bs : Text) → get_or xs i [] ≡ b ∷ bs
@@ -67,15 +69,17 @@ within_list (x ∷ xs) (suc i) b bs is =
     let below = within_list xs i b bs is in omega (arith, below)
 
 pub own_there : (h : HashFunction) (x : AuditCase) → AreItems h x.items
-    → has_own h x.items x.accepted x.cert ≡ true → HasOwn h x
+    → has_own h x.store x.items x.accepted x.cert ≡ true → HasOwn h x
 own_there h x are own =
     let i = x.accepted.index in
-    let both = and_parts (bytes_eq (listed_entry x.items i) (entry_of h x.cert))
+    let both = and_parts (bytes_eq (listed_entry x.items i) (entry_by h x.store x.cert))
     (bytes_eq (listed_key x.items i) x.cert.spki) own in
-    let entry = (bytes_eq-Decides (listed_entry x.items i) (entry_of h x.cert)).0 both.0 in
+    let entry = (bytes_eq-Decides (listed_entry x.items i) (entry_by h x.store x.cert)).0 both.0 in
     let key = (bytes_eq-Decides (listed_key x.items i) x.cert.spki).0 both.1 in
+    let form = form_by x.store x.cert.serial in
     let within : i < length x.items.entries = within_list x.items.entries i 0
-    (1 ∷ body_text (tbs_with x.cert (h x.cert.spki))) (entry ∙ entry_starts h x.cert) in
+    (1 ∷ body_text (tbs_with x.cert form (h x.cert.spki)))
+    (entry ∙ entry_starts h form x.cert) in
     let beside : i < length x.items.keys = omega (arith, are.even, within) in
     record {
       entry = slice_get-get_or x.items.entries i [] within ∙ ap Some entry;

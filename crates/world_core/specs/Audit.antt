@@ -11,14 +11,13 @@ use Rattle.cert_fields.specs.Grammar.{IsCertificate}
 use Rattle.tree_core.specs.Path.{part_of}
 use Rattle.tree_core.specs.Tree.{tree_hash}
 use Rattle.tree_proofs.specs.declared.checkpoint.Checkpoint.{Checkpoint}
-use Rattle.log_entry.specs.EntryOf.{entry_of}
 use Rattle.entry_list.specs.Items.{ItemLists}
 use Rattle.mtc_proof.specs.Proofs.{ProofParts}
 use Rattle.mtc_proof.specs.Reading.{proof_in}
 use Rattle.cosigner_core.specs.declared.step.Step.{Step}
 use Rattle.cosigner_core.specs.declared.step.Step.TheVariants.{Advance, Sign}
 use Rattle.policy_core.specs.Counting.{is_in_set}
-use Rattle.policy_core.specs.Judgement.{judged}
+use Rattle.policy_core.specs.Judgement.{entry_by, judged}
 use Rattle.policy_core.specs.declared.answer.Accepted.{Accepted}
 use Rattle.policy_core.specs.declared.answer.By.{By}
 use Rattle.policy_core.specs.declared.answer.By.TheVariants.{Cosigners, Landmark}
@@ -133,15 +132,16 @@ listed_entry items index = slice_index_or items.entries index []
 abbrev pub listed_key : ItemLists → ℕ → Text
 listed_key items index = slice_index_or items.keys index []
 
--- The list has the certificate's entry at the accepted index, with the certificate's key.
-abbrev pub has_own : HashFunction → ItemLists → Accepted → Parts → Bool
-has_own h items a c =
-    bytes_eq (listed_entry items a.index) (entry_of h c)
+-- The list has the certificate's entry at the accepted index, in the form that the store gives it,
+-- with the certificate's key.
+abbrev pub has_own : HashFunction → Store → ItemLists → Accepted → Parts → Bool
+has_own h store items a c =
+    bytes_eq (listed_entry items a.index) (entry_by h store c)
     && bytes_eq (listed_key items a.index) c.spki
 
 -- The same in plain words: there they stand.
 pub record HasOwn (h : HashFunction) (x : AuditCase) : Type 0 where
-  pub entry : slice_get x.items.entries x.accepted.index ≡ Some (entry_of h x.cert)
+  pub entry : slice_get x.items.entries x.accepted.index ≡ Some (entry_by h x.store x.cert)
   pub key : slice_get x.items.keys x.accepted.index ≡ Some x.cert.spki
 
 -- ---- two strings
@@ -169,7 +169,7 @@ firsts_of h x =
 abbrev pub seconds_of : HashFunction → AuditCase → List Text
 seconds_of h x =
     eval_inputs_of h (x.accepted.index - x.accepted.start) (x.accepted.end - x.accepted.start)
-    (entry_of h x.cert) x.proof.path
+    (entry_by h x.store x.cert) x.proof.path
     ++ (proof_inputs_of h x.kept ++ x.cert.spki ∷ [])
 
 -- ---- the answers
@@ -184,9 +184,9 @@ abbrev pub Decides : HashFunction → AuditCase → Audit → Type 0
 Decides h x (Foreign wanted found) = ⊥
 Decides h x Unrecorded = ⊥
 Decides h x (Stands index) =
-    (has_own h x.items x.accepted x.cert ≡ true) × (index ≡ x.accepted.index)
+    (has_own h x.store x.items x.accepted x.cert ≡ true) × (index ≡ x.accepted.index)
 Decides h x (Pair one other) =
-    (has_own h x.items x.accepted x.cert ≡ false)
+    (has_own h x.store x.items x.accepted x.cert ≡ false)
     × IsCollision h (firsts_of h x) (seconds_of h x) one other
 
 -- The list is the one that is wanted, an export that is wanted supports it, and this answer decides

@@ -54,7 +54,7 @@ pub fn audit<H: TreeHash>(
         return Ok(answer);
     }
     match accepted.by {
-        By::Landmark => decide(alloc, accepted, cert, proof, items),
+        By::Landmark => decide(alloc, accepted, cert, proof, store, items),
         By::Cosigners(set) => match kept {
             Some(kept) => by_record(alloc, set, accepted, cert, proof, store, items, kept),
             None => Ok(Audit::Unrecorded),

@@ -5,11 +5,10 @@ ghost use Rattle.cert_fields.specs.Grammar.{IsCertificate};
 ghost use Rattle.cert_fields.specs.Views.{parts};
 ghost use Rattle.tree_core.specs.Evaluation.{evaluation};
 ghost use Rattle.tree_core.specs.Tree.{leaf_hash};
-ghost use Rattle.log_entry.specs.EntryOf.{entry_of};
+ghost use Rattle.policy_core.specs.Judgement.{entry_by};
 ghost use Rattle.mtc_proof.specs.Views.{proof_parts};
 ghost use Rattle.cosigner_core.specs.declared.step.Step.{Step};
 ghost use Rattle.cosigner_steps.specs.Steps.{AreSteps, HasPrefix, held_by};
-ghost use Rattle.policy_core.specs.declared.store.Store.{Store};
 ghost use Rattle.world_core.specs.Audit.{Decides, DecidesRecorded, has_own, is_sign_of};
 
 use crate::answer::Audit;
@@ -32,12 +31,14 @@ fn is_own<H: TreeHash>(
     alloc: Global,
     accepted: &Accepted,
     cert: &Cert,
+    store: &Store,
     items: &Items<'_, H>,
 ) -> Result<bool, Memory>
     requires { accepted.now.index < length items.now.entries }
-    ensures { IfOk result (λ own. own ≡ has_own H.hash items.now accepted.now (parts cert.now)) }
+    ensures { IfOk result
+        (λ own. own ≡ has_own H.hash store.now items.now accepted.now (parts cert.now)) }
 {
-    let entry = entry_of::<H>(alloc, cert)?;
+    let entry = entry_of::<H>(alloc, cert, store.form_at(cert.serial))?;
     let item = items.item(accepted.index as usize);
     Ok(item.entry == entry.as_slice() && item.spki == cert.spki)
 }
@@ -48,34 +49,35 @@ fn by_sign<H: TreeHash>(
     accepted: &Accepted,
     cert: &Cert,
     proof: &Proof,
+    store: &Store,
     items: &Items<'_, H>,
     kept: &Export,
     place: usize,
 ) -> Result<Audit, Memory>
     requires certificate { IsCertificate (parts cert.now) }
-    requires path { evaluation H.hash (leaf_hash H.hash (entry_of H.hash (parts cert.now)))
-        accepted.now.index accepted.now.start accepted.now.end (proof_parts proof.now).path
-        ≡ Ok accepted.now.hash }
+    requires path { evaluation H.hash
+        (leaf_hash H.hash (entry_by H.hash store.now (parts cert.now))) accepted.now.index
+        accepted.now.start accepted.now.end (proof_parts proof.now).path ≡ Ok accepted.now.hash }
     requires allowed { AreSteps H.hash kept.now.steps }
     requires within { place < length kept.now.steps }
     requires sign { (step : Step)
         → is_sign_of accepted.now (slice_index_or kept.now.steps place step) ≡ true }
     requires whole { HasPrefix H.hash items.now.entries (held_by H.hash kept.now.steps) }
-    ensures { IfOk result (λ answer. (store : Store) → Decides H.hash (record {
+    ensures { IfOk result (Decides H.hash (record {
       accepted = accepted.now;
       cert = parts cert.now;
       proof = proof_parts proof.now;
-      store = store;
+      store = store.now;
       items = items.now;
       kept = Some kept.now;
-    }) answer) }
+    })) }
 {
-    if is_own(alloc, accepted, cert, items)? {
+    if is_own(alloc, accepted, cert, store, items)? {
         return Ok(Audit::Stands(accepted.index));
     }
     let steps = kept.steps.as_slice();
     match find_signed::<H>(alloc, &items.entries(), steps, place, &steps[place])? {
-        Finding::Same => decide(alloc, accepted, cert, proof, items),
+        Finding::Same => decide(alloc, accepted, cert, proof, store, items),
         Finding::Pair(one, other) => Ok(Audit::Pair(one, other)),
     }
 }
@@ -92,9 +94,9 @@ pub(crate) fn by_record<H: TreeHash>(
     kept: &Export,
 ) -> Result<Audit, Memory>
     requires certificate { IsCertificate (parts cert.now) }
-    requires path { evaluation H.hash (leaf_hash H.hash (entry_of H.hash (parts cert.now)))
-        accepted.now.index accepted.now.start accepted.now.end (proof_parts proof.now).path
-        ≡ Ok accepted.now.hash }
+    requires path { evaluation H.hash
+        (leaf_hash H.hash (entry_by H.hash store.now (parts cert.now))) accepted.now.index
+        accepted.now.start accepted.now.end (proof_parts proof.now).path ≡ Ok accepted.now.hash }
     requires allowed { AreSteps H.hash kept.now.steps }
     requires whole { HasPrefix H.hash items.now.entries (held_by H.hash kept.now.steps) }
     ensures { IfOk result (DecidesRecorded H.hash set kept.now (record {
@@ -107,7 +109,7 @@ pub(crate) fn by_record<H: TreeHash>(
     })) }
 {
     match recorded_at(store, accepted, set, kept) {
-        Some(place) => by_sign(alloc, accepted, cert, proof, items, kept, place),
+        Some(place) => by_sign(alloc, accepted, cert, proof, store, items, kept, place),
         None => Ok(Audit::Unrecorded),
     }
 }

@@ -5,11 +5,10 @@ ghost use Rattle.cert_fields.specs.Grammar.{IsCertificate};
 ghost use Rattle.cert_fields.specs.Views.{parts};
 ghost use Rattle.tree_core.specs.Evaluation.{evaluation};
 ghost use Rattle.tree_core.specs.Tree.{leaf_hash};
-ghost use Rattle.log_entry.specs.EntryOf.{entry_of};
+ghost use Rattle.policy_core.specs.Judgement.{entry_by};
 ghost use Rattle.mtc_proof.specs.Proofs.{ProofParts};
 ghost use Rattle.mtc_proof.specs.Views.{proof_parts};
 ghost use Rattle.cosigner_core.specs.declared.lists.Export.{Export};
-ghost use Rattle.policy_core.specs.declared.store.Store.{Store};
 ghost use Rattle.world_core.specs.Audit.{HasInterval, Decides, listed_entry};
 
 use crate::answer::Audit;
@@ -19,7 +18,7 @@ use entry_list::Items;
 use log_entry::entry_of;
 use mtc_io::{Bytes, Memory};
 use mtc_proof::Proof;
-use policy_core::Accepted;
+use policy_core::{Accepted, Store};
 use std::alloc::Global;
 use tree_core::TreeHash;
 
@@ -29,17 +28,19 @@ fn by_key<H: TreeHash>(
     alloc: Global,
     accepted: &Accepted,
     cert: &Cert,
+    store: &Store,
     items: &Items<'_, H>,
 ) -> Result<Audit, Memory>
     requires certificate { IsCertificate (parts cert.now) }
     requires inside { accepted.now.index < length items.now.entries }
-    requires entry { listed_entry items.now accepted.now.index ≡ entry_of H.hash (parts cert.now) }
-    ensures { IfOk result (λ answer. (p : ProofParts) (store : Store) (kept : Option Export)
+    requires entry { listed_entry items.now accepted.now.index
+        ≡ entry_by H.hash store.now (parts cert.now) }
+    ensures { IfOk result (λ answer. (p : ProofParts) (kept : Option Export)
         → Decides H.hash (record {
           accepted = accepted.now;
           cert = parts cert.now;
           proof = p;
-          store = store;
+          store = store.now;
           items = items.now;
           kept = kept;
         }) answer) }
@@ -59,24 +60,25 @@ pub(crate) fn decide<H: TreeHash>(
     accepted: &Accepted,
     cert: &Cert,
     proof: &Proof,
+    store: &Store,
     items: &Items<'_, H>,
 ) -> Result<Audit, Memory>
     requires certificate { IsCertificate (parts cert.now) }
-    requires path { evaluation H.hash (leaf_hash H.hash (entry_of H.hash (parts cert.now)))
-        accepted.now.index accepted.now.start accepted.now.end (proof_parts proof.now).path
-        ≡ Ok accepted.now.hash }
+    requires path { evaluation H.hash
+        (leaf_hash H.hash (entry_by H.hash store.now (parts cert.now))) accepted.now.index
+        accepted.now.start accepted.now.end (proof_parts proof.now).path ≡ Ok accepted.now.hash }
     requires interval { HasInterval H.hash items.now accepted.now }
-    ensures { IfOk result (λ answer. (store : Store) (kept : Option Export)
+    ensures { IfOk result (λ answer. (kept : Option Export)
         → Decides H.hash (record {
           accepted = accepted.now;
           cert = parts cert.now;
           proof = proof_parts proof.now;
-          store = store;
+          store = store.now;
           items = items.now;
           kept = kept;
         }) answer) }
 {
-    let entry = entry_of::<H>(alloc, cert)?;
+    let entry = entry_of::<H>(alloc, cert, store.form_at(cert.serial))?;
     match in_list::<H, _>(
         alloc,
         &items.entries(),
@@ -86,7 +88,7 @@ pub(crate) fn decide<H: TreeHash>(
         entry.as_slice(),
         proof.path,
     )? {
-        Finding::Same => by_key(alloc, accepted, cert, items),
+        Finding::Same => by_key(alloc, accepted, cert, store, items),
         Finding::Pair(one, other) => Ok(Audit::Pair(one, other)),
     }
 }

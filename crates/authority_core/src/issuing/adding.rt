@@ -17,6 +17,7 @@ use crate::issuing::error::IssueError;
 use crate::requests::Request;
 use disk_core::Disk;
 use issuance_log::Log;
+use log_entry::Form;
 use std::alloc::Global;
 use tree_core::TreeHash;
 
@@ -55,7 +56,7 @@ pub fn issue<H: TreeHash, D: Disk, T: Disk>(
     log.law_sound();
     log.law_unrefused_records_are_taken();
     let settings = log.settings();
-    let entry = entry_of_request::<H>(alloc, &settings.id, request)?;
+    let entry = entry_of_request::<H>(alloc, &settings.id, Form::One, request)?;
     let index = log.add(entry.as_slice(), request.key.as_slice())?;
     Ok(index)
 }

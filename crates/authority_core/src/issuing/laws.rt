@@ -7,7 +7,8 @@ ghost use Rattle.tls_wire.specs.Arcs.{IsAnchorId};
 ghost use Rattle.tls_wire.specs.Anchors.{text_of};
 ghost use Rattle.cert_names.specs.LogNames.{log_in};
 ghost use Rattle.cert_fields.specs.Extensions.{dns_names_in, has_unknown_critical};
-ghost use Rattle.log_entry.specs.Matching.{matches};
+ghost use Rattle.log_entry.specs.Matching.{has_form, matches};
+ghost use Rattle.log_entry.specs.declared.entry.Form.{Form};
 ghost use Rattle.log_entry.specs.Reading.{entry_in};
 ghost use Rattle.issuance_log.specs.Folds.{LogState, log_of, view_in, with_item};
 ghost use Rattle.issuance_log.specs.Settings.{most_item};
@@ -16,25 +17,29 @@ ghost use Rattle.authority_core.specs.Issues.{issued_entry, issued_record};
 ghost use Rattle.authority_core.specs.Issuing.{entry_for, tbs_for};
 ghost use Rattle.authority_core.specs.Requests.{CanBeIssued, RequestParts};
 
-/// The entry of a request is read as its fields; its issuer names the log, its names are those of
-/// the request in their order, it has no critical extension that is unknown, and the key of the
-/// request belongs to it. So stores that are set up for the log accept its certificates.
+/// The entry of a request, in either form, is read as its fields; its issuer names the log, its
+/// names are those of the request in their order, it has no critical extension that is unknown, the
+/// key of the request belongs to it, and it has its form. So stores that are set up for the log
+/// accept its certificates.
 pub fn law_entries_say_what_was_asked()
-    ensures read { (h : HashFunction) (id : Text) (r : RequestParts)
+    ensures read { (h : HashFunction) (form : Form) (id : Text) (r : RequestParts)
         → ((bytes : Text) → length (h bytes) ≡ 32) → IsAnchorId id → CanBeIssued r
-        → entry_in (entry_for h id r) ≡ Ok (Some (tbs_for h id r)) }
-    ensures belongs { (h : HashFunction) (id : Text) (r : RequestParts)
+        → entry_in (entry_for h form id r) ≡ Ok (Some (tbs_for h form id r)) }
+    ensures belongs { (h : HashFunction) (form : Form) (id : Text) (r : RequestParts)
         → ((bytes : Text) → length (h bytes) ≡ 32) → IsAnchorId id → CanBeIssued r
-        → matches h (entry_for h id r) r.key ≡ true }
-    ensures issuer { (h : HashFunction) (id : Text) (r : RequestParts) → IsAnchorId id
-        → log_in (tbs_for h id r).issuer ≡ Some (text_of id) }
-    ensures names { (h : HashFunction) (id : Text) (r : RequestParts) → CanBeIssued r
-        → dns_names_in (tbs_for h id r).extensions ≡ r.names }
-    ensures known { (h : HashFunction) (id : Text) (r : RequestParts) → CanBeIssued r
-        → has_unknown_critical (tbs_for h id r).extensions ≡ false }
-    ensures own { (h : HashFunction) (id : Text) (r : RequestParts)
+        → matches h (entry_for h form id r) r.key ≡ true }
+    ensures form { (h : HashFunction) (form : Form) (id : Text) (r : RequestParts)
         → ((bytes : Text) → length (h bytes) ≡ 32) → IsAnchorId id → CanBeIssued r
-        → IsOwnEntry id (entry_for h id r) }
+        → has_form form (entry_for h form id r) ≡ true }
+    ensures issuer { (h : HashFunction) (form : Form) (id : Text) (r : RequestParts) → IsAnchorId id
+        → log_in (tbs_for h form id r).issuer ≡ Some (text_of id) }
+    ensures names { (h : HashFunction) (form : Form) (id : Text) (r : RequestParts) → CanBeIssued r
+        → dns_names_in (tbs_for h form id r).extensions ≡ r.names }
+    ensures known { (h : HashFunction) (form : Form) (id : Text) (r : RequestParts) → CanBeIssued r
+        → has_unknown_critical (tbs_for h form id r).extensions ≡ false }
+    ensures own { (h : HashFunction) (form : Form) (id : Text) (r : RequestParts)
+        → ((bytes : Text) → length (h bytes) ≡ 32) → IsAnchorId id → CanBeIssued r
+        → IsOwnEntry id (entry_for h form id r) }
 {}
 
 /// The record of what is issued follows the rules of a log's journal. After records that make a log

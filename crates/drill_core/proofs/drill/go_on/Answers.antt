@@ -10,6 +10,7 @@ returns g c = IfOk-weaker c.play.result _ _ (λ it played. λ number count is.
     let r = c.in_ok-round.ensures in
     standing_on g.H.TreeHash.hash number count c.args.dice.now.number c.round.new.self.number
     c.in_ok-round.round c.args.parties it (record {
+      sized = g.met.H.TreeHash.sized;
       was = is;
       drawn = r.drawn ∙ ap (λ (k : ℕ). round k c.args.dice.now.number)
           c.size_of-size.ensures.value;

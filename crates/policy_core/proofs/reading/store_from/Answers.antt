@@ -8,7 +8,8 @@ returns-in_err-cosigners-clause-exact c =
     let p = err_from_is_err_and c.from_residual-in_err-cosigners.result
     c.from_residual-in_err-cosigners.ensures.1 in
     rw (p.1, p.2) (λ other.
-    rules_fault (table_view c.args.root.now) c.in_ok-log.log _ c.in_ok-log.ensures
+    rules_fault (table_view c.args.root.now) (c.in_ok-log.log, c.in_ok-log.algorithm_from) _
+    c.in_ok-log.ensures
     (c.in_err-cosigners.ensures.err other))
 
 pub returns-in_err-subtrees-clause-exact : goal.returns-in_err-subtrees-clause-exact
@@ -16,6 +17,7 @@ returns-in_err-subtrees-clause-exact c =
     let p = err_from_is_err_and c.from_residual-in_err-subtrees.result
     c.from_residual-in_err-subtrees.ensures.1 in
     rw (p.1, p.2) (λ other.
-    revoked_fault (table_view c.args.root.now) c.in_ok-log.log c.in_ok-cosigners.cosigners
+    revoked_fault (table_view c.args.root.now) (c.in_ok-log.log, c.in_ok-log.algorithm_from)
+    c.in_ok-cosigners.cosigners
     c.in_ok-cosigners.rules _ c.in_ok-log.ensures c.in_ok-cosigners.ensures.ok.0
     c.in_ok-cosigners.ensures.ok.1 (c.in_err-subtrees.ensures.err other))

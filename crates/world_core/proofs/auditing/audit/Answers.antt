@@ -44,5 +44,5 @@ returns-in-Landmark g c =
       store = c.args.store.now;
       items = c.args.items.now;
       kept = option_map (λ e. e.now) c.args.kept;
-    }) c.in-Landmark.is) (decides c.args.store.now (option_map (λ e. e.now) c.args.kept)))
+    }) c.in-Landmark.is) (decides (option_map (λ e. e.now) c.args.kept)))
     c.decide.ensures

@@ -19,4 +19,4 @@ returns-in-Some g c =
       store = c.args.store.now;
       items = c.args.items.now;
       kept = Some c.args.kept.now;
-    }) answer c.in-Some.ensures.none (decides c.args.store.now)) c.by_sign.ensures
+    }) answer c.in-Some.ensures.none decides) c.by_sign.ensures

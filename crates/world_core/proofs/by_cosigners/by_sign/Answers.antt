@@ -20,12 +20,12 @@ decide-requires-clause-interval g c =
     c.index-steps-place.is c.entries.ensures c.in-Same.is (c.in_ok-find_signed.ensures {u = tt})
 
 pub returns-in-Pair : goal.returns-in-Pair
-returns-in-Pair g c = λ store.
+returns-in-Pair g c =
     sign_decides g.H.TreeHash.hash (record {
       accepted = c.args.accepted.now;
       cert = parts c.args.cert.now;
       proof = proof_parts c.args.proof.now;
-      store = store;
+      store = c.args.store.now;
       items = c.args.items.now;
       kept = Some c.args.kept.now;
     }) c.args.kept.now c.entries.result c.as_slice-steps.result.now c.in-Pair.one

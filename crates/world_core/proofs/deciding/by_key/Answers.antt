@@ -4,12 +4,12 @@ use Rattle.world_core.proofs.Decided.{keys_decide}
 use Rattle.world_core.proofs.deciding.by_key.Goals as goal
 
 pub returns : goal.returns
-returns g c = λ p store kept.
+returns g c = λ p kept.
     keys_decide g.H.TreeHash.hash (record {
       accepted = c.args.accepted.now;
       cert = parts c.args.cert.now;
       proof = p;
-      store = store;
+      store = c.args.store.now;
       items = c.args.items.now;
       kept = kept;
     }) c.item-item.result.entry.now c.item-item.result.spki.now c.in_ok-own.own c.in_ok-other.other

@@ -11,12 +11,12 @@ by_key-requires-clause-inside g c =
     omega arith
 
 pub returns : goal.returns
-returns g c = λ store kept.
+returns g c = λ kept.
     list_decides g.H.TreeHash.hash (record {
       accepted = c.args.accepted.now;
       cert = parts c.args.cert.now;
       proof = proof_parts c.args.proof.now;
-      store = store;
+      store = c.args.store.now;
       items = c.args.items.now;
       kept = kept;
     }) c.entries.result c.as_slice.result.now c.in-Pair.one c.in-Pair.other

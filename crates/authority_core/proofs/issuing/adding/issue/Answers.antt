@@ -3,6 +3,7 @@ use Rattle.std.proofs.Common.{sym, ◌∙◌}
 use Rattle.std.proofs.lemmas.Result.{err_from_is_err_and}
 use Rattle.byte_formats.specs.Types.{Text}
 use Rattle.log_entry.specs.Matching.{matches}
+use Rattle.log_entry.specs.declared.entry.Form.TheVariants.{One}
 use Rattle.issuance_log.specs.Folds.{one_item_more, with_item}
 use Rattle.issuance_log.specs.Records.{entry_record}
 use Rattle.issuance_log.specs.Words.{log_broken, log_end, modelled_state, view_of}
@@ -35,7 +36,7 @@ returns-clause-appends g c =
     (with_item entry key) log c.add.new.self (Ok c.in_ok-index.index)) _ _
     (issued_entry h (view_of log) r) r.key
     (c.as_slice.ensures ∙ c.in_ok-entry.ensures.bytes
-    ∙ ap (λ (s : Settings). entry_for h s.id r) (c.settings.view_is
+    ∙ ap (λ (s : Settings). entry_for h One s.id r) (c.settings.view_is
     ∙ c.settings-settings.ensures.value))
     (c.as_slice-2.ensures ∙ ap (λ (q : RequestParts). q.key) c.request.view_is)
     c.in_ok-index.ensures.appends
@@ -56,7 +57,7 @@ returns-clause-valid g c = λ made.
     c.law_unrefused_records_are_taken.ensures.added (issued_entry g.H.TreeHash.hash
     (view_of c.args.log.now) c.args.request.now) c.args.request.now.key
     (subst (λ (s : Settings). matches g.H.TreeHash.hash
-    (entry_for g.H.TreeHash.hash s.id c.args.request.now) c.args.request.now.key ≡ true)
+    (entry_for g.H.TreeHash.hash One s.id c.args.request.now) c.args.request.now.key ≡ true)
     (c.settings.view_is ∙ c.settings-settings.ensures.value) c.entry_of_request.ensures.belongs)
 
 pub returns-clause-answer : goal.returns-clause-answer
@@ -68,7 +69,7 @@ returns-clause-answer g c =
     key ≡ None) _ _
     (issued_entry h (view_of log) r) r.key
     (c.as_slice.ensures ∙ c.in_ok-entry.ensures.bytes
-    ∙ ap (λ (s : Settings). entry_for h s.id r) (c.settings.view_is
+    ∙ ap (λ (s : Settings). entry_for h One s.id r) (c.settings.view_is
     ∙ c.settings-settings.ensures.value))
     (c.as_slice-2.ensures ∙ ap (λ (q : RequestParts). q.key) c.request.view_is)
     c.in_ok-index.ensures.answer
@@ -106,7 +107,7 @@ returns-in_err-index-clause-appends g c =
     (with_item entry key) log c.add.new.self (Err c.in_err-index.field-0.0)) _ _
     (issued_entry h (view_of log) r) r.key
     (c.as_slice.ensures ∙ c.in_ok-entry.ensures.bytes
-    ∙ ap (λ (s : Settings). entry_for h s.id r) (c.settings.view_is
+    ∙ ap (λ (s : Settings). entry_for h One s.id r) (c.settings.view_is
     ∙ c.settings-settings.ensures.value))
     (c.as_slice-2.ensures ∙ ap (λ (q : RequestParts). q.key) c.request.view_is)
     c.in_err-index.ensures.appends)
@@ -123,7 +124,7 @@ returns-in_err-index-clause-answer g c =
     (log_broken log) (log_end log) entry key) (Err why)) _ _
     (issued_entry h (view_of log) r) r.key
     (c.as_slice.ensures ∙ c.in_ok-entry.ensures.bytes
-    ∙ ap (λ (s : Settings). entry_for h s.id r) (c.settings.view_is
+    ∙ ap (λ (s : Settings). entry_for h One s.id r) (c.settings.view_is
     ∙ c.settings-settings.ensures.value))
     (c.as_slice-2.ensures ∙ ap (λ (q : RequestParts). q.key) c.request.view_is)
     c.in_err-index.ensures.answer))
@@ -133,5 +134,5 @@ returns-in_err-index-clause-valid g c = λ made.
     c.law_unrefused_records_are_taken.ensures.added (issued_entry g.H.TreeHash.hash
     (view_of c.args.log.now) c.args.request.now) c.args.request.now.key
     (subst (λ (s : Settings). matches g.H.TreeHash.hash
-    (entry_for g.H.TreeHash.hash s.id c.args.request.now) c.args.request.now.key ≡ true)
+    (entry_for g.H.TreeHash.hash One s.id c.args.request.now) c.args.request.now.key ≡ true)
     (c.settings.view_is ∙ c.settings-settings.ensures.value) c.entry_of_request.ensures.belongs)

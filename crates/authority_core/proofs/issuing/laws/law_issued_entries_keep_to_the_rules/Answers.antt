@@ -1,3 +1,4 @@
+use Rattle.log_entry.specs.declared.entry.Form.TheVariants.{One}
 use Rattle.issuance_log.specs.Folds.{view_in}
 use Rattle.issuance_log.proofs.Encoded.{log_added}
 use Rattle.authority_core.specs.Issues.{issued_entry}
@@ -7,4 +8,4 @@ use Rattle.authority_core.proofs.issuing.laws.law_issued_entries_keep_to_the_rul
 pub returns : goal.returns
 returns c = λ h list s r sized anchor f is capacity few.
     log_added h list s (issued_entry h (view_in s) r) r.key is capacity few
-    (key_belongs h s.settings.id r sized anchor f)
+    (key_belongs h One s.settings.id r sized anchor f)
