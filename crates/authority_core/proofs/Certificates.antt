@@ -17,6 +17,7 @@ use Rattle.cert_fields.specs.declared.parts.CertParts.{CertParts}
 use Rattle.cert_fields.proofs.Sizes.{given-short}
 use Rattle.mtc_proof.specs.Proofs.{ProofParts, IsProof, proof_text}
 use Rattle.log_entry.specs.Entries.{TbsParts, tbs_text, entry_text, IsTbs}
+use Rattle.log_entry.specs.Forms.{form_at}
 use Rattle.log_entry.specs.Matching.{holds, matches}
 use Rattle.log_entry.specs.Reading.{entry_in}
 use Rattle.log_entry.specs.Views.{entry_parts, tbs_parts}
@@ -52,11 +53,12 @@ items_short h s (suc i) sound below =
 
 pub item_given : (h : HashFunction) (s : LogState) (index : ℕ) (entry key : Text) → IsSound h s
     → 1 ≤ index → index < length s.entries → item_at s index ≡ Ok (entry, key)
-    → IsItem h entry key
+    → IsItem h (form_at s.switched index) entry key
 item_given h s index entry key sound some below is =
     let same = item_is s index entry key below is in
-    subst (λ (k : Text). IsItem h entry k) same.1
-    (subst (λ (e : Text). IsItem h e (slice_index_or s.keys index [])) same.0
+    let form = form_at s.switched index in
+    subst (λ (k : Text). IsItem h form entry k) same.1
+    (subst (λ (e : Text). IsItem h form e (slice_index_or s.keys index [])) same.0
     (sound.items index some below))
 
 -- ---- an entry to which a key belongs is one of type 1

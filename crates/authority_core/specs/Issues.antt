@@ -1,20 +1,20 @@
 -- What issuing answers, in addition to what the log answers when an entry is added.
 use Rattle.std.specs.Prelude.{ℕ, Option, Result, Ok, Err}
 use Rattle.byte_formats.specs.Types.{Text, HashFunction}
-use Rattle.issuance_log.specs.Folds.{LogState, LogView, with_item}
+use Rattle.issuance_log.specs.Folds.{LogState, LogView, log_form, with_item}
 use Rattle.issuance_log.specs.Records.{entry_record}
 use Rattle.issuance_log.specs.Refusals.{ItemKeepsTo}
 use Rattle.issuance_log.specs.declared.error.LogError.{LogError}
 use Rattle.issuance_log.specs.declared.error.LogError.TheVariants as log_error
-use Rattle.log_entry.specs.declared.entry.Form.TheVariants.{One}
 use Rattle.authority_core.specs.Issuing.{entry_for}
 use Rattle.authority_core.specs.Requests.{RequestParts}
 use Rattle.authority_core.specs.declared.issuing.error.IssueError.{IssueError}
 use Rattle.authority_core.specs.declared.issuing.error.IssueError.TheVariants.{Log}
 
--- The entry that a log which shows this issues for a request: in form one, under its id.
+-- The entry that a log which shows this issues for a request: in the form of its next entry, under
+-- its id.
 abbrev pub issued_entry : HashFunction → LogView → RequestParts → Text
-issued_entry h v r = entry_for h One v.settings.id r
+issued_entry h v r = entry_for h (log_form v) v.settings.id r
 
 -- The record of that entry with the key of the request.
 abbrev pub issued_record : HashFunction → LogView → RequestParts → Text

@@ -13,7 +13,7 @@ mod writing;
 
 pub use issuing::{
     IssueError, entry_of_request, issue, law_entries_say_what_was_asked,
-    law_issued_entries_keep_to_the_rules,
+    law_issued_entries_keep_to_the_rules, law_stores_that_follow_the_log_give_its_forms,
 };
 pub use requests::{Field, Names, Request, RequestError, read_request};
 pub use writing::{WriteError, cert, light_cert};

@@ -62,4 +62,5 @@ log_with h size marks = record {
   keys = keys_to size;
   marks = marks;
   tiled = 0;
+  switched = None;
 }

@@ -1,4 +1,4 @@
--- What an item, a landmark or tiles more make of a log that does not refuse them.
+-- What an item, a landmark, tiles or a switch more make of a log that does not refuse them.
 use Rattle.std.proofs.Common.{◌≡◌, ◌≢◌, ℕ, ◌+◌, ◌<◌, ◌≤◌, ◌==◌, nat_lt, not, ◌∙◌, arith}
 use Rattle.std.proofs.Common.{if◌then◌else◌, Bool, true, false, length, Option, Some, None, refl}
 use Rattle.std.proofs.Common.{sym}
@@ -7,23 +7,26 @@ use Rattle.std.proofs.lemmas.Bool.Decides.{nat_tests}
 use Rattle.std.proofs.lemmas.Option.{IfSome_then}
 use Rattle.byte_formats.specs.Types.{Text}
 use Rattle.disk_core.specs.declared.disk.Disk.{Ghosts}
+use Rattle.journal_core.specs.declared.error.AppendError.{AppendError}
 use Rattle.journal_core.proofs.Folds.{state_next}
-use Rattle.log_entry.specs.Matching.{matches}
+use Rattle.log_entry.specs.Matching.{has_form, matches}
 use Rattle.tree_core.specs.declared.hashing.TreeHash.{Ghosts as Hashes}
 use Rattle.issuance_log.specs.Changes.{MakesOfLog}
 use Rattle.issuance_log.specs.Counted.{log_keeps}
-use Rattle.issuance_log.specs.Folds.{LogState, LogView, log_fold, with_item, with_mark}
-use Rattle.issuance_log.specs.Folds.{with_tiles}
+use Rattle.issuance_log.specs.Folds.{LogState, LogView, log_fold, log_form, with_item, with_mark}
+use Rattle.issuance_log.specs.Folds.{with_switch, with_tiles}
 use Rattle.issuance_log.specs.Marks.{last_mark}
-use Rattle.issuance_log.specs.Records.{entry_record, landmark_record, tiles_record}
-use Rattle.issuance_log.specs.Refusals.{add_refusal, full_size, mark_refusal, tile_refusal}
+use Rattle.issuance_log.specs.Records.{entry_record, landmark_record, switch_record, tiles_record}
+use Rattle.issuance_log.specs.Refusals.{add_refusal, full_size, mark_refusal, switch_refusal}
+use Rattle.issuance_log.specs.Refusals.{tile_refusal, unless_switched}
 use Rattle.issuance_log.specs.Settings.{most_item}
 use Rattle.issuance_log.specs.Shown.{shown_with}
 use Rattle.issuance_log.specs.Sound.{HasSoundNumbers}
 use Rattle.issuance_log.specs.declared.error.LogError.{LogError}
+use Rattle.issuance_log.specs.declared.error.LogError.TheVariants.{AlreadySwitched}
 use Rattle.issuance_log.specs.Words.{LogWouldTake, log_broken, log_end, log_records, view_of}
 use Rattle.issuance_log.specs.declared.log.Log.{Log}
-use Rattle.issuance_log.proofs.Changes.{item_makes, mark_makes, tiles_make}
+use Rattle.issuance_log.proofs.Changes.{item_makes, mark_makes, switch_makes, tiles_make}
 use Rattle.issuance_log.proofs.Growth.{last_in, size_fits}
 use Rattle.issuance_log.proofs.Shown.{shown_view}
 
@@ -46,6 +49,13 @@ passed : (b : Bool) (e : LogError) (o : Option LogError) → (if b then Some e e
 passed true e o is = let wrong : Some e ≡ None = is in cc
 passed false e o is = (refl, is)
 
+-- a log of which nothing is refused was not switched
+not_switched : (switched : Option ℕ) (refusal : Option AppendError)
+    → unless_switched switched refusal ≡ None → switched ≡ None
+not_switched None refusal is = refl
+not_switched (Some index) refusal is =
+    let wrong : Some (AlreadySwitched index) ≡ None = is in absurd cc
+
 below : (a b : ℕ) → a ≤ b → (a == b) ≡ false → a < b
 below a b few other = grind (arith, nat_tests)
 
@@ -60,15 +70,16 @@ module _ {H D T : Type 0} {hashes : Hashes H} {g : Ghosts D} {k : Ghosts T}
       (makes (shown_with (view_of log) list) (shown_view (view_of log) list is.all)))
 
   pub added_unrefused : (entry key : Text) → matches hashes.hash entry key ≡ true
+      → has_form (log_form (view_of log)) entry ≡ true
       → add_refusal (view_of log) (log_broken log) (log_end log) entry key ≡ None
       → LogWouldTake (entry_record entry key) (with_item entry key) log
   unfolding add_refusal
-  added_unrefused entry key belongs none =
+  added_unrefused entry key belongs form none =
       let first = passed _ _ _ none in
       let second = passed _ _ _ first.1 in
       makes_after (entry_record entry key) (with_item entry key)
       (item_makes hashes.hash (view_of log) entry key (below _ _ sound.few first.0)
-      (ltb-false most_item (length entry + length key) second.0) belongs)
+      (ltb-false most_item (length entry + length key) second.0) form belongs)
 
   pub marked_unrefused : mark_refusal (view_of log) (log_broken log) (log_end log) ≡ None
       → LogWouldTake (landmark_record (view_of log).size) with_mark log
@@ -89,3 +100,10 @@ module _ {H D T : Type 0} {hashes : Hashes H} {g : Ghosts D} {k : Ghosts T}
       makes_after (tiles_record size) (with_tiles size)
       (tiles_make hashes.hash (view_of log) size (omega arith) (omega arith)
       (leb-false size (view_of log).tiled first.0) (omega arith))
+
+  pub switched_unrefused : switch_refusal (view_of log) (log_broken log) (log_end log) ≡ None
+      → LogWouldTake (switch_record (view_of log).size) with_switch log
+  unfolding switch_refusal
+  switched_unrefused none =
+      makes_after (switch_record (view_of log).size) with_switch
+      (switch_makes hashes.hash (view_of log) sound (not_switched (view_of log).switched _ none))

@@ -13,7 +13,7 @@ use Rattle.journal_core.proofs.Bodies.{none_left, rest_at}
 use Rattle.issuance_log.specs.Folds.{LogState, begun_log, log_after, log_fold, log_of, new_log}
 use Rattle.issuance_log.specs.Folds.{log_by_step, next_log, takes_log_step, view_in}
 use Rattle.issuance_log.specs.LogSteps.{LogStep, adds_item, log_step_in, sets_mark, stores_tiles}
-use Rattle.issuance_log.specs.LogSteps.{unknown_step}
+use Rattle.issuance_log.specs.LogSteps.{switches, unknown_step}
 use Rattle.issuance_log.specs.Records.{item_in, settings_in}
 use Rattle.issuance_log.specs.Settings.{Settings}
 use Rattle.issuance_log.proofs.Steps.{step_item, step_item_is}
@@ -115,6 +115,11 @@ step_items s (sets_mark size) = record {
   keys = sym (append-nil s.keys);
 }
 step_items s (stores_tiles size) = record {
+  settings = refl;
+  entries = sym (append-nil s.entries);
+  keys = sym (append-nil s.keys);
+}
+step_items s (switches index) = record {
   settings = refl;
   entries = sym (append-nil s.entries);
   keys = sym (append-nil s.keys);

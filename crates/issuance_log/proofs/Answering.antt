@@ -15,12 +15,14 @@ use Rattle.issuance_log.specs.Changes.{IsJournalAnswer, KeepsToJournal}
 use Rattle.issuance_log.specs.Entries.{LogCounts}
 use Rattle.issuance_log.specs.Folds.{LogView}
 use Rattle.issuance_log.specs.Marks.{last_mark}
-use Rattle.issuance_log.specs.Records.{entry_record, landmark_record, tiles_record}
-use Rattle.issuance_log.specs.Refusals.{ItemKeepsTo, MarkKeepsTo, TilesKeepTo, add_refusal}
-use Rattle.issuance_log.specs.Refusals.{append_refusal, full_size, mark_refusal, tile_refusal}
+use Rattle.issuance_log.specs.Records.{entry_record, landmark_record, switch_record, tiles_record}
+use Rattle.issuance_log.specs.Refusals.{ItemKeepsTo, MarkKeepsTo, SwitchKeepsTo, TilesKeepTo}
+use Rattle.issuance_log.specs.Refusals.{add_refusal, append_refusal, full_size, mark_refusal}
+use Rattle.issuance_log.specs.Refusals.{switch_refusal, tile_refusal, unless_switched}
 use Rattle.issuance_log.specs.Settings.{most_item}
 use Rattle.issuance_log.specs.declared.error.LogError.{LogError}
-use Rattle.issuance_log.specs.declared.error.LogError.TheVariants.{Append, NothingNew}
+use Rattle.issuance_log.specs.declared.error.LogError.TheVariants.{AlreadySwitched, Append}
+use Rattle.issuance_log.specs.declared.error.LogError.TheVariants.{NothingNew}
 
 -- a test that fails
 else_is : {E : Type 0} (b : Bool) (e : E) (o : Option E) → b ≡ false
@@ -109,6 +111,45 @@ marked_answer v broken end text encoded above result is =
     (apart_test (last_mark v.marks) v.size above)))
     (by_answer MarkKeepsTo (λ answer o is. is) (λ o is. is) (λ o is. is) (λ o is. is) (by text)
     result is)
+
+-- the refusal of a first switch is that of the journal
+first_switch : (switched : Option ℕ) (refusal : Option AppendError) → switched ≡ None
+    → option_map Append refusal ≡ unless_switched switched refusal
+first_switch None refusal first = refl
+first_switch (Some index) refusal first =
+    let wrong : Some index ≡ None = first in absurd cc
+
+pub switched_answer : (v : LogView) (broken : Bool) (end : ℕ) (text : Text)
+    → text ≡ switch_record v.size → v.switched ≡ None → (result : Result ℕ LogError)
+    → KeepsToJournal (append_refusal broken end text) result
+    → SwitchKeepsTo (switch_refusal v broken end) result
+unfolding switch_refusal
+switched_answer v broken end text encoded first result is =
+    let by = append_refusal broken end in
+    subst (λ (o : Option LogError). SwitchKeepsTo o result)
+    (ap (λ (t : Text). option_map Append (by t)) encoded
+    ∙ first_switch v.switched (by (switch_record v.size)) first)
+    (by_answer SwitchKeepsTo (λ answer o is. is) (λ o is. is) (λ o is. is) (λ o is. is) (by text)
+    result is)
+
+-- nothing else is answered for it
+pub not_already : (v : LogView) (broken : Bool) (end : ℕ) → v.switched ≡ None → (index : ℕ)
+    → switch_refusal v broken end ≡ Some (AlreadySwitched index) → ⊥
+unfolding switch_refusal
+not_already v broken end first index is =
+    by_journal (append_refusal broken end (switch_record v.size))
+    (first_switch v.switched (append_refusal broken end (switch_record v.size)) first ∙ is)
+  where
+    by_journal : (o : Option AppendError) → option_map Append o ≡ Some (AlreadySwitched index) → ⊥
+    by_journal None is = absurd cc
+    by_journal (Some why) is = absurd cc
+
+-- a log that was switched refuses it
+pub already : (v : LogView) (broken : Bool) (end index : ℕ) → v.switched ≡ Some index
+    → switch_refusal v broken end ≡ Some (AlreadySwitched index)
+unfolding switch_refusal
+already v broken end index is =
+    ap (λ o. unless_switched o (append_refusal broken end (switch_record v.size))) is
 
 new_test : (a b : ℕ) → b < a → nat_le a b ≡ false
 new_test a b less = grind (arith, nat_tests)

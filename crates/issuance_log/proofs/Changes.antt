@@ -1,28 +1,32 @@
--- The records of an item, of a landmark and of tiles: what they make, and which capacity they need.
+-- The records of an item, of a landmark, of tiles and of a switch: what they make, and which
+-- capacity they need.
 use Rattle.std.proofs.Common.{◌≡◌, ℕ, ◌+◌, ◌%◌, ◌^◌, ◌<◌, ◌≤◌, length, Some, None}
 use Rattle.std.proofs.Common.{ap, sym, subst, ◌∙◌, true, arith}
 use Rattle.std.proofs.lemmas.Option.{same_Some}
 use Rattle.byte_formats.specs.Types.{HashFunction, Text}
 use Rattle.disk_core.specs.declared.disk.Disk.{Ghosts}
-use Rattle.log_entry.specs.Matching.{matches}
+use Rattle.log_entry.specs.Matching.{has_form, matches}
 use Rattle.tree_core.specs.declared.hashing.TreeHash.{Ghosts as Hashes}
 use Rattle.issuance_log.specs.Changes.{IsTakenAs, MakesOfLog}
 use Rattle.issuance_log.specs.Folds.{LogNumbers, LogView, next_log, next_view, one_item_more}
-use Rattle.issuance_log.specs.Folds.{one_mark_more, tiled_to, with_item, with_mark, with_tiles}
+use Rattle.issuance_log.specs.Folds.{log_form, one_mark_more, switched_now, tiled_to, with_item}
+use Rattle.issuance_log.specs.Folds.{with_mark, with_switch, with_tiles}
 use Rattle.issuance_log.specs.Items.{HasItemCapacity}
 use Rattle.issuance_log.specs.Machine.{HasCapacityFor}
 use Rattle.issuance_log.specs.Marks.{last_mark}
 use Rattle.issuance_log.specs.Records.{IsShort, entry_record, item_in, landmark_record, mark_in}
-use Rattle.issuance_log.specs.Records.{landmark_tag, tiles_record, tiles_tag}
+use Rattle.issuance_log.specs.Records.{landmark_tag, switch_record, switch_tag, tiles_record}
+use Rattle.issuance_log.specs.Records.{tiles_tag}
 use Rattle.issuance_log.specs.Results.{HasMarkCapacity}
 use Rattle.issuance_log.specs.Settings.{most_item}
 use Rattle.issuance_log.specs.Sound.{HasSoundNumbers}
 use Rattle.issuance_log.specs.declared.items.Items.{Items}
 use Rattle.issuance_log.proofs.Encoded.{item_again, length-entry, length-size, mark_alone}
-use Rattle.issuance_log.proofs.Encoded.{next_added, next_marked, next_tiled, size_again}
-use Rattle.issuance_log.proofs.Encoded.{tiles_no_item, tiles_no_mark}
+use Rattle.issuance_log.proofs.Encoded.{next_added, next_marked, next_switched, next_tiled}
+use Rattle.issuance_log.proofs.Encoded.{size_again, switch_no_item, switch_no_mark, tiles_no_item}
+use Rattle.issuance_log.proofs.Encoded.{tiles_no_mark}
 use Rattle.issuance_log.proofs.Growth.{size_fits}
-use Rattle.issuance_log.proofs.Views.{view_added, view_marked, view_tiled}
+use Rattle.issuance_log.proofs.Views.{view_added, view_marked, view_switched, view_tiled}
 
 -- a record whose length may be appended, and which is taken
 pub record IsGoodRecord (h : HashFunction) (v w : LogView) (body : Text) : Type 0 where
@@ -33,7 +37,8 @@ pub record IsGoodRecord (h : HashFunction) (v w : LogView) (body : Text) : Type 
 -- ---- an item
 
 module _ (h : HashFunction) (v : LogView) (entry key : Text) (capacity : v.size < v.settings.limit)
-    (few : length entry + length key ≤ most_item) (belongs : matches h entry key ≡ true) where
+    (few : length entry + length key ≤ most_item)
+    (form : has_form (log_form v) entry ≡ true) (belongs : matches h entry key ≡ true) where
   short_entry : IsShort entry
   short_entry = omega arith
 
@@ -43,11 +48,12 @@ module _ (h : HashFunction) (v : LogView) (entry key : Text) (capacity : v.size 
   pub item_makes : MakesOfLog h v (entry_record entry key) (with_item entry key)
   item_makes s is =
       next_added h s entry key (subst (λ (u : LogView). u.size < u.settings.limit) (sym is)
-      capacity) short_entry short_key belongs
+      capacity) short_entry short_key
+      (subst (λ (u : LogView). has_form (log_form u) entry ≡ true) (sym is) form) belongs
 
   pub item_taken_as : IsTakenAs h v (entry_record entry key) one_item_more (with_item entry key)
   item_taken_as = record {
-    shows = view_added h v entry key capacity short_entry short_key belongs;
+    shows = view_added h v entry key capacity short_entry short_key form belongs;
     makes = item_makes;
   }
 
@@ -112,6 +118,33 @@ module _ (h : HashFunction) (v : LogView) (size : ℕ) (fits : size < 2 ^ 64)
         takes = tiles_taken_as.shows;
       })
 
+-- ---- a switch
+
+module _ (h : HashFunction) (v : LogView) (sound : HasSoundNumbers v)
+    (first : v.switched ≡ None) where
+  switch_in_bytes : v.size < 2 ^ 64
+  switch_in_bytes = omega (arith, size_fits v sound)
+
+  pub switch_makes : MakesOfLog h v (switch_record v.size) with_switch
+  switch_makes s is =
+      subst (λ (u : LogView). u.size < 2 ^ 64 → u.switched ≡ None
+      → next_log h s (switch_record u.size) ≡ Some (with_switch s)) is (next_switched h s)
+      switch_in_bytes first
+
+  pub switch_taken_as : IsTakenAs h v (switch_record v.size) switched_now with_switch
+  switch_taken_as =
+      record { shows = view_switched h v switch_in_bytes first; makes = switch_makes }
+
+  pub switch_record_of : (text : Text) → text ≡ switch_record v.size
+      → IsGoodRecord h v (switched_now v) text
+  switch_record_of text text_is =
+      let size = length-size switch_tag v.size in
+      subst (λ (t : Text). IsGoodRecord h v (switched_now v) t) (sym text_is) (record {
+        some = omega arith;
+        few = omega arith;
+        takes = switch_taken_as.shows;
+      })
+
 -- ---- which capacity they need
 
 module _ {H T : Type 0} {hashes : Hashes H} {k : Ghosts T} (numbers : LogNumbers)
@@ -143,6 +176,11 @@ module _ {H T : Type 0} {hashes : Hashes H} {k : Ghosts T} (numbers : LogNumbers
   tiles_ready size is =
       without_item (ap item_in is ∙ tiles_no_item size)
       (subst (HasMarkCapacity numbers) (sym (ap mark_in is ∙ tiles_no_mark size)) tt)
+
+  pub switch_ready : (size : ℕ) → text ≡ switch_record size → HasCapacityFor numbers items text
+  switch_ready size is =
+      without_item (ap item_in is ∙ switch_no_item size)
+      (subst (HasMarkCapacity numbers) (sym (ap mark_in is ∙ switch_no_mark size)) tt)
 
 -- the tiles of the size that the record makes are stored
 pub stored_by : (h : HashFunction) (v w : LogView) (body : Text) (stored : ℕ)

@@ -20,21 +20,23 @@ use Rattle.tls_wire.proofs.Vectors.{vector_form}
 use Rattle.tls_wire.proofs.AnchorForm.{anchor_again}
 use Rattle.landmarks.specs.Limits.{most_active, most_entries}
 use Rattle.issuance_log.specs.Folds.{LogState, new_log, with_item, with_mark, with_tiles, view_in}
-use Rattle.issuance_log.specs.Folds.{begun_log, log_by_step, next_log, log_fold, log_of}
-use Rattle.issuance_log.specs.Folds.{takes_entry, takes_landmark, takes_log_step, takes_tiles}
+use Rattle.issuance_log.specs.Folds.{begun_log, log_after_step, log_form, next_log, log_fold}
+use Rattle.issuance_log.specs.Folds.{log_of, takes_entry, takes_landmark, takes_switch, takes_tiles}
+use Rattle.issuance_log.specs.Folds.{with_switch}
 use Rattle.issuance_log.specs.LogSteps.{LogStep, adds_item, log_step_in, sets_mark, stores_tiles}
+use Rattle.issuance_log.specs.LogSteps.{switches}
 use Rattle.issuance_log.specs.Marks.{last_mark}
-use Rattle.log_entry.specs.Matching.{matches}
+use Rattle.log_entry.specs.Matching.{has_form, matches}
 use Rattle.issuance_log.specs.Records.{log_tag, entry_tag, landmark_tag, tiles_tag, settings_at}
 use Rattle.issuance_log.specs.Records.{entry_at, entry_record, tiled_in, tiles_record}
 use Rattle.issuance_log.specs.Records.{with_id, log_settings_with, tagged, settings_in}
 use Rattle.issuance_log.specs.Records.{item_in, mark_in, settings_record, size_in, size_record}
-use Rattle.issuance_log.specs.Records.{IsShort, landmark_record}
+use Rattle.issuance_log.specs.Records.{IsShort, landmark_record, switch_record, switch_tag}
 use Rattle.issuance_log.specs.Results.{LogFinds}
 use Rattle.issuance_log.specs.declared.error.RecordError.{RecordError}
 use Rattle.issuance_log.specs.declared.error.RecordError.TheVariants.{Unfit, Memory}
 use Rattle.issuance_log.specs.Settings.{Settings, most_item, are_allowed, AreAllowed}
-use Rattle.issuance_log.proofs.Steps.{says_item, says_mark, says_tiles}
+use Rattle.issuance_log.proofs.Steps.{says_item, says_mark, says_switch, says_tiles}
 use Rattle.journal_core.proofs.Folds.{state_begins, state_next}
 
 pub length-settings : (s : Settings) → length (settings_record s) ≡ 10 + length s.id
@@ -112,11 +114,9 @@ no_item body Memory is none = let wrong : Memory ≡ Unfit = is in cc
 -- the log after a record that says this
 pub next_says : (h : List ℕ → List ℕ) (s : LogState) (body : List ℕ) (x : LogStep)
     → log_step_in body ≡ x
-    → next_log h s body
-    ≡ (if takes_log_step h (view_in s) x then Some (log_by_step x s) else None)
+    → next_log h s body ≡ log_after_step h s x
 unfolding next_log
-next_says h s body x is =
-    ap (λ (y : LogStep). if takes_log_step h (view_in s) y then Some (log_by_step y s) else None) is
+next_says h s body x is = ap (log_after_step h s) is
 
 -- ---- a Landmark and a Tiles
 
@@ -149,6 +149,22 @@ pub tiles_no_mark : (size : ℕ) → mark_in (tiles_record size) ≡ None
 unfolding size_in size_record
 tiles_no_mark size = ap (tagged landmark_tag (number_at w64))
     ((number_form w8 (2 ^ 8) wide8).again tiles_tag 0 (number w64 size) (omega arith) tt)
+
+-- a Switch is none of these
+pub switch_no_item : (size : ℕ) → item_in (switch_record size) ≡ None
+unfolding item_in size_record
+switch_no_item size = ap (tagged entry_tag entry_at)
+    ((number_form w8 (2 ^ 8) wide8).again switch_tag 0 (number w64 size) (omega arith) tt)
+
+pub switch_no_mark : (size : ℕ) → mark_in (switch_record size) ≡ None
+unfolding size_in size_record
+switch_no_mark size = ap (tagged landmark_tag (number_at w64))
+    ((number_form w8 (2 ^ 8) wide8).again switch_tag 0 (number w64 size) (omega arith) tt)
+
+pub switch_no_tiles : (size : ℕ) → tiled_in (switch_record size) ≡ None
+unfolding size_in size_record
+switch_no_tiles size = ap (tagged tiles_tag (number_at w64))
+    ((number_form w8 (2 ^ 8) wide8).again switch_tag 0 (number w64 size) (omega arith) tt)
 
 -- ---- a Log
 
@@ -206,11 +222,11 @@ log_created h s id allowed = state_begins (log_fold h) (settings_record s) (new_
 -- of one Entry more
 pub next_added : (h : List ℕ → List ℕ) (s : LogState) (entry key : List ℕ)
     → length s.entries < s.settings.limit → IsShort entry → IsShort key
-    → matches h entry key ≡ true → next_log h s (entry_record entry key)
-    ≡ Some (with_item entry key s)
-next_added h s entry key capacity few_entry few_key belongs =
+    → has_form (log_form (view_in s)) entry ≡ true → matches h entry key ≡ true
+    → next_log h s (entry_record entry key) ≡ Some (with_item entry key s)
+next_added h s entry key capacity few_entry few_key form belongs =
     let test : takes_entry h (view_in s) (entry, key) ≡ true =
-    rw (lt-ltb (length s.entries) s.settings.limit capacity, belongs) refl in
+    rw (lt-ltb (length s.entries) s.settings.limit capacity, form, belongs) refl in
     next_says h s (entry_record entry key) (adds_item (entry, key))
     (says_item (entry_record entry key) (entry, key) (item_again entry key few_entry few_key))
     ∙ ap (λ (b : Bool). if b then Some (with_item entry key s) else None) test
@@ -244,10 +260,22 @@ next_tiled h s size fits multiple above within =
     (size_again tiles_tag (omega arith) size fits))
     ∙ ap (λ (b : Bool). if b then Some (with_tiles size s) else None) test
 
+-- of the Switch
+pub next_switched : (h : List ℕ → List ℕ) (s : LogState) → length s.entries < 2 ^ 64
+    → s.switched ≡ None → next_log h s (switch_record (length s.entries)) ≡ Some (with_switch s)
+next_switched h s fits first =
+    let size = length s.entries in
+    let test : takes_switch (view_in s) size ≡ true = rw (first, eq-eqb size size refl) refl in
+    next_says h s (switch_record size) (switches size)
+    (says_switch (switch_record size) size (switch_no_item size) (switch_no_mark size)
+    (switch_no_tiles size) (size_again switch_tag (omega arith) size fits))
+    ∙ ap (λ (b : Bool). if b then Some (with_switch s) else None) test
+
 pub log_added : (h : List ℕ → List ℕ) (list : List (List ℕ)) (s : LogState) (entry key : List ℕ)
     → log_of h list ≡ Ok s → length s.entries < s.settings.limit
-    → length entry + length key ≤ most_item → matches h entry key ≡ true
+    → length entry + length key ≤ most_item → has_form (log_form (view_in s)) entry ≡ true
+    → matches h entry key ≡ true
     → log_of h (list ++ entry_record entry key ∷ []) ≡ Ok (with_item entry key s)
-log_added h list s entry key is capacity few belongs =
+log_added h list s entry key is capacity few form belongs =
     state_next (log_fold h) list s (entry_record entry key) (with_item entry key s) is
-    (next_added h s entry key capacity (omega arith) (omega arith) belongs)
+    (next_added h s entry key capacity (omega arith) (omega arith) form belongs)

@@ -1,11 +1,17 @@
 -- A log with one item, one landmark or other tiles more is sound.
 use Rattle.std.proofs.Common.{◌≡◌, ◌⊎◌, inl, inr, ℕ, suc, ◌+◌, ◌-◌, ◌%◌, ◌^◌, ◌<◌, ◌≤◌, List, []}
-use Rattle.std.proofs.Common.{◌∷◌, ◌++◌, length, get_or, subst, ap, sym, ◌∙◌, arith}
+use Rattle.std.proofs.Common.{◌∷◌, ◌++◌, length, get_or, Option, Some, None, IfSome, Bool, true}
+use Rattle.std.proofs.Common.{false, refl, subst, ap, sym, ◌∙◌, arith}
+use Rattle.std.specs.Prelude.{if◌then◌else◌, is_none, nat_le}
+use Rattle.std.proofs.lemmas.Bool.Decides.{nat_tests}
 use Rattle.std.proofs.lemmas.List.{length-append, length_push, get_or_append_left}
 use Rattle.std.proofs.Math.Seq.{get_or-append_seam}
 use Rattle.byte_formats.specs.Types.{Text, HashFunction}
-use Rattle.issuance_log.specs.Folds.{LogState, LogView, one_item_more, one_mark_more, tiled_to}
-use Rattle.issuance_log.specs.Folds.{view_in, with_item}
+use Rattle.log_entry.specs.Forms.{form_at}
+use Rattle.log_entry.specs.declared.entry.Form.{Form}
+use Rattle.log_entry.specs.declared.entry.Form.TheVariants.{One, Two}
+use Rattle.issuance_log.specs.Folds.{LogState, LogView, log_form, one_item_more, one_mark_more}
+use Rattle.issuance_log.specs.Folds.{switched_now, tiled_to, view_in, with_item, with_switch}
 use Rattle.issuance_log.specs.Marks.{last_mark, AreRising}
 use Rattle.issuance_log.specs.Sound.{HasSoundNumbers, IsItem, IsSound}
 
@@ -55,6 +61,16 @@ size_fits v is =
     let limit = is.allowed.few in
     omega arith
 
+-- a size that a log had is one that it had before one more entry too
+within_later : (switched : Option ℕ) (size : ℕ) → IfSome switched (λ index. index ≤ size)
+    → IfSome switched (λ index. index ≤ size + 1)
+within_later None size is = tt
+within_later (Some index) size is = omega (arith, is)
+
+pub none_is : {A : Type 0} (o : Option A) → is_none o ≡ true → o ≡ None
+none_is None is = refl
+none_is (Some x) is = let wrong : false ≡ true = is in absurd cc
+
 pub numbers_marked : (v : LogView) → HasSoundNumbers v → last_mark v.marks < v.size
     → HasSoundNumbers (one_mark_more v)
 numbers_marked v is above = record {
@@ -64,6 +80,7 @@ numbers_marked v is above = record {
   marks = rising_with 0 v.size v.marks is.marks is.some above;
   multiple = is.multiple;
   tiled = is.tiled;
+  switched = is.switched;
 }
 
 pub numbers_with : (v : LogView) → HasSoundNumbers v → v.size < v.settings.limit
@@ -75,6 +92,7 @@ numbers_with v is capacity = record {
   marks = rising_on 0 v.size (v.size + 1) v.marks (omega arith) is.marks;
   multiple = is.multiple;
   tiled = omega (arith, is.tiled);
+  switched = within_later v.switched v.size is.switched;
 }
 
 pub numbers_tiled : (v : LogView) (size : ℕ) → HasSoundNumbers v → size % 256 ≡ 0
@@ -86,16 +104,33 @@ numbers_tiled v size is multiple within = record {
   marks = is.marks;
   multiple = multiple;
   tiled = within;
+  switched = is.switched;
+}
+
+pub numbers_switched : (v : LogView) → HasSoundNumbers v → HasSoundNumbers (switched_now v)
+numbers_switched v is = record {
+  allowed = is.allowed;
+  some = is.some;
+  few = is.few;
+  marks = is.marks;
+  multiple = is.multiple;
+  tiled = is.tiled;
+  switched = omega arith;
 }
 
 -- a log with one item more is sound, and one with other numbers
 pub sound_with : (h : HashFunction) (s : LogState) (entry key : Text) → IsSound h s
-    → length s.entries < s.settings.limit → IsItem h entry key
+    → length s.entries < s.settings.limit → IsItem h (log_form (view_in s)) entry key
     → IsSound h (with_item entry key s)
 sound_with h s entry key is few item = record {
   numbers = subst HasSoundNumbers
-      (ap (λ (n : ℕ). record { settings = s.settings; size = n; marks = s.marks; tiled = s.tiled })
-      (sym (length_push s.entries entry)))
+      (ap (λ (n : ℕ). record {
+        settings = s.settings;
+        size = n;
+        marks = s.marks;
+        tiled = s.tiled;
+        switched = s.switched;
+      }) (sym (length_push s.entries entry)))
       (numbers_with (view_in s) is.numbers few);
   even = simp length-append (omega (arith, is.even));
   first_entry = get_or_append_left s.entries (entry ∷ []) [] 0 (omega (arith, is.numbers.some))
@@ -110,7 +145,8 @@ sound_with h s entry key is few item = record {
     here i below = let size = length-append s.entries (entry ∷ []) in grind (arith, size)
 
     at : (i : ℕ) → 1 ≤ i → (i < length s.entries) ⊎ (i ≡ length s.entries)
-        → IsItem h (get_or (s.entries ++ entry ∷ []) i []) (get_or (s.keys ++ key ∷ []) i [])
+        → IsItem h (form_at s.switched i) (get_or (s.entries ++ entry ∷ []) i [])
+        (get_or (s.keys ++ key ∷ []) i [])
     at i one (inl before) =
         rw (
           get_or_append_left s.entries (entry ∷ []) [] i before,
@@ -125,4 +161,30 @@ sound_with h s entry key is few item = record {
         let key_is : get_or (s.keys ++ key ∷ []) i [] ≡ key =
         ap (λ (n : ℕ). get_or (s.keys ++ key ∷ []) n []) end
         ∙ get_or-append_seam s.keys key [] [] in
-        rw (entry_is, key_is) item
+        let form : log_form (view_in s) ≡ form_at s.switched i =
+        ap (form_at s.switched) (sym last) in
+        rw (entry_is, key_is) (subst (λ (f : Form). IsItem h f entry key) form item)
+
+-- ---- a log that was switched
+
+-- Before the index at which a log is switched entries have form one.
+form_before : (index i : ℕ) → i < index → form_at (Some index) i ≡ One
+form_before index i below =
+    ap (λ (b : Bool). if b then Two else One) (lt-leb index i below)
+  where
+    lt-leb : (a b : ℕ) → b < a → nat_le a b ≡ false
+    lt-leb a b less = grind (arith, nat_tests)
+
+-- The entries of a log that is switched have the form that they had.
+pub sound_switched : (h : HashFunction) (s : LogState) → IsSound h s → s.switched ≡ None
+    → IsSound h (with_switch s)
+sound_switched h s is first = record {
+  numbers = numbers_switched (view_in s) is.numbers;
+  even = is.even;
+  first_entry = is.first_entry;
+  first_key = is.first_key;
+  items = λ i one below.
+      let before : form_at s.switched i ≡ One = ap (λ o. form_at o i) first in
+      subst (λ (f : Form). IsItem h f (get_or s.entries i []) (get_or s.keys i []))
+      (before ∙ sym (form_before (length s.entries) i below)) (is.items i one below);
+}

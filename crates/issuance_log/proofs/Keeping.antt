@@ -2,7 +2,7 @@
 use Rattle.std.proofs.Common.{◌≡◌, ℕ, ◌<◌, ◌≤◌, List, [], ◌∷◌, ◌++◌, length, Option}
 use Rattle.std.proofs.Common.{Some, None, IfSome, option_map, Ok, refl, ap, sym, subst, ◌∙◌, arith}
 use Rattle.std.proofs.Common.{◌%◌, ◌==◌, ◌&&◌, nat_le, nat_lt, true, false}
-use Rattle.std.specs.Prelude.{map, option_to_list}
+use Rattle.std.specs.Prelude.{is_none, map, option_to_list}
 use Rattle.std.proofs.lemmas.Bool.{and_parts, eqb-true, leb-true, ltb-true}
 use Rattle.std.proofs.lemmas.List.{map-append}
 use Rattle.std.proofs.lemmas.Option.{same_Some}
@@ -10,14 +10,14 @@ use Rattle.byte_formats.specs.Types.{Text, HashFunction}
 use Rattle.byte_formats.proofs.Values.{map_some, when_some}
 use Rattle.journal_core.specs.Format.{following}
 use Rattle.journal_core.proofs.Folds.{state_begins, state_next}
-use Rattle.log_entry.specs.Matching.{matches}
+use Rattle.log_entry.specs.Matching.{has_form, matches}
 use Rattle.tree_core.specs.Tree.{leaf_hash}
 use Rattle.issuance_log.specs.Folds.{LogState, LogView, begun_log, log_fold, log_of, new_log}
-use Rattle.issuance_log.specs.Folds.{log_by_step, next_log, next_view, null_entry}
+use Rattle.issuance_log.specs.Folds.{log_by_step, log_form, next_log, next_view, null_entry}
 use Rattle.issuance_log.specs.Folds.{takes_log_step, view_in, with_mark, with_tiles}
 use Rattle.issuance_log.specs.Items.{AreKept, HasShortItem}
 use Rattle.issuance_log.specs.LogSteps.{LogStep, adds_item, log_step_in, sets_mark, stores_tiles}
-use Rattle.issuance_log.specs.LogSteps.{unknown_step}
+use Rattle.issuance_log.specs.LogSteps.{switches, unknown_step}
 use Rattle.issuance_log.specs.Marks.{last_mark}
 use Rattle.issuance_log.specs.ItemOffsets.{offsets_after}
 use Rattle.issuance_log.specs.Records.{item_in, settings_in}
@@ -25,7 +25,8 @@ use Rattle.issuance_log.specs.Settings.{Settings}
 use Rattle.issuance_log.specs.Shown.{recorded_items, shown_with}
 use Rattle.issuance_log.specs.Sound.{HasSoundNumbers, IsSound}
 use Rattle.issuance_log.proofs.After.{entries_of, next_items}
-use Rattle.issuance_log.proofs.Growth.{numbers_marked, numbers_tiled, sound_with}
+use Rattle.issuance_log.proofs.Growth.{none_is, numbers_marked, numbers_tiled, sound_switched}
+use Rattle.issuance_log.proofs.Growth.{sound_with}
 use Rattle.issuance_log.proofs.Shown.{all_shown, shown_size, shown_so}
 use Rattle.issuance_log.proofs.Shown.{shown_view}
 use Rattle.issuance_log.proofs.Standing.{offsets_with}
@@ -59,10 +60,18 @@ sound_step : (h : HashFunction) (s : LogState) (x : LogStep) → IsSound h s
     → HasShortItem (step_item x) → takes_log_step h (view_in s) x ≡ true
     → IsSound h (log_by_step x s)
 sound_step h s (adds_item x) sound short takes =
-    let tests = and_parts (nat_lt (length s.entries) s.settings.limit) (matches h x.0 x.1) takes in
+    let form = log_form (view_in s) in
+    let tests = and_parts (nat_lt (length s.entries) s.settings.limit)
+    (has_form form x.0 && matches h x.0 x.1) takes in
+    let belongs = and_parts (has_form form x.0) (matches h x.0 x.1) tests.1 in
     let both = short x.0 x.1 refl in
     sound_with h s x.0 x.1 sound (ltb-true (length s.entries) s.settings.limit tests.0)
-    (record { belongs = tests.1; short_entry = both.0; short_key = both.1 })
+    (record {
+      form_is = belongs.0;
+      belongs = belongs.1;
+      short_entry = both.0;
+      short_key = both.1;
+    })
 sound_step h s (sets_mark size) sound short takes =
     let tests = and_parts (size == length s.entries) (nat_lt (last_mark s.marks) size) takes in
     let same : size ≡ length s.entries = eqb-true size (length s.entries) tests.0 in
@@ -74,6 +83,9 @@ sound_step h s (stores_tiles size) sound short takes =
     let both = and_parts (nat_lt s.tiled size) (nat_le size (length s.entries)) tests.1 in
     sound_tiled h s size sound (eqb-true (size % 256) 0 tests.0)
     (leb-true size (length s.entries) both.1)
+sound_step h s (switches index) sound short takes =
+    let tests = and_parts (is_none s.switched) (index == length s.entries) takes in
+    sound_switched h s sound (none_is s.switched tests.0)
 sound_step h s unknown_step sound short takes = let wrong : false ≡ true = takes in absurd cc
 
 sound_next : (h : HashFunction) (s t : LogState) (body : Text) → IsSound h s

@@ -3,7 +3,7 @@ use Rattle.std.proofs.Common.{◌≡◌, inl, inr, ℕ, ◌%◌, ◌^◌, ◌<�
 use Rattle.std.proofs.Common.{true, List, ◌++◌, length, Option, Some, sym, ◌∙◌, arith}
 use Rattle.std.proofs.Common.{None, option_map, option_and_then, Result, Ok, Err, refl, subst, ap}
 use Rattle.std.specs.Int.{w8, w32}
-use Rattle.std.specs.Prelude.{if◌then◌else◌}
+use Rattle.std.specs.Prelude.{is_none}
 use Rattle.std.proofs.lemmas.Bool.{and_parts, eqb-true, leb-true, ltb-true}
 use Rattle.std.proofs.lemmas.Option.{same_Some}
 use Rattle.byte_formats.specs.Offsets.{at, IsBytes}
@@ -15,59 +15,63 @@ use Rattle.tls_wire.specs.Encoding.{number, vector}
 use Rattle.tls_wire.specs.declared.fault.AnchorBytesError.{AnchorBytesError}
 use Rattle.tls_wire.proofs.AnchorForm.{anchor_takes}
 use Rattle.landmarks.specs.Limits.{most_active, most_entries}
-use Rattle.log_entry.specs.Matching.{matches}
+use Rattle.log_entry.specs.Matching.{has_form, matches}
 use Rattle.issuance_log.specs.Folds.{LogState, new_log, with_item, with_mark, with_tiles, view_in}
-use Rattle.issuance_log.specs.Folds.{begun_log, log_by_step, next_log, takes_entry}
-use Rattle.issuance_log.specs.Folds.{takes_landmark, takes_log_step, takes_tiles}
+use Rattle.issuance_log.specs.Folds.{begun_log, log_after_step, log_form, next_log, takes_entry}
+use Rattle.issuance_log.specs.Folds.{takes_landmark, takes_switch, takes_tiles, with_switch}
 use Rattle.issuance_log.specs.LogSteps.{log_step}
 use Rattle.issuance_log.specs.Marks.{last_mark}
 use Rattle.issuance_log.specs.Records.{log_tag, settings_at, with_id, log_settings_with, tagged}
 use Rattle.issuance_log.specs.Records.{settings_in, item_in, mark_in, tiled_in, settings_record}
-use Rattle.issuance_log.specs.Records.{landmark_record, landmark_tag, tiles_tag}
+use Rattle.issuance_log.specs.Records.{landmark_record, landmark_tag, switch_in, switch_record}
+use Rattle.issuance_log.specs.Records.{switch_tag, tiles_tag}
 use Rattle.issuance_log.specs.Rules.{IsFirst, IsNext}
 use Rattle.issuance_log.specs.Settings.{Settings, are_allowed, AreAllowed}
 use Rattle.issuance_log.proofs.Encoded.{settings_text, settings_form}
 use Rattle.issuance_log.proofs.Encoded.{settings_again, item_takes, size_takes, tagged_takes}
-use Rattle.issuance_log.proofs.Encoded.{next_added, next_marked, next_tiled}
+use Rattle.issuance_log.proofs.Encoded.{next_added, next_marked, next_switched, next_tiled}
+use Rattle.issuance_log.proofs.Growth.{none_is}
 
 pub is_next : (h : List ℕ → List ℕ) (s : LogState) (body : List ℕ) (t : LogState)
     → IsNext h s body t → next_log h s body ≡ Some t
 is_next h s body t (inl is) =
     ap (next_log h s) is.encoded ∙ next_added h s is.entry is.key is.capacity is.short_entry
-    is.short_key is.belongs ∙ ap Some (sym is.made)
+    is.short_key is.form is.belongs ∙ ap Some (sym is.made)
 is_next h s body t (inr (inl is)) =
     ap (next_log h s) is.encoded ∙ next_marked h s is.fits is.above ∙ ap Some (sym is.made)
-is_next h s body t (inr (inr is)) =
+is_next h s body t (inr (inr (inl is))) =
     ap (next_log h s) is.encoded
     ∙ next_tiled h s is.size is.fits is.multiple is.above is.within ∙ ap Some (sym is.made)
+is_next h s body t (inr (inr (inr is))) =
+    ap (next_log h s) is.encoded ∙ next_switched h s is.fits is.first ∙ ap Some (sym is.made)
 
 pub next_is : (h : List ℕ → List ℕ) (s : LogState) (body : List ℕ) (t : LogState) → IsBytes body
     → next_log h s body ≡ Some t → IsNext h s body t
 unfolding next_log
 next_is h s body t bytes is =
-    go (item_in body) (mark_in body) (tiled_in body) refl refl refl is
+    go (item_in body) (mark_in body) (tiled_in body) (switch_in body) refl refl refl refl is
   where
-    go : (item : Option (List ℕ × List ℕ)) (mark tiled : Option ℕ) → item_in body ≡ item
-        → mark_in body ≡ mark → tiled_in body ≡ tiled
-        → (if takes_log_step h (view_in s) (log_step item mark tiled)
-        then Some (log_by_step (log_step item mark tiled) s) else None) ≡ Some t
-        → IsNext h s body t
-    go (Some x) mark tiled one two three is =
+    go : (item : Option (List ℕ × List ℕ)) (mark tiled switch : Option ℕ) → item_in body ≡ item
+        → mark_in body ≡ mark → tiled_in body ≡ tiled → switch_in body ≡ switch
+        → log_after_step h s (log_step item mark tiled switch) ≡ Some t → IsNext h s body t
+    go (Some x) mark tiled switch one two three four is =
         let encoded = item_takes body x.0 x.1 bytes one in
         let made = when_some (takes_entry h (view_in s) x) (Some (with_item x.0 x.1 s)) t is in
-        let tests = and_parts (nat_lt (length s.entries) s.settings.limit) (matches h x.0 x.1)
-        made.0 in
+        let tests = and_parts (nat_lt (length s.entries) s.settings.limit)
+        (has_form (log_form (view_in s)) x.0 && matches h x.0 x.1) made.0 in
+        let both = and_parts (has_form (log_form (view_in s)) x.0) (matches h x.0 x.1) tests.1 in
         inl (record {
           entry = x.0;
           key = x.1;
           encoded = encoded.0;
           short_entry = encoded.1;
           short_key = encoded.2;
-          belongs = tests.1;
+          form = both.0;
+          belongs = both.1;
           capacity = ltb-true (length s.entries) s.settings.limit tests.0;
           made = sym (same_Some _ _ made.1);
         })
-    go None (Some size) tiled one two three is =
+    go None (Some size) tiled switch one two three four is =
         let encoded = size_takes landmark_tag (omega arith) body size bytes two in
         let made = when_some (takes_landmark (view_in s) size) (Some (with_mark s)) t is in
         let tests = and_parts (size == length s.entries) (nat_lt (last_mark s.marks) size)
@@ -79,13 +83,13 @@ next_is h s body t bytes is =
           above = subst (λ (n : ℕ). last_mark s.marks < n) same (ltb-true _ _ tests.1);
           made = sym (same_Some _ _ made.1);
         }))
-    go None None (Some size) one two three is =
+    go None None (Some size) switch one two three four is =
         let encoded = size_takes tiles_tag (omega arith) body size bytes three in
         let made = when_some (takes_tiles (view_in s) size) (Some (with_tiles size s)) t is in
         let tests = and_parts (size % 256 == 0)
         (nat_lt s.tiled size && nat_le size (length s.entries)) made.0 in
         let both = and_parts (nat_lt s.tiled size) (nat_le size (length s.entries)) tests.1 in
-        inr (inr (record {
+        inr (inr (inl (record {
           size = size;
           encoded = encoded.0;
           fits = encoded.1;
@@ -93,8 +97,19 @@ next_is h s body t bytes is =
           above = ltb-true s.tiled size both.0;
           within = leb-true size (length s.entries) both.1;
           made = sym (same_Some _ _ made.1);
-        }))
-    go None None None one two three is = let wrong : None ≡ Some t = is in absurd cc
+        })))
+    go None None None (Some index) one two three four is =
+        let encoded = size_takes switch_tag (omega arith) body index bytes four in
+        let made = when_some (takes_switch (view_in s) index) (Some (with_switch s)) t is in
+        let tests = and_parts (is_none s.switched) (index == length s.entries) made.0 in
+        let same : index ≡ length s.entries = eqb-true index (length s.entries) tests.1 in
+        inr (inr (inr (record {
+          encoded = encoded.0 ∙ ap switch_record same;
+          fits = subst (λ (n : ℕ). n < 2 ^ 64) same encoded.1;
+          first = none_is s.switched tests.0;
+          made = sym (same_Some _ _ made.1);
+        })))
+    go None None None None one two three four is = let wrong : None ≡ Some t = is in absurd cc
 
 pub is_first : (body : List ℕ) (s : LogState) → IsFirst body s → begun_log body ≡ Some s
 unfolding begun_log

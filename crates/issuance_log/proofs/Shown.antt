@@ -22,6 +22,7 @@ made v entries keys = record {
   keys = keys;
   marks = v.marks;
   tiled = v.tiled;
+  switched = v.switched;
 }
 
 rebuilt : (s : LogState) (entries keys : List Text) → entries ≡ s.entries → keys ≡ s.keys
@@ -145,5 +146,10 @@ shown_size v list all =
 pub shown_view : (v : LogView) (list : List Text) → v.size ≡ length (recorded_items list)
     → view_in (shown_with v list) ≡ v
 shown_view v list all =
-    ap (λ (n : ℕ). record { settings = v.settings; size = n; marks = v.marks; tiled = v.tiled })
-    (shown_size v list all)
+    ap (λ (n : ℕ). record {
+      settings = v.settings;
+      size = n;
+      marks = v.marks;
+      tiled = v.tiled;
+      switched = v.switched;
+    }) (shown_size v list all)

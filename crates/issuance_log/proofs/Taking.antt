@@ -12,7 +12,7 @@ use Rattle.byte_formats.proofs.Values.{when_some}
 use Rattle.issuance_log.specs.Folds.{LogView, next_view, takes_log_step, view_by_step}
 use Rattle.issuance_log.specs.Items.{AreBelow}
 use Rattle.issuance_log.specs.LogSteps.{LogStep, adds_item, log_step_in, sets_mark, stores_tiles}
-use Rattle.issuance_log.specs.LogSteps.{unknown_step}
+use Rattle.issuance_log.specs.LogSteps.{switches, unknown_step}
 use Rattle.issuance_log.specs.Records.{item_in}
 use Rattle.issuance_log.proofs.Standing.{below_item, below_more}
 use Rattle.issuance_log.proofs.Steps.{step_item, step_item_is}
@@ -25,6 +25,7 @@ size_step : (v : LogView) (x : LogStep)
 size_step v (adds_item x) = refl
 size_step v (sets_mark size) = omega arith
 size_step v (stores_tiles size) = omega arith
+size_step v (switches index) = omega arith
 size_step v unknown_step = omega arith
 
 size_next : (h : HashFunction) (v w : LogView) (body : Text) → next_view h v body ≡ Some w

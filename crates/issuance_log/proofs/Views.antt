@@ -2,31 +2,34 @@
 use Rattle.std.proofs.Common.{◌≡◌, ℕ, ◌+◌, ◌%◌, ◌^◌, ◌<◌, ◌≤◌, Bool, true, false, List}
 use Rattle.std.proofs.Common.{[], ◌∷◌, ◌++◌, length, drop, Option, Some, None, option_map, Result}
 use Rattle.std.proofs.Common.{Ok, Err, IfOk, is_ok, refl, ap, sym, ◌∙◌, arith}
-use Rattle.std.specs.Prelude.{if◌then◌else◌, nat_lt}
+use Rattle.std.specs.Prelude.{◌&&◌, if◌then◌else◌, nat_lt}
 use Rattle.std.specs.Result.{result_map_both}
 use Rattle.std.proofs.lemmas.Bool.{and_parts, eq-eqb, le-leb, lt-ltb, ltb-true}
 use Rattle.std.proofs.lemmas.List.{length_push}
 use Rattle.byte_formats.specs.Types.{Text, HashFunction}
 use Rattle.byte_formats.specs.Readings.{◌>>=◌, some_or}
 use Rattle.journal_core.specs.Folds.{Fold, state_after, taken_from}
-use Rattle.log_entry.specs.Matching.{matches}
+use Rattle.log_entry.specs.Matching.{has_form, matches}
 use Rattle.state_journal.specs.declared.error.StateOpenError.{StateOpenError}
 use Rattle.state_journal.specs.declared.error.StateOpenError.TheVariants.{BadRecord, Open}
 use Rattle.issuance_log.specs.Folds.{LogState, LogView, begun_log, begun_view, log_by_step}
 use Rattle.issuance_log.specs.Folds.{log_fold, next_log}
 use Rattle.issuance_log.specs.Folds.{next_view, one_item_more, one_mark_more, takes_entry}
-use Rattle.issuance_log.specs.Folds.{takes_landmark, takes_log_step, takes_tiles, tiled_to}
+use Rattle.issuance_log.specs.Folds.{log_form, switched_now, takes_landmark, takes_log_step}
+use Rattle.issuance_log.specs.Folds.{takes_switch, takes_tiles, tiled_to, view_after_step}
 use Rattle.issuance_log.specs.Folds.{view_by_step, view_in, with_item}
 use Rattle.issuance_log.specs.LogSteps.{LogStep, adds_item, log_step_in, sets_mark, stores_tiles}
-use Rattle.issuance_log.specs.LogSteps.{unknown_step}
+use Rattle.issuance_log.specs.LogSteps.{switches, unknown_step}
 use Rattle.issuance_log.specs.Marks.{last_mark}
 use Rattle.issuance_log.specs.Records.{IsShort, entry_record, item_in, landmark_record}
-use Rattle.issuance_log.specs.Records.{landmark_tag, tiles_record, tiles_tag}
+use Rattle.issuance_log.specs.Records.{landmark_tag, switch_record, switch_tag, tiles_record}
+use Rattle.issuance_log.specs.Records.{tiles_tag}
 use Rattle.issuance_log.specs.Results.{HasTried}
 use Rattle.issuance_log.proofs.After.{last_follows, last_not}
 use Rattle.issuance_log.proofs.Encoded.{item_again, mark_alone, size_again, tiles_no_item}
+use Rattle.issuance_log.proofs.Encoded.{switch_no_item, switch_no_mark, switch_no_tiles}
 use Rattle.issuance_log.proofs.Encoded.{tiles_no_mark}
-use Rattle.issuance_log.proofs.Steps.{says_item, says_mark, says_tiles}
+use Rattle.issuance_log.proofs.Steps.{says_item, says_mark, says_switch, says_tiles}
 
 -- what is shown as a kind of journal
 abbrev pub view_fold : HashFunction → Fold LogView StateOpenError
@@ -40,8 +43,13 @@ view_fold h = record {
 view_item : (s : LogState) (entry key : Text)
     → view_in (with_item entry key s) ≡ one_item_more (view_in s)
 view_item s entry key =
-    ap (λ (n : ℕ). record { settings = s.settings; size = n; marks = s.marks; tiled = s.tiled })
-    (length_push s.entries entry)
+    ap (λ (n : ℕ). record {
+      settings = s.settings;
+      size = n;
+      marks = s.marks;
+      tiled = s.tiled;
+      switched = s.switched;
+    }) (length_push s.entries entry)
 
 map_if : (b : Bool) (s : LogState) (v : LogView) → v ≡ view_in s
     → (if b then Some v else None) ≡ option_map view_in (if b then Some s else None)
@@ -53,6 +61,7 @@ view_step : (x : LogStep) (s : LogState)
 view_step (adds_item x) s = view_item s x.0 x.1
 view_step (sets_mark size) s = refl
 view_step (stores_tiles size) s = refl
+view_step (switches index) s = refl
 view_step unknown_step s = refl
 
 pub views_follow : (h : HashFunction) (s : LogState) (body : Text)
@@ -126,13 +135,12 @@ pub was_not : (wanted : Option LogView) (w : LogView) (E : Type 0) (b : Bool)
 was_not wanted w E false tried is = tried
 was_not wanted w E true tried is = let wrong : true ≡ false = is in absurd cc
 
--- ---- the three records, by what is shown
+-- ---- the four records, by what is shown
 
 view_says : (h : HashFunction) (v : LogView) (body : Text) (x : LogStep) → log_step_in body ≡ x
-    → next_view h v body ≡ (if takes_log_step h v x then Some (view_by_step x v) else None)
+    → next_view h v body ≡ view_after_step h v x
 unfolding next_view
-view_says h v body x is =
-    ap (λ (y : LogStep). if takes_log_step h v y then Some (view_by_step y v) else None) is
+view_says h v body x is = ap (view_after_step h v) is
 
 -- an item that is taken, or isn't
 view_item_is : (h : HashFunction) (v : LogView) (body : Text) (x : Text × Text) (b : Bool)
@@ -153,14 +161,16 @@ item_refused h v body x is takes = view_item_is h v body x false is takes
 pub taken_capacity : (h : HashFunction) (v : LogView) (x : Text × Text) → takes_entry h v x ≡ true
     → v.size < v.settings.limit
 taken_capacity h v x takes = ltb-true v.size v.settings.limit
-    (and_parts (nat_lt v.size v.settings.limit) (matches h x.0 x.1) takes).0
+    (and_parts (nat_lt v.size v.settings.limit) (has_form (log_form v) x.0 && matches h x.0 x.1)
+    takes).0
 
 pub view_added : (h : HashFunction) (v : LogView) (entry key : Text)
-    → v.size < v.settings.limit → IsShort entry → IsShort key → matches h entry key ≡ true
+    → v.size < v.settings.limit → IsShort entry → IsShort key
+    → has_form (log_form v) entry ≡ true → matches h entry key ≡ true
     → next_view h v (entry_record entry key) ≡ Some (one_item_more v)
-view_added h v entry key capacity few_entry few_key belongs =
+view_added h v entry key capacity few_entry few_key form belongs =
     let test : takes_entry h v (entry, key) ≡ true =
-    rw (lt-ltb v.size v.settings.limit capacity, belongs) refl in
+    rw (lt-ltb v.size v.settings.limit capacity, form, belongs) refl in
     view_says h v (entry_record entry key) (adds_item (entry, key))
     (says_item (entry_record entry key) (entry, key) (item_again entry key few_entry few_key))
     ∙ ap (λ (b : Bool). if b then Some (one_item_more v) else None) test
@@ -189,3 +199,12 @@ view_tiled h v size fits multiple above within =
     (says_tiles (tiles_record size) size (tiles_no_item size) (tiles_no_mark size)
     (size_again tiles_tag (omega arith) size fits))
     ∙ ap (λ (b : Bool). if b then Some (tiled_to size v) else None) test
+
+pub view_switched : (h : HashFunction) (v : LogView) → v.size < 2 ^ 64 → v.switched ≡ None
+    → next_view h v (switch_record v.size) ≡ Some (switched_now v)
+view_switched h v fits first =
+    let test : takes_switch v v.size ≡ true = rw (first, eq-eqb v.size v.size refl) refl in
+    view_says h v (switch_record v.size) (switches v.size)
+    (says_switch (switch_record v.size) v.size (switch_no_item v.size) (switch_no_mark v.size)
+    (switch_no_tiles v.size) (size_again switch_tag (omega arith) v.size fits))
+    ∙ ap (λ (b : Bool). if b then Some (switched_now v) else None) test

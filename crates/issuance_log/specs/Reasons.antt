@@ -21,6 +21,7 @@ log_fault_text log_error.Full = codes "Full"
 log_fault_text log_error.TooLarge = codes "TooLarge"
 log_fault_text log_error.NoSuchEntry = codes "NoSuchEntry"
 log_fault_text log_error.NothingNew = codes "NothingNew"
+log_fault_text (log_error.AlreadySwitched index) = codes "AlreadySwitched " ++ decimal index
 log_fault_text log_error.Failed = codes "Failed"
 log_fault_text (log_error.Append why) = append_fault_text why
 log_fault_text log_error.Memory = codes "Memory"

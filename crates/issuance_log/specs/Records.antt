@@ -27,6 +27,9 @@ landmark_tag = 3
 abbrev pub tiles_tag : ℕ
 tiles_tag = 4
 
+abbrev pub switch_tag : ℕ
+switch_tag = 5
+
 -- ---- encodings
 
 -- Log: the id after its length of one byte, the most active landmarks and the limit in four bytes
@@ -43,7 +46,7 @@ IsShort text = length text < 65536
 unfoldable pub entry_record : Text → Text → Text
 entry_record entry key = number w8 entry_tag ++ (vector w16 entry ++ vector w16 key)
 
--- Landmark and Tiles: the size in eight bytes
+-- Landmark, Tiles and Switch: the size in eight bytes
 unfoldable pub size_record : ℕ → ℕ → Text
 size_record tag size = number w8 tag ++ number w64 size
 
@@ -52,6 +55,9 @@ landmark_record = size_record landmark_tag
 
 abbrev pub tiles_record : ℕ → Text
 tiles_record = size_record tiles_tag
+
+abbrev pub switch_record : ℕ → Text
+switch_record = size_record switch_tag
 
 -- ---- read
 
@@ -98,3 +104,7 @@ mark_in = size_in landmark_tag
 -- the size in a Tiles
 abbrev pub tiled_in : Text → Option ℕ
 tiled_in = size_in tiles_tag
+
+-- the size in a Switch
+abbrev pub switch_in : Text → Option ℕ
+switch_in = size_in switch_tag

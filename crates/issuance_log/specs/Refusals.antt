@@ -8,12 +8,12 @@ use Rattle.journal_core.specs.declared.error.AppendError.{AppendError}
 use Rattle.journal_core.specs.declared.error.AppendError.TheVariants as append_error
 use Rattle.issuance_log.specs.Folds.{LogState, LogView}
 use Rattle.issuance_log.specs.Marks.{last_mark}
-use Rattle.issuance_log.specs.Records.{entry_record, landmark_record, tiles_record}
+use Rattle.issuance_log.specs.Records.{entry_record, landmark_record, switch_record, tiles_record}
 use Rattle.issuance_log.specs.Settings.{most_item}
 use Rattle.issuance_log.specs.declared.error.LogError.{LogError}
 use Rattle.issuance_log.specs.declared.error.LogError.TheVariants.{Full, TooLarge, NoSuchEntry}
 use Rattle.issuance_log.specs.declared.error.LogError.TheVariants.{NothingNew, Failed, Append}
-use Rattle.issuance_log.specs.declared.error.LogError.TheVariants.{Memory}
+use Rattle.issuance_log.specs.declared.error.LogError.TheVariants.{AlreadySwitched, Memory}
 
 -- The refusal of a record that the journal determines, the first that holds: of a journal that an
 -- append has broken, and of one whose file would pass 2^31 bytes.
@@ -46,6 +46,16 @@ unfoldable pub tile_refusal : LogView → Bool → ℕ → Option LogError
 tile_refusal v broken end =
     if nat_le (full_size v) v.tiled then Some NothingNew
     else option_map Append (append_refusal broken end (tiles_record (full_size v)))
+
+-- What is refused of a log that was switched, and else what the journal refuses.
+abbrev pub unless_switched : Option ℕ → Option AppendError → Option LogError
+unless_switched (Some index) refusal = Some (AlreadySwitched index)
+unless_switched None refusal = option_map Append refusal
+
+-- The refusal of a switch: of a log that was switched, and what the journal refuses.
+unfoldable pub switch_refusal : LogView → Bool → ℕ → Option LogError
+switch_refusal v broken end =
+    unless_switched v.switched (append_refusal broken end (switch_record v.size))
 
 -- The answer to an item follows its refusal. Memory may be refused after the first two tests, and a
 -- failure reported if there is no refusal.
@@ -80,6 +90,17 @@ TilesKeepTo wanted (Err (Append append_error.Broken)) = wanted ≡ Some (Append 
 TilesKeepTo wanted (Err (Append append_error.Full)) = wanted ≡ Some (Append append_error.Full)
 TilesKeepTo wanted (Err Memory) = wanted ≢ Some NothingNew
 TilesKeepTo wanted (Err other) = ⊥
+
+-- And so does the answer to a switch. Memory may be refused after the first test.
+abbrev pub SwitchKeepsTo : Option LogError → Result ℕ LogError → Type 0
+SwitchKeepsTo wanted (Ok index) = wanted ≡ None
+SwitchKeepsTo wanted (Err (AlreadySwitched index)) = wanted ≡ Some (AlreadySwitched index)
+SwitchKeepsTo wanted (Err (Append append_error.Failed)) = wanted ≡ None
+SwitchKeepsTo wanted (Err (Append append_error.Broken)) =
+    wanted ≡ Some (Append append_error.Broken)
+SwitchKeepsTo wanted (Err (Append append_error.Full)) = wanted ≡ Some (Append append_error.Full)
+SwitchKeepsTo wanted (Err Memory) = (index : ℕ) → wanted ≢ Some (AlreadySwitched index)
+SwitchKeepsTo wanted (Err other) = ⊥
 
 -- the entry and the key at an index
 unfoldable pub item_at : LogState → ℕ → Result (Text × Text) LogError

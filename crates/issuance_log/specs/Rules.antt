@@ -1,12 +1,13 @@
 -- The rules of a log's records, each for itself.
-use Rattle.std.specs.Prelude.{◌≡◌, ◌⊎◌, ℕ, ◌%◌, ◌^◌, ◌<◌, ◌≤◌, true, length}
+use Rattle.std.specs.Prelude.{◌≡◌, ◌⊎◌, ℕ, ◌%◌, ◌^◌, ◌<◌, ◌≤◌, true, length, None}
 use Rattle.byte_formats.specs.Types.{Text, HashFunction}
-use Rattle.log_entry.specs.Matching.{matches}
+use Rattle.log_entry.specs.Matching.{has_form, matches}
 use Rattle.tls_wire.specs.Arcs.{IsAnchorId}
-use Rattle.issuance_log.specs.Folds.{LogState, new_log, with_item, with_mark, with_tiles}
+use Rattle.issuance_log.specs.Folds.{LogState, log_form, new_log, view_in, with_item, with_mark}
+use Rattle.issuance_log.specs.Folds.{with_switch, with_tiles}
 use Rattle.issuance_log.specs.Marks.{last_mark}
 use Rattle.issuance_log.specs.Records.{settings_record, IsShort, entry_record, landmark_record}
-use Rattle.issuance_log.specs.Records.{tiles_record}
+use Rattle.issuance_log.specs.Records.{switch_record, tiles_record}
 use Rattle.issuance_log.specs.Settings.{Settings, AreAllowed}
 
 -- The first record is a Log with an anchor id and allowed numbers. It makes a log of the null
@@ -18,7 +19,8 @@ pub record IsFirst (body : Text) (s : LogState) : Type 0 where
   pub allowed : AreAllowed settings.max_active settings.limit
   pub made : s ≡ new_log settings
 
--- An Entry has a key that matches, and the log isn't full. It makes the log with that item.
+-- An Entry has the form of the next entry and a key that matches, and the log isn't full. It makes
+-- the log with that item.
 pub record IsEntryRecord (h : HashFunction) (s : LogState) (body : Text)
     (t : LogState) : Type 0 where
   pub entry : Text
@@ -26,6 +28,7 @@ pub record IsEntryRecord (h : HashFunction) (s : LogState) (body : Text)
   pub encoded : body ≡ entry_record entry key
   pub short_entry : IsShort entry
   pub short_key : IsShort key
+  pub form : has_form (log_form (view_in s)) entry ≡ true
   pub belongs : matches h entry key ≡ true
   pub capacity : length s.entries < s.settings.limit
   pub made : t ≡ with_item entry key s
@@ -48,7 +51,15 @@ pub record IsTilesRecord (s : LogState) (body : Text) (t : LogState) : Type 0 wh
   pub within : size ≤ length s.entries
   pub made : t ≡ with_tiles size s
 
--- Each later record is one of the three.
+-- A Switch is the size, and the first one. It makes the log whose entries name the algorithm of
+-- their key from there on.
+pub record IsSwitchRecord (s : LogState) (body : Text) (t : LogState) : Type 0 where
+  pub encoded : body ≡ switch_record (length s.entries)
+  pub fits : length s.entries < 2 ^ 64
+  pub first : s.switched ≡ None
+  pub made : t ≡ with_switch s
+
+-- Each later record is one of the four.
 abbrev pub IsNext : HashFunction → LogState → Text → LogState → Type 0
-IsNext h s body t =
-    IsEntryRecord h s body t ⊎ (IsLandmarkRecord s body t ⊎ IsTilesRecord s body t)
+IsNext h s body t = IsEntryRecord h s body t
+    ⊎ (IsLandmarkRecord s body t ⊎ (IsTilesRecord s body t ⊎ IsSwitchRecord s body t))

@@ -20,4 +20,5 @@ shown_with v list = record {
   keys = take v.size (map (λ item. item.1) (recorded_items list));
   marks = v.marks;
   tiled = v.tiled;
+  switched = v.switched;
 }

@@ -51,8 +51,8 @@ module _ {H D T : Type 0} {hashes : Hashes H} {g : Ghosts D} {k : Ghosts T} wher
   abbrev pub log_broken : Log H D T hashes g k → Bool
   log_broken log = is_broken log.journal
 
-  -- Over every disk: the settings, how many entries there are, the landmarks, and the last size of
-  -- the tiles.
+  -- Over every disk: the settings, how many entries there are, the landmarks, the last size of the
+  -- tiles, and the index from which on entries name the algorithm of their key.
   abbrev pub view_of : Log H D T hashes g k → LogView
   view_of log = log.machine.numbers.view
 

@@ -79,6 +79,8 @@ pub enum LogError {
     NoSuchEntry,
     /// The last landmark has the size of the log, or its full tiles are stored.
     NothingNew,
+    /// The log was switched: from this index on entries name the algorithm of their key.
+    AlreadySwitched(u64),
     /// A disk failed: that of the journal for an entry, and that of the tiles for tiles.
     Failed,
     /// The record was not appended.
@@ -99,6 +101,7 @@ impl fmt::Display for LogError {
             LogError::TooLarge => f.write_str("TooLarge"),
             LogError::NoSuchEntry => f.write_str("NoSuchEntry"),
             LogError::NothingNew => f.write_str("NothingNew"),
+            LogError::AlreadySwitched(index) => write!(f, "AlreadySwitched {index}"),
             LogError::Failed => f.write_str("Failed"),
             LogError::Append(why) => why.fmt(f),
             LogError::Memory => f.write_str("Memory"),

@@ -9,7 +9,8 @@ ghost use Rattle.issuance_log.specs.Folds.{LogState, LogView, begun_log, next_lo
 ghost use Rattle.issuance_log.specs.Folds.{log_after, log_of, view_in, with_item};
 ghost use Rattle.issuance_log.specs.Openings.{FoundLog, log_read};
 ghost use Rattle.issuance_log.specs.Records.{IsShort, entry_record, item_in, landmark_record};
-ghost use Rattle.issuance_log.specs.Records.{mark_in, settings_in, tiled_in, tiles_record};
+ghost use Rattle.issuance_log.specs.Records.{mark_in, settings_in, switch_in, switch_record};
+ghost use Rattle.issuance_log.specs.Records.{tiled_in, tiles_record};
 ghost use Rattle.issuance_log.specs.Rules.{IsFirst, IsNext};
 ghost use Rattle.issuance_log.specs.Settings.{Settings};
 ghost use Rattle.issuance_log.specs.Shown.{recorded_items, shown_with};
@@ -35,6 +36,13 @@ pub fn law_tiles_decode_as_encoded()
     ensures again { (size : ℕ) → size < 2 ^ 64 → tiled_in (tiles_record size) ≡ Some size }
     ensures only { (body : Text) (size : ℕ) → IsBytes body → tiled_in body ≡ Some size
         → (body ≡ tiles_record size) × (size < 2 ^ 64) }
+{}
+
+/// The body of a Switch is read as the size that it encodes, and only such an encoding is read.
+pub fn law_switches_decode_as_encoded()
+    ensures again { (size : ℕ) → size < 2 ^ 64 → switch_in (switch_record size) ≡ Some size }
+    ensures only { (body : Text) (size : ℕ) → IsBytes body → switch_in body ≡ Some size
+        → (body ≡ switch_record size) × (size < 2 ^ 64) }
 {}
 
 /// A record makes of what a log shows over every disk what the log that it makes shows.
@@ -68,7 +76,7 @@ pub fn law_logs_are_read_from_their_journals()
 
 /// A log that records make is what it shows over every disk, with the first items in the records.
 /// It stays so if one more record follows them. If all of the items are shown, the record of an
-/// item adds this one, and that of a landmark or of tiles adds none.
+/// item adds this one, and that of a landmark, of tiles or of a switch adds none.
 pub fn law_records_determine_the_items()
     ensures whole { (h : HashFunction) (list : List Text) (s : LogState) → log_of h list ≡ Ok s
         → shown_with (view_in s) list ≡ s }
@@ -83,6 +91,8 @@ pub fn law_records_determine_the_items()
         → recorded_items (list ++ landmark_record size ∷ []) ≡ recorded_items list }
     ensures tiled { (list : List Text) (size : ℕ) → 1 ≤ length (recorded_items list)
         → recorded_items (list ++ tiles_record size ∷ []) ≡ recorded_items list }
+    ensures switched { (list : List Text) (size : ℕ) → 1 ≤ length (recorded_items list)
+        → recorded_items (list ++ switch_record size ∷ []) ≡ recorded_items list }
 {}
 
 /// Records make a log exactly if the first one has settings, and the others may follow it: then the

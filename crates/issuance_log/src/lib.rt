@@ -4,7 +4,8 @@
 //! [`create`] begins the journal of a new log, which has the null entry at index 0; [`pack`] takes
 //! the memory for it before there is a disk. [`Log::open`] reads and tests the records of a journal
 //! one by one, and [`Log::add`] adds an entry: once it has answered Ok, a crash of the machine
-//! leaves the entry. [`Log::mark`] sets a landmark at the size of the log in the same way.
+//! leaves the entry. [`Log::mark`] sets a landmark at the size of the log in the same way, and
+//! [`Log::switch`] appends, once, that from there on entries name the algorithm of their key.
 //!
 //! What the records of a journal make of a log is one function of them. A log follows it: unless an
 //! append has failed, its settings, items and landmarks are what the records on its disk make.

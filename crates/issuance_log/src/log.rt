@@ -8,7 +8,7 @@ ghost use Rattle.byte_formats.specs.Types.{Text};
 ghost use Rattle.frame_pool.specs.Frames.{HoldsKey};
 ghost use Rattle.frame_pool.specs.declared.key.TileKey.{TileKey as Key};
 ghost use Rattle.journal_core.specs.Words.{disk_of, end_of};
-ghost use Rattle.log_entry.specs.Matching.{matches};
+ghost use Rattle.log_entry.specs.Matching.{has_form, matches};
 ghost use Rattle.mtc_io.specs.Counts.{HasCause};
 ghost use Rattle.tile_store.specs.Layout.{tiles_end};
 ghost use Rattle.tile_store.specs.Store.{tiles_stored};
@@ -17,15 +17,17 @@ ghost use Rattle.issuance_log.specs.Changes.{IsTakenAs, KeepsToJournal};
 ghost use Rattle.issuance_log.specs.Durable.{IsDurableLog, IsDurableLog-prop};
 ghost use Rattle.issuance_log.specs.Entries.{LogCounts};
 ghost use Rattle.issuance_log.specs.Faults.{open_refusal};
-ghost use Rattle.issuance_log.specs.Folds.{LogState, LogView, next_view, with_item, with_mark};
-ghost use Rattle.issuance_log.specs.Folds.{one_item_more, one_mark_more, tiled_to, view_in};
-ghost use Rattle.issuance_log.specs.Folds.{with_tiles};
+ghost use Rattle.issuance_log.specs.Folds.{LogState, LogView, log_form, next_view, with_item};
+ghost use Rattle.issuance_log.specs.Folds.{one_item_more, one_mark_more, switched_now, tiled_to};
+ghost use Rattle.issuance_log.specs.Folds.{view_in, with_mark, with_switch, with_tiles};
 ghost use Rattle.issuance_log.specs.Items.{AreBelow, items_leaves, items_offsets, items_tiles};
 ghost use Rattle.issuance_log.specs.Machine.{HasRecordCapacity};
 ghost use Rattle.issuance_log.specs.Marks.{AreRising};
-ghost use Rattle.issuance_log.specs.Records.{entry_record, landmark_record, tiles_record, IsShort};
+ghost use Rattle.issuance_log.specs.Records.{entry_record, landmark_record, switch_record};
+ghost use Rattle.issuance_log.specs.Records.{tiles_record, IsShort};
 ghost use Rattle.issuance_log.specs.Refusals.{add_refusal, ItemKeepsTo, mark_refusal, MarkKeepsTo};
-ghost use Rattle.issuance_log.specs.Refusals.{full_size, tile_refusal, TilesKeepTo};
+ghost use Rattle.issuance_log.specs.Refusals.{full_size, switch_refusal, SwitchKeepsTo};
+ghost use Rattle.issuance_log.specs.Refusals.{tile_refusal, TilesKeepTo};
 ghost use Rattle.issuance_log.specs.Refusals.{append_refusal, item_at, GivesItem};
 ghost use Rattle.issuance_log.specs.Settings.{AreAllowed};
 ghost use Rattle.issuance_log.specs.Sound.{HasSoundNumbers, IsSound};
@@ -34,11 +36,12 @@ use crate::entries::read_entry;
 use crate::error::{LogError, LogOpenError, LogRefused, open_refusal};
 use crate::items::NULL_ENTRY;
 use crate::machine::{LogMachine, TileRest, TileSeed};
-use crate::preparing::{prepare_item, prepare_mark, prepare_tiles};
+use crate::preparing::{prepare_item, prepare_mark, prepare_switch, prepare_tiles};
 use crate::settings::LogSettings;
 use disk_core::Disk;
 use frame_pool::Pool;
 use journal_core::Journal;
+use log_entry::Form;
 use mtc_io::{Bytes, Failed};
 use state_journal::{StateRefused, append_to, open_state};
 use std::alloc::Global;
@@ -154,7 +157,8 @@ impl<H: TreeHash, D: Disk, T: Disk> Log<H, D, T> {
         }
     }
 
-    /// Adds an entry with the key that belongs to it, and answers its index. At Ok a crash leaves
+    /// Adds an entry, in the form that [`Log::form`] says, with the key that belongs to it, and
+    /// answers its index. At Ok a crash leaves
     /// the records with that of the entry; at any time of the call it leaves the old records, or
     /// these and that one. The call leaves the disk of the tiles alone.
     ///
@@ -164,7 +168,8 @@ impl<H: TreeHash, D: Disk, T: Disk> Log<H, D, T> {
     /// `Append(Failed)` it shows what it showed before, and each further call that passes the tests
     /// before answers `Append(Broken)`.
     pub fn add(&mut self, entry: &[u8], spki: &[u8]) -> Result<u64, LogError>
-        requires { matches H.hash entry.now spki.now ≡ true }
+        requires belongs { matches H.hash entry.now spki.now ≡ true }
+        requires form { has_form (log_form (view_of self.old)) entry.now ≡ true }
         ensures appends { LogAppends (entry_record entry.now spki.now) one_item_more
             (with_item entry.now spki.now) self.old self.new result }
         ensures tiles { log_tiles_disk self.new ≡ log_tiles_disk self.old }
@@ -205,6 +210,27 @@ impl<H: TreeHash, D: Disk, T: Disk> Log<H, D, T> {
         let size = self.machine.numbers.size();
         let number = self.machine.numbers.marks().len() as u64 + 1;
         self.append_record(body.as_slice(), (number, size))
+    }
+
+    /// Switches the log: from its size on, which it answers, entries name the algorithm of their
+    /// key. At Ok a crash leaves the records with that of the switch; at any time of the call it
+    /// leaves the old records, or these and that one. The call leaves the disk of the tiles alone.
+    ///
+    /// Errors, in the order of the tests: `AlreadySwitched` with the index where the log was
+    /// switched; `Memory`; and what [`Journal::append`] refuses. A refusal leaves the log as it
+    /// was. After `Append(Failed)` it shows what it showed before, and each further call that
+    /// passes the tests before answers `Append(Broken)`.
+    pub fn switch(&mut self) -> Result<u64, LogError>
+        ensures appends { LogAppends (switch_record (view_of self.old).size) switched_now
+            with_switch self.old self.new result }
+        ensures tiles { log_tiles_disk self.new ≡ log_tiles_disk self.old }
+        ensures index { IfOk result (λ index. index ≡ (view_of self.old).size) }
+        ensures answer { SwitchKeepsTo
+            (switch_refusal (view_of self.old) (log_broken self.old) (log_end self.old)) result }
+    {
+        let body = prepare_switch(self.alloc, &self.machine.numbers)?;
+        let size = self.machine.numbers.size();
+        self.append_record(body.as_slice(), size)
     }
 
     /// Stores the tiles that the entries fill, makes them durable, and then appends the greatest
@@ -277,11 +303,25 @@ impl<H: TreeHash, D: Disk, T: Disk> Log<H, D, T> {
         self.machine.numbers.tiled()
     }
 
+    /// The index from which on entries name the algorithm of their key, if the log was switched.
+    pub fn switched(&self) -> Option<u64>
+        ensures { result ≡ (view_of self.now).switched }
+    {
+        self.machine.numbers.switched()
+    }
+
+    /// The form of the next entry.
+    pub fn form(&self) -> Form
+        ensures { result ≡ log_form (view_of self.now) }
+    {
+        self.machine.numbers.form()
+    }
+
     /// What holds of every log: the clauses say it, and the call does nothing. Over any disk the
     /// landmarks rise up to the size at most, and the tiles are within it. If the model knows the
     /// bytes of the journal's disk, the log in them shows the same numbers, each entry but the
-    /// first reads as one of type 1 to which its key belongs, and the lengths of both fit two
-    /// bytes; also after an append that failed.
+    /// first reads as one of type 1 in the form of its index, to which its key belongs, and the
+    /// lengths of both fit two bytes; also after an append that failed.
     pub fn law_sound(&self)
         ensures numbers { HasSoundNumbers (view_of self.now) }
         ensures view { IfSome (modelled_state self.now) (λ s. view_in s ≡ view_of self.now) }
@@ -295,6 +335,7 @@ impl<H: TreeHash, D: Disk, T: Disk> Log<H, D, T> {
     /// are the law, and the call does nothing.
     pub fn law_unrefused_records_are_taken(&self)
         ensures added { (entry key : Text) → matches H.hash entry key ≡ true
+            → has_form (log_form (view_of self.now)) entry ≡ true
             → add_refusal (view_of self.now) (log_broken self.now) (log_end self.now) entry key
             ≡ None → LogWouldTake (entry_record entry key) (with_item entry key) self.now }
         ensures marked { mark_refusal (view_of self.now) (log_broken self.now) (log_end self.now)
@@ -302,6 +343,9 @@ impl<H: TreeHash, D: Disk, T: Disk> Log<H, D, T> {
         ensures tiled { tile_refusal (view_of self.now) (log_broken self.now) (log_end self.now)
             ≡ None → LogWouldTake (tiles_record (full_size (view_of self.now)))
             (with_tiles (full_size (view_of self.now))) self.now }
+        ensures switched { switch_refusal (view_of self.now) (log_broken self.now)
+            (log_end self.now) ≡ None
+            → LogWouldTake (switch_record (view_of self.now).size) with_switch self.now }
     {
         let _ = self.machine.numbers.size();
     }

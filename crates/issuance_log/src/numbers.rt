@@ -1,22 +1,24 @@
 //! What a log shows over every disk.
 
 ghost use Rattle.std.specs.Prelude.{◌≡◌, ◌%◌, ◌<◌, ◌≤◌, ◌++◌, [], ◌∷◌, true, false, Some, None};
-ghost use Rattle.std.specs.Prelude.{if◌then◌else◌, nat_lt, not, option_map, option_and_then};
+ghost use Rattle.std.specs.Prelude.{if◌then◌else◌, nat_lt, not, option_map};
 ghost use Rattle.std.specs.Prelude.{vec_len, vec_capacity, IfOk, IfErr, OnOk, OnErr};
-ghost use Rattle.issuance_log.specs.Folds.{begun_log, new_log, next_view, one_item_more};
-ghost use Rattle.issuance_log.specs.Folds.{one_mark_more, takes_entry, takes_landmark, takes_tiles};
-ghost use Rattle.issuance_log.specs.Folds.{tiled_to, view_in};
+ghost use Rattle.issuance_log.specs.Folds.{begun_log, log_form, new_log, next_view, one_item_more};
+ghost use Rattle.issuance_log.specs.Folds.{one_mark_more, switched_now, takes_entry};
+ghost use Rattle.issuance_log.specs.Folds.{takes_landmark, takes_switch, takes_tiles, tiled_to};
+ghost use Rattle.issuance_log.specs.Folds.{view_after_step, view_in};
+ghost use Rattle.issuance_log.specs.LogSteps.{log_step};
 ghost use Rattle.issuance_log.specs.Marks.{last_mark, AreRising};
-ghost use Rattle.issuance_log.specs.Records.{item_in, mark_in, tiled_in};
+ghost use Rattle.issuance_log.specs.Records.{item_in, mark_in, switch_in, tiled_in};
 ghost use Rattle.issuance_log.specs.Refusals.{full_size};
 ghost use Rattle.issuance_log.specs.Results.{HasMarkCapacity, IsMemoryRefused, LogFinds, LogTakes};
 ghost use Rattle.issuance_log.specs.Settings.{AreAllowed};
 ghost use Rattle.issuance_log.specs.Sound.{HasSoundNumbers};
 
 use crate::error::RecordError;
-use crate::record::{LANDMARK, TILES, read_item, read_settings, size_in};
+use crate::record::{LANDMARK, SWITCH, TILES, read_item, read_settings, size_in};
 use crate::settings::LogSettings;
-use log_entry::key_matches;
+use log_entry::{Form, key_matches_in};
 use mtc_io::Memory;
 use std::alloc::Global;
 use std::marker::Model;
@@ -25,15 +27,17 @@ use tree_core::TreeHash;
 /// As many entries fill a tile.
 const TILE: u64 = 256;
 
-/// The settings of a log, how many entries it has, the sizes at its landmarks, and the last size of
-/// its tiles, 0 if there is none. The rules of a log's records read nothing else. Contracts see
-/// them, and how many landmarks more need no memory.
+/// The settings of a log, how many entries it has, the sizes at its landmarks, the last size of its
+/// tiles, 0 if there is none, and the index from which on entries name the algorithm of their key,
+/// if it was switched. The rules of a log's records read nothing else. Contracts see them, and how
+/// many landmarks more need no memory.
 #[derive(Drop)]
 pub(crate) struct Numbers {
     settings: LogSettings,
     size: u64,
     marks: Vec<u64>,
     tiled: u64,
+    switched: Option<u64>,
 }
 
 impl Model for Numbers {
@@ -49,6 +53,7 @@ impl Model for Numbers {
         size = n.size;
         marks = n.marks.items;
         tiled = n.tiled;
+        switched = n.switched;
       };
       mark_spare = vec_capacity n.marks - vec_len n.marks;
     } };
@@ -58,6 +63,7 @@ impl Model for Numbers {
       size = n.size;
       marks = n.marks.items;
       tiled = n.tiled;
+      switched = n.switched;
     }) };
 }
 
@@ -95,6 +101,7 @@ impl Numbers {
             size: 1,
             marks: Vec::new(alloc),
             tiled: 0,
+            switched: None,
         }
     }
 
@@ -137,7 +144,7 @@ impl Numbers {
     {
         match size_in(LANDMARK, body) {
             Ok(size) => self.take_mark(size),
-            Err(RecordError::Unfit) => self.take_tiles(body),
+            Err(RecordError::Unfit) => self.take_rest::<H>(body),
             Err(RecordError::Memory) => Err(RecordError::Memory),
         }
     }
@@ -156,13 +163,41 @@ impl Numbers {
     }
 
     // Takes a record that is neither an Entry nor a Landmark.
-    fn take_tiles(&mut self, body: &[u8]) -> Result<(), RecordError>
-        ensures taken { LogTakes (option_and_then (λ size. if takes_tiles self.old.view size
-            then Some (tiled_to size self.old.view) else None) (tiled_in body.now))
+    fn take_rest<H: TreeHash>(&mut self, body: &[u8]) -> Result<(), RecordError>
+        ensures taken { LogTakes (view_after_step H.hash self.old.view
+            (log_step None None (tiled_in body.now) (switch_in body.now)))
             self.old.view result self.new.view }
         ensures sure { IsMemoryRefused result → ⊥ }
     {
-        let size = size_in(TILES, body)?;
+        match size_in(TILES, body) {
+            Ok(size) => self.take_tiles(size),
+            Err(RecordError::Unfit) => {
+                let index = size_in(SWITCH, body)?;
+                self.take_switch(index)
+            }
+            Err(RecordError::Memory) => Err(RecordError::Memory),
+        }
+    }
+
+    fn take_switch(&mut self, index: u64) -> Result<(), RecordError>
+        ensures taken { LogTakes (if takes_switch self.old.view index
+            then Some (switched_now self.old.view) else None) self.old.view result self.new.view }
+        ensures sure { IsMemoryRefused result → ⊥ }
+    {
+        match self.switched {
+            None if index == self.size => {
+                self.switched = Some(index);
+                Ok(())
+            }
+            _ => Err(RecordError::Unfit),
+        }
+    }
+
+    fn take_tiles(&mut self, size: u64) -> Result<(), RecordError>
+        ensures taken { LogTakes (if takes_tiles self.old.view size
+            then Some (tiled_to size self.old.view) else None) self.old.view result self.new.view }
+        ensures sure { IsMemoryRefused result → ⊥ }
+    {
         if size % TILE != 0 || size <= self.tiled || size > self.size {
             return Err(RecordError::Unfit);
         }
@@ -170,12 +205,13 @@ impl Numbers {
         Ok(())
     }
 
-    /// Whether the log takes an Entry: its key matches, and the log isn't full.
+    /// Whether the log takes an Entry: the log isn't full, and the entry has the form of the next
+    /// one and a key that matches.
     pub(crate) fn takes<H: TreeHash>(&self, entry: &[u8], key: &[u8]) -> bool
         ensures value { result ≡ takes_entry H.hash self.now.view (entry.now, key.now) }
         ensures sound { HasSoundNumbers self.now.view }
     {
-        !self.is_full() && key_matches::<H>(entry, key)
+        !self.is_full() && key_matches_in::<H>(entry, key, self.form())
     }
 
     /// The log has as many entries as its limit allows.
@@ -234,6 +270,21 @@ impl Numbers {
         ensures sound { HasSoundNumbers self.now.view }
     {
         self.tiled
+    }
+
+    /// The index from which on entries name the algorithm of their key, if the log was switched.
+    pub(crate) fn switched(&self) -> Option<u64>
+        ensures value { result ≡ self.now.view.switched }
+        ensures sound { HasSoundNumbers self.now.view }
+    {
+        self.switched
+    }
+
+    /// The form of the next entry.
+    pub(crate) fn form(&self) -> Form
+        ensures { result ≡ log_form self.now.view }
+    {
+        Form::at(self.switched, self.size)
     }
 
     /// One entry more.

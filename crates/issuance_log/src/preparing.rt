@@ -7,16 +7,18 @@ ghost use Rattle.issuance_log.specs.Entries.{LogCounts};
 ghost use Rattle.issuance_log.specs.Items.{HasItemCapacity, items_leaves, items_offsets};
 ghost use Rattle.issuance_log.specs.Items.{items_tiles};
 ghost use Rattle.issuance_log.specs.Marks.{last_mark};
-ghost use Rattle.issuance_log.specs.Records.{entry_record, landmark_record, tiles_record};
+ghost use Rattle.issuance_log.specs.Records.{entry_record, landmark_record, switch_record};
+ghost use Rattle.issuance_log.specs.Records.{tiles_record};
 ghost use Rattle.issuance_log.specs.Refusals.{add_refusal, ItemKeepsTo, mark_refusal, MarkKeepsTo};
-ghost use Rattle.issuance_log.specs.Refusals.{full_size, tile_refusal, TilesKeepTo};
+ghost use Rattle.issuance_log.specs.Refusals.{full_size, switch_refusal, SwitchKeepsTo};
+ghost use Rattle.issuance_log.specs.Refusals.{tile_refusal, TilesKeepTo};
 ghost use Rattle.issuance_log.specs.Settings.{most_item};
 ghost use Rattle.issuance_log.specs.Words.{of_log_journal};
 
 use crate::error::LogError;
 use crate::items::Items;
 use crate::numbers::Numbers;
-use crate::record::{LANDMARK, TILES, entry_record, size_record};
+use crate::record::{LANDMARK, SWITCH, TILES, entry_record, size_record};
 use disk_core::Disk;
 use mtc_io::Bytes;
 use std::alloc::Global;
@@ -75,6 +77,24 @@ pub(crate) fn prepare_mark(alloc: Global, numbers: &mut Numbers) -> Result<Bytes
     let body = size_record(alloc, LANDMARK, size)?;
     numbers.prepare_mark()?;
     Ok(body)
+}
+
+/// Tests whether the log may be switched at its size: the body of the record.
+#[tactic(auto, using(crate::proofs::Answering::already, crate::proofs::Answering::not_already))]
+pub(crate) fn prepare_switch(alloc: Global, numbers: &Numbers) -> Result<Bytes, LogError>
+    ensures body { IfOk result (λ body. body ≡ switch_record numbers.now.view.size) }
+    ensures first { OnOk result (numbers.now.view.switched ≡ None) }
+    ensures refused { IfErr result (λ why. (broken : Bool) (end : ℕ)
+        → SwitchKeepsTo (switch_refusal numbers.now.view broken end) (Err why)) }
+    ensures before { IfErr result (λ why. of_log_journal why ≡ None) }
+{
+    match numbers.switched() {
+        Some(index) => Err(LogError::AlreadySwitched(index)),
+        None => {
+            let body = size_record(alloc, SWITCH, numbers.size())?;
+            Ok(body)
+        }
+    }
 }
 
 /// Tests the tiles that the entries fill: the body of their record.

@@ -25,6 +25,8 @@ pub(crate) const LANDMARK: u8 = 3;
 
 pub(crate) const TILES: u8 = 4;
 
+pub(crate) const SWITCH: u8 = 5;
+
 // The settings after the tag, in their order.
 #[tactic(auto, unfolding(crate::specs::Records::settings_at))]
 fn settings_fields<'a>(cursor: &mut Cursor<'a>) -> Result<(&'a [u8], u32, u32), Short>
@@ -119,7 +121,7 @@ pub(crate) fn read_item(body: &[u8]) -> Result<(&[u8], &[u8]), RecordError>
     Ok(item)
 }
 
-/// The size in the body of a Landmark or of a Tiles, by its tag.
+/// The size in the body of a Landmark, a Tiles or a Switch, by its tag.
 #[tactic(auto, unfolding(crate::specs::Records::size_in))]
 pub(crate) fn size_in(tag: u8, body: &[u8]) -> Result<u64, RecordError>
     ensures found { LogFinds (λ size. size) (size_in tag body.now) result }
@@ -165,7 +167,7 @@ pub(crate) fn entry_record(alloc: Global, entry: &[u8], key: &[u8]) -> Result<By
     Ok(body)
 }
 
-/// The body of a Landmark or of a Tiles, by its tag.
+/// The body of a Landmark, a Tiles or a Switch, by its tag.
 #[tactic(auto, unfolding(crate::specs::Records::size_record))]
 pub(crate) fn size_record(alloc: Global, tag: u8, size: u64) -> Result<Bytes, Memory>
     ensures { IfOk result (λ body. body ≡ size_record tag size) }

@@ -2,7 +2,7 @@
 use Rattle.std.proofs.Common.{◌≡◌, ◌≢◌, ◌^◌, ◌≤◌, ℕ, List, [], ◌∷◌, ◌++◌, length, Option, None}
 use Rattle.std.proofs.Common.{Some, Ok, Err, refl, subst, sym, ap, ◌∙◌, arith}
 use Rattle.std.specs.Int.{w8, w16, w64}
-use Rattle.std.specs.Prelude.{if◌then◌else◌, map}
+use Rattle.std.specs.Prelude.{map}
 use Rattle.std.proofs.lemmas.List.{length-map, map-append}
 use Rattle.byte_formats.specs.Types.{HashFunction, Text}
 use Rattle.byte_formats.proofs.Steps.{ok_is}
@@ -15,16 +15,17 @@ use Rattle.tile_store.proofs.Grown.{tile-longer}
 use Rattle.tile_store.proofs.Numbers.{full-more}
 use Rattle.tree_core.specs.Tree.{leaf_hash}
 use Rattle.authority_core.specs.Requests.{RequestParts}
-use Rattle.issuance_log.specs.Folds.{LogState, LogView, log_by_step, log_fold, log_of, next_log}
-use Rattle.issuance_log.specs.Folds.{takes_entry, takes_landmark, takes_log_step, view_in}
-use Rattle.issuance_log.specs.Folds.{with_item, with_mark}
+use Rattle.issuance_log.specs.Folds.{LogState, LogView, log_after_step, log_fold, log_of}
+use Rattle.issuance_log.specs.Folds.{next_log, takes_entry, takes_landmark, takes_switch, view_in}
+use Rattle.issuance_log.specs.Folds.{with_item, with_mark, with_switch}
 use Rattle.issuance_log.specs.LogSteps.{log_step}
 use Rattle.issuance_log.specs.Records.{entry_record, entry_tag, item_in, landmark_record}
 use Rattle.issuance_log.specs.Records.{landmark_tag, mark_in, size_in, size_record, tagged}
-use Rattle.issuance_log.specs.Records.{tiled_in, tiles_tag}
+use Rattle.issuance_log.specs.Records.{switch_in, tiled_in, tiles_tag}
 use Rattle.issuance_log.specs.declared.error.LogError.{LogError}
 use Rattle.issuance_log.proofs.After.{when}
 use Rattle.issuance_log.proofs.Encoded.{next_says}
+use Rattle.issuance_log.proofs.Steps.{says_so}
 use Rattle.mtc_command.specs.Made.{Journaled, appended, reads, started, untouched}
 use Rattle.mtc_command.specs.Works.{journaled_by}
 use Rattle.mtc_authority.specs.IssueOutcome.{issued_by}
@@ -63,23 +64,25 @@ module _ (h : HashFunction) (s : LogState) (within : s.tiled ≤ length s.entrie
       (λ level place full. tile-longer h leaves (map (leaf_hash h) (entry ∷ [])) level place _
       (full-more s.tiled (length leaves) level place few full) (holds level place full))
 
-  changed_holds : (u : LogState) (item : Option (Text × Text)) (mark : Option ℕ)
-      → (if takes_log_step h (view_in s) (log_step item mark None)
-      then Some (log_by_step (log_step item mark None) s) else None) ≡ Some u
-      → Holds s → Holds u
-  changed_holds u (Some x) mark is holds =
+  changed_holds : (u : LogState) (item : Option (Text × Text)) (mark switch : Option ℕ)
+      → log_after_step h s (log_step item mark None switch) ≡ Some u → Holds s → Holds u
+  changed_holds u (Some x) mark switch is holds =
       subst Holds (when (takes_entry h (view_in s) x) (with_item x.0 x.1 s) u is)
       (longer x.0 x.1 holds)
-  changed_holds u None (Some size) is holds =
+  changed_holds u None (Some size) switch is holds =
       subst Holds (when (takes_landmark (view_in s) size) (with_mark s) u is) holds
-  changed_holds u None None is holds = let wrong : None ≡ Some u = is in absurd cc
+  changed_holds u None None (Some index) is holds =
+      subst Holds (when (takes_switch (view_in s) index) (with_switch s) u is) holds
+  changed_holds u None None None is holds = let wrong : None ≡ Some u = is in absurd cc
 
   module _ (list : List Text) (body : Text) (made : log_of h list ≡ Ok s)
       (plain : tiled_in body ≡ None) where
     next_holds : (u : LogState) → next_log h s body ≡ Some u → Holds s → Holds u
-    next_holds u is holds = changed_holds u (item_in body) (mark_in body)
-        (sym (next_says h s body (log_step (item_in body) (mark_in body) None)
-        (ap (log_step (item_in body) (mark_in body)) plain)) ∙ is) holds
+    next_holds u is holds =
+        let said = says_so body (item_in body) (mark_in body) None (switch_in body) refl refl plain
+        refl in
+        changed_holds u (item_in body) (mark_in body) (switch_in body)
+        (sym (next_says h s body _ said) ∙ is) holds
 
     go : (u : LogState) (o : Option LogState) → next_log h s body ≡ o
         → log_of h (list ++ body ∷ []) ≡ Ok u → Holds s → Holds u

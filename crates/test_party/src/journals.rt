@@ -6,7 +6,7 @@ use disk_core::MemDisk;
 use frame_pool::Pool;
 use issuance_log::{Log, LogError, LogOpenError, LogRefused, LogSettings, create};
 use journal_core::{OpenError, Refused, StartError};
-use log_entry::{key_hash, key_matches};
+use log_entry::{key_hash, key_matches_in};
 use mtc_io::{Bytes, Memory};
 use std::alloc::Global;
 use tls_wire::AnchorId;
@@ -181,7 +181,7 @@ pub(crate) fn begin(
 
 /// Adds an entry whose key matches.
 pub(crate) fn add(log: &mut MemLog, entry: &[u8], key: &[u8]) -> Result<u64, LogError> {
-    if key_matches::<Sha>(entry, key) {
+    if key_matches_in::<Sha>(entry, key, log.form()) {
         log.add(entry, key)
     } else {
         Err(LogError::NoSuchEntry)

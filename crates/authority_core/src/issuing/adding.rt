@@ -17,11 +17,11 @@ use crate::issuing::error::IssueError;
 use crate::requests::Request;
 use disk_core::Disk;
 use issuance_log::Log;
-use log_entry::Form;
 use std::alloc::Global;
 use tree_core::TreeHash;
 
-/// Issues a request: makes its entry under the id of the log, adds it with the key of the request,
+/// Issues a request: makes its entry under the id of the log, in the form of the log's next entry,
+/// adds it with the key of the request,
 /// and answers its index, at which the log then has an entry with its own name as issuer and no
 /// critical extension that is unknown. At Ok a crash leaves the records with that of the entry; at
 /// any time of the call it leaves the old records, or these and that one. The call leaves the disk
@@ -55,8 +55,9 @@ pub fn issue<H: TreeHash, D: Disk, T: Disk>(
 {
     log.law_sound();
     log.law_unrefused_records_are_taken();
+    let form = log.form();
     let settings = log.settings();
-    let entry = entry_of_request::<H>(alloc, &settings.id, Form::One, request)?;
+    let entry = entry_of_request::<H>(alloc, &settings.id, form, request)?;
     let index = log.add(entry.as_slice(), request.key.as_slice())?;
     Ok(index)
 }

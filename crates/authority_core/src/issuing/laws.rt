@@ -1,17 +1,22 @@
 //! Laws of what is issued: the clauses are the laws, and the functions do nothing.
 
-ghost use Rattle.std.specs.Prelude.{◌≡◌, ◌+◌, ◌<◌, ◌≤◌, true, false, List, [], ◌∷◌, ◌++◌, length};
-ghost use Rattle.std.specs.Prelude.{Some, Ok};
+ghost use Rattle.std.specs.Prelude.{◌≡◌, ◌+◌, ◌<◌, ◌≤◌, ℕ, true, false, List, [], ◌∷◌, ◌++◌};
+ghost use Rattle.std.specs.Prelude.{length, slice_index_or, Some, Ok};
 ghost use Rattle.byte_formats.specs.Types.{HashFunction, Text};
 ghost use Rattle.tls_wire.specs.Arcs.{IsAnchorId};
 ghost use Rattle.tls_wire.specs.Anchors.{text_of};
 ghost use Rattle.cert_names.specs.LogNames.{log_in};
 ghost use Rattle.cert_fields.specs.Extensions.{dns_names_in, has_unknown_critical};
+ghost use Rattle.log_entry.specs.Entries.{TbsParts};
+ghost use Rattle.log_entry.specs.Forms.{form_of};
 ghost use Rattle.log_entry.specs.Matching.{has_form, matches};
 ghost use Rattle.log_entry.specs.declared.entry.Form.{Form};
 ghost use Rattle.log_entry.specs.Reading.{entry_in};
 ghost use Rattle.issuance_log.specs.Folds.{LogState, log_of, view_in, with_item};
 ghost use Rattle.issuance_log.specs.Settings.{most_item};
+ghost use Rattle.issuance_log.specs.Sound.{IsSound};
+ghost use Rattle.policy_core.specs.Judgement.{form_by};
+ghost use Rattle.policy_core.specs.declared.store.Store.{Store};
 ghost use Rattle.authority_core.specs.Acceptance.{IsOwnEntry};
 ghost use Rattle.authority_core.specs.Issues.{issued_entry, issued_record};
 ghost use Rattle.authority_core.specs.Issuing.{entry_for, tbs_for};
@@ -52,4 +57,14 @@ pub fn law_issued_entries_keep_to_the_rules()
         → length (issued_entry h (view_in s) r) + length r.key ≤ most_item
         → log_of h (list ++ issued_record h (view_in s) r ∷ [])
         ≡ Ok (with_item (issued_entry h (view_in s) r) r.key s) }
+{}
+
+/// A store that has the index at which the log was switched, or none if it wasn't, gives each entry
+/// of type 1 in the log the form that it has. So the form is no further condition on a store that
+/// follows the log.
+pub fn law_stores_that_follow_the_log_give_its_forms()
+    ensures { (h : HashFunction) (s : LogState) (store : Store) (index : ℕ) (fields : TbsParts)
+        → IsSound h s → store.algorithm_from ≡ s.switched → 1 ≤ index → index < length s.entries
+        → entry_in (slice_index_or s.entries index []) ≡ Ok (Some fields)
+        → form_by store index ≡ form_of fields }
 {}

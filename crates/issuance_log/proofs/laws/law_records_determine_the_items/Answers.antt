@@ -1,4 +1,4 @@
-use Rattle.issuance_log.proofs.Encoded.{mark_alone, tiles_no_item}
+use Rattle.issuance_log.proofs.Encoded.{mark_alone, switch_no_item, tiles_no_item}
 use Rattle.issuance_log.proofs.Shown.{recorded_other, shown_added, shown_longer, shown_so}
 use Rattle.issuance_log.proofs.laws.law_records_determine_the_items.Goals as goal
 
@@ -16,3 +16,6 @@ returns-clause-marked c = λ list size. recorded_other list _ (mark_alone size)
 
 pub returns-clause-tiled : goal.returns-clause-tiled
 returns-clause-tiled c = λ list size. recorded_other list _ (tiles_no_item size)
+
+pub returns-clause-switched : goal.returns-clause-switched
+returns-clause-switched c = λ list size. recorded_other list _ (switch_no_item size)

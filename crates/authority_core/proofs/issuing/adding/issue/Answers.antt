@@ -1,10 +1,10 @@
 use Rattle.std.proofs.Common.{◌≡◌, ℕ, None, Result, Ok, Err, ap, subst, true}
 use Rattle.std.proofs.Common.{sym, ◌∙◌}
 use Rattle.std.proofs.lemmas.Result.{err_from_is_err_and}
-use Rattle.byte_formats.specs.Types.{Text}
-use Rattle.log_entry.specs.Matching.{matches}
-use Rattle.log_entry.specs.declared.entry.Form.TheVariants.{One}
-use Rattle.issuance_log.specs.Folds.{one_item_more, with_item}
+use Rattle.byte_formats.specs.Types.{HashFunction, Text}
+use Rattle.log_entry.specs.Matching.{has_form, matches}
+use Rattle.log_entry.specs.declared.entry.Form.{Form}
+use Rattle.issuance_log.specs.Folds.{log_form, one_item_more, with_item}
 use Rattle.issuance_log.specs.Records.{entry_record}
 use Rattle.issuance_log.specs.Words.{log_broken, log_end, modelled_state, view_of}
 use Rattle.issuance_log.specs.Words.{LogAppends}
@@ -21,6 +21,12 @@ use Rattle.authority_core.proofs.Answered.{of_refusal, or_memory}
 use Rattle.authority_core.proofs.Modelled.{own_modelled}
 use Rattle.authority_core.proofs.issuing.adding.issue.Goals as goal
 
+-- The entry of a request in a form: its key belongs to it, and it has the form.
+abbrev IsMade : HashFunction → Form → Text → RequestParts → Type 0
+IsMade h form id r =
+    (matches h (entry_for h form id r) r.key ≡ true)
+    × (has_form form (entry_for h form id r) ≡ true)
+
 -- The same entry and key.
 of_same : (P : Text → Text → Type 0) (entry key other other_key : Text)
     → entry ≡ other → key ≡ other_key → P entry key → P other other_key
@@ -36,7 +42,8 @@ returns-clause-appends g c =
     (with_item entry key) log c.add.new.self (Ok c.in_ok-index.index)) _ _
     (issued_entry h (view_of log) r) r.key
     (c.as_slice.ensures ∙ c.in_ok-entry.ensures.bytes
-    ∙ ap (λ (s : Settings). entry_for h One s.id r) (c.settings.view_is
+    ∙ ap (λ (f : Form). entry_for h f _ r) c.form-form.ensures
+    ∙ ap (λ (s : Settings). entry_for h (log_form (view_of log)) s.id r) (c.settings.view_is
     ∙ c.settings-settings.ensures.value))
     (c.as_slice-2.ensures ∙ ap (λ (q : RequestParts). q.key) c.request.view_is)
     c.in_ok-index.ensures.appends
@@ -54,11 +61,15 @@ returns-clause-own g c =
 
 pub returns-clause-valid : goal.returns-clause-valid
 returns-clause-valid g c = λ made.
-    c.law_unrefused_records_are_taken.ensures.added (issued_entry g.H.TreeHash.hash
-    (view_of c.args.log.now) c.args.request.now) c.args.request.now.key
-    (subst (λ (s : Settings). matches g.H.TreeHash.hash
-    (entry_for g.H.TreeHash.hash One s.id c.args.request.now) c.args.request.now.key ≡ true)
-    (c.settings.view_is ∙ c.settings-settings.ensures.value) c.entry_of_request.ensures.belongs)
+    let h = g.H.TreeHash.hash in
+    let r = c.args.request.now in
+    let form = log_form (view_of c.args.log.now) in
+    let made = subst (λ (f : Form). IsMade h f _ r) c.form-form.ensures
+    (c.entry_of_request.ensures.belongs, c.entry_of_request.ensures.form) in
+    let owned = subst (λ (s : Settings). IsMade h form s.id r)
+    (c.settings.view_is ∙ c.settings-settings.ensures.value) made in
+    c.law_unrefused_records_are_taken.ensures.added (issued_entry h (view_of c.args.log.now) r)
+    r.key owned.0 owned.1
 
 pub returns-clause-answer : goal.returns-clause-answer
 returns-clause-answer g c =
@@ -69,7 +80,8 @@ returns-clause-answer g c =
     key ≡ None) _ _
     (issued_entry h (view_of log) r) r.key
     (c.as_slice.ensures ∙ c.in_ok-entry.ensures.bytes
-    ∙ ap (λ (s : Settings). entry_for h One s.id r) (c.settings.view_is
+    ∙ ap (λ (f : Form). entry_for h f _ r) c.form-form.ensures
+    ∙ ap (λ (s : Settings). entry_for h (log_form (view_of log)) s.id r) (c.settings.view_is
     ∙ c.settings-settings.ensures.value))
     (c.as_slice-2.ensures ∙ ap (λ (q : RequestParts). q.key) c.request.view_is)
     c.in_ok-index.ensures.answer
@@ -107,7 +119,8 @@ returns-in_err-index-clause-appends g c =
     (with_item entry key) log c.add.new.self (Err c.in_err-index.field-0.0)) _ _
     (issued_entry h (view_of log) r) r.key
     (c.as_slice.ensures ∙ c.in_ok-entry.ensures.bytes
-    ∙ ap (λ (s : Settings). entry_for h One s.id r) (c.settings.view_is
+    ∙ ap (λ (f : Form). entry_for h f _ r) c.form-form.ensures
+    ∙ ap (λ (s : Settings). entry_for h (log_form (view_of log)) s.id r) (c.settings.view_is
     ∙ c.settings-settings.ensures.value))
     (c.as_slice-2.ensures ∙ ap (λ (q : RequestParts). q.key) c.request.view_is)
     c.in_err-index.ensures.appends)
@@ -124,15 +137,36 @@ returns-in_err-index-clause-answer g c =
     (log_broken log) (log_end log) entry key) (Err why)) _ _
     (issued_entry h (view_of log) r) r.key
     (c.as_slice.ensures ∙ c.in_ok-entry.ensures.bytes
-    ∙ ap (λ (s : Settings). entry_for h One s.id r) (c.settings.view_is
+    ∙ ap (λ (f : Form). entry_for h f _ r) c.form-form.ensures
+    ∙ ap (λ (s : Settings). entry_for h (log_form (view_of log)) s.id r) (c.settings.view_is
     ∙ c.settings-settings.ensures.value))
     (c.as_slice-2.ensures ∙ ap (λ (q : RequestParts). q.key) c.request.view_is)
     c.in_err-index.ensures.answer))
 
 pub returns-in_err-index-clause-valid : goal.returns-in_err-index-clause-valid
 returns-in_err-index-clause-valid g c = λ made.
-    c.law_unrefused_records_are_taken.ensures.added (issued_entry g.H.TreeHash.hash
-    (view_of c.args.log.now) c.args.request.now) c.args.request.now.key
-    (subst (λ (s : Settings). matches g.H.TreeHash.hash
-    (entry_for g.H.TreeHash.hash One s.id c.args.request.now) c.args.request.now.key ≡ true)
-    (c.settings.view_is ∙ c.settings-settings.ensures.value) c.entry_of_request.ensures.belongs)
+    let h = g.H.TreeHash.hash in
+    let r = c.args.request.now in
+    let form = log_form (view_of c.args.log.now) in
+    let made = subst (λ (f : Form). IsMade h f _ r) c.form-form.ensures
+    (c.entry_of_request.ensures.belongs, c.entry_of_request.ensures.form) in
+    let owned = subst (λ (s : Settings). IsMade h form s.id r)
+    (c.settings.view_is ∙ c.settings-settings.ensures.value) made in
+    c.law_unrefused_records_are_taken.ensures.added (issued_entry h (view_of c.args.log.now) r)
+    r.key owned.0 owned.1
+
+pub add-requires : goal.add-requires
+add-requires g c =
+    let h = g.H.TreeHash.hash in
+    let r = c.args.request.now in
+    let form = log_form (view_of c.args.log.now) in
+    let made = subst (λ (f : Form). IsMade h f _ r) c.form-form.ensures
+    (c.entry_of_request.ensures.belongs, c.entry_of_request.ensures.form) in
+    let bytes = c.as_slice.ensures ∙ c.in_ok-entry.ensures.bytes
+    ∙ ap (λ (f : Form). entry_for h f _ r) c.form-form.ensures in
+    let key = c.as_slice-2.ensures ∙ ap (λ (q : RequestParts). q.key) c.request.view_is in
+    record {
+      belongs = of_same (λ (entry key : Text). matches h entry key ≡ true) _ _ _ _ (sym bytes)
+          (sym key) made.0;
+      form = subst (λ (entry : Text). has_form form entry ≡ true) (sym bytes) made.1;
+    }

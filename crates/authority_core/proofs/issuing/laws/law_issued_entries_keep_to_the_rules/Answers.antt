@@ -1,11 +1,12 @@
-use Rattle.log_entry.specs.declared.entry.Form.TheVariants.{One}
-use Rattle.issuance_log.specs.Folds.{view_in}
+use Rattle.issuance_log.specs.Folds.{log_form, view_in}
 use Rattle.issuance_log.proofs.Encoded.{log_added}
 use Rattle.authority_core.specs.Issues.{issued_entry}
-use Rattle.authority_core.proofs.Issued.{key_belongs}
+use Rattle.authority_core.proofs.Issued.{form_asked, key_belongs}
 use Rattle.authority_core.proofs.issuing.laws.law_issued_entries_keep_to_the_rules.Goals as goal
 
 pub returns : goal.returns
 returns c = λ h list s r sized anchor f is capacity few.
+    let form = log_form (view_in s) in
     log_added h list s (issued_entry h (view_in s) r) r.key is capacity few
-    (key_belongs h One s.settings.id r sized anchor f)
+    (form_asked h form s.settings.id r sized anchor f)
+    (key_belongs h form s.settings.id r sized anchor f)

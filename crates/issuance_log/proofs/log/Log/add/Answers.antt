@@ -24,7 +24,8 @@ append_record-requires g c =
     let text_is = c.as_slice.ensures ∙ ready.body in
     let few = ready.few in
     let good =
-    item_record g.H.TreeHash.hash v entry key ready.size ready.few c.requires text text_is in
+    item_record g.H.TreeHash.hash v entry key ready.size ready.few c.requires.form
+    c.requires.belongs text text_is in
     record {
       some = good.some;
       few = good.few;
@@ -65,7 +66,8 @@ returns-clause-appends g c =
     (ap (λ disk. is_some (g.T.Disk.contents disk)) c.prepare_item.ensures.disk) _
     c.as_slice.result.now (entry_record entry key) one_item_more (with_item entry key) _
     (c.as_slice.ensures ∙ ready.body)
-    (item_taken_as g.H.TreeHash.hash (view_of log) entry key ready.size ready.few c.requires)
+    (item_taken_as g.H.TreeHash.hash (view_of log) entry key ready.size ready.few c.requires.form
+    c.requires.belongs)
     (c.append_record.ensures.appends one_item_more (with_item entry key))
 
 pub returns-clause-tiles : goal.returns-clause-tiles

@@ -1,4 +1,5 @@
-use Rattle.issuance_log.proofs.Adds.{added_unrefused, marked_unrefused, tiled_unrefused}
+use Rattle.issuance_log.proofs.Adds.{added_unrefused, marked_unrefused, switched_unrefused}
+use Rattle.issuance_log.proofs.Adds.{tiled_unrefused}
 use Rattle.issuance_log.proofs.log.Log.law_unrefused_records_are_taken.Goals as goal
 
 pub returns-clause-added : goal.returns-clause-added
@@ -12,3 +13,7 @@ returns-clause-marked g c =
 pub returns-clause-tiled : goal.returns-clause-tiled
 returns-clause-tiled g c =
     let log = c.args.self.now in tiled_unrefused log c.size.ensures.sound
+
+pub returns-clause-switched : goal.returns-clause-switched
+returns-clause-switched g c =
+    let log = c.args.self.now in switched_unrefused log c.size.ensures.sound

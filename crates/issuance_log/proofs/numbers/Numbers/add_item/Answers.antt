@@ -11,6 +11,7 @@ invariant_of-self c =
       size = n.size;
       marks = n.marks.items;
       tiled = n.tiled;
+      switched = n.switched;
     } in
     numbers_with v c.self.invariant
     (subst (λ (m : LogNumbers). m.view.size < m.view.settings.limit) (sym c.self.view_is)

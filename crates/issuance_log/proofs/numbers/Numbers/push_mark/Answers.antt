@@ -13,12 +13,14 @@ invariant_of-self c =
       size = n.size;
       marks = n.marks.items;
       tiled = n.tiled;
+      switched = n.switched;
     } in
     subst (λ (marks : List ℕ). HasSoundNumbers (record {
       settings = n.settings;
       size = n.size;
       marks = marks;
       tiled = n.tiled;
+      switched = n.switched;
     })) (sym c.put.ensures)
     (numbers_marked v c.self.invariant
     (subst (λ (m : LogNumbers). last_mark m.view.marks < m.view.size) (sym c.self.view_is)
