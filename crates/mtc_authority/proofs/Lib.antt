@@ -6,6 +6,7 @@ pub mod Opened
 pub mod Issued
 pub mod Marked
 pub mod Stored
+pub mod Switched
 pub mod Worked
 pub mod Plain
 pub mod Both

@@ -24,19 +24,20 @@ use Rattle.issuance_log.specs.Records.{landmark_tag, mark_in, size_in, size_reco
 use Rattle.issuance_log.specs.Records.{switch_in, tiled_in, tiles_tag}
 use Rattle.issuance_log.specs.declared.error.LogError.{LogError}
 use Rattle.issuance_log.proofs.After.{when}
-use Rattle.issuance_log.proofs.Encoded.{next_says}
+use Rattle.issuance_log.proofs.Encoded.{next_says, switch_no_tiles}
 use Rattle.issuance_log.proofs.Steps.{says_so}
 use Rattle.mtc_command.specs.Made.{Journaled, appended, reads, started, untouched}
 use Rattle.mtc_command.specs.Works.{journaled_by}
 use Rattle.mtc_authority.specs.IssueOutcome.{issued_by}
 use Rattle.mtc_authority.specs.LandmarkOutcomes.{marked_by}
 use Rattle.mtc_authority.specs.StoredTiles.{HasTilesOf}
+use Rattle.mtc_authority.specs.SwitchOutcome.{switched_by}
 use Rattle.mtc_authority.specs.Works.{found_log, log_says}
 use Rattle.mtc_authority.specs.declared.work.Work.{Work}
 use Rattle.mtc_authority.specs.declared.work.Work.TheVariants.{Cert, Checkpoint, Consist, Entries}
 use Rattle.mtc_authority.specs.declared.work.Work.TheVariants.{EntriesFrom}
 use Rattle.mtc_authority.specs.declared.work.Work.TheVariants.{Issue, Landmark, Landmarks}
-use Rattle.mtc_authority.specs.declared.work.Work.TheVariants.{LightCert, Subtree, Tile}
+use Rattle.mtc_authority.specs.declared.work.Work.TheVariants.{LightCert, Subtree, Switch, Tile}
 
 -- an Entry and a Landmark are no Tiles
 entry_plain : (entry key : Text) → tiled_in (entry_record entry key) ≡ None
@@ -121,6 +122,11 @@ module _ (h : HashFunction) where
     landmark_plain v None = λ t. plain_goes h s within t list _ made (mark_plain _)
     landmark_plain v (Some why) = tt
 
+    switch_plain : (v : LogView) (why : Option LogError)
+        → IsPlain (journaled_by (switched_by v list why))
+    switch_plain v None = λ t. plain_goes h s within t list _ made (switch_no_tiles _)
+    switch_plain v (Some why) = tt
+
     pub says_plain : (work : Work) → work ≢ Tile
         → IsPlain (journaled_by (log_says h work (found_log s list)))
     unfolding log_says
@@ -131,6 +137,7 @@ module _ (h : HashFunction) where
     says_plain (Consist old new) other = tt
     says_plain (Subtree start end size) other = tt
     says_plain Landmark other = landmark_plain (view_in s) _
+    says_plain Switch other = switch_plain (view_in s) _
     says_plain Landmarks other = tt
     says_plain (LightCert index) other = tt
     says_plain (Cert index start end signatures) other = tt

@@ -4,6 +4,7 @@ pub mod IssueOutcome
 pub mod LandmarkOutcomes
 pub mod CertOutcome
 pub mod TileOutcome
+pub mod SwitchOutcome
 pub mod BadTiles
 pub mod Works
 pub mod StoredTiles

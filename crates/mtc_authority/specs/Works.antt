@@ -34,13 +34,14 @@ use Rattle.mtc_authority.specs.LandmarkOutcomes.{landmark_says, landmarks_reply}
 use Rattle.mtc_authority.specs.LogOutcomes.{checkpoint_reply, entries_from_reply}
 use Rattle.mtc_authority.specs.LogOutcomes.{entries_reply}
 use Rattle.mtc_authority.specs.RequestOutcomes.{consist_reply, subtree_reply}
+use Rattle.mtc_authority.specs.SwitchOutcome.{switch_says}
 use Rattle.mtc_authority.specs.TileOutcome.{tile_says}
 use Rattle.mtc_authority.specs.declared.work.Work.{Work}
 use Rattle.mtc_authority.specs.declared.work.Work.TheVariants.{Checkpoint, Entries}
 use Rattle.mtc_authority.specs.declared.work.Work.TheVariants.{EntriesFrom, Issue, Consist}
 use Rattle.mtc_authority.specs.declared.work.Work.TheVariants.{Subtree, Landmark, Landmarks}
 use Rattle.mtc_authority.specs.declared.work.Work.TheVariants.{LightCert}
-use Rattle.mtc_authority.specs.declared.work.Work.TheVariants.{Cert, Tile}
+use Rattle.mtc_authority.specs.declared.work.Work.TheVariants.{Cert, Switch, Tile}
 
 -- What comes of it: the line says that the file isn't a log, or that the file of its tiles doesn't
 -- have them, unless the device of one failed or memory was refused.
@@ -72,6 +73,7 @@ log_says h Landmarks found = answers_on found.records (landmarks_reply (view_in 
 log_says h (LightCert index) found = answers_on found.records (light_reply h index found.state)
 log_says h (Cert index start end signatures) found =
     answers_on found.records (cert_reply h index start end signatures found.state)
+log_says h Switch found = switch_says found
 log_says h Tile found = tile_says found
 
 -- A log whose file of tiles doesn't have this one of them is refused.

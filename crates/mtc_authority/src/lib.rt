@@ -1,5 +1,6 @@
 //! The commands on the journal of a log: `init-log`, `issue`, `checkpoint`, `entries`,
-//! `entries-from`, `consist`, `subtree`, `landmark`, `landmarks`, `light-cert`, `cert` and `tile`.
+//! `entries-from`, `consist`, `subtree`, `landmark`, `landmarks`, `light-cert`, `cert`, `switch`
+//! and `tile`.
 //!
 //! The file system opens a journal and the file of its tiles, the log is opened over them and
 //! worked on, and both are closed ([`on_log`]); what is done with the log is a [`Work`]. What each
@@ -17,6 +18,7 @@ pub mod laws;
 mod log_command;
 mod marks;
 mod requests;
+mod switch;
 mod tiles;
 mod tree;
 mod work;

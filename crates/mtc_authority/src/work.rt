@@ -11,6 +11,7 @@ use crate::checkpoint::{checkpoint, entries, entries_from};
 use crate::issue::issue_on;
 use crate::marks::{list_landmarks, set_landmark};
 use crate::requests::{consist, subtree};
+use crate::switch::switch_on;
 use crate::tiles::tile_on;
 use authority_core::Request;
 use disk_core::Disk;
@@ -45,6 +46,8 @@ pub enum Work {
     /// The certificate of the entry at the first number, in the subtree from the second number up
     /// to the third one, with these signatures.
     Cert(u64, u64, u64, Signatures),
+    /// From the size on entries name the algorithm of their key.
+    Switch,
     /// The tiles that the entries fill are stored.
     Tile,
 }
@@ -78,6 +81,7 @@ pub fn carry_out<'a, H: TreeHash, D: Disk>(
         Work::Cert(index, start, end, signatures) => {
             certificate(alloc, journal, log, index, start, end, &signatures)
         }
+        Work::Switch => switch_on(alloc, journal, log),
         Work::Tile => tile_on(alloc, journal, log),
     }
 }

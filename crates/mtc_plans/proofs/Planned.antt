@@ -6,12 +6,13 @@ use Rattle.mtc_words.specs.Commands.{checkpoint, entries, entries_from, consist,
 use Rattle.mtc_words.specs.Commands.{keygen}
 use Rattle.mtc_words.specs.Commands.{init_cosigner, advance, cosign, export, landmark, landmarks}
 use Rattle.mtc_words.specs.Commands.{light_cert, trust_landmarks, cert, audit, drill, tile}
+use Rattle.mtc_words.specs.Commands.{switch}
 use Rattle.mtc_words.specs.Commands.{quarrel, root, held, monitor_init, monitor}
 use Rattle.mtc_command.specs.Steps.{Files}
 use Rattle.mtc_authority.specs.declared.work.Work.TheVariants.{Checkpoint, Consist, Entries}
 use Rattle.mtc_authority.specs.declared.work.Work.TheVariants.{EntriesFrom}
 use Rattle.mtc_authority.specs.declared.work.Work.TheVariants.{Landmark, Landmarks, LightCert}
-use Rattle.mtc_authority.specs.declared.work.Work.TheVariants.{Subtree, Tile}
+use Rattle.mtc_authority.specs.declared.work.Work.TheVariants.{Subtree, Switch, Tile}
 use Rattle.command_plans.specs.Plans.{changes, only_reads}
 use Rattle.mtc_plans.specs.Cited.{command_outcome}
 use Rattle.mtc_plans.specs.Commands.{planned_outcome}
@@ -63,6 +64,7 @@ module _ (h : HashFunction) where
   outcome_planned (quarrel kept) files = quarrel_plans (party_kinds h) h kept files
   outcome_planned (drill number) files = drill_plans (party_kinds h) h number files
   outcome_planned (tile journal) files = work_plans h files changes journal Tile
+  outcome_planned (switch journal) files = work_plans h files only_reads journal Switch
   outcome_planned (root items) files = root_plans (party_kinds h) h items files
   outcome_planned (held kept) files = held_plans (party_kinds h) h kept files
   outcome_planned (monitor_init id) files = monitor_init_plans (party_kinds h) h id files

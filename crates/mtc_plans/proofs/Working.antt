@@ -10,7 +10,7 @@ use Rattle.authority_core.specs.declared.writing.error.WriteError.{WriteError}
 use Rattle.authority_core.specs.declared.writing.error.WriteError.TheVariants as write_error
 use Rattle.issuance_log.specs.Folds.{LogState, view_in}
 use Rattle.issuance_log.specs.Openings.{FoundLog}
-use Rattle.issuance_log.specs.Refusals.{add_refusal, mark_refusal, tile_refusal}
+use Rattle.issuance_log.specs.Refusals.{add_refusal, mark_refusal, switch_refusal, tile_refusal}
 use Rattle.issuance_log.specs.declared.error.LogError.{LogError}
 use Rattle.issuance_log.specs.declared.error.LogError.TheVariants as log_error
 use Rattle.tree_core.specs.Subtree.{is_subtree}
@@ -21,18 +21,19 @@ use Rattle.mtc_authority.specs.IssueOutcome.{issued}
 use Rattle.mtc_authority.specs.LandmarkOutcomes.{mark_refused, marked}
 use Rattle.mtc_authority.specs.LogOutcomes.{entries_from_reply, entries_reply}
 use Rattle.mtc_authority.specs.RequestOutcomes.{consist_reply, subtree_reply}
+use Rattle.mtc_authority.specs.SwitchOutcome.{switch_refused, switched_by}
 use Rattle.mtc_authority.specs.TileOutcome.{tiled_by, tiles_refused}
 use Rattle.mtc_authority.specs.Works.{log_says}
 use Rattle.mtc_authority.specs.declared.work.Work.{Work}
 use Rattle.mtc_authority.specs.declared.work.Work.TheVariants.{Cert, Checkpoint, Consist, Entries}
 use Rattle.mtc_authority.specs.declared.work.Work.TheVariants.{EntriesFrom}
 use Rattle.mtc_authority.specs.declared.work.Work.TheVariants.{Issue, Landmark, Landmarks}
-use Rattle.mtc_authority.specs.declared.work.Work.TheVariants.{LightCert, Subtree, Tile}
+use Rattle.mtc_authority.specs.declared.work.Work.TheVariants.{LightCert, Subtree, Switch, Tile}
 use Rattle.command_plans.specs.Outcomes.{wanted_of}
 use Rattle.mtc_plans.specs.LogWork.{cert_judged, consist_judged, entries_from_judged}
 use Rattle.mtc_plans.specs.LogWork.{entries_judged}
 use Rattle.mtc_plans.specs.LogWork.{issue_reported, log_judged, mark_reported, subtree_judged}
-use Rattle.mtc_plans.specs.LogWork.{tile_reported}
+use Rattle.mtc_plans.specs.LogWork.{switch_judged, switch_reported, tile_reported}
 use Rattle.mtc_plans.specs.LogWork.{work_reported, write_judged}
 use Rattle.mtc_plans.proofs.Texts.{either_same, on_list, reported_on}
 
@@ -60,6 +61,10 @@ mark_same why = refl
 tiles_same : (why : LogError) → exactly (tiles_refused why) ≡ wanted_of (log_judged why)
 tiles_same log_error.NothingNew = refl
 tiles_same why = refl
+
+switch_same : (why : LogError) → exactly (switch_refused why) ≡ wanted_of (switch_judged why)
+switch_same (log_error.AlreadySwitched index) = refl
+switch_same why = refl
 
 module _ (h : HashFunction) where
   entries_same : (size : ℕ) (s : LogState)
@@ -101,6 +106,13 @@ module _ (h : HashFunction) where
   tiled_same found (Some why) = on_list found.records (tiles_refused why) (log_judged why)
       (tiles_same why)
 
+  switched_same : (found : FoundLog) (why : Option LogError)
+      → switched_by (view_in found.state) found.records why
+      ≡ reported_on found.records (switch_reported (view_in found.state) why)
+  switched_same found None = refl
+  switched_same found (Some why) = on_list found.records (switch_refused why) (switch_judged why)
+      (switch_same why)
+
   pub work_same : (work : Work) (found : FoundLog)
       → log_says h work found ≡ reported_on found.records (work_reported h work found)
   unfolding log_says
@@ -129,5 +141,7 @@ module _ (h : HashFunction) where
       let why = cert_refusal (view_in found.state) index start end signatures in
       let text = certificate_in h index start end signatures found.state in
       on_list found.records (cert_replies why text) (cert_judged why text) (cert_same why text)
+  work_same Switch found =
+      switched_same found (switch_refusal (view_in found.state) false (end_offset found.records))
   work_same Tile found =
       tiled_same found (tile_refusal (view_in found.state) false (end_offset found.records))

@@ -6,6 +6,7 @@ use Rattle.mtc_words.specs.Commands.{checkpoint, entries, entries_from, consist,
 use Rattle.mtc_words.specs.Commands.{keygen}
 use Rattle.mtc_words.specs.Commands.{init_cosigner, advance, cosign, export, landmark, landmarks}
 use Rattle.mtc_words.specs.Commands.{light_cert, trust_landmarks, cert, audit, drill, tile}
+use Rattle.mtc_words.specs.Commands.{switch}
 use Rattle.mtc_words.specs.Commands.{quarrel, root, held, monitor_init, monitor}
 use Rattle.mtc_command.specs.Answers.{tiles_name}
 use Rattle.mtc_command.specs.Steps.{Files, Outcome}
@@ -20,7 +21,7 @@ use Rattle.mtc_authority.specs.Works.{log_outcome}
 use Rattle.mtc_authority.specs.declared.work.Work.{Work}
 use Rattle.mtc_authority.specs.declared.work.Work.TheVariants.{Checkpoint, Consist, Entries}
 use Rattle.mtc_authority.specs.declared.work.Work.TheVariants.{EntriesFrom}
-use Rattle.mtc_authority.specs.declared.work.Work.TheVariants.{Subtree}
+use Rattle.mtc_authority.specs.declared.work.Work.TheVariants.{Subtree, Switch}
 use Rattle.mtc_authority.specs.declared.work.Work.TheVariants.{Landmark, Landmarks, LightCert, Tile}
 use Rattle.mtc_relying.specs.AuditOutcome.{audit_outcome}
 use Rattle.mtc_relying.specs.QuarrelOutcome.{quarrel_outcome}
@@ -68,6 +69,7 @@ command_outcome h (audit certificate store unix_time items kept) =
 command_outcome h (quarrel kept) = quarrel_outcome h kept
 command_outcome h (drill number) = λ files. drill_outcome number
 command_outcome h (tile journal) = outcome_on_log h journal Tile
+command_outcome h (switch journal) = outcome_on_log h journal Switch
 command_outcome h (root items) = root_outcome h items
 command_outcome h (held kept) = held_outcome h kept
 command_outcome h (monitor_init id) = λ files. monitor_init_outcome id

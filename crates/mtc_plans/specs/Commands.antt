@@ -5,12 +5,13 @@ use Rattle.mtc_words.specs.Commands.{checkpoint, entries, entries_from, consist,
 use Rattle.mtc_words.specs.Commands.{keygen}
 use Rattle.mtc_words.specs.Commands.{init_cosigner, advance, cosign, export, landmark, landmarks}
 use Rattle.mtc_words.specs.Commands.{light_cert, trust_landmarks, cert, audit, drill, tile}
+use Rattle.mtc_words.specs.Commands.{switch}
 use Rattle.mtc_words.specs.Commands.{quarrel, root, held, monitor_init, monitor}
 use Rattle.mtc_command.specs.Steps.{Files, Outcome}
 use Rattle.mtc_authority.specs.declared.work.Work.TheVariants.{Checkpoint, Consist, Entries}
 use Rattle.mtc_authority.specs.declared.work.Work.TheVariants.{EntriesFrom}
 use Rattle.mtc_authority.specs.declared.work.Work.TheVariants.{Landmark, Landmarks, LightCert}
-use Rattle.mtc_authority.specs.declared.work.Work.TheVariants.{Subtree, Tile}
+use Rattle.mtc_authority.specs.declared.work.Work.TheVariants.{Subtree, Switch, Tile}
 use Rattle.command_plans.specs.Outcomes.{outcome_of}
 use Rattle.command_plans.specs.Plans.{Plan, changes, only_reads}
 use Rattle.mtc_plans.specs.AuditPlans.{audit_plan, quarrel_plan}
@@ -52,6 +53,7 @@ plan_of h (audit certificate store unix_time items kept) =
 plan_of h (quarrel kept) = quarrel_plan h kept
 plan_of h (drill number) = drill_plan number
 plan_of h (tile journal) = work_plan h changes journal Tile
+plan_of h (switch journal) = work_plan h only_reads journal Switch
 plan_of h (root items) = root_plan h items
 plan_of h (held kept) = held_plan h kept
 plan_of h (monitor_init id) = monitor_init_plan id

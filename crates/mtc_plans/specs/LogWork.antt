@@ -1,6 +1,7 @@
 -- What a command prints over a log that was found, and which record it adds.
 use Rattle.std.specs.Prelude.{ℕ, ◌-◌, false, nat_le, nat_lt, not, List, length, codes, Option}
-use Rattle.std.specs.Prelude.{None, Some, if◌then◌else◌}
+use Rattle.std.specs.Prelude.{None, Some, ◌++◌, if◌then◌else◌}
+use Rattle.std.specs.Fmt.{decimal}
 use Rattle.byte_formats.specs.Types.{HashFunction, Text}
 use Rattle.journal_core.specs.Format.{end_offset}
 use Rattle.authority_core.specs.Certificates.{cert_refusal, covering_in, light_refusal}
@@ -12,8 +13,9 @@ use Rattle.cosigner_core.specs.Requests.{advance_text, subtree_text}
 use Rattle.entry_list.specs.Items.{file_part, file_text}
 use Rattle.issuance_log.specs.Folds.{LogState, LogView, view_in}
 use Rattle.issuance_log.specs.Openings.{FoundLog}
-use Rattle.issuance_log.specs.Records.{landmark_record, tiles_record}
-use Rattle.issuance_log.specs.Refusals.{add_refusal, full_size, mark_refusal, tile_refusal}
+use Rattle.issuance_log.specs.Records.{landmark_record, switch_record, tiles_record}
+use Rattle.issuance_log.specs.Refusals.{add_refusal, full_size, mark_refusal, switch_refusal}
+use Rattle.issuance_log.specs.Refusals.{tile_refusal}
 use Rattle.issuance_log.specs.declared.error.LogError.{LogError}
 use Rattle.issuance_log.specs.declared.error.LogError.TheVariants as log_error
 use Rattle.landmarks.specs.Texts.{list_text}
@@ -27,12 +29,13 @@ use Rattle.mtc_authority.specs.LandmarkOutcomes.{log_landmarks, next_line}
 use Rattle.mtc_authority.specs.LogOutcomes.{items_of}
 use Rattle.mtc_lines.specs.CheckpointLines.{checkpoint_lines}
 use Rattle.mtc_authority.specs.RequestOutcomes.{advance_by_log, subtree_of}
+use Rattle.mtc_authority.specs.SwitchOutcome.{switched_line}
 use Rattle.mtc_authority.specs.TileOutcome.{tiled_line}
 use Rattle.mtc_authority.specs.declared.work.Work.{Work}
 use Rattle.mtc_authority.specs.declared.work.Work.TheVariants.{Cert, Checkpoint, Consist, Entries}
 use Rattle.mtc_authority.specs.declared.work.Work.TheVariants.{EntriesFrom}
 use Rattle.mtc_authority.specs.declared.work.Work.TheVariants.{Issue, Landmark, Landmarks}
-use Rattle.mtc_authority.specs.declared.work.Work.TheVariants.{LightCert, Subtree, Tile}
+use Rattle.mtc_authority.specs.declared.work.Work.TheVariants.{LightCert, Subtree, Switch, Tile}
 use Rattle.command_plans.specs.Plans.{Judged, exceeds, forbids, prints}
 use Rattle.mtc_plans.specs.Steps.{StepReport, beyond_size}
 
@@ -111,6 +114,17 @@ abbrev pub tile_reported : LogView → Option LogError → StepReport
 tile_reported v None = (prints Done (tiled_line (full_size v)), Some (tiles_record (full_size v)))
 tile_reported v (Some why) = (log_judged why, None)
 
+-- Why a log isn't switched.
+abbrev pub switch_judged : LogError → Judged
+switch_judged (log_error.AlreadySwitched index) =
+    forbids (codes "AlreadySwitched " ++ decimal index)
+switch_judged why = exceeds (log_fault_text why)
+
+-- The log is switched at its size.
+abbrev pub switch_reported : LogView → Option LogError → StepReport
+switch_reported v None = (prints Done (switched_line v.size), Some (switch_record v.size))
+switch_reported v (Some why) = (switch_judged why, None)
+
 -- ---- each work
 
 abbrev pub work_reported : HashFunction → Work → FoundLog → StepReport
@@ -136,5 +150,7 @@ work_reported h (Cert index start end signatures) found = (
       (certificate_in h index start end signatures found.state),
   None,
 )
+work_reported h Switch found = switch_reported (view_in found.state)
+    (switch_refusal (view_in found.state) false (end_offset found.records))
 work_reported h Tile found = tile_reported (view_in found.state)
     (tile_refusal (view_in found.state) false (end_offset found.records))

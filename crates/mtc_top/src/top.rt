@@ -151,6 +151,7 @@ fn perform<'a, H: TreeHash, R: Room>(
         Command::Cert(journal, index, start, end, signatures) => {
             cert::<H, R>(alloc, room, journal, index, start, end, signatures)
         }
+        Command::Switch(log) => on_log::<H, R>(alloc, room, log, Work::Switch),
         Command::Tile(log) => on_log::<H, R>(alloc, room, log, Work::Tile),
         _ => perform_reading::<H, R>(alloc, room, command),
     }

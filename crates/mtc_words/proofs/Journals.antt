@@ -16,7 +16,7 @@ use Rattle.mtc_words.specs.declared.name.Name.TheVariants.{Consist, Subtree}
 use Rattle.mtc_words.specs.declared.name.Name.TheVariants.{Keygen, InitCosigner, Advance, Cosign}
 use Rattle.mtc_words.specs.declared.name.Name.TheVariants.{Export, Landmark, Landmarks, LightCert}
 use Rattle.mtc_words.specs.declared.name.Name.TheVariants.{TrustLandmarks, Cert, Audit, Drill}
-use Rattle.mtc_words.specs.declared.name.Name.TheVariants.{Quarrel, Tile}
+use Rattle.mtc_words.specs.declared.name.Name.TheVariants.{Quarrel, Tile, Switch}
 use Rattle.mtc_words.specs.declared.name.Name.TheVariants.{Root, Held, MonitorInit, Monitor}
 use Rattle.mtc_words.specs.Commands.{CommandValue, journal_of, is_height, is_width, is_time}
 use Rattle.mtc_words.specs.Commands.{is_active, is_limit, is_any}
@@ -106,6 +106,7 @@ from_words Quarrel ws c e = reported _ c e
 from_words Drill ws c e =
     following (Has Drill ws) (number_word 1 is_any (word ws 0)) _ c (λ number is. reported _ c is) e
 from_words Tile ws c e = reported _ c e
+from_words Switch ws c e = reported _ c e
 from_words Root ws c e = reported _ c e
 from_words Held ws c e = reported _ c e
 from_words MonitorInit ws c e =

@@ -12,7 +12,7 @@ use Rattle.mtc_words.specs.declared.command.Command.TheVariants.{InitCosigner, A
 use Rattle.mtc_words.specs.declared.command.Command.TheVariants.{Export, Quarrel}
 use Rattle.mtc_words.specs.declared.command.Command.TheVariants.{Landmark, Landmarks, LightCert}
 use Rattle.mtc_words.specs.declared.command.Command.TheVariants.{TrustLandmarks, Cert, Audit, Drill}
-use Rattle.mtc_words.specs.declared.command.Command.TheVariants.{Tile}
+use Rattle.mtc_words.specs.declared.command.Command.TheVariants.{Tile, Switch}
 use Rattle.mtc_words.specs.declared.command.Command.TheVariants.{Root, Held, MonitorInit, Monitor}
 use Rattle.mtc_words.specs.declared.error.WordError.{WordError}
 
@@ -42,6 +42,7 @@ pub data CommandValue : Type 0 where
   quarrel : Text → CommandValue
   drill : ℕ → CommandValue
   tile : Text → CommandValue
+  switch : Text → CommandValue
   root : Text → CommandValue
   held : Text → CommandValue
   monitor_init : Text → CommandValue
@@ -77,6 +78,7 @@ command_value (Audit certificate store unix_time items kept) =
 command_value (Quarrel kept) = quarrel kept.now
 command_value (Drill number) = drill number
 command_value (Tile journal) = tile journal.now
+command_value (Switch journal) = switch journal.now
 command_value (Root items) = root items.now
 command_value (Held kept) = held kept.now
 command_value (MonitorInit id) = monitor_init id
@@ -140,6 +142,7 @@ IsInRange (audit certificate store unix_time items kept) = is_time unix_time ≡
 IsInRange (quarrel kept) = Unit {0}
 IsInRange (drill number) = Unit {0}
 IsInRange (tile journal) = Unit {0}
+IsInRange (switch journal) = Unit {0}
 IsInRange (root items) = Unit {0}
 IsInRange (held kept) = Unit {0}
 IsInRange (monitor_init id) = Unit {0}
@@ -171,6 +174,7 @@ journal_of (audit certificate store unix_time items kept) = None
 journal_of (quarrel kept) = None
 journal_of (drill number) = None
 journal_of (tile journal) = Some journal
+journal_of (switch journal) = Some journal
 journal_of (root items) = None
 journal_of (held kept) = None
 journal_of (monitor_init id) = None

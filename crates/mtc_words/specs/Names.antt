@@ -12,7 +12,7 @@ use Rattle.mtc_words.specs.declared.name.Name.TheVariants.{Keygen, InitCosigner,
 use Rattle.mtc_words.specs.declared.name.Name.TheVariants.{Export, Quarrel}
 use Rattle.mtc_words.specs.declared.name.Name.TheVariants.{Landmark, Landmarks, LightCert}
 use Rattle.mtc_words.specs.declared.name.Name.TheVariants.{TrustLandmarks, Cert, Audit, Drill}
-use Rattle.mtc_words.specs.declared.name.Name.TheVariants.{Tile}
+use Rattle.mtc_words.specs.declared.name.Name.TheVariants.{Tile, Switch}
 use Rattle.mtc_words.specs.declared.name.Name.TheVariants.{Root, Held, MonitorInit, Monitor}
 
 -- The command that an argument names which names none of those before the commands of monitors.
@@ -36,7 +36,8 @@ named_from_landmark word =
     else (if bytes_eq word (codes "quarrel") then Some Quarrel
     else (if bytes_eq word (codes "drill") then Some Drill
     else (if bytes_eq word (codes "tile") then Some Tile
-    else named_from_monitor word))))))))
+    else (if bytes_eq word (codes "switch") then Some Switch
+    else named_from_monitor word)))))))))
 
 -- The same for an argument that names none of those before the commands of a cosigner.
 abbrev pub named_from_cosigner : Text → Option Name
@@ -89,6 +90,7 @@ word_count Audit = 5
 word_count Quarrel = 1
 word_count Drill = 1
 word_count Tile = 1
+word_count Switch = 1
 word_count Root = 1
 word_count Held = 1
 word_count MonitorInit = 1
@@ -120,6 +122,7 @@ takes_journal Audit = false
 takes_journal Quarrel = false
 takes_journal Drill = false
 takes_journal Tile = true
+takes_journal Switch = true
 takes_journal Root = false
 takes_journal Held = false
 takes_journal MonitorInit = false

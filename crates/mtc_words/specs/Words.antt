@@ -18,7 +18,7 @@ use Rattle.mtc_words.specs.declared.name.Name.TheVariants.{Keygen, InitCosigner,
 use Rattle.mtc_words.specs.declared.name.Name.TheVariants.{Export, Quarrel}
 use Rattle.mtc_words.specs.declared.name.Name.TheVariants.{Landmark, Landmarks, LightCert}
 use Rattle.mtc_words.specs.declared.name.Name.TheVariants.{TrustLandmarks, Cert, Audit, Drill}
-use Rattle.mtc_words.specs.declared.name.Name.TheVariants.{Tile}
+use Rattle.mtc_words.specs.declared.name.Name.TheVariants.{Tile, Switch}
 use Rattle.mtc_words.specs.declared.name.Name.TheVariants.{Root, Held, MonitorInit, Monitor}
 use Rattle.mtc_words.specs.Commands.{CommandValue, member, show, verify, init_log, issue}
 use Rattle.mtc_words.specs.Commands.{checkpoint, entries, entries_from, consist, subtree, keygen}
@@ -26,7 +26,7 @@ use Rattle.mtc_words.specs.Commands.{is_height}
 use Rattle.mtc_words.specs.Commands.{is_width, is_time, is_active, is_limit, is_any}
 use Rattle.mtc_words.specs.Commands.{init_cosigner, advance, cosign, landmark, landmarks}
 use Rattle.mtc_words.specs.Commands.{export, light_cert, trust_landmarks, cert, audit, drill}
-use Rattle.mtc_words.specs.Commands.{quarrel, tile, root, held, monitor_init, monitor}
+use Rattle.mtc_words.specs.Commands.{quarrel, tile, switch, root, held, monitor_init, monitor}
 use Rattle.mtc_words.specs.Names.{named_command, word_count, takes_journal, is_tiles_name}
 
 -- Empty, or begins with a hyphen.
@@ -135,6 +135,7 @@ command_from Drill ws = do
   number ← number_word 1 is_any (word ws 0)
   Ok (drill number)
 command_from Tile ws = Ok (tile (word ws 0))
+command_from Switch ws = Ok (switch (word ws 0))
 command_from Root ws = Ok (root (word ws 0))
 command_from Held ws = Ok (held (word ws 0))
 command_from MonitorInit ws = do

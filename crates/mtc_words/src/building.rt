@@ -294,6 +294,7 @@ pub fn build<'a>(alloc: Global, name: Name, words: &'a [String]) -> Result<Comma
         Name::Quarrel => Ok(Command::Quarrel(text(words, 0))),
         Name::Drill => drill(words),
         Name::Tile => Ok(Command::Tile(text(words, 0))),
+        Name::Switch => Ok(Command::Switch(text(words, 0))),
         Name::Root => Ok(Command::Root(text(words, 0))),
         Name::Held => Ok(Command::Held(text(words, 0))),
         Name::MonitorInit => monitor_init(alloc, words),

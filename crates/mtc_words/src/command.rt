@@ -68,6 +68,8 @@ pub enum Command<'a> {
     Drill(u64),
     /// `tile J`: store the tiles of the log that are full and not stored.
     Tile(&'a str),
+    /// `switch J`: from the size of the log on entries name the algorithm of their key.
+    Switch(&'a str),
     /// `root ENTRIES`: print the number of the entries of a file and their tree hash.
     Root(&'a str),
     /// `held EXPORT`: print what an export says of its cosigner.

@@ -31,6 +31,7 @@ pub enum Name {
     Quarrel,
     Drill,
     Tile,
+    Switch,
     Root,
     Held,
     MonitorInit,
@@ -85,6 +86,7 @@ fn read_landmark_name(word: &str) -> Option<Name>
         "quarrel" => Some(Name::Quarrel),
         "drill" => Some(Name::Drill),
         "tile" => Some(Name::Tile),
+        "switch" => Some(Name::Switch),
         _ => read_monitor_name(word),
     }
 }
@@ -109,7 +111,7 @@ pub fn wanted_count(name: Name) -> usize
     match name {
         Name::Member | Name::Show | Name::Checkpoint => 1,
         Name::Export | Name::Landmark | Name::Landmarks | Name::Drill | Name::Tile => 1,
-        Name::Quarrel | Name::Root | Name::Held | Name::MonitorInit => 1,
+        Name::Quarrel | Name::Root | Name::Held | Name::MonitorInit | Name::Switch => 1,
         Name::Issue | Name::Entries | Name::Advance | Name::Cosign | Name::LightCert => 2,
         Name::Verify | Name::EntriesFrom | Name::Consist => 3,
         Name::Keygen | Name::TrustLandmarks => 3,
@@ -130,7 +132,7 @@ pub fn takes_journal(name: Name) -> bool
         Name::InitLog | Name::Issue | Name::Checkpoint | Name::Entries => true,
         Name::EntriesFrom | Name::Consist | Name::Subtree => true,
         Name::Landmark | Name::Landmarks => true,
-        Name::LightCert | Name::Cert | Name::Tile => true,
+        Name::LightCert | Name::Cert | Name::Tile | Name::Switch => true,
         Name::InitCosigner | Name::Advance | Name::Cosign | Name::Export => true,
     }
 }

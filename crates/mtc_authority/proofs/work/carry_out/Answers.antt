@@ -64,6 +64,14 @@ returns-in-Landmark-clause-works g c = subst
     c.set_landmark.new.log (ending_of c.set_landmark.result)) (sym c.in-Landmark.is)
     c.set_landmark.ensures.works
 
+pub returns-in-Switch-clause-works : goal.returns-in-Switch-clause-works
+unfolding Rattle.mtc_authority.specs.Works.log_says
+returns-in-Switch-clause-works g c = subst
+    (λ (w : Work). HasWorkedOnLog c.args.journal.now (log_says g.H.TreeHash.hash w)
+    c.args.log.now
+    c.switch_on.new.log (ending_of c.switch_on.result)) (sym c.in-Switch.is)
+    c.switch_on.ensures.works
+
 pub returns-in-LightCert-clause-works : goal.returns-in-LightCert-clause-works
 unfolding Rattle.mtc_authority.specs.Works.log_says
 returns-in-LightCert-clause-works g c = subst
@@ -133,6 +141,12 @@ returns-in-Landmark-clause-valid g c = subst
     (λ (w : Work). StaysLog g.H.TreeHash.hash (log_says g.H.TreeHash.hash w) c.args.log.now
     c.set_landmark.new.log) (sym c.in-Landmark.is) c.set_landmark.ensures.valid
 
+pub returns-in-Switch-clause-valid : goal.returns-in-Switch-clause-valid
+unfolding Rattle.mtc_authority.specs.Works.log_says
+returns-in-Switch-clause-valid g c = subst
+    (λ (w : Work). StaysLog g.H.TreeHash.hash (log_says g.H.TreeHash.hash w) c.args.log.now
+    c.switch_on.new.log) (sym c.in-Switch.is) c.switch_on.ensures.valid
+
 pub returns-in-Tile-clause-valid : goal.returns-in-Tile-clause-valid
 unfolding Rattle.mtc_authority.specs.Works.log_says
 returns-in-Tile-clause-valid g c = subst
@@ -169,6 +183,9 @@ returns-in-Issue-clause-only_read g c = λ other. inl c.issue_on.ensures.tiles
 pub returns-in-Landmark-clause-only_read : goal.returns-in-Landmark-clause-only_read
 returns-in-Landmark-clause-only_read g c = λ other. inl c.set_landmark.ensures.tiles
 
+pub returns-in-Switch-clause-only_read : goal.returns-in-Switch-clause-only_read
+returns-in-Switch-clause-only_read g c = λ other. inl c.switch_on.ensures.tiles
+
 pub returns-in-Tile-clause-only_read : goal.returns-in-Tile-clause-only_read
 returns-in-Tile-clause-only_read g c = λ other. absurd (other c.in-Tile.is)
 
@@ -199,6 +216,10 @@ returns-in-Subtree-clause-stores g c =
 pub returns-in-Landmark-clause-stores : goal.returns-in-Landmark-clause-stores
 returns-in-Landmark-clause-stores g c =
     λ tile. absurd (let wrong = sym c.in-Landmark.is ∙ tile in cc)
+
+pub returns-in-Switch-clause-stores : goal.returns-in-Switch-clause-stores
+returns-in-Switch-clause-stores g c =
+    λ tile. absurd (let wrong = sym c.in-Switch.is ∙ tile in cc)
 
 pub returns-in-Landmarks-clause-stores : goal.returns-in-Landmarks-clause-stores
 returns-in-Landmarks-clause-stores g c =
