@@ -35,7 +35,7 @@ COMMANDS = [
     "quarrel entries", "drill 7", "root entries", "root export", "held export", "held empty", "held entries",
     "monitor-init 32473.1", "monitor state watch advance entries", "monitor state watch advance few", "monitor watch watch advance entries",
     "monitor state state advance entries", "monitor state watch subtree entries", "monitor state watch advance export",
-    "checkpoint bare", "tile log", "tile full", "cert tiled 2 0 256 empty", "issue tiled request", "tile none.tiles",
+    "checkpoint bare", "switch log", "switch switched", "issue switched request", "tile log", "tile full", "cert tiled 2 0 256 empty", "issue tiled request", "tile none.tiles",
 ]
 
 # Of the allocations of this command one in so many is refused.
@@ -65,6 +65,8 @@ def make_files(folder):
     folder.run("show", "first.cert")
     folder.run("checkpoint", "first.journal")
     shutil.copy(ROOT / "examples/first.journal", folder.path / "bare")
+    folder.run("init-log", "switched", LOG, "2", "32")
+    folder.run("switch", "switched")
     for journal in ("full", "tiled"):
         subprocess.run([sys.executable, ROOT / "bench/log/make_journal.py", "256", folder.path / journal], check=True)
         folder.run("tile" if journal == "tiled" else "checkpoint", journal)

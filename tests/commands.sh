@@ -27,6 +27,7 @@ printf %048d 0 >secret
 printf '[log]\nid = "32473.1"\n' | tee store >other
 printf '[[%s]]\n%s\n%s\n' cosigner 'id = "32473.2"' 'key = "AAAAAQAAAAUAAAADMDAwMDAwMDAwMDAwMDAwMIB1NLdgPEPM0E/kvwFyxip3db1CJTKwvsyumrhWwUuV"' \
     rule 'cosigners = ["32473.2"]' 'count = 1' >>other
+printf '[log]\nid = "32473.1"\nalgorithm_from = 2\n' >switched
 : >empty
 echo a.example >names
 
@@ -248,6 +249,25 @@ monitor v names b y|4|-|mtc: monitor: BadProof
 monitor e names a z|2|-|mtc: monitor: e: BadLine 0
 monitor v secret a z|2|-|mtc: monitor: secret: BadLine 0
 monitor v k a z|7|-|mtc: monitor: k: Absent
+init-log C 32473.1 2 64|0|d2ef99de8024e444|
+issue C r|0|2c79a1c0b381d236|
+switch C|0|a50a28d91fc2a3cb|
+switch C|4|-|mtc: switch: AlreadySwitched 2
+issue C s|0|176e7dd8d13f83ef|
+landmark C|0|168b23993494f42f|
+landmarks C >D|0|5027671c0e1e6a3f|
+entries C 3 >E|0|6a4395dfdee29299|
+trust-landmarks D 2 E >>switched|0|998aa6597fae484d|
+light-cert C 1 >F|0|a2c12b09198ad31f|
+light-cert C 2 >G|0|a3aa8b8029220c25|
+verify F switched 1767225600|0|1ce12c1c8a98c089|
+verify G switched 2524607999|0|d9cda81596044fce|
+audit G switched 2524607999 E empty|0|41f2c046aef57e42|
+checkpoint C|0|67b2ce9d6e094908|
+switch k|7|-|mtc: switch: k: Absent
+switch w|2|-|mtc: switch: w: BadRecord 0
+switch C r|1|-|mtc: switch: WrongCount 2 1
+switch C.tiles|1|-|mtc: switch: TilesName 1
 drill 7|0|bdada2c469064269|
 drill 7|0|bdada2c469064269|
 drill|1|-|mtc: drill: WrongCount 0 1

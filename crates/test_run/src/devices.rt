@@ -252,6 +252,13 @@ const LANDMARK: Appending = Appending {
     length: 50,
 };
 
+const SWITCH: Appending = Appending {
+    words: "switch j",
+    said: b"switched 1\n",
+    failed: b"mtc: switch: j: Failed\n",
+    length: 50,
+};
+
 // The calls of the device: the length and the header are read; a sync, the length, the header and
 // what follows it open the journal; the record is written and synced, and so is its commit byte.
 const CALLS: u64 = 10;
@@ -316,7 +323,7 @@ fn wrong_call(alloc: Global, appending: &Appending, count: u64) -> Option<u64> {
 // One call fails alone; or the device stops at it, so that none after it is answered.
 #[test]
 fn a_device_fails_an_append(rt: HostRuntime) {
-    for appending in [ISSUE, LANDMARK] {
+    for appending in [ISSUE, LANDMARK, SWITCH] {
         for count in [1, 2 * CALLS] {
             let wrong = wrong_call(rt.alloc(), &appending, count);
             assert!(rt;

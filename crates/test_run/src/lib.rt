@@ -56,6 +56,8 @@ mod quarrels;
 #[cfg(test)]
 mod scripts;
 #[cfg(test)]
+mod switches;
+#[cfg(test)]
 mod texts;
 #[cfg(test)]
 mod tiles;
