@@ -35,7 +35,8 @@ COMMANDS = [
     "quarrel entries", "drill 7", "root entries", "root export", "held export", "held empty", "held entries",
     "monitor-init 32473.1", "monitor state watch advance entries", "monitor state watch advance few", "monitor watch watch advance entries",
     "monitor state state advance entries", "monitor state watch subtree entries", "monitor state watch advance export",
-    "checkpoint bare", "switch log", "switch switched", "issue switched request", "tile log", "tile full", "cert tiled 2 0 256 empty", "issue tiled request", "tile none.tiles",
+    "switch log", "switch switched", "issue switched request",
+    "checkpoint bare", "tile log", "tile full", "cert tiled 2 0 256 empty", "issue tiled request", "tile none.tiles",
 ]
 
 # Of the allocations of this command one in so many is refused.

@@ -94,7 +94,9 @@ _Static_assert(sizeof(struct mtc_verdict) == {}, "its size");
 typedef uint32_t copy_out(const uint8_t *, size_t, uint8_t *, size_t, uint64_t *);
 typedef uint32_t copy_out_one(const uint8_t *, size_t, uint64_t, uint8_t *, size_t, uint64_t *);
 typedef uint32_t judge(const uint8_t *, size_t, const uint8_t *, size_t, int64_t, struct mtc_verdict *);
-copy_out *const pieces[] = {{mtc_public_key, mtc_entry_hash}};
+typedef uint32_t copy_out_form(const uint8_t *, size_t, uint32_t, uint8_t *, size_t, uint64_t *);
+copy_out *const piece = mtc_public_key;
+copy_out_form *const hash = mtc_entry_hash;
 copy_out_one *const name = mtc_dns_name;
 judge *const judges = mtc_judge;
 """
@@ -119,7 +121,9 @@ def pieces_of(cert):
     """The calls that copy out a part of a certificate, with the part, by the reader."""
     read = certificate.read(cert)
     yield "mtc_public_key", (), read.key
-    yield "mtc_entry_hash", (), hashlib.sha256(b"\0" + entry.of_certificate(read)).digest()
+    for form in 1, 2:
+        leaf = hashlib.sha256(b"\0" + entry.of_certificate(read, form)).digest()
+        yield "mtc_entry_hash", (ctypes.c_uint32(form),), leaf
     for number, name in enumerate(dns_names(read)):
         yield "mtc_dns_name", (ctypes.c_uint64(number),), name
 
@@ -136,6 +140,9 @@ def wrong_pieces(library, cert):
             yield f"{call} {words}: not {part.hex()} in a longer buffer"
         if size and library.piece(call, cert, size - 1, *words) != (9, size, b"\xaa" * size):
             yield f"{call} {words}: a short buffer"
+    for form in 0, 3:
+        if library.piece("mtc_entry_hash", cert, 32, ctypes.c_uint32(form)) != (2, 0, b"\xaa" * 33):
+            yield f"mtc_entry_hash {form}: there is no such form"
     if library.piece("mtc_dns_name", cert, 4, ctypes.c_uint64(count)) != (4, 0, b"\xaa" * 5):
         yield f"mtc_dns_name {count}: there is none"
 
@@ -146,7 +153,7 @@ def counting(cert, known):
     found = proof.read(read.proof)
     if any((start, end) == (found.start, found.end) for start, end, _ in known.subtrees):
         return 0
-    leaf = merkle.leaf(entry.of_certificate(read))
+    leaf = merkle.leaf(entry.of_certificate(read, known.form_at(read.serial)))
     node = merkle.evaluated(leaf, read.serial, found.start, found.end, found.path)
     places = {place for places, _ in known.rules for place in places}
     return sum(1 << place for place in places if judging.has_signed(*known.cosigners[place], known, found, node))
@@ -166,7 +173,8 @@ def wrong_row(library, names, row):
     elif any((verdict.index, verdict.start, verdict.end, verdict.cosigners)):
         yield f"{bytes(verdict).hex()}: something of a certificate that isn't accepted"
     elif 16 <= verdict.refusal < 48:
-        for call, words in ("mtc_public_key", ()), ("mtc_entry_hash", ()), ("mtc_dns_name", (ctypes.c_uint64(0),)):
+        calls = ("mtc_public_key", ()), ("mtc_entry_hash", (ctypes.c_uint32(1),)), ("mtc_dns_name", (ctypes.c_uint64(0),))
+        for call, words in calls:
             if library.piece(call, cert, 32, *words) != (2, 0, b"\xaa" * 33):
                 yield f"{call}: something of bytes that are no certificate"
 

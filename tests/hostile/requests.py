@@ -51,7 +51,7 @@ def wanted(text):
         asked = request.read(text)
     except Fault as fault:
         return [(2, b"", f"mtc: issue: r: {fault}\n".encode()), (4, b"", b"mtc: entries: Beyond 1\n")]
-    return [(0, b"issued 1\n", b""), (0, items((bytes(2), b""), (request.entry(asked, LOG), asked.key)), b"")]
+    return [(0, b"issued 1\n", b""), (0, items((bytes(2), b""), (request.entry(asked, LOG, 1), asked.key)), b"")]
 
 
 def said(run, text):

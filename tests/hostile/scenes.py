@@ -25,11 +25,11 @@ LARGER = 7
 def items():
     """The first entries of the log, each with its key; that of the certificate `small` is the second."""
     read = certificate.read(asked()["small"])
-    found = [(bytes(2), b""), (entry.of_certificate(read), read.key)]
+    found = [(bytes(2), b""), (entry.of_certificate(read, 1), read.key)]
     for number in range(2, LARGER):
         key = KEY_HEAD + number.to_bytes(32, "big")
         asked_for = request.Request([FIRST, LAST], [f"n{number}.example"], None, key)
-        found.append((request.entry(asked_for, LOG), key))
+        found.append((request.entry(asked_for, LOG, 1), key))
     return found
 
 

@@ -41,7 +41,7 @@ def audit(text, store, now, items, export):
     """The index at which the entry stands, of a certificate that is accepted."""
     index, start, end = judging.judge(text, store, now)
     read = certificate.read(text)
-    found, own = proof.read(read.proof), entry.of_certificate(read)
+    found, own = proof.read(read.proof), entry.of_certificate(read, store.form_at(index))
     node = merkle.evaluated(merkle.leaf(own), index, start, end, found.path)
     by_subtree = any((start, end) == trusted[:2] for trusted in store.subtrees)
     if by_subtree:

@@ -112,6 +112,11 @@ def public_key(body):
     return element.whole
 
 
+def key_algorithm(key):
+    """The element of its algorithm, with which a subjectPublicKeyInfo begins."""
+    return algorithm(Fields(key, 0, len(key)).next(der.SEQUENCE).fields())
+
+
 def alt_names(octets):
     """The dNSNames in the octets of a subjectAltName; whatever is wrong in them is one fault."""
     try:

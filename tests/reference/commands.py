@@ -114,9 +114,17 @@ def issue(words, files):
     held = opened_log(words, files)
     if held.size == held.limit:
         raise Refused(9, b"", b"mtc: issue: Full\n")
-    text = request.entry(asked, store.id_text(held.id))
+    text = request.entry(asked, store.id_text(held.id), held.form)
     files[name] = journal.appended(files[name], log.entry_body(text, asked.key))
     return lines(f"issued {held.size}")
+
+
+def switch(words, files):
+    held = opened_log(words, files)
+    if held.switched is not None:
+        raise Refused(4, b"", f"mtc: switch: AlreadySwitched {held.switched}\n".encode())
+    files[words[1]] = journal.appended(files[words[1]], log.switch_body(held.size))
+    return lines(f"switched {held.size}")
 
 
 def asked_subtree(held, index, start, end):
@@ -145,7 +153,7 @@ def cert(words, files):
 
 
 COMMANDS = {"show": show, "verify": verify, "audit": audit, "advance": advance, "checkpoint": checkpoint, "issue": issue,
-            "cert": cert}
+            "cert": cert, "switch": switch}
 
 
 def answer(words, files):

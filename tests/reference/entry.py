@@ -8,16 +8,19 @@ from .fault import Fault
 from .proof import HASH, Cursor
 
 
-def of_certificate(read):
-    """The entry from which a certificate was made."""
+def of_certificate(read, form):
+    """The entry from which a certificate was made: in the form 2 it names the algorithm of the key."""
     key_hash = b"\x04\x20" + hashlib.sha256(read.key).digest()
-    return b"\0\1" + read.version + read.issuer + read.validity + read.subject + key_hash + read.extensions
+    named = certificate.key_algorithm(read.key) if form == 2 else b""
+    return b"\0\1" + read.version + read.issuer + read.validity + read.subject + named + key_hash + read.extensions
 
 
 def certificate_of(index, text, key, algorithm, proof):
     """The certificate of an entry with this index and key, by docs/FORMATS.md, "Certificates"."""
     fields = Fields(text, 2, len(text))
     version, *prefix = (fields.next().whole for _ in range(4))
+    if fields.tag() == SEQUENCE:
+        fields.next()
     fields.next(OCTET_STRING)
     serial = encoded(INTEGER, index.to_bytes(index.bit_length() // 8 + 1, "big"))
     body = encoded(SEQUENCE, b"".join([version, serial, algorithm, *prefix, key, text[fields.place:]]))
@@ -25,24 +28,31 @@ def certificate_of(index, text, key, algorithm, proof):
 
 
 def fields_of(text):
-    """Reads the fields after the type of an entry of type 1, and answers the hash of its key."""
+    """Reads the fields after the type of an entry of type 1: the algorithm of its key, if it has it, and the key's hash."""
     fields = Fields(text, 2, len(text))
     for read in (certificate.version, certificate.name, certificate.validity, certificate.name):
         read(fields)
+    named = certificate.algorithm(fields) if fields.tag() == SEQUENCE else b""
     key_hash = fields.next(OCTET_STRING).contents
     if len(key_hash) != HASH:
         raise Fault("BadHashLength")
     certificate.extensions(fields)
     fields.close()
-    return key_hash
+    return named, key_hash
 
 
-def key_hash_in(text):
-    """The SHA-256 of its key that an entry of type 1 has; none where the bytes are no such entry."""
+def key_in(text):
+    """What an entry of type 1 has of its key; none where the bytes are no such entry."""
     try:
         return fields_of(text) if text[:2] == b"\0\1" else None
     except Fault:
         return None
+
+
+def has_form(text, form):
+    """Whether an entry of type 1 has this form."""
+    found = key_in(text)
+    return found is not None and (found[0] != b"") == (form == 2)
 
 
 def is_public_key(text):
@@ -58,10 +68,13 @@ def is_public_key(text):
 
 def fits(text, key):
     """Whether this key may stand beside an entry: its own beside one of type 1, and none beside all others."""
-    wanted = key_hash_in(text)
+    wanted = key_in(text)
     if wanted is None:
         return not key
-    return is_public_key(key) and hashlib.sha256(key).digest() == wanted
+    named, key_hash = wanted
+    if not is_public_key(key) or hashlib.sha256(key).digest() != key_hash:
+        return False
+    return named in (b"", certificate.key_algorithm(key))
 
 
 def items(text):

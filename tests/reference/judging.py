@@ -65,7 +65,7 @@ def judge(text, store, now):
     read = within("Grammar", certificate.read, text)
     admitted(read, store, now)
     found = within("ProofGrammar", proof.read, read.proof)
-    leaf = merkle.leaf(entry.of_certificate(read))
+    leaf = merkle.leaf(entry.of_certificate(read, store.form_at(read.serial)))
     node = within("ProofShape", merkle.evaluated, leaf, read.serial, found.start, found.end, found.path)
     decided(store, found, node)
     return read.serial, found.start, found.end

@@ -8,23 +8,30 @@ from .cosigner import close, id_at
 from .fault import Fault
 from .proof import Cursor
 
-LOG, ENTRY, LANDMARK, TILES = 1, 2, 3, 4
+LOG, ENTRY, LANDMARK, TILES, SWITCH = 1, 2, 3, 4, 5
 MOST_ACTIVE, MOST_ENTRIES, TILE = 10_000, 1 << 20, 256
 NULL = bytes(2)
 
 
 class State(NamedTuple):
-    """The id of a log, the limit of its entries, these with their keys, and the last sizes of a landmark and of its tiles."""
+    """The id of a log, the limit of its entries, these with their keys, the last sizes of a landmark and of its tiles, and
+    from where on its entries name algorithms."""
 
     id: bytes
     limit: int
     items: list
     marked: int
     tiled: int
+    switched: int | None
 
     @property
     def size(self):
         return len(self.items)
+
+    @property
+    def form(self):
+        """The form of the next entry."""
+        return 1 if self.switched is None else 2
 
 
 def started(cursor):
@@ -34,7 +41,7 @@ def started(cursor):
     id, active, limit = id_at(cursor), cursor.number(4), cursor.number(4)
     if not 1 <= active <= MOST_ACTIVE or not 2 <= limit <= MOST_ENTRIES:
         raise Fault("BadSettings")
-    return State(id, limit, [(NULL, b"")], 0, 0)
+    return State(id, limit, [(NULL, b"")], 0, 0, None)
 
 
 def following(state, cursor):
@@ -42,13 +49,17 @@ def following(state, cursor):
     tag = cursor.number(1)
     if tag == ENTRY:
         text, key = cursor.vector(2), cursor.vector(2)
-        fits = state.size < state.limit and entry.key_hash_in(text) is not None and entry.fits(text, key)
+        fits = state.size < state.limit and entry.has_form(text, state.form) and entry.fits(text, key)
         after = state._replace(items=[*state.items, (text, key)])
     elif tag in (LANDMARK, TILES):
         size = cursor.number(8)
         is_next = size == state.size > state.marked, size % TILE == 0 and state.tiled < size <= state.size
         fits = is_next[tag - LANDMARK]
         after = state._replace(marked=size) if tag == LANDMARK else state._replace(tiled=size)
+    elif tag == SWITCH:
+        size = cursor.number(8)
+        fits = state.switched is None and size == state.size
+        after = state._replace(switched=size)
     else:
         fits = False
     if not fits:
@@ -84,6 +95,11 @@ def log_body(id, active, limit):
 def entry_body(text, key):
     """The body of the record of an entry."""
     return bytes([ENTRY]) + b"".join(len(part).to_bytes(2, "big") + part for part in (text, key))
+
+
+def switch_body(size):
+    """The body of the record of a switch."""
+    return bytes([SWITCH]) + size.to_bytes(8, "big")
 
 
 def landmark_body(size):

@@ -89,7 +89,7 @@ def time(seconds):
     return encoded(times.UTC_TIME, text[2:]) if date.year < 2050 else encoded(times.GENERALIZED_TIME, text)
 
 
-def entry(asked, log):
+def entry(asked, log, form):
     """The entry of a request in the log with this id."""
     subject = b""
     if asked.common_name is not None:
@@ -102,4 +102,5 @@ def entry(asked, log):
     validity = encoded(SEQUENCE, b"".join(map(time, asked.unix_times)))
     key_hash = encoded(der.OCTET_STRING, hashlib.sha256(asked.key).digest())
     extensions = encoded(certificate.EXTENSIONS, encoded(SEQUENCE, extension))
-    return b"\0\1" + VERSION + log_name(log) + validity + encoded(SEQUENCE, subject) + key_hash + extensions
+    algorithm = certificate.key_algorithm(asked.key) if form == 2 else b""
+    return b"\0\1" + VERSION + log_name(log) + validity + encoded(SEQUENCE, subject) + algorithm + key_hash + extensions

@@ -16,14 +16,20 @@ ROOT_KEYS = ("log", "cosigner", "rule", "subtree", "revoked")
 
 
 class Store(NamedTuple):
-    """The log's id and name, ids and keys of cosigners, rules over their places, trusted subtrees, revoked ranges."""
+    """The log's id and name, from where on its entries name algorithms, ids and keys of cosigners, rules over their
+    places, trusted subtrees, revoked ranges."""
 
     log: bytes
     name: bytes
+    algorithm_from: int | None
     cosigners: list
     rules: list
     subtrees: list
     revoked: list
+
+    def form_at(self, index):
+        """The form of the entry at an index."""
+        return 1 if self.algorithm_from is None or index < self.algorithm_from else 2
 
 
 def anchor_id(text):
@@ -173,7 +179,9 @@ def parsed(text):
 def read(text):
     """The store that these bytes are."""
     root = checked(parsed(text), *ROOT_KEYS)
-    id = field(checked(root.get("log", {}), "id"), "id", "LogId", lambda one: anchor_id(one) and one)
+    log = checked(root.get("log", {}), "id", "algorithm_from")
+    id = field(log, "id", "LogId", lambda one: anchor_id(one) and one)
+    algorithm_from = field(log, "algorithm_from", "AlgorithmFrom", number) if "algorithm_from" in log else None
     cosigners = [cosigner(one, place) for place, one in enumerate(items(root, "cosigner"))]
     ids = [one for one, _ in cosigners]
     rules = [rule(one, ids) for one in items(root, "rule")]
@@ -185,4 +193,4 @@ def read(text):
         raise Fault("RepeatedSubtree")
     if not all(is_subtree(start, end) for start, end, _ in subtrees) or any(start >= end for start, end in revoked):
         raise Fault("BadRange")
-    return Store(anchor_id(id), log_name(id), cosigners, rules, subtrees, revoked)
+    return Store(anchor_id(id), log_name(id), algorithm_from, cosigners, rules, subtrees, revoked)
