@@ -88,7 +88,7 @@ sound_step h s (switches index) sound short takes =
     sound_switched h s sound (none_is s.switched tests.0)
 sound_step h s unknown_step sound short takes = let wrong : false ≡ true = takes in absurd cc
 
-sound_next : (h : HashFunction) (s t : LogState) (body : Text) → IsSound h s
+pub sound_next : (h : HashFunction) (s t : LogState) (body : Text) → IsSound h s
     → HasShortItem (item_in body) → next_log h s body ≡ Some t → IsSound h t
 unfolding next_log
 sound_next h s t body sound short is =
@@ -196,7 +196,7 @@ kept_more h v w offsets offsets' leaves leaves' (first ∷ bodies) body is next 
 
 -- ---- the first record
 
-sound_new : (h : HashFunction) (s : Settings) → HasSoundNumbers (view_in (new_log s))
+pub sound_new : (h : HashFunction) (s : Settings) → HasSoundNumbers (view_in (new_log s))
     → IsSound h (new_log s)
 sound_new h s numbers = record {
   numbers = numbers;

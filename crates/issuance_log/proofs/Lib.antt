@@ -6,7 +6,7 @@ mod Changes
 mod Growth
 mod Prefixes
 pub mod Ids
-mod Keeping
+pub mod Keeping
 pub mod Leaves
 mod Leaving
 mod Made
