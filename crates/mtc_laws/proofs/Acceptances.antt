@@ -27,7 +27,12 @@ use Rattle.policy_core.specs.Judgement.{accepted, judgement}
 use Rattle.policy_core.specs.Stores.{IsValid}
 use Rattle.policy_core.specs.declared.answer.Accepted.{Accepted}
 use Rattle.policy_core.specs.declared.store.Store.{Store}
-use Rattle.issuance_log.specs.Folds.{LogState, log_fold, log_of, view_in}
+use Rattle.log_entry.specs.Entries.{TbsParts}
+use Rattle.log_entry.specs.Forms.{form_at, form_of}
+use Rattle.log_entry.specs.Reading.{entry_in}
+use Rattle.log_entry.specs.declared.entry.Form.{Form}
+use Rattle.log_entry.proofs.Matches.{form_alone}
+use Rattle.issuance_log.specs.Folds.{LogState, log_fold, log_form, log_of, view_in}
 use Rattle.issuance_log.specs.Records.{item_in}
 use Rattle.issuance_log.specs.Settings.{Settings}
 use Rattle.issuance_log.proofs.After.{following_items}
@@ -60,7 +65,7 @@ use Rattle.mtc_laws.proofs.Covering.{holds_entry}
 use Rattle.mtc_laws.proofs.Issuable.{can_be_issued}
 use Rattle.mtc_laws.proofs.PrintedSignatures.{printed_satisfy}
 use Rattle.mtc_laws.proofs.RecordBytes.{item_is_bytes, one_is, records_are_bytes}
-use Rattle.mtc_laws.proofs.SoundLogs.{FirstsKeepToRules, IsSoundLog, NextsKeepToRules, sound_log}
+use Rattle.mtc_laws.proofs.SoundLogs.{FirstsKeepToRules, IsSoundLog, sound_log}
 use Rattle.mtc_laws.proofs.Unrefused.{cert_unrefused, light_unrefused}
 use Rattle.mtc_laws.proofs.ValidStores.{store_valid}
 use Rattle.mtc_laws.proofs.Verified.{accepted_printed}
@@ -70,17 +75,18 @@ use Rattle.mtc_laws.proofs.Writing.{issued_accepted, issued_read}
 
 -- It is at its index in a log whose records begin with its own and those before it. The log has the
 -- settings of that one, and entry and key are short.
-record IsItemAt (h : HashFunction) (s t : LogState) (r : RequestParts) : Type 0 where
-  entry_is : slice_index_or t.entries (length s.entries) [] ≡ entry_for h t.settings.id r
+record IsItemAt (h : HashFunction) (form : Form) (s t : LogState) (r : RequestParts)
+    : Type 0 where
+  entry_is : slice_index_or t.entries (length s.entries) [] ≡ entry_for h form t.settings.id r
   key_is : slice_index_or t.keys (length s.entries) [] ≡ r.key
   key_bytes : IsBytes r.key
-  few : length (entry_for h t.settings.id r) + length r.key ≤ 131070
+  few : length (entry_for h form t.settings.id r) + length r.key ≤ 131070
 
-added_at : (h : HashFunction) (list found : List Text) (body : Text) (s t : LogState)
-    (r : RequestParts) → log_of h list ≡ Ok s → log_of h found ≡ Ok t
+added_at : (h : HashFunction) (form : Form) (list found : List Text) (body : Text)
+    (s t : LogState) (r : RequestParts) → log_of h list ≡ Ok s → log_of h found ≡ Ok t
     → (prefix : IsPrefix (list ++ body ∷ []) found) → AllByRecursion IsBytes found
-    → item_in body ≡ Some (entry_for h s.settings.id r, r.key) → IsItemAt h s t r
-added_at h list found body s t r was is prefix bytes item =
+    → item_in body ≡ Some (entry_for h form s.settings.id r, r.key) → IsItemAt h form s t r
+added_at h form list found body s t r was is prefix bytes item =
     let joined : list ++ body ∷ prefix.0 ≡ found =
     sym (append_assoc list (body ∷ []) prefix.0) ∙ prefix.1 in
     let body_is : IsBytes body = one_is IsBytes list body prefix.0
@@ -88,16 +94,17 @@ added_at h list found body s t r was is prefix bytes item =
     let whole : log_of h (list ++ body ∷ prefix.0) ≡ Ok t = ap (log_of h) joined ∙ is in
     let has = following_items h (length list) s t (body ∷ prefix.0)
     (sym (state_more (log_fold h) list (body ∷ prefix.0) s was) ∙ whole) in
-    let there = item_added h list body prefix.0 (entry_for h s.settings.id r) r.key s t was item
+    let entry = entry_for h form s.settings.id r in
+    let there = item_added h list body prefix.0 entry r.key s t was item
     (ap (log_of h) prefix.1 ∙ is) in
-    let settings : entry_for h s.settings.id r ≡ entry_for h t.settings.id r =
-    ap (λ (x : Settings). entry_for h x.id r) (sym has.settings) in
-    let short = item_takes body (entry_for h s.settings.id r) r.key body_is item in
+    let settings : entry ≡ entry_for h form t.settings.id r =
+    ap (λ (x : Settings). entry_for h form x.id r) (sym has.settings) in
+    let short = item_takes body entry r.key body_is item in
     record {
-      entry_is = get_or_from_slice_get t.entries (length s.entries) (entry_for h s.settings.id r) []
-          there.entry_is ∙ settings;
+      entry_is = get_or_from_slice_get t.entries (length s.entries) entry [] there.entry_is
+          ∙ settings;
       key_is = get_or_from_slice_get t.keys (length s.entries) r.key [] there.key_is;
-      key_bytes = (item_is_bytes body (entry_for h s.settings.id r) r.key body_is item).1;
+      key_bytes = (item_is_bytes body entry r.key body_is item).1;
       few = omega (arith, short.1, short.2, ap length settings);
     }
 
@@ -106,8 +113,7 @@ module _ {R S D O E : Type 0} (h : HashFunction) (rooms : Rooms R S D) (disks : 
     (contents : (room : R) (name : List ℕ) → rooms.is_modelled room
     → ModelsFile disks.contents (rooms.file room name) (rooms.device room name))
     (bytes : (d : D) (b : List ℕ) → disks.contents d ≡ Some b → IsBytes b)
-    (sized : (b : Text) → length (h b) ≡ 32) (firsts : FirstsKeepToRules)
-    (nexts : NextsKeepToRules) where
+    (sized : (b : Text) → length (h b) ≡ 32) (firsts : FirstsKeepToRules) where
   abbrev p : Program
   p = program h rooms disks outs errs
 
@@ -118,7 +124,7 @@ module _ {R S D O E : Type 0} (h : HashFunction) (rooms : Rooms R S D) (disks : 
     writes : WritesCertificate h p name index old run
     recovers : MayRecover (states_of p name old) writes.prints.list
     records_are : AllByRecursion IsBytes writes.prints.list
-    sound : IsSoundLog writes.prints.state
+    sound : IsSoundLog h writes.prints.state
     some : 1 ≤ index
     holds : HoldsEntry (length writes.prints.state.entries) index writes.span
     short : length writes.signatures < 2 ^ 16
@@ -175,7 +181,7 @@ module _ {R S D O E : Type 0} (h : HashFunction) (rooms : Rooms R S D) (disks : 
           };
           recovers = recovers_of span x.signatures x.certifies;
           records_are = records;
-          sound = sound_log firsts nexts h x.certifies.prints.list x.certifies.prints.state records
+          sound = sound_log h firsts x.certifies.prints.list x.certifies.prints.state records
               x.certifies.prints.log_is;
           some = free.some;
           holds = free.holds;
@@ -188,8 +194,8 @@ module _ {R S D O E : Type 0} (h : HashFunction) (rooms : Rooms R S D) (disks : 
         let x = light_cert_certifies h rooms disks outs errs contents bytes name index old run
         is_modelled is_run spoken heard in
         let records = records_of x.span [] x.certifies in
-        let sound = sound_log firsts nexts h x.certifies.prints.list x.certifies.prints.state
-        records x.certifies.prints.log_is in
+        let sound = sound_log h firsts x.certifies.prints.list x.certifies.prints.state records
+        x.certifies.prints.log_is in
         record {
           writes = record {
             span = x.span;
@@ -202,7 +208,7 @@ module _ {R S D O E : Type 0} (h : HashFunction) (rooms : Rooms R S D) (disks : 
           records_are = records;
           sound = sound;
           some = light_unrefused (view_in x.certifies.prints.state) index x.allowed;
-          holds = holds_entry (view_in x.certifies.prints.state) index x.span sound.numbers
+          holds = holds_entry (view_in x.certifies.prints.state) index x.span sound.is.numbers
               x.covering;
           short = omega arith;
         }
@@ -214,11 +220,13 @@ module _ {R S D O E : Type 0} (h : HashFunction) (rooms : Rooms R S D) (disks : 
   -- ---- what a store accepts
 
   module _ (name : Text) (index : ℕ) (old : R) (run : Run R O E)
-      (c : IsCertified name index old run) (r : RequestParts) (asked : CanBeIssued r)
+      (c : IsCertified name index old run) (form : Form) (r : RequestParts)
+      (asked : CanBeIssued r)
       (entry_is : slice_index_or c.writes.prints.state.entries index []
-      ≡ entry_for h c.writes.prints.state.settings.id r)
+      ≡ entry_for h form c.writes.prints.state.settings.id r)
       (key_is : slice_index_or c.writes.prints.state.keys index [] ≡ r.key)
-      (few : length (entry_for h c.writes.prints.state.settings.id r) + length r.key ≤ 131070)
+      (few : length (entry_for h form c.writes.prints.state.settings.id r) + length r.key
+      ≤ 131070)
     where
       abbrev w : WritesCertificate h p name index old run
       w = c.writes
@@ -229,20 +237,34 @@ module _ {R S D O E : Type 0} (h : HashFunction) (rooms : Rooms R S D) (disks : 
       abbrev proof : ProofParts
       proof = proof_for h s index w.span.start w.span.end w.signatures
 
+      abbrev fields : TbsParts
+      fields = tbs_for h form s.settings.id r
+
       abbrev text : Text
-      text = certificate (parts_with index (tbs_for h s.settings.id r)
-          (slice_index_or s.keys index []) (proof_text proof))
+      text = certificate (parts_with index fields (slice_index_or s.keys index [])
+          (proof_text proof))
+
+      read : entry_in (slice_index_or s.entries index []) ≡ Ok (Some fields)
+      read = issued_read h sized s c.sound index w.span.start w.span.end w.signatures c.holds.from
+          c.holds.below c.holds.within w.are c.short form r asked entry_is key_is few c.some
 
       text_is : certificate_in h index w.span.start w.span.end w.signatures s ≡ text
-      text_is = ap (certificate_with index (slice_index_or s.keys index []) (proof_text proof))
-          (issued_read h sized s c.sound index w.span.start w.span.end w.signatures c.holds.from
-          c.holds.below c.holds.within w.are c.short r asked entry_is key_is few c.some)
+      text_is =
+          ap (certificate_with index (slice_index_or s.keys index []) (proof_text proof)) read
+
+      -- the form of its entry is that of its index
+      form_is : form_of fields ≡ form_at s.switched index
+      form_is =
+          let below : index < length s.entries = omega (arith, c.holds.below, c.holds.within) in
+          (form_alone (form_at s.switched index) (slice_index_or s.entries index []) fields read).0
+          (c.sound.is.items index c.some below).form_is
 
       set_up : (store : Store) → IsValid store → Backs h p w store
-          → IsSetUpFor s.settings.id index proof (certified_hash h p w) store
+          → IsSetUpFor s.settings.id index (form_of fields) proof (certified_hash h p w) store
       set_up store valid backs = record {
         valid = valid;
         log = backs.log;
+        form = backs.form ∙ sym form_is;
         not_revoked = backs.not_revoked;
         no_other = backs.no_other;
         enough = elim backs.enough [
@@ -263,16 +285,10 @@ module _ {R S D O E : Type 0} (h : HashFunction) (rooms : Rooms R S D) (disks : 
           (certified_hash h p w))
       judged store unix_time valid backs from to =
           issued_accepted h sized s c.sound index w.span.start w.span.end w.signatures c.holds.from
-          c.holds.below c.holds.within w.are c.short r asked entry_is key_is few c.some
+          c.holds.below c.holds.within w.are c.short form r asked entry_is key_is few c.some
           c.holds.valid
-          (record {
-            fields = tbs_for h s.settings.id r;
-            read = issued_read h sized s c.sound index w.span.start w.span.end w.signatures
-                c.holds.from c.holds.below c.holds.within w.are c.short r asked entry_is key_is few
-                c.some;
-            issuer = refl;
-            known = all_known r asked;
-          }) store (pos unix_time) (set_up store valid backs) from to
+          (record { fields = fields; read = read; issuer = refl; known = all_known r asked })
+          store (pos unix_time) (set_up store valid backs) from to
 
   -- ---- the law
 
@@ -298,13 +314,14 @@ module _ {R S D O E : Type 0} (h : HashFunction) (rooms : Rooms R S D) (disks : 
             modelled has_run spoken heard in
             let prefix = prefixes (i.list ++ i.body ∷ []) (heard_held h rooms disks outs errs before
             earlier has_run heard name i.list i.body i.did) in
-            let item = added_at h i.list w.prints.list i.body i.state w.prints.state i.request
+            let form = log_form (view_in i.state) in
+            let item = added_at h form i.list w.prints.list i.body i.state w.prints.state i.request
             i.log_is w.prints.log_is prefix c.records_are i.item in
             let asked = can_be_issued i.text i.request i.asked item.key_bytes in (
               i,
               λ index_is store unix_time room verifying v backs from to.
                   let entry = subst (λ (n : ℕ). slice_index_or w.prints.state.entries n []
-                  ≡ entry_for h w.prints.state.settings.id i.request) index_is item.entry_is in
+                  ≡ entry_for h form w.prints.state.settings.id i.request) index_is item.entry_is in
                   let key = subst (λ (n : ℕ). slice_index_or w.prints.state.keys n []
                   ≡ i.request.key) index_is item.key_is in
                   let proof = proof_for h w.prints.state index w.span.start w.span.end
@@ -313,10 +330,10 @@ module _ {R S D O E : Type 0} (h : HashFunction) (rooms : Rooms R S D) (disks : 
                   (accepted_by store proof (certified_hash h p w)) index proof
                   (certified_hash h p w) in
                   let same = printed
-                  ∙ text_is name index new run c i.request asked entry key item.few in
+                  ∙ text_is name index new run c form i.request asked entry key item.few in
                   accepted_printed h rooms disks outs errs bytes' store unix_time answer room
                   verifying v (ap (λ (b : Text). judgement h b store (pos unix_time)) same
-                  ∙ judged name index new run c i.request asked entry key item.few store unix_time
-                  (store_valid v.text store v.store_read) backs from to),
+                  ∙ judged name index new run c form i.request asked entry key item.few store
+                  unix_time (store_valid v.text store v.store_read) backs from to),
             )),
       )

@@ -19,7 +19,8 @@ use Rattle.cert_fields.proofs.Sizes.{given-short}
 use Rattle.mtc_proof.specs.Proofs.{AreSignatures, IsProof, proof_text}
 use Rattle.log_entry.specs.Entries.{IsTbs, TbsParts, tbs_text}
 use Rattle.log_entry.specs.Reading.{entry_in}
-use Rattle.log_entry.proofs.Matches.{made_encoded}
+use Rattle.log_entry.specs.declared.entry.Form.{Form}
+use Rattle.log_entry.proofs.Matches.{IsOfKey, algorithm_own, made_encoded}
 use Rattle.issuance_log.specs.Folds.{LogState}
 use Rattle.authority_core.specs.Acceptance.{StoresAccept}
 use Rattle.authority_core.specs.Certificates.{IsWritten, parts_with, proof_for}
@@ -67,7 +68,7 @@ short_parts index t key proof period below few short =
 -- ---- the proof
 
 module _ (h : HashFunction) (sized : (bytes : Text) → length (h bytes) ≡ 32) (s : LogState)
-    (sound : IsSoundLog s) (index start end : ℕ) (signatures : Text) (from : start ≤ index)
+    (sound : IsSoundLog h s) (index start end : ℕ) (signatures : Text) (from : start ≤ index)
     (below : index < end) (within : end ≤ length s.entries) (are : AreSignatures signatures)
     (short : length signatures < 2 ^ 16) where
   abbrev leaves : List Hash
@@ -78,8 +79,8 @@ module _ (h : HashFunction) (sized : (bytes : Text) → length (h bytes) ≡ 32)
     arith,
     length-take (end - start) (drop start (map (leaf_hash h) s.entries)),
     within,
-    sound.numbers.few,
-    sound.numbers.allowed.few,
+    sound.is.numbers.few,
+    sound.is.numbers.allowed.few,
   )
 
   path_is : AreHashes (proof_for h s index start end signatures).path
@@ -90,36 +91,37 @@ module _ (h : HashFunction) (sized : (bytes : Text) → length (h bytes) ≡ 32)
 
   proof_is : IsProof (proof_for h s index start end signatures)
   proof_is = record {
-    start = omega (arith, from, below, within, sound.numbers.few, sound.numbers.allowed.few);
-    end = omega (arith, within, sound.numbers.few, sound.numbers.allowed.few);
+    start = omega (arith, from, below, within, sound.is.numbers.few, sound.is.numbers.allowed.few);
+    end = omega (arith, within, sound.is.numbers.few, sound.is.numbers.allowed.few);
     path = path_is;
     short = short;
     signatures = are;
   }
 
-  module _ (r : RequestParts) (can : CanBeIssued r)
-      (entry_is : slice_index_or s.entries index [] ≡ entry_for h s.settings.id r)
+  module _ (form : Form) (r : RequestParts) (can : CanBeIssued r)
+      (entry_is : slice_index_or s.entries index [] ≡ entry_for h form s.settings.id r)
       (key_is : slice_index_or s.keys index [] ≡ r.key)
-      (few : length (entry_for h s.settings.id r) + length r.key ≤ 131070) (some : 1 ≤ index) where
+      (few : length (entry_for h form s.settings.id r) + length r.key ≤ 131070)
+      (some : 1 ≤ index) where
     abbrev fields : TbsParts
-    fields = tbs_for h s.settings.id r
+    fields = tbs_for h form s.settings.id r
 
     abbrev parts : Parts
     parts = parts_with index fields (slice_index_or s.keys index [])
         (proof_text (proof_for h s index start end signatures))
 
     tbs_is : IsTbs fields
-    tbs_is = fields_are h s.settings.id r sized sound.anchor can
+    tbs_is = fields_are h form s.settings.id r sized sound.anchor can
 
     pub issued_read : entry_in (slice_index_or s.entries index []) ≡ Ok (Some fields)
-    issued_read = ap entry_in entry_is ∙ entry_read h s.settings.id r sized sound.anchor can
+    issued_read = ap entry_in entry_is ∙ entry_read h form s.settings.id r sized sound.anchor can
 
-    text_is : tbs_text fields ≡ entry_for h s.settings.id r
+    text_is : tbs_text fields ≡ entry_for h form s.settings.id r
     unfolding entry_for
     text_is = refl
 
     index_fits : index < 2 ^ 64
-    index_fits = omega (arith, below, within, sound.numbers.few, sound.numbers.allowed.few)
+    index_fits = omega (arith, below, within, sound.is.numbers.few, sound.is.numbers.allowed.few)
 
     certificate_is : IsCertificate parts
     certificate_is = record {
@@ -146,6 +148,7 @@ module _ (h : HashFunction) (sized : (bytes : Text) → length (h bytes) ≡ 32)
         issuer = refl;
         validity = refl;
         subject = refl;
+        algorithm = subst (IsOfKey fields.algorithm) (sym key_is) (algorithm_own form r.key);
         key = ap h key_is;
         extensions = refl;
       }) ∙ text_is ∙ sym entry_is;

@@ -8,7 +8,8 @@ use Rattle.tree_core.specs.Tree.{tree_hash}
 use Rattle.tree_core.specs.declared.spans.Span.{Span}
 use Rattle.mtc_proof.specs.Proofs.{AreSignatures, SigParts, signature_text}
 use Rattle.policy_core.specs.Acceptance.{HoldsNoOther, IsSatisfied, Trusts}
-use Rattle.policy_core.specs.Judgement.{is_in}
+use Rattle.log_entry.specs.Forms.{form_at}
+use Rattle.policy_core.specs.Judgement.{form_by, is_in}
 use Rattle.policy_core.specs.declared.cosigners.Known.{Known}
 use Rattle.policy_core.specs.declared.store.Store.{Store}
 use Rattle.issuance_log.specs.Folds.{view_in}
@@ -116,12 +117,14 @@ module _ (h : HashFunction) (p : Program) where
 
   -- ---- the store
 
-  -- The store is for the log of the certificate. It doesn't revoke the entry, and holds no other
-  -- hash for the subtree. It trusts the subtree with the log's hash; or its rules are met by the
-  -- signatures, or by those of them that runs of `cosign` printed.
+  -- The store is for the log of the certificate, and gives the index the form that the log gives
+  -- it. It doesn't revoke the entry, and holds no other hash for the subtree. It trusts the subtree
+  -- with the log's hash; or its rules are met by the signatures, or by those of them that runs of
+  -- `cosign` printed.
   pub record Backs {name : Text} {index : ℕ} {old : p.R} {run : Run p.R p.O p.E}
       (c : WritesCertificate name index old run) (store : Store) : Type 0 where
     pub log : store.log ≡ c.prints.state.settings.id
+    pub form : form_by store index ≡ form_at c.prints.state.switched index
     pub not_revoked : AllByRecursion (λ range. is_in index range ≡ false) store.revoked
     pub no_other : HoldsNoOther store c.span.start c.span.end (certified_hash c)
     pub enough : Trusts store c.span.start c.span.end (certified_hash c)

@@ -38,8 +38,9 @@ pub fn law_printed_signatures_count<H: TreeHash, R: Room, O: Sink, E: Sink>()
 /// later run of `cert` or `light-cert` printed a certificate for the index that was printed, each
 /// run of `verify` over these bytes accepts them, at each time of the request's period, by each
 /// store for the log that trusts the subtree with the log's hash, or whose rules are met by the
-/// signatures, as they are by those that runs of `cosign` printed. The store may not revoke the
-/// entry, nor hold another hash for the subtree. Or the run ends with status 5, 6 or 8.
+/// signatures, as they are by those that runs of `cosign` printed. The store has to give the entry
+/// the form that the log gives it, as by the index at which the log was switched. It may not revoke
+/// the entry, nor hold another hash for the subtree. Or the run ends with status 5, 6 or 8.
 pub fn law_issued_certificates_are_accepted<H: TreeHash, R: Room, O: Sink, E: Sink>()
     ensures { IssuedCertificatesAreAccepted H.hash
         (program H.hash R.Room R.Dsk.Disk O.Sink E.Sink) }

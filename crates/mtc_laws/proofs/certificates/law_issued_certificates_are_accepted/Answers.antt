@@ -6,4 +6,3 @@ returns g c = issued_certificates_accepted g.H.TreeHash.hash g.R.Room g.R.Dsk.Di
     g.met.R.Dsk.Disk.reads_crash_state g.met.R.Dsk.Disk.only_now g.met.R.Room.modelled_file
     g.met.R.Dsk.Disk.contents_bytes g.met.H.TreeHash.sized
     c.law_records_keep_to_the_rules.ensures.only_first
-    c.law_records_keep_to_the_rules.ensures.only_next

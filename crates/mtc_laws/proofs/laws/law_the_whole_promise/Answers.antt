@@ -57,4 +57,3 @@ returns-clause-accepted g c = issued_certificates_accepted g.H.TreeHash.hash g.R
     g.O.Sink g.E.Sink g.met.R.Dsk.Disk.reads_crash_state g.met.R.Dsk.Disk.only_now
     g.met.R.Room.modelled_file g.met.R.Dsk.Disk.contents_bytes g.met.H.TreeHash.sized
     c.law_records_keep_to_the_rules.ensures.only_first
-    c.law_records_keep_to_the_rules.ensures.only_next
