@@ -11,7 +11,7 @@ use Rattle.file_events.specs.Worlds.{done_to}
 use Rattle.mtc_io.specs.declared.sink.Sink.{Ghosts as Sinks}
 use Rattle.mtc_room.specs.Room.{ModelsFile}
 use Rattle.mtc_room.specs.declared.room.Room.{Ghosts as Rooms}
-use Rattle.mtc_words.specs.Commands.{CommandValue, cosign, issue}
+use Rattle.mtc_words.specs.Commands.{CommandValue, cosign, issue, switch}
 use Rattle.mtc_words.specs.Words.{command_of}
 use Rattle.mtc_words.specs.declared.error.WordError.{WordError}
 use Rattle.authority_core.specs.Issues.{issued_entry, issued_record}
@@ -19,6 +19,7 @@ use Rattle.cosigner_core.specs.Folds.{cosigner_fold}
 use Rattle.cosigner_core.specs.Records.{sign_record}
 use Rattle.cosigner_core.proofs.Forms.{subtree_only}
 use Rattle.issuance_log.specs.Folds.{log_fold, view_in}
+use Rattle.issuance_log.specs.Records.{switch_record}
 use Rattle.mtc_command.specs.Answers.{Reply, refused, said}
 use Rattle.mtc_command.specs.Made.{Journaled, appended, untouched}
 use Rattle.mtc_command.specs.Served.{Journals, done_with}
@@ -27,13 +28,14 @@ use Rattle.mtc_command.specs.Wanted.{Meets}
 use Rattle.mtc_command.specs.declared.answer.Said.{Said}
 use Rattle.mtc_cosigner.specs.CosignerOutcomes.{cosigned_text}
 use Rattle.mtc_authority.specs.IssueOutcome.{issued_text}
+use Rattle.mtc_authority.specs.SwitchOutcome.{switched_line}
 use Rattle.mtc_plans.specs.Commands.{planned_outcome}
-use Rattle.mtc_plans.specs.Heard.{CosignsSo, IssuesSo, OfSaid}
-use Rattle.mtc_plans.proofs.Heard.{cosigned_so, issued_so}
+use Rattle.mtc_plans.specs.Heard.{CosignsSo, IssuesSo, OfSaid, SwitchesSo}
+use Rattle.mtc_plans.proofs.Heard.{cosigned_so, issued_so, switched_so}
 use Rattle.party_history.proofs.Cosigners.{number_added, sign_read}
 use Rattle.party_history.proofs.Entries.{item_read}
 use Rattle.mtc_top.specs.Facts.{facts, facts_of}
-use Rattle.mtc_laws.specs.PrintLaws.{IndicesArePrinted, SignaturesArePrinted}
+use Rattle.mtc_laws.specs.PrintLaws.{IndicesArePrinted, SignaturesArePrinted, SwitchesArePrinted}
 use Rattle.mtc_laws.proofs.HeardRuns.{file_bytes, heard_run, not_refused, printed_so}
 use Rattle.mtc_top.specs.Executions.{program, Run}
 use Rattle.mtc_laws.proofs.Aliases.{IsRun, DidWith, IsHeard}
@@ -141,4 +143,23 @@ module _ {R S D O E : Type 0} (h : HashFunction) (rooms : Rooms R S D) (disks : 
             (issued_entry h (view_in state) s.request) s.request.key s.fits;
         printed = printed_so h rooms disks outs errs old run is_run heard
             (issued_text (length state.entries)) s.reply_is;
+      }
+
+  pub switches_printed : SwitchesArePrinted h (program h rooms disks outs errs)
+  switches_printed name old run is_modelled is_run spoken heard =
+      let command = switch name in
+      let s = heard_so h rooms disks outs errs old run command spoken is_modelled is_run heard
+      (SwitchesSo h (rooms.file old) name) (switched_so h (rooms.file old) name) in
+      let state = s.found.state in
+      let list = s.found.records in
+      let are = file_bytes disks (rooms.file old name) (rooms.device old name) s.held bytes
+      (contents old name is_modelled) s.there in
+      record {
+        list = list;
+        state = state;
+        log_is = (found_stands (log_fold h) s.held s.found are s.is_log).1;
+        did = did_so h rooms disks outs errs old run command spoken name
+            (appended list (switch_record (length state.entries))) refl s.did;
+        printed = printed_so h rooms disks outs errs old run is_run heard
+            (switched_line (length state.entries)) s.reply_is;
       }

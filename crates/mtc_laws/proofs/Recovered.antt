@@ -308,11 +308,23 @@ module _ {R S D O E : Type 0} (h : HashFunction) (rooms : Rooms R S D) (disks : 
       (keys_once name start first begins new events begun execution settings public is first found
       recovered) prefix.1 prefix'.1 uses uses'
 
+  -- the log with which the journal may be recovered
+  pub log_recovered : (name : List ℕ) (start : PartyStart) (first : List ℕ) (begins new : R)
+      (events : List (FileEvent R O E))
+      → IsBegun h (program h rooms disks outs errs) name start first begins events
+      → IsOwnExecution h rooms disks outs errs name begins events new
+      → (settings : Settings) (found : List (List ℕ)) → start ≡ Log settings
+      → IsRecovered h rooms disks outs errs name new found
+      → (t : LogState) × (log_of h found ≡ Ok t)
+  log_recovered name start first begins new events begun execution settings found is recovered =
+      log_found h start settings first found is begun.starts
+      (party_list name start first begins new events begun execution found recovered)
+
   pub entries_stand : EntriesStand h (program h rooms disks outs errs)
   entries_stand name start first begins new events begun execution settings list found s is held log
       recovered =
-      let of = party_list name start first begins new events begun execution found recovered in
-      let t = log_found h start settings first found is begun.starts of in
+      let t = log_recovered name start first begins new events begun execution settings found is
+      recovered in
       let prefix = held_prefix name start first begins new events begun execution list found held
       recovered
       in (
@@ -328,8 +340,8 @@ module _ {R S D O E : Type 0} (h : HashFunction) (rooms : Rooms R S D) (disks : 
   added_stand name start first begins new events begun execution settings list found body entry key
       s is
       held log item recovered =
-      let of = party_list name start first begins new events begun execution found recovered in
-      let t = log_found h start settings first found is begun.starts of in
+      let t = log_recovered name start first begins new events begun execution settings found is
+      recovered in
       let prefix =
       held_prefix name start first begins new events begun execution (list ++ body ∷ [])
       found

@@ -1,5 +1,5 @@
--- What goes out of `issue` and `cosign`, in addition to the request that they read and the record
--- that they add, and what becomes of that record.
+-- What goes out of `issue`, `switch` and `cosign`, in addition to the request that they read and
+-- the record that they add, and what becomes of that record.
 use Rattle.std.specs.Prelude.{◌≡◌, true, List, [], ◌∷◌, ◌++◌, length, Some, Ok}
 use Rattle.byte_formats.specs.Types.{HashFunction, Text}
 use Rattle.file_events.specs.Executions.{IsPrefix}
@@ -8,7 +8,7 @@ use Rattle.file_events.specs.Owners.{did_to}
 use Rattle.file_events.specs.Events.{MayRecover, EventHolds}
 use Rattle.journal_core.specs.Format.{Represents}
 use Rattle.mtc_words.specs.Commands.{CommandValue, advance, cosign, export, init_cosigner, issue}
-use Rattle.mtc_words.specs.Commands.{keygen}
+use Rattle.mtc_words.specs.Commands.{keygen, switch}
 use Rattle.mtc_words.specs.Words.{command_of}
 use Rattle.authority_core.specs.Files.{request_of}
 use Rattle.authority_core.specs.Issues.{issued_entry}
@@ -20,12 +20,13 @@ use Rattle.cosigner_core.specs.Records.{step_in}
 use Rattle.cosigner_core.specs.Requests.{AdvanceParts, SubtreeParts}
 use Rattle.cosigner_core.specs.declared.step.Step.TheVariants.{Sign}
 use Rattle.issuance_log.specs.Folds.{LogState, log_of, view_in}
-use Rattle.issuance_log.specs.Records.{item_in}
+use Rattle.issuance_log.specs.Records.{item_in, switch_record}
 use Rattle.issuance_log.specs.Settings.{Settings}
 use Rattle.mtc_command.specs.Made.{appended, reads}
 use Rattle.mtc_cosigner.specs.CosignerOutcomes.{advanced_text, cosigned_text}
 use Rattle.mtc_cosigner.specs.KeygenOutcome.{lms_type, ots_type, public_line}
 use Rattle.mtc_authority.specs.IssueOutcome.{issued_text}
+use Rattle.mtc_authority.specs.SwitchOutcome.{switched_line}
 use Rattle.mtc_authority.specs.Works.{IsLog}
 use Rattle.party_history.specs.Laws.{HasItemAt}
 use Rattle.party_history.specs.declared.start.PartyStart.TheVariants.{Log}
@@ -49,6 +50,14 @@ module _ (h : HashFunction) (p : Program) where
     pub did : did_to p name old run ≡ appended list body
     pub item : item_in body ≡ Some (issued_entry h (view_in state) request, request.key)
     pub printed : HasPrinted p run (issued_text (length state.entries))
+
+  -- The run added a Switch to a log with these records, at its size. What went out is that size.
+  pub record HasSwitched (name : Text) (old : p.R) (run : Run p.R p.O p.E) : Type 0 where
+    pub list : List Text
+    pub state : LogState
+    pub log_is : log_of h list ≡ Ok state
+    pub did : did_to p name old run ≡ appended list (switch_record (length state.entries))
+    pub printed : HasPrinted p run (switched_line (length state.entries))
 
   -- The run read a request from this file, and added a Sign record to a cosigner with these
   -- records. It adds the number of the next one-time key to those that were used. What went out is
@@ -107,6 +116,10 @@ module _ (h : HashFunction) (p : Program) where
   IndicesArePrinted = (name file : Text)
       → OfEachRun (OfHeard (issue name file) (HasIssued name file))
 
+  -- Each such run of `switch` has switched.
+  abbrev pub SwitchesArePrinted : Type 0
+  SwitchesArePrinted = (name : Text) → OfEachRun (OfHeard (switch name) (HasSwitched name))
+
   -- Each such run of `cosign` has cosigned.
   abbrev pub SignaturesArePrinted : Type 0
   SignaturesArePrinted = (name file : Text)
@@ -136,6 +149,21 @@ module _ (h : HashFunction) (p : Program) where
       → MayRecover (states_of p name new) found
       → EachRun p (OfHeard (issue name file) (λ old run.
       IsInLog name file old run found)) old events)
+
+  -- The log of these records was switched, at the index that went out.
+  pub record IsSwitchedIn (name : Text) (old : p.R) (run : Run p.R p.O p.E) (found : List Text)
+      : Type 0 where
+    pub switched : HasSwitched name old run
+    pub log : LogState
+    pub log_is : log_of h found ≡ Ok log
+    pub at_index : log.switched ≡ Some (length switched.state.entries)
+
+  -- For each run of an execution: this holds of each log with which the journal may be recovered.
+  abbrev pub SwitchesStand : Type 0
+  SwitchesStand = OfExecutions h p (λ name start first old events new.
+      (settings : Settings) (found : List Text) → start ≡ Log settings
+      → MayRecover (states_of p name new) found
+      → EachRun p (OfHeard (switch name) (λ old run. IsSwitchedIn name old run found)) old events)
 
   -- Each crash state of the journal represents records. For each run of the execution these begin
   -- with those that were there and the record of the signature.

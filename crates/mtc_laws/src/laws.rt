@@ -14,6 +14,7 @@ ghost use Rattle.mtc_top.specs.Executions.{program};
 ghost use Rattle.mtc_laws.specs.ExportLaws.{ExportsHoldTheSteps, ExportsOnlyGrow};
 ghost use Rattle.mtc_laws.specs.PrintLaws.{IndicesArePrinted, IssuedEntriesStand, OnlyCosignSigns};
 ghost use Rattle.mtc_laws.specs.PrintLaws.{SignaturesArePrinted, SignaturesStand};
+ghost use Rattle.mtc_laws.specs.PrintLaws.{SwitchesArePrinted, SwitchesStand};
 ghost use Rattle.mtc_laws.specs.RoomLaws.{JournalsAreOneHistory};
 ghost use Rattle.mtc_laws.specs.RunLaws.{PrefixesAreRuns, RunsShow, RunsAreSteps};
 ghost use Rattle.mtc_laws.specs.StatusLaws.{MisreadFilesAreInputs};
@@ -158,11 +159,12 @@ pub fn law_two_signatures_collide<H: TreeHash, R: Room, O: Sink, E: Sink>()
     ensures { TwoSignaturesCollide H.hash (program H.hash R.Room R.Dsk.Disk O.Sink E.Sink) }
 {}
 
-/// From the first byte on that may have gone out of `issue` or `cosign`, and with status 0, its
-/// record was added, and its request is what the file says that its arguments name. What goes out
-/// of `issue` is the index of the entry, which counts those before it. What goes out of `cosign` is
-/// the signature by the one-time key whose number the record has, over the interval and the hash of
-/// the request. It is the whole with status 0; with 6, the one other status, it is a prefix.
+/// From the first byte on that may have gone out of `issue`, `switch` or `cosign`, and with status
+/// 0, its record was added, and its request, if it has one, is what the file says that its
+/// arguments name. What goes out of `issue` is the index of the entry, which counts those before
+/// it. What goes out of `switch` is the number of the entries before it. What goes out of `cosign`
+/// is the signature by the one-time key whose number the record has, over the interval and the hash
+/// of the request. It is the whole with status 0; with 6, the one other status, it is a prefix.
 /// Arguments that are no command do no work, and nothing goes out. Of the commands that open a
 /// cosigner's journal, or are given a secret file as such, only `cosign` prints a signature by it.
 /// `advance` prints the size in its request. `export` prints the ids, the public key and the
@@ -171,6 +173,7 @@ pub fn law_two_signatures_collide<H: TreeHash, R: Room, O: Sink, E: Sink>()
 /// of what goes out of those.
 pub fn law_printed_texts_are_of_their_records<H: TreeHash, R: Room, O: Sink, E: Sink>()
     ensures indices { IndicesArePrinted H.hash (program H.hash R.Room R.Dsk.Disk O.Sink E.Sink) }
+    ensures switches { SwitchesArePrinted H.hash (program H.hash R.Room R.Dsk.Disk O.Sink E.Sink) }
     ensures signatures { SignaturesArePrinted H.hash
         (program H.hash R.Room R.Dsk.Disk O.Sink E.Sink) }
     ensures secrets { OnlyCosignSigns H.hash (program H.hash R.Room R.Dsk.Disk O.Sink E.Sink) }
@@ -178,11 +181,13 @@ pub fn law_printed_texts_are_of_their_records<H: TreeHash, R: Room, O: Sink, E: 
 
 /// This holds in each execution of a journal, and what is said of the record stays so. Each entry
 /// of which a byte of the index may have gone out is in each log that may be recovered at the end
-/// of the execution, at that index and with its key. Each crash state of the journal represents
-/// records, and if a byte of a signature may have gone out these begin with those that were there
-/// and the signature's.
+/// of the execution, at that index and with its key. Each such log was switched at the index of
+/// which a byte may have gone out of `switch`. Each crash state of the journal represents records,
+/// and if a byte of a signature may have gone out these begin with those that were there and the
+/// signature's.
 pub fn law_printed_texts_stand<H: TreeHash, R: Room, O: Sink, E: Sink>()
     ensures entries { IssuedEntriesStand H.hash (program H.hash R.Room R.Dsk.Disk O.Sink E.Sink) }
+    ensures switches { SwitchesStand H.hash (program H.hash R.Room R.Dsk.Disk O.Sink E.Sink) }
     ensures signatures { SignaturesStand H.hash (program H.hash R.Room R.Dsk.Disk O.Sink E.Sink) }
 {}
 

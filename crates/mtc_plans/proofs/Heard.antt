@@ -16,8 +16,10 @@ use Rattle.cosigner_core.specs.declared.error.CosignError.{CosignError}
 use Rattle.cosigner_core.specs.declared.error.CosignError.TheVariants.{Append}
 use Rattle.issuance_log.specs.Folds.{LogView, view_in}
 use Rattle.issuance_log.specs.Openings.{FoundLog}
-use Rattle.issuance_log.specs.Refusals.{add_refusal}
+use Rattle.issuance_log.specs.Records.{switch_record}
+use Rattle.issuance_log.specs.Refusals.{add_refusal, switch_refusal}
 use Rattle.issuance_log.specs.declared.error.LogError.{LogError}
+use Rattle.issuance_log.specs.declared.error.LogError.TheVariants.{AlreadySwitched}
 use Rattle.mtc_command.specs.Answers.{refused, said}
 use Rattle.mtc_command.specs.Steps.{Files, Outcome}
 use Rattle.mtc_command.specs.Wanted.{Meets}
@@ -29,7 +31,8 @@ use Rattle.authority_core.specs.Reasons.{request_fault_text}
 use Rattle.cosigner_core.specs.Reasons.{step_fault_text, form_fault_text}
 use Rattle.issuance_log.specs.Reasons.{log_fault_text}
 use Rattle.mtc_authority.specs.IssueOutcome.{issued_text}
-use Rattle.mtc_authority.specs.declared.work.Work.TheVariants.{Issue}
+use Rattle.mtc_authority.specs.SwitchOutcome.{switched_line}
+use Rattle.mtc_authority.specs.declared.work.Work.TheVariants.{Issue, Switch}
 use Rattle.mtc_cosigner.specs.CosignerOutcomes.{advanced_text, cosigned_text}
 use Rattle.mtc_cosigner.specs.InitOutcome.{cosigner_settings_of}
 use Rattle.mtc_cosigner.specs.KeygenOutcome.{lms_type, ots_type, public_line}
@@ -45,7 +48,9 @@ use Rattle.mtc_plans.specs.CosignerPlans.{init_cosigner_plan, step_reported}
 use Rattle.mtc_plans.specs.Heard.{AdvancedTextsAreOfRecords, BegunTextsAreOfSecrets}
 use Rattle.mtc_plans.specs.Heard.{CosignedTextsAreOfRecords, ExportedTextsAreOfRecords}
 use Rattle.mtc_plans.specs.Heard.{HoldsSmall, IssuedTextsAreOfRecords, KeyTextsAreOfSecrets}
-use Rattle.mtc_plans.specs.LogWork.{issue_reported, work_reported}
+use Rattle.mtc_plans.specs.Heard.{SwitchedTextsAreOfRecords}
+use Rattle.mtc_plans.specs.LogPlans.{work_plan}
+use Rattle.mtc_plans.specs.LogWork.{issue_reported, switch_reported, work_reported}
 use Rattle.mtc_plans.specs.PartyKinds.{PartyKind, PartyState, cosigner, log, party_fold}
 use Rattle.mtc_plans.specs.PartyKinds.{party_kinds}
 use Rattle.mtc_plans.specs.ReadPlans.{keygen_plan}
@@ -181,6 +186,45 @@ issued_so h files journal file status text meets =
       is_log = t.is_party;
       fits = so.0;
       did = t.did ∙ ap (λ (m : Option (List ℕ)). opened_did t.found.records m ∷ []) so.1.0;
+      reply_is = so.1.1;
+    }
+
+-- ---- switch
+
+switch_so : (v : LogView) (why : Option LogError) (status : Said) (text : List ℕ)
+    → Meets (wanted_of (switch_reported v why).0) (said status text)
+    → (why ≡ None) × (((switch_reported v why).1 ≡ Some (switch_record v.size))
+    × (said status text ≡ said Done (switched_line v.size)))
+switch_so v None status text meets = (refl, (refl, meets))
+switch_so v (Some (AlreadySwitched index)) status text meets =
+    absurd (not_refused status text NotAllowed None (codes "AlreadySwitched " ++ decimal index)
+    meets)
+switch_so v (Some why) status text meets =
+    absurd (not_refused status text Beyond None (log_fault_text why) meets)
+
+pub switched_so : SwitchedTextsAreOfRecords
+switched_so h files journal status text meets =
+    let plan = work_plan h only_reads journal Switch in
+    let passed = heard_passed (party_kinds h) plan files status text meets in
+    let found = passed.founds.0 in
+    let deed : Deed plan.journals = deed_on (work_reported h Switch found) in
+    let eq : deed ≡ passed.say passed.founds = same_work passed.say
+    (λ founds. deed_on (work_reported h Switch founds.0)) passed.founds (works passed.say) refl
+    passed.works_so in
+    let v = view_in found.state in
+    let so = switch_so v (switch_refusal v false (end_offset found.records)) status text
+    (subst (λ (d : Deed plan.journals). Meets (wanted_of d.answer) (said status text)) (sym eq)
+    passed.meets) in
+    record {
+      held = passed.are_found.0.bytes;
+      there = passed.are_found.0.there;
+      found = found;
+      is_log = passed.are_found.0.is;
+      fits = so.0;
+      did = ap (λ (o : Outcome). o.journals) passed.is
+          ∙ (ap (λ (d : Deed plan.journals).
+          (deed_outcome plan.journals passed.founds d).journals) (sym eq)
+          ∙ ap (λ (m : Option (List ℕ)). opened_did found.records m ∷ []) so.1.0);
       reply_is = so.1.1;
     }
 

@@ -1,5 +1,5 @@
--- What of its files and journals follows from the text of a command: of `issue`, and of those that
--- open a cosigner's journal or are given a secret file.
+-- What of its files and journals follows from the text of a command: of `issue` and `switch`, and
+-- of those that open a cosigner's journal or are given a secret file.
 use Rattle.std.specs.Prelude.{◌≡◌, ◌≤◌, ℕ, false, [], ◌∷◌, length, None, Ok, Some}
 use Rattle.byte_formats.specs.Types.{HashFunction, Text}
 use Rattle.journal_core.specs.Format.{end_offset}
@@ -14,8 +14,10 @@ use Rattle.cosigner_core.specs.Refusals.{advance_refused, cosign_refused}
 use Rattle.cosigner_core.specs.Requests.{AdvanceParts, SubtreeParts}
 use Rattle.issuance_log.specs.Folds.{view_in}
 use Rattle.issuance_log.specs.Openings.{FoundLog, log_read}
-use Rattle.issuance_log.specs.Refusals.{add_refusal}
+use Rattle.issuance_log.specs.Records.{switch_record}
+use Rattle.issuance_log.specs.Refusals.{add_refusal, switch_refusal}
 use Rattle.mtc_words.specs.Commands.{advance, cosign, export, init_cosigner, issue, keygen}
+use Rattle.mtc_words.specs.Commands.{switch}
 use Rattle.mtc_command.specs.Answers.{Reply, said}
 use Rattle.mtc_command.specs.Made.{appended, reads, started}
 use Rattle.mtc_command.specs.Steps.{Files, Outcome}
@@ -23,6 +25,7 @@ use Rattle.mtc_command.specs.Wanted.{Meets}
 use Rattle.mtc_command.specs.declared.answer.Said.{Said}
 use Rattle.mtc_command.specs.declared.answer.Said.TheVariants.{Done}
 use Rattle.mtc_authority.specs.IssueOutcome.{issued_text}
+use Rattle.mtc_authority.specs.SwitchOutcome.{switched_line}
 use Rattle.mtc_cosigner.specs.CosignerOutcomes.{advanced_text, cosigned_text}
 use Rattle.mtc_cosigner.specs.InitOutcome.{cosigner_settings_of}
 use Rattle.mtc_cosigner.specs.KeygenOutcome.{lms_type, ots_type, public_line}
@@ -62,6 +65,25 @@ pub record IssuesSo (h : HashFunction) (files : Files) (journal file : Text) (re
 abbrev pub IssuedTextsAreOfRecords : Type 0
 IssuedTextsAreOfRecords = (h : HashFunction) (files : Files) (journal file : Text)
     → OfSaid (planned_outcome h (issue journal file) files) (IssuesSo h files journal file)
+
+-- ---- `switch`
+
+-- A log was found that may be switched, and a Switch is added. The text is the size of that log.
+pub record SwitchesSo (h : HashFunction) (files : Files) (journal : Text) (reply : Reply)
+    : Type 0 where
+  pub held : Text
+  pub there : files journal ≡ Some held
+  pub found : FoundLog
+  pub is_log : log_read h held ≡ Ok found
+  pub fits : switch_refusal (view_in found.state) false (end_offset found.records) ≡ None
+  pub did : (planned_outcome h (switch journal) files).journals
+      ≡ appended found.records (switch_record (view_in found.state).size) ∷ []
+  pub reply_is : reply ≡ said Done (switched_line (view_in found.state).size)
+
+-- So it is of each text that `switch` may say.
+abbrev pub SwitchedTextsAreOfRecords : Type 0
+SwitchedTextsAreOfRecords = (h : HashFunction) (files : Files) (journal : Text)
+    → OfSaid (planned_outcome h (switch journal) files) (SwitchesSo h files journal)
 
 -- ---- a cosigner's journal
 

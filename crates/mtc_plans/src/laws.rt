@@ -17,6 +17,7 @@ ghost use Rattle.mtc_plans.specs.Commands.{plan_of, planned_outcome};
 ghost use Rattle.mtc_plans.specs.Heard.{AdvancedTextsAreOfRecords, BegunTextsAreOfSecrets};
 ghost use Rattle.mtc_plans.specs.Heard.{CosignedTextsAreOfRecords, ExportedTextsAreOfRecords};
 ghost use Rattle.mtc_plans.specs.Heard.{IssuedTextsAreOfRecords, KeyTextsAreOfSecrets};
+ghost use Rattle.mtc_plans.specs.Heard.{SwitchedTextsAreOfRecords};
 ghost use Rattle.mtc_plans.specs.PartyKinds.{party_kinds};
 ghost use Rattle.mtc_plans.specs.Words.{journal_made_by, only_read_by};
 
@@ -56,14 +57,16 @@ pub fn law_commands_come()
 {}
 
 /// Where `issue` answers with a text, its request was read, its log was found and takes the entry
-/// of the request, which is added, and the text is its index. Where `cosign` does, a Sign record is
-/// added with the next one-time key, and the text is the signature by that; where `advance` does,
-/// an Advance record, and the text is the size of the request. The text of `export` is what others
-/// may know of the cosigner that was found, and no record is added. The text of `keygen` and of
-/// `init-cosigner` is the public key of the secret that was read, and the new cosigner's first
-/// record is of that secret.
+/// of the request, which is added, and the text is its index. Where `switch` does, a Switch is
+/// added to a log that may be switched, and the text is its size. Where `cosign` does, a Sign
+/// record is added with the next one-time key, and the text is the signature by that; where
+/// `advance` does, an Advance record, and the text is the size of the request. The text of `export`
+/// is what others may know of the cosigner that was found, and no record is added. The text of
+/// `keygen` and of `init-cosigner` is the public key of the secret that was read, and the new
+/// cosigner's first record is of that secret.
 pub fn law_texts_are_of_their_records()
     ensures issue { IssuedTextsAreOfRecords }
+    ensures switch { SwitchedTextsAreOfRecords }
     ensures cosign { CosignedTextsAreOfRecords }
     ensures advance { AdvancedTextsAreOfRecords }
     ensures export { ExportedTextsAreOfRecords }

@@ -7,4 +7,5 @@ pub mod Keys
 mod Replays
 pub mod Sound
 pub mod Steps
+pub mod Switches
 pub mod Taking

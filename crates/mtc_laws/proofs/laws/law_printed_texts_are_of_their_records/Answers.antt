@@ -1,9 +1,13 @@
-use Rattle.mtc_laws.proofs.Printed.{indices_printed, signatures_printed}
+use Rattle.mtc_laws.proofs.Printed.{indices_printed, signatures_printed, switches_printed}
 use Rattle.mtc_laws.proofs.Secrets.{only_cosign}
 use Rattle.mtc_laws.proofs.laws.law_printed_texts_are_of_their_records.Goals as goal
 
 pub returns-clause-indices : goal.returns-clause-indices
 returns-clause-indices g c = indices_printed g.H.TreeHash.hash g.R.Room g.R.Dsk.Disk g.O.Sink
+    g.E.Sink g.met.R.Room.modelled_file g.met.R.Dsk.Disk.contents_bytes
+
+pub returns-clause-switches : goal.returns-clause-switches
+returns-clause-switches g c = switches_printed g.H.TreeHash.hash g.R.Room g.R.Dsk.Disk g.O.Sink
     g.E.Sink g.met.R.Room.modelled_file g.met.R.Dsk.Disk.contents_bytes
 
 pub returns-clause-signatures : goal.returns-clause-signatures
