@@ -2,10 +2,12 @@
 use Rattle.std.proofs.Common.{◌≡◌, ℕ, ◌+◌, ◌^◌, ◌<◌, ◌≤◌, Bool, true, false, List, [], ◌∷◌, ◌++◌}
 use Rattle.std.proofs.Common.{length, drop, get_or, Option, Some, None, Result, Ok, Err, is_ok}
 use Rattle.std.proofs.Common.{option_map, option_and_then, refl, ap, sym, ◌∙◌, slice_get}
+use Rattle.std.proofs.lemmas.Option.{none-some, same_Some}
 use Rattle.std.specs.Prelude.{if◌then◌else◌, is_some}
 use Rattle.byte_formats.specs.Types.{HashFunction, Text}
 use Rattle.byte_formats.specs.Readings.{◌>>=◌, some_or}
 use Rattle.byte_formats.proofs.Steps.{bind_ok, ok_is, some_or_ok}
+use Rattle.byte_formats.proofs.Values.{when_some}
 use Rattle.journal_core.specs.Folds.{state_after, taken_from}
 use Rattle.journal_core.proofs.Bodies.{none_left, rest_at}
 use Rattle.lms_core.specs.Heights.{height}
@@ -23,7 +25,6 @@ use Rattle.cosigner_core.specs.declared.progress.Progress.{Progress}
 use Rattle.cosigner_core.specs.declared.settings.CosignerSettings.{CosignerSettings}
 use Rattle.cosigner_core.specs.declared.step.Step.{Step}
 use Rattle.cosigner_core.proofs.Counts.{indices_count_up}
-use Rattle.cosigner_core.proofs.Tagged.{some_value, when_some}
 
 -- how far these records bring a cosigner that has come so far
 abbrev pub brought : HashFunction → ℕ → Progress → List Text → Option Progress
@@ -149,7 +150,7 @@ step_brings h s t (Some step) is =
     let next = with_step (progress_of s) step in
     let made = when_some (is_allowed h (key_count s) (progress_of s) step)
     (Some (with_progress s next)) t is in
-    let same = some_value (with_progress s next) t made.1 in (
+    let same = same_Some (with_progress s next) t made.1 in (
       ap (λ (b : Bool). if b then Some next else None) made.0
           ∙ ap (λ (u : CosignerState). Some (progress_of u)) same,
       ap (λ (u : CosignerState). u.key.key) (sym same),
@@ -194,11 +195,9 @@ begins_so h first s secret bodies is =
 abbrev begun_by : HashFunction → Option (CosignerSettings × Text) → Option CosignerState
 begun_by h o = option_map (λ x. new_cosigner h x.0 x.1) o
 
-no_cosigner : (k : ℕ) (t : CosignerState) → Err k ≡ Ok t → ⊥
+-- a list that is no cosigner's makes none
+pub no_cosigner : (k : ℕ) (t : CosignerState) → Err k ≡ Ok t → ⊥
 no_cosigner k t is = cc
-
-none_begins : (s : CosignerState) → None ≡ Some s → ⊥
-none_begins s is = cc
 
 pub only_begins : (h : HashFunction) (list : List Text) (t : CosignerState)
     → cosigner_of h list ≡ Ok t → (first : Text) × ((bodies : List Text)
@@ -223,7 +222,7 @@ only_begins h (first ∷ bodies) t is = go (cosigner_in first) refl
         × ((bs : List Text) × ((s : CosignerSettings) × ((secret : Text)
         × ((first ∷ bodies ≡ f ∷ bs) × (cosigner_in f ≡ Some (s, secret))
         × (may_follow_cosigner h (2 ^ height s.lms) bs ≡ true)))))
-    go None read = absurd (none_begins (went None read).0 (went None read).1)
+    go None read = absurd (none-some (went None read).0 (went None read).1)
     go (Some x) read = (
       first,
       (

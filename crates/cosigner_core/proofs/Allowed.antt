@@ -1,13 +1,15 @@
 -- What a request that is not refused makes of the records.
-use Rattle.std.proofs.Common.{◌≡◌, nat_le, nat_lt, not, Bool, true, false, List, []}
+use Rattle.std.proofs.Common.{◌≡◌, ◌<◌, ◌==◌, ◌&&◌, nat_le, nat_lt, not, Bool, true, false}
+use Rattle.std.proofs.Common.{List, []}
 use Rattle.std.proofs.Common.{◌∷◌, ◌++◌, Option, Some, None, IfSome, option_and_then, Ok, IsTrue}
 use Rattle.std.proofs.Common.{refl, sym, ap}
 use Rattle.std.proofs.Common.{◌∙◌, subst}
 use Rattle.std.specs.Prelude.{if◌then◌else◌, is_some}
-use Rattle.std.proofs.lemmas.Bool.{eq-eqb, leb-false, lt-ltb, not-false}
+use Rattle.std.proofs.lemmas.Bool.{and_parts, eq-eqb, leb-false, lt-ltb, ltb-true, not-false}
 use Rattle.std.specs.Str.{bytes_eq}
 use Rattle.byte_formats.specs.Types.{HashFunction, Text}
 use Rattle.byte_formats.specs.Refusals.{answer_of}
+use Rattle.byte_formats.proofs.Values.{when_some}
 use Rattle.tree_core.specs.Subtree.{is_subtree}
 use Rattle.tree_proofs.specs.Checkpoints.{has_subtree, is_prefix_of}
 use Rattle.cosigner_core.specs.Folds.{CosignerState, after_step, cosigner_of, having_signed}
@@ -23,10 +25,16 @@ use Rattle.cosigner_core.specs.declared.error.CosignError.{CosignError}
 use Rattle.cosigner_core.proofs.Adds.{none_of}
 use Rattle.cosigner_core.proofs.Encoded.{step_added, step_again}
 
-passed : (b : Bool) (why : CosignError) (o : Option CosignError)
+-- a test that doesn't refuse leaves the answer to the next one
+pub passed : (b : Bool) (why : CosignError) (o : Option CosignError)
     → (if b then Some why else o) ≡ None → (b ≡ false) × (o ≡ None)
 passed true why o is = let wrong : Some why ≡ None = is in cc
 passed false why o is = (refl, is)
+
+-- where neither of two refuses, the first doesn't
+pub none_first : (one two : Option CosignError) → earlier one two ≡ None → one ≡ None
+none_first None two is = refl
+none_first (Some why) two is = is
 
 pub advance_allowed : (h : HashFunction) (s : CosignerState) (r : AdvanceParts)
     → advance_refusal h s r ≡ None
@@ -57,6 +65,19 @@ sign_allowed h s r is =
       not-false (has_subtree h s.held r.start r.end r.hash r.proof) shown.0,
     ) refl
 
+-- A request that is not refused leaves a one-time key to sign with.
+pub key_left : (h : HashFunction) (s : CosignerState) (r : SubtreeParts)
+    → subtree_refusal h s r ≡ None → s.key.next < key_count s
+key_left h s r is =
+    let shown = nat_lt s.key.next (key_count s)
+    && has_subtree h s.held r.start r.end r.hash r.proof in
+    let made = when_some ((s.key.next == s.key.next) && shown) (Some (having_signed s))
+    (having_signed s) (sign_allowed h s r is) in
+    let counts = and_parts (s.key.next == s.key.next) shown made.0 in
+    ltb-true s.key.next (key_count s)
+    (and_parts (nat_lt s.key.next (key_count s))
+    (has_subtree h s.held r.start r.end r.hash r.proof) counts.1).0
+
 -- the record of a step that is allowed makes the next cosigner
 module _ (h : HashFunction) (s t : CosignerState) (step : Step) (fits : FitsStep step)
     (first : Option CosignError) (next : first ≡ None → after_step h s step ≡ Some t) where
@@ -73,11 +94,8 @@ module _ (h : HashFunction) (s t : CosignerState) (step : Step) (fits : FitsStep
       → IfSome old (λ list. cosigner_of h list ≡ Ok s) → earlier first refused ≡ None
       → IfSome old (λ list. cosigner_of h (list ++ step_record step ∷ []) ≡ Ok t)
   valid None refused was is = tt
-  valid (Some list) refused was is = step_added h list s step t was fits (next (go first is))
-    where
-      go : (o : Option CosignError) → earlier o refused ≡ None → o ≡ None
-      go None is = refl
-      go (Some why) is = let wrong : Some why ≡ None = is in cc
+  valid (Some list) refused was is =
+      step_added h list s step t was fits (next (none_first first refused is))
 
 module _ (h : HashFunction) (s : CosignerState) (r : AdvanceParts)
     (fits : FitsStep (Advance r.size r.root r.proof)) where

@@ -3,9 +3,11 @@ use Rattle.std.proofs.Common.{◌≡◌, ℕ, zero, suc, ◌+◌, ◌^◌, ◌<�
 use Rattle.std.proofs.Common.{List, [], ◌∷◌, length, slice_get, Option, Some, None, Ok}
 use Rattle.std.proofs.Common.{option_map, option_and_then, sym, ap, ◌∙◌, subst, arith}
 use Rattle.std.proofs.lemmas.Bool.{and_parts, eqb-true, ltb-true}
+use Rattle.std.proofs.lemmas.Option.{same_Some}
 use Rattle.byte_formats.specs.Types.{HashFunction, Text}
 use Rattle.byte_formats.specs.Readings.{some_or}
 use Rattle.byte_formats.proofs.Steps.{bind_ok, ok_is, some_or_ok}
+use Rattle.byte_formats.proofs.Values.{when_some}
 use Rattle.tree_proofs.specs.Checkpoints.{has_subtree, is_prefix_of}
 use Rattle.hss_core.specs.Counted.{Counted}
 use Rattle.journal_core.specs.Folds.{state_after, taken_from}
@@ -18,7 +20,6 @@ use Rattle.cosigner_core.specs.Records.{cosigner_in, step_in}
 use Rattle.cosigner_core.specs.declared.step.Step.{Step}
 use Rattle.cosigner_core.specs.declared.step.Step.TheVariants.{Advance, Sign}
 use Rattle.cosigner_core.specs.declared.settings.CosignerSettings.{CosignerSettings}
-use Rattle.cosigner_core.proofs.Tagged.{some_value, when_some}
 
 -- after a cosigner: these numbers, and then this cosigner
 record CountsFrom (s : CosignerState) (indices : List ℕ) (t : CosignerState) : Type 0 where
@@ -46,7 +47,7 @@ signed_on s t index indices next there counts = record {
 }
   where
     each : (i found : ℕ) → slice_get (index ∷ indices) i ≡ Some found → found ≡ s.key.next + i
-    each zero found is = let same = some_value index found is in omega arith
+    each zero found is = let same = same_Some index found is in omega arith
     each (suc i) found is = let rest = counts.each i found is in omega arith
 
 counts_step : (h : HashFunction) (s u t : CosignerState) (said : Option Step) (indices : List ℕ)
@@ -56,7 +57,7 @@ counts_step h s u t None indices is counts = let wrong : None ≡ Some u = is in
 counts_step h s u t (Some (Advance size root proof)) indices is counts =
     let made = when_some (nat_lt s.held.size size && is_prefix_of h s.held size root proof)
     (Some (holding size root s)) u is in
-    let same = some_value (holding size root s) u made.1 in
+    let same = same_Some (holding size root s) u made.1 in
     held_on s u t indices (sym (ap (λ (v : CosignerState). v.key) same)) counts
 counts_step h s u t (Some (Sign index start end hash proof)) indices is counts =
     let shown = nat_lt index (key_count s) && has_subtree h s.held start end hash proof in
@@ -67,7 +68,7 @@ counts_step h s u t (Some (Sign index start end hash proof)) indices is counts =
     signed_on s t index indices (eqb-true index s.key.next tests.0)
     (ltb-true index (key_count s) there.0)
     (subst (λ (v : CosignerState). CountsFrom v indices t)
-    (sym (some_value (having_signed s) u made.1)) counts)
+    (sym (same_Some (having_signed s) u made.1)) counts)
 
 counts_from : (h : HashFunction) (k : ℕ) (s : CosignerState) (bodies : List Text)
     (t : CosignerState) → taken_from (cosigner_fold h) k s bodies ≡ Ok t
@@ -96,7 +97,7 @@ counts_begun h first s t indices is counts = go (cosigner_in first) is
         → option_map (λ x. new_cosigner h x.0 x.1) o ≡ Some s → s.key.next ≡ 0
     go None is = let wrong : None ≡ Some s = is in cc
     go (Some x) is =
-        sym (ap (λ (v : CosignerState). v.key.next) (some_value (new_cosigner h x.0 x.1) s is))
+        sym (ap (λ (v : CosignerState). v.key.next) (same_Some (new_cosigner h x.0 x.1) s is))
 
 pub counts_up : (h : HashFunction) (list : List Text) (s : CosignerState)
     → cosigner_of h list ≡ Ok s → CountsUp list s

@@ -1,6 +1,6 @@
 -- The records of a cosigner are read as they are encoded.
 use Rattle.std.proofs.Common.{◌≡◌, ℕ, ◌+◌, ◌^◌, ◌<◌, ◌≤◌, ◌==◌, Bool, true, false, List, [], ◌∷◌}
-use Rattle.std.proofs.Common.{◌++◌, length, Option, Some, None, option_map, option_and_then, Result}
+use Rattle.std.proofs.Common.{◌++◌, length, Some, None, option_map, option_and_then, Result}
 use Rattle.std.proofs.Common.{Ok, Err, refl, ap, subst, ◌∙◌, if◌then◌else◌, arith}
 use Rattle.std.proofs.lemmas.Bool.{eqb-true}
 use Rattle.std.proofs.lemmas.List.{length-append}
@@ -10,13 +10,14 @@ use Rattle.byte_formats.specs.Offsets.{At, at, IsBytes}
 use Rattle.byte_formats.specs.Forms.{Anything, FitsBoth, IsForm, both, itself}
 use Rattle.byte_formats.specs.Readings.{whole_of}
 use Rattle.byte_formats.proofs.FormLaws.{lifted_form, then_form, whole_again, whole_takes}
+use Rattle.byte_formats.proofs.Values.{map_some}
 use Rattle.journal_core.proofs.Folds.{state_begins, state_next}
-use Rattle.lmots_core.specs.Parameters.{type_of_code, typecode}
-use Rattle.lmots_core.specs.declared.parameters.OtsType.{OtsType}
-use Rattle.lmots_core.specs.declared.parameters.OtsType.TheVariants.{W1, W2, W4, W8}
+use Rattle.lmots_core.specs.Parameters.{typecode}
+use Rattle.lmots_core.proofs.Yields.{type_of_code-typecode, typecode_small}
 use Rattle.lms_core.specs.Heights.{height, lms_code}
 use Rattle.lms_core.specs.declared.heights.LmsType.{LmsType}
 use Rattle.lms_core.specs.declared.heights.LmsType.TheVariants.{H5, H10, H15, H20, H25}
+use Rattle.lms_core.proofs.Verifies.{lms_code_small}
 use Rattle.tls_wire.specs.Reading.{number_at}
 use Rattle.tls_wire.specs.Encoding.{number, vector}
 use Rattle.tls_wire.specs.declared.cursor.Short.{Short}
@@ -37,7 +38,7 @@ use Rattle.cosigner_core.specs.Records.{signing_type}
 use Rattle.cosigner_core.specs.Records.{step_by_tag, step_in, step_record, advance_of, sign_of}
 use Rattle.cosigner_core.specs.declared.settings.CosignerSettings.{CosignerSettings}
 use Rattle.cosigner_core.proofs.Forms.{IsRoot, IsWord, Root, root_text, sized_form, spanned_form}
-use Rattle.cosigner_core.proofs.Tagged.{some_value, tag_again, tag_takes}
+use Rattle.cosigner_core.proofs.Tagged.{tag_again, tag_takes}
 
 -- ---- how long they are
 
@@ -110,11 +111,6 @@ step_again (Sign index start end hash proof) fits =
         ),
       ),
     ))
-
-map_some : {X Y : Type 0} (f : X → Y) (o : Option X) (y : Y) → option_map f o ≡ Some y
-    → (x : X) × (o ≡ Some x) × (f x ≡ y)
-map_some f None y is = let wrong : None ≡ Some y = is in cc
-map_some f (Some x) y is = (x, refl, some_value (f x) y is)
 
 pub step_takes : (body : Text) (step : Step) → IsBytes body → step_in body ≡ Some step
     → (body ≡ step_record step) × FitsStep step
@@ -207,31 +203,12 @@ type_again H15 small = absurd (omega arith)
 type_again H20 small = absurd (omega arith)
 type_again H25 small = absurd (omega arith)
 
-code_short : (l : LmsType) → lms_code l < 2 ^ 32
-code_short H5 = omega arith
-code_short H10 = omega arith
-code_short H15 = omega arith
-code_short H20 = omega arith
-code_short H25 = omega arith
-
-width_again : (t : OtsType) → type_of_code (typecode t) ≡ Some t
-width_again W1 = refl
-width_again W2 = refl
-width_again W4 = refl
-width_again W8 = refl
-
-width_short : (t : OtsType) → typecode t < 2 ^ 32
-width_short W1 = omega arith
-width_short W2 = omega arith
-width_short W4 = omega arith
-width_short W8 = omega arith
-
 settings_again : (s : CosignerSettings) (secret : Text) → FitsCosigner s secret
     → cosigner_settings_with s.id s.log (lms_code s.lms) (typecode s.ots) ≡ Some s
 settings_again s secret fits =
     rw (
       type_again s.lms fits.small,
-      width_again s.ots,
+      type_of_code-typecode s.ots,
       anchor_again s.id fits.id,
       anchor_again s.log fits.log,
     ) refl
@@ -244,7 +221,7 @@ cosigner_again s secret fits =
     let log = fits.log.short in
     let x : CosignerFields = (s.id, (s.log, (lms_code s.lms, (typecode s.ots, secret)))) in
     let fit : FitCosigner x =
-    (omega arith, (omega arith, (code_short s.lms, (width_short s.ots, fits.sized)))) in
+    (omega arith, (omega arith, (lms_code_small s.lms, (typecode_small s.ots, fits.sized)))) in
     ap first_by_tag (tag_again 0x11 (cosigner_fields x) (omega arith))
     ∙ ap (option_and_then founded)
     (whole_again cosigner_form tt x 1 fit)

@@ -2,6 +2,7 @@
 use Rattle.std.proofs.Common.{◌≡◌, ◌≢◌, ℕ, zero, suc, ◌+◌, ◌^◌, ◌<◌, ◌≤◌, true, List, [], ◌∷◌, ◌++◌}
 use Rattle.std.proofs.Common.{length, Option, Some, None, Ok, Err, refl, sym, ap, ◌∙◌, take}
 use Rattle.std.proofs.Common.{subst, append_assoc, arith, ne_eqb, drop}
+use Rattle.std.proofs.lemmas.Option.{same_Some}
 use Rattle.std.specs.Prelude.{option_and_then, option_map}
 use Rattle.std.specs.Int.{w8, w16, w32, to_be_bytes}
 use Rattle.std.specs.List.{AllByRecursion}
@@ -11,6 +12,7 @@ use Rattle.byte_formats.specs.Types.{HashFunction, Text}
 use Rattle.byte_formats.specs.Offsets.{At, IsBytes, at}
 use Rattle.byte_formats.specs.Readings.{some_or}
 use Rattle.byte_formats.proofs.Steps.{IsBytes-drop, IsBytes-take, bind_ok, ok_is, some_or_ok}
+use Rattle.byte_formats.proofs.Values.{then_some, when_some}
 use Rattle.journal_core.specs.Folds.{state_after, taken_from}
 use Rattle.journal_core.specs.Format.{AreRecordsAt, IsRecordAt, Represents}
 use Rattle.lmots_core.specs.Strings.{u32_at}
@@ -39,8 +41,7 @@ use Rattle.cosigner_core.specs.declared.progress.Progress.{Progress}
 use Rattle.cosigner_core.specs.declared.settings.CosignerSettings.{CosignerSettings}
 use Rattle.cosigner_core.specs.declared.step.Step.{Step}
 use Rattle.cosigner_core.proofs.After.{brings}
-use Rattle.cosigner_core.proofs.FirstRecords.{cosigner_takes, then_some}
-use Rattle.cosigner_core.proofs.Tagged.{some_value, when_some}
+use Rattle.cosigner_core.proofs.FirstRecords.{cosigner_takes}
 
 -- ---- the records
 
@@ -145,7 +146,7 @@ steps_again h s t n (suc most) k place (body ∷ bodies) short is le =
     short.1 step.2 less in
     again_more h s t most k place body bodies said.0 short.0 said.1 made.0
     (subst (λ (u : CosignerState). IsAgain h u t bodies most (k + 1)
-    (place + length (vector w32 body))) (sym (some_value next step.0 made.1)) rest)
+    (place + length (vector w32 body))) (sym (same_Some next step.0 made.1)) rest)
 
 -- ---- the prefix
 
@@ -282,7 +283,7 @@ export_again h bytes (first ∷ bodies) s are stands is =
         let fits = (cosigner_takes first x.0 x.1 (body_bytes bytes first 16 are stands.holds.0)
         was).1 in
         let new : CosignerState = new_cosigner h x.0 x.1 in
-        let same : new ≡ u = some_value new u made in
+        let same : new ≡ u = same_Some new u made in
         let size : length (take 16 x.1) ≡ 16 =
         let all = fits.sized in length-take-le 16 x.1 (omega arith) in
         let taken : taken_from (cosigner_fold h) 1 new bodies ≡ Ok s =

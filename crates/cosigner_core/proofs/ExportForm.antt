@@ -2,6 +2,7 @@
 use Rattle.std.proofs.Common.{◌≡◌, ℕ, zero, suc, ◌+◌, ◌^◌, ◌≤◌, true, List, [], ◌∷◌, ◌++◌}
 use Rattle.std.proofs.Common.{length, Option, Some, None, Result, Ok, refl, sym, ap, ◌∙◌}
 use Rattle.std.proofs.Common.{subst, append-nil, arith, inl, inr}
+use Rattle.std.proofs.lemmas.Option.{same_Some}
 use Rattle.std.specs.Prelude.{◌==◌, map}
 use Rattle.std.specs.Int.{w8, w16, w32}
 use Rattle.std.specs.List.{AllByRecursion}
@@ -14,6 +15,7 @@ use Rattle.byte_formats.specs.Readings.{◌>>=◌, blamed, both_at, lifted, some
 use Rattle.byte_formats.proofs.Steps.{IsBytes-back, IsBytes-prefix, Stands-none, Stands-then}
 use Rattle.byte_formats.proofs.Steps.{bind_ok}
 use Rattle.byte_formats.proofs.Steps.{blamed_ok, chosen, lifted_ok, ok_is, some_or_ok}
+use Rattle.byte_formats.proofs.Values.{when_some}
 use Rattle.tls_wire.specs.Anchors.{anchor_of}
 use Rattle.tls_wire.specs.Arcs.{IsAnchorId}
 use Rattle.tls_wire.specs.Reading.{vector_at}
@@ -36,7 +38,6 @@ use Rattle.cosigner_core.specs.declared.lists.Export.{Export}
 use Rattle.cosigner_core.specs.declared.progress.Progress.{Progress}
 use Rattle.cosigner_core.specs.declared.step.Step.{Step}
 use Rattle.cosigner_core.proofs.Encoded.{step_takes}
-use Rattle.cosigner_core.proofs.Tagged.{some_value, when_some}
 
 -- the bytes of a vector that stands somewhere are bytes
 vector_bytes : (a : At) (size bytes : Text) (b : At) → IsBytes a.rest
@@ -52,7 +53,7 @@ allowed_is : (h : HashFunction) (keys : ℕ) (p : Progress) (said : Option Step)
 allowed_is h keys p None step is = let wrong : None ≡ Some step = is in cc
 allowed_is h keys p (Some s) step is =
     let made = when_some (is_allowed h keys p s) (Some s) step is in
-    (made.1, subst (λ (t : Step). is_allowed h keys p t ≡ true) (some_value s step made.1) made.0)
+    (made.1, subst (λ (t : Step). is_allowed h keys p t ≡ true) (same_Some s step made.1) made.0)
 
 exported_takes : (h : HashFunction) (keys k : ℕ) (p : Progress) (a : At) (x : Step × At)
     → IsBytes a.rest → exported_at h keys k p a ≡ Ok x
@@ -251,7 +252,7 @@ export_takes h bytes e are is =
             valid = rw prefix.keys steps.valid;
           } in
           let P : Export → Type 0 = λ f. (bytes ≡ exported_text f) × IsExport h f in
-          subst P (some_value (export_with s.0.0 t.0) e
+          subst P (same_Some (export_with s.0.0 t.0) e
           (ok_is ReadExportError (Some (export_with s.0.0 t.0)) (Some e) t.2))
           (subst (λ (xs : List Step). P (export_with s.0.0 xs))
           (ok_is ReadExportError v.0.0 t.0 v.2)

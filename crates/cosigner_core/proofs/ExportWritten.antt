@@ -2,6 +2,7 @@
 use Rattle.std.proofs.Common.{◌≡◌, ◌≢◌, ℕ, zero, suc, ◌+◌, ◌*◌, ◌^◌, ◌<◌, ◌≤◌, true, List, [], ◌∷◌}
 use Rattle.std.proofs.Common.{◌++◌, length, drop, Bool, false, Some, None, Ok, refl, ap, ◌∙◌, arith}
 use Rattle.std.proofs.Common.{ne_eqb}
+use Rattle.std.proofs.lemmas.Option.{same_Some}
 use Rattle.std.specs.Prelude.{map, if◌then◌else◌, ◌==◌, ◌&&◌, nat_le}
 use Rattle.std.specs.Int.{w8, w16, w32, w64, to_be_bytes}
 use Rattle.std.specs.List.{AllByRecursion, concat}
@@ -9,6 +10,7 @@ use Rattle.std.proofs.lemmas.Bool.{and_parts, eqb-true}
 use Rattle.std.proofs.lemmas.List.{length-append}
 use Rattle.byte_formats.specs.Types.{Hash, HashFunction, Text}
 use Rattle.byte_formats.specs.Offsets.{At}
+use Rattle.byte_formats.proofs.Values.{then_some, when_some}
 use Rattle.hss_core.specs.Hss.{hss_key_types, with_levels}
 use Rattle.lmots_core.specs.Strings.{u32_at}
 use Rattle.lms_core.specs.Refusals.{key_types}
@@ -23,9 +25,7 @@ use Rattle.cosigner_core.specs.declared.progress.Progress.{Progress}
 use Rattle.cosigner_core.specs.declared.step.Step.{Step}
 use Rattle.cosigner_core.specs.declared.step.Step.TheVariants.{Advance, Sign}
 use Rattle.cosigner_core.proofs.ExportAgain.{exported_again, prefix_again}
-use Rattle.cosigner_core.proofs.FirstRecords.{then_some}
 use Rattle.cosigner_core.proofs.Encoded.{step_again}
-use Rattle.cosigner_core.proofs.Tagged.{some_value, when_some}
 
 -- ---- lengths
 
@@ -147,7 +147,7 @@ steps_written h keys (suc most) k place p q (x ∷ xs) fits is le =
     ) in
     let next : progress_by h keys (with_step p x) xs ≡ Some q =
     ap (λ (r : Progress). progress_by h keys r xs)
-    (some_value (with_step p x) made.0 test.1) ∙ made.2 in
+    (same_Some (with_step p x) made.0 test.1) ∙ made.2 in
     one_more h keys most k place p x xs fits.0 test.0
     (steps_written h keys most (k + 1) (place + length (vector w32 (step_record x)))
     (with_step p x) q xs fits.1 next less)

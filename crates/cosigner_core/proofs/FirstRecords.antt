@@ -2,6 +2,7 @@
 use Rattle.std.proofs.Common.{◌≡◌, ℕ, ◌≤◌, ◌==◌, Bool, true, false, ◌++◌, length, Option}
 use Rattle.std.proofs.Common.{Some, None, option_map, option_and_then, Result, Ok, Err, refl, sym}
 use Rattle.std.proofs.Common.{ap, ◌∙◌, subst, arith}
+use Rattle.std.proofs.lemmas.Option.{same_Some}
 use Rattle.std.specs.Prelude.{if◌then◌else◌}
 use Rattle.std.specs.Int.{w8, w32}
 use Rattle.std.proofs.lemmas.Bool.{eqb-true}
@@ -11,6 +12,7 @@ use Rattle.byte_formats.specs.Offsets.{At, at, IsBytes}
 use Rattle.byte_formats.specs.Forms.{both, itself}
 use Rattle.byte_formats.proofs.Steps.{IsBytes-back, IsBytes-prefix}
 use Rattle.byte_formats.specs.Readings.{whole_of}
+use Rattle.byte_formats.proofs.Values.{then_some, when_some}
 use Rattle.lmots_core.specs.Parameters.{type_of_code, typecode}
 use Rattle.lmots_core.specs.declared.parameters.OtsType.{OtsType}
 use Rattle.lmots_core.specs.declared.parameters.OtsType.TheVariants.{W1, W2, W4, W8}
@@ -29,12 +31,7 @@ use Rattle.cosigner_core.specs.Records.{with_ids}
 use Rattle.cosigner_core.specs.declared.settings.CosignerSettings.{CosignerSettings}
 use Rattle.cosigner_core.proofs.Encoded.{CosignerFields, cosigner_fields}
 use Rattle.cosigner_core.proofs.Encoded.{cosigner_form}
-use Rattle.cosigner_core.proofs.Tagged.{some_value, tag_takes, when_some}
-
-pub then_some : {X Y : Type 0} (f : X → Option Y) (o : Option X) (y : Y)
-    → option_and_then f o ≡ Some y → (x : X) × (o ≡ Some x) × (f x ≡ Some y)
-then_some {X} {Y} f None y is = let wrong : None ≡ Some y = is in cc
-then_some {X} {Y} f (Some x) y is = (x, refl, is)
+use Rattle.cosigner_core.proofs.Tagged.{tag_takes}
 
 height_of : (code : ℕ) (l : LmsType) → signing_type code ≡ Some l
     → (code ≡ lms_code l) × (height l ≤ 10)
@@ -44,10 +41,10 @@ height_of code l is = go (code == 5) (code == 6) refl refl is
         → (if one then Some H5 else (if two then Some H10 else None)) ≡ Some l
         → (code ≡ lms_code l) × (height l ≤ 10)
     go true two first second is =
-        subst (λ (t : LmsType). (code ≡ lms_code t) × (height t ≤ 10)) (some_value H5 l is)
+        subst (λ (t : LmsType). (code ≡ lms_code t) × (height t ≤ 10)) (same_Some H5 l is)
         (eqb-true code 5 first, omega arith)
     go false true first second is =
-        subst (λ (t : LmsType). (code ≡ lms_code t) × (height t ≤ 10)) (some_value H10 l is)
+        subst (λ (t : LmsType). (code ≡ lms_code t) × (height t ≤ 10)) (same_Some H10 l is)
         (eqb-true code 6 second, omega arith)
     go false false first second is = let wrong : None ≡ Some l = is in cc
 
@@ -59,13 +56,13 @@ width_of code t is = go (code == 1) (code == 2) (code == 3) (code == 4) refl ref
         else (if c then Some W4 else (if d then Some W8 else None)))) ≡ Some t
         → code ≡ typecode t
     go true b c d e1 e2 e3 e4 is =
-        subst (λ (x : OtsType). code ≡ typecode x) (some_value W1 t is) (eqb-true code 1 e1)
+        subst (λ (x : OtsType). code ≡ typecode x) (same_Some W1 t is) (eqb-true code 1 e1)
     go false true c d e1 e2 e3 e4 is =
-        subst (λ (x : OtsType). code ≡ typecode x) (some_value W2 t is) (eqb-true code 2 e2)
+        subst (λ (x : OtsType). code ≡ typecode x) (same_Some W2 t is) (eqb-true code 2 e2)
     go false false true d e1 e2 e3 e4 is =
-        subst (λ (x : OtsType). code ≡ typecode x) (some_value W4 t is) (eqb-true code 3 e3)
+        subst (λ (x : OtsType). code ≡ typecode x) (same_Some W4 t is) (eqb-true code 3 e3)
     go false false false true e1 e2 e3 e4 is =
-        subst (λ (x : OtsType). code ≡ typecode x) (some_value W8 t is) (eqb-true code 4 e4)
+        subst (λ (x : OtsType). code ≡ typecode x) (same_Some W8 t is) (eqb-true code 4 e4)
     go false false false false e1 e2 e3 e4 is = let wrong : None ≡ Some t = is in cc
 
 -- the ids that settings were made of
@@ -80,7 +77,7 @@ record AreIds (l : LmsType) (t : OtsType) (one two : Result Text AnchorBytesErro
 ids_of : (l : LmsType) (t : OtsType) (one two : Result Text AnchorBytesError)
     (s : CosignerSettings) → with_ids l t one two ≡ Some s → AreIds l t one two s
 ids_of l t (Ok id) (Ok log) s is =
-    record { id = id; log = log; first = refl; second = refl; made = some_value _ s is }
+    record { id = id; log = log; first = refl; second = refl; made = same_Some _ s is }
 ids_of l t (Ok id) (Err fault) s is = let wrong : None ≡ Some s = is in cc
 ids_of l t (Err fault) two s is = let wrong : None ≡ Some s = is in cc
 
@@ -125,7 +122,7 @@ settings_of x s secret id_bytes log_bytes is =
         → (o ≡ Some s) × (x.1.1.1.1 ≡ secret)
     pair_of None is = let wrong : nothing ≡ Some (s, secret) = is in cc
     pair_of (Some t) is =
-        let same = some_value (t, x.1.1.1.1) (s, secret) is in (
+        let same = same_Some (t, x.1.1.1.1) (s, secret) is in (
           ap (λ (p : CosignerSettings × Text). Some p.0) same,
           ap (λ (p : CosignerSettings × Text). p.1) same,
         )

@@ -1,11 +1,15 @@
--- The ids of a cosigner stay as its first record has them, and determine how long that record is.
+-- A cosigner keeps the ids and the key of its first record, and the ids determine how long it is.
 use Rattle.std.proofs.Common.{◌≡◌, ℕ, ◌+◌, List, [], ◌∷◌, length, Option, Some, None, Ok}
 use Rattle.std.proofs.Common.{option_map, option_and_then, refl, sym, ap, ◌∙◌, arith}
+use Rattle.std.proofs.lemmas.Option.{same_Some}
 use Rattle.byte_formats.specs.Types.{HashFunction, Text}
 use Rattle.byte_formats.specs.Offsets.{IsBytes}
-use Rattle.byte_formats.specs.Readings.{some_or}
+use Rattle.byte_formats.specs.Readings.{some_or, ◌>>=◌}
 use Rattle.byte_formats.proofs.Steps.{bind_ok, ok_is, some_or_ok}
+use Rattle.byte_formats.proofs.Values.{then_some, when_some}
 use Rattle.journal_core.specs.Folds.{state_after, taken_from}
+use Rattle.lms_core.specs.declared.private_key.PrivateKey.{PrivateKey}
+use Rattle.lms_core.specs.Trees.{private_key}
 use Rattle.cosigner_core.specs.Folds.{CosignerState, after_step, begun_cosigner, cosigner_fold}
 use Rattle.cosigner_core.specs.Folds.{cosigner_of}
 use Rattle.cosigner_core.specs.Folds.{key_count, new_cosigner, next_state, progress_of}
@@ -16,39 +20,45 @@ use Rattle.cosigner_core.specs.declared.settings.CosignerSettings.{CosignerSetti
 use Rattle.cosigner_core.specs.declared.step.Step.{Step}
 use Rattle.cosigner_core.proofs.FirstRecords.{cosigner_takes}
 use Rattle.cosigner_core.proofs.Encoded.{length-cosigner}
-use Rattle.cosigner_core.proofs.Tagged.{some_value, when_some}
 
--- the same ids
-record HasNamesOf (s t : CosignerState) : Type 0 where
-  pub id : t.id ≡ s.id
-  pub log : t.log ≡ s.log
+-- with what a cosigner began: its ids and its key
+abbrev pub Began : Type 0
+Began = Text × Text × PrivateKey
 
-step_named : (h : HashFunction) (s u : CosignerState) (said : Option Step)
-    → option_and_then (after_step h s) said ≡ Some u → HasNamesOf s u
-step_named h s u None is = let wrong : None ≡ Some u = is in cc
-step_named h s u (Some step) is =
-    let next = with_progress s (with_step (progress_of s) step) in
-    let made = when_some (is_allowed h (key_count s) (progress_of s) step) (Some next) u is in
-    let same = sym (some_value next u made.1) in record {
-      id = ap (λ (v : CosignerState). v.id) same;
-      log = ap (λ (v : CosignerState). v.log) same;
-    }
+abbrev pub began : CosignerState → Began
+began s = (s.id, s.log, s.key.key)
 
-names_stay : (h : HashFunction) (k : ℕ) (s : CosignerState) (bodies : List Text)
-    (t : CosignerState) → taken_from (cosigner_fold h) k s bodies ≡ Ok t → HasNamesOf s t
+step_keeps : (h : HashFunction) (s u : CosignerState) (said : Option Step)
+    → option_and_then (after_step h s) said ≡ Some u → began u ≡ began s
+step_keeps h s u said is =
+    let step = then_some (after_step h s) said u is in
+    let next = with_progress s (with_step (progress_of s) step.0) in
+    let made = when_some (is_allowed h (key_count s) (progress_of s) step.0) (Some next) u step.2
+    in
+    ap began (sym (same_Some next u made.1))
+
+-- A cosigner keeps its ids and its key after each of its records.
+pub same_cosigner : (h : HashFunction) (k : ℕ) (s t : CosignerState) (bodies : List Text)
+    → taken_from (cosigner_fold h) k s bodies ≡ Ok t → began t ≡ began s
 unfolding taken_from next_state
-names_stay h k s [] t is =
-    let same = sym (ok_is ℕ s t is) in record {
-      id = ap (λ (v : CosignerState). v.id) same;
-      log = ap (λ (v : CosignerState). v.log) same;
-    }
-names_stay h k s (body ∷ bodies) t is =
+same_cosigner h k s t [] is = ap began (sym (ok_is ℕ s t is))
+same_cosigner h k s t (body ∷ bodies) is =
     let step = bind_ok (some_or k (next_state h s body))
     (λ (u : CosignerState). taken_from (cosigner_fold h) (k + 1) u bodies) t is in
-    let first = step_named h s step.0 (step_in body)
-    (some_or_ok k (next_state h s body) step.0 step.1) in
-    let rest = names_stay h (k + 1) step.0 bodies t step.2 in
-    record { id = rest.id ∙ first.id; log = rest.log ∙ first.log }
+    same_cosigner h (k + 1) step.0 t bodies step.2
+    ∙ step_keeps h s step.0 (step_in body) (some_or_ok k (next_state h s body) step.0 step.1)
+
+-- They are those of its first record.
+pub began_first : (h : HashFunction) (settings : CosignerSettings) (first secret : Text)
+    (bodies : List Text) (s : CosignerState) → cosigner_in first ≡ Some (settings, secret)
+    → cosigner_of h (first ∷ bodies) ≡ Ok s
+    → began s ≡ (settings.id, settings.log, private_key settings.lms settings.ots secret)
+unfolding state_after begun_cosigner
+began_first h settings first secret bodies s begins is =
+    same_cosigner h 1 (new_cosigner h settings secret) s bodies
+    (sym (ap (λ (o : Option (CosignerSettings × Text)). some_or 0 (option_map
+    (λ (x : CosignerSettings × Text). new_cosigner h x.0 x.1) o)
+    >>= λ (u : CosignerState). taken_from (cosigner_fold h) 1 u bodies) begins) ∙ is)
 
 begun_long : (h : HashFunction) (first : Text) (s : CosignerState) → IsBytes first
     → begun_cosigner h first ≡ Some s → length first ≡ 59 + length s.id + length s.log
@@ -61,7 +71,7 @@ begun_long h first s bytes is = go (cosigner_in first) refl is
     go None read is = let wrong : None ≡ Some s = is in cc
     go (Some x) read is =
         let took = cosigner_takes first x.0 x.1 bytes read in
-        let same = some_value (new_cosigner h x.0 x.1) s is in
+        let same = same_Some (new_cosigner h x.0 x.1) s is in
         let id : length x.0.id ≡ length s.id = ap (λ (v : CosignerState). length v.id) same in
         let log : length x.0.log ≡ length s.log = ap (λ (v : CosignerState). length v.log) same in
         let long = ap length took.0 ∙ length-cosigner x.0 x.1 in
@@ -78,7 +88,7 @@ first-long h first bodies s bytes is =
     (λ (u : CosignerState). taken_from (cosigner_fold h) 1 u bodies) s is in
     let long = begun_long h first step.0 bytes
     (some_or_ok 0 (begun_cosigner h first) step.0 step.1) in
-    let named = names_stay h 1 step.0 bodies s step.2 in
-    let id = ap length named.id in
-    let log = ap length named.log in
+    let same = same_cosigner h 1 step.0 s bodies step.2 in
+    let id = ap (λ (x : Began). length x.0) same in
+    let log = ap (λ (x : Began). length x.1) same in
     omega (arith, long, id, log)

@@ -1,5 +1,6 @@
 -- What an audit of a drill's certificate answers.
 use Rattle.std.proofs.Common.{◌≡◌, ◌∙◌, ℕ, true, false, List, Some, None, Ok, sym, ap, subst, drop}
+use Rattle.std.proofs.lemmas.Option.{same_Some}
 use Rattle.std.specs.Prelude.{pos}
 use Rattle.byte_formats.specs.Types.{HashFunction, Text}
 use Rattle.byte_formats.proofs.Steps.{ok_is}
@@ -17,7 +18,6 @@ use Rattle.cosigner_core.specs.Folds.{CosignerState}
 use Rattle.cosigner_core.specs.Progress.{steps_in}
 use Rattle.cosigner_core.specs.declared.lists.Export.{Export}
 use Rattle.cosigner_core.specs.declared.step.Step.{Step}
-use Rattle.cosigner_core.proofs.Tagged.{some_value}
 use Rattle.world_core.specs.Audit.{AuditCase, IsAudit}
 use Rattle.world_core.specs.declared.answer.Audit.{Audit}
 use Rattle.world_core.specs.declared.answer.Audit.TheVariants.{Foreign, Pair, Stands, Unrecorded}
@@ -120,7 +120,7 @@ pub kept_stands : (h : HashFunction) (store : Store) (cert : Text) (items : Item
 kept_stands h store cert items file kept is read =
     let one : Some is.kept ≡ Some kept =
     ok_is _ (Some is.kept) (Some kept) (sym is.read ∙ read) in
-    let same : is.kept ≡ kept = some_value is.kept kept one in
+    let same : is.kept ≡ kept = same_Some is.kept kept one in
     subst (λ (e : Export). StandsBy h store cert items e) same is.stands
 
 -- the same with the records of the cosigner that wrote the export

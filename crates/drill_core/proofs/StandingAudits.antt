@@ -16,7 +16,7 @@ use Rattle.byte_formats.specs.Types.{Hash, HashFunction, Text}
 use Rattle.byte_formats.specs.Offsets.{IsBytes}
 use Rattle.byte_formats.specs.Readings.{◌>>=◌, lifted}
 use Rattle.byte_formats.proofs.Steps.{bind_ok, lifted_ok, ok_is}
-use Rattle.byte_formats.proofs.Values.{same_bytes}
+use Rattle.byte_formats.proofs.Values.{same_bytes, then_some}
 use Rattle.tree_core.specs.Evaluation.{evaluation}
 use Rattle.tree_core.specs.Path.{part_of}
 use Rattle.tree_core.specs.Tree.{leaf_hash, tree_hash}
@@ -48,7 +48,6 @@ use Rattle.cosigner_core.specs.declared.lists.Export.{Export}
 use Rattle.cosigner_core.specs.declared.step.Step.{Step}
 use Rattle.cosigner_core.specs.declared.step.Step.TheVariants.{Sign}
 use Rattle.cosigner_core.proofs.ExportAgain.{export_again}
-use Rattle.cosigner_core.proofs.FirstRecords.{then_some}
 use Rattle.cosigner_steps.specs.Steps.{held_by}
 use Rattle.authority_core.specs.Certificates.{parts_with, proof_for}
 use Rattle.world_core.specs.Audit.{WasJudged, is_counted, is_counted_as, is_recorded}

@@ -1,5 +1,6 @@
 -- A cosigner of a drill that was only read.
 use Rattle.std.proofs.Common.{◌≡◌, ◌∙◌, List, Some, Ok, sym, ap, subst, refl, drop}
+use Rattle.std.proofs.lemmas.Option.{same_Some}
 use Rattle.byte_formats.specs.Offsets.{IsBytes}
 use Rattle.byte_formats.specs.Types.{Text, HashFunction}
 use Rattle.disk_core.specs.Memory.{bytes_of, calls_of, crash_states_of}
@@ -12,7 +13,6 @@ use Rattle.cosigner_core.specs.Folds.{CosignerState, cosigner_of}
 use Rattle.cosigner_core.specs.Progress.{steps_in}
 use Rattle.cosigner_core.specs.declared.step.Step.{Step}
 use Rattle.cosigner_core.proofs.ExportAgain.{export_again}
-use Rattle.cosigner_core.proofs.Tagged.{some_value}
 use Rattle.drill_parties.specs.CosignerParties.{IsCosignerDisk}
 use Rattle.drill_parties.specs.Disks.{records_on}
 
@@ -48,5 +48,5 @@ module _ (h : HashFunction) (s : CosignerState) (disk : MemDisk) (is : IsCosigne
     pub reads_again : (steps : List Step) → steps_in (drop 1 (records_on disk)) ≡ Some steps
         → export_in h (export_text s (records_on disk)) ≡ Ok (Some (export_of s steps))
     reads_again steps said =
-        let same : again.0 ≡ steps = some_value again.0 steps (sym again.1 ∙ said) in
+        let same : again.0 ≡ steps = same_Some again.0 steps (sym again.1 ∙ said) in
         again.2 ∙ ap (λ (x : List Step). Ok (Some (export_of s x))) same

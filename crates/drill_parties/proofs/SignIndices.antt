@@ -2,17 +2,16 @@
 use Rattle.std.proofs.Common.{◌≡◌, ◌∙◌, ◌<◌, ℕ, zero, suc, Bool, true, false, List, [], ◌∷◌}
 use Rattle.std.proofs.Common.{length, Some, refl, sym, ap, subst, arith, get_or}
 use Rattle.std.proofs.Common.{ltb-true, ltb-false, lt-ltb, slice_index_or}
+use Rattle.std.proofs.lemmas.Option.{same_Some}
 use Rattle.std.specs.Prelude.{nat_lt, option_map}
 use Rattle.std.specs.List.{Contains, position, position_or_len}
 use Rattle.std.specs.Option.{is_some}
 use Rattle.std.proofs.lemmas.List.Sums.{fails_before_first}
 use Rattle.byte_formats.specs.Types.{Text}
-use Rattle.byte_formats.proofs.Values.{map_some}
+use Rattle.byte_formats.proofs.Values.{map_some, then_some}
 use Rattle.cosigner_core.specs.Progress.{steps_in}
 use Rattle.cosigner_core.specs.Records.{step_in}
 use Rattle.cosigner_core.specs.declared.step.Step.{Step}
-use Rattle.cosigner_core.proofs.FirstRecords.{then_some}
-use Rattle.cosigner_core.proofs.Tagged.{some_value}
 
 -- ---- a step among steps
 
@@ -46,7 +45,7 @@ said_at (b ∷ bs) steps zero body step said below at says =
     let one = then_some (λ (s : Step). option_map (λ (rest : List Step). s ∷ rest) (steps_in bs))
     (step_in b) steps said in
     let two = map_some (λ (rest : List Step). one.0 ∷ rest) (steps_in bs) steps one.2 in
-    let same : one.0 ≡ step = some_value one.0 step (sym one.1 ∙ ap step_in at ∙ says) in
+    let same : one.0 ≡ step = same_Some one.0 step (sym one.1 ∙ ap step_in at ∙ says) in
     subst (λ (list : List Step). Contains list step) two.2 (0, omega arith, same)
 said_at (b ∷ bs) steps (suc k) body step said below at says =
     let one = then_some (λ (s : Step). option_map (λ (rest : List Step). s ∷ rest) (steps_in bs))

@@ -1,12 +1,13 @@
 -- How many Signs the journal of a cosigner has.
 use Rattle.std.proofs.Common.{◌≡◌, ◌∙◌, ◌^◌, ◌≤◌, ℕ, List, [], ◌∷◌, length, drop, Option, Some}
 use Rattle.std.proofs.Common.{None, Ok, cond, refl, sym, ap, arith, subst}
+use Rattle.std.proofs.lemmas.Option.{same_Some}
 use Rattle.std.specs.Prelude.{option_map}
 use Rattle.std.specs.List.{count_by}
 use Rattle.std.proofs.lemmas.List.Sums.{sum_by-cons}
 use Rattle.byte_formats.specs.Types.{HashFunction, Text}
 use Rattle.byte_formats.proofs.Steps.{ok_is}
-use Rattle.byte_formats.proofs.Values.{map_some}
+use Rattle.byte_formats.proofs.Values.{map_some, then_some}
 use Rattle.disk_core.specs.declared.memory.mem_disk.MemDisk.{MemDisk}
 use Rattle.cosigner_core.specs.Counts.{index_before, indices_in, indices_of}
 use Rattle.cosigner_core.specs.ExportReading.{export_in, export_of}
@@ -17,8 +18,6 @@ use Rattle.cosigner_core.specs.declared.lists.Export.{Export}
 use Rattle.cosigner_core.specs.declared.step.Step.{Step}
 use Rattle.cosigner_core.specs.declared.step.Step.TheVariants.{Advance, Sign}
 use Rattle.cosigner_core.proofs.Counts.{counts_up}
-use Rattle.cosigner_core.proofs.FirstRecords.{then_some}
-use Rattle.cosigner_core.proofs.Tagged.{some_value}
 use Rattle.drill_parties.specs.CosignerParties.{IsCosignerDisk}
 use Rattle.drill_parties.specs.Disks.{is_sign}
 use Rattle.drill_parties.specs.Disks.{records_on}
@@ -85,7 +84,7 @@ signs_kept h s disk kept file is reads read =
     let same : Some (export_of s again.0) ≡ Some kept =
     ok_is _ (Some (export_of s again.0)) (Some kept) (sym (reads again.0 again.1) ∙ read) in
     let steps : again.0 ≡ kept.steps =
-    ap (λ (e : Export). e.steps) (some_value (export_of s again.0) kept same) in
+    ap (λ (e : Export). e.steps) (same_Some (export_of s again.0) kept same) in
     subst (λ (list : List Step). count_by is_sign list ≡ length (indices_of (records_on disk)))
     steps
     (signs_said (drop 1 (records_on disk)) again.0 again.1 ∙ following_first (records_on disk))

@@ -1,20 +1,14 @@
 -- What `cosign` printed counts for each store that has the cosigner's id and key.
-use Rattle.std.proofs.Common.{◌≡◌, ℕ, ◌+◌, ◌^◌, ◌<◌, Bool, true, false, not, nat_lt, List, []}
-use Rattle.std.proofs.Common.{◌∷◌, ◌++◌, Option, None, Some, Ok, Err, refl, sym, subst, ap}
-use Rattle.std.proofs.Common.{◌∙◌, if◌then◌else◌, option_map, arith}
+use Rattle.std.proofs.Common.{◌≡◌, ℕ, ◌+◌, ◌^◌, ◌<◌, Bool, true, false, List, []}
+use Rattle.std.proofs.Common.{◌∷◌, ◌++◌, None, Some, Ok, refl, sym, subst, ap}
+use Rattle.std.proofs.Common.{◌∙◌, arith}
 use Rattle.std.specs.Int.{w32, to_be_bytes}
 use Rattle.std.specs.Prelude.{slice_get}
-use Rattle.std.specs.Str.{bytes_eq}
 use Rattle.std.specs.List.{AllByRecursion, Contains, flat_map}
-use Rattle.std.proofs.lemmas.Bool.{ltb-true}
 use Rattle.std.proofs.lemmas.List.{length-append}
 use Rattle.byte_formats.specs.Offsets.{IsBytes}
-use Rattle.byte_formats.specs.Readings.{◌>>=◌, some_or}
 use Rattle.byte_formats.specs.Types.{HashFunction}
-use Rattle.byte_formats.proofs.Steps.{bind_ok, ok_is, some_or_ok}
 use Rattle.tls_wire.specs.Arcs.{IsAnchorId}
-use Rattle.tree_core.specs.Subtree.{is_subtree}
-use Rattle.tree_proofs.specs.Checkpoints.{has_subtree}
 use Rattle.lms_core.specs.Heights.{height}
 use Rattle.lms_core.specs.Trees.{lms_signature, private_key}
 use Rattle.lms_core.proofs.Verifies.{length-lms_signature}
@@ -22,7 +16,7 @@ use Rattle.lms_core.specs.declared.private_key.PrivateKey.{PrivateKey}
 use Rattle.hss_core.specs.Hss.{Verifies, one_level_public, one_level_signature}
 use Rattle.hss_core.proofs.Verifies.{signature_verifies}
 use Rattle.disk_core.specs.declared.disk.Disk.{Ghosts as Disks}
-use Rattle.journal_core.specs.Folds.{state_after, taken_from}
+use Rattle.journal_core.specs.Folds.{state_after}
 use Rattle.journal_core.specs.Format.{AreRecordsAt, end_offset}
 use Rattle.journal_core.proofs.Copies.{first_are_bytes}
 use Rattle.journal_core.proofs.Standing.{found_stands}
@@ -37,24 +31,20 @@ use Rattle.policy_core.specs.Counting.{counted, is_in_set, is_named}
 use Rattle.policy_core.specs.declared.cosigners.Known.{Known}
 use Rattle.policy_core.specs.declared.store.Store.{Store}
 use Rattle.policy_core.proofs.Sets.{signed_counts}
-use Rattle.cosigner_core.specs.Folds.{CosignerState, after_step, begun_cosigner, cosigner_fold}
-use Rattle.cosigner_core.specs.Folds.{cosigner_of, key_count, new_cosigner, next_state}
-use Rattle.cosigner_core.specs.Folds.{progress_of, with_progress}
-use Rattle.cosigner_core.specs.Progress.{is_allowed, with_step}
-use Rattle.cosigner_core.specs.Records.{cosigner_in, sign_record, step_in}
-use Rattle.cosigner_core.specs.Refusals.{cosign_refused, earlier, journal_refusal}
+use Rattle.cosigner_core.specs.Folds.{CosignerState, cosigner_fold}
+use Rattle.cosigner_core.specs.Folds.{cosigner_of, key_count}
+use Rattle.cosigner_core.specs.Records.{cosigner_in, sign_record}
+use Rattle.cosigner_core.specs.Refusals.{cosign_refused, journal_refusal}
 use Rattle.cosigner_core.specs.Refusals.{subtree_refusal}
 use Rattle.cosigner_core.specs.Requests.{SubtreeParts}
 use Rattle.cosigner_core.specs.Signatures.{signature_by}
-use Rattle.cosigner_core.specs.declared.error.CosignError.{CosignError}
-use Rattle.cosigner_core.specs.declared.error.CosignError.TheVariants.{BadProof, BadSubtree}
-use Rattle.cosigner_core.specs.declared.error.CosignError.TheVariants.{Beyond, Exhausted}
-use Rattle.cosigner_core.specs.declared.error.CosignError.TheVariants.{WrongLog}
 use Rattle.cosigner_core.specs.declared.settings.CosignerSettings.{CosignerSettings}
-use Rattle.cosigner_core.proofs.FirstRecords.{cosigner_takes, then_some}
+use Rattle.cosigner_core.proofs.FirstRecords.{cosigner_takes}
 use Rattle.cosigner_core.proofs.Lengths.{signature_short}
 use Rattle.cosigner_core.proofs.Forms.{subtree_only}
-use Rattle.cosigner_core.proofs.Tagged.{some_value, when_some}
+use Rattle.cosigner_core.proofs.Names.{Began, began_first}
+use Rattle.cosigner_core.proofs.Allowed.{key_left, none_first}
+use Rattle.cosigner_core.proofs.After.{no_cosigner}
 use Rattle.party_history.specs.Rules.{StartsWith}
 use Rattle.party_history.specs.declared.start.PartyStart.{PartyStart}
 use Rattle.party_history.specs.declared.start.PartyStart.TheVariants.{Cosigner}
@@ -73,62 +63,19 @@ use Rattle.mtc_laws.proofs.Printed.{did_so, heard_so}
 use Rattle.mtc_laws.proofs.Recovered.{crash_state_list, each_held, held_prefix, modelled_then}
 use Rattle.mtc_laws.specs.CountLaws.{PrintedSignaturesCount, signature_of}
 
--- ---- a cosigner keeps its key
-
-same_key : (h : HashFunction) (k : ℕ) (s t : CosignerState) (bodies : List (List ℕ))
-    → taken_from (cosigner_fold h) k s bodies ≡ Ok t → t.key.key ≡ s.key.key
-unfolding taken_from next_state
-same_key h k s t [] is = ap (λ (u : CosignerState). u.key.key) (sym (ok_is ℕ s t is))
-same_key h k s t (body ∷ bodies) is =
-    let step = bind_ok (some_or k (next_state h s body))
-    (λ (u : CosignerState). taken_from (cosigner_fold h) (k + 1) u bodies) t is in
-    let said = then_some (after_step h s) (step_in body) step.0
-    (some_or_ok k (next_state h s body) step.0 step.1) in
-    let next : CosignerState = with_progress s (with_step (progress_of s) said.0) in
-    let made = when_some (is_allowed h (key_count s) (progress_of s) said.0) (Some next) step.0
-    said.2 in
-    same_key h (k + 1) step.0 t bodies step.2
-    ∙ ap (λ (u : CosignerState). u.key.key) (sym (some_value next step.0 made.1))
+-- ---- a cosigner keeps its key, and the next one-time key is one of its keys
 
 key_of_first : (h : HashFunction) (settings : CosignerSettings) (first secret : List ℕ)
     (bodies : List (List ℕ)) (s : CosignerState) → cosigner_in first ≡ Some (settings, secret)
     → cosigner_of h (first ∷ bodies) ≡ Ok s
     → s.key.key ≡ private_key settings.lms settings.ots secret
-unfolding state_after begun_cosigner
 key_of_first h settings first secret bodies s begins is =
-    let new : CosignerState = new_cosigner h settings secret in
-    let taken : taken_from (cosigner_fold h) 1 new bodies ≡ Ok s =
-    sym (ap (λ (o : Option (CosignerSettings × List ℕ)). some_or 0 (option_map
-    (λ (x : CosignerSettings × List ℕ). new_cosigner h x.0 x.1) o)
-    >>= λ (u : CosignerState). taken_from (cosigner_fold h) 1 u bodies) begins) ∙ is in
-    same_key h 1 new s bodies taken
-
--- ---- the next key is one of its keys
-
-keys_left : (a b c d e : Bool) (one two three four five : CosignError)
-    (second : Option CosignError) → earlier (if a then Some one else (if b then Some two
-    else (if c then Some three else (if d then Some four
-    else (if not e then Some five else None))))) second ≡ None → e ≡ true
-keys_left true b c d e one two three four five second is =
-    let wrong : Some one ≡ None = is in absurd cc
-keys_left false true c d e one two three four five second is =
-    let wrong : Some two ≡ None = is in absurd cc
-keys_left false false true d e one two three four five second is =
-    let wrong : Some three ≡ None = is in absurd cc
-keys_left false false false true e one two three four five second is =
-    let wrong : Some four ≡ None = is in absurd cc
-keys_left false false false false false one two three four five second is =
-    let wrong : Some five ≡ None = is in absurd cc
-keys_left false false false false true one two three four five second is = refl
+    ap (λ (x : Began). x.2) (began_first h settings first secret bodies s begins is)
 
 next_below : (h : HashFunction) (s : CosignerState) (broken : Bool) (end : ℕ) (r : SubtreeParts)
     → cosign_refused h s broken end r ≡ None → s.key.next < key_count s
-unfolding subtree_refusal
 next_below h s broken end r is =
-    ltb-true s.key.next (key_count s) (keys_left (not (bytes_eq r.log s.log))
-    (not (is_subtree r.start r.end)) (nat_lt s.held.size r.end)
-    (not (has_subtree h s.held r.start r.end r.hash r.proof)) (nat_lt s.key.next (key_count s))
-    WrongLog BadSubtree (Beyond s.held.size) BadProof Exhausted
+    key_left h s r (none_first (subtree_refusal h s r)
     (journal_refusal broken end (sign_record s.key.next r.start r.end r.hash r.proof)) is)
 
 -- ---- what it signs counts
@@ -193,9 +140,6 @@ counts_so h settings public first bodies s r starts bytes made few store index k
 first_or : List (List ℕ) → List ℕ
 first_or [] = []
 first_or (x ∷ xs) = x
-
-no_cosigner : (k : ℕ) (s : CosignerState) → Err k ≡ Ok s → ⊥
-no_cosigner k s is = cc
 
 -- what has a state begins with the record with which the records begin that it is a prefix of
 begins_so : (h : HashFunction) (list : List (List ℕ)) (body first : List ℕ)
