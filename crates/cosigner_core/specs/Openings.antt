@@ -33,7 +33,7 @@ CosignerCountsNoOther g old new why = CountsNoOther g old new why
 -- was only read, without a fault. If the model knows its bytes, they are read as these records and
 -- this cosigner, which the records make; the bytes and each crash state of the disk represent the
 -- records; and the journal ends after them.
-pub record IsOpenedCosigner {D : Type 0} (g : Ghosts D) (h : HashFunction) (disk : D)
+pub record CosignerIsOpened {D : Type 0} (g : Ghosts D) (h : HashFunction) (disk : D)
     (it : Owner D CosignerState) : Type 0 where
   pub sound : it.broken ≡ false
   pub only_reads : OnlyReads g disk it.disk
@@ -45,3 +45,10 @@ pub record IsOpenedCosigner {D : Type 0} (g : Ghosts D) (h : HashFunction) (disk
   pub stands : IfSome (g.contents it.disk) (λ b. IfSome it.records (Represents b))
   pub all : IfSome it.records (AllRepresent g it.disk)
   pub end : IfSome it.records (λ list. it.end ≡ end_offset list)
+
+-- The disk was only read. The refusal has its cause, and no other failure was counted.
+pub record CosignerIsNotOpened {D : Type 0} (g : Ghosts D) (h : HashFunction) (old new : D)
+    (why : StateOpenError) : Type 0 where
+  pub only_reads : OnlyReads g old new
+  pub cause : HasCosignerCause g h old new why
+  pub fine : CosignerCountsNoOther g old new why

@@ -1,21 +1,18 @@
 //! A cosigner that is open for requests.
 
-ghost use Rattle.std.specs.Prelude.{◌≡◌, ◌<◌, ◌^◌, ◌++◌, [], ◌∷◌, length, false, None, option_map};
+ghost use Rattle.std.specs.Prelude.{◌≡◌, ◌<◌, ◌^◌, ◌++◌, [], ◌∷◌, length, None};
 ghost use Rattle.std.specs.Prelude.{Ok, IfSome, IfOk, IfErr, OnOk, OnErr};
 ghost use Rattle.std.proofs.Props.{props};
 ghost use Rattle.std.specs.Io.KnownBytes.{Appends};
 ghost use Rattle.mtc_io.specs.Streams.{AppendsPrefix};
 ghost use Rattle.disk_core.specs.Times.{OnlyReads};
 ghost use Rattle.journal_core.specs.Copies.{HasCopyCause};
-ghost use Rattle.journal_core.specs.Format.{Represents, end_offset, records_of};
-ghost use Rattle.journal_core.specs.Words.{AllRepresent};
 ghost use Rattle.hss_core.specs.Hss.{Verifies, one_level_public};
 ghost use Rattle.mtc_proof.specs.Inputs.{signed_text};
 ghost use Rattle.cosigner_core.specs.Exports.{export_text};
 ghost use Rattle.cosigner_core.specs.Folds.{cosigner_of, having_signed, holding};
 ghost use Rattle.cosigner_core.specs.Keyless.{keyless_owner};
-ghost use Rattle.cosigner_core.specs.Openings.{CosignerCountsNoOther, HasCosignerCause};
-ghost use Rattle.cosigner_core.specs.Openings.{cosigner_read};
+ghost use Rattle.cosigner_core.specs.Openings.{CosignerIsNotOpened, CosignerIsOpened};
 ghost use Rattle.cosigner_core.specs.Records.{advance_record, sign_record};
 ghost use Rattle.cosigner_core.specs.Refusals.{CosignKeepsTo, advance_refused, cosign_refused};
 ghost use Rattle.cosigner_core.specs.Signatures.{signature_by};
@@ -62,26 +59,10 @@ impl<H: TreeHash, D: Disk> Cosigner<H, D> {
     /// [`Opening::next`] refuse; `BadRecord` at the first record that breaks the rules, or where
     /// there is none; `Open(Memory)` for the key. The disk is returned, and was only read.
     pub fn open(alloc: Global, disk: D) -> Result<Cosigner<H, D>, Refused<D, CosignerOpenError>>
-        ensures sound { IfOk result (λ it. cosigner_broken it ≡ false) }
-        ensures only_reads { IfOk result (λ it. OnlyReads D.Disk disk (cosigner_disk it)) }
-        ensures fine { IfOk result (λ it. D.faults (cosigner_disk it) ≡ D.faults disk) }
-        ensures list { IfOk result (λ it. cosigner_records it
-            ≡ option_map records_of (D.contents (cosigner_disk it))) }
-        ensures found { IfOk result
-            (λ it. IfSome (D.contents disk) (λ b. IfSome (cosigner_records it)
-            (λ list. cosigner_read H.hash b
-            ≡ Ok (record { records = list; state = cosigner_state it })))) }
-        ensures valid { IfOk result (λ it. IfSome (cosigner_records it)
-            (λ list. cosigner_of H.hash list ≡ Ok (cosigner_state it))) }
-        ensures stands { IfOk result (λ it. IfSome (D.contents (cosigner_disk it))
-            (λ b. IfSome (cosigner_records it) (Represents b))) }
-        ensures all { IfOk result
-            (λ it. IfSome (cosigner_records it) (AllRepresent D.Disk (cosigner_disk it))) }
-        ensures end { IfOk result (λ it. IfSome (cosigner_records it)
-            (λ list. cosigner_end it ≡ end_offset list)) }
-        ensures err { IfErr result (λ e. OnlyReads D.Disk disk e.disk) }
-        ensures cause { IfErr result (λ e. HasCosignerCause D.Disk H.hash disk e.disk e.why) }
-        ensures fine_err { IfErr result (λ e. CosignerCountsNoOther D.Disk disk e.disk e.why) }
+        ensures opened { IfOk result (λ it. CosignerIsOpened D.Disk H.hash disk
+            (cosigner_owner it)) }
+        ensures refused { IfErr result
+            (λ e. CosignerIsNotOpened D.Disk H.hash disk e.disk e.why) }
     {
         match KeylessCosigner::<H, D>::open(alloc, disk) {
             Ok(keyless) => match keyless.key(alloc) {

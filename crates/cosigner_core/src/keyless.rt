@@ -14,8 +14,7 @@ ghost use Rattle.mtc_proof.specs.Inputs.{signed_text};
 ghost use Rattle.cosigner_core.specs.DurableRecords.{IsDurableAs, IsDurableAs-prop};
 ghost use Rattle.cosigner_core.specs.Exports.{export_text};
 ghost use Rattle.cosigner_core.specs.Folds.{cosigner_of, having_signed, holding, key_count};
-ghost use Rattle.cosigner_core.specs.Openings.{CosignerCountsNoOther, HasCosignerCause};
-ghost use Rattle.cosigner_core.specs.Openings.{IsOpenedCosigner};
+ghost use Rattle.cosigner_core.specs.Openings.{CosignerIsNotOpened, CosignerIsOpened};
 ghost use Rattle.cosigner_core.specs.Records.{advance_record, sign_record};
 ghost use Rattle.cosigner_core.specs.Refusals.{CosignKeepsTo, advance_refused, cosign_refused};
 ghost use Rattle.cosigner_core.specs.Views.{advance_parts, subtree_parts};
@@ -70,11 +69,10 @@ impl<H: TreeHash, D: Disk> KeylessCosigner<H, D> {
         alloc: Global,
         disk: D,
     ) -> Result<KeylessCosigner<H, D>, Refused<D, CosignerOpenError>>
-        ensures opened { IfOk result (λ it. IsOpenedCosigner D.Disk H.hash disk
+        ensures opened { IfOk result (λ it. CosignerIsOpened D.Disk H.hash disk
             (keyless_owner it)) }
-        ensures err { IfErr result (λ e. OnlyReads D.Disk disk e.disk) }
-        ensures cause { IfErr result (λ e. HasCosignerCause D.Disk H.hash disk e.disk e.why) }
-        ensures fine_err { IfErr result (λ e. CosignerCountsNoOther D.Disk disk e.disk e.why) }
+        ensures refused { IfErr result
+            (λ e. CosignerIsNotOpened D.Disk H.hash disk e.disk e.why) }
     {
         match open_state::<Machine<H>, D>(alloc, disk, ()) {
             Ok((journal, machine)) => Ok(KeylessCosigner { journal, machine }),

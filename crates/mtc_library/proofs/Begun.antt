@@ -1,5 +1,5 @@
 -- What is opened over a journal that was just started is the new cosigner, or the new log.
-use Rattle.std.proofs.Common.{ℕ, ◌≤◌, le_refl, ◌≡◌, ◌∙◌, ap, subst, false, List, [], ◌∷◌}
+use Rattle.std.proofs.Common.{ℕ, ◌≤◌, le_refl, ◌≡◌, ◌∙◌, ap, subst, List, [], ◌∷◌}
 use Rattle.std.proofs.Common.{Option, Some, None, Ok}
 use Rattle.std.specs.Prelude.{option_map, IfSome}
 use Rattle.byte_formats.specs.Types.{HashFunction, Text}
@@ -13,10 +13,11 @@ use Rattle.journal_core.specs.Words.{AllRepresent, disk_of, records}
 use Rattle.journal_core.specs.declared.journal.Journal.{Journal}
 use Rattle.cosigner_core.specs.Folds.{CosignerState, cosigner_of, new_cosigner}
 use Rattle.cosigner_core.specs.Records.{cosigner_record}
-use Rattle.cosigner_core.specs.Words.{cosigner_broken, cosigner_disk, cosigner_records}
+use Rattle.cosigner_core.specs.Words.{cosigner_disk, cosigner_records, cosigner_owner}
 use Rattle.cosigner_core.specs.Words.{cosigner_state}
 use Rattle.cosigner_core.specs.declared.cosigner.Cosigner.{Cosigner}
 use Rattle.cosigner_core.specs.declared.settings.CosignerSettings.{CosignerSettings}
+use Rattle.cosigner_core.specs.Openings.{CosignerIsOpened}
 use Rattle.issuance_log.specs.Folds.{LogState, log_of, new_log}
 use Rattle.issuance_log.specs.Opened.{LogIsOpened}
 use Rattle.issuance_log.specs.Records.{settings_record}
@@ -85,25 +86,20 @@ pub new_cosigner_is : {H D : Type 0} {hashes : Hashes H} {g : Ghosts D}
     → HasStarted (cosigner_record settings secret) disk journal
     → cosigner_of hashes.hash (cosigner_record settings secret ∷ [])
     ≡ Ok (new_cosigner hashes.hash settings secret)
-    → cosigner_broken it ≡ false
-    → OnlyReads g (disk_of journal) (cosigner_disk it)
-    → g.faults (cosigner_disk it) ≡ g.faults (disk_of journal)
-    → cosigner_records it ≡ option_map records_of (g.contents (cosigner_disk it))
-    → IfSome (cosigner_records it) (λ list. cosigner_of hashes.hash list ≡ Ok (cosigner_state it))
+    → CosignerIsOpened g hashes.hash (disk_of journal) (cosigner_owner it)
     → IsNewCosigner settings secret disk it
-new_cosigner_is {H} {D} {hashes} {g} settings secret disk journal it started begins sound reads
-    fine list valid =
+new_cosigner_is {H} {D} {hashes} {g} settings secret disk journal it started begins opened =
     let first : Text = cosigner_record settings secret in
     let recorded = list_is first disk (cosigner_disk it) journal (cosigner_records it) started
-    reads list in
+    opened.only_reads opened.list in
     record {
-      begun = stands first disk (cosigner_disk it) journal started reads;
-      fine = fine ∙ started.fine;
-      sound = sound;
+      begun = stands first disk (cosigner_disk it) journal started opened.only_reads;
+      fine = opened.fine ∙ started.fine;
+      sound = opened.sound;
       records = recorded;
       state = state_is hashes.hash first (cosigner_state it)
           (new_cosigner hashes.hash settings secret) (g.contents disk) (cosigner_records it)
-          recorded valid begins;
+          recorded opened.valid begins;
     }
 
 log_is : (h : HashFunction) (first : Text) (shown : List Text → LogState) (made : LogState)

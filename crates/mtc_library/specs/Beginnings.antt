@@ -8,7 +8,7 @@ use Rattle.journal_core.specs.Format.{header, record_bytes}
 use Rattle.journal_core.specs.Starts.{IsNotStarted}
 use Rattle.journal_core.specs.Words.{AllRepresent}
 use Rattle.cosigner_core.specs.Folds.{new_cosigner}
-use Rattle.cosigner_core.specs.Openings.{CosignerCountsNoOther, HasCosignerCause}
+use Rattle.cosigner_core.specs.Openings.{CosignerIsNotOpened}
 use Rattle.cosigner_core.specs.Records.{cosigner_record}
 use Rattle.cosigner_core.specs.declared.settings.CosignerSettings.{CosignerSettings}
 use Rattle.cosigner_core.specs.Words.{cosigner_broken, cosigner_disk, cosigner_records}
@@ -73,9 +73,8 @@ pub record IsBegunUnopened {D : Type 0} (g : Ghosts D) (first : Text) (old new :
 abbrev pub CosignerIsNotBegun : {D : Type 0} → Ghosts D → HashFunction → Text → D → D
     → CosignerBeginError → Type 0
 CosignerIsNotBegun g h first old new (cosigner_begin.Start why) = IsNotStarted g old new why
-CosignerIsNotBegun g h first old new (cosigner_begin.Open why) = IsBegunUnopened g first old new
-    (λ begun. OnlyReads g begun new
-    × (HasCosignerCause g h begun new why × CosignerCountsNoOther g begun new why))
+CosignerIsNotBegun g h first old new (cosigner_begin.Open why) =
+    IsBegunUnopened g first old new (λ begun. CosignerIsNotOpened g h begun new why)
 
 abbrev pub LogIsNotBegun : {D T : Type 0} → Ghosts D → Ghosts T → HashFunction → Text → D → D → T
     → T → LogBeginError → Type 0

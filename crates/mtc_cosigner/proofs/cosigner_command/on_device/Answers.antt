@@ -49,7 +49,8 @@ returns-in-Err-clause-serves g c =
     let disk = c.in-Err.field-0.disk in
     subst (λ (e : Ending). HasWorkedOn d name (cosigner_bytes_say h name says) c.args.disk disk e)
     (sym c.refuse_cosigner.ensures)
-    (refused_says h name says d c.args.disk disk c.in-Err.ensures.err _ c.in-Err.ensures.cause)
+    (refused_says h name says d c.args.disk disk c.in-Err.ensures.refused.only_reads _
+    c.in-Err.ensures.refused.cause)
 
 pub returns-in-Ok-clause-valid : goal.returns-in-Ok-clause-valid
 returns-in-Ok-clause-valid g c =
@@ -74,4 +75,4 @@ returns-in-Ok-clause-valid g c =
     opened.list c.carry_out.ensures.valid)
 
 pub returns-in-Err-clause-valid : goal.returns-in-Err-clause-valid
-returns-in-Err-clause-valid g c = inl c.in-Err.ensures.err
+returns-in-Err-clause-valid g c = inl c.in-Err.ensures.refused.only_reads
