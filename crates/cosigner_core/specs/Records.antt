@@ -1,6 +1,6 @@
 -- The records of a cosigner's journal: a tag of one byte, and what it says. Numbers have their
 -- highest byte first.
-use Rattle.std.specs.Prelude.{◌≡◌, ℕ, ◌^◌, ◌<◌, ◌==◌, List, ◌++◌, length, Option, Some, None}
+use Rattle.std.specs.Prelude.{◌≡◌, ℕ, ◌+◌, ◌^◌, ◌<◌, ◌==◌, List, ◌++◌, length, Option, Some, None}
 use Rattle.std.specs.Prelude.{option_map, option_and_then, Result, Ok, Err, if◌then◌else◌}
 use Rattle.std.specs.Int.{w8, w32, w64}
 use Rattle.byte_formats.specs.Types.{Hash, Text}
@@ -32,6 +32,10 @@ unfoldable pub cosigner_record : CosignerSettings → Text → Text
 cosigner_record s secret =
     number w8 0x11 ++ (vector w8 s.id ++ (vector w8 s.log ++ (number w32 (lms_code s.lms)
     ++ (number w32 (typecode s.ots) ++ secret))))
+
+-- how long that is, with these ids and a secret of 48 bytes
+abbrev pub first_length : Text → Text → ℕ
+first_length id log = 59 + length id + length log
 
 -- Advance, with tag 0x12: the size in eight bytes, the root in 32, and the hashes in a vector
 unfoldable pub advance_record : ℕ → Hash → List Hash → Text

@@ -1,6 +1,6 @@
 //! A cosigner that is open for requests.
 
-ghost use Rattle.std.specs.Prelude.{◌≡◌, ◌<◌, ◌^◌, ◌++◌, [], ◌∷◌, length, None};
+ghost use Rattle.std.specs.Prelude.{◌≡◌, ◌<◌, ◌++◌, [], ◌∷◌, None};
 ghost use Rattle.std.specs.Prelude.{Ok, IfSome, IfOk, IfErr, OnOk, OnErr};
 ghost use Rattle.std.proofs.Props.{props};
 ghost use Rattle.std.specs.Io.KnownBytes.{Appends};
@@ -161,7 +161,6 @@ impl<H: TreeHash, D: Disk> Cosigner<H, D> {
             (signed_text (cosigner_state self.old).id
             (cosigner_state self.old).log request.now.start
             request.now.end request.now.hash) out.new) }
-        ensures short { OnOk result (length out.new < 2 ^ 14) }
         ensures nothing { OnErr result (out.new ≡ []) }
     {
         out.clear();

@@ -1,25 +1,25 @@
 //! Writing what others may know of a cosigner: all but the first record of its journal, which holds
 //! the secret.
 
-ghost use Rattle.std.specs.Prelude.{◌≡◌, ◌≤◌, ◌+◌, length, OnOk};
+ghost use Rattle.std.specs.Prelude.{◌≡◌, ◌≤◌, ◌+◌, OnOk};
 ghost use Rattle.std.specs.Io.KnownBytes.{Appends};
 ghost use Rattle.mtc_io.specs.Counts.{HasCause};
 ghost use Rattle.mtc_io.specs.Streams.{AppendsPrefix};
 ghost use Rattle.hss_core.specs.Hss.{one_level_public};
 ghost use Rattle.cosigner_core.specs.Exports.{prefix_text};
+ghost use Rattle.cosigner_core.specs.Records.{first_length};
 
 use crate::contents::Contents;
 use hss_core::PUBLIC_KEY_LEN;
 use mtc_io::{Failed, Sink, write_pieces};
 
-// The length of the first record without the ids in it: the tag, the lengths of the ids, the two
-// typecodes and the secret.
+// The tag of the first record, the lengths of the ids, the two typecodes and the secret.
 const FIRST_FIELDS: u64 = 59;
 
 /// The length of the first record, as the settings determine it. The call doesn't read the disk, so
 /// whatever that gives, the secret in that record isn't copied.
 pub(crate) fn first_size(contents: &Contents) -> u64
-    ensures value { result ≡ 59 + length contents.now.id + length contents.now.log }
+    ensures value { result ≡ first_length contents.now.id contents.now.log }
     ensures few { result ≤ 131072 }
 {
     let ids = contents.id().as_bytes().len() + contents.log().as_bytes().len();

@@ -19,7 +19,6 @@ use Rattle.policy_core.specs.Stores.{IsValid}
 use Rattle.policy_core.specs.Acceptance.{accepted_by}
 use Rattle.policy_core.specs.declared.answer.By.{By}
 use Rattle.policy_core.specs.declared.answer.By.TheVariants.{Cosigners}
-use Rattle.policy_core.specs.declared.cosigners.Known.{Known}
 use Rattle.policy_core.proofs.Sets.{signed_as_encoded}
 use Rattle.authority_core.specs.Acceptance.{IsSetUpFor}
 use Rattle.authority_core.specs.Certificates.{proof_for}
@@ -66,7 +65,7 @@ three_of a b c = under 2 a ∷ under 3 b ∷ under 4 c ∷ []
 abbrev text_of_three : Text → Text → Text → Text
 text_of_three a b c = flat_map signature_text (three_of a b c)
 
-is_signature : (last : ℕ) (signature : Text) → length signature < 2 ^ 14
+is_signature : (last : ℕ) (signature : Text) → length signature ≤ 17748
     → IsMtcSignature (under last signature)
 is_signature last signature short =
     record { some = omega arith; cosigner = omega arith; signature = omega (arith, short) }
@@ -115,7 +114,7 @@ three_bits x y z first second third = rw (first, second, third) refl
 
 -- all three count
 all_count : (number : ℕ) (p : ProofParts) (hash : Hash) (a b c : Text)
-    → length a < 2 ^ 14 → length b < 2 ^ 14 → length c < 2 ^ 14
+    → length a ≤ 17748 → length b ≤ 17748 → length c ≤ 17748
     → p.signatures ≡ text_of_three a b c
     → SignsAs number 2 p hash a → SignsAs number 3 p hash b → SignsAs number 4 p hash c
     → counted (drill_store number) p hash ≡ 7
@@ -179,7 +178,7 @@ pub record SignsUnder (number size : ℕ) (hash : Hash) (last : ℕ) (part : Sig
   pub cosigner : part.cosigner ≡ id_of last
   pub verifies : Verifies (drill_public last number)
       (signed_text (id_of last) drill_log_id 0 size hash) part.signature
-  pub short : length part.signature < 2 ^ 14
+  pub short : length part.signature ≤ 17748
 
 pub signs_under : (number last count size : ℕ) (hash : Hash) (held : Checkpoint)
     (s : CosignerState) (part : SigParts) → IsCosignerWithin number last count held s

@@ -1,5 +1,5 @@
 -- What calls that add a record make of a cosigner.
-use Rattle.std.specs.Prelude.{◌≡◌, ◌<◌, ◌^◌, true, false, List, [], ◌∷◌, ◌++◌, length, IfSome, Ok}
+use Rattle.std.specs.Prelude.{◌≡◌, ◌<◌, ◌^◌, true, false, List, [], ◌∷◌, ◌++◌, IfSome, Ok}
 use Rattle.std.specs.Prelude.{Bool, Some, option_map}
 use Rattle.byte_formats.specs.Types.{Text, HashFunction}
 use Rattle.disk_core.specs.declared.disk.Disk.{Ghosts}
@@ -31,7 +31,6 @@ abbrev pub IsSignature : CosignerState → CosignerCall → Text → Type 0
 IsSignature s (Advance r) out = Unit {0}
 IsSignature s (Cosign r) out =
     Verifies (one_level_public s.key.key) (signed_text s.id s.log r.start r.end r.hash) out
-    × (length out < 2 ^ 14)
 
 -- The number of the one-time key of a Sign fits in four bytes.
 abbrev pub IsNumbered : CosignerState → CosignerCall → Type 0

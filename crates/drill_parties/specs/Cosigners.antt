@@ -1,5 +1,5 @@
 -- What calls make of the cosigners of a drill, one after the other.
-use Rattle.std.specs.Prelude.{◌≡◌, ◌<◌, ◌≤◌, ◌+◌, ◌^◌, ◌++◌, [], ◌∷◌, ℕ, List, length}
+use Rattle.std.specs.Prelude.{◌≡◌, ◌≤◌, ◌+◌, ◌++◌, [], ◌∷◌, ℕ, List, length}
 use Rattle.std.specs.List.{flat_map, sum_by}
 use Rattle.byte_formats.specs.Types.{Hash, HashFunction, Text}
 use Rattle.hss_core.specs.Hss.{Verifies, one_level_public}
@@ -33,7 +33,7 @@ pub record IsSignatureBy (size : ℕ) (hash : Hash) (s : CosignerState) (part : 
   pub cosigner : part.cosigner ≡ s.id
   pub verifies : Verifies (one_level_public s.key.key) (signed_text s.id s.log 0 size hash)
       part.signature
-  pub short : length part.signature < 2 ^ 14
+  pub short : length part.signature ≤ 17748
 
 -- The records of a cosigner that has signed these entries: those from before, more after them, and
 -- among these the Sign.

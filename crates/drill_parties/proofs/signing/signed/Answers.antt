@@ -1,4 +1,4 @@
-use Rattle.std.proofs.Common.{◌<◌, ◌^◌, ◌∙◌, ◌++◌, List, arith, refl, ap}
+use Rattle.std.proofs.Common.{◌<◌, ◌≤◌, ◌^◌, ◌∙◌, ◌++◌, List, arith, length, refl, ap, subst}
 use Rattle.byte_formats.specs.Types.{Text}
 use Rattle.mtc_proof.specs.Proofs.{signature_text}
 use Rattle.drill_parties.specs.CosignerViews.{cosigner_shown, records_shown}
@@ -8,7 +8,7 @@ use Rattle.drill_parties.proofs.signing.signed.Goals as goal
 pub put_signature-requires-clause-signature_short :
     goal.put_signature-requires-clause-signature_short
 put_signature-requires-clause-signature_short g c =
-    let short = c.in_ok-party.ensures.state.signed.1 in omega (arith, short)
+    let short = c.as_slice.ensures.short in omega (arith, short)
 
 pub returns-clause-state : goal.returns-clause-state
 returns-clause-state g c =
@@ -36,7 +36,12 @@ returns-clause-put g c =
     let out : Text = c.cosign.new.out in
     record {
       part = record { cosigner = (cosigner_shown c.args.party).id; signature = out };
-      signed = record { cosigner = refl; verifies = has.signed.0; short = has.signed.1 };
+      signed = record {
+        cosigner = refl;
+        verifies = has.signed;
+        short = subst (λ (t : Text). length t ≤ 17748) c.as_slice.ensures.value
+            c.as_slice.ensures.short;
+      };
       put = c.in_ok-put_signature.ensures.ok
           ∙ ap (λ (t : Text). c.args.signatures.now
           ++ signature_text (record { cosigner = c.as_bytes.result.now; signature = t }))
