@@ -7,5 +7,6 @@ pub mod Store
 pub mod Writing
 pub mod Comparing
 pub mod Causes
+pub mod Calls
 pub mod Laws
 pub mod Reasons

@@ -79,6 +79,8 @@ impl<H: TreeHash, T: Disk + Drop> Drop for Tiles<H, T> {
 }
 
 impl<H: TreeHash, T: Disk> Tiles<H, T> {
+    ghost use Rattle.tile_store.specs.Calls.{HasLeafMore, HasSameLeaves, HasSameTiles, OnlyStores};
+    ghost use Rattle.tile_store.specs.Calls.{TilesAreAdopted, TilesAreNotAdopted, TilesAreStored};
     ghost use Rattle.tile_store.specs.Causes.{HasCauseOf, IsNewTile, StandsIn};
     ghost use Rattle.tile_store.specs.Contents.{HoldsTiles, IsTile};
     ghost use Rattle.tile_store.specs.Frames.{IsHeld};
@@ -114,13 +116,8 @@ impl<H: TreeHash, T: Disk> Tiles<H, T> {
     /// Reserves capacity for at least `count` more leaves. It is refused only where fewer are
     /// spare. The store stays as it was, whether the call is refused or not.
     pub fn reserve(&mut self, count: usize) -> Result<(), Memory>
-        ensures list { tiles_leaves self.new ≡ tiles_leaves self.old }
-        ensures count { tiles_count self.new ≡ tiles_count self.old }
-        ensures filled { tiles_filled self.new ≡ tiles_filled self.old }
-        ensures disk { tiles_disk self.new ≡ tiles_disk self.old }
-        ensures adopted { tiles_adopted self.new ≡ tiles_adopted self.old }
-        ensures stored { tiles_stored self.new ≡ tiles_stored self.old }
-        ensures pool { tiles_pool self.new ≡ tiles_pool self.old }
+        ensures leaves { HasSameLeaves (tiles_filled self.old) self.old self.new }
+        ensures same { HasSameTiles self.old self.new }
         ensures spare { OnOk result (count ≤ tiles_spare self.new) }
         ensures kept { tiles_spare self.old ≤ tiles_spare self.new }
         ensures full { OnErr result (tiles_spare self.old < count) }
@@ -132,18 +129,10 @@ impl<H: TreeHash, T: Disk> Tiles<H, T> {
     /// leaves all as it was then.
     pub fn push(&mut self, leaf: &[u8; 32]) -> Result<(), Memory>
         requires { tiles_count self.old + 1 < 2 ^ 32 }
-        ensures ok { OnOk result (tiles_leaves self.new
-            ≡ option_map (λ list. list ++ leaf.now ∷ []) (tiles_leaves self.old)) }
-        ensures count { OnOk result (tiles_count self.new ≡ tiles_count self.old + 1) }
-        ensures err { OnErr result (tiles_leaves self.new ≡ tiles_leaves self.old) }
-        ensures count_err { OnErr result (tiles_count self.new ≡ tiles_count self.old) }
-        ensures filled { OnOk result (tiles_filled self.new
-            ≡ 2 * (tiles_filled self.old / 2) + 1) }
-        ensures filled_err { OnErr result (tiles_filled self.new ≡ tiles_filled self.old) }
-        ensures disk { tiles_disk self.new ≡ tiles_disk self.old }
-        ensures adopted { tiles_adopted self.new ≡ tiles_adopted self.old }
-        ensures stored { tiles_stored self.new ≡ tiles_stored self.old }
-        ensures pool { tiles_pool self.new ≡ tiles_pool self.old }
+        ensures pushed { OnOk result (HasLeafMore leaf.now self.old self.new) }
+        ensures leaves_err { OnErr result
+            (HasSameLeaves (tiles_filled self.old) self.old self.new) }
+        ensures same { HasSameTiles self.old self.new }
         ensures spare { tiles_spare self.old ≤ tiles_spare self.new + 1 }
         ensures full { OnErr result (tiles_spare self.old ≡ 0) }
     {
@@ -255,22 +244,10 @@ impl<H: TreeHash, T: Disk> Tiles<H, T> {
     /// and takes no memory.
     pub fn store(&mut self, size: u64) -> Result<(), Failed>
         requires { size ≤ tiles_count self.old }
-        ensures list { tiles_leaves self.new ≡ tiles_leaves self.old }
-        ensures count { tiles_count self.new ≡ tiles_count self.old }
-        ensures filled { tiles_filled self.new ≡ tiles_filled_to size self.old }
-        ensures spare { tiles_spare self.new ≡ tiles_spare self.old }
-        ensures adopted { tiles_adopted self.new ≡ tiles_adopted self.old }
-        ensures stored { OnOk result (tiles_stored self.new ≡ max size (tiles_stored self.old)) }
+        ensures leaves { HasSameLeaves (tiles_filled_to size self.old) self.old self.new }
+        ensures only { OnlyStores size self.old self.new }
+        ensures stored { OnOk result (TilesAreStored size self.old self.new) }
         ensures stored_err { OnErr result (tiles_stored self.new ≡ tiles_stored self.old) }
-        ensures pool { tiles_pool self.new ≡ tiles_pool self.old }
-        ensures known { OnOk result (T.known (tiles_disk self.new)
-            ≡ max (tiles_end size) (T.known (tiles_disk self.old))) }
-        ensures reach { T.known (tiles_disk self.new)
-            ≤ max (tiles_end size) (T.known (tiles_disk self.old)) }
-        ensures holds { OnOk result (IfSome (tiles_leaves self.old) (λ leaves. (c : Text)
-            → T.may_leave (tiles_disk self.new) c → HoldsTiles H.hash leaves size c)) }
-        ensures any_time { LeavesOnly T.Disk (tiles_disk self.old) (tiles_disk self.new)
-            (IsCrashStateAfter T.Disk (tiles_disk self.old) (tiles_end (tiles_stored self.old))) }
         ensures cause { HasCause (T.faults (tiles_disk self.old)) (T.faults (tiles_disk self.new))
             result }
     {
@@ -282,21 +259,13 @@ impl<H: TreeHash, T: Disk> Tiles<H, T> {
     // Makes the nodes of the tiles that are to be stored, and writes these.
     fn write(&mut self, size: u64) -> Result<(), Failed>
         requires { size ≤ tiles_count self.old }
-        ensures list { tiles_leaves self.new ≡ tiles_leaves self.old }
-        ensures count { tiles_count self.new ≡ tiles_count self.old }
-        ensures filled { tiles_filled self.new ≡ tiles_filled_to size self.old }
-        ensures spare { tiles_spare self.new ≡ tiles_spare self.old }
-        ensures adopted { tiles_adopted self.new ≡ tiles_adopted self.old }
+        ensures leaves { HasSameLeaves (tiles_filled_to size self.old) self.old self.new }
+        ensures only { OnlyStores size self.old self.new }
         ensures stored { tiles_stored self.new ≡ tiles_stored self.old }
-        ensures pool { tiles_pool self.new ≡ tiles_pool self.old }
         ensures known { OnOk result (T.known (tiles_disk self.new)
             ≡ max (tiles_end size) (T.known (tiles_disk self.old))) }
-        ensures reach { T.known (tiles_disk self.new)
-            ≤ max (tiles_end size) (T.known (tiles_disk self.old)) }
         ensures holds { OnOk result (IfSome (tiles_leaves self.old) (λ leaves. (c : Text)
             → T.may_leave (tiles_disk self.new) c → HoldsTiles H.hash leaves size c)) }
-        ensures any_time { LeavesOnly T.Disk (tiles_disk self.old) (tiles_disk self.new)
-            (IsCrashStateAfter T.Disk (tiles_disk self.old) (tiles_end (tiles_stored self.old))) }
         ensures cause { HasCause (T.faults (tiles_disk self.old)) (T.faults (tiles_disk self.new))
             result }
     {
@@ -317,23 +286,11 @@ impl<H: TreeHash, T: Disk> Tiles<H, T> {
     pub fn adopt(&mut self, size: u64) -> Result<(), TileError>
         requires multiple { size % 256 ≡ 0 }
         requires within { size ≤ tiles_count self.old }
-        ensures list { tiles_leaves self.new ≡ tiles_leaves self.old }
-        ensures count { tiles_count self.new ≡ tiles_count self.old }
-        ensures filled { tiles_filled self.new ≡ tiles_filled_to size self.old }
+        ensures leaves { HasSameLeaves (tiles_filled_to size self.old) self.old self.new }
         ensures only_reads { OnlyReads T.Disk (tiles_disk self.old) (tiles_disk self.new) }
-        ensures adopted { OnOk result (tiles_adopted self.new
-            ≡ max size (tiles_adopted self.old)) }
-        ensures stored { OnOk result (tiles_stored self.new
-            ≡ max size (tiles_stored self.old)) }
-        ensures stands { OnOk result (IfSome (T.contents (tiles_disk self.old)) (λ bytes.
-            IfSome (tiles_leaves self.old) (λ leaves. (level place : ℕ)
-            → IsNewTile (tiles_adopted self.old) size level place
-            → StandsIn H.hash leaves bytes level place))) }
         ensures spare { tiles_spare self.new ≡ tiles_spare self.old }
-        ensures stays { OnErr result (TilesStay self.old self.new) }
-        ensures fine { OnOk result (T.faults (tiles_disk self.new)
-            ≡ T.faults (tiles_disk self.old)) }
-        ensures cause { IfErr result (HasCauseOf self.old (tiles_disk self.new) size) }
+        ensures adopted { OnOk result (TilesAreAdopted size self.old self.new) }
+        ensures refused { IfErr result (TilesAreNotAdopted size self.old self.new) }
     {
         if size <= self.adopted {
             return Ok(());

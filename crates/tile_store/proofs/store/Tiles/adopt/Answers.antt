@@ -65,24 +65,28 @@ invariant_of-self g c =
           (tiles.contents b contents);
     }
 
-pub returns-clause-list : goal.returns-clause-list
-returns-clause-list g c =
+pub returns-clause-leaves : goal.returns-clause-leaves
+returns-clause-leaves g c =
     let old = c.args.self.now in
     let tiles = c.compare.new.self in
     let h = g.H.TreeHash.hash in
     let stays = c.compare.ensures.stays in
     let rows = stays.rows.count in
     let size = c.requires.within in
-    contents-each (g.T.Disk.contents old.disk) (g.T.Disk.contents tiles.disk)
-    (leaves_with old.adopted old.rows) (leaves_with c.args.size c.forget.new.self)
-    stays.only_reads.contents
-    (λ b contents.
-    let sound = tiles.contents b contents in
-    let leaves = leaves_with tiles.adopted tiles.rows b in
-    let count = count-rows h (leaves_with tiles.adopted tiles.rows b) tiles.rows
-    sound.stands in
-    list-stays h leaves c.args.size c.forget.new.self b
-    (found-tiles old tiles c.args.size b stays c.in_ok-compare.ensures.stands contents)
-    c.requires.multiple (omega arith) (c.forget.ensures.same h leaves sound.stands)
-    (c.forget.ensures.gone 0)
-    ∙ same-leaves old tiles b stays)
+    record {
+      list = contents-each (g.T.Disk.contents old.disk) (g.T.Disk.contents tiles.disk)
+          (leaves_with old.adopted old.rows) (leaves_with c.args.size c.forget.new.self)
+          stays.only_reads.contents
+          (λ b contents.
+          let sound = tiles.contents b contents in
+          let leaves = leaves_with tiles.adopted tiles.rows b in
+          let count = count-rows h (leaves_with tiles.adopted tiles.rows b) tiles.rows
+          sound.stands in
+          list-stays h leaves c.args.size c.forget.new.self b
+          (found-tiles old tiles c.args.size b stays c.in_ok-compare.ensures.stands contents)
+          c.requires.multiple (omega arith) (c.forget.ensures.same h leaves sound.stands)
+          (c.forget.ensures.gone 0)
+          ∙ same-leaves old tiles b stays);
+      count = c.forget.ensures.count ∙ rows;
+      filled = c.forget.ensures.filled ∙ c.compare.ensures.filled;
+    }

@@ -16,7 +16,7 @@ invariant_of-self g c =
     let written = tiles.written in
     let within = tiles.within in
     let size = c.requires in
-    let count = c.write.ensures.count in
+    let count = c.write.ensures.leaves.count in
     record {
       few = tiles.few;
       whole = tiles.whole;
@@ -47,7 +47,7 @@ invariant_of-self g c =
           → HoldsTiles h leaves c.args.size crash_state) b contents
           (subst (λ o. IfSome o
           (λ leaves. (crash_state : Text) → g.T.Disk.may_leave tiles.disk crash_state
-          → HoldsTiles h leaves c.args.size crash_state)) (sym c.write.ensures.list)
+          → HoldsTiles h leaves c.args.size crash_state)) (sym c.write.ensures.leaves.list)
           c.in_ok-write.ensures.holds) b (g.met.T.Disk.reads_crash_state tiles.disk b contents))
           (tiles.contents b contents);
     }

@@ -64,20 +64,25 @@ invariant_of-self g c =
           tiles.pool before.0 filled.first filled.same (tiles.contents before.0 before.1));
     }
 
-pub returns-clause-list : goal.returns-clause-list
-returns-clause-list g c =
+pub returns-clause-leaves : goal.returns-clause-leaves
+returns-clause-leaves g c =
     let tiles = c.args.self.now in
     let reach = tiles.reach in
-    ap (λ first. option_map (λ b. stored_leaves tiles.adopted b ++ first)
-    (g.T.Disk.contents c.write_tiles.new.disk)) c.fill.ensures.rows.first
-    ∙ contents-both (g.T.Disk.contents tiles.disk) (g.T.Disk.contents c.write_tiles.new.disk)
-    (leaves_with tiles.adopted tiles.rows) c.write_tiles.ensures.following.contents
-    (λ b after contents_old contents_new.
-    let there = g.met.T.Disk.known_there tiles.disk b contents_old in
-    leaves-following tiles.adopted tiles.stored tiles.rows b after tiles.whole tiles.written
-    (omega arith)
-    (subst (λ n. KeepsPrefix (8192 * n) b after) c.count_tiles-from.ensures
-    (c.write_tiles.ensures.prefix b after contents_old contents_new)))
+    record {
+      list = ap (λ first. option_map (λ b. stored_leaves tiles.adopted b ++ first)
+          (g.T.Disk.contents c.write_tiles.new.disk)) c.fill.ensures.rows.first
+          ∙ contents-both (g.T.Disk.contents tiles.disk)
+          (g.T.Disk.contents c.write_tiles.new.disk) (leaves_with tiles.adopted tiles.rows)
+          c.write_tiles.ensures.following.contents
+          (λ b after contents_old contents_new.
+          let there = g.met.T.Disk.known_there tiles.disk b contents_old in
+          leaves-following tiles.adopted tiles.stored tiles.rows b after tiles.whole tiles.written
+          (omega arith)
+          (subst (λ n. KeepsPrefix (8192 * n) b after) c.count_tiles-from.ensures
+          (c.write_tiles.ensures.prefix b after contents_old contents_new)));
+      count = c.fill.ensures.rows.count;
+      filled = c.fill.ensures.filled;
+    }
 
 pub returns-clause-holds : goal.returns-clause-holds
 returns-clause-holds g c =
