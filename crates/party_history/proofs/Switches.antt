@@ -1,7 +1,6 @@
 -- A log that was switched stays so, from the same index on, whatever records follow its own.
 use Rattle.std.proofs.Common.{◌≡◌, ℕ, ◌+◌, ◌==◌, ◌&&◌, true, false, List, [], ◌∷◌, ◌++◌, length}
 use Rattle.std.proofs.Common.{Option, None, Some, Ok, refl, ap, sym, ◌∙◌, subst, append_assoc}
-use Rattle.std.proofs.Common.{if◌then◌else◌}
 use Rattle.std.specs.Prelude.{is_none}
 use Rattle.std.proofs.lemmas.Option.{same_Some}
 use Rattle.byte_formats.specs.Types.{HashFunction, Text}
@@ -97,3 +96,10 @@ module _ (h : HashFunction) where
       let joined = ap (λ (l : List Text). log_of h l) (append_assoc list (body ∷ []) more) in
       taken_switched (length list) s t size more
       (sym (state_more (log_fold h) list (body ∷ more) s is) ∙ (sym joined ∙ whole))
+
+  -- and a log that was switched stays so
+  pub switch_kept : (list more : List Text) (s t : LogState) (index : ℕ) → log_of h list ≡ Ok s
+      → log_of h (list ++ more) ≡ Ok t → s.switched ≡ Some index → t.switched ≡ Some index
+  switch_kept list more s t index is whole was =
+      following_stays (length list) s t more index
+      (sym (state_more (log_fold h) list more s is) ∙ whole) was

@@ -8,7 +8,7 @@ ghost use Rattle.cosigner_core.specs.declared.settings.CosignerSettings.{Cosigne
 ghost use Rattle.journal_core.specs.Format.{Represents};
 ghost use Rattle.file_events.specs.Histories.{ReachesAll, TakesSteps};
 ghost use Rattle.issuance_log.specs.Folds.{LogState, log_of};
-ghost use Rattle.issuance_log.specs.Records.{item_in};
+ghost use Rattle.issuance_log.specs.Records.{item_in, switch_record};
 ghost use Rattle.party_history.specs.Histories.{history_of, moved};
 ghost use Rattle.party_history.specs.Journals.{Continues, HasHistory};
 ghost use Rattle.party_history.specs.Laws.{HasGrown, HasItemAt, IsOfDurable, IsSoundParty};
@@ -106,4 +106,15 @@ pub fn law_logs_keep_their_items()
         → HasItemAt (length s.entries) entry key t }
     ensures kept { (h : HashFunction) (list more : List Text) (s t : LogState)
         → log_of h list ≡ Ok s → log_of h (list ++ more) ≡ Ok t → KeepsItems s t }
+{}
+
+/// A Switch that a log takes makes it one that was switched, at its size. It stays so, at the same
+/// index, whatever records follow.
+pub fn law_logs_stay_switched()
+    ensures added { (h : HashFunction) (list more : List Text) (size : ℕ) (s t : LogState)
+        → log_of h list ≡ Ok s → log_of h ((list ++ switch_record size ∷ []) ++ more) ≡ Ok t
+        → t.switched ≡ Some (length s.entries) }
+    ensures kept { (h : HashFunction) (list more : List Text) (s t : LogState) (index : ℕ)
+        → log_of h list ≡ Ok s → log_of h (list ++ more) ≡ Ok t → s.switched ≡ Some index
+        → t.switched ≡ Some index }
 {}
