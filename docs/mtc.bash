@@ -3,7 +3,7 @@
 _mtc() {
     local word=${COMP_WORDS[COMP_CWORD]} kinds=()
     if [ "$COMP_CWORD" -eq 1 ]; then
-        COMPREPLY=($(compgen -W 'member show verify init-log issue checkpoint entries entries-from consist subtree keygen init-cosigner advance cosign export landmark landmarks light-cert tile trust-landmarks cert audit quarrel drill root held monitor-init monitor' -- "$word"))
+        COMPREPLY=($(compgen -W 'member show verify init-log issue checkpoint entries entries-from consist subtree keygen init-cosigner advance cosign export landmark landmarks light-cert switch tile trust-landmarks cert audit quarrel drill root held monitor-init monitor' -- "$word"))
         return
     fi
     case ${COMP_WORDS[1]} in
@@ -25,6 +25,7 @@ _mtc() {
         landmark) kinds=(J) ;;
         landmarks) kinds=(J) ;;
         light-cert) kinds=(J INDEX) ;;
+        switch) kinds=(J) ;;
         tile) kinds=(J) ;;
         trust-landmarks) kinds=(LIST MAXACTIVE ENTRIES) ;;
         cert) kinds=(J INDEX START END SIGNATURES) ;;
