@@ -18,6 +18,7 @@ use Rattle.mtc_words.specs.declared.name.Name.TheVariants.{Export, Landmark, Lan
 use Rattle.mtc_words.specs.declared.name.Name.TheVariants.{TrustLandmarks, Cert, Audit, Drill}
 use Rattle.mtc_words.specs.declared.name.Name.TheVariants.{Quarrel, Tile, Switch}
 use Rattle.mtc_words.specs.declared.name.Name.TheVariants.{Root, Held, MonitorInit, Monitor}
+use Rattle.mtc_words.specs.declared.name.Name.TheVariants.{Help, Version}
 use Rattle.mtc_words.specs.Commands.{CommandValue, journal_of, is_height, is_width, is_time}
 use Rattle.mtc_words.specs.Commands.{is_active, is_limit, is_any}
 use Rattle.mtc_words.specs.Names.{named_command, word_count, takes_journal, is_tiles_name}
@@ -112,6 +113,8 @@ from_words Held ws c e = reported _ c e
 from_words MonitorInit ws c e =
     following (Has MonitorInit ws) (id_word 1 (word ws 0)) _ c (λ id is. reported _ c is) e
 from_words Monitor ws c e = reported _ c e
+from_words Help ws c e = reported _ c e
+from_words Version ws c e = reported _ c e
 
 -- The first argument passes the test, where the command has a journal.
 abbrev Own : Option Text → Type 0

@@ -14,6 +14,7 @@ use Rattle.mtc_words.specs.declared.command.Command.TheVariants.{Landmark, Landm
 use Rattle.mtc_words.specs.declared.command.Command.TheVariants.{TrustLandmarks, Cert, Audit, Drill}
 use Rattle.mtc_words.specs.declared.command.Command.TheVariants.{Tile, Switch}
 use Rattle.mtc_words.specs.declared.command.Command.TheVariants.{Root, Held, MonitorInit, Monitor}
+use Rattle.mtc_words.specs.declared.command.Command.TheVariants.{Help, Version}
 use Rattle.mtc_words.specs.declared.error.WordError.{WordError}
 
 -- A command with the values of its arguments: a text is the list of its bytes, and so is an id.
@@ -47,6 +48,8 @@ pub data CommandValue : Type 0 where
   held : Text → CommandValue
   monitor_init : Text → CommandValue
   monitor : Text → Text → Text → Text → CommandValue
+  help : CommandValue
+  version : CommandValue
 
 -- The values of a command's arguments.
 abbrev pub command_value : Command → CommandValue
@@ -84,6 +87,8 @@ command_value (Held kept) = held kept.now
 command_value (MonitorInit id) = monitor_init id
 command_value (Monitor state watch request items) =
     monitor state.now watch.now request.now items.now
+command_value Help = help
+command_value Version = version
 
 -- The answer, with the command seen by its values.
 abbrev pub said : Result Command WordError → Result CommandValue WordError
@@ -147,6 +152,8 @@ IsInRange (root items) = Unit {0}
 IsInRange (held kept) = Unit {0}
 IsInRange (monitor_init id) = Unit {0}
 IsInRange (monitor state watch request items) = Unit {0}
+IsInRange help = Unit {0}
+IsInRange version = Unit {0}
 
 -- The journal that a command names.
 abbrev pub journal_of : CommandValue → Option Text
@@ -179,3 +186,5 @@ journal_of (root items) = None
 journal_of (held kept) = None
 journal_of (monitor_init id) = None
 journal_of (monitor state watch request items) = None
+journal_of help = None
+journal_of version = None

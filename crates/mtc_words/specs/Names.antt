@@ -14,6 +14,7 @@ use Rattle.mtc_words.specs.declared.name.Name.TheVariants.{Landmark, Landmarks, 
 use Rattle.mtc_words.specs.declared.name.Name.TheVariants.{TrustLandmarks, Cert, Audit, Drill}
 use Rattle.mtc_words.specs.declared.name.Name.TheVariants.{Tile, Switch}
 use Rattle.mtc_words.specs.declared.name.Name.TheVariants.{Root, Held, MonitorInit, Monitor}
+use Rattle.mtc_words.specs.declared.name.Name.TheVariants.{Help, Version}
 
 -- The command that an argument names which names none of those before the commands of monitors.
 abbrev pub named_from_monitor : Text → Option Name
@@ -22,7 +23,9 @@ named_from_monitor word =
     else (if bytes_eq word (codes "held") then Some Held
     else (if bytes_eq word (codes "monitor-init") then Some MonitorInit
     else (if bytes_eq word (codes "monitor") then Some Monitor
-    else None)))
+    else (if bytes_eq word (codes "help") then Some Help
+    else (if bytes_eq word (codes "version") then Some Version
+    else None)))))
 
 -- The same for an argument that names none of those before the commands of landmarks.
 abbrev pub named_from_landmark : Text → Option Name
@@ -95,6 +98,8 @@ word_count Root = 1
 word_count Held = 1
 word_count MonitorInit = 1
 word_count Monitor = 4
+word_count Help = 0
+word_count Version = 0
 
 -- Whether the first argument after a command is a journal.
 abbrev pub takes_journal : Name → Bool
@@ -127,6 +132,8 @@ takes_journal Root = false
 takes_journal Held = false
 takes_journal MonitorInit = false
 takes_journal Monitor = false
+takes_journal Help = false
+takes_journal Version = false
 
 -- Whether a name is that of a tile file.
 unfoldable pub is_tiles_name : Text → Bool

@@ -20,6 +20,7 @@ use Rattle.mtc_words.specs.declared.name.Name.TheVariants.{Landmark, Landmarks, 
 use Rattle.mtc_words.specs.declared.name.Name.TheVariants.{TrustLandmarks, Cert, Audit, Drill}
 use Rattle.mtc_words.specs.declared.name.Name.TheVariants.{Tile, Switch}
 use Rattle.mtc_words.specs.declared.name.Name.TheVariants.{Root, Held, MonitorInit, Monitor}
+use Rattle.mtc_words.specs.declared.name.Name.TheVariants.{Help, Version}
 use Rattle.mtc_words.specs.Commands.{CommandValue, member, show, verify, init_log, issue}
 use Rattle.mtc_words.specs.Commands.{checkpoint, entries, entries_from, consist, subtree, keygen}
 use Rattle.mtc_words.specs.Commands.{is_height}
@@ -27,6 +28,7 @@ use Rattle.mtc_words.specs.Commands.{is_width, is_time, is_active, is_limit, is_
 use Rattle.mtc_words.specs.Commands.{init_cosigner, advance, cosign, landmark, landmarks}
 use Rattle.mtc_words.specs.Commands.{export, light_cert, trust_landmarks, cert, audit, drill}
 use Rattle.mtc_words.specs.Commands.{quarrel, tile, switch, root, held, monitor_init, monitor}
+use Rattle.mtc_words.specs.Commands.{help, version}
 use Rattle.mtc_words.specs.Names.{named_command, word_count, takes_journal, is_tiles_name}
 
 -- Empty, or begins with a hyphen.
@@ -142,6 +144,8 @@ command_from MonitorInit ws = do
   id ← id_word 1 (word ws 0)
   Ok (monitor_init id)
 command_from Monitor ws = Ok (monitor (word ws 0) (word ws 1) (word ws 2) (word ws 3))
+command_from Help ws = Ok help
+command_from Version ws = Ok version
 
 -- The fault, or else the command.
 abbrev pub unless_fault : {A : Type 0} → Option WordError → Result A WordError → Result A WordError

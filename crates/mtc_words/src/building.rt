@@ -262,6 +262,19 @@ fn monitor_init<'a>(alloc: Global, words: &'a [String]) -> Result<Command<'a>, W
     Ok(Command::MonitorInit(log))
 }
 
+fn monitor<'a>(words: &'a [String]) -> Result<Command<'a>, WordError>
+    requires { length words.now ≡ word_count Name.Monitor }
+    ensures exact { said result ≡ command_from Name.Monitor (map string_bytes words.now) }
+    ensures range { IfOk result (λ command. IsInRange (command_value command)) }
+{
+    Ok(Command::Monitor(
+        text(words, 0),
+        text(words, 1),
+        text(words, 2),
+        text(words, 3),
+    ))
+}
+
 // The command of this name with its arguments, of which there are as many as it wants.
 pub fn build<'a>(alloc: Global, name: Name, words: &'a [String]) -> Result<Command<'a>, WordError>
     requires { length words.now ≡ word_count name }
@@ -298,11 +311,8 @@ pub fn build<'a>(alloc: Global, name: Name, words: &'a [String]) -> Result<Comma
         Name::Root => Ok(Command::Root(text(words, 0))),
         Name::Held => Ok(Command::Held(text(words, 0))),
         Name::MonitorInit => monitor_init(alloc, words),
-        Name::Monitor => Ok(Command::Monitor(
-            text(words, 0),
-            text(words, 1),
-            text(words, 2),
-            text(words, 3),
-        )),
+        Name::Monitor => monitor(words),
+        Name::Help => Ok(Command::Help),
+        Name::Version => Ok(Command::Version),
     }
 }

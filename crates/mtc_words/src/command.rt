@@ -79,4 +79,8 @@ pub enum Command<'a> {
     /// `monitor STATE WATCH REQUEST ENTRIES`: test that new entries lead from a state to the size
     /// and the root of a request, report those with watched names, and print the next state.
     Monitor(&'a str, &'a str, &'a str, &'a str),
+    /// `help`: print a line for each command.
+    Help,
+    /// `version`: print the profile and the draft.
+    Version,
 }

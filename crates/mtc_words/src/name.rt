@@ -36,6 +36,8 @@ pub enum Name {
     Held,
     MonitorInit,
     Monitor,
+    Help,
+    Version,
 }
 
 // The name that an argument is, if it is one.
@@ -91,7 +93,7 @@ fn read_landmark_name(word: &str) -> Option<Name>
     }
 }
 
-// The same from the commands of monitors on.
+// The same from the commands of monitors on, with those about the program itself.
 fn read_monitor_name(word: &str) -> Option<Name>
     ensures { result ≡ named_from_monitor word.now }
 {
@@ -100,6 +102,8 @@ fn read_monitor_name(word: &str) -> Option<Name>
         "held" => Some(Name::Held),
         "monitor-init" => Some(Name::MonitorInit),
         "monitor" => Some(Name::Monitor),
+        "help" => Some(Name::Help),
+        "version" => Some(Name::Version),
         _ => None,
     }
 }
@@ -109,6 +113,7 @@ pub fn wanted_count(name: Name) -> usize
     ensures { result ≡ word_count name }
 {
     match name {
+        Name::Help | Name::Version => 0,
         Name::Member | Name::Show | Name::Checkpoint => 1,
         Name::Export | Name::Landmark | Name::Landmarks | Name::Drill | Name::Tile => 1,
         Name::Quarrel | Name::Root | Name::Held | Name::MonitorInit | Name::Switch => 1,
@@ -127,7 +132,7 @@ pub fn takes_journal(name: Name) -> bool
 {
     match name {
         Name::Member | Name::Show | Name::Verify | Name::Keygen => false,
-        Name::TrustLandmarks | Name::Audit | Name::Drill => false,
+        Name::TrustLandmarks | Name::Audit | Name::Drill | Name::Help | Name::Version => false,
         Name::Quarrel | Name::Root | Name::Held | Name::MonitorInit | Name::Monitor => false,
         Name::InitLog | Name::Issue | Name::Checkpoint | Name::Entries => true,
         Name::EntriesFrom | Name::Consist | Name::Subtree => true,
