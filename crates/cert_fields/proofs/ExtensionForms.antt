@@ -224,7 +224,10 @@ extension_form seen =
     (λ x f.
     let short = contents_short seen x f in (
       (
-        (((f.identifier, short.0), not_from_false (is_among x.identifier seen) f.new), (tt, short.1)),
+        (
+          ((f.identifier, short.0), not_from_false (is_among x.identifier seen) f.new),
+          (tt, short.1),
+        ),
         f.names,
       ),
       f.short,

@@ -17,7 +17,7 @@ use Rattle.cosigner_core.specs.Exports.{export_text, prefix_text, records_text}
 use Rattle.cosigner_core.specs.Folds.{CosignerState, cosigner_of}
 use Rattle.cosigner_core.specs.DurableRecords.{IsDurableAs}
 use Rattle.cosigner_core.proofs.Names.{first-long}
-use Rattle.cosigner_core.specs.Records.{first_length}
+use Rattle.cosigner_core.specs.Records.{first_record_length}
 
 abbrev pub prefix_of : CosignerState → Text
 prefix_of s = prefix_text s.id s.log (one_level_public s.key.key)
@@ -29,7 +29,7 @@ same_text (body ∷ bodies) = ap (λ (rest : Text). sized body ++ rest) (same_te
 
 -- this is the end after the first record of such a cosigner, or that of its journal
 abbrev pub IsFirstEnd : CosignerState → ℕ → ℕ → Type 0
-IsFirstEnd s from end = (first : Text) → length first ≡ first_length s.id s.log
+IsFirstEnd s from end = (first : Text) → length first ≡ first_record_length s.id s.log
     → from ≡ min (end_offset (first ∷ [])) end
 
 module _ (h : HashFunction) (s : CosignerState) (from end : ℕ) (is : IsFirstEnd s from end) where

@@ -15,7 +15,7 @@ use Rattle.cosigner_core.specs.Folds.{cosigner_of}
 use Rattle.cosigner_core.specs.Folds.{key_count, new_cosigner, next_state, progress_of}
 use Rattle.cosigner_core.specs.Folds.{with_progress}
 use Rattle.cosigner_core.specs.Progress.{is_allowed, with_step}
-use Rattle.cosigner_core.specs.Records.{cosigner_in, first_length, step_in}
+use Rattle.cosigner_core.specs.Records.{cosigner_in, first_record_length, step_in}
 use Rattle.cosigner_core.specs.declared.settings.CosignerSettings.{CosignerSettings}
 use Rattle.cosigner_core.specs.declared.step.Step.{Step}
 use Rattle.cosigner_core.proofs.FirstRecords.{cosigner_takes}
@@ -61,13 +61,13 @@ began_first h settings first secret bodies s begins is =
     >>= λ (u : CosignerState). taken_from (cosigner_fold h) 1 u bodies) begins) ∙ is)
 
 begun_long : (h : HashFunction) (first : Text) (s : CosignerState) → IsBytes first
-    → begun_cosigner h first ≡ Some s → length first ≡ first_length s.id s.log
+    → begun_cosigner h first ≡ Some s → length first ≡ first_record_length s.id s.log
 unfolding begun_cosigner
 begun_long h first s bytes is = go (cosigner_in first) refl is
   where
     go : (o : Option (CosignerSettings × Text)) → cosigner_in first ≡ o
         → option_map (λ x. new_cosigner h x.0 x.1) o ≡ Some s
-        → length first ≡ first_length s.id s.log
+        → length first ≡ first_record_length s.id s.log
     go None read is = let wrong : None ≡ Some s = is in cc
     go (Some x) read is =
         let took = cosigner_takes first x.0 x.1 bytes read in
@@ -81,7 +81,7 @@ begun_long h first s bytes is = go (cosigner_in first) refl is
 -- The first record is as long as its ids determine.
 pub first-long : (h : HashFunction) (first : Text) (bodies : List Text) (s : CosignerState)
     → IsBytes first → cosigner_of h (first ∷ bodies) ≡ Ok s
-    → length first ≡ first_length s.id s.log
+    → length first ≡ first_record_length s.id s.log
 unfolding state_after
 first-long h first bodies s bytes is =
     let step = bind_ok (some_or 0 (begun_cosigner h first))

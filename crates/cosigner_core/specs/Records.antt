@@ -34,8 +34,8 @@ cosigner_record s secret =
     ++ (number w32 (typecode s.ots) ++ secret))))
 
 -- how long that is, with these ids and a secret of 48 bytes
-abbrev pub first_length : Text → Text → ℕ
-first_length id log = 59 + length id + length log
+abbrev pub first_record_length : Text → Text → ℕ
+first_record_length id log = 59 + length id + length log
 
 -- Advance, with tag 0x12: the size in eight bytes, the root in 32, and the hashes in a vector
 unfoldable pub advance_record : ℕ → Hash → List Hash → Text

@@ -7,7 +7,7 @@ ghost use Rattle.mtc_io.specs.Counts.{HasCause};
 ghost use Rattle.mtc_io.specs.Streams.{AppendsPrefix};
 ghost use Rattle.hss_core.specs.Hss.{one_level_public};
 ghost use Rattle.cosigner_core.specs.Exports.{prefix_text};
-ghost use Rattle.cosigner_core.specs.Records.{first_length};
+ghost use Rattle.cosigner_core.specs.Records.{first_record_length};
 
 use crate::contents::Contents;
 use hss_core::PUBLIC_KEY_LEN;
@@ -19,7 +19,7 @@ const FIRST_FIELDS: u64 = 59;
 /// The length of the first record, as the settings determine it. The call doesn't read the disk, so
 /// whatever that gives, the secret in that record isn't copied.
 pub(crate) fn first_size(contents: &Contents) -> u64
-    ensures value { result ≡ first_length contents.now.id contents.now.log }
+    ensures value { result ≡ first_record_length contents.now.id contents.now.log }
     ensures few { result ≤ 131072 }
 {
     let ids = contents.id().as_bytes().len() + contents.log().as_bytes().len();

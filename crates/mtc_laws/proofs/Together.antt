@@ -116,7 +116,8 @@ module _ (valid : Valid) where
       (steps : List PartyStep) → states_from valid k states steps ≡ Ok ends
       → states_from valid k (x ∷ states) (map later steps) ≡ Ok (x ∷ ends)
   with_first k x states ends [] is =
-      none k (x ∷ states) ∙ ap (λ (l : List HistoryState). Ok (x ∷ l)) (no_steps valid k states ends is)
+      none k (x ∷ states)
+      ∙ ap (λ (l : List HistoryState). Ok (x ∷ l)) (no_steps valid k states ends is)
   with_first k x states ends (step ∷ steps) is =
       let first = first_step valid k states step steps ends is in
       goes_first k (x ∷ states) (later step) (map later steps) (x ∷ first.0) (x ∷ ends)

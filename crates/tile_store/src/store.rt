@@ -1,11 +1,11 @@
 //! The store of nodes.
 
-ghost use Rattle.std.specs.Prelude.{◌≡◌, ◌↔◌, ℕ, ◌+◌, ◌*◌, ◌/◌, ◌%◌, ◌^◌, ◌<◌, ◌≤◌, max, [], ◌∷◌};
-ghost use Rattle.std.specs.Prelude.{◌++◌, length, Some, option_map, IsSome, IfSome, IfOk, IfErr};
+ghost use Rattle.std.specs.Prelude.{◌≡◌, ◌↔◌, ℕ, ◌+◌, ◌*◌, ◌/◌, ◌%◌, ◌^◌, ◌<◌, ◌≤◌, max, []};
+ghost use Rattle.std.specs.Prelude.{length, Some, IsSome, IfSome, IfOk, IfErr};
 ghost use Rattle.std.specs.Prelude.{IsOk, OnOk, OnErr};
 ghost use Rattle.std.proofs.Props.{props};
 ghost use Rattle.byte_formats.specs.Types.{Text};
-ghost use Rattle.disk_core.specs.Times.{LeavesOnly, OnlyReads};
+ghost use Rattle.disk_core.specs.Times.{OnlyReads};
 ghost use Rattle.frame_pool.specs.Frames.{HoldsKey, IsUnheld};
 ghost use Rattle.frame_pool.specs.declared.key.TileKey.{TileKey as Key};
 ghost use Rattle.mtc_io.specs.Counts.{HasCause, Rose};
@@ -88,7 +88,6 @@ impl<H: TreeHash, T: Disk> Tiles<H, T> {
     ghost use Rattle.tile_store.specs.Store.{IsAvailable, TilesStay, tiles_adopted, tiles_count};
     ghost use Rattle.tile_store.specs.Store.{tiles_disk, tiles_filled, tiles_filled_to};
     ghost use Rattle.tile_store.specs.Store.{tiles_leaves, tiles_pool, tiles_spare, tiles_stored};
-    ghost use Rattle.tile_store.specs.Writing.{IsCrashStateAfter};
     ghost use Rattle.tree_proofs.specs.Modelled.{IsRootOf};
 
     /// No leaves, over a device and a pool whose frames hold no tile. It takes no memory.

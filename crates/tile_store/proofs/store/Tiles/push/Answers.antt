@@ -34,7 +34,8 @@ returns-clause-pushed g c =
     let tiles = c.reserve.new.self in
     let leaves = c.reserve.ensures.leaves in
     record {
-      list = contents-same (g.T.Disk.contents tiles.disk) (leaves_with tiles.adopted c.push.new.self)
+      list = contents-same (g.T.Disk.contents tiles.disk)
+          (leaves_with tiles.adopted c.push.new.self)
           (λ list. list ++ c.args.leaf.now ∷ []) (leaves_with tiles.adopted tiles.rows)
           (λ b contents.
           let sound = tiles.contents b contents in
