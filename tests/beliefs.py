@@ -38,7 +38,7 @@ STANDARDS = {
     "files and streams ([OPERATIONS](../OPERATIONS.md))": ("mtc_io", "disk_core", "mtc_room"),
     "journals, records, lists and exports ([FORMATS](../FORMATS.md))": ("journal_core", "issuance_log", "cosigner_core", "entry_list"),
     "words and answers ([COMMANDS](../COMMANDS.md))": ("mtc_words", "mtc_command", "mtc_relying", "mtc_authority", "mtc_cosigner",
-                                               "mtc_drill", "command_plans", "mtc_plans"),
+                                               "mtc_drill", "mtc_help", "command_plans", "mtc_plans"),
     "audits: a list of entries beside what was accepted": ("cosigner_steps", "world_core"),
     "the draft: proofs, stores and judgement, issuing": ("mtc_proof", "policy_core", "authority_core"),
     "RFC 9162 and the draft: trees": ("tree_core", "tree_proofs", "landmarks", "collide"),

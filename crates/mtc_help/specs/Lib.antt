@@ -1,0 +1,2 @@
+pub mod HelpOutcome
+pub mod Listing

@@ -1,0 +1,42 @@
+//! The text of `help`. Made by tests/manual.sh from docs/COMMANDS.md.
+
+/// A line for each command: its arguments, and what it prints.
+pub(crate) const HELP: &str = "\
+member FILE: member INDEX, or refused NAME where the judgement is against\n\
+show CERT: what it says, a line for each field\n\
+verify CERT STORE NOW: accepted INDEX, or refused NAME .. where the judgement is against\n\
+init-log J LOGID MAXACTIVE LIMIT: log LOGID\n\
+issue J REQUEST: issued INDEX\n\
+checkpoint J: size N and root HASH, two lines\n\
+entries J SIZE: the entries file of its first SIZE entries\n\
+entries-from J FIRST SIZE: the entries file of its entries from FIRST up to SIZE, without SIZE\n\
+consist J OLD NEW: the request to a cosigner that holds the first OLD entries to hold the first \
+NEW ones; without a proof for OLD 0\n\
+subtree J START END SIZE: the request to a cosigner that holds the first SIZE entries to sign the \
+subtree from START up to END, without END\n\
+keygen HEIGHT WIDTH SECRET: the public key of 60 bytes in base64\n\
+init-cosigner S ID LOGID HEIGHT WIDTH SECRET: the public key of 60 bytes in base64\n\
+advance S REQUEST: advanced SIZE\n\
+cosign S REQUEST: the signature, with the cosigner's id\n\
+export S: what others may know of it: all of its journal but the secret\n\
+landmark J: landmark NUMBER SIZE\n\
+landmarks J: the list of its active landmarks\n\
+light-cert J INDEX: the certificate, in DER\n\
+switch J: switched INDEX\n\
+tile J: tiled SIZE\n\
+trust-landmarks LIST MAXACTIVE ENTRIES: the tables of a store that trusts the subtrees of the \
+active landmarks\n\
+cert J INDEX START END SIGNATURES: the certificate, in DER\n\
+audit CERT STORE NOW ENTRIES EXPORT: stands INDEX, foreign WANTED FOUND, unrecorded, or collision \
+and two lines in hexadecimal; refused NAME .. as verify\n\
+quarrel EXPORT: agree; or quarrel FIRST SECOND, the numbers of their one-time keys, and two lines \
+in hexadecimal\n\
+drill NUMBER: its summary, eight lines\n\
+root ENTRIES: size N and root HASH, their number and their tree hash, as checkpoint\n\
+held EXPORT: what it holds and has signed, line by line\n\
+monitor-init LOGID: the state\n\
+monitor STATE WATCH REQUEST ENTRIES: a line for each such name and for each entry that doesn't \
+read, and the next state\n\
+help: a line for each: its arguments, and what it prints\n\
+version: profile N and draft NAME, two lines\n\
+";
