@@ -1,5 +1,5 @@
 -- What each command has to answer, as its contract cites it, is what comes of its plan.
-use Rattle.std.proofs.Common.{◌≡◌}
+use Rattle.std.proofs.Common.{◌≡◌, refl}
 use Rattle.byte_formats.specs.Types.{HashFunction}
 use Rattle.mtc_words.specs.Commands.{CommandValue, member, show, verify, init_log, issue}
 use Rattle.mtc_words.specs.Commands.{checkpoint, entries, entries_from, consist, subtree}
@@ -8,6 +8,7 @@ use Rattle.mtc_words.specs.Commands.{init_cosigner, advance, cosign, export, lan
 use Rattle.mtc_words.specs.Commands.{light_cert, trust_landmarks, cert, audit, drill, tile}
 use Rattle.mtc_words.specs.Commands.{switch}
 use Rattle.mtc_words.specs.Commands.{quarrel, root, held, monitor_init, monitor}
+use Rattle.mtc_words.specs.Commands.{help, version}
 use Rattle.mtc_command.specs.Steps.{Files}
 use Rattle.mtc_authority.specs.declared.work.Work.TheVariants.{Checkpoint, Consist, Entries}
 use Rattle.mtc_authority.specs.declared.work.Work.TheVariants.{EntriesFrom}
@@ -70,3 +71,5 @@ module _ (h : HashFunction) where
   outcome_planned (monitor_init id) files = monitor_init_plans (party_kinds h) h id files
   outcome_planned (monitor state watch request items) files =
       monitor_plans (party_kinds h) h state watch request items files
+  outcome_planned help files = refl
+  outcome_planned version files = refl

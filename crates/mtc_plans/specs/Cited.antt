@@ -1,5 +1,5 @@
 -- The outcomes that the contracts of the commands cite: one line for each. Each stands in a file of
--- its own, in mtc_relying, mtc_authority, mtc_cosigner, mtc_monitor or mtc_drill.
+-- its own, in mtc_relying, mtc_authority, mtc_cosigner, mtc_monitor, mtc_drill or mtc_help.
 use Rattle.byte_formats.specs.Types.{HashFunction, Text}
 use Rattle.mtc_words.specs.Commands.{CommandValue, member, show, verify, init_log, issue}
 use Rattle.mtc_words.specs.Commands.{checkpoint, entries, entries_from, consist, subtree}
@@ -8,12 +8,14 @@ use Rattle.mtc_words.specs.Commands.{init_cosigner, advance, cosign, export, lan
 use Rattle.mtc_words.specs.Commands.{light_cert, trust_landmarks, cert, audit, drill, tile}
 use Rattle.mtc_words.specs.Commands.{switch}
 use Rattle.mtc_words.specs.Commands.{quarrel, root, held, monitor_init, monitor}
+use Rattle.mtc_words.specs.Commands.{help, version}
 use Rattle.mtc_command.specs.Answers.{tiles_name}
 use Rattle.mtc_command.specs.Steps.{Files, Outcome}
 use Rattle.mtc_cosigner.specs.InitOutcome.{init_cosigner_outcome}
 use Rattle.mtc_cosigner.specs.KeygenOutcome.{keygen_outcome}
 use Rattle.mtc_cosigner.specs.Works.{advance_outcome, cosign_outcome, export_outcome}
 use Rattle.mtc_drill.specs.Summary.{drill_outcome}
+use Rattle.mtc_help.specs.HelpOutcome.{help_outcome, version_outcome}
 use Rattle.mtc_authority.specs.CertCommand.{cert_outcome}
 use Rattle.mtc_authority.specs.IssueCommand.{issue_outcome}
 use Rattle.mtc_authority.specs.LogOutcomes.{init_log_outcome}
@@ -73,5 +75,7 @@ command_outcome h (switch journal) = outcome_on_log h journal Switch
 command_outcome h (root items) = root_outcome h items
 command_outcome h (held kept) = held_outcome h kept
 command_outcome h (monitor_init id) = λ files. monitor_init_outcome id
+command_outcome h help = λ files. help_outcome
+command_outcome h version = λ files. version_outcome
 command_outcome h (monitor state watch request items) =
     monitor_outcome h state watch request items

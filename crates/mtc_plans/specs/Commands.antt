@@ -7,6 +7,7 @@ use Rattle.mtc_words.specs.Commands.{init_cosigner, advance, cosign, export, lan
 use Rattle.mtc_words.specs.Commands.{light_cert, trust_landmarks, cert, audit, drill, tile}
 use Rattle.mtc_words.specs.Commands.{switch}
 use Rattle.mtc_words.specs.Commands.{quarrel, root, held, monitor_init, monitor}
+use Rattle.mtc_words.specs.Commands.{help, version}
 use Rattle.mtc_command.specs.Steps.{Files, Outcome}
 use Rattle.mtc_authority.specs.declared.work.Work.TheVariants.{Checkpoint, Consist, Entries}
 use Rattle.mtc_authority.specs.declared.work.Work.TheVariants.{EntriesFrom}
@@ -17,6 +18,7 @@ use Rattle.command_plans.specs.Plans.{Plan, changes, only_reads}
 use Rattle.mtc_plans.specs.AuditPlans.{audit_plan, quarrel_plan}
 use Rattle.mtc_plans.specs.CosignerPlans.{advance_plan, cosign_plan, export_plan}
 use Rattle.mtc_plans.specs.CosignerPlans.{init_cosigner_plan}
+use Rattle.mtc_plans.specs.HelpPlans.{help_plan, version_plan}
 use Rattle.mtc_plans.specs.LogPlans.{cert_plan, init_log_plan, issue_plan, work_plan}
 use Rattle.mtc_plans.specs.PartyKinds.{party_kinds}
 use Rattle.mtc_plans.specs.ReadPlans.{drill_plan, keygen_plan, member_plan, show_plan}
@@ -58,6 +60,8 @@ plan_of h (root items) = root_plan h items
 plan_of h (held kept) = held_plan h kept
 plan_of h (monitor_init id) = monitor_init_plan id
 plan_of h (monitor state watch request items) = monitor_plan h state watch request items
+plan_of h help = help_plan
+plan_of h version = version_plan
 
 -- What comes of it over these files.
 abbrev pub planned_outcome : HashFunction → CommandValue → Files → Outcome

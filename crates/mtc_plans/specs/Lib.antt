@@ -4,6 +4,7 @@ pub mod ReadPlans
 pub mod AuditPlans
 pub mod WatchPlans
 pub mod LogWork
+pub mod HelpPlans
 pub mod LogPlans
 pub mod CosignerPlans
 pub mod Commands
