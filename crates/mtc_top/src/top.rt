@@ -29,6 +29,7 @@ use mtc_cosigner::init_cosigner::init_cosigner;
 use mtc_cosigner::keygen::keygen;
 use mtc_cosigner::requests::{advance, cosign};
 use mtc_drill::drill;
+use mtc_help::{help, version};
 use mtc_io::Sink;
 use mtc_monitor::held::held;
 use mtc_monitor::monitor::{monitor, monitor_init};
@@ -93,6 +94,8 @@ fn perform_reading<'a, H: TreeHash, R: Room>(
         Command::Monitor(state, watch, request, entries) => {
             monitor::<H, R>(alloc, room, state, watch, request, entries)
         }
+        Command::Help => help(alloc),
+        Command::Version => version(alloc),
         _ => unreachable!(),
     }
 }
