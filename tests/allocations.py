@@ -37,6 +37,7 @@ COMMANDS = [
     "monitor state state advance entries", "monitor state watch subtree entries", "monitor state watch advance export",
     "switch log", "switch switched", "issue switched request",
     "checkpoint bare", "tile log", "tile full", "cert tiled 2 0 256 empty", "issue tiled request", "tile none.tiles",
+    "help", "version", "help x",
 ]
 
 # Of the allocations of this command one in so many is refused.

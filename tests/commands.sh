@@ -249,6 +249,10 @@ monitor v names b y|4|-|mtc: monitor: BadProof
 monitor e names a z|2|-|mtc: monitor: e: BadLine 0
 monitor v secret a z|2|-|mtc: monitor: secret: BadLine 0
 monitor v k a z|7|-|mtc: monitor: k: Absent
+--help|1|-|mtc: UnknownCommand
+help x|1|-|mtc: help: WrongCount 1 0
+version|0|227bcb5ed9ef0bd3|
+version 1|1|-|mtc: version: WrongCount 1 0
 init-log C 32473.1 2 64|0|d2ef99de8024e444|
 issue C r|0|2c79a1c0b381d236|
 switch C|0|a50a28d91fc2a3cb|

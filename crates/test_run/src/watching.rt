@@ -1,4 +1,5 @@
-//! What those who watch a log from outside are answered: `root`, `held`, `monitor-init`, `monitor`.
+//! What those who watch a log from outside are answered: `root`, `held`, `monitor-init`, `monitor`;
+//! and what `help` and `version` print.
 
 use crate::scripts::{Outcome, outcome_after};
 
@@ -223,12 +224,25 @@ $ monitor s w r e
 | unread 6
 | unread 7
 | state 32473.1 8 5dc9da79a70659a9ad559cb701ded9a2ab9d823aad2f4960cfe370eff4604328
+
+case the commands, the profile and the draft are printed
+$ version
+| profile 2
+| draft draft-ietf-plants-merkle-tree-certs-00
+$ version 1
+status 1
+! mtc: version: WrongCount 1 0
+$ help
+> h
+$ help x
+status 1
+! mtc: help: WrongCount 1 0
 "#;
 
 #[test]
 fn monitors(rt: HostRuntime) {
     let outcome = outcome_after(rt.alloc(), GIVEN, MONITORS);
-    assert!(rt; outcome == Ok(Outcome::Passed(7)), "{outcome:?}");
+    assert!(rt; outcome == Ok(Outcome::Passed(11)), "{outcome:?}");
 }
 
 const REFUSED: &str = r#"

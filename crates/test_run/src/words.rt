@@ -70,6 +70,9 @@ export s.tiles => TilesName 1
 cosign s.tiles r => TilesName 1
 issue j.tiles => WrongCount 1 2
 cert j 1 0 x s.tiles => BadNumber 4
+help x => WrongCount 1 0
+help -x => BadWord 1
+version 1 => WrongCount 1 0
 ";
 
 // The fault that is meant; its first number is 0 where it has none.
@@ -119,7 +122,7 @@ fn arguments_are_refused_by_their_first_fault(rt: HostRuntime) {
         assert!(rt; is_refused(rt.alloc(), line) == Some(true), "{line}");
         count = count.saturating_add(1);
     }
-    assert!(rt; count == 60);
+    assert!(rt; count == 67);
 }
 
 #[test]
