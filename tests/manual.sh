@@ -1,5 +1,6 @@
 #!/bin/bash
-# Makes the man page docs/mtc.1 and the completion for bash docs/mtc.bash again from the tables of docs/COMMANDS.md, and
+# Makes the man page docs/mtc.1, the completion for bash docs/mtc.bash and the text of `help`, crates/mtc_help/src/listing.rt,
+# again from the tables of docs/COMMANDS.md (files and examples of the man page: docs/OPERATIONS.md, docs/EACH_DAY.md), and
 # compares them with those that stand there. Then tests that the program knows each command of the table with that number of
 # arguments, and no other command that the sources name.
 # Usage: tests/manual.sh [--write]
@@ -16,12 +17,12 @@ complain() {
     wrong=1
 }
 
-# The rows of the table with such a head, as lines NAME ARGUMENTS|TEXT|TEXT.
+# The rows of the table with such a head, as lines NAME ARGUMENTS|TEXT|TEXT. It may stand on another page.
 table() {
     awk -v head="| $1 | $2 |" '
         index($0, head) == 1 { is_in = 1; next }
         !/^\|/ { is_in = 0 }
-        is_in && !/^\|---/ { sub(/^\| /, ""); sub(/ \|$/, ""); gsub(/ \| /, "|"); print }' "$page"
+        is_in && !/^\|---/ { sub(/^\| /, ""); sub(/ \|$/, ""); gsub(/ \| /, "|"); print }' "${3-$page}"
 }
 
 # Marks of Markdown as those of man pages.
@@ -38,7 +39,8 @@ man_page() {
     table Command 'It does' | tr -d '`' | while IFS='|' read -r words does prints; do
         name=${words%% *}
         printf '.TP\n\\fB%s\\fR' "${name//-/\\-}"
-        printf ' \\fI%s\\fR' ${words#"$name"}
+        words=${words#"$name"}
+        [ -z "$words" ] || printf ' \\fI%s\\fR' $words
         printf '\n%s.\nPrints %s.\n' "$does" "$prints" | as_roff
     done
     printf '.SH EXIT STATUS\n'
@@ -46,8 +48,23 @@ man_page() {
         printf '.TP\n.B %s\n' "$status"
         printf '%s.\n' "$comes" | as_roff
     done
+    printf '.SH FILES\n'
+    table File 'Made by' docs/OPERATIONS.md | sed -E 's/ \(\[[^]]*\]\([^)]*\)\)//g' | while IFS='|' read -r file makers keepers lost; do
+        printf '.TP\n'
+        printf '%s\nMade by: %s. Kept by: %s. If it is lost: %s.\n' "$file" "$makers" "$keepers" "$lost" | as_roff
+    done
+    printf '.SH EXAMPLES\nA day of each, in a clone with a built program; %s explains the steps.\n' docs/EACH_DAY.md
+    examples
     printf '.SH SEE ALSO\nIn the repository: docs/TOUR.md, docs/COMMANDS.md (each refusal), docs/FORMATS.md (each file),\n'
     printf 'docs/OPERATIONS.md, docs/PROMISES.md.\n'
+}
+
+# The blocks of a page that a test runs, under its headings.
+examples() {
+    awk '/^## / { heading = ".SS " substr($0, 4) "\n" }
+        /^```$/ && is_in { print ".fi"; is_in = 0 }
+        is_in { gsub(/\\/, "\\e"); gsub(/-/, "\\-"); gsub(/\.\/mtc/, "mtc"); sub(/^[.'"'"']/, "\\\\\\&&"); print }
+        /^```sh$/ { print heading ".PP\n.nf"; heading = ""; is_in = 1 }' docs/EACH_DAY.md
 }
 
 completion() {
@@ -63,7 +80,7 @@ completion() {
     echo '    fi'
     echo '    case ${COMP_WORDS[1]} in'
     table Command 'It does' | tr -d '`' | while IFS='|' read -r words _; do
-        echo "        ${words%% *}) kinds=(${words#* }) ;;"
+        [[ "$words" != *" "* ]] || echo "        ${words%% *}) kinds=(${words#* }) ;;"
     done
     echo '    esac'
     echo '    case ${kinds[COMP_CWORD - 2]-} in'
@@ -74,6 +91,26 @@ completion() {
     echo '    esac'
     echo '}'
     echo 'complete -o filenames -F _mtc mtc'
+}
+
+# The text of `help`: of each command its arguments, and what it prints, without the pages that say more.
+help_text() {
+    table Command 'It does' | tr -d '`' | sed -E 's/ \(FORMATS\.md, [^)]*\)//g; s/\[([^]]*)\]\([^)]*\)/\1/g' | awk -F '|' '{ print $1 ": " $3 }'
+}
+
+# The same as Rattle's source, in lines of 100 columns.
+listing() {
+    printf '//! The text of `help`. Made by tests/manual.sh from docs/COMMANDS.md.\n\n'
+    printf '/// A line for each command: its arguments, and what it prints.\npub(crate) const HELP: &str = "\\\n'
+    help_text | sed 's/["\\]/\\&/g' | awk '{
+        while (length($0) > 97) {
+            for (cut = 99; substr($0, cut, 1) != " "; cut--) { }
+            print substr($0, 1, cut) "\\"
+            $0 = substr($0, cut + 1)
+        }
+        print $0 "\\n\\"
+    }'
+    echo '";'
 }
 
 # What the completion offers for some arguments, of which the last one isn't whole.
@@ -87,11 +124,12 @@ offers() (
 
 man_page >"$folder/mtc.1"
 completion >"$folder/mtc.bash"
-if [ "${1-}" = --write ]; then
-    cp "$folder/mtc.1" "$folder/mtc.bash" docs/
-fi
-for file in mtc.1 mtc.bash; do
-    diff -u --label "docs/$file" --label "by $page" "docs/$file" "$folder/$file" || complain "docs/$file; tests/manual.sh --write mends it"
+listing >"$folder/listing.rt"
+for file in docs/mtc.1 docs/mtc.bash crates/mtc_help/src/listing.rt; do
+    if [ "${1-}" = --write ]; then
+        cp "$folder/${file##*/}" "$file"
+    fi
+    diff -u --label "$file" --label "by $page" "$file" "$folder/${file##*/}" || complain "$file; tests/manual.sh --write mends it"
 done
 if command -v groff >"$folder/void"; then
     said=$(groff -man -ww -z docs/mtc.1 2>&1)
@@ -99,19 +137,22 @@ if command -v groff >"$folder/void"; then
 else
     echo "left out: manual: groff isn't here, so the form of the man page isn't tested"
 fi
-[ "$(offers ver)" = verify ] || complain "the completion of ver"
+[ "$(offers ver)" = "verify version" ] || complain "the completion of ver"
 [ "$(offers keygen 5 '')" = "1 2 4 8" ] || complain "the completion of a width"
 [ "$(offers show docs/mtc.b)" = docs/mtc.bash ] || complain "the completion of a file"
 
 # The program and the table. A program that can't be built is not asked again for each command.
 ./mtc member examples/first.member >/dev/null || exit 70
+diff -u --label "by $page" --label 'mtc help' <(help_text) <(./mtc help) || complain "the text of help"
 known=" "
 count=0
 while read -r name words; do
     set -- $words
-    said=$(./mtc "$name" 2>&1 </dev/null)
+    given=()
+    [ $# -gt 0 ] || given=(x)
+    said=$(./mtc "$name" "${given[@]}" 2>&1 </dev/null)
     status=$?
-    [ "$status|$said" = "1|mtc: $name: WrongCount 0 $#" ] || complain "$name, which $page gives $# words: $said"
+    [ "$status|$said" = "1|mtc: $name: WrongCount ${#given[@]} $#" ] || complain "$name, which $page gives $# words: $said"
     known+="$name "
     count=$((count + 1))
 done < <(table Command 'It does' | tr -d '`' | sed 's/|.*//')

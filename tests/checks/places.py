@@ -23,31 +23,31 @@ WORDS, TOP = "crates/mtc_words", "crates/mtc_top"
 PLACES = [
     Place(f"{WORDS}/src", "a variant of `Command`; a variant of `Name`, with its word, how many arguments it takes and whether the first "
           "is a journal; a line of `build`",
-          [("command.rt", r"/// `{word}[ `]"), ("command.rt", r"^    {Name}\("), ("name.rt", r'"{word}" => Some\(Name::{Name}\)'),
+          [("command.rt", r"/// `{word}[ `]"), ("command.rt", r"^    {Name}[,(]"), ("name.rt", r'"{word}" => Some\(Name::{Name}\)'),
            ("name.rt", r"Name::{Name}\b.* => \d"), ("name.rt", r"Name::{Name}\b.* => (?:true|false)"), ("building.rt", r"Name::{Name}\b")]),
     Place(f"{WORDS}/specs", "the same tables: its value with its ranges and its journal, its name, and what its arguments say",
-          [("Commands.antt", r"^  {value} :"), ("Commands.antt", r"^command_value \({Name}\b"), ("Commands.antt", r"^IsInRange \({value}\b"),
-           ("Commands.antt", r"^journal_of \({value}\b"), ("Names.antt", r'codes "{word}"'), ("Names.antt", r"^word_count {Name} ="),
+          [("Commands.antt", r"^  {value} :"), ("Commands.antt", r"^command_value \(?{Name}\b"), ("Commands.antt", r"^IsInRange \(?{value}\b"),
+           ("Commands.antt", r"^journal_of \(?{value}\b"), ("Names.antt", r'codes "{word}"'), ("Names.antt", r"^word_count {Name} ="),
            ("Names.antt", r"^takes_journal {Name} ="), ("Words.antt", r"^command_from {Name} ")]),
     Place(f"{WORDS}/proofs/Journals.antt", "a line of `from_words`", [("", r"^from_words {Name} ")]),
-    Place(f"{TOP}/src/top.rt", "a line of `perform`, or of `perform_reading` if it has no journal: the call, in the crate of its role", [("", r"Command::{Name}\(")]),
+    Place(f"{TOP}/src/top.rt", "a line of `perform`, or of `perform_reading` if it has no journal: the call, in the crate of its role", [("", r"Command::{Name}\b")]),
     Place("crates/mtc_plans", "in `specs/Commands.antt` a line of `plan_of`: the plan, which stands beside it in `specs/`, has its inputs, "
           "its journals and its steps. In `specs/Cited.antt` a line of `command_outcome`: the outcome that its contract cites, a nest of the "
           "steps of `Steps`, in `specs/` of its crate. In `proofs/Planned.antt` a line of `outcome_planned`: that is what comes of the plan. "
           "Where it opens a cosigner's journal, or is given a secret file, a line of `says_so` in `crates/mtc_laws/proofs/Secrets.antt`: what "
           "it prints",
-          [("specs/Commands.antt", r"^plan_of h \({value} "), ("specs/Cited.antt", r"^command_outcome h \({value} "),
-           ("proofs/Planned.antt", r"^ *outcome_planned \({value} ")]),
+          [("specs/Commands.antt", r"^plan_of h \(?{value} "), ("specs/Cited.antt", r"^command_outcome h \(?{value} "),
+           ("proofs/Planned.antt", r"^ *outcome_planned \(?{value} ")]),
     Place("crates/mtc_authority/src/work.rt", "where it works on an open log: a variant of `Work`, and a line of `carry_out`",
           [("", r"^    {Name}[,(]"), ("", r"Work::{Name}\b")], on_log=True),
     Place("crates/test_run/src", "each of its statuses and lines, over a file system in memory", [("", r'^\$ {word}\b|"{word}[ "]')]),
     Place("docs/COMMANDS.md", "a row of the table; a section with each refusal in the order of the tests",
           [("", r"^\| `{word}[ `]"), ("", r"^## (?:.*, )?{word}(?:,|$)")]),
-    Place("docs/mtc.1", "nothing by hand: `tests/manual.sh --write` makes it, with `docs/mtc.bash`, from that table",
-          [("", r"^\\fB{man}\\fR \\fI")]),
+    Place("docs/mtc.1", "nothing by hand: `tests/manual.sh --write` makes it, with `docs/mtc.bash` and the text of `help`, from that table",
+          [("", r"^\\fB{man}\\fR(?: \\fI|$)")]),
     Place("tests/commands.sh", "a line with values from outside; or a step of `docs/TOUR.md`", [("", r"^{word} |mtc {word} ")],
           or_in="docs/TOUR.md"),
-    Place("tests/allocations.py", "its arguments, for each way in which it ends", [("", r'"{word} ')]),
+    Place("tests/allocations.py", "its arguments, for each way in which it ends", [("", r'"{word}[ "]')]),
 ]
 
 
