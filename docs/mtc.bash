@@ -3,7 +3,7 @@
 _mtc() {
     local word=${COMP_WORDS[COMP_CWORD]} kinds=()
     if [ "$COMP_CWORD" -eq 1 ]; then
-        COMPREPLY=($(compgen -W 'member show verify init-log issue checkpoint entries entries-from consist subtree keygen init-cosigner advance cosign export landmark landmarks light-cert switch tile trust-landmarks cert audit quarrel drill root held monitor-init monitor' -- "$word"))
+        COMPREPLY=($(compgen -W 'member show verify init-log issue checkpoint entries entries-from consist subtree keygen init-cosigner advance cosign export landmark landmarks light-cert switch tile trust-landmarks cert audit quarrel drill root held monitor-init monitor help version' -- "$word"))
         return
     fi
     case ${COMP_WORDS[1]} in
