@@ -8,3 +8,4 @@ pub mod Cosigners
 pub mod Planned
 pub mod Names
 pub mod Heard
+pub mod Streams

@@ -11,3 +11,4 @@ pub mod Commands
 pub mod Words
 pub mod Cited
 pub mod Heard
+pub mod Streams

@@ -1,6 +1,6 @@
 -- What the arguments of a command say of its journal and of the file beside it, which its plan has
--- to say too.
-use Rattle.std.specs.Prelude.{List, [], Option, None, Some}
+-- to say too; and of its output.
+use Rattle.std.specs.Prelude.{Bool, false, List, [], Option, None, Some}
 use Rattle.byte_formats.specs.Types.{Text}
 use Rattle.mtc_words.specs.Commands.{CommandValue, init_cosigner, init_log, tile}
 
@@ -14,3 +14,8 @@ journal_made_by other = None
 abbrev pub only_read_by : CommandValue → List Text → List Text
 only_read_by (tile journal) besides = []
 only_read_by other besides = besides
+
+-- It may write its text while it still reads its journal. The others write theirs once all else is
+-- done.
+abbrev pub streams : CommandValue → Bool
+streams command = false

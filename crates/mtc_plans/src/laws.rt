@@ -19,6 +19,7 @@ ghost use Rattle.mtc_plans.specs.Heard.{CosignedTextsAreOfRecords, ExportedTexts
 ghost use Rattle.mtc_plans.specs.Heard.{IssuedTextsAreOfRecords, KeyTextsAreOfSecrets};
 ghost use Rattle.mtc_plans.specs.Heard.{SwitchedTextsAreOfRecords};
 ghost use Rattle.mtc_plans.specs.PartyKinds.{party_kinds};
+ghost use Rattle.mtc_plans.specs.Streams.{StreamsAddNone, StreamsMakeNone};
 ghost use Rattle.mtc_plans.specs.Words.{journal_made_by, only_read_by};
 
 /// What each command has to answer, as its contract cites it, is what comes of its plan.
@@ -41,6 +42,13 @@ pub fn law_plans_name_their_files()
     ensures only_read { (h : HashFunction) (command : CommandValue)
         → only_read_names (plan_of h command).journals
         ≡ only_read_by command (beside_names (plan_of h command).journals) }
+{}
+
+/// A command that may write its text while it reads its journal adds no record and makes no
+/// journal, whatever files there are.
+pub fn law_streams_add_no_record()
+    ensures records { StreamsAddNone }
+    ensures journals { StreamsMakeNone }
 {}
 
 /// What is proved of every plan holds of the program's kinds of journals: each outcome is one of
