@@ -55,7 +55,7 @@ use Rattle.mtc_laws.proofs.Audits.{printed_text}
 use Rattle.mtc_laws.proofs.HeardRuns.{contents_crash_state, heard_held, modelled_file}
 use Rattle.mtc_laws.proofs.Printed.{indices_printed}
 use Rattle.mtc_laws.proofs.Recovered.{each_held, held_prefix, modelled_then}
-use Rattle.mtc_laws.proofs.RunLaws.{done_heard}
+use Rattle.mtc_laws.proofs.HeardBytes.{done_heard}
 use Rattle.mtc_laws.specs.AcceptanceLaws.{AsksForCertificate, Backs, IsAcceptedFor}
 use Rattle.mtc_laws.specs.AcceptanceLaws.{IssuedCertificatesAreAccepted, WritesCertificate}
 use Rattle.mtc_laws.specs.AcceptanceLaws.{certified_hash}

@@ -53,7 +53,7 @@ use Rattle.mtc_laws.specs.AuditLaws.{IsSignedInExecution, StandsOrPair}
 use Rattle.mtc_top.specs.Concluded.{Prints}
 use Rattle.mtc_top.specs.Facts.{facts}
 use Rattle.mtc_laws.proofs.Exports.{exports_hold}
-use Rattle.mtc_laws.proofs.RunLaws.{done_heard}
+use Rattle.mtc_laws.proofs.HeardBytes.{done_heard}
 use Rattle.mtc_top.proofs.Runs.{answered, wrote_of}
 use Rattle.mtc_top.specs.Executions.{program, Run}
 

@@ -25,6 +25,7 @@ use Rattle.mtc_laws.specs.AuditLaws.{HoldsText}
 use Rattle.mtc_top.specs.Executions.{Run, program}
 use Rattle.mtc_laws.proofs.Aliases.{IsHeard, IsRun}
 use Rattle.mtc_laws.proofs.HeardRuns.{file_bytes, printed_so}
+use Rattle.mtc_laws.proofs.Streams.{plain_command}
 use Rattle.mtc_laws.proofs.Printed.{did_so, heard_so}
 use Rattle.mtc_laws.specs.CertLaws.{CertificatesArePrinted, LightCertificatesArePrinted}
 use Rattle.mtc_laws.specs.CertLaws.{PrintsCertificate}
@@ -108,6 +109,7 @@ module _ {R S D O E : Type 0} (h : HashFunction) (rooms : Rooms R S D) (disks : 
             state = state;
             log_is = stands.1;
             printed = printed_so h rooms disks outs errs old run is_run heard
+                (plain_command h command spoken refl)
                 (certificate_in h index start end s.signatures state) w.reply_is;
           };
           held = w.held;
@@ -144,7 +146,8 @@ module _ {R S D O E : Type 0} (h : HashFunction) (rooms : Rooms R S D) (disks : 
                 w.did;
             state = state;
             log_is = stands.1;
-            printed = printed_so h rooms disks outs errs old run is_run heard text
+            printed = printed_so h rooms disks outs errs old run is_run heard
+                (plain_command h command spoken refl) text
                 (w.reply_is ∙ ap (λ (o : Option Span). said Done (light_text h index state o)) c.1);
           };
           held = w.held;

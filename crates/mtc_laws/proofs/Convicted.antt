@@ -33,7 +33,7 @@ use Rattle.mtc_top.specs.Facts.{facts}
 use Rattle.mtc_laws.specs.QuarrelLaws.{Convicts, HasSignedTwice, TwoSignaturesCollide}
 use Rattle.mtc_laws.proofs.Audits.{printed_text}
 use Rattle.mtc_laws.proofs.Exports.{exports_hold}
-use Rattle.mtc_laws.proofs.RunLaws.{done_heard}
+use Rattle.mtc_laws.proofs.HeardBytes.{done_heard}
 use Rattle.mtc_top.proofs.Runs.{answered, wrote_of}
 use Rattle.mtc_top.specs.Executions.{program, Run}
 use Rattle.mtc_laws.proofs.Aliases.{IsRun}

@@ -58,6 +58,7 @@ use Rattle.mtc_plans.proofs.Heard.{cosigned_so}
 use Rattle.mtc_top.specs.Executions.{program}
 use Rattle.mtc_laws.specs.PrintLaws.{HasCosigned, OfHeard}
 use Rattle.mtc_laws.proofs.HeardRuns.{file_bytes, heard_held, printed_so}
+use Rattle.mtc_laws.proofs.Streams.{plain_command}
 use Rattle.mtc_laws.proofs.Leaves.{first_own, serves}
 use Rattle.mtc_laws.proofs.Printed.{did_so, heard_so}
 use Rattle.mtc_laws.proofs.Recovered.{crash_state_list, each_held, held_prefix, modelled_then}
@@ -227,7 +228,8 @@ module _ {R S D O E : Type 0} (h : HashFunction) (rooms : Rooms R S D) (disks : 
           uses = number_added h list state body state.key.next r.start r.end r.hash r.proof held.1
               signs;
           signs = signs;
-          printed = printed_so h rooms disks outs errs old run is_run heard (cosigned_text state r)
+          printed = printed_so h rooms disks outs errs old run is_run heard
+              (plain_command h command spoken refl) (cosigned_text state r)
               s.reply_is;
         },
         (

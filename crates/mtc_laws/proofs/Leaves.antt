@@ -14,8 +14,9 @@ use Rattle.disk_core.specs.declared.disk.Disk.{Ghosts as Disks}
 use Rattle.file_events.specs.Events.{CrashStates, Done, HalfDone, Happens}
 use Rattle.file_events.specs.Events.{MayAppend, WasFound, EventHolds, FirstHolds}
 use Rattle.file_events.specs.Owners.{LeavesJournal, ServesJournal}
-use Rattle.file_events.specs.Worlds.{breaks_off, clock_of, done_to, event_with}
+use Rattle.file_events.specs.Worlds.{breaks_off, broke_off, clock_of, done_to, event_with}
 use Rattle.file_events.specs.Worlds.{states_at, states_since, exited, heard_of}
+use Rattle.file_events.proofs.Works.{event_breaks}
 use Rattle.file_events.proofs.Records.{held_valid, no_records, one_list}
 use Rattle.journal_core.specs.Format.{Represents, RepresentsEither}
 use Rattle.mtc_io.specs.declared.sink.Sink.{Ghosts as Sinks}
@@ -33,6 +34,7 @@ use Rattle.party_history.specs.Rules.{AreRecords}
 use Rattle.mtc_top.specs.Facts.{facts}
 use Rattle.mtc_laws.proofs.Beside.{IsOwn, journal_own, none_beside}
 use Rattle.mtc_laws.proofs.Commands.{spoken_records}
+use Rattle.mtc_laws.proofs.HeardBytes.{ended_whole, unheard, unheard_broke}
 use Rattle.mtc_laws.proofs.Opened.{Finds, IsFound, IsNewAt, spoken_finds, spoken_new}
 use Rattle.mtc_top.proofs.Runs.{ended, not5_of, not8_of}
 use Rattle.mtc_top.specs.Executions.{program, Run, FileEvent}
@@ -165,6 +167,12 @@ module _ {R S D O E : Type 0} (h : HashFunction) (rooms : Rooms R S D) (disks : 
 
     abbrev Between : CrashStates
     Between = crash_states_from h rooms disks outs errs old run.room name
+
+    abbrev heard : Bool
+    heard = heard_of (program h rooms disks outs errs) run
+
+    abbrev broken : Bool
+    broken = broke_off (program h rooms disks outs errs) run
 
     some : (c : List ℕ) × Now c
     some =
@@ -310,13 +318,17 @@ module _ {R S D O E : Type 0} (h : HashFunction) (rooms : Rooms R S D) (disks : 
       }
 
       record Goes : Type 0 where
-        pub happens : Happens Valid (event_with (breaks_off run.status)
-            (heard_of (program h rooms disks outs errs) run) did) Before Now
+        pub happens : Happens Valid (event_with broken heard did) Before Now
         pub times : (c : List ℕ) → Between c → Left c did
 
       abbrev Broken : Bool → Type 0
-      Broken b = Happens Valid (event_with b (heard_of (program h rooms disks outs errs) run) did)
-          Before Now
+      Broken b = Happens Valid (event_with b heard did) Before Now
+
+      -- it has done with the journal what is asked
+      full : (b : Bool) → Happens Valid (event_with false heard did) Before Now → Broken b
+      full false is = is
+      full true is = (event_breaks Valid false heard did Before Now
+          (record { some = some; happens = is })).happens
 
       left_so : (How : Journaled → CrashStates → CrashStates → CrashStates → Type 0)
           → LeavesEach rooms disks old run.room (Js old run) How → How did Before Now Between
@@ -332,25 +344,40 @@ module _ {R S D O E : Type 0} (h : HashFunction) (rooms : Rooms R S D) (disks : 
                 run.err run.err_after a.reply run.status a.concludes in
                 let not8 = not8_of outs errs (known_word run.words) run.out run.out_after
                 run.err run.err_after a.reply run.status a.concludes in record {
-                  happens = subst Broken (sym (ap (λ (b : Bool). b || (run.status == 8))
-                      (ne_eqb run.status 5 not5) ∙ ne_eqb run.status 8 not8))
-                      (done did knows made);
+                  happens = subst Broken (sym (ended_whole (breaks_off run.status) heard
+                      (ap (λ (b : Bool). b || (run.status == 8)) (ne_eqb run.status 5 not5)
+                      ∙ ne_eqb run.status 8 not8))) (done did knows made);
                   times = done_then did knows made;
                 })
             | inr other ↦ elim other [
               | inl failed ↦
                   (let made = left_so MayHaveMade (failed.made is_modelled) in record {
-                    happens = subst Broken (sym (or_left (run.status == 5) (run.status == 8)
-                        (eq-eqb run.status 5 failed.code))) (half did knows made);
+                    happens = subst Broken (sym (unheard_broke (breaks_off run.status) heard
+                        (or_left (run.status == 5) (run.status == 8)
+                        (eq-eqb run.status 5 failed.code))
+                        (unheard run.status 5 (outs.taken run.out) (outs.taken run.out_after)
+                        failed.code (omega arith) (λ six. omega (arith, six)) failed.text)))
+                        (half did knows made);
                     times = half_then did knows made;
                   })
-              | inr out_of_memory ↦
-                  (let kept : Kept Before Now Between
-                  = left_so HasKept (out_of_memory.made is_modelled) in record {
-                    happens = subst Broken (sym (or_right (run.status == 5) (run.status == 8)
-                        (eq-eqb run.status 8 out_of_memory.code))) (inl kept.now_is);
-                    times = λ c at. past c did (kept.since_is c at);
-                  })
+              | inr others ↦ elim others [
+                | inl out_of_memory ↦
+                    (let kept : Kept Before Now Between
+                    = left_so HasKept (out_of_memory.made is_modelled) in record {
+                      happens = subst Broken (sym (unheard_broke (breaks_off run.status) heard
+                          (or_right (run.status == 5) (run.status == 8)
+                          (eq-eqb run.status 8 out_of_memory.code))
+                          (unheard run.status 8 (outs.taken run.out) (outs.taken run.out_after)
+                          out_of_memory.code (omega arith) (λ six. omega (arith, six))
+                          out_of_memory.text))) (inl kept.now_is);
+                      times = λ c at. past c did (kept.since_is c at);
+                    })
+                | inr short ↦
+                    (let made = left_so HasMade (short.cut.1.made is_modelled) in record {
+                      happens = full broken (done did knows made);
+                      times = done_then did knows made;
+                    })
+              ]
             ]
           ]
 
@@ -376,10 +403,9 @@ module _ {R S D O E : Type 0} (h : HashFunction) (rooms : Rooms R S D) (disks : 
           | inl none ↦ record {
             leads = record {
               some = some;
-              happens = subst (λ (d : Journaled). Happens Valid (event_with (breaks_off run.status)
-                  (heard_of (program h rooms disks outs errs) run) d) Before Now) (sym none.1)
-                  (idle_happens Valid Before Now (breaks_off run.status)
-                  (heard_of (program h rooms disks outs errs) run) (still_now beside none.0));
+              happens = subst (λ (d : Journaled). Happens Valid (event_with broken heard d)
+                  Before Now) (sym none.1)
+                  (idle_happens Valid Before Now broken heard (still_now beside none.0));
             };
             times = λ c at. record {
               some = (c, refl);
@@ -400,9 +426,10 @@ module _ {R S D O E : Type 0} (h : HashFunction) (rooms : Rooms R S D) (disks : 
         → AreAmong (Js old run) name (Done' name old run)
     held_among list held = elim (find_name (facts h (command_of run.words)).journals
         ((facts h (command_of run.words)).outcome (rooms.file old)).journals name) [
-          | inl none ↦ absurd (idle_holds list (breaks_off run.status)
+          | inl none ↦ absurd (idle_holds list (broke_off (program h rooms disks outs errs) run)
               (heard_of (program h rooms disks outs errs) run)
-              (subst (λ (d : Journaled). EventHolds list (event_with (breaks_off run.status)
+              (subst (λ (d : Journaled). EventHolds list (event_with
+              (broke_off (program h rooms disks outs errs) run)
               (heard_of (program h rooms disks outs errs) run) d)) none.1 held))
           | inr among ↦ among
         ]

@@ -2,6 +2,8 @@ pub mod Commands
 pub mod Aliases
 pub mod Opened
 pub mod Beside
+pub mod HeardBytes
+pub mod Streams
 pub mod Leaves
 pub mod RunLaws
 pub mod HeardRuns

@@ -9,7 +9,7 @@ use Rattle.file_events.specs.Events.{CrashStates, Done, HalfDone, Happens}
 use Rattle.file_events.specs.Owners.{ServesLog}
 use Rattle.file_events.specs.Tiles.{AllGo, LeavesTiles, stored}
 use Rattle.file_events.specs.Works.{LeavesAll, Work, journal_work, tiles_work}
-use Rattle.file_events.specs.Worlds.{all_states, breaks_off, done_to, event_with}
+use Rattle.file_events.specs.Worlds.{all_states, broke_off, done_to, event_with}
 use Rattle.file_events.specs.Worlds.{states_at, heard_of}
 use Rattle.file_events.proofs.Records.{one_list}
 use Rattle.journal_core.specs.Format.{Represents}
@@ -96,6 +96,9 @@ module _ {R S D O E : Type 0} (h : HashFunction) (rooms : Rooms R S D) (disks : 
     abbrev heard : Bool
     heard = heard_of (program h rooms disks outs errs) run
 
+    abbrev broken : Bool
+    broken = broke_off (program h rooms disks outs errs) run
+
     abbrev Before : CrashStates
     Before = crash_states_in h rooms disks outs errs old name
 
@@ -128,7 +131,7 @@ module _ {R S D O E : Type 0} (h : HashFunction) (rooms : Rooms R S D) (disks : 
     All broken d = LeavesAll broken (works d) (all_states (program h rooms disks outs errs) old)
         (all_states (program h rooms disks outs errs) run.room)
 
-    happens : Happens (AreRecords h) (event_with (breaks_off run.status) heard did) Before Now
+    happens : Happens (AreRecords h) (event_with broken heard did) Before Now
     happens =
         (leaves h rooms disks outs errs crash_state only contents bytes name old run is_modelled
         is_run (AreRecords h) keeps (none_beside h (command_of run.words) name own)).leads.happens
@@ -228,13 +231,13 @@ module _ {R S D O E : Type 0} (h : HashFunction) (rooms : Rooms R S D) (disks : 
           let wrong : appended list body ≡ untouched = is in absurd cc
       untouched_on (started body) is = tt
 
-    pub log_leaves : All (breaks_off run.status) did
+    pub log_leaves : All broken did
     log_leaves = elim (find_name asked.journals (asked.outcome (rooms.file old)).journals name) [
       | inl none ↦
           (let other = tiles_other h (command_of run.words) name none.0 in
-          alone_left other (breaks_off run.status) did (untouched_on other did none.1) happens)
+          alone_left other broken did (untouched_on other did none.1) happens)
       | inr among ↦ elim (named_or_other asked.besides beside) [
-        | inl named ↦ both_left (breaks_off run.status) did
+        | inl named ↦ both_left broken did
             (knows h rooms disks outs errs crash_state only contents bytes name old run is_modelled
             is_run
             (AreRecords h) keeps did among) happens
@@ -242,7 +245,7 @@ module _ {R S D O E : Type 0} (h : HashFunction) (rooms : Rooms R S D) (disks : 
             → LeavesBoth (HasTilesOf h) asked.Valid rooms disks old run.room n d) js name did
             (is_run.stores is_modelled) among named)
         | inr other ↦
-            alone_left other (breaks_off run.status) did (cosigner_on other did among) happens
+            alone_left other broken did (cosigner_on other did among) happens
       ]
     ]
 

@@ -1,6 +1,6 @@
 -- What goes out of `monitor` is what it has to print.
 use Rattle.std.proofs.Common.{◌≡◌, ℕ, Bool, true, false, List, Option, None, Some, Result, Ok, Err}
-use Rattle.std.proofs.Common.{ap, subst, codes, length, nat_lt, if◌then◌else◌}
+use Rattle.std.proofs.Common.{ap, refl, subst, codes, length, nat_lt, if◌then◌else◌}
 use Rattle.byte_formats.specs.Types.{HashFunction}
 use Rattle.disk_core.specs.declared.disk.Disk.{Ghosts as Disks}
 use Rattle.mtc_io.specs.declared.sink.Sink.{Ghosts as Sinks}
@@ -32,6 +32,7 @@ use Rattle.mtc_plans.specs.Heard.{OfSaid}
 use Rattle.mtc_plans.proofs.Planned.{outcome_planned}
 use Rattle.mtc_top.specs.Executions.{program}
 use Rattle.mtc_laws.proofs.HeardRuns.{printed_so}
+use Rattle.mtc_laws.proofs.Streams.{plain_command}
 use Rattle.mtc_laws.proofs.Printed.{heard_so}
 use Rattle.mtc_laws.specs.MonitorLaws.{MonitorsArePrinted}
 
@@ -134,5 +135,6 @@ module _ {R S D O E : Type 0} (h : HashFunction) (rooms : Rooms R S D) (disks : 
       record {
         text = s.text;
         asked = s.asked;
-        printed = printed_so h rooms disks outs errs old run is_run heard s.text s.reply_is;
+        printed = printed_so h rooms disks outs errs old run is_run heard
+            (plain_command h command spoken refl) s.text s.reply_is;
       }

@@ -37,6 +37,7 @@ use Rattle.party_history.proofs.Entries.{item_read}
 use Rattle.mtc_top.specs.Facts.{facts, facts_of}
 use Rattle.mtc_laws.specs.PrintLaws.{IndicesArePrinted, SignaturesArePrinted, SwitchesArePrinted}
 use Rattle.mtc_laws.proofs.HeardRuns.{file_bytes, heard_run, not_refused, printed_so}
+use Rattle.mtc_laws.proofs.Streams.{plain_command}
 use Rattle.mtc_top.specs.Executions.{program, Run}
 use Rattle.mtc_laws.proofs.Aliases.{IsRun, DidWith, IsHeard}
 
@@ -114,7 +115,8 @@ module _ {R S D O E : Type 0} (h : HashFunction) (rooms : Rooms R S D) (disks : 
         uses = number_added h list state body state.key.next r.start r.end r.hash r.proof stands.1
             signs;
         signs = signs;
-        printed = printed_so h rooms disks outs errs old run is_run heard (cosigned_text state r)
+        printed = printed_so h rooms disks outs errs old run is_run heard
+            (plain_command h command spoken refl) (cosigned_text state r)
             s.reply_is;
       }
 
@@ -142,6 +144,7 @@ module _ {R S D O E : Type 0} (h : HashFunction) (rooms : Rooms R S D) (disks : 
         item = item_read (view_in state) false (end_offset list)
             (issued_entry h (view_in state) s.request) s.request.key s.fits;
         printed = printed_so h rooms disks outs errs old run is_run heard
+            (plain_command h command spoken refl)
             (issued_text (length state.entries)) s.reply_is;
       }
 
@@ -161,5 +164,6 @@ module _ {R S D O E : Type 0} (h : HashFunction) (rooms : Rooms R S D) (disks : 
         did = did_so h rooms disks outs errs old run command spoken name
             (appended list (switch_record (length state.entries))) refl s.did;
         printed = printed_so h rooms disks outs errs old run is_run heard
+            (plain_command h command spoken refl)
             (switched_line (length state.entries)) s.reply_is;
       }

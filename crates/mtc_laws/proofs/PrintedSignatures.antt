@@ -33,7 +33,7 @@ use Rattle.party_history.specs.declared.start.PartyStart.TheVariants.{Cosigner}
 use Rattle.mtc_command.proofs.Made.{OnlyNow, ReadsCrashState}
 use Rattle.mtc_top.specs.Executions.{IsBegun, Run, owner, program}
 use Rattle.mtc_laws.proofs.Audits.{printed_text}
-use Rattle.mtc_laws.proofs.RunLaws.{done_heard}
+use Rattle.mtc_laws.proofs.HeardBytes.{done_heard}
 use Rattle.mtc_laws.specs.AcceptanceLaws.{HasCosignedAt, HaveCosigned}
 use Rattle.mtc_laws.specs.CountLaws.{signature_of}
 use Rattle.mtc_laws.proofs.Counted.{signatures_count}

@@ -1,10 +1,9 @@
 -- What follows of each run, and how it ends as steps of a party.
-use Rattle.std.proofs.Common.{◌≡◌, ◌≢◌, ◌≤◌, ◌<◌, ◌⊎◌, inl, inr, ℕ, List, [], ◌∷◌, Option}
-use Rattle.std.proofs.Common.{None, Some, codes, length, take, refl, sym, ap, subst, ◌∙◌}
-use Rattle.std.proofs.Common.{arith, rules, length-take, take_all, Bool, true, false, ◌||◌, ◌==◌}
-use Rattle.std.proofs.Common.{nat_lt}
-use Rattle.std.proofs.lemmas.Bool.{eq-eqb, eqb-true, lt-ltb, ltb-true, ne_eqb, or_left}
-use Rattle.std.proofs.lemmas.Bool.{or_right}
+use Rattle.std.proofs.Common.{◌≡◌, ◌≢◌, ◌≤◌, ◌⊎◌, inl, inr, ℕ, List, [], Option}
+use Rattle.std.proofs.Common.{None, Some, codes, take, refl, sym, ap, subst, ◌∙◌}
+use Rattle.std.proofs.Common.{arith, length-take, take_all, Bool, true, false, ◌||◌, ◌==◌}
+use Rattle.std.proofs.Common.{IfSome}
+use Rattle.std.proofs.lemmas.Bool.{ne_eqb}
 use Rattle.std.proofs.lemmas.Bool.Decides.{leb_tells}
 use Rattle.std.proofs.lemmas.List.{append_cancel_left, take-take}
 use Rattle.std.specs.Io.KnownBytes.{Appends}
@@ -26,87 +25,29 @@ use Rattle.mtc_command.specs.Made.{HasKept, HasMade, Journaled, Leaves, Leaving,
 use Rattle.mtc_command.specs.Served.{IsOther, Journals, LeavesEach}
 use Rattle.mtc_command.specs.declared.answer.Said.TheVariants.{Done, Against, Collided}
 use Rattle.mtc_command.specs.Lines.{line_of}
+use Rattle.mtc_command.specs.Works.{ModelsNew}
 use Rattle.mtc_command.proofs.Made.{OnlyNow, ReadsCrashState}
 use Rattle.mtc_words.specs.Words.{command_of, known_word}
 use Rattle.party_history.specs.Journals.{Continues}
 use Rattle.party_history.specs.Rules.{AreRecords}
 use Rattle.party_history.proofs.Taking.{takes}
-use Rattle.mtc_top.specs.Concluded.{Concludes, Prints, PrintsPrefix, Reports}
+use Rattle.mtc_top.specs.Concluded.{Concludes, Lost, Prints, PrintsPrefix, Reports}
 use Rattle.mtc_top.specs.Facts.{Facts, facts}
-use Rattle.mtc_top.specs.Run.{Answered, HasRun}
+use Rattle.mtc_top.specs.Run.{Answered, HasRun, WasCut}
 use Rattle.mtc_laws.specs.RunLaws.{AllGoOn, PrefixesAreRuns, RunShows, RunSteps, RunsAreSteps}
 use Rattle.mtc_laws.specs.RunLaws.{TookSome, AreAmong}
 use Rattle.mtc_laws.proofs.Beside.{journal_own, none_beside}
 use Rattle.mtc_laws.proofs.Commands.{spoken_records}
+use Rattle.mtc_laws.proofs.HeardBytes.{breaks_known, prefix_some, took_none, unheard}
 use Rattle.mtc_laws.proofs.Leaves.{contents_crash_state, find_name, leaves, modelled_file, of_each}
 use Rattle.mtc_laws.proofs.Leaves.{still}
-use Rattle.mtc_top.proofs.Runs.{HasFailed, RanOutOfMemory, all_early, answered, ended, first_words}
+use Rattle.mtc_laws.proofs.Streams.{adds_none, early_reply, is_command, makes_none}
+use Rattle.mtc_top.proofs.Runs.{HasEnded, HasFailed, RanOutOfMemory, WasCutOff, all_early}
+use Rattle.mtc_top.proofs.Runs.{answered, cut_breaks, cut_prefix, ended, first_words}
 use Rattle.mtc_top.proofs.Runs.{lost_of, not5_of, not8_of, only_words, prefix_of, reply_code}
 use Rattle.mtc_top.proofs.Runs.{wrote_of}
 use Rattle.mtc_top.specs.Executions.{program, Run}
 use Rattle.mtc_laws.proofs.Aliases.{IsRun, owner_of, crash_states_in}
-
--- where nothing was appended, no byte went out
-pub took_none : (old new : Option (List ℕ)) → Appends old new [] → TookSome old new → ⊥
-took_none None new none took = took
-took_none (Some xs) None none took = took
-took_none (Some xs) (Some ys) none took = grind (rules, arith, none, took)
-
-pub prefix_none : (old new : Option (List ℕ)) → AppendsPrefix old new [] → TookSome old new → ⊥
-prefix_none old new prefix took =
-    took_none old new (subst (Appends old new) (take_all prefix.0 [] (omega arith)) prefix.1) took
-
--- a text of which a byte went out isn't empty
-prefix_some : (old new : Option (List ℕ)) (text : List ℕ) → AppendsPrefix old new text
-    → TookSome old new → 0 < length text
-prefix_some old new [] prefix took = absurd (prefix_none old new prefix took)
-prefix_some old new (x ∷ xs) prefix took = omega arith
-
--- a run that was heard did its work, or a byte of it may have gone out
-abbrev Heard : ℕ → Option (List ℕ) → Option (List ℕ) → Type 0
-Heard status old new = (status ≡ 0) ⊎ (TookSome old new ⊎ ((status ≡ 6) × (old ≡ None)))
-
-either_true : (a b : Bool) → (a || b) ≡ true → (a ≡ true) ⊎ (b ≡ true)
-either_true true b is = inl refl
-either_true false b is = inr is
-
-pub heard_ways : (status : ℕ) (old new : Option (List ℕ)) → is_heard status old new ≡ true
-    → Heard status old new
-heard_ways status None new is = elim (either_true (status == 0) (status == 6) is) [
-  | inl zero_ ↦ inl (eqb-true status 0 zero_)
-  | inr six ↦ inr (inr (eqb-true status 6 six, refl))
-]
-heard_ways status (Some xs) None is = inl (eqb-true status 0 is)
-heard_ways status (Some xs) (Some ys) is =
-    elim (either_true (status == 0) (nat_lt (length xs) (length ys)) is) [
-      | inl zero_ ↦ inl (eqb-true status 0 zero_)
-      | inr less ↦ inr (inl (ltb-true (length xs) (length ys) less))
-    ]
-
-took_heard : (status : ℕ) (old new : Option (List ℕ)) → TookSome old new
-    → is_heard status old new ≡ true
-took_heard status None new took = absurd took
-took_heard status (Some xs) None took = absurd took
-took_heard status (Some xs) (Some ys) took = or_right (status == 0)
-    (nat_lt (length xs) (length ys)) (lt-ltb (length xs) (length ys) took)
-
-pub done_heard : (status : ℕ) (old new : Option (List ℕ)) → status ≡ 0
-    → is_heard status old new ≡ true
-done_heard status None new is = or_left (status == 0) (status == 6) (eq-eqb status 0 is)
-done_heard status (Some xs) None is = eq-eqb status 0 is
-done_heard status (Some xs) (Some ys) is = or_left (status == 0) (nat_lt (length xs) (length ys))
-    (eq-eqb status 0 is)
-
--- a run with such a status that appended nothing isn't heard
-pub unheard : (status n : ℕ) (old new : Option (List ℕ)) → status ≡ n → 0 < n → n ≢ 6
-    → Appends old new [] → is_heard status old new ≡ true → ⊥
-unheard status n old new is some other none heard = elim (heard_ways status old new heard) [
-  | inl zero_ ↦ omega (arith, is, some, zero_)
-  | inr any ↦ elim any [
-    | inl took ↦ took_none old new none took
-    | inr lost ↦ other (sym is ∙ lost.0)
-  ]
-]
 
 -- a prefix of a prefix
 take_both : (j k : ℕ) (l : List ℕ) → (n : ℕ) × (take j (take k l) ≡ take n l)
@@ -145,8 +86,10 @@ module _ {R S D O E : Type 0} (h : List ℕ → List ℕ) (rooms : Rooms R S D) 
   abbrev OutOfMemory : Type 0
   OutOfMemory = RanOutOfMemory h rooms disks outs errs words old new out out' err err' status
 
-  abbrev how : Answered h rooms disks outs errs words old new out out' err err' status
-      ⊎ (Failed ⊎ OutOfMemory)
+  abbrev Cut : Type 0
+  Cut = WasCut h rooms disks outs errs words old new out out' err err' status
+
+  abbrev how : HasEnded h rooms disks outs errs words old new out out' err err' status
   how = ended h rooms disks outs errs words old new out out' err err' status is_run
 
   abbrev went : Type 0
@@ -161,6 +104,20 @@ module _ {R S D O E : Type 0} (h : List ℕ → List ℕ) (rooms : Rooms R S D) 
   not_out_of_memory out_of_memory any =
       unheard status 8 (outs.taken out) (outs.taken out') out_of_memory.code
       (omega arith) (λ six. omega (arith, six)) out_of_memory.text any
+
+  breaks : Cut → breaks_off status ≡ true
+  breaks was = cut_breaks h rooms disks outs errs words old new out out' err err' was.0 status was.1
+
+  -- without an answer it was cut off
+  cut_so : Failed ⊎ (OutOfMemory
+      ⊎ WasCutOff h rooms disks outs errs words old new out out' err err' status) → went → Cut
+  cut_so other any = elim other [
+    | inl failed ↦ absurd (not_failed failed any)
+    | inr others ↦ elim others [
+      | inl out_of_memory ↦ absurd (not_out_of_memory out_of_memory any)
+      | inr short ↦ short.cut
+    ]
+  ]
 
   -- one that answered didn't break off
   whole_of : Answered h rooms disks outs errs words old new out out' err err' status
@@ -180,7 +137,10 @@ module _ {R S D O E : Type 0} (h : List ℕ → List ℕ) (rooms : Rooms R S D) 
       ]
       | inr other ↦ elim other [
         | inl failed ↦ omega (arith, failed.code)
-        | inr out_of_memory ↦ omega (arith, out_of_memory.code)
+        | inr others ↦ elim others [
+          | inl out_of_memory ↦ omega (arith, out_of_memory.code)
+          | inr short ↦ breaks_known status (breaks short.cut)
+        ]
       ]
     ];
     only = only_words h rooms disks outs errs words old new out out' err err' status is_run;
@@ -195,32 +155,39 @@ module _ {R S D O E : Type 0} (h : List ℕ → List ℕ) (rooms : Rooms R S D) 
       )
       | inr other ↦ elim other [
         | inl failed ↦ absurd (room failed.cause)
-        | inr out_of_memory ↦ absurd (memory out_of_memory.code)
+        | inr others ↦ elim others [
+          | inl out_of_memory ↦ absurd (memory out_of_memory.code)
+          | inr short ↦ elim short.cause [
+            | inl cause ↦ absurd (room cause)
+            | inr eight ↦ absurd (memory eight)
+          ]
+        ]
       ]
     ];
     silent = λ not0 not3 not6 not10. elim how [
       | inl a ↦ (let wrote = wrote_of outs errs (known_word words) out out' err err' a.reply status
-          a.concludes not6 in
-          silent_reply (Prints outs out out') a.reply status wrote.code not0 not3 not10 wrote.text)
+          a.concludes not6 in inl (silent_reply (Prints outs out out') a.reply status wrote.code
+          not0 not3 not10 wrote.text))
       | inr other ↦ elim other [
-        | inl failed ↦ failed.text
-        | inr out_of_memory ↦ out_of_memory.text
+        | inl failed ↦ inl failed.text
+        | inr others ↦ elim others [
+          | inl out_of_memory ↦ inl out_of_memory.text
+          | inr short ↦ inr short.cut
+        ]
       ]
     ];
     heard = λ any. elim how [
-      | inl a ↦ a
-      | inr other ↦ elim other [
-        | inl failed ↦ absurd (not_failed failed any)
-        | inr out_of_memory ↦ absurd (not_out_of_memory out_of_memory any)
-      ]
+      | inl a ↦ inl a
+      | inr other ↦ inr (cut_so other any)
     ];
     whole = λ any. elim how [
-      | inl a ↦ whole_of a
-      | inr other ↦ elim other [
-        | inl failed ↦ absurd (not_failed failed any)
-        | inr out_of_memory ↦ absurd (not_out_of_memory out_of_memory any)
-      ]
+      | inl a ↦ inl (whole_of a)
+      | inr other ↦ inr (cut_so other any)
     ];
+    cut = λ was. (
+      breaks was,
+      adds_none h (command_of words) (rooms.file old) was.1.streams,
+    );
   }
 
   -- ---- a prefix of what went out
@@ -230,34 +197,72 @@ module _ {R S D O E : Type 0} (h : List ℕ → List ℕ) (rooms : Rooms R S D) 
       (cause : Rose (outs.faults out) (outs.faults failed))
       (line : Reports errs err contents (line_of (known_word words) None (codes "OutputFailed")))
     where
+      -- of a text of which a prefix went out
+      lost : (whole : List ℕ) → PrintsPrefix outs out out' whole
+          → Lost outs errs (known_word words) out failed err contents whole 6
+      lost whole went = record {
+        code = refl;
+        some = prefix_some _ _ _ went some;
+        cause = cause;
+        prefix = prefix_on _ _ _ _ _ some is went prefix;
+        line = line;
+      }
+
       lost_by : (ending : Ending)
           → Concludes outs errs (known_word words) out out' err err' ending (rooms.why new) status
           → Concludes outs errs (known_word words) out failed err contents ending (rooms.why new) 6
-      lost_by (replied reply) ends =
-          let whole = prefix_of outs errs (known_word words) out out' err err' reply status ends in
-          inr (record {
-            code = refl;
-            some = prefix_some _ _ _ whole some;
-            cause = cause;
-            prefix = prefix_on _ _ _ _ _ some is whole prefix;
-            line = line;
-          })
+      lost_by (replied reply) ends = inr (lost (out_of reply)
+          (prefix_of outs errs (known_word words) out out' err err' reply status ends))
       lost_by (room_failed file) ends = absurd (took_none _ _ ends.nothing some)
       lost_by no_memory ends = absurd (took_none _ _ ends.nothing some)
 
+      -- one that was cut off has done with its journals what is asked
+      cut_is_run : Cut → HasRun h rooms disks outs errs words old new out failed err contents 6
+      cut_is_run was =
+          let cut = was.1 in
+          let reply = said Done cut.text in record {
+            ending = replied reply;
+            ends = record {
+              reply = cut.is;
+              words = λ bad. absurd (is_command h (command_of words) cut.streams bad);
+              not_words = λ one. let wrong : 0 ≡ 1 = one in absurd (omega (arith, wrong));
+              fault = tt;
+              early = λ is_modelled. early_reply h (command_of words) (rooms.file old) reply
+                  cut.streams (cut.is is_modelled);
+            };
+            concludes = inl (inr (lost cut.text (cut_prefix h rooms disks outs errs words old new
+                out out' err err' was.0 status cut)));
+            back = is_run.back;
+            made = λ is_modelled. record {
+              no_file = (is_run.made is_modelled).no_file;
+              unmade = λ none. let wrong : replied reply ≡ no_memory = none in absurd cc;
+              left = cut.made is_modelled;
+            };
+            began = subst (λ (o : Option (List ℕ)). IfSome o (λ name.
+                ModelsNew rooms disks name old new (replied reply)))
+                (sym (makes_none h (command_of words) cut.streams)) tt;
+            only_read = is_run.only_read;
+            spares = is_run.spares;
+            stores = is_run.stores;
+            valid = is_run.valid;
+          }
+
       prefix_is_run : HasRun h rooms disks outs errs words old new out failed err contents 6
-      prefix_is_run = record {
-        ending = is_run.ending;
-        ends = is_run.ends;
-        concludes = lost_by is_run.ending is_run.concludes;
-        back = is_run.back;
-        made = is_run.made;
-        began = is_run.began;
-        only_read = is_run.only_read;
-        spares = is_run.spares;
-        stores = is_run.stores;
-        valid = is_run.valid;
-      }
+      prefix_is_run = elim is_run.concludes [
+        | inl ends ↦ record {
+          ending = is_run.ending;
+          ends = is_run.ends;
+          concludes = inl (lost_by is_run.ending ends);
+          back = is_run.back;
+          made = is_run.made;
+          began = is_run.began;
+          only_read = is_run.only_read;
+          spares = is_run.spares;
+          stores = is_run.stores;
+          valid = is_run.valid;
+        }
+        | inr cut ↦ cut_is_run (is_run.ending, cut)
+      ]
 
 pub prefixes_are_runs : {R S D O E : Type 0} (h : List ℕ → List ℕ) (rooms : Rooms R S D)
     (disks : Disks D) (outs : Sinks O) (errs : Sinks E) → PrefixesAreRuns h rooms disks outs errs
@@ -309,7 +314,10 @@ module _ {R S D O E : Type 0} (h : HashFunction) (rooms : Rooms R S D) (disks : 
             | inl a ↦ at HasMade (a.made is_modelled) among
             | inr other ↦ elim other [
               | inl failed ↦ at MayHaveMade (failed.made is_modelled) among
-              | inr out_of_memory ↦ at HasKept (out_of_memory.made is_modelled) among
+              | inr others ↦ elim others [
+                | inl out_of_memory ↦ at HasKept (out_of_memory.made is_modelled) among
+                | inr short ↦ at HasMade (short.cut.1.made is_modelled) among
+              ]
             ]
           ]
     ]

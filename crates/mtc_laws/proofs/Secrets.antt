@@ -26,12 +26,14 @@ use Rattle.command_plans.specs.Rules.{AreOfFirst}
 use Rattle.mtc_plans.specs.Commands.{plan_of, planned_outcome}
 use Rattle.mtc_plans.specs.Heard.{AdvancesSo, BeginsSo, ExportsSo, KeysSo, OfSaid}
 use Rattle.mtc_plans.specs.PartyKinds.{cosigner, log, party_kinds}
+use Rattle.mtc_plans.specs.Words.{streams}
 use Rattle.mtc_plans.proofs.Heard.{advanced_so, begun_so, exported_so, keyed_so}
 use Rattle.mtc_top.specs.Facts.{facts}
 use Rattle.mtc_laws.specs.PrintLaws.{OnlyCosignSigns, Says}
 use Rattle.mtc_words.specs.Reasons.{word_fault_text}
 use Rattle.mtc_laws.proofs.Printed.{did_so, heard_so, signatures_printed}
 use Rattle.mtc_laws.proofs.HeardRuns.{file_bytes, heard_run, held_rules, not_refused, printed_so}
+use Rattle.mtc_laws.proofs.Streams.{plain_command}
 use Rattle.mtc_top.specs.Executions.{program, Run}
 use Rattle.mtc_laws.proofs.Aliases.{IsRun, HasHeld, IsHeard}
 
@@ -72,14 +74,21 @@ module _ {R S D O E : Type 0} (h : HashFunction) (rooms : Rooms R S D) (disks : 
     by_text command spoken P each =
         heard_so h rooms disks outs errs old run command spoken is_modelled is_run heard P each
 
-    keys_printed : (height width : ℕ) (file : List ℕ)
+    -- it doesn't write while it reads
+    abbrev IsPlain : Type 0
+    IsPlain = (facts h (command_of run.words)).streams ≡ false
+
+    plain : (command : CommandValue) → Speaks command → streams command ≡ false → IsPlain
+    plain command spoken is = plain_command h command spoken is
+
+    keys_printed : (height width : ℕ) (file : List ℕ) → IsPlain
         → KeysSo (rooms.file old) height width file answer
         → SaysSo (keygen height width file)
-    keys_printed height width file s = (
+    keys_printed height width file is_plain s = (
       s.secret,
       (
         record { there = s.has_secret.there; few = s.has_secret.few },
-        printed_so h rooms disks outs errs old run is_run heard
+        printed_so h rooms disks outs errs old run is_run heard is_plain
             (public_line (lms_type height) (ots_type width) s.secret) s.reply_is,
       ),
     )
@@ -94,7 +103,8 @@ module _ {R S D O E : Type 0} (h : HashFunction) (rooms : Rooms R S D) (disks : 
             (
               record { there = s.has_bytes.there; few = s.has_bytes.few },
               s.asked,
-              printed_so h rooms disks outs errs old run is_run heard (advanced_text s.request.size)
+              printed_so h rooms disks outs errs old run is_run heard
+                  (plain (advance name file) spoken refl) (advanced_text s.request.size)
                   s.reply_is,
             ),
           ),
@@ -115,6 +125,7 @@ module _ {R S D O E : Type 0} (h : HashFunction) (rooms : Rooms R S D) (disks : 
               did_so h rooms disks outs errs old run (export name) spoken name (reads list) refl
                   s.did,
               printed_so h rooms disks outs errs old run is_run heard
+                  (plain (export name) spoken refl)
                   (export_text s.found.state list)
                   s.reply_is,
             ),
@@ -142,11 +153,14 @@ module _ {R S D O E : Type 0} (h : HashFunction) (rooms : Rooms R S D) (disks : 
     says_so (advance name file) spoken = advanced name file spoken
     says_so (export name) spoken = exported name spoken
     says_so (init_cosigner name id log_id height width file) spoken =
-        keys_printed height width file (by_text (init_cosigner name id log_id height width file)
+        keys_printed height width file
+        (plain (init_cosigner name id log_id height width file) spoken refl)
+        (by_text (init_cosigner name id log_id height width file)
         spoken (BeginsSo h (rooms.file old) name id log_id height width file)
         (begun_so h (rooms.file old) name id log_id height width file)).keys
     says_so (keygen height width file) spoken =
-        keys_printed height width file (by_text (keygen height width file) spoken
+        keys_printed height width file (plain (keygen height width file) spoken refl)
+        (by_text (keygen height width file) spoken
         (KeysSo (rooms.file old) height width file) (keyed_so h (rooms.file old) height width file))
     says_so other spoken = logs other spoken refl
 

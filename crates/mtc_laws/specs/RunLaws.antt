@@ -16,13 +16,14 @@ use Rattle.mtc_command.specs.Answers.{IsEarly}
 use Rattle.mtc_command.specs.Lines.{line_of}
 use Rattle.mtc_command.specs.Made.{Journaled, untouched}
 use Rattle.mtc_command.specs.Served.{IsOther, OfEach}
+use Rattle.mtc_plans.specs.Streams.{AddsNone}
 use Rattle.party_history.specs.Journals.{Continues}
 use Rattle.party_history.specs.Rules.{AreRecords, StartsWith}
 use Rattle.party_history.specs.declared.start.PartyStart.{PartyStart}
 use Rattle.party_history.specs.declared.step.PartyStep.{PartyStep}
 use Rattle.mtc_top.specs.Concluded.{Prints, PrintsPrefix, Reports}
 use Rattle.mtc_top.specs.Facts.{facts}
-use Rattle.mtc_top.specs.Run.{Answered, HasRun, journals}
+use Rattle.mtc_top.specs.Run.{Answered, HasRun, WasCut, journals}
 use Rattle.mtc_top.specs.Executions.{owner, Run}
 
 -- A byte went out, if the model knows it of the sink.
@@ -61,15 +62,23 @@ module _ {R S D O E : Type 0} (h : HashFunction) (rooms : Rooms R S D) (disks : 
     pub complete : (Rose (rooms.faults old) (rooms.faults new) → ⊥)
         → (Rose (outs.faults out) (outs.faults out') → ⊥) → status ≢ 8 → (status ≢ 6)
         × Answered h rooms disks outs errs words old new out out' err err' status
-    -- It prints nothing if it is refused, the file system failed, or memory ran out.
+    -- It prints nothing if it is refused, the file system failed, or memory ran out, unless it was
+    -- cut off.
     pub silent : status ≢ 0 → status ≢ 3 → status ≢ 6 → status ≢ 10
         → Prints outs out out' []
-    -- It answers if it did its work, or a byte of it may have gone out.
+        ⊎ WasCut h rooms disks outs errs words old new out out' err err' status
+    -- It answers if it did its work, or a byte of it may have gone out, unless it was cut off.
     pub heard : is_heard status (outs.taken out) (outs.taken out') ≡ true
         → Answered h rooms disks outs errs words old new out out' err err' status
-    -- Such a run didn't break off.
+        ⊎ WasCut h rooms disks outs errs words old new out out' err err' status
+    -- Such a run had no failure of a file, and memory was not refused, unless it was cut off.
     pub whole : is_heard status (outs.taken out) (outs.taken out') ≡ true
-        → breaks_off status ≡ false
+        → (breaks_off status ≡ false)
+        ⊎ WasCut h rooms disks outs errs words old new out out' err err' status
+    -- One that was cut off has status 5 or 8, and adds no record to a journal.
+    pub cut : WasCut h rooms disks outs errs words old new out out' err err' status
+        → (breaks_off status ≡ true) × OfEach (λ name did. AddsNone did)
+        (journals h rooms disks outs errs words old new out out' err err')
 
   -- This holds of each run.
   abbrev pub RunsShow : Type 0
@@ -79,7 +88,7 @@ module _ {R S D O E : Type 0} (h : HashFunction) (rooms : Rooms R S D) (disks : 
 
   -- A run of which a byte went out might have had a standard output that failed there: if only a
   -- prefix of what it wrote came through, it is a run with status 6, which leaves the same file
-  -- system.
+  -- system. So it is of one that was cut off, by a file, by memory or by a kill.
   abbrev pub PrefixesAreRuns : Type 0
   PrefixesAreRuns = (words : List Text) (old new : R) (out out' failed : O) (err err' contents : E)
       (status : ℕ) (text : Text)

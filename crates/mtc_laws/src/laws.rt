@@ -35,7 +35,8 @@ pub fn law_runs_are_steps<H: TreeHash, R: Room, O: Sink, E: Sink>()
 /// Once a byte of a run went out, how much of its text went out does not affect the files. If
 /// standard output failed after a prefix of the text, that is a run with status 6 that leaves the
 /// same file system. So a stop of the machine while the text goes out is such a run, and then a
-/// stop.
+/// stop; and a command that writes while it reads its journals has done with them all that is asked
+/// before its first byte.
 pub fn law_runs_may_lose_their_text<H: TreeHash, R: Room, O: Sink, E: Sink>()
     ensures { PrefixesAreRuns H.hash R.Room R.Dsk.Disk O.Sink E.Sink }
 {}
@@ -73,7 +74,8 @@ pub fn law_released_records_stand<H: TreeHash, R: Room, O: Sink, E: Sink>()
 {}
 
 /// Each crash state represents records. What a run found in the journal before, or made of it, is a
-/// prefix of them, whatever went out of the run, unless it ended with status 5 or 8.
+/// prefix of them, whatever went out of the run, unless it ended with status 5 or 8 before a byte
+/// went out.
 pub fn law_recovered_lists_only_grow<H: TreeHash, R: Room, O: Sink, E: Sink>()
     ensures { RecoveredListsGrow H.hash (program H.hash R.Room R.Dsk.Disk O.Sink E.Sink) }
 {}
@@ -86,8 +88,9 @@ pub fn law_entries_keep_their_indices<H: TreeHash, R: Room, O: Sink, E: Sink>()
     ensures added { AddedEntriesStand H.hash (program H.hash R.Room R.Dsk.Disk O.Sink E.Sink) }
 {}
 
-/// Each journal that a run made or opened, and ended with another status than 5 and 8, is that of a
-/// log or a cosigner, so the laws of executions are of each of them, from that run on.
+/// Each journal that a run made or opened, and ended with another status than 5 and 8 or after a
+/// byte went out, is that of a log or a cosigner, so the laws of executions are of each of them,
+/// from that run on.
 pub fn law_journals_are_of_parties<H: TreeHash, R: Room, O: Sink, E: Sink>()
     ensures { JournalsAreOfParties H.hash (program H.hash R.Room R.Dsk.Disk O.Sink E.Sink) }
 {}

@@ -1,6 +1,8 @@
 -- How a run ends: it answers, or the file system failed, or memory was refused.
 use Rattle.std.proofs.Common.{◌≡◌, ◌≢◌, ◌≤◌, ◌<◌, ◌⊎◌, inl, inr, ℕ, List, [], ◌++◌, length}
-use Rattle.std.proofs.Common.{refl, sym, subst, ◌∙◌, arith, IsErr, IfSome}
+use Rattle.std.proofs.Common.{refl, sym, subst, ◌∙◌, arith, IsErr, IfSome, true, ◌==◌}
+use Rattle.std.proofs.lemmas.Bool.{eq-eqb, or_left, or_right}
+use Rattle.file_events.specs.Worlds.{breaks_off}
 use Rattle.disk_core.specs.declared.disk.Disk.{Ghosts as Disks}
 use Rattle.mtc_io.specs.Counts.{Rose}
 use Rattle.mtc_io.specs.declared.sink.Sink.{Ghosts as Sinks}
@@ -27,7 +29,7 @@ use Rattle.mtc_io.proofs.Streams.{prefix_whole}
 use Rattle.mtc_top.specs.Concluded.{Wrote, Lost, Concludes, Prints, PrintsPrefix}
 use Rattle.mtc_top.specs.Cited.{spoken_outcome}
 use Rattle.mtc_top.specs.Facts.{Facts, facts}
-use Rattle.mtc_top.specs.Run.{Answered, HasRun}
+use Rattle.mtc_top.specs.Run.{Answered, CutOff, HasRun, WasCut}
 use Rattle.mtc_top.proofs.Planned.{spoken_planned}
 
 -- a reply's status is none of those without a reply
@@ -144,6 +146,38 @@ module _ {R S D O E : Type 0} (h : List ℕ → List ℕ) (rooms : Rooms R S D) 
   Out ending status =
       Concludes outs errs (known_word words) out out' err err' ending (rooms.why new) status
 
+  abbrev Cut : Ending → ℕ → Type 0
+  Cut = CutOff h rooms disks outs errs words old new out out' err err'
+
+  abbrev pub Cuts : ℕ → Type 0
+  Cuts = WasCut h rooms disks outs errs words old new out out' err err'
+
+  -- the status of an ending without a reply
+  abbrev HasCode : Ending → ℕ → Type 0
+  HasCode (replied reply) status = Unit {0}
+  HasCode (room_failed file) status = status ≡ 5
+  HasCode no_memory status = status ≡ 8
+
+  code_of : (ending : Ending) (status : ℕ) → Out ending status ⊎ Cut ending status
+      → HasCode ending status
+  code_of (replied reply) status gone = tt
+  code_of (room_failed file) status gone = elim gone [
+    | inl failed ↦ failed.is
+    | inr cut ↦ cut.breaks.is
+  ]
+  code_of no_memory status gone = elim gone [
+    | inl out_of_memory ↦ out_of_memory.is
+    | inr cut ↦ cut.breaks.is
+  ]
+
+  -- what went out of a reply
+  reply_gone : (reply : Reply) (status : ℕ)
+      → Out (replied reply) status ⊎ Cut (replied reply) status → Out (replied reply) status
+  reply_gone reply status gone = elim gone [
+    | inl gone ↦ gone
+    | inr cut ↦ absurd cut.breaks
+  ]
+
   -- the file system failed
   pub record HasFailed (status : ℕ) : Type 0 where
     pub code : status ≡ 5
@@ -157,8 +191,18 @@ module _ {R S D O E : Type 0} (h : List ℕ → List ℕ) (rooms : Rooms R S D) 
     pub text : Prints outs out out' []
     pub made : rooms.is_modelled old → LeavesEach rooms disks old new js HasKept
 
-  ended_by : (ending : Ending) (status : ℕ) → Ends ending → Out ending status → Left ending
-      → New ending → Answers status ⊎ (HasFailed status ⊎ RanOutOfMemory status)
+  -- a file failed or memory was refused while the text went out
+  pub record WasCutOff (status : ℕ) : Type 0 where
+    pub cut : Cuts status
+    pub cause : Rose (rooms.faults old) (rooms.faults new) ⊎ (status ≡ 8)
+
+  -- how a run ended
+  abbrev pub HasEnded : ℕ → Type 0
+  HasEnded status =
+      Answers status ⊎ (HasFailed status ⊎ (RanOutOfMemory status ⊎ WasCutOff status))
+
+  ended_by : (ending : Ending) (status : ℕ) → Ends ending
+      → Out ending status ⊎ Cut ending status → Left ending → New ending → HasEnded status
   ended_by (replied reply) status ends gone left began = inl (record {
     reply = reply;
     is = λ where_. elim where_ [
@@ -167,43 +211,53 @@ module _ {R S D O E : Type 0} (h : List ℕ → List ℕ) (rooms : Rooms R S D) 
     ];
     made = λ is_modelled. (left is_modelled).left;
     began = began;
-    concludes = gone;
+    concludes = reply_gone reply status gone;
   })
-  ended_by (room_failed file) status ends gone left began = inr (inl (record {
-    code = gone.is;
-    cause = ends.fault.0;
-    text = gone.nothing;
-    made = λ is_modelled. (left is_modelled).left;
-  }))
-  ended_by no_memory status ends gone left began = inr (inr (record {
-    code = gone.is;
-    text = gone.nothing;
-    made = λ is_modelled. (left is_modelled).left;
-  }))
+  ended_by (room_failed file) status ends gone left began = inr (elim gone [
+    | inl failed ↦ inl (record {
+      code = failed.is;
+      cause = ends.fault.0;
+      text = failed.nothing;
+      made = λ is_modelled. (left is_modelled).left;
+    })
+    | inr cut ↦ inr (inr (record { cut = (room_failed file, cut); cause = inl ends.fault.0 }))
+  ])
+  ended_by no_memory status ends gone left began = inr (inr (elim gone [
+    | inl out_of_memory ↦ inl (record {
+      code = out_of_memory.is;
+      text = out_of_memory.nothing;
+      made = λ is_modelled. (left is_modelled).left;
+    })
+    | inr cut ↦ inr (record { cut = (no_memory, cut); cause = inr cut.breaks.is })
+  ]))
 
-  only_by : (ending : Ending) (status : ℕ) → Ends ending → Out ending status → status ≡ 1 → Bad
-  only_by (replied reply) status ends gone one = elim gone [
+  only_by : (ending : Ending) (status : ℕ) → Ends ending
+      → Out ending status ⊎ Cut ending status → status ≡ 1 → Bad
+  only_by (replied reply) status ends gone one = elim (reply_gone reply status gone) [
     | inl wrote ↦ ends.not_words (sym wrote.code ∙ one)
     | inr lost ↦ absurd (omega (arith, lost.code, one))
   ]
-  only_by (room_failed file) status ends gone one = absurd (omega (arith, gone.is, one))
-  only_by no_memory status ends gone one = absurd (omega (arith, gone.is, one))
+  only_by (room_failed file) status ends gone one =
+      let five : status ≡ 5 = code_of (room_failed file) status gone in
+      absurd (omega (arith, five, one))
+  only_by no_memory status ends gone one =
+      let eight : status ≡ 8 = code_of no_memory status gone in absurd (omega (arith, eight, one))
 
-  first_by : (ending : Ending) (status : ℕ) → Ends ending → Out ending status → Bad → status ≢ 8
-      → status ≡ 1
-  first_by (replied reply) status ends gone bad not8 = elim gone [
+  first_by : (ending : Ending) (status : ℕ) → Ends ending
+      → Out ending status ⊎ Cut ending status → Bad → status ≢ 8 → status ≡ 1
+  first_by (replied reply) status ends gone bad not8 = elim (reply_gone reply status gone) [
     | inl wrote ↦ wrote.code ∙ (ends.words bad).1
     | inr lost ↦ absurd ((text_late reply lost.some).0 (ends.words bad).1)
   ]
   first_by (room_failed file) status ends gone bad not8 = absurd (ends.words bad)
-  first_by no_memory status ends gone bad not8 = absurd (not8 gone.is)
+  first_by no_memory status ends gone bad not8 = absurd (not8 (code_of no_memory status gone))
 
   abbrev Early : ℕ → Type 0
   Early status = OfEach (λ name did. did ≡ untouched → IsEarly status) js
 
-  early_by : (ending : Ending) (status : ℕ) → Ends ending → Out ending status
-      → rooms.is_modelled old → Early status
-  early_by (replied reply) status ends gone is_modelled = elim gone [
+  early_by : (ending : Ending) (status : ℕ) → Ends ending
+      → Out ending status ⊎ Cut ending status → rooms.is_modelled old → Early status
+  early_by (replied reply) status ends gone is_modelled = elim (reply_gone reply status gone) [
     | inl wrote ↦ subst Early (sym wrote.code) (ends.early is_modelled)
     | inr lost ↦ each_so (λ name did. did ≡ untouched → IsEarly (status_of reply))
         (λ name did. did ≡ untouched → IsEarly status)
@@ -212,13 +266,32 @@ module _ {R S D O E : Type 0} (h : List ℕ → List ℕ) (rooms : Rooms R S D) 
   ]
   early_by (room_failed file) status ends gone is_modelled =
       each_is (λ name did. did ≡ untouched → IsEarly status)
-      (λ name did is. inr (inr (inl gone.is))) js
+      (λ name did is. inr (inr (inl (code_of (room_failed file) status gone)))) js
   early_by no_memory status ends gone is_modelled =
       each_is (λ name did. did ≡ untouched → IsEarly status)
-      (λ name did is. inr (inr (inr (inr (inl gone.is))))) js
+      (λ name did is. inr (inr (inr (inr (inl (code_of no_memory status gone)))))) js
+
+  -- a run that was cut off has status 5 or 8, and a prefix of its text went out
+  cut_code : (ending : Ending) (status : ℕ) → Cut ending status → status ≢ 5 → status ≢ 8 → ⊥
+  cut_code (replied reply) status cut not5 not8 = cut.breaks
+  cut_code (room_failed file) status cut not5 not8 = not5 cut.breaks.is
+  cut_code no_memory status cut not5 not8 = not8 cut.breaks.is
+
+  pub cut_breaks : (ending : Ending) (status : ℕ) → Cut ending status → breaks_off status ≡ true
+  cut_breaks (replied reply) status cut = absurd cut.breaks
+  cut_breaks (room_failed file) status cut =
+      or_left (status == 5) (status == 8) (eq-eqb status 5 cut.breaks.is)
+  cut_breaks no_memory status cut =
+      or_right (status == 5) (status == 8) (eq-eqb status 8 cut.breaks.is)
+
+  pub cut_prefix : (ending : Ending) (status : ℕ) (cut : Cut ending status)
+      → PrintsPrefix outs out out' cut.text
+  cut_prefix (replied reply) status cut = absurd cut.breaks
+  cut_prefix (room_failed file) status cut = cut.breaks.prefix
+  cut_prefix no_memory status cut = cut.breaks.prefix
 
   module _ (status : ℕ) (run : Run status) where
-    pub ended : Answers status ⊎ (HasFailed status ⊎ RanOutOfMemory status)
+    pub ended : HasEnded status
     ended = ended_by run.ending status run.ends run.concludes run.made run.began
 
     pub only_words : status ≡ 1 → Bad
@@ -236,7 +309,10 @@ module _ {R S D O E : Type 0} (h : List ℕ → List ℕ) (rooms : Rooms R S D) 
       | inl a ↦ a
       | inr other ↦ elim other [
         | inl failed ↦ absurd (not5 failed.code)
-        | inr out_of_memory ↦ absurd (not8 out_of_memory.code)
+        | inr others ↦ elim others [
+          | inl out_of_memory ↦ absurd (not8 out_of_memory.code)
+          | inr short ↦ absurd (cut_code short.cut.0 status short.cut.1 not5 not8)
+        ]
       ]
     ]
 
@@ -263,7 +339,7 @@ module _ {R S D O E : Type 0} (h : List ℕ → List ℕ) (rooms : Rooms R S D) 
       record {
         ending = ending;
         ends = did.ends;
-        concludes = gone;
+        concludes = inl gone;
         back = did.back;
         made = did.made;
         began = began;

@@ -50,6 +50,19 @@ module _ {O E : Type 0} (outs : Sinks O) (errs : Sinks E) (command : Text)
     pub nothing : Prints outs out out' []
     pub line : Reports errs err err' (line_of command file reason)
 
+  -- There is no reply, and a prefix of this text went out.
+  pub record Broke (text : Text) (code : ℕ) (file : Option Text) (reason : Text) (status : ℕ)
+      : Type 0 where
+    pub is : status ≡ code
+    pub prefix : PrintsPrefix outs out out' text
+    pub line : Reports errs err err' (line_of command file reason)
+
+  -- A file failed, or memory was refused, while this text went out.
+  abbrev pub BreaksAt : Text → Ending → Cause → ℕ → Type 0
+  BreaksAt text (replied reply) cause status = ⊥
+  BreaksAt text (room_failed file) cause status = Broke text 5 (Some file) (word_of cause) status
+  BreaksAt text no_memory cause status = Broke text 8 None (codes "Memory") status
+
   -- How it ended; and, if the file system failed, why it failed last. A reply went out, or standard
   -- output failed at its text.
   abbrev pub Concludes : Ending → Cause → ℕ → Type 0

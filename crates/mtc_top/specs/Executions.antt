@@ -50,7 +50,7 @@ module _ (h : HashFunction) (p : Program) where
   owner = journal_file p (AreRecords h)
 
   -- A run of the execution opened or made the journal of this name, which then had these records,
-  -- and ended without a failure of a file, and memory was not refused.
+  -- and no file failed and no memory was refused before a byte of its answer went out.
   abbrev pub WasHeld : Text → p.R → List (FileEvent p.R p.O p.E) → List Text → Type 0
   WasHeld name old events = WereHeld (own_events p (owner name) old events)
 

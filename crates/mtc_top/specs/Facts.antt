@@ -1,5 +1,5 @@
 -- What is to be known of each command is computed from its plan, which stands in mtc_plans.
-use Rattle.std.specs.Prelude.{List, [], Option, None, Result, Ok, Err}
+use Rattle.std.specs.Prelude.{Bool, false, List, [], Option, None, Result, Ok, Err}
 use Rattle.byte_formats.specs.Types.{HashFunction, Text}
 use Rattle.mtc_words.specs.declared.error.WordError.{WordError}
 use Rattle.mtc_words.specs.Commands.{CommandValue}
@@ -10,13 +10,14 @@ use Rattle.command_plans.specs.Names.{only_read_names}
 use Rattle.command_plans.specs.Rules.{AreOfFirst}
 use Rattle.mtc_plans.specs.Commands.{plan_of, planned_outcome}
 use Rattle.mtc_plans.specs.PartyKinds.{party_kinds}
+use Rattle.mtc_plans.specs.Words.{streams}
 use Rattle.mtc_words.specs.Reasons.{word_fault_text}
 
 -- What is to be known of a command: the journals that it works on, the files that it may make or
 -- change beside them, those of these that it only reads, the journal that it makes, the files that
--- it reads, which lists of records are a party's of the kind that it works on, and what it answers
--- over the files of the file system. Its arguments name its journals first, and then the files that
--- it reads.
+-- it reads, which lists of records are a party's of the kind that it works on, whether it may write
+-- its text while it reads its journals, and what it answers over the files of the file system. Its
+-- arguments name its journals first, and then the files that it reads.
 pub record Facts : Type 1 where
   pub journals : List Text
   pub besides : List Text
@@ -24,6 +25,7 @@ pub record Facts : Type 1 where
   pub makes : Option Text
   pub inputs : List Text
   pub Valid : List Text → Type 0
+  pub streams : Bool
   pub outcome : Files → Outcome
 
 -- What is to be known of each command, under this hash function.
@@ -35,6 +37,7 @@ facts_of h command = record {
   makes = first_made (plan_of h command).journals;
   inputs = input_names (plan_of h command).inputs;
   Valid = AreOfFirst (party_kinds h) (plan_of h command).journals;
+  streams = streams command;
   outcome = planned_outcome h command;
 }
 
@@ -47,6 +50,7 @@ no_command why = record {
   makes = None;
   inputs = [];
   Valid = λ list. ⊥;
+  streams = false;
   outcome = λ files. stops BadWords (word_fault_text why);
 }
 

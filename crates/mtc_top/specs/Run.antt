@@ -1,13 +1,14 @@
 -- What a run of the program did, by these arguments, over a file system and two sinks, each before
 -- and after.
-use Rattle.std.specs.Prelude.{◌⊎◌, ℕ, List, [], ◌++◌, IfSome, IsErr}
+use Rattle.std.specs.Prelude.{◌≡◌, ◌⊎◌, ℕ, true, List, [], ◌++◌, IfSome, IsErr}
 use Rattle.byte_formats.specs.Types.{HashFunction, Text}
 use Rattle.disk_core.specs.declared.disk.Disk.{Ghosts as Disks}
 use Rattle.mtc_io.specs.Counts.{Rose}
 use Rattle.mtc_io.specs.declared.sink.Sink.{Ghosts as Sinks}
 use Rattle.mtc_room.specs.declared.room.Room.{Ghosts as Rooms}
 use Rattle.mtc_words.specs.Words.{command_of, known_word}
-use Rattle.mtc_command.specs.Answers.{Ending, Reply, replied}
+use Rattle.mtc_command.specs.Answers.{Ending, Reply, replied, said}
+use Rattle.mtc_command.specs.declared.answer.Said.TheVariants.{Done}
 use Rattle.mtc_command.specs.Made.{HasKept, HasMade}
 use Rattle.mtc_command.specs.Served.{ClosesAll, EndsAs, Journals, LeavesEach, LeavesJournals}
 use Rattle.mtc_command.specs.Served.{OfEach, done_with}
@@ -17,7 +18,7 @@ use Rattle.mtc_command.specs.Wanted.{Meets}
 use Rattle.mtc_command.specs.Works.{ModelsNew}
 use Rattle.mtc_authority.specs.NoJournal.{SparesTiles}
 use Rattle.mtc_authority.specs.StoredTiles.{HasTilesOf}
-use Rattle.mtc_top.specs.Concluded.{Concludes}
+use Rattle.mtc_top.specs.Concluded.{BreaksAt, Concludes}
 use Rattle.mtc_top.specs.Facts.{Facts, facts}
 
 module _ {R S D O E : Type 0} (h : HashFunction) (rooms : Rooms R S D) (disks : Disks D)
@@ -29,6 +30,18 @@ module _ {R S D O E : Type 0} (h : HashFunction) (rooms : Rooms R S D) (disks : 
 
   abbrev pub journals : Journals
   journals = done_with asked.journals (asked.outcome (rooms.file old)).journals
+
+  -- A command that may write while it reads its journals was cut off: it had begun to write the
+  -- text that is asked for, and then a file failed, or memory was refused. A prefix of the text
+  -- went out, and a line. It has done with its journals all that is asked.
+  pub record CutOff (ending : Ending) (status : ℕ) : Type 0 where
+    pub streams : asked.streams ≡ true
+    pub text : Text
+    pub is : rooms.is_modelled old
+        → Meets (asked.outcome (rooms.file old)).answer (said Done text)
+    pub breaks : BreaksAt outs errs (known_word words) out out' err err' text ending
+        (rooms.why new) status
+    pub made : rooms.is_modelled old → LeavesEach rooms disks old new journals HasMade
 
   -- A run with this status.
   pub record HasRun (status : ℕ) : Type 0 where
@@ -42,9 +55,10 @@ module _ {R S D O E : Type 0} (h : HashFunction) (rooms : Rooms R S D) (disks : 
         (IsErr (command_of words)) (asked.journals ++ (asked.besides ++ asked.inputs)) journals
         (asked.outcome (rooms.file old)) ending
     -- What went out, and the status: of a reply its text or its line, or a prefix of its text and
-    -- the line of that; of a failure, and where memory was refused, the line alone.
+    -- the line of that; of a failure, and where memory was refused, the line alone, unless the
+    -- command was cut off.
     pub concludes : Concludes outs errs (known_word words) out out' err err' ending (rooms.why new)
-        status
+        status ⊎ CutOff ending status
     -- All that was opened is closed, and no file changes but the journals and those beside them.
     pub back : ClosesAll rooms old new (asked.besides ++ asked.journals)
     -- Each of its journals has what is asked; after a failure it has its record or not, and if
@@ -69,6 +83,10 @@ module _ {R S D O E : Type 0} (h : HashFunction) (rooms : Rooms R S D) (disks : 
     -- of the tiles goes with the records that are left, with the new one wherever it is there.
     pub stores : StoresBeside (HasTilesOf h) asked.Valid rooms disks old new asked.journals
         asked.besides (asked.outcome (rooms.file old))
+
+  -- It was cut off.
+  abbrev pub WasCut : ℕ → Type 0
+  WasCut status = (ending : Ending) × CutOff ending status
 
   -- It answered: there is one reply, the one that is asked for, and it did with its journals what
   -- was asked. The reply went out, or standard output failed at its text.
