@@ -74,6 +74,21 @@ stops 0 0 0 0 8
 then 16
 ";
 
+/// What is left is asked to switch once more.
+pub const SWITCH: &str = "
+run switch j
+device j
+journal j
+limit 64
+old HEADER LOG ENTRY
+record 0100000009050000000000000002
+ask switch j
+before| switched 2
+after! mtc: switch: AlreadySwitched 2
+stops 0 0 0 0 8
+then 16
+";
+
 /// 512 entries, of which 256 fill a tile that is stored.
 pub const TILE: &str = "
 run tile j

@@ -1,7 +1,8 @@
 //! Each stop of a command, and sixteen of the crash states that it may leave.
 
 use crate::cases::{
-    ADVANCE, COSIGN, COSIGN_AGAIN, ISSUE, LANDMARK, NEW_COSIGNER, NEW_LOG, TILE, TILE_COMMIT, TILES,
+    ADVANCE, COSIGN, COSIGN_AGAIN, ISSUE, LANDMARK, NEW_COSIGNER, NEW_LOG, SWITCH, TILE,
+    TILE_COMMIT, TILES,
 };
 use crate::coded::{coded, field, lines, numbers};
 use crate::files::{Answer, CrashState, Files, Stopped};
@@ -312,6 +313,12 @@ fn an_issue_stops(rt: HostRuntime) {
 #[test]
 fn a_landmark_stops(rt: HostRuntime) {
     let wrong = wrong_stop(rt.alloc(), LANDMARK);
+    assert!(rt; wrong == None, "{wrong:?}");
+}
+
+#[test]
+fn a_switch_stops(rt: HostRuntime) {
+    let wrong = wrong_stop(rt.alloc(), SWITCH);
     assert!(rt; wrong == None, "{wrong:?}");
 }
 
