@@ -65,6 +65,17 @@ fn records_and_tiles(rt: HostRuntime) -> Result<(), Fail> {
     Ok(())
 }
 
+const LOG: &str = "\
+Full
+TooLarge
+NoSuchEntry
+NothingNew
+AlreadySwitched 7
+Failed
+JournalFull
+Memory
+";
+
 #[test]
 fn journals_that_grow(rt: HostRuntime) -> Result<(), Fail> {
     let list = [AppendError::Broken, AppendError::Full, AppendError::Failed];
@@ -76,12 +87,12 @@ fn journals_that_grow(rt: HostRuntime) -> Result<(), Fail> {
         LogError::TooLarge,
         LogError::NoSuchEntry,
         LogError::NothingNew,
+        LogError::AlreadySwitched(7),
         LogError::Failed,
         LogError::Append(AppendError::Full),
         LogError::Memory,
     ];
-    let words = "Full\nTooLarge\nNoSuchEntry\nNothingNew\nFailed\nJournalFull\nMemory\n";
-    assert!(rt; shown(rt.alloc(), &list)?.as_str() == words);
+    assert!(rt; shown(rt.alloc(), &list)?.as_str() == LOG);
     Ok(())
 }
 

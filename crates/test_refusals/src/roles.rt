@@ -141,6 +141,7 @@ fn exports_and_forms(rt: HostRuntime) -> Result<(), Fail> {
 
 const KEYS: &str = "\
 LogId
+AlgorithmFrom
 CosignerId
 CosignerKey
 Count
@@ -155,6 +156,7 @@ Table
 fn keys_of_stores(rt: HostRuntime) -> Result<(), Fail> {
     let list = [
         Key::LogId,
+        Key::AlgorithmFrom,
         Key::CosignerId,
         Key::CosignerKey,
         Key::Count,
