@@ -19,7 +19,7 @@ use Rattle.issuance_log.specs.Refusals.{TilesKeepTo, full_size, tile_refusal}
 use Rattle.issuance_log.specs.Shown.{shown_with}
 use Rattle.issuance_log.specs.Sound.{IsSound}
 use Rattle.issuance_log.specs.Words.{KeepsTiles, LogAppends, TilesStandAfter, both_records}
-use Rattle.issuance_log.specs.Words.{log_broken, log_disk, log_end, log_leaves, log_records}
+use Rattle.issuance_log.specs.Words.{log_broken, log_disk, log_end, log_records}
 use Rattle.issuance_log.specs.Words.{log_tiles_disk, modelled_state, view_of}
 use Rattle.issuance_log.specs.declared.error.LogError.{LogError}
 use Rattle.issuance_log.specs.declared.error.LogError.TheVariants.{NothingNew, Append, Memory}
@@ -34,7 +34,7 @@ use Rattle.mtc_command.specs.Valid.{AddsValid}
 use Rattle.mtc_command.specs.Works.{journaled_by}
 use Rattle.mtc_command.proofs.Beside.{only_reads_of}
 use Rattle.mtc_command.proofs.Made.{OnlyNow}
-use Rattle.mtc_command.proofs.Works.{both_some, each_some}
+use Rattle.mtc_command.proofs.Works.{each_some}
 use Rattle.mtc_authority.specs.StoredTiles.{HasTilesOf, StoresLog, StoresTiles}
 use Rattle.mtc_authority.specs.TileOutcome.{tile_says, tiled_by}
 use Rattle.mtc_authority.specs.Works.{HasWorkedOnLog, IsLog, IsReadyLog, OnlyReadsTiles, StaysLog}

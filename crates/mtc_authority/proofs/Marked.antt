@@ -13,9 +13,7 @@ use Rattle.issuance_log.specs.Words.{LogAppends, log_broken, log_disk, log_end, 
 use Rattle.issuance_log.specs.Shown.{shown_with}
 use Rattle.issuance_log.specs.Words.{view_of}
 use Rattle.issuance_log.specs.declared.error.LogError.{LogError}
-use Rattle.issuance_log.specs.declared.error.LogError.TheVariants.{Full, TooLarge, NoSuchEntry}
 use Rattle.issuance_log.specs.declared.error.LogError.TheVariants.{NothingNew, Append, Memory}
-use Rattle.issuance_log.specs.declared.error.LogError.TheVariants.{Failed as DiskFailed}
 use Rattle.issuance_log.specs.declared.log.Log.{Log as OpenLog}
 use Rattle.mtc_command.specs.Answers.{replied, said, status_of}
 use Rattle.mtc_command.specs.Steps.{Outcome}

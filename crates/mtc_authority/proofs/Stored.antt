@@ -17,7 +17,6 @@ use Rattle.issuance_log.specs.Shown.{shown_with}
 use Rattle.issuance_log.specs.Words.{LogAppends, both_records, log_broken, log_disk, log_end}
 use Rattle.issuance_log.specs.Words.{log_records, log_tiles_disk, view_of}
 use Rattle.issuance_log.specs.declared.error.LogError.{LogError}
-use Rattle.issuance_log.specs.declared.error.LogError.TheVariants.{Full, TooLarge, NoSuchEntry}
 use Rattle.issuance_log.specs.declared.error.LogError.TheVariants.{NothingNew, Append, Memory}
 use Rattle.issuance_log.specs.declared.error.LogError.TheVariants.{Failed as DiskFailed}
 use Rattle.issuance_log.specs.declared.log.Log.{Log as OpenLog}

@@ -1,5 +1,5 @@
 -- What comes of switching a log that was opened just now.
-use Rattle.std.proofs.Common.{◌≡◌, ◌≢◌, ℕ, Bool, true, false, List, Option, None, Some, option_map}
+use Rattle.std.proofs.Common.{◌≡◌, ◌≢◌, ℕ, Bool, true, false, List, Option, None, Some}
 use Rattle.std.proofs.Common.{Result, Ok, Err, if◌then◌else◌, refl, sym, ap, ◌∙◌}
 use Rattle.std.proofs.Common.{subst, IfSome, IsOk, ◌++◌, ◌∷◌, []}
 use Rattle.byte_formats.specs.Types.{HashFunction, Text}

@@ -20,12 +20,11 @@ use Rattle.issuance_log.specs.Records.{switch_record}
 use Rattle.issuance_log.specs.Refusals.{add_refusal, switch_refusal}
 use Rattle.issuance_log.specs.declared.error.LogError.{LogError}
 use Rattle.issuance_log.specs.declared.error.LogError.TheVariants.{AlreadySwitched}
-use Rattle.mtc_command.specs.Answers.{refused, said}
+use Rattle.mtc_command.specs.Answers.{said}
 use Rattle.mtc_command.specs.Steps.{Files, Outcome}
 use Rattle.mtc_command.specs.Wanted.{Meets}
 use Rattle.mtc_command.specs.declared.answer.Said.{Said}
 use Rattle.mtc_command.specs.declared.answer.Said.TheVariants.{Done}
-use Rattle.mtc_command.specs.declared.answer.Stopped.{Stopped}
 use Rattle.mtc_command.specs.declared.answer.Stopped.TheVariants.{Beyond, NotAllowed}
 use Rattle.authority_core.specs.Reasons.{request_fault_text}
 use Rattle.cosigner_core.specs.Reasons.{step_fault_text, form_fault_text}
