@@ -21,11 +21,10 @@ use std::alloc::Global;
 use tree_core::TreeHash;
 
 /// Issues a request: makes its entry under the id of the log, in the form of the log's next entry,
-/// adds it with the key of the request,
-/// and answers its index, at which the log then has an entry with its own name as issuer and no
-/// critical extension that is unknown. At Ok a crash leaves the records with that of the entry; at
-/// any time of the call it leaves the old records, or these and that one. The call leaves the disk
-/// of the tiles alone.
+/// adds it with the key of the request, and answers its index, at which the log then has an entry
+/// with its own name as issuer and no critical extension that is unknown. At Ok a crash leaves the
+/// records with that of the entry; at any time of the call it leaves the old records, or these and
+/// that one. The call leaves the disk of the tiles alone.
 ///
 /// Errors: what [`Log::add`] refuses. Its own memory is taken before the log is touched, so
 /// `Log(Memory)` may come before any test, and leaves the log as it was.
