@@ -1,0 +1,128 @@
+"""Runs each command over a log of so many entries: time_commands.py PROGRAM FOLDER ENTRIES. Prints lines
+WORK|OF|SECONDS|MEMORY|INSTRUCTIONS, in the order of the table of docs/COMMANDS.md, and fails where a command of it has no line."""
+
+import os
+import re
+import shutil
+import subprocess
+import sys
+from pathlib import Path
+
+ROOT = Path(__file__).resolve().parents[2]
+LOG, COSIGNER, NOW, ROUNDS = "32473.1", "32473.2", "1767571200", 3
+APPENDING = {"init-log", "issue", "landmark", "switch", "tile", "init-cosigner", "advance", "cosign"}
+
+
+class Bench:
+    def __init__(self, program, folder, entries):
+        self.program, self.folder, self.entries = str(Path(program).resolve()), Path(folder), int(entries)
+        self.last = self.entries - 1
+
+    def run(self, *words, into=os.devnull):
+        with open(self.folder / into, "wb") as out:
+            ended = subprocess.run([self.program, *map(str, words)], cwd=self.folder, stdout=out, stderr=subprocess.PIPE)
+        if ended.returncode:
+            sys.exit(f"wrong: {' '.join(map(str, words))}: status {ended.returncode} {ended.stderr.decode()}")
+
+    def begin(self, words):
+        """Where a command appends, its journal and the file of tiles are new copies."""
+        if words[0] in APPENDING:
+            for end in ("", ".tiles"):
+                (self.folder / f"new{end}").unlink(missing_ok=True)
+                if not words[0].startswith("init-"):
+                    source = self.folder / {"issue": "short", "switch": "short", "advance": "early", "cosign": "early-held"}.get(words[0], "log")
+                    if Path(f"{source}{end}").exists():
+                        shutil.copyfile(f"{source}{end}", self.folder / f"new{end}")
+
+    def measured(self, words):
+        """(seconds, bytes, instructions): the least of some runs, and those of one run by valgrind."""
+        took = []
+        for _ in range(ROUNDS):
+            self.begin(words)
+            with open(os.devnull, "wb") as none:
+                ended = subprocess.run(["/usr/bin/time", "-q", "-f", "%e %M", "-o", "time", self.program, *words], cwd=self.folder,
+                                       stdout=none, stderr=subprocess.PIPE)
+            if ended.returncode:
+                sys.exit(f"wrong: {' '.join(words)}: status {ended.returncode} {ended.stderr.decode()}")
+            seconds, held = (self.folder / "time").read_text().split()
+            took.append((float(seconds), int(held) * 1024))
+        return min(one for one, _ in took), max(two for _, two in took), self.instructions(words)
+
+    def instructions(self, words):
+        if os.environ.get("INSTRUCTIONS") == "0" or not shutil.which("valgrind"):
+            return None
+        self.begin(words)
+        tool = ["valgrind", "--tool=cachegrind", "--cache-sim=no", "--cachegrind-out-file=/dev/null"]
+        ended = subprocess.run([*tool, self.program, *words], cwd=self.folder, stdout=subprocess.DEVNULL, stderr=subprocess.PIPE)
+        counted = re.search(r"I\s+refs:\s+([0-9,]+)", ended.stderr.decode())
+        return int(counted.group(1).replace(",", "")) if counted and ended.returncode == 0 else None
+
+
+def make_files(bench):
+    """All files that the commands read."""
+    make = [sys.executable, "-B", str(ROOT / "bench/log/make_journal.py")]
+    for name, count in (("log", bench.entries), ("short", bench.last)):
+        subprocess.run([*make, str(count), name], cwd=bench.folder, check=True)
+    (bench.folder / "secret").write_bytes(bytes(48))
+    (bench.folder / "none").write_bytes(b"")
+    (bench.folder / "watch").write_text("www.example\n")
+    for name in ("first.member", "www.request"):
+        shutil.copyfile(ROOT / "examples" / name, bench.folder / name)
+    size = bench.entries
+    bench.run("consist", "log", 0, size, into="consist")
+    bench.run("subtree", "log", 0, size, size, into="subtree")
+    bench.run("init-cosigner", "early", COSIGNER, LOG, 10, 8, "secret", into="key")
+    shutil.copyfile(bench.folder / "early", bench.folder / "early-held")
+    bench.run("advance", "early-held", "consist")
+    shutil.copyfile(bench.folder / "early-held", bench.folder / "cosigner")
+    bench.run("cosign", "cosigner", "subtree", into="signature")
+    bench.run("export", "cosigner", into="export")
+    shutil.copyfile(bench.folder / "log", bench.folder / "marked")
+    bench.run("landmark", "marked")
+    bench.run("landmarks", "marked", into="list")
+    bench.run("entries", "log", size, into="entries")
+    bench.run("cert", "log", bench.last, 0, size, "signature", into="cert")
+    bench.run("light-cert", "marked", bench.last, into="light")
+    bench.run("monitor-init", LOG, into="state")
+    key = (bench.folder / "key").read_text().strip()
+    (bench.folder / "store").write_text(f'[log]\nid = "{LOG}"\n[[cosigner]]\nid = "{COSIGNER}"\nkey = "{key}"\n[[rule]]\n'
+                                        f'cosigners = ["{COSIGNER}"]\ncount = 1\n')
+    bench.run("trust-landmarks", "list", 2, "entries", into="tables")
+    (bench.folder / "trusting").write_text(f'[log]\nid = "{LOG}"\n' + (bench.folder / "tables").read_text())
+
+
+def lines(bench):
+    """For each command its words, and what is said of them."""
+    n, last = bench.entries, bench.last
+    return [
+        ("member first.member", ""), ("show cert", "1 cosignature"), (f"verify cert store {NOW}", "1 cosignature"),
+        (f"verify light trusting {NOW}", "a certificate without signatures"), (f"init-log new {LOG} 2 1048576", ""),
+        ("issue new www.request", ""), ("checkpoint log", ""), (f"entries log {n}", "all entries"),
+        (f"entries-from log {max(1, n - 256)} {n}", "the last 256"), (f"consist log {n // 2 + 1} {n}", ""),
+        (f"subtree log 0 {n} {n}", ""), ("keygen 10 8 secret", "height 10, width 8"),
+        (f"init-cosigner new {COSIGNER} {LOG} 10 8 secret", "height 10, width 8"), ("advance new consist", ""),
+        ("cosign new subtree", "height 10, width 8"), ("export cosigner", "1 signature"), ("landmark new", ""), ("landmarks marked", ""),
+        (f"light-cert marked {last}", ""), ("switch new", ""), ("tile new", "all tiles"), ("trust-landmarks list 2 entries", "1 landmark"),
+        (f"cert log {last} 0 {n} signature", ""), (f"audit cert store {NOW} entries export", "1 cosignature"), ("quarrel export", "1 signature"),
+        ("drill 7", ""), ("root entries", ""), ("held export", "1 signature"), (f"monitor-init {LOG}", ""),
+        ("monitor state watch consist entries", "all entries, 1 domain"), ("help", ""), ("version", ""),
+    ]
+
+
+def main(program, folder, entries):
+    bench = Bench(program, folder, entries)
+    make_files(bench)
+    rows = lines(bench)
+    table = (ROOT / "docs/COMMANDS.md").read_text().split("\n## ")[0]
+    lacking = set(re.findall(r"^\| `([a-z-]+)[ `]", table, re.M)) - {words.split()[0] for words, _ in rows}
+    if lacking:
+        sys.exit(f"wrong: no line for {', '.join(sorted(lacking))}")
+    for words, of in rows:
+        seconds, held, instructions = bench.measured(words.split())
+        counted = f"{instructions / 1e6:,.1f} million" if instructions is not None else ""
+        print(f"`{words.split()[0]}`", of, f"{seconds:.2f}" if seconds >= 0.01 else "below 0.01", f"{(held + 500000) // 1000000} MB", counted,
+              sep="|", flush=True)
+
+
+if __name__ == "__main__":
+    main(*sys.argv[1:])
