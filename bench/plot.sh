@@ -1,6 +1,6 @@
 #!/bin/bash
-# Makes the two tables of docs/SPEED.md from what the scripts beside it wrote (bench/*/figures.txt), and draws the ratios as bars,
-# on a scale where each line is twice the one before: docs/speed.svg.
+# Makes the tables of docs/SPEED.md from what the scripts beside it wrote (bench/*/figures.txt) and bench/sizes.py computes, and draws
+# the ratios as bars, on a scale where each line is twice the one before: docs/speed.svg.
 # Usage: bench/plot.sh [--check]   with --check it writes nothing, and fails where page or picture aren't those of the figures
 set -u
 cd "$(dirname "$0")/.." || exit 2
@@ -12,7 +12,7 @@ page=docs/SPEED.md
 figures() {
     local name
     for name; do
-        grep -v '^#' "bench/$name/figures.txt" | sed "s/^/$name|/"
+        grep -hv "^#" "bench/$name/figures.txt" 2>/dev/null | sed "s/^/$name|/"
     done
 }
 
@@ -45,17 +45,32 @@ ranges >"$folder/ranges"
         sed -E ':again; s/([0-9])([0-9]{3})($|[^0-9])/\1,\2\3/; t again'
 } >"$folder/times"
 
+python3 -B bench/sizes.py >"$folder/sizes" || exit 1
+{
+    echo "| Work | Of | Seconds | A second | Syncs, s |"
+    echo "|---|---|---|---|---|"
+    # So many a second as the first number of the second field says.
+    figures issuing | awk -F '|' '{ many = $3; gsub(/[^0-9 ]/, "", many); split(many, one, " ")
+        printf "| %s | %s | %s | %.*f | %s |\n", $2, $3, $4, one[1] / $4 < 10, one[1] / $4, $5 }'
+} >"$folder/rates"
+{
+    echo "| Command | Of | Seconds | Memory | Instructions |"
+    echo "|---|---|---|---|---|"
+    figures commands | awk -F '|' '{ print "| " $2 " | " $3 " | " $4 " | " $5 " | " $6 " |" }'
+} >"$folder/commands"
+
 # The page with these tables between their marks.
 awk -v folder="$folder" '
     { if (!is_old) print }
-    /^<!-- (ratios|times): begin -->/ {
+    /^<!-- (sizes|rates|commands|ratios|times): begin -->/ {
         while ((getline line < (folder "/" substr($2, 1, length($2) - 1))) > 0)
             print line
         is_old = 1
+        begins++
         next
     }
-    /^<!-- (ratios|times): end -->/ { print; is_old = 0; ends++ }
-    END { exit ends != 2 }' "$page" >"$folder/page" || { echo "wrong: $page has no place for the two tables"; exit 1; }
+    /^<!-- (sizes|rates|commands|ratios|times): end -->/ { print; is_old = 0; ends++ }
+    END { exit ends != begins || ends < 3 }' "$page" >"$folder/page" || { echo "wrong: $page has no place for its tables"; exit 1; }
 
 awk -F '|' '
     function x_of(ratio, at) {

@@ -70,12 +70,11 @@ def hss_signature(height, width):
     return 4 + 4 + (4 + 32 + 32 * chains) + 4 + 32 * height
 
 
-def proof(hashes, cosignatures):
-    """Each cosignature with an id of five bytes, that of `32473.2` and some more arcs, or less."""
-    return 8 + 8 + 2 + 32 * hashes + 2 + cosignatures * (1 + COSIGNER_ID + 2 + hss_signature(HEIGHT, WIDTH))
-
-
 COSIGNER_ID = 4  # bytes of the id 32473.2
+
+
+def proof(hashes, cosignatures):
+    return 8 + 8 + 2 + 32 * hashes + 2 + cosignatures * (1 + COSIGNER_ID + 2 + hss_signature(HEIGHT, WIDTH))
 
 
 def log_certificate(index, hashes, cosignatures, hosts=(11,), subject=NO_NAME):

@@ -217,7 +217,7 @@ def without_comment():
 
 
 # What scripts make in pages by hand, and whose words always have a limit.
-MADE = ("costs", "layers", "places", "ratios", "times", "trusted")
+MADE = ("commands", "costs", "layers", "places", "rates", "ratios", "sizes", "times", "trusted")
 COUNTED = ("by_hand", "BELIEFS.md", "PROMISES.md")
 LIMITED = {"lengths": long_parts, "columns": wide_lines, "imports": unused_names, "heads": bare_heads,
            "comments": without_comment, "vocabulary": private_words, "private_names": private_names}
