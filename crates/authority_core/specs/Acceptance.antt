@@ -33,11 +33,11 @@ pub record IsOwnEntry (id entry : Text) : Type 0 where
 -- The store is valid and for the log with this id, gives the index this form, doesn't revoke it,
 -- and holds no other hash for the proof's interval. It trusts the interval with this hash, or its
 -- rules are met by the cosigners whose signatures over the interval with this hash the proof has.
-pub record IsSetUpFor (id : Text) (index : ℕ) (form : Form) (p : ProofParts) (hash : Hash)
+pub record IsSetUpFor (id : Text) (index : ℕ) (wanted : Form) (p : ProofParts) (hash : Hash)
     (store : Store) : Type 0 where
   pub valid : IsValid store
   pub log : store.log ≡ id
-  pub form : form_by store index ≡ form
+  pub form : form_by store index ≡ wanted
   pub not_revoked : AllByRecursion (λ range. is_in index range ≡ false) store.revoked
   pub no_other : HoldsNoOther store p.start p.end hash
   pub enough : Trusts store p.start p.end hash ⊎ IsSatisfied store p hash
