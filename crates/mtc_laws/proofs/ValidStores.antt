@@ -96,8 +96,9 @@ valid_in ms s is =
     let revoked = bind_ok (list_at range_data (get_member (codes "revoked") ms)) _ s
     subtrees.2 in
     checked_valid (record {
-      log = log.0;
-      name = name_with (text_of log.0);
+      log = log.0.0;
+      name = name_with (text_of log.0.0);
+      algorithm_from = log.0.1;
       cosigners = known.0;
       rules = rules.0;
       subtrees = subtrees.0;
