@@ -1,5 +1,7 @@
-use Rattle.std.proofs.Common.{arith, ◌∙◌}
+use Rattle.std.proofs.Common.{arith, ap, ◌∙◌}
 use Rattle.cert_fields.specs.Views.{parts}
+use Rattle.log_entry.specs.EntryOf.{entry_of}
+use Rattle.log_entry.specs.declared.entry.Form.{Form}
 use Rattle.mtc_proof.specs.Views.{proof_parts}
 use Rattle.world_core.proofs.Decided.{eval_inside, list_decides}
 use Rattle.world_core.proofs.deciding.decide.Goals as goal
@@ -21,5 +23,7 @@ returns g c = λ kept.
       kept = kept;
     }) c.entries.result c.as_slice.result.now c.in-Pair.one c.in-Pair.other
     c.in_ok-in_list.field-0 c.entries.ensures
-    (c.as_slice.ensures ∙ c.in_ok-entry.ensures {u = tt}) c.in-Pair.is
+    (c.as_slice.ensures ∙ c.in_ok-entry.ensures {u = tt}
+    ∙ ap (λ (form : Form). entry_of g.H.TreeHash.hash form (parts c.args.cert.now))
+    c.form_at.ensures) c.in-Pair.is
     (c.in_ok-in_list.ensures {u = tt})
