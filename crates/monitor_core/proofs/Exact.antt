@@ -80,7 +80,7 @@ ok_none : {A E : Type 0} (refusal : Option E) (x : A)
 ok_none None x is = refl
 ok_none (Some e) x is = absurd cc
 
-none_ok : {A E : Type 0} (refusal : Option E) (x : A) → refusal ≡ None
+pub none_ok : {A E : Type 0} (refusal : Option E) (x : A) → refusal ≡ None
     → (answer_of refusal >>= λ passed. Ok x) ≡ Ok x
 none_ok None x is = refl
 none_ok (Some e) x is = absurd cc

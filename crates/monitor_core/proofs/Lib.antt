@@ -3,6 +3,7 @@ pub mod Reports
 pub mod Growing
 pub mod Exact
 pub mod Runs
+pub mod Watched
 pub mod Domains
 pub mod Letters
 pub mod Skips

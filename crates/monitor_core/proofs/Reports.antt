@@ -1,7 +1,6 @@
 -- The report of entries, of parts of a list and one entry after another.
-use Rattle.std.proofs.Common.{◌≡◌, ℕ, suc, ◌+◌, ◌<◌, ◌≤◌, true, false, List, [], ◌∷◌, ◌++◌, length}
-use Rattle.std.proofs.Common.{drop, get_or, refl, sym, ap, ◌∙◌, append-nil, append_assoc, arith}
-use Rattle.std.proofs.lemmas.List.{drop_all, drop_more}
+use Rattle.std.proofs.Common.{◌≡◌, ℕ, suc, ◌+◌, true, false, List, [], ◌∷◌, ◌++◌, length, refl}
+use Rattle.std.proofs.Common.{sym, ap, ◌∙◌, append-nil, append_assoc, arith}
 use Rattle.byte_formats.specs.Types.{Text}
 use Rattle.monitor_core.specs.Report.{is_watched, lines_of, matches_of, report_of}
 use Rattle.monitor_core.specs.declared.lines.Line.{Line}
@@ -35,29 +34,15 @@ unfolding report_of
 report-one watch first entry entries = refl
 
 -- one entry more
-pub report_more : (watch entries : List Text) (first index : ℕ) (done now : List Line)
-    (entry : Text) → index < length entries → entry ≡ get_or entries index []
-    → now ≡ done ++ lines_of watch (first + index) entry
-    → done ++ report_of watch (first + index) (drop index entries)
-    ≡ now ++ report_of watch (first + (index + 1)) (drop (index + 1) entries)
-report_more watch entries first index done now entry within is grown =
-    let place : first + index + 1 ≡ first + (index + 1) = omega arith in
-    let rest : List Text = drop (index + 1) entries in
-    ap (λ xs. done ++ report_of watch (first + index) xs) (drop_more entries index [] within
-    ∙ ap (λ e. e ∷ rest) (sym is))
-    ∙ ap (λ lines. done ++ lines) (report-one watch (first + index) entry rest)
-    ∙ sym (append_assoc done (lines_of watch (first + index) entry)
-    (report_of watch (first + index + 1) rest))
-    ∙ ap (λ lines. lines ++ report_of watch (first + index + 1) rest) (sym grown)
-    ∙ ap (λ n. now ++ report_of watch n rest) place
-
--- no entry is left
-pub report_ends : (watch entries : List Text) (n index : ℕ) (done : List Line)
-    → length entries ≤ index → done ++ report_of watch n (drop index entries) ≡ done
-report_ends watch entries n index done all =
-    ap (λ xs. done ++ report_of watch n xs) (drop_all index entries all)
-    ∙ ap (λ lines. done ++ lines) (report-none watch n)
-    ∙ append-nil done
+pub report-last : (watch : List Text) (first : ℕ) (entries : List Text) (entry : Text)
+    → report_of watch first (entries ++ entry ∷ [])
+    ≡ report_of watch first entries ++ lines_of watch (first + length entries) entry
+report-last watch first entries entry =
+    let index : ℕ = first + length entries in
+    report-parts watch first entries (entry ∷ [])
+    ∙ ap (λ lines. report_of watch first entries ++ lines) (report-one watch index entry []
+    ∙ ap (λ lines. lines_of watch index entry ++ lines) (report-none watch (index + 1))
+    ∙ append-nil (lines_of watch index entry))
 
 -- a name that is watched, and one that isn't
 pub matches_more : (watch : List Text) (index : ℕ) (name : Text) (names : List Text)

@@ -1,6 +1,7 @@
 pub mod States
 pub mod Report
 pub mod Monitor
+pub mod Watched
 pub mod Written
 pub mod Reading
 pub mod Laws

@@ -23,18 +23,24 @@ grown_peaks h s entries = with_leaves h (kept_peaks s) (map (leaf_hash h) entrie
 abbrev pub kept_checkpoint : HashFunction → MonitorState → Checkpoint
 kept_checkpoint h s = record { size = s.size; root = root_of_peaks h s.peaks }
 
--- The first refusal that holds, of new entries that lead from the state to this size and root of
--- the log with this id, as the proof shows.
+-- The first refusal that holds, of so many new entries, with which the list has the root that is
+-- named last, and which lead from the state to this size and root of the log with this id, as the
+-- proof shows.
+abbrev pub refusal_by : HashFunction → MonitorState → Text → ℕ → Hash → List Hash → ℕ → Hash
+    → Option MonitorError
+refusal_by h s log size root proof have found =
+    if not (bytes_eq log s.log) then Some WrongLog
+    else (if nat_le size s.size then Some (NotNewer s.size)
+    else (if not (have == size - s.size) then Some (ItemCount have (size - s.size))
+    else (if not (is_prefix_of h (kept_checkpoint h s) size root proof) then Some BadProof
+    else (if not (bytes_eq found root) then Some (RootDiffers root found) else None))))
+
+-- The same of these new entries.
 unfoldable pub monitor_refusal : HashFunction → MonitorState → Text → ℕ → Hash → List Hash
     → List Text → Option MonitorError
 monitor_refusal h s log size root proof entries =
-    let found = root_of_peaks h (grown_peaks h s entries).peaks in
-    if not (bytes_eq log s.log) then Some WrongLog
-    else (if nat_le size s.size then Some (NotNewer s.size)
-    else (if not (length entries == size - s.size)
-    then Some (ItemCount (length entries) (size - s.size))
-    else (if not (is_prefix_of h (kept_checkpoint h s) size root proof) then Some BadProof
-    else (if not (bytes_eq found root) then Some (RootDiffers root found) else None))))
+    refusal_by h s log size root proof (length entries)
+    (root_of_peaks h (grown_peaks h s entries).peaks)
 
 -- What is found: the report of the new entries, and the state with them.
 abbrev pub found_of : HashFunction → MonitorState → List Text → List Text → Findings

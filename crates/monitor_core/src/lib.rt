@@ -2,8 +2,9 @@
 //! its entries and the peaks of its tree, reads the new entries, tests that they lead from there to
 //! a new size and root, and reports each entry with a name under a watched domain.
 //!
-//! [`monitor`] is one run. What it finds is a report and the next state; [`write_found`] writes
-//! both, and [`read_state`] reads the state from that text. [`read_watch`] reads the domains.
+//! [`monitor`] is one run over a list; [`Run`] is the same for entries that come one after another.
+//! What it finds is a report and the next state; [`write_found`] writes both, and [`read_state`]
+//! reads the state from that text. [`read_watch`] reads the domains.
 //!
 //! A state is believed. No clause says anything of one that isn't the state of the list that the
 //! monitor saw: a later state of the same log, for one, is taken, and what lies between isn't
@@ -25,6 +26,7 @@ mod reporting;
 mod running;
 mod state_text;
 mod states;
+mod taking;
 mod watching;
 mod writing;
 
@@ -34,5 +36,6 @@ pub use lines::Line;
 pub use running::monitor;
 pub use state_text::read_state;
 pub use states::State;
+pub use taking::Run;
 pub use watching::{Watch, read_watch};
 pub use writing::{write_found, write_state};

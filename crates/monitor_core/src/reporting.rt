@@ -1,7 +1,7 @@
-//! The report of entries.
+//! What is reported of an entry.
 
-ghost use Rattle.std.specs.Prelude.{◌≡◌, ◌+◌, ◌^◌, ◌<◌, [], ◌∷◌, ◌++◌, length, IfOk, OnOk};
-ghost use Rattle.monitor_core.specs.Report.{lines_of, matches_of, report_of};
+ghost use Rattle.std.specs.Prelude.{◌≡◌, [], ◌∷◌, ◌++◌, OnOk};
+ghost use Rattle.monitor_core.specs.Report.{lines_of, matches_of};
 ghost use Rattle.monitor_core.specs.declared.lines.Line.TheVariants.{Match};
 
 use crate::lines::Line;
@@ -10,7 +10,6 @@ use cert_fields::{DnsNames, names_of};
 use log_entry::{Entry, read_entry};
 use mtc_io::{Bytes, Memory};
 use std::alloc::Global;
-use tree_proofs::EntryList;
 
 fn push(lines: &mut Vec<Line>, line: Line) -> Result<(), Memory>
     ensures { OnOk result (lines.new.items ≡ lines.old.items ++ line ∷ []) }
@@ -46,8 +45,8 @@ fn put_matches(
     Ok(())
 }
 
-// Puts what is said of an entry after the lines.
-fn put_entry(
+/// Puts what is said of an entry after the lines.
+pub(crate) fn put_entry(
     alloc: Global,
     lines: &mut Vec<Line>,
     watch: &[Bytes],
@@ -62,27 +61,4 @@ fn put_entry(
         Ok(Entry::Tbs(tbs)) => put_matches(alloc, lines, watch, index, names_of(tbs.extensions)),
         Err(_fault) => push(lines, Line::Unread { index }),
     }
-}
-
-// The report of entries, of which the first has this index.
-pub(crate) fn report<L: EntryList>(
-    alloc: Global,
-    watch: &[Bytes],
-    first: u64,
-    entries: &L,
-) -> Result<Vec<Line>, Memory>
-    requires { first + length (L.texts entries.now) < 2 ^ 64 }
-    ensures { IfOk result (λ lines. lines.items ≡ report_of watch.now first (L.texts entries.now)) }
-{
-    let mut lines = Vec::new(alloc);
-    for index in 0..entries.len() {
-        put_entry(
-            alloc,
-            &mut lines,
-            watch,
-            first + index as u64,
-            entries.entry(index),
-        )?;
-    }
-    Ok(lines)
 }
