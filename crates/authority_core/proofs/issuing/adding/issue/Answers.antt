@@ -27,6 +27,15 @@ IsMade h form id r =
     (matches h (entry_for h form id r) r.key ≡ true)
     × (has_form form (entry_for h form id r) ≡ true)
 
+-- So it is in a form that is the same one.
+in_form : (h : HashFunction) (form other : Form) (id : Text) (r : RequestParts) → form ≡ other
+    → entry_for h form id r ≡ entry_for h other id r
+in_form h form other id r is = ap (λ (f : Form). entry_for h f id r) is
+
+made_in : (h : HashFunction) (form other : Form) (id : Text) (r : RequestParts) → form ≡ other
+    → IsMade h form id r → IsMade h other id r
+made_in h form other id r is = subst (λ (f : Form). IsMade h f id r) is
+
 -- The same entry and key.
 of_same : (P : Text → Text → Type 0) (entry key other other_key : Text)
     → entry ≡ other → key ≡ other_key → P entry key → P other other_key
@@ -42,7 +51,7 @@ returns-clause-appends g c =
     (with_item entry key) log c.add.new.self (Ok c.in_ok-index.index)) _ _
     (issued_entry h (view_of log) r) r.key
     (c.as_slice.ensures ∙ c.in_ok-entry.ensures.bytes
-    ∙ ap (λ (f : Form). entry_for h f _ r) c.form-form.ensures
+    ∙ in_form h _ _ _ r c.form-form.ensures
     ∙ ap (λ (s : Settings). entry_for h (log_form (view_of log)) s.id r) (c.settings.view_is
     ∙ c.settings-settings.ensures.value))
     (c.as_slice-2.ensures ∙ ap (λ (q : RequestParts). q.key) c.request.view_is)
@@ -64,10 +73,10 @@ returns-clause-valid g c = λ made.
     let h = g.H.TreeHash.hash in
     let r = c.args.request.now in
     let form = log_form (view_of c.args.log.now) in
-    let made = subst (λ (f : Form). IsMade h f _ r) c.form-form.ensures
+    let asked = made_in h _ _ _ r c.form-form.ensures
     (c.entry_of_request.ensures.belongs, c.entry_of_request.ensures.form) in
     let owned = subst (λ (s : Settings). IsMade h form s.id r)
-    (c.settings.view_is ∙ c.settings-settings.ensures.value) made in
+    (c.settings.view_is ∙ c.settings-settings.ensures.value) asked in
     c.law_unrefused_records_are_taken.ensures.added (issued_entry h (view_of c.args.log.now) r)
     r.key owned.0 owned.1
 
@@ -80,7 +89,7 @@ returns-clause-answer g c =
     key ≡ None) _ _
     (issued_entry h (view_of log) r) r.key
     (c.as_slice.ensures ∙ c.in_ok-entry.ensures.bytes
-    ∙ ap (λ (f : Form). entry_for h f _ r) c.form-form.ensures
+    ∙ in_form h _ _ _ r c.form-form.ensures
     ∙ ap (λ (s : Settings). entry_for h (log_form (view_of log)) s.id r) (c.settings.view_is
     ∙ c.settings-settings.ensures.value))
     (c.as_slice-2.ensures ∙ ap (λ (q : RequestParts). q.key) c.request.view_is)
@@ -119,7 +128,7 @@ returns-in_err-index-clause-appends g c =
     (with_item entry key) log c.add.new.self (Err c.in_err-index.field-0.0)) _ _
     (issued_entry h (view_of log) r) r.key
     (c.as_slice.ensures ∙ c.in_ok-entry.ensures.bytes
-    ∙ ap (λ (f : Form). entry_for h f _ r) c.form-form.ensures
+    ∙ in_form h _ _ _ r c.form-form.ensures
     ∙ ap (λ (s : Settings). entry_for h (log_form (view_of log)) s.id r) (c.settings.view_is
     ∙ c.settings-settings.ensures.value))
     (c.as_slice-2.ensures ∙ ap (λ (q : RequestParts). q.key) c.request.view_is)
@@ -137,7 +146,7 @@ returns-in_err-index-clause-answer g c =
     (log_broken log) (log_end log) entry key) (Err why)) _ _
     (issued_entry h (view_of log) r) r.key
     (c.as_slice.ensures ∙ c.in_ok-entry.ensures.bytes
-    ∙ ap (λ (f : Form). entry_for h f _ r) c.form-form.ensures
+    ∙ in_form h _ _ _ r c.form-form.ensures
     ∙ ap (λ (s : Settings). entry_for h (log_form (view_of log)) s.id r) (c.settings.view_is
     ∙ c.settings-settings.ensures.value))
     (c.as_slice-2.ensures ∙ ap (λ (q : RequestParts). q.key) c.request.view_is)
@@ -148,10 +157,10 @@ returns-in_err-index-clause-valid g c = λ made.
     let h = g.H.TreeHash.hash in
     let r = c.args.request.now in
     let form = log_form (view_of c.args.log.now) in
-    let made = subst (λ (f : Form). IsMade h f _ r) c.form-form.ensures
+    let asked = made_in h _ _ _ r c.form-form.ensures
     (c.entry_of_request.ensures.belongs, c.entry_of_request.ensures.form) in
     let owned = subst (λ (s : Settings). IsMade h form s.id r)
-    (c.settings.view_is ∙ c.settings-settings.ensures.value) made in
+    (c.settings.view_is ∙ c.settings-settings.ensures.value) asked in
     c.law_unrefused_records_are_taken.ensures.added (issued_entry h (view_of c.args.log.now) r)
     r.key owned.0 owned.1
 
@@ -160,13 +169,13 @@ add-requires g c =
     let h = g.H.TreeHash.hash in
     let r = c.args.request.now in
     let form = log_form (view_of c.args.log.now) in
-    let made = subst (λ (f : Form). IsMade h f _ r) c.form-form.ensures
+    let asked = made_in h _ _ _ r c.form-form.ensures
     (c.entry_of_request.ensures.belongs, c.entry_of_request.ensures.form) in
     let bytes = c.as_slice.ensures ∙ c.in_ok-entry.ensures.bytes
-    ∙ ap (λ (f : Form). entry_for h f _ r) c.form-form.ensures in
+    ∙ in_form h _ _ _ r c.form-form.ensures in
     let key = c.as_slice-2.ensures ∙ ap (λ (q : RequestParts). q.key) c.request.view_is in
     record {
       belongs = of_same (λ (entry key : Text). matches h entry key ≡ true) _ _ _ _ (sym bytes)
-          (sym key) made.0;
-      form = subst (λ (entry : Text). has_form form entry ≡ true) (sym bytes) made.1;
+          (sym key) asked.0;
+      form = subst (λ (entry : Text). has_form form entry ≡ true) (sym bytes) asked.1;
     }
