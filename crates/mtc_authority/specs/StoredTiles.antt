@@ -1,5 +1,5 @@
 -- The tiles that go with the records of a log, and what the work on a log leaves of both.
-use Rattle.std.specs.Prelude.{◌≡◌, ℕ, List, map, IfSome, Ok}
+use Rattle.std.specs.Prelude.{◌≡◌, List, map, IfSome, Ok}
 use Rattle.byte_formats.specs.Types.{HashFunction, Text}
 use Rattle.disk_core.specs.declared.disk.Disk.{Ghosts}
 use Rattle.tile_store.specs.Contents.{HoldsTiles}

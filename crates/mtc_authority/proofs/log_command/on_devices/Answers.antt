@@ -20,7 +20,7 @@ use Rattle.mtc_command.proofs.Beside.{only_reads_of}
 use Rattle.mtc_command.proofs.Stored.{read_both, stored_on}
 use Rattle.mtc_command.proofs.Tiled.{tiled_on, valid_tiled_on}
 use Rattle.disk_core.proofs.Times.{only_read_on}
-use Rattle.mtc_authority.specs.StoredTiles.{HasTilesOf, StoresLog}
+use Rattle.mtc_authority.specs.StoredTiles.{HasTilesOf}
 use Rattle.mtc_authority.specs.Works.{IsLog, log_bytes_say, found_log, log_says}
 use Rattle.mtc_authority.specs.declared.work.Work.{Work}
 use Rattle.mtc_authority.proofs.Both.{log_stores}
