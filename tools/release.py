@@ -35,6 +35,8 @@ PACKED = {"tools/": "tools/", "docs/mtc.1": "mtc.1", "docs/mtc.bash": "mtc.bash"
 READ_FIRST = """mtc: a certification authority for Merkle Tree Certificates, with cosigners, relying party, auditor and monitor.
 
     ./mtc member examples/first.member     # member 0
+    ./mtc version                          # the profile and the draft
+    ./mtc help                             # a line for each command
     man ./mtc.1                            # all commands
     source mtc.bash                        # completes arguments
 
