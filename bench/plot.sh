@@ -50,7 +50,7 @@ python3 -B bench/sizes.py >"$folder/sizes" || exit 1
     echo "| Work | Of | Seconds | A second | Syncs, s |"
     echo "|---|---|---|---|---|"
     # So many a second as the first number of the second field says.
-    figures issuing | awk -F '|' '{ many = $3; gsub(/[^0-9 ]/, "", many); split(many, one, " ")
+    figures verifying issuing | awk -F '|' '{ many = $3; gsub(/[^0-9 ]/, "", many); split(many, one, " ")
         printf "| %s | %s | %s | %.*f | %s |\n", $2, $3, $4, one[1] / $4 < 10, one[1] / $4, $5 }'
 } >"$folder/rates"
 {
