@@ -26,6 +26,8 @@ mod marks;
 #[cfg(test)]
 mod refusals;
 #[cfg(test)]
+mod switches;
+#[cfg(test)]
 mod tiles;
 #[cfg(test)]
 mod walks;
