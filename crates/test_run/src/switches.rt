@@ -173,6 +173,16 @@ $ checkpoint l
 status 2
 ! mtc: checkpoint: l: BadRecord 2
 
+# Entries beside a key whose algorithm they don't name, and beside none.
+file items 000200000000 0083 BEFORE AFTER KEY 008a BEFORE 300506032b6571 AFTER KEY
+$ root items
+status 2
+! mtc: root: items: BadItem 2
+file items 000200000000 008a BEFORE ALGORITHM AFTER 0000
+$ root items
+status 2
+! mtc: root: items: BadItem 1
+
 # A landmark stands on either side.
 file o SETTINGS ITEM 0100000009030000000000000002 AT_TWO NAMED 00
 $ checkpoint o
@@ -265,6 +275,73 @@ $ audit c s 1767225600 entries none
 | stands 1
 $ audit d s 1767225600 entries none
 | stands 2
+file s LOG
+| algorithm_from = 1
+  OLD NEW
+$ audit c s 1767225600 entries none
+status 3
+| refused LandmarkDiffers
+$ audit d s 1767225600 entries none
+| stands 2
+"#;
+
+const NUMBERS: &str = r#"
+file c FIRST
+file d SECOND
+file s LOG
+| algorithm_from = 0
+  OLD NEW
+$ verify c s 1767225600
+status 3
+| refused LandmarkDiffers
+$ verify d s 1767225600
+| accepted 2
+file s LOG
+| algorithm_from = 9223372036854775807
+  OLD NEW
+$ verify c s 1767225600
+| accepted 1
+$ verify d s 1767225600
+status 3
+| refused LandmarkDiffers
+file s LOG
+| algorithm_from = 0x2
+  OLD NEW
+$ verify c s 1767225600
+| accepted 1
+$ verify d s 1767225600
+| accepted 2
+
+# What is no number of TOML, and what is another value.
+file s LOG
+| algorithm_from = 9223372036854775808
+$ verify d s 1767225600
+status 2
+! mtc: verify: s: NotToml
+file s LOG
+| algorithm_from = 2.0
+$ verify d s 1767225600
+status 2
+! mtc: verify: s: BadValue AlgorithmFrom
+file s LOG
+| algorithm_from = true
+$ verify d s 1767225600
+status 2
+! mtc: verify: s: BadValue AlgorithmFrom
+file s LOG
+| algorithm_from = [2]
+$ verify d s 1767225600
+status 2
+! mtc: verify: s: BadValue AlgorithmFrom
+
+# It is read before the cosigners.
+file s LOG
+| algorithm_from = "2"
+| [[cosigner]]
+| id = 1
+$ verify d s 1767225600
+status 2
+! mtc: verify: s: BadValue AlgorithmFrom
 "#;
 
 #[test]
@@ -276,11 +353,17 @@ fn a_log_is_switched_once(rt: HostRuntime) {
 #[test]
 fn records_beside_a_switch(rt: HostRuntime) {
     let outcome = outcome_after(rt.alloc(), NAMES, REFUSED);
-    assert!(rt; outcome == Ok(Outcome::Passed(11)), "{outcome:?}");
+    assert!(rt; outcome == Ok(Outcome::Passed(13)), "{outcome:?}");
 }
 
 #[test]
 fn certificates_of_either_form(rt: HostRuntime) {
     let outcome = outcome_after(rt.alloc(), NAMES, JUDGED);
-    assert!(rt; outcome == Ok(Outcome::Passed(17)), "{outcome:?}");
+    assert!(rt; outcome == Ok(Outcome::Passed(19)), "{outcome:?}");
+}
+
+#[test]
+fn numbers_of_a_store(rt: HostRuntime) {
+    let outcome = outcome_after(rt.alloc(), NAMES, NUMBERS);
+    assert!(rt; outcome == Ok(Outcome::Passed(11)), "{outcome:?}");
 }
