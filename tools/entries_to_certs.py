@@ -24,7 +24,9 @@ ALGORITHM = bytes.fromhex("300c060a2b0601040182da4b2f00")
 UNSIGNED = bytes.fromhex("030100")  # a BIT STRING without a bit
 NULL, KEY_HASH = b"\0\0", b"\x04\x20"
 VERSION, SEQUENCE, OCTETS, EXTENSIONS = 0xA0, 0x30, 0x04, 0xA3
-FORMS = ([VERSION, SEQUENCE, SEQUENCE, SEQUENCE, OCTETS], [VERSION, SEQUENCE, SEQUENCE, SEQUENCE, OCTETS, EXTENSIONS])
+FIRST = [VERSION, SEQUENCE, SEQUENCE, SEQUENCE]
+FORMS = ([*FIRST, OCTETS], [*FIRST, OCTETS, EXTENSIONS])
+NAMED = ([*FIRST, SEQUENCE, OCTETS], [*FIRST, SEQUENCE, OCTETS, EXTENSIONS])  # those that name the algorithm of the key
 
 
 class NotInForm(Exception):
@@ -71,12 +73,20 @@ def wrapped(tag, contents):
     return bytes([tag]) + coded + contents
 
 
+def algorithm_of(key):
+    """The algorithm with which a key begins."""
+    outer = elements_of(key)
+    inner = elements_of(outer[0][2 + max(outer[0][1] - 128, 0):]) if len(outer) == 1 else []
+    return inner[0] if inner else b""
+
+
 def certificate_of(index, entry, key):
     """The certificate of an entry, without a signature; nothing where the entry isn't in the form of one."""
     fields = elements_of(entry[2:]) if entry[:2] == b"\0\1" else []
+    algorithm = fields.pop(4) if [field[0] for field in fields] in NAMED else None
     if [field[0] for field in fields] not in FORMS or fields[4][:2] != KEY_HASH:
         return None
-    if fields[4][2:] != hashlib.sha256(key).digest():
+    if fields[4][2:] != hashlib.sha256(key).digest() or algorithm not in (None, algorithm_of(key)):
         raise NotInForm(f"entry {index}: the key isn't the one of the entry")
     serial = wrapped(0x02, index.to_bytes(index.bit_length() // 8 + 1, "big"))
     signed = wrapped(SEQUENCE, b"".join([fields[0], serial, ALGORITHM, *fields[1:4], key, *fields[5:]]))

@@ -6,6 +6,7 @@ import ssl
 from .scene import DATES, KEY, LOG, differ, lacks, refused
 
 BLOCK = re.compile(r"entry (\d+), unsigned\n(-----BEGIN CERTIFICATE-----\n[A-Za-z0-9+/=\n]+-----END CERTIFICATE-----\n)")
+NAMED = bytes.fromhex("300506032b65700420")  # the algorithm of the keys, before the hash of one
 NAMES = [["a.example"], ["b.example", "*.b.example"], [f"n{number}.example" for number in range(100)]]
 
 
@@ -28,12 +29,15 @@ def blocks_of(printed):
 
 
 def make_log(scene):
+    """A log of three entries, of which the last names the algorithm of its key."""
     scene.mtc("init-log", "j", LOG, 2, 64)
     for number, names in enumerate(NAMES):
         listed = ", ".join(f'"{name}"' for name in names)
         common = f'common_name = "{names[0]}"\n' if number else ""
         scene.file("r", f'{DATES}dns = [{listed}]\n{common}key = "{KEY}"\n')
         scene.mtc("issue", "j", "r")
+        if number == 1:
+            scene.mtc("switch", "j")
     scene.mtc("landmark", "j")
     scene.mtc("entries", "j", 4, into="entries")
     scene.mtc("entries-from", "j", 2, 4, into="later")
@@ -77,6 +81,7 @@ def wrong_entries(scene, text, all_printed):
             ("a cut key", text[:cut + 10], (), 2, "it is cut"), ("no key", text[:cut], (), 2, "it is cut"),
             ("a cut length", text + b"\0", (), 2, "it is cut"),
             ("another key", text[:cut + 2] + b"\x31" + text[cut + 3:], (), 2, "entry 1: the key"),
+            ("another algorithm", text.replace(NAMED, NAMED[:6] + b"\x71" + NAMED[7:]), ("3",), 2, "entry 3: the key"),
             ("the null entry", text, ("0",), 4, "entry 0 is the null entry"), ("none", text, ("4",), 4, "there is no entry 4"),
             ("another type", text[:null] + unread, (), 3, "entry 1 isn't in the form of one"),
             ("a cut entry", text[:null] + b"\0\4\0\1\xa0\3\0\0", (), 3, "entry 1 isn't in the form of one"),
