@@ -1,4 +1,5 @@
 pub mod Audited
+pub mod Compared
 pub mod After
 pub mod Quarrels
 pub mod Trusted

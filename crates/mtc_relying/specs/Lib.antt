@@ -1,4 +1,5 @@
 pub mod AuditOutcome
+pub mod Compared
 pub mod Member
 pub mod MemberOutcome
 pub mod QuarrelOutcome

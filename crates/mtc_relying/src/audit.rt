@@ -1,34 +1,39 @@
 //! The command `audit`: what is accepted of a certificate is compared with the entries of a log and
 //! the export of a cosigner.
 
-ghost use Rattle.std.specs.Prelude.{◌≡◌, ◌<◌, ◌^◌, true, [], ◌∷◌, IfOk, IfSome, option_map};
+ghost use Rattle.std.specs.Prelude.{◌≡◌, ◌<◌, ◌^◌, true, [], ◌∷◌, IfOk, IfSome};
 ghost use Rattle.byte_formats.specs.Readings.{Gives};
+ghost use Rattle.byte_formats.specs.Types.{Text};
 ghost use Rattle.cert_fields.specs.Views.{parts};
+ghost use Rattle.entry_list.specs.Reading.{items_in};
+ghost use Rattle.entry_list.specs.Reasons.{items_fault_text};
 ghost use Rattle.mtc_words.specs.Commands.{is_time};
 ghost use Rattle.mtc_command.specs.Answers.{ending_of};
-ghost use Rattle.mtc_command.specs.Endings.{Replies};
 ghost use Rattle.mtc_command.specs.Served.{HasAnswered};
+ghost use Rattle.mtc_command.specs.Steps.{Outcome, with_form};
 ghost use Rattle.mtc_proof.specs.Views.{proof_parts};
 ghost use Rattle.cosigner_steps.specs.Steps.{AreSteps};
 ghost use Rattle.world_core.specs.Audit.{WasJudged};
-ghost use Rattle.mtc_relying.specs.AuditOutcome.{audit_outcome, audit_cert_says, audit_export_says};
-ghost use Rattle.mtc_relying.specs.AuditOutcome.{audit_items_say, accepted_in, audit_store_says};
+ghost use Rattle.mtc_relying.specs.AuditOutcome.{accepted_in, audit_cert_says, audit_export_says};
+ghost use Rattle.mtc_relying.specs.AuditOutcome.{audit_outcome, audit_store_says};
+ghost use Rattle.mtc_relying.specs.Compared.{CanBeAudited, IfClaims, LeavesOf};
 ghost use Rattle.mtc_relying.specs.Views.{accepted_parts, input_file};
 
 use crate::accepted::AcceptedCert;
+use crate::claim::{Claim, Judged};
+use crate::comparing::compared;
 use crate::exported::kept_in;
-use crate::found::audited;
 use crate::input::Input;
 use crate::reasons::store_reason;
 use crate::verify::verdict_answer;
 use cert_fields::parse;
 use cosigner_core::{Export, ReadExportError};
-use entry_list::{Items, ItemsError, read_items};
 use mtc_command::{Answer, INPUT_LIMIT, LIST_LIMIT, Stop, Stopped, read_input, refuse_file};
 use mtc_io::Bytes;
-use mtc_lines::{export_reason, items_reason};
+use mtc_lines::export_reason;
 use mtc_proof::read_proof;
 use mtc_room::Room;
+use mtc_streams::fold_input;
 use policy_core::{Refusal, StoreError, ValidStore};
 use relying_party::judge_cert;
 use std::alloc::Global;
@@ -55,83 +60,80 @@ fn accepted_in<'b, H: TreeHash>(
     })
 }
 
-// Judges the certificate, and audits one that is accepted.
-fn cert_answer<'a, H: TreeHash>(
+// Judges the certificate.
+fn cert_judged<'a, 'b, H: TreeHash>(
     alloc: Global,
-    cert: Input<'a, '_>,
+    cert: Input<'a, 'b>,
     now: u64,
-    store: &ValidStore,
-    items: &Items<'_, H>,
-    kept: Option<&Export>,
-) -> Result<Answer, Stop<'a>>
+    store: ValidStore,
+    kept: Option<Export>,
+) -> Judged<'a, 'b>
     requires time { is_time now ≡ true }
-    requires allowed { IfSome kept (λ e. AreSteps H.hash e.now.steps) }
-    ensures { Replies (audit_cert_says H.hash (input_file cert.entry) now store.now items.now
-        (option_map (λ e. e.now) kept.entry)).answer (ending_of result) }
+    requires allowed { IfSome kept (λ e. AreSteps H.hash e.steps) }
+    ensures claims { IfClaims (CanBeAudited H.hash) result }
+    ensures leaves { (entries : Text) (wanted : Text → Outcome)
+        → ((bytes : Text) → wanted bytes ≡ with_form items_fault_text entries
+        (items_in H.hash bytes)
+        (λ items. audit_cert_says H.hash (input_file cert.entry) now store items kept))
+        → LeavesOf H.hash entries wanted result }
 {
-    match accepted_in::<H>(cert.bytes, store, now as i64) {
-        Ok(accepted) => Ok(audited(alloc, &accepted, store.as_store(), items, kept)?),
-        Err(why) => verdict_answer(alloc, cert.name, Err(why)),
+    match accepted_in::<H>(cert.bytes, &store, now as i64) {
+        Ok(accepted) => Judged::Claims(Claim {
+            accepted,
+            store,
+            kept,
+        }),
+        Err(why) => Judged::Ends(verdict_answer(alloc, cert.name, Err(why))),
     }
 }
 
 // Reads the export, and then judges the certificate.
-fn export_answer<'a, H: TreeHash>(
+fn export_judged<'a, 'b, H: TreeHash>(
     alloc: Global,
-    cert: Input<'a, '_>,
+    cert: Input<'a, 'b>,
     now: u64,
     export: Input<'a, '_>,
-    store: &ValidStore,
-    items: &Items<'_, H>,
-) -> Result<Answer, Stop<'a>>
+    store: ValidStore,
+) -> Judged<'a, 'b>
     requires { is_time now ≡ true }
-    ensures { Replies (audit_export_says H.hash (input_file cert.entry) now
-        (input_file export.entry) store.now items.now).answer (ending_of result) }
+    ensures claims { IfClaims (CanBeAudited H.hash) result }
+    ensures leaves { (entries : Text) (wanted : Text → Outcome)
+        → ((bytes : Text) → wanted bytes ≡ with_form items_fault_text entries
+        (items_in H.hash bytes)
+        (audit_export_says H.hash (input_file cert.entry) now (input_file export.entry) store))
+        → LeavesOf H.hash entries wanted result }
 {
     match kept_in::<H>(alloc, export.bytes) {
-        Ok(kept) => cert_answer(alloc, cert, now, store, items, kept.as_ref()),
-        Err(ReadExportError::Memory) => Err(Stop::Memory),
-        Err(why) => Err(refuse_file(Stopped::BadForm, export.name, export_reason(why))),
+        Ok(kept) => cert_judged::<H>(alloc, cert, now, store, kept),
+        Err(ReadExportError::Memory) => Judged::Ends(Err(Stop::Memory)),
+        Err(why) => {
+            let reason = export_reason(why);
+            Judged::Ends(Err(refuse_file(Stopped::BadForm, export.name, reason)))
+        }
     }
 }
 
-// Reads the entries, then the export, and so on.
-fn items_answer<'a, H: TreeHash>(
+// Reads the store, then the export, and so on.
+fn store_judged<'a, 'b, H: TreeHash>(
     alloc: Global,
-    cert: Input<'a, '_>,
-    now: u64,
-    entries: Input<'a, '_>,
-    export: Input<'a, '_>,
-    store: &ValidStore,
-) -> Result<Answer, Stop<'a>>
-    requires { is_time now ≡ true }
-    ensures { Replies (audit_items_say H.hash (input_file cert.entry) now (input_file entries.entry)
-        (input_file export.entry) store.now).answer (ending_of result) }
-{
-    match read_items::<H>(alloc, entries.bytes) {
-        Ok(items) => export_answer(alloc, cert, now, export, store, &items),
-        Err(ItemsError::Memory) => Err(Stop::Memory),
-        Err(why) => Err(refuse_file(Stopped::BadForm, entries.name, items_reason(why))),
-    }
-}
-
-// Reads the store, then the entries, and so on.
-fn store_answer<'a, H: TreeHash>(
-    alloc: Global,
-    cert: Input<'a, '_>,
+    cert: Input<'a, 'b>,
     store: Input<'a, '_>,
     now: u64,
-    entries: Input<'a, '_>,
     export: Input<'a, '_>,
-) -> Result<Answer, Stop<'a>>
+) -> Judged<'a, 'b>
     requires { is_time now ≡ true }
-    ensures { Replies (audit_store_says H.hash (input_file cert.entry) (input_file store.entry) now
-        (input_file entries.entry) (input_file export.entry)).answer (ending_of result) }
+    ensures claims { IfClaims (CanBeAudited H.hash) result }
+    ensures leaves { (entries : Text) → LeavesOf H.hash entries (λ bytes. audit_store_says H.hash
+        (input_file cert.entry) (input_file store.entry) now
+        (record { name = entries; text = bytes }) (input_file export.entry)) result }
 {
     match ValidStore::read(alloc, store.bytes) {
-        Ok(trusted) => items_answer::<H>(alloc, cert, now, entries, export, &trusted),
-        Err(StoreError::Memory) => Err(Stop::Memory),
-        Err(why) => Err(refuse_file(Stopped::BadForm, store.name, store_reason(why))),
+        Ok(trusted) => export_judged::<H>(alloc, cert, now, export, trusted),
+        Err(StoreError::Memory) => Judged::BadStore(Stop::Memory),
+        Err(why) => {
+            let reason = store_reason(why);
+            Judged::BadStore(refuse_file(Stopped::BadForm, store.name, reason))
+        }
     }
 }
 
@@ -147,7 +149,9 @@ fn input<'a, 'b>(name: &'a str, bytes: &'b Bytes) -> Input<'a, 'b>
 
 /// The command `audit CERT STORE NOW ENTRIES EXPORT`. The time is in seconds since
 /// 1970-01-01T00:00:00Z. All files are read before any is tested; then the store is tested, the
-/// entries and the export, and the certificate is judged last.
+/// entries and the export, and the certificate is judged last. The entries are read after the
+/// other files, as a stream; what stops the command at them is reported before what stops it at the
+/// export. Only where two strings have to be shown they are read once more, into memory.
 pub fn audit<'a, H: TreeHash, R: Room>(
     alloc: Global,
     room: &mut R,
@@ -166,14 +170,20 @@ pub fn audit<'a, H: TreeHash, R: Room>(
 {
     let certificate = read_input(alloc, room, cert, INPUT_LIMIT)?;
     let trusted = read_input(alloc, room, store, INPUT_LIMIT)?;
-    let listed = read_input(alloc, room, entries, LIST_LIMIT)?;
-    let exported = read_input(alloc, room, export, LIST_LIMIT)?;
-    store_answer::<H>(
-        alloc,
-        input(cert, &certificate),
-        input(store, &trusted),
-        now,
-        input(entries, &listed),
-        input(export, &exported),
-    )
+    match read_input(alloc, room, export, LIST_LIMIT) {
+        Ok(exported) => {
+            let judged = store_judged::<H>(
+                alloc,
+                input(cert, &certificate),
+                input(store, &trusted),
+                now,
+                input(export, &exported),
+            );
+            compared::<H, R>(alloc, room, entries, judged)
+        }
+        Err(stop) => {
+            let _read = fold_input::<H, R, ()>(alloc, room, entries, LIST_LIMIT, &mut ())?;
+            Err(stop)
+        }
+    }
 }

@@ -20,8 +20,8 @@ use std::alloc::Global;
 use tree_core::TreeHash;
 use world_core::{Audit, audit};
 
-// The answer to that of an audit.
-fn answer_to(alloc: Global, found: Audit) -> Result<Answer, Memory>
+/// The answer to that of an audit.
+pub(crate) fn answer_to(alloc: Global, found: Audit) -> Result<Answer, Memory>
     ensures { IfOk result (λ answer. said answer.status answer.text ≡ audit_reply found) }
 {
     match found {

@@ -11,6 +11,8 @@
 
 mod accepted;
 pub mod audit;
+mod claim;
+mod comparing;
 mod exported;
 mod found;
 mod input;
