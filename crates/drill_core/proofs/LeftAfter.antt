@@ -11,7 +11,7 @@ use Rattle.issuance_log.specs.Folds.{LogState, LogView, log_of}
 use Rattle.issuance_log.specs.Shown.{shown_with}
 use Rattle.issuance_log.specs.Words.{log_disk, view_of}
 use Rattle.issuance_log.specs.declared.log.Log.{Log}
-use Rattle.drill_core.specs.Calls.{HasCalledLog, IsLogWith, log_called, record_of}
+use Rattle.drill_core.specs.Calls.{HasCalledLog, IsLogWith, made_by, record_of}
 use Rattle.drill_core.specs.Parties.{IsLeft}
 use Rattle.drill_core.specs.declared.calls.LogCall.{LogCall}
 
@@ -26,7 +26,8 @@ module _ {H D T : Type 0} {hashes : Hashes H} {g : Ghosts D} {k : Ghosts T} (h :
       (sym (ap (option_map (shown_with (view_of old))) is.records) ∙ is.state) in
       let valid = subst (λ (o : Option (List Text)). IfSome o (λ list.
       log_of h (list ++ record_of h (view_of old) call ∷ [])
-      ≡ Ok (log_called h (shown_with (view_of old) list) call))) is.records called.valid in
+      ≡ Ok (made_by h (view_of old) call (shown_with (view_of old) list)))) is.records
+      called.valid in
       let either = subst (λ (o : Option (List Text)). IfSome o (λ list. (c : Text)
       → g.may_leave (log_disk new) c → RepresentsEither list (record_of h (view_of old) call) c))
       is.records (called.crash_states is.sound) in
@@ -34,9 +35,9 @@ module _ {H D T : Type 0} {hashes : Hashes H} {g : Ghosts D} {k : Ghosts T} (h :
         list = is.list;
         old = is.valid;
         new = subst (λ (v : LogView). log_of h (is.list ++ record_of h v call ∷ [])
-            ≡ Ok (log_called h s call)) (sym is.view)
+            ≡ Ok (made_by h v call s)) (sym is.view)
             (subst (λ (t : LogState). log_of h (is.list ++ record_of h (view_of old) call ∷ [])
-            ≡ Ok (log_called h t call)) seen valid);
+            ≡ Ok (made_by h (view_of old) call t)) seen valid);
         either = λ c there. subst (λ (v : LogView). RepresentsEither is.list (record_of h v call) c)
             (sym is.view) (either c (leaves c there));
       }

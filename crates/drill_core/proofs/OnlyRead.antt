@@ -14,10 +14,10 @@ use Rattle.journal_core.specs.Ends.{durable_of}
 use Rattle.journal_core.specs.Format.{Represents}
 use Rattle.journal_core.specs.Words.{AllRepresent}
 use Rattle.issuance_log.proofs.Asked.{asks_stays, modelled_stays}
-use Rattle.issuance_log.specs.Folds.{LogState, log_of}
+use Rattle.issuance_log.specs.Folds.{LogState, LogView, log_of}
 use Rattle.issuance_log.specs.Words.{LogAsksTiles, LogStays, log_disk, log_end, view_of}
 use Rattle.issuance_log.specs.declared.log.Log.{Log}
-use Rattle.drill_core.specs.Calls.{HasCalledLog, log_called, record_of}
+use Rattle.drill_core.specs.Calls.{HasCalledLog, log_called, made_by, record_of}
 use Rattle.drill_core.specs.Parties.{IsLogDisk, log_seen}
 use Rattle.drill_parties.specs.Disks.{records_on}
 use Rattle.drill_core.specs.declared.calls.LogCall.{LogCall}
@@ -64,11 +64,15 @@ module _ {H : Type 0} {hashes : Hashes H} where
   -- a call was done that adds a record
   module _ (h : HashFunction) (call : LogCall) (old new : Log H MemDisk MemDisk hashes disks disks)
       (done : Bool) (is : done ≡ true) (called : HasCalledLog h call old new done) where
+    seen_made : log_seen new ≡ made_by h (view_of old) call (log_seen old)
+    seen_made = same_Some (log_seen new) (made_by h (view_of old) call (log_seen old))
+        (called.grown is).contents
+
     pub seen_called : log_seen new ≡ log_called h (log_seen old) call
     seen_called =
-        same_Some (log_seen new) (log_called h (log_seen old) call) (called.grown is).contents
+        seen_made ∙ ap (λ (v : LogView). made_by h v call (log_seen old)) (sym called.view)
 
     pub called_stands : IsLogDisk h (log_seen new) (log_disk new)
     called_stands = is_log_disk h (log_seen new) (log_disk new)
         (durable_of (log_end old) (bytes_of (log_disk old)) ++ record_of h (view_of old) call ∷ [])
-        (called.grown is).kept (called.valid ∙ ap Ok (sym seen_called))
+        (called.grown is).kept (called.valid ∙ ap Ok (sym seen_made))

@@ -44,13 +44,15 @@ module _ {H D T : Type 0} {hashes : Hashes H} {g : Ghosts D} {k : Ghosts T} wher
     pub sound : log_broken new ≡ false
     pub kept : IfSome (log_records old) (λ list. AllRepresent g (log_disk new) (list ++ body ∷ []))
 
-  -- A call of a log: the records with that of the call are a log's, and each crash state of the
-  -- disk represents the old records or these. If the call is done, the log has grown by its record.
+  -- A call of a log, which shows what its journal has: the records with that of the call are a
+  -- log's, and each crash state of the disk represents the old records or these. If the call is
+  -- done, the log has grown by its record.
   pub record HasCalledLog (h : HashFunction) (call : LogCall) (old new : Log H D T hashes g k)
       (done : Bool) : Type 0 where
+    pub view : IfSome (modelled_state old) (λ s. view_in s ≡ view_of old)
     pub valid : IfSome (log_records old) (λ list.
         log_of h (list ++ record_of h (view_of old) call ∷ [])
-        ≡ Ok (log_called h (shown_with (view_of old) list) call))
+        ≡ Ok (made_by h (view_of old) call (shown_with (view_of old) list)))
     pub crash_states : log_broken old ≡ false → IfSome (log_records old) (λ list. (c : Text)
         → g.may_leave (log_disk new) c
         → RepresentsEither list (record_of h (view_of old) call) c)

@@ -30,6 +30,7 @@ fn issue_on<H: TreeHash, D: Disk, T: Disk>(
 ) -> Result<bool, Memory>
     ensures { IfOk result (HasCalledLog H.hash (Issue request.now) log.old log.new) }
 {
+    log.law_sound();
     match issue(alloc, log, request) {
         Ok(_) => Ok(true),
         Err(IssueError::Log(LogError::Append(AppendError::Failed))) => Ok(false),
@@ -41,6 +42,7 @@ fn issue_on<H: TreeHash, D: Disk, T: Disk>(
 fn mark_on<H: TreeHash, D: Disk, T: Disk>(log: &mut Log<H, D, T>) -> Result<bool, Memory>
     ensures { IfOk result (HasCalledLog H.hash Mark log.old log.new) }
 {
+    log.law_sound();
     log.law_unrefused_records_are_taken();
     match log.mark() {
         Ok(_) => Ok(true),
