@@ -3,3 +3,6 @@ pub mod Compared
 pub mod After
 pub mod Quarrels
 pub mod Trusted
+pub mod PartPeaks
+pub mod Closing
+pub mod Listed

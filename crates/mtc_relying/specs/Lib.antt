@@ -6,6 +6,6 @@ pub mod QuarrelOutcome
 pub mod Reasons
 pub mod ShowOutcome
 pub mod TrustOutcome
+pub mod SubtreeTables
 pub mod VerifyOutcome
 pub mod Views
-pub mod Within

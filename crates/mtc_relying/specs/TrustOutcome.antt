@@ -3,7 +3,7 @@
 use Rattle.std.specs.Prelude.{ℕ, List, [], ◌++◌, length, map, codes, Option, None, Some}
 use Rattle.std.specs.Fmt.{decimal}
 use Rattle.std.specs.List.{concat, range_with_len}
-use Rattle.byte_formats.specs.Types.{HashFunction, Text}
+use Rattle.byte_formats.specs.Types.{Hash, HashFunction, Text}
 use Rattle.hex.specs.Hex.{encode_lower}
 use Rattle.entry_list.specs.Reading.{items_in}
 use Rattle.landmarks.specs.Landmarks.{LandmarkList, active_count, active_of, subtrees_of}
@@ -19,11 +19,16 @@ use Rattle.landmarks.specs.Reasons.{list_fault_text}
 
 -- ---- what is trusted, where the log has these entries
 
--- The table of a subtree: its interval, its tree hash and an empty line.
-abbrev pub subtree_table : HashFunction → List Text → Span → Text
-subtree_table h entries span = codes "[[subtree]]\nstart = " ++ (decimal span.start
+-- The table of a subtree with this tree hash: its interval, the hash and an empty line.
+abbrev pub table_text : Span → Hash → Text
+table_text span hash = codes "[[subtree]]\nstart = " ++ (decimal span.start
     ++ (codes "\nend = " ++ (decimal span.end ++ (codes "\nhash = \""
-    ++ (encode_lower (tree_hash h (part_of entries span.start span.end)) ++ codes "\"\n\n")))))
+    ++ (encode_lower hash ++ codes "\"\n\n")))))
+
+-- The same with the tree hash of its entries.
+abbrev pub subtree_table : HashFunction → List Text → Span → Text
+subtree_table h entries span =
+    table_text span (tree_hash h (part_of entries span.start span.end))
 
 abbrev pub second_table : HashFunction → List Text → Option Span → Text
 second_table h entries None = []

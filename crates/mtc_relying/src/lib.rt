@@ -21,6 +21,7 @@ pub mod quarrel;
 mod reasons;
 mod replies;
 pub mod show;
+mod subtrees;
 mod tables;
 pub mod trust;
 pub mod verify;
