@@ -344,6 +344,52 @@ status 2
 ! mtc: verify: s: BadValue AlgorithmFrom
 "#;
 
+const TILED: &str = r#"
+# Tiles are stored on either side of a switch.
+file j SETTINGS
+times 255 ITEM
+  00
+$ tile j
+| tiled 256
+$ switch j
+| switched 256
+$ issue j r
+| issued 256
+left j SETTINGS
+times 255 ITEM
+  0100000009040000000000000100 0100000009050000000000000100 NAMED 00
+file j SETTINGS
+times 255 ITEM
+  0100000009040000000000000100 0100000009050000000000000100
+times 256 NAMED
+  00
+$ tile j
+| tiled 512
+length j.tiles 16384
+$ checkpoint j
+| size 512
+| root ba1b59ec6650f8c66ac6a412911e447e52b45c0e50450621477c789f1a0fe8fc
+
+# A landmark after it holds entries of both forms.
+$ landmark j
+| landmark 1 512
+$ light-cert j 255
+> c
+$ light-cert j 256
+> d
+$ entries j 512
+> e
+$ landmarks j
+> l
+$ trust-landmarks l 2 e
+> s LOG
+| algorithm_from = 256
+$ verify c s 1767225600
+| accepted 255
+$ verify d s 1767225600
+| accepted 256
+"#;
+
 #[test]
 fn a_log_is_switched_once(rt: HostRuntime) {
     let outcome = outcome_after(rt.alloc(), NAMES, SWITCHED);
@@ -360,6 +406,12 @@ fn records_beside_a_switch(rt: HostRuntime) {
 fn certificates_of_either_form(rt: HostRuntime) {
     let outcome = outcome_after(rt.alloc(), NAMES, JUDGED);
     assert!(rt; outcome == Ok(Outcome::Passed(19)), "{outcome:?}");
+}
+
+#[test]
+fn tiles_around_a_switch(rt: HostRuntime) {
+    let outcome = outcome_after(rt.alloc(), NAMES, TILED);
+    assert!(rt; outcome == Ok(Outcome::Passed(13)), "{outcome:?}");
 }
 
 #[test]
