@@ -121,7 +121,7 @@ uint32_t mtc_judge(const uint8_t *cert, size_t cert_length, const uint8_t *store
                    size_t store_length, int64_t now, struct mtc_verdict *verdict);
 
 /*
- * The three calls that follow want the bytes of a certificate that mtc_judge has accepted: they
+ * The calls that follow want the bytes of a certificate that mtc_judge has accepted: they
  * read it, and judge nothing. Each writes the length of what it copies out, and puts that at
  * the start of the buffer where it fits. They answer MTC_DONE, MTC_BAD_FORM where the bytes are no
  * certificate, MTC_NO_SUCH_NAME or MTC_TOO_LONG. The length is 0 where there is nothing to copy out.
@@ -137,11 +137,17 @@ uint32_t mtc_dns_name(const uint8_t *cert, size_t cert_length, uint64_t number, 
 
 /*
  * The hash of the certificate's entry in the log, 32 bytes: a leaf of the tree of RFC 9162. The
- * form of the entry is 2 where the store has an `algorithm_from` that isn't above the index, and
- * else 1; MTC_BAD_FORM answers any other number.
+ * entry has form 1: the log was not switched before it.
  */
-uint32_t mtc_entry_hash(const uint8_t *cert, size_t cert_length, uint32_t form, uint8_t *out,
-                        size_t out_length, uint64_t *length);
+uint32_t mtc_entry_hash(const uint8_t *cert, size_t cert_length, uint8_t *out, size_t out_length,
+                        uint64_t *length);
+
+/*
+ * The same in a form: it is 2 where the store has an `algorithm_from` that isn't above the index,
+ * and else 1; MTC_BAD_FORM answers any other number.
+ */
+uint32_t mtc_entry_hash_in(const uint8_t *cert, size_t cert_length, uint32_t form, uint8_t *out,
+                           size_t out_length, uint64_t *length);
 
 #ifdef __cplusplus
 }

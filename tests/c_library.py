@@ -96,7 +96,8 @@ typedef uint32_t copy_out_one(const uint8_t *, size_t, uint64_t, uint8_t *, size
 typedef uint32_t judge(const uint8_t *, size_t, const uint8_t *, size_t, int64_t, struct mtc_verdict *);
 typedef uint32_t copy_out_form(const uint8_t *, size_t, uint32_t, uint8_t *, size_t, uint64_t *);
 copy_out *const piece = mtc_public_key;
-copy_out_form *const hash = mtc_entry_hash;
+copy_out *const hash = mtc_entry_hash;
+copy_out_form *const hash_in = mtc_entry_hash_in;
 copy_out_one *const name = mtc_dns_name;
 judge *const judges = mtc_judge;
 """
@@ -123,7 +124,9 @@ def pieces_of(cert):
     yield "mtc_public_key", (), read.key
     for form in 1, 2:
         leaf = hashlib.sha256(b"\0" + entry.of_certificate(read, form)).digest()
-        yield "mtc_entry_hash", (ctypes.c_uint32(form),), leaf
+        yield "mtc_entry_hash_in", (ctypes.c_uint32(form),), leaf
+        if form == 1:
+            yield "mtc_entry_hash", (), leaf
     for number, name in enumerate(dns_names(read)):
         yield "mtc_dns_name", (ctypes.c_uint64(number),), name
 
@@ -141,8 +144,8 @@ def wrong_pieces(library, cert):
         if size and library.piece(call, cert, size - 1, *words) != (9, size, b"\xaa" * size):
             yield f"{call} {words}: a short buffer"
     for form in 0, 3:
-        if library.piece("mtc_entry_hash", cert, 32, ctypes.c_uint32(form)) != (2, 0, b"\xaa" * 33):
-            yield f"mtc_entry_hash {form}: there is no such form"
+        if library.piece("mtc_entry_hash_in", cert, 32, ctypes.c_uint32(form)) != (2, 0, b"\xaa" * 33):
+            yield f"mtc_entry_hash_in {form}: there is no such form"
     if library.piece("mtc_dns_name", cert, 4, ctypes.c_uint64(count)) != (4, 0, b"\xaa" * 5):
         yield f"mtc_dns_name {count}: there is none"
 
@@ -173,7 +176,8 @@ def wrong_row(library, names, row):
     elif any((verdict.index, verdict.start, verdict.end, verdict.cosigners)):
         yield f"{bytes(verdict).hex()}: something of a certificate that isn't accepted"
     elif 16 <= verdict.refusal < 48:
-        calls = ("mtc_public_key", ()), ("mtc_entry_hash", (ctypes.c_uint32(1),)), ("mtc_dns_name", (ctypes.c_uint64(0),))
+        calls = (("mtc_public_key", ()), ("mtc_entry_hash", ()), ("mtc_entry_hash_in", (ctypes.c_uint32(1),)),
+                 ("mtc_dns_name", (ctypes.c_uint64(0),)))
         for call, words in calls:
             if library.piece(call, cert, 32, *words) != (2, 0, b"\xaa" * 33):
                 yield f"{call}: something of bytes that are no certificate"

@@ -63,10 +63,26 @@ pub extern "C" fn mtc_dns_name(cert: &[u8], number: u64, out: &mut [u8], length:
 }
 
 /// Writes the hash that the log has for the entry of a certificate (RFC 9162, section 2.1) into a
-/// buffer, 32 bytes, and its length. The form of the entry is 2 from the store's `algorithm_from`
-/// on, and else 1.
+/// buffer, 32 bytes, and its length. The entry has form 1: the log was not switched before it.
 #[unsafe(no_mangle)]
-pub extern "C" fn mtc_entry_hash(cert: &[u8], form: u32, out: &mut [u8], length: &mut u64) -> u32
+pub extern "C" fn mtc_entry_hash(cert: &[u8], out: &mut [u8], length: &mut u64) -> u32
+    ensures { IsPutInBuffer (entry_hash_in ⟦<Sha as TreeHash>⟧.hash 1 cert.now) out.old out.new
+        length.new result }
+{
+    put_entry_hash(cert, 1, out, length)
+}
+
+/// The same in a form: it is 2 from the store's `algorithm_from` on, and else 1.
+#[unsafe(no_mangle)]
+pub extern "C" fn mtc_entry_hash_in(cert: &[u8], form: u32, out: &mut [u8], length: &mut u64) -> u32
+    ensures { IsPutInBuffer (entry_hash_in ⟦<Sha as TreeHash>⟧.hash form cert.now) out.old out.new
+        length.new result }
+{
+    put_entry_hash(cert, form, out, length)
+}
+
+// Writes the hash of the entry in the form with this number.
+fn put_entry_hash(cert: &[u8], form: u32, out: &mut [u8], length: &mut u64) -> u32
     ensures { IsPutInBuffer (entry_hash_in ⟦<Sha as TreeHash>⟧.hash form cert.now) out.old out.new
         length.new result }
 {
