@@ -32,7 +32,7 @@ TRAITS = ("mtc_room/src/room.rt", "disk_core/src/disk.rt", "mtc_io/src/source.rt
 # these standards and formats; the definitions of its level on which such a word rests are in the list too.
 WHOLE = r"law_the_whole_\w+"
 LEVEL = ("file_events", "party_history", "mtc_top", "mtc_laws")
-MOST = 111
+MOST = 115
 STANDARDS = {
     "the words for bytes, readings and forms": ("byte_formats",),
     "files and streams ([OPERATIONS](../OPERATIONS.md))": ("mtc_io", "disk_core", "mtc_room"),
