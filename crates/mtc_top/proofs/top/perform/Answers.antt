@@ -1,5 +1,17 @@
-use Rattle.std.proofs.Common.{◌≡◌, ℕ, List, [], ◌∷◌, sym}
+use Rattle.std.proofs.Common.{◌≡◌, ℕ, List, [], ◌∷◌, None, refl, sym}
 use Rattle.mtc_room.specs.declared.room.Room.{Ghosts as Rooms}
+use Rattle.mtc_words.specs.Commands.{command_value, journal_of}
+use Rattle.mtc_words.specs.declared.command.Command.{Command}
+use Rattle.mtc_words.specs.declared.command.Command.TheVariants.{Member, Show, Verify, InitLog}
+use Rattle.mtc_words.specs.declared.command.Command.TheVariants.{Issue, Checkpoint, Entries}
+use Rattle.mtc_words.specs.declared.command.Command.TheVariants.{EntriesFrom, Consist, Subtree}
+use Rattle.mtc_words.specs.declared.command.Command.TheVariants.{Keygen, InitCosigner, Advance}
+use Rattle.mtc_words.specs.declared.command.Command.TheVariants.{Cosign, Export, Landmark}
+use Rattle.mtc_words.specs.declared.command.Command.TheVariants.{Landmarks, LightCert}
+use Rattle.mtc_words.specs.declared.command.Command.TheVariants.{TrustLandmarks, Cert, Audit}
+use Rattle.mtc_words.specs.declared.command.Command.TheVariants.{Quarrel, Drill, Tile, Switch}
+use Rattle.mtc_words.specs.declared.command.Command.TheVariants.{Root, Held, MonitorInit, Monitor}
+use Rattle.mtc_words.specs.declared.command.Command.TheVariants.{Help, Version}
 use Rattle.mtc_command.proofs.Beside.{longer_other}
 use Rattle.mtc_command.specs.Answers.{tiles_name}
 use Rattle.mtc_command.specs.Served.{ClosesAll}
@@ -64,3 +76,46 @@ returns-in-Cosign-clause-stores g c = rw c.in-Cosign.is (λ t. (λ named. absurd
 
 pub returns-in-Export-clause-stores : goal.returns-in-Export-clause-stores
 returns-in-Export-clause-stores g c = rw c.in-Export.is (λ t. (λ named. absurd named, tt))
+
+-- a command that no arm took before has no journal
+pub perform_reading-requires-clause-alone : goal.perform_reading-requires-clause-alone
+perform_reading-requires-clause-alone g c = go c.args.command refl
+  where
+    go : (command : Command) → c.args.command ≡ command
+        → journal_of (command_value command) ≡ None
+    go (Member file) is = refl
+    go (Show file) is = refl
+    go (Verify certificate store unix_time) is = refl
+    go (InitLog journal id active limit) is =
+        absurd (c.in_default.not-InitLog journal id active limit is)
+    go (Issue journal request) is = absurd (c.in_default.not-Issue journal request is)
+    go (Checkpoint journal) is = absurd (c.in_default.not-Checkpoint journal is)
+    go (Entries journal size) is = absurd (c.in_default.not-Entries journal size is)
+    go (EntriesFrom journal first size) is =
+        absurd (c.in_default.not-EntriesFrom journal first size is)
+    go (Consist journal old new) is = absurd (c.in_default.not-Consist journal old new is)
+    go (Subtree journal start end size) is =
+        absurd (c.in_default.not-Subtree journal start end size is)
+    go (Keygen height width secret) is = refl
+    go (InitCosigner journal id log height width secret) is =
+        absurd (c.in_default.not-InitCosigner journal id log height width secret is)
+    go (Advance journal request) is = absurd (c.in_default.not-Advance journal request is)
+    go (Cosign journal request) is = absurd (c.in_default.not-Cosign journal request is)
+    go (Export journal) is = absurd (c.in_default.not-Export journal is)
+    go (Landmark journal) is = absurd (c.in_default.not-Landmark journal is)
+    go (Landmarks journal) is = absurd (c.in_default.not-Landmarks journal is)
+    go (LightCert journal index) is = absurd (c.in_default.not-LightCert journal index is)
+    go (TrustLandmarks list active items) is = refl
+    go (Cert journal index start end signatures) is =
+        absurd (c.in_default.not-Cert journal index start end signatures is)
+    go (Audit certificate store unix_time items kept) is = refl
+    go (Quarrel kept) is = refl
+    go (Drill number) is = refl
+    go (Tile journal) is = absurd (c.in_default.not-Tile journal is)
+    go (Switch journal) is = absurd (c.in_default.not-Switch journal is)
+    go (Root items) is = refl
+    go (Held kept) is = refl
+    go (MonitorInit id) is = refl
+    go (Monitor state watch request items) is = refl
+    go Help is = refl
+    go Version is = refl
