@@ -122,7 +122,7 @@ NIST = element(element(9))  # 2.16.840.1.101.3.4.3 and an arc
 ALGORITHMS = [
     Algorithm("Ed25519", ED25519, SERVER_KEY, 64, "RFC 8032, section 5.1.6"),
     Algorithm("P-256", element(element(8)), element(element(element(7) + element(8)) + octets(65)),
-              element(2 * element(33)), "RFC 5480, sections 2.1.1 and 2.2; at most"),
+              element(2 * element(33)), "RFC 5480, section 2.2, and RFC 3279, section 2.2.3; at most"),
     Algorithm("ML-DSA-44", NIST, element(NIST + octets(1312)), 2420, "FIPS 204, table 2"),
     Algorithm("SLH-DSA-SHA2-128s", NIST, element(NIST + octets(32)), 7856, "FIPS 205, table 2"),
 ]

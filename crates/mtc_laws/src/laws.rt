@@ -35,8 +35,7 @@ pub fn law_runs_are_steps<H: TreeHash, R: Room, O: Sink, E: Sink>()
 /// Once a byte of a run went out, how much of its text went out does not affect the files. If
 /// standard output failed after a prefix of the text, that is a run with status 6 that leaves the
 /// same file system. So a stop of the machine while the text goes out is such a run, and then a
-/// stop; and a command that writes while it reads its journals has done with them all that is asked
-/// before its first byte.
+/// stop.
 pub fn law_runs_may_lose_their_text<H: TreeHash, R: Room, O: Sink, E: Sink>()
     ensures { PrefixesAreRuns H.hash R.Room R.Dsk.Disk O.Sink E.Sink }
 {}
