@@ -13,7 +13,7 @@ HEADER = b"mtc-journal/v1\n\0"
 # So many entries fill a tile; the log of a scene has one more.
 TILE = 256
 # The tags of records (docs/FORMATS.md, "Journals").
-ENTRY, LANDMARK, TILES, ADVANCE, SIGN = 0x02, 0x03, 0x04, 0x12, 0x13
+ENTRY, LANDMARK, TILES, SWITCH, ADVANCE, SIGN = 0x02, 0x03, 0x04, 0x05, 0x12, 0x13
 LOG_BEGINS, COSIGNER_BEGINS = 0x01, 0x11
 
 
@@ -39,6 +39,7 @@ COMMANDS = [
     Command("issue j r", "issued 257\n", adds=ENTRY),
     Command("landmark j", "landmark 2 257\n", adds=LANDMARK, again="mtc: landmark: NothingNew\n"),
     Command("tile j", "tiled 256\n", adds=TILES, again="mtc: tile: NothingNew\n"),
+    Command("switch j", "switched 257\n", adds=SWITCH, again="mtc: switch: AlreadySwitched 257\n"),
     Command("advance s forward", "advanced 257\n", adds=ADVANCE, again="mtc: advance: NotNewer 257\n"),
     Command("cosign s part", adds=SIGN),
     Command("checkpoint j"), Command("entries j 2"), Command("entries-from j 2 257"), Command("consist j 1 257"),

@@ -57,7 +57,7 @@ def check_kills(folder, kills):
 
 
 def check_kills_again(scene, kills):
-    """`landmark` and `advance` are killed at random times: the journal opens, and the command given again says whether its record is there"""
+    """`landmark`, `switch` and `advance` are killed at random times: the journal opens, and the command given again says whether its record is there"""
     for command in ADDING:
         if not command.again or command.name == "tile":
             continue

@@ -123,10 +123,10 @@ def check_long_entries(scene, _kills):
 
 
 def check_many_items(scene, _kills):
-    """Entries of 32 MiB whose items have four bytes each are read within 256 MiB of memory"""
-    # Items without an entry and a key, of which each is as small as an item can be. At 32 bytes for each it would be more.
+    """`audit` takes entries of 32 MiB, whose items have four bytes each, within 16 MiB of memory"""
+    # Items without an entry and a key, of which each is as small as an item can be.
     scene.write("many", scene.bytes("entries") + bytes(2 * MOST))
-    limit = 1 << 28
+    limit = 1 << 24
     found = scene.run(f"audit light trusting {NOW} many none",
                       preexec_fn=lambda: resource.setrlimit(resource.RLIMIT_AS, (limit, limit)))
     yield from unlike("audit", found, (0, "stands 1\n", ""))
