@@ -1,11 +1,13 @@
 #!/bin/bash
-# What each command takes over a log of 1,048,576 entries, the most that one may have: seconds by the clock, the most memory that it
+# What each command takes over a log of 1,048,576 entries, the most that one may have: seconds of the processor, the most memory that it
 # held, and, where valgrind is, the instructions that it executed in user mode, which other work on the machine doesn't change. Commands
 # that append run over a copy of a log that has room for one entry more. The cosigner's key has height 10 and width 8. Of the seconds
-# the least of three runs count, since work can only be held up; valgrind's one run takes some fifty times as long.
+# the least of three runs count, or of as many as the variable ROUNDS says, since work can only be held up; valgrind's one run takes
+# some fifty times as long.
 # Needs python3 and GNU time. Not part of the gate.
 # Usage: bench/commands.sh [--write] [ENTRIES]   with --write the figures go into bench/commands/figures.txt
-# The variable PROGRAM names another program than that of ./mtc, and with INSTRUCTIONS=0 none are counted.
+# The variable PROGRAM names another program than that of ./mtc; with INSTRUCTIONS=S only those of commands that take at most S seconds
+# are counted.
 set -eu
 root=$(cd "$(dirname "$0")/.." && pwd)
 work=$(mktemp -d)

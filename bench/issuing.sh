@@ -1,10 +1,10 @@
 #!/bin/bash
-# How long it takes by the clock from a request to a certificate that is verified, at logs of some sizes: `issue`, `cert` over all
-# entries and `verify`, each a run of the program, with the seconds of its syncs told apart. The checkpoint between them isn't counted,
+# What it takes of the processor from a request to a certificate that is verified, at logs of some sizes: `issue`, `cert` over all
+# entries and `verify`, each a run of the program, and by the clock what its syncs take. The checkpoint between them isn't counted,
 # nor are cosignatures of it (bench/cosigners.sh has these). Batches of requests aren't measured: no command takes a list of them.
 # Beside it what a user would take instead on the same machine: `openssl x509 -req` and `openssl verify`, with each algorithm that this
 # OpenSSL has; and Go's sumdb/tlog, where Debian's golang-go and golang-golang-x-mod-dev are installed: StoredHashes into a file, with
-# one sync a batch of 1, 10, 100 or 700 entries, and no certificate. Needs python3, openssl and, for syncs, strace. Not part of the gate.
+# one sync a batch of 1, 10, 100 or 700 entries, at the last size, and no certificate. Needs python3, openssl and, for syncs, strace. Not part of the gate.
 # Usage: bench/issuing.sh [--write] [ENTRIES ..]   with --write the figures go into bench/issuing/figures.txt
 # The variables PROGRAM and ROUNDS say another program than that of ./mtc, and of how many rounds the median counts (5)
 set -eu
@@ -42,7 +42,7 @@ else
     cp "$packages/sumdb/tlog/"{tlog,tile,note}.go "$work/peer/tlog/"
     cp "$root/bench/issuing/peer.go" "$work/peer/"
     printf 'module peer\n\ngo 1.19\n' >"$work/peer/go.mod"
-    (cd "$work/peer" && GOFLAGS=-mod=mod GO111MODULE=on GOPROXY=off GOCACHE="$work/cache" go run . "$work" "$rounds" "$@") >"$work/appended"
+    (cd "$work/peer" && GOFLAGS=-mod=mod GO111MODULE=on GOPROXY=off GOCACHE="$work/cache" go run . "$work" "$rounds" "${@: -1}") >"$work/appended"
     awk '{ printf "tlog'"'"'s `StoredHashes` into a file|a batch of %d, at %s entries|%.4f|%.4f in 1\n", $2, $1, $3, $4 }' "$work/appended" | tee -a "$work/figures"
 fi
 if [ -n "$write" ]; then

@@ -50,8 +50,20 @@ python3 -B bench/sizes.py >"$folder/sizes" || exit 1
     echo "| Work | Of | Seconds | A second | Syncs, s |"
     echo "|---|---|---|---|---|"
     # So many a second as the first number of the second field says.
-    figures verifying issuing | awk -F '|' '{ many = $3; gsub(/[^0-9 ]/, "", many); split(many, one, " ")
-        printf "| %s | %s | %s | %.*f | %s |\n", $2, $3, $4, one[1] / $4 < 10, one[1] / $4, $5 }'
+    figures verifying issuing | awk -F '|' '
+        function spaced(text) {
+            while (match(text, /[0-9][0-9][0-9][0-9]([ ,]|$)/))
+                text = substr(text, 1, RSTART) "," substr(text, RSTART + 1)
+            return text
+        }
+        {
+            many = $3
+            gsub(/[^0-9 ]/, "", many)
+            split(many, one, " ")
+            rate = $4 > 0 ? one[1] / $4 : 0
+            shown = !rate ? "" : rate < 10 ? sprintf("%.2f", rate) : spaced(sprintf("%.0f", rate))
+            printf "| %s | %s | %s | %s | %s |\n", $2, $3 ~ /entries/ ? spaced($3) : $3, $4, shown, $5
+        }'
 } >"$folder/rates"
 {
     echo "| Command | Of | Seconds | Memory | Instructions |"

@@ -150,11 +150,11 @@ def rows():
     yield f"| a certificate with 3 cosignatures | {logs(3)} | the same |"
     for algorithm in ALGORITHMS:
         yield f"| X.509 with {algorithm.shown}, and its intermediate | {shown(*[algorithm.chain()] * 3)} | {algorithm.source} |"
-    yield f"| two SCTs in X.509, more | {shown(*[ALGORITHMS[0].chain(2) - ALGORITHMS[0].chain()] * 3)} | RFC 6962, sections 3.2 and 3.3, with P-256 |"
+    yield f"| two SCTs in X.509, more | {shown(*[ALGORITHMS[0].chain(2) - ALGORITHMS[0].chain()] * 3)} | RFC 6962, sections 3.2 and 3.3, with P-256; at most |"
     days = [shown(*(count * 2 * table(2 ** level - 1) for level in LEVELS)) for count in (1, 24)]
     yield f"| the tables of a store that a relying party fetches a day, of one landmark | {days[0]} | [FORMATS](FORMATS.md#store-file) |"
     yield f"| the same of a landmark an hour | {days[1]} | the same |"
-    yield f"| all entries with keys, which a monitor fetches once | {shown(*(2 ** level * entry_with_key() for level in LEVELS))} | [FORMATS](FORMATS.md#entries) |"
+    yield f"| all entries, before `switch`, with keys, which a monitor fetches once | {shown(*(2 ** level * entry_with_key() for level in LEVELS))} | [FORMATS](FORMATS.md#entries) |"
 
 
 def main():

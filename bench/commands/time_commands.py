@@ -9,7 +9,8 @@ import sys
 from pathlib import Path
 
 ROOT = Path(__file__).resolve().parents[2]
-LOG, COSIGNER, NOW, ROUNDS = "32473.1", "32473.2", "1767571200", 3
+LOG, COSIGNER, NOW = "32473.1", "32473.2", "1767571200"
+ROUNDS = int(os.environ.get("ROUNDS", "3"))
 APPENDING = {"init-log", "issue", "landmark", "switch", "tile", "init-cosigner", "advance", "cosign"}
 
 
@@ -32,7 +33,7 @@ class Bench:
                 if not words[0].startswith("init-"):
                     source = self.folder / {"issue": "short", "switch": "short", "advance": "early", "cosign": "early-held"}.get(words[0], "log")
                     if Path(f"{source}{end}").exists():
-                        shutil.copyfile(f"{source}{end}", self.folder / f"new{end}")
+                        shutil.copy(f"{source}{end}", self.folder / f"new{end}")
 
     def measured(self, words):
         """(seconds, bytes, instructions): the least of some runs, and those of one run by valgrind."""
@@ -40,16 +41,17 @@ class Bench:
         for _ in range(ROUNDS):
             self.begin(words)
             with open(os.devnull, "wb") as none:
-                ended = subprocess.run(["/usr/bin/time", "-q", "-f", "%e %M", "-o", "time", self.program, *words], cwd=self.folder,
+                ended = subprocess.run(["/usr/bin/time", "-q", "-f", "%U %S %M", "-o", "time", self.program, *words], cwd=self.folder,
                                        stdout=none, stderr=subprocess.PIPE)
             if ended.returncode:
                 sys.exit(f"wrong: {' '.join(words)}: status {ended.returncode} {ended.stderr.decode()}")
-            seconds, held = (self.folder / "time").read_text().split()
-            took.append((float(seconds), int(held) * 1024))
-        return min(one for one, _ in took), max(two for _, two in took), self.instructions(words)
+            user, system, held = (self.folder / "time").read_text().split()
+            took.append((float(user) + float(system), int(held) * 1024))
+        seconds = min(one for one, _ in took)
+        return seconds, max(two for _, two in took), self.instructions(words, seconds)
 
-    def instructions(self, words):
-        if os.environ.get("INSTRUCTIONS") == "0" or not shutil.which("valgrind"):
+    def instructions(self, words, seconds):
+        if seconds > float(os.environ.get("INSTRUCTIONS", "inf")) or not shutil.which("valgrind"):
             return None
         self.begin(words)
         tool = ["valgrind", "--tool=cachegrind", "--cache-sim=no", "--cachegrind-out-file=/dev/null"]
@@ -67,17 +69,17 @@ def make_files(bench):
     (bench.folder / "none").write_bytes(b"")
     (bench.folder / "watch").write_text("www.example\n")
     for name in ("first.member", "www.request"):
-        shutil.copyfile(ROOT / "examples" / name, bench.folder / name)
+        shutil.copy(ROOT / "examples" / name, bench.folder / name)
     size = bench.entries
     bench.run("consist", "log", 0, size, into="consist")
     bench.run("subtree", "log", 0, size, size, into="subtree")
     bench.run("init-cosigner", "early", COSIGNER, LOG, 10, 8, "secret", into="key")
-    shutil.copyfile(bench.folder / "early", bench.folder / "early-held")
+    shutil.copy(bench.folder / "early", bench.folder / "early-held")
     bench.run("advance", "early-held", "consist")
-    shutil.copyfile(bench.folder / "early-held", bench.folder / "cosigner")
+    shutil.copy(bench.folder / "early-held", bench.folder / "cosigner")
     bench.run("cosign", "cosigner", "subtree", into="signature")
     bench.run("export", "cosigner", into="export")
-    shutil.copyfile(bench.folder / "log", bench.folder / "marked")
+    shutil.copy(bench.folder / "log", bench.folder / "marked")
     bench.run("landmark", "marked")
     bench.run("landmarks", "marked", into="list")
     bench.run("entries", "log", size, into="entries")

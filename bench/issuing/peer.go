@@ -1,6 +1,6 @@
 // Appends entries to a log as sumdb/tlog keeps it: a file with each hash that StoredHashes gives, and one sync a batch. Prints for each
-// size of a log and each batch a line ENTRIES BATCH SECONDS SYNC, the median of some rounds: from the first entry to the end of the
-// sync, and the sync alone.
+// size of a log and each batch a line ENTRIES BATCH SECONDS SYNC, the median of some rounds: processor time of all, and the sync by
+// the clock.
 // Usage: go run . FOLDER ROUNDS ENTRIES ..
 package main
 
@@ -11,6 +11,7 @@ import (
 	"peer/tlog"
 	"sort"
 	"strconv"
+	"syscall"
 	"time"
 )
 
@@ -67,9 +68,15 @@ func made(path string, count int64) stored {
 	return stored{file}
 }
 
-// Appends a batch: the seconds until it is synced, and those of the sync alone.
+func processor() float64 {
+	var used syscall.Rusage
+	need(syscall.Getrusage(syscall.RUSAGE_SELF, &used))
+	return float64(used.Utime.Nano()+used.Stime.Nano()) / 1e9
+}
+
+// Appends a batch: processor seconds until it is synced, and those of the sync by the clock.
 func (s stored) append(count *int64, batch int) (float64, float64) {
-	start := time.Now()
+	start := processor()
 	for done := 0; done < batch; done++ {
 		more, err := tlog.StoredHashes(*count, entry, s)
 		need(err)
@@ -83,7 +90,7 @@ func (s stored) append(count *int64, batch int) (float64, float64) {
 	}
 	written := time.Now()
 	need(s.file.Sync())
-	return time.Since(start).Seconds(), time.Since(written).Seconds()
+	return processor() - start, time.Since(written).Seconds()
 }
 
 func median(of []float64) float64 {

@@ -1,16 +1,16 @@
 """Times the way from a request to a certificate that is verified, one at a time; prints lines WORK|OF|SECONDS|SYNCS.
 
-SECONDS are the median of the rounds by the clock; SYNCS are the seconds that the syncs of one more run took, and their number.
+SECONDS are of the processor, the median of the rounds; SYNCS are the seconds by the clock of the syncs of one more run, and their number.
 Usage: time_runs.py log PROGRAM FOLDER ENTRIES ROUNDS REQUEST    FOLDER has the log `journal` of so many entries
        time_runs.py openssl FOLDER ROUNDS                        by OpenSSL, with each algorithm that it has
 """
 
 import re
+import resource
 import shutil
 import statistics
 import subprocess
 import sys
-import time
 from pathlib import Path
 
 TRACE = ["strace", "-qq", "-f", "--seccomp-bpf", "-T", "-e", "trace=fsync,fdatasync,sync_file_range", "-o", "trace"]
@@ -19,15 +19,21 @@ ALGORITHMS = {"Ed25519": ["-algorithm", "ED25519"], "P-256": ["-algorithm", "EC"
               "ML-DSA-44": ["-algorithm", "ML-DSA-44"]}
 
 
+def spent():
+    """The processor seconds of all runs so far."""
+    used = resource.getrusage(resource.RUSAGE_CHILDREN)
+    return used.ru_utime + used.ru_stime
+
+
 class Folder:
     def __init__(self, path):
         self.path = Path(path)
 
     def run(self, *words):
         """(seconds, standard output); the command has to do its work."""
-        start = time.perf_counter()
+        start = spent()
         ended = subprocess.run(words, cwd=self.path, capture_output=True)
-        seconds = time.perf_counter() - start
+        seconds = spent() - start
         if ended.returncode:
             sys.exit(f"wrong: {' '.join(words)}: status {ended.returncode} {ended.stderr.decode()}")
         return seconds, ended.stdout
