@@ -52,7 +52,7 @@ def judged_answer(text, store, now):
 def store_of(log, start, end, node, first, last):
     """The store that trusts one subtree and has revoked one range."""
     subtree, revoked = (int(start), int(end), bytes.fromhex(node)), (int(first), int(last))
-    return Store(anchor_id(log), log_name(log), [], [], [subtree], [revoked])
+    return Store(anchor_id(log), log_name(log), None, [], [], [subtree], [revoked])
 
 
 def question(kind, label, *words):
