@@ -14,9 +14,10 @@ pub trait ItemFold {
     /// The numbers that it was made with, as the interval of a hash. They stay.
     ghost made_with: { Self → List ℕ } = { λ _. [] };
 
-    /// What it serves, as the domains that are watched. It stays.
+    /// The type of what it serves, as a list of domains that are watched.
     ghost Purpose: { Type 0 } = { Unit {0} };
 
+    /// What it serves. It stays.
     ghost purpose: { Self → Purpose };
 
     /// Takes one item more: an entry and its key. `Memory` comes only if memory was refused.

@@ -113,7 +113,8 @@ impl<'a, H: TreeHash> Run<'a, H> {
     }
 
     /// What was found, once all new entries were taken: the answer of [`monitor`](crate::monitor)
-    /// to them, with its refusals in their order.
+    /// to them, with its refusals in their order. No clause says anything of it after a refused
+    /// `take`.
     pub fn found(
         self,
         log: &[u8],

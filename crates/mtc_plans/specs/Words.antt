@@ -15,7 +15,7 @@ abbrev pub only_read_by : CommandValue → List Text → List Text
 only_read_by (tile journal) besides = []
 only_read_by other besides = besides
 
--- It may write its text while it still reads its journal. The others write theirs once all else is
--- done.
+-- It may write its text while it still reads its journal. No command does so yet: each writes its
+-- text once all else is done.
 abbrev pub streams : CommandValue → Bool
 streams command = false

@@ -148,10 +148,10 @@ fn input<'a, 'b>(name: &'a str, bytes: &'b Bytes) -> Input<'a, 'b>
 }
 
 /// The command `audit CERT STORE NOW ENTRIES EXPORT`. The time is in seconds since
-/// 1970-01-01T00:00:00Z. All files are read before any is tested; then the store is tested, the
-/// entries and the export, and the certificate is judged last. The entries are read after the
-/// other files, as a stream; what stops the command at them is reported before what stops it at the
-/// export. Only where two strings have to be shown they are read once more, into memory.
+/// 1970-01-01T00:00:00Z. The answer is as if all files were read in the order of the arguments
+/// before any is tested, and then the store, the entries and the export were tested, and the
+/// certificate judged last. The entries are read after the other files, as a stream. Only where two
+/// strings have to be shown they are read once more, into memory.
 pub fn audit<'a, H: TreeHash, R: Room>(
     alloc: Global,
     room: &mut R,

@@ -74,8 +74,8 @@ fn entries_answer<'a, H: TreeHash>(
     }
 }
 
-/// The command `trust-landmarks LIST MAXACTIVE ENTRIES`. Both files are read before the entries are
-/// tested, and these before the list. The entries are read as a stream.
+/// The command `trust-landmarks LIST MAXACTIVE ENTRIES`. The answer is as if both files were read
+/// before the entries are tested, and these before the list. The entries are read as a stream.
 pub fn trust_landmarks<'a, H: TreeHash, R: Room>(
     alloc: Global,
     room: &mut R,

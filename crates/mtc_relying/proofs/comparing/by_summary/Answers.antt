@@ -14,7 +14,7 @@ returns-in_ok-answer_to-in-Some g c = λ bytes are.
     let p = passed h c.args.entries.now
     (λ items. IsSummaryOf h items (wanted_by h k) k.accepted.accepted.index s) bytes
     c.args.counted c.in_ok-tested.field-0 are c.in_ok-tested.ensures in
-    let told = c.in_ok-found.ensures (proof_parts k.accepted.proof) p.items in
+    let decision = c.in_ok-found.ensures (proof_parts k.accepted.proof) p.items in
     let decides : answer_by h (case_by k p.items) s ≡ Some c.in-Some.found =
     (λ i. answer_by h (record {
       accepted = k.accepted.accepted;
@@ -23,6 +23,6 @@ returns-in_ok-answer_to-in-Some g c = λ bytes are.
       store = sym c.as_store.ensures.same i;
       items = p.items;
       kept = sym c.as_ref.ensures.value i;
-    }) s) ∙ sym told ∙ c.in-Some.is in
+    }) s) ∙ sym decision ∙ c.in-Some.is in
     decided_replies h c.args.entries.now k p.items s bytes p.are p.read c.in-Some.found decides
     c.in_ok-answer_to-in-Some.field-0 c.in_ok-answer_to-in-Some.ensures
