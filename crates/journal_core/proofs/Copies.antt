@@ -11,7 +11,7 @@ use Rattle.byte_formats.specs.Types.{Text}
 use Rattle.byte_formats.specs.Offsets.{IsBytes}
 use Rattle.byte_formats.proofs.Steps.{IsBytes-drop, IsBytes-take}
 use Rattle.disk_core.specs.Disk.{part}
-use Rattle.journal_core.specs.Copies.{sized, sized_text}
+use Rattle.journal_core.specs.Copies.{AppendsSome, sized, sized_text}
 use Rattle.journal_core.specs.Ends.{StandBetween}
 use Rattle.journal_core.specs.Format.{AreRecordsAt, IsRecordAt, following, end_offset}
 use Rattle.journal_core.proofs.Records.{after_later}
@@ -23,6 +23,17 @@ use Rattle.mtc_io.proofs.Streams.{prefix_more, prefix_whole}
 pub when_ok : {T E : Type 0} (r : Result T E) (P Q : Type 0) → (P → Q) → OnOk r P → OnOk r Q
 when_ok (Ok x) P Q f is = f is
 when_ok (Err e) P Q f is = tt
+
+-- ---- bytes that are added
+
+pub grows_none : (a : Option (List ℕ)) → AppendsSome a a
+grows_none a = ([], Appends-nil a)
+
+pub grows_prefix : (a b : Option (List ℕ)) (xs : List ℕ) → AppendsPrefix a b xs → AppendsSome a b
+grows_prefix a b xs is = (take is.0 xs, is.1)
+
+pub grows_more : (a b c : Option (List ℕ)) → AppendsSome a b → AppendsSome b c → AppendsSome a c
+grows_more a b c some more = (some.0 ++ more.0, Appends-trans a b c some.0 more.0 some.1 more.1)
 
 -- ---- prefixes
 

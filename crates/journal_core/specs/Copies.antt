@@ -1,5 +1,6 @@
 -- Records of a journal that are copied.
-use Rattle.std.specs.Prelude.{◌≡◌, ℕ, ◌++◌, List, length, Result, Ok, Err}
+use Rattle.std.specs.Prelude.{◌≡◌, ℕ, ◌++◌, List, length, Option, Result, Ok, Err}
+use Rattle.std.specs.Io.KnownBytes.{Appends}
 use Rattle.std.specs.List.{flat_map}
 use Rattle.std.specs.Int.{w32, to_be_bytes}
 use Rattle.byte_formats.specs.Types.{Text}
@@ -10,6 +11,10 @@ use Rattle.journal_core.specs.Words.{disk_of, end_of, is_broken, records}
 use Rattle.journal_core.specs.declared.error.CopyError.{CopyError}
 use Rattle.journal_core.specs.declared.error.CopyError.TheVariants.{Read, Write}
 use Rattle.journal_core.specs.declared.journal.Journal.{Journal}
+
+-- the bytes taken grow by some bytes
+abbrev pub AppendsSome : Option Text → Option Text → Type 0
+AppendsSome old new = (bs : Text) × Appends old new bs
 
 -- a body after its length of four bytes, the highest first
 abbrev pub sized : Text → Text

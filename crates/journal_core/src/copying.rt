@@ -6,7 +6,8 @@ ghost use Rattle.mtc_io.specs.Counts.{HasCause};
 ghost use Rattle.mtc_io.specs.Streams.{AppendsPrefix};
 ghost use Rattle.byte_formats.specs.Types.{Text};
 ghost use Rattle.disk_core.specs.Disk.{part};
-ghost use Rattle.journal_core.specs.Copies.{HasCopyCause, IsOnlyRead, sized, sized_text};
+ghost use Rattle.journal_core.specs.Copies.{AppendsSome, HasCopyCause, IsOnlyRead, sized};
+ghost use Rattle.journal_core.specs.Copies.{sized_text};
 ghost use Rattle.journal_core.specs.Ends.{StandBetween};
 ghost use Rattle.journal_core.specs.Format.{AreRecordsAt, IsRecordAt, following, end_offset};
 ghost use Rattle.journal_core.specs.Words.{disk_of, end_of};
@@ -33,6 +34,7 @@ fn copy_piece<D: Disk, O: Sink>(
     ensures prefix { IfSome (D.contents (disk_of journal.old))
         (λ bytes. AppendsPrefix (O.taken out.old) (O.taken out.new) (part place length bytes)) }
     ensures kept { IsOnlyRead journal.old journal.new }
+    ensures grows { AppendsSome (O.taken out.old) (O.taken out.new) }
     ensures cause { HasCopyCause (D.faults (disk_of journal.old)) (O.faults out.old)
         (D.faults (disk_of journal.new)) (O.faults out.new) result }
 {
@@ -62,6 +64,7 @@ fn copy<D: Disk, O: Sink>(
     ensures prefix { IfSome (D.contents (disk_of journal.old))
         (λ bytes. AppendsPrefix (O.taken out.old) (O.taken out.new) (part place count bytes)) }
     ensures kept { IsOnlyRead journal.old journal.new }
+    ensures grows { AppendsSome (O.taken out.old) (O.taken out.new) }
     ensures cause { HasCopyCause (D.faults (disk_of journal.old)) (O.faults out.old)
         (D.faults (disk_of journal.new)) (O.faults out.new) result }
 {
@@ -115,6 +118,7 @@ fn copy_record<D: Disk, O: Sink>(
         → commit_byte + 6 + length body ≤ end_of journal.old
         → AppendsPrefix (O.taken out.old) (O.taken out.new) (sized body)) }
     ensures kept { IsOnlyRead journal.old journal.new }
+    ensures grows { AppendsSome (O.taken out.old) (O.taken out.new) }
     ensures cause { HasCopyCause (D.faults (disk_of journal.old)) (O.faults out.old)
         (D.faults (disk_of journal.new)) (O.faults out.new) result }
 {
@@ -142,6 +146,7 @@ fn copy_records<D: Disk, O: Sink>(
         → end_of journal.old ≡ following first bodies + 1
         → AppendsPrefix (O.taken out.old) (O.taken out.new) (sized_text bodies)) }
     ensures kept { IsOnlyRead journal.old journal.new }
+    ensures grows { AppendsSome (O.taken out.old) (O.taken out.new) }
     ensures cause { HasCopyCause (D.faults (disk_of journal.old)) (O.faults out.old)
         (D.faults (disk_of journal.new)) (O.faults out.new) result }
 {
@@ -155,7 +160,8 @@ fn copy_records<D: Disk, O: Sink>(
 
 /// Writes the records after an end, each after its length of four bytes, the highest first. It
 /// writes while it reads, takes no memory, and leaves the journal as it was. It stops at the end of
-/// the journal, which an append that fails leaves where it was.
+/// the journal, which an append that fails leaves where it was. Whatever the disk gives, the sink
+/// keeps what it took before.
 ///
 /// Errors: `Read` where the disk fails, and `Write` where the sink does. A prefix is written then.
 pub fn copy_after<D: Disk, O: Sink>(
@@ -172,6 +178,7 @@ pub fn copy_after<D: Disk, O: Sink>(
         (bodies : List Text) → StandBetween bytes from (end_of journal.old) bodies
         → AppendsPrefix (O.taken out.old) (O.taken out.new) (sized_text bodies)) }
     ensures kept { IsOnlyRead journal.old journal.new }
+    ensures grows { AppendsSome (O.taken out.old) (O.taken out.new) }
     ensures cause { HasCopyCause (D.faults (disk_of journal.old)) (O.faults out.old)
         (D.faults (disk_of journal.new)) (O.faults out.new) result }
 {

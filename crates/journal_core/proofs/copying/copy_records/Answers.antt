@@ -4,7 +4,8 @@ use Rattle.disk_core.proofs.Times.{only_read_on}
 use Rattle.mtc_io.specs.Streams.{AppendsPrefix}
 use Rattle.journal_core.specs.Copies.{sized}
 use Rattle.journal_core.specs.Words.{disk_of, end_of}
-use Rattle.journal_core.proofs.Copies.{AtRecord, records_all, records_more, records_none}
+use Rattle.journal_core.proofs.Copies.{AtRecord, grows_more, grows_none, records_all}
+use Rattle.journal_core.proofs.Copies.{records_more, records_none}
 use Rattle.journal_core.proofs.Copies.{records_prefix, records_whole}
 use Rattle.journal_core.proofs.copying.copy_records.Goals as goal
 
@@ -14,6 +15,7 @@ loop-commit_byte-init g c = record {
   within = omega arith;
   written = records_none (g.D.Disk.contents (disk_of c.args.journal.now)) c.args.first
       (end_of c.args.journal.now) (g.O.Sink.taken c.args.out.now);
+  grows = grows_none _;
   kept = search rules;
   read = search rules;
   took = search rules;
@@ -54,6 +56,7 @@ loop-commit_byte-preserved g c = record {
       (λ body. Appends (g.O.Sink.taken c.loop-commit_byte.out)
       (g.O.Sink.taken c.copy_record.new.out)
       (sized body))) c.loop-commit_byte.invariant.kept.end c.in_ok-commit_byte.ensures.ok);
+  grows = grows_more _ _ _ c.loop-commit_byte.invariant.grows c.copy_record.ensures.grows;
   kept = record {
     list = c.copy_record.ensures.kept.list ∙ c.loop-commit_byte.invariant.kept.list;
     end = c.copy_record.ensures.kept.end ∙ c.loop-commit_byte.invariant.kept.end;
@@ -83,3 +86,9 @@ returns-clause-prefix g c =
     (end_of c.args.journal.now) (g.O.Sink.taken c.args.out.now)
     (g.O.Sink.taken c.loop-commit_byte.out)
     (omega arith) c.loop-commit_byte.invariant.written)
+
+pub returns-in_err-commit_byte-clause-grows : goal.returns-in_err-commit_byte-clause-grows
+returns-in_err-commit_byte-clause-grows g c =
+    grows_more (g.O.Sink.taken c.args.out.now) (g.O.Sink.taken c.loop-commit_byte.out)
+    (g.O.Sink.taken c.copy_record.new.out) c.loop-commit_byte.invariant.grows
+    c.copy_record.ensures.grows

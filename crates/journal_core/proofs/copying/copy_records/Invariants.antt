@@ -1,6 +1,6 @@
 use Rattle.std.proofs.Common.{◌≡◌, ◌+◌, ◌-◌, ◌≤◌}
 use Rattle.journal_core.specs.Words.{disk_of, end_of}
-use Rattle.journal_core.specs.Copies.{IsOnlyRead, sized_text}
+use Rattle.journal_core.specs.Copies.{AppendsSome, IsOnlyRead, sized_text}
 use Rattle.journal_core.proofs.Copies.{IsCopied, OfRecords}
 use Rattle.journal_core.proofs.copying.copy_records.Given as goal
 
@@ -11,6 +11,7 @@ pub record Invariant (g : goal.Over) (l : goal.Live-loop-commit_byte g) : Type 0
   pub written : OfRecords (g.D.Disk.contents (disk_of l.initial.journal)) l.first
       (end_of l.initial.journal) (λ bytes bodies. IsCopied bytes (sized_text bodies) l.commit_byte
       (end_of l.initial.journal) (g.O.Sink.taken l.initial.out) (g.O.Sink.taken l.out))
+  pub grows : AppendsSome (g.O.Sink.taken l.initial.out) (g.O.Sink.taken l.out)
   pub kept : IsOnlyRead l.initial.journal l.journal
   pub read : g.D.Disk.faults (disk_of l.journal) ≡ g.D.Disk.faults (disk_of l.initial.journal)
   pub took : g.O.Sink.faults l.out ≡ g.O.Sink.faults l.initial.out
