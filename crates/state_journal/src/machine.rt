@@ -1,6 +1,6 @@
 //! What the records of a journal make, record by record.
 
-ghost use Rattle.std.specs.Prelude.{◌≡◌, ℕ, ◌+◌, List, length, Option, IfOk, OnOk};
+ghost use Rattle.std.specs.Prelude.{◌≡◌, ℕ, ◌+◌, ◌^◌, ◌<◌, List, length, Option, IfOk, OnOk};
 ghost use Rattle.std.specs.Prelude.{MatchResult};
 ghost use Rattle.byte_formats.specs.Types.{Text};
 ghost use Rattle.state_journal.specs.Steps.{BeginsMachine, IsLeftBy, IsOutOfMemory, TakesRecord};
@@ -56,10 +56,12 @@ pub trait StateMachine: Sized {
         ensures rest { (was : Self.Rest) → Becomes was (rest_of seed) → MatchResult result
             (λ it. Becomes was (rest it)) (λ e. IsLeftBy Becomes Stops was e.rest e.why) };
 
-    /// Takes one record more, whose commit byte stands at an offset. `Unfit` comes exactly if it
-    /// breaks the rules, unless it can't be taken for another reason.
+    /// Takes one record more, whose commit byte stands at an offset; the offset after it fits eight
+    /// bytes. `Unfit` comes exactly if it breaks the rules, unless it can't be taken for another
+    /// reason.
     fn take(&mut self, place: u64, body: &[u8]) -> Result<(), Misfit>
-        requires { Within self.old place }
+        requires within { Within self.old place }
+        requires fits { place + 5 + length body.now < 2 ^ 64 }
         ensures takes { TakesRecord takes state Keeps place body.now self.old self.new result }
         ensures within { OnOk result (Within self.new (place + 5 + length body.now)) }
         ensures capacity { HasCapacity self.old body.now → IsOutOfMemory result → ⊥ }

@@ -60,7 +60,12 @@ fn read_first<M: StateMachine, D: Disk>(
     }
 }
 
-// Reads the next record, which the machine takes: whether there was one.
+// From a commit byte up to here on, eight bytes hold the offset after the record: a body has at most
+// 131,072 bytes, and a mark and a length before them.
+const FARTHEST: u64 = u64::MAX - 131_077;
+
+// Reads the next record, which the machine takes: whether there was one. Where eight bytes may not
+// hold the offset after it, the answer is that it can't be taken.
 fn read_next<M: StateMachine, D: Disk>(
     opening: &mut Opening<D>,
     machine: &mut M,
@@ -78,6 +83,9 @@ fn read_next<M: StateMachine, D: Disk>(
         (opening_disk opening.new) result }
 {
     let (number, place) = (opening.read_count(), opening.place());
+    if place > FARTHEST {
+        return Err(StateOpenError::Open(OpenError::Memory));
+    }
     match opening.next() {
         Ok(Some(body)) => match machine.take(place, body) {
             Ok(()) => Ok(true),

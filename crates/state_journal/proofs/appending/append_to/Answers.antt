@@ -1,7 +1,11 @@
-use Rattle.std.proofs.Common.{ℕ, ◌-◌, Result, ap, subst}
+use Rattle.std.proofs.Common.{ℕ, ◌+◌, ◌-◌, Result, ap, arith, length, subst}
+use Rattle.std.proofs.lemmas.Bool.{ltb-false}
 use Rattle.byte_formats.proofs.Values.{err_is}
+use Rattle.journal_core.specs.Format.{most_bytes}
+use Rattle.journal_core.specs.Words.{end_of, is_broken}
 use Rattle.journal_core.specs.declared.error.AppendError.{AppendError}
 use Rattle.state_journal.specs.Machines.{HasTakenAppended}
+use Rattle.state_journal.proofs.Answered.{answered_so}
 use Rattle.state_journal.proofs.Appended.{has_appended, made_next, made_still, not_appended}
 use Rattle.state_journal.proofs.Appended.{records_stay}
 use Rattle.state_journal.proofs.Refusals.{on_err}
@@ -26,6 +30,14 @@ returns-in_err-append-clause-records g c =
     on_err c.from_residual.result _ (records_stay g.M.StateMachine c.args.journal.now
     c.append.new.self c.args.machine.now c.args.body.now c.in_err-append.field-0.0
     c.in_err-append.ensures c.requires.made)
+
+-- the file doesn't pass 2^31 bytes with the record
+pub take-requires-clause-fits : goal.take-requires-clause-fits
+take-requires-clause-fits g c =
+    let end = end_of c.args.journal.now + 5 + length c.args.body.now in
+    let answer = answered_so (is_broken c.args.journal.now) most_bytes end _
+    c.in_ok-append.ensures.broken c.in_ok-append.ensures.full in
+    omega (arith, c.end-place.ensures, ltb-false most_bytes end answer.1)
 
 pub returns-clause-made : goal.returns-clause-made
 returns-clause-made g c =

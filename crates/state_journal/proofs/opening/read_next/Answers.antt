@@ -1,4 +1,4 @@
-use Rattle.std.proofs.Common.{ap, subst, sym, ◌∙◌, Ok, Err}
+use Rattle.std.proofs.Common.{ap, subst, sym, ◌∙◌, Ok, Err, arith, length}
 use Rattle.journal_core.specs.Openings.{opening_disk, Nexts}
 use Rattle.journal_core.proofs.FoldSteps.{cause_next}
 use Rattle.state_journal.specs.Causes.{HasReadOn, IsLeftAt}
@@ -7,6 +7,15 @@ use Rattle.state_journal.specs.declared.error.StateOpenError.{StateOpenError}
 use Rattle.state_journal.proofs.Refusals.{left_at, misread, stepped, stopped}
 use Rattle.state_journal.proofs.Taken.{cause_taken, taken_all, taken_next}
 use Rattle.state_journal.proofs.opening.read_next.Goals as goal
+
+-- the record is not so far that eight bytes don't hold the offset after it
+pub take-requires-clause-fits : goal.take-requires-clause-fits
+take-requires-clause-fits g c =
+    let old = c.args.opening.now in
+    let new = c.next.follows.lender-at-none in
+    let read = subst (Nexts old new) (c.in-Ok-Some.is
+    ∙ ap Ok c.in-Ok-Some.field-0-is) c.next.follows.holds-at-none in
+    omega (arith, read.1.few, ap length read.0)
 
 pub returns-in-Ok-clause-more : goal.returns-in-Ok-clause-more
 returns-in-Ok-clause-more g c =
