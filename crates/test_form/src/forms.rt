@@ -39,10 +39,12 @@ fn algorithm_of(entry: &[u8]) -> Option<&[u8]> {
     }
 }
 
-fn reported(entry: &[u8]) -> Option<CertError> {
-    match read_entry(entry) {
-        Err(EntryError::Body(fault)) => Some(fault),
-        _ => None,
+// What is reported of the entry with these bytes there.
+fn fault_between(alloc: Global, bytes: &[&[u8]]) -> Result<Option<DerError>, Memory> {
+    let entry = with_bytes(alloc, bytes)?;
+    match read_entry(entry.as_slice()) {
+        Err(EntryError::Body(CertError::Der(fault))) => Ok(Some(fault)),
+        _ => Ok(None),
     }
 }
 
@@ -77,11 +79,25 @@ fn its_key_begins_with_that_algorithm(rt: HostRuntime) -> Result<(), Fail> {
     Ok(())
 }
 
+// An algorithm may have one value behind its OID: its parameters.
+#[test]
+fn an_algorithm_may_have_parameters(rt: HostRuntime) -> Result<(), Fail> {
+    let null = [0x30, 0x07, 0x06, 0x03, 0x2B, 0x65, 0x70, 0x05, 0x00];
+    let entry = with_bytes(rt.alloc(), &[&null])?;
+    assert!(rt; algorithm_of(entry.as_slice()) == Some(null.as_slice()));
+    assert!(rt; !key_matches::<Sha>(entry.as_slice(), &KEY));
+    Ok(())
+}
+
 #[test]
 fn a_bad_algorithm_is_reported(rt: HostRuntime) -> Result<(), Fail> {
-    let bad = with_bytes(rt.alloc(), &[&[0x30, 0x05, 0x06, 0x03, 0x2B, 0x65, 0x80]])?;
-    let twice = with_bytes(rt.alloc(), &[&ED25519, &ED25519])?;
-    assert!(rt; reported(bad.as_slice()) == Some(CertError::Der(DerError::BadOid(70))));
-    assert!(rt; reported(twice.as_slice()) == Some(CertError::Der(DerError::WrongTag(75))));
+    let two = [
+        0x30, 0x09, 0x06, 0x03, 0x2B, 0x65, 0x70, 0x05, 0x00, 0x05, 0x00,
+    ];
+    let bad = [0x30, 0x05, 0x06, 0x03, 0x2B, 0x65, 0x80];
+    assert!(rt; fault_between(rt.alloc(), &[&bad])? == Some(DerError::BadOid(70)));
+    assert!(rt; fault_between(rt.alloc(), &[&ED25519, &ED25519])? == Some(DerError::WrongTag(75)));
+    assert!(rt; fault_between(rt.alloc(), &[&two])? == Some(DerError::Trailing(77)));
+    assert!(rt; fault_between(rt.alloc(), &[&[0x30, 0x00]])? == Some(DerError::WrongTag(70)));
     Ok(())
 }
