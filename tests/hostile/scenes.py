@@ -136,9 +136,13 @@ def new_log():
 
 @cache
 def log_bodies():
-    """The records of a longer log: two entries, the first of which is that of the certificate `small`, and two landmarks."""
-    entries = [log_records.entry_body(*item) for item in items()[1:3]]
-    return [log_settings(), entries[0], log_records.landmark_body(2), entries[1], log_records.landmark_body(3)]
+    """The records of a longer log, the first entry of which is that of the certificate `small`: two entries, each with a
+    landmark after it, a switch and an entry that names the algorithm of its key."""
+    first, second = (log_records.entry_body(*item) for item in items()[1:3])
+    key = KEY_HEAD + bytes([3] * 32)
+    asked_for = request.Request([FIRST, LAST], ["named.example"], None, key)
+    named = log_records.entry_body(request.entry(asked_for, LOG, 2), key)
+    return [log_settings(), first, log_records.landmark_body(2), second, log_records.landmark_body(3), log_records.switch_body(3), named]
 
 
 def grown_log():

@@ -79,7 +79,7 @@ fn its_key_begins_with_that_algorithm(rt: HostRuntime) -> Result<(), Fail> {
     Ok(())
 }
 
-// An algorithm may have one value behind its OID: its parameters.
+// An algorithm may have one value after its OID: its parameters.
 #[test]
 fn an_algorithm_may_have_parameters(rt: HostRuntime) -> Result<(), Fail> {
     let null = [0x30, 0x07, 0x06, 0x03, 0x2B, 0x65, 0x70, 0x05, 0x00];
