@@ -6,7 +6,7 @@ ghost use Rattle.std.proofs.Props.{props};
 ghost use Rattle.std.specs.Io.KnownBytes.{Appends};
 ghost use Rattle.mtc_io.specs.Streams.{AppendsPrefix};
 ghost use Rattle.disk_core.specs.Times.{OnlyReads};
-ghost use Rattle.journal_core.specs.Copies.{HasCopyCause};
+ghost use Rattle.journal_core.specs.Copies.{AppendsSome, HasCopyCause};
 ghost use Rattle.hss_core.specs.Hss.{Verifies, one_level_public};
 ghost use Rattle.mtc_proof.specs.Inputs.{signed_text};
 ghost use Rattle.cosigner_core.specs.Exports.{export_text};
@@ -178,10 +178,11 @@ impl<H: TreeHash, D: Disk> Cosigner<H, D> {
 
     /// Writes what others may know of the cosigner: its id and that of its log, each after its
     /// length of one byte, its public key after its length of two bytes, and each record but the
-    /// first after its length of four bytes. No clause says what it writes over a disk whose bytes
-    /// the model doesn't know: that it doesn't write the secret then is read off the program. It
-    /// writes while it reads, takes no memory, and leaves the cosigner as it was. If an append has
-    /// failed, it writes the records without the one that failed, even if that one is on the disk.
+    /// first after its length of four bytes. No clause says which bytes it writes over a disk whose
+    /// bytes the model doesn't know: that it doesn't write the secret then is read off the program.
+    /// It writes while it reads, takes no memory, and leaves the cosigner as it was. If an append
+    /// has failed, it writes the records without the one that failed, even if that one is on the
+    /// disk.
     ///
     /// Errors: `Read` where the disk fails, and `Write` where the sink does. A prefix of the export
     /// is written then.
@@ -192,6 +193,7 @@ impl<H: TreeHash, D: Disk> Cosigner<H, D> {
         ensures prefix { IfSome (cosigner_records self.old)
             (λ list. AppendsPrefix (O.taken out.old) (O.taken out.new)
             (export_text (cosigner_state self.old) list)) }
+        ensures grows { AppendsSome (O.taken out.old) (O.taken out.new) }
         ensures only_reads { OnlyReads D.Disk (cosigner_disk self.old) (cosigner_disk self.new) }
         ensures same { IsShown self.old self.new }
         ensures cause { HasCopyCause (D.faults (cosigner_disk self.old)) (O.faults out.old)

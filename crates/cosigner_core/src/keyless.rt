@@ -6,7 +6,7 @@ ghost use Rattle.std.proofs.Props.{props};
 ghost use Rattle.std.specs.Io.KnownBytes.{Appends};
 ghost use Rattle.mtc_io.specs.Streams.{AppendsPrefix};
 ghost use Rattle.disk_core.specs.Times.{OnlyReads};
-ghost use Rattle.journal_core.specs.Copies.{HasCopyCause};
+ghost use Rattle.journal_core.specs.Copies.{AppendsSome, HasCopyCause};
 ghost use Rattle.journal_core.specs.Owners.{OwnerAppends};
 ghost use Rattle.journal_core.specs.Words.{disk_of, end_of};
 ghost use Rattle.hss_core.specs.Hss.{one_level_public};
@@ -170,6 +170,7 @@ impl<H: TreeHash, D: Disk> KeylessCosigner<H, D> {
         ensures prefix { let old = keyless_owner self.old in
             IfSome old.records (λ list. AppendsPrefix (O.taken out.old) (O.taken out.new)
             (export_text old.state list)) }
+        ensures grows { AppendsSome (O.taken out.old) (O.taken out.new) }
         ensures only_reads { OnlyReads D.Disk (keyless_owner self.old).disk
             (keyless_owner self.new).disk }
         ensures list { (keyless_owner self.new).records ≡ (keyless_owner self.old).records }

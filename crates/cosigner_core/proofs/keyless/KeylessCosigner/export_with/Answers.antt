@@ -1,6 +1,6 @@
 use Rattle.std.proofs.Common.{◌∙◌, sym}
 use Rattle.disk_core.proofs.Times.{nothing_read}
-use Rattle.journal_core.proofs.Copies.{when_ok}
+use Rattle.journal_core.proofs.Copies.{grows_more, grows_prefix, when_ok}
 use Rattle.cosigner_core.specs.Keyless.{keyless_owner}
 use Rattle.cosigner_core.proofs.Exported.{export_begun, export_prefix, export_whole}
 use Rattle.cosigner_core.proofs.keyless.KeylessCosigner.export_with.Goals as goal
@@ -38,3 +38,13 @@ returns-clause-prefix g c =
 
 pub returns-in-Err-clause-only_reads : goal.returns-in-Err-clause-only_reads
 returns-in-Err-clause-only_reads g c = nothing_read g.D.Disk _ (g.met.D.Disk.only_now _)
+
+pub returns-in-Err-clause-grows : goal.returns-in-Err-clause-grows
+returns-in-Err-clause-grows g c =
+    grows_prefix (g.O.Sink.taken c.args.out.now) (g.O.Sink.taken c.write_prefix.new.out) _
+    c.write_prefix.ensures.prefix
+
+pub returns-clause-grows : goal.returns-clause-grows
+returns-clause-grows g c = grows_more (g.O.Sink.taken c.args.out.now)
+    (g.O.Sink.taken c.write_prefix.new.out) (g.O.Sink.taken c.copy_after.new.out)
+    (_, c.in-Ok.ensures.ok) c.copy_after.ensures.grows
