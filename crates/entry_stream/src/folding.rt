@@ -18,7 +18,7 @@ use tls_wire::Short;
 use tree_core::TreeHash;
 
 // So many bytes are asked for at a time.
-const CHUNK: usize = 4096;
+const CHUNK: usize = 65_536;
 
 // The answer at the end of so many bytes, of which the last ones are pending: the number of the
 // items, or what doesn't fit.

@@ -10,7 +10,7 @@ ghost use Rattle.entry_stream.specs.Streams.{HadLeft};
 use mtc_io::{ReadError, Source};
 
 // So many bytes are asked for at a time.
-const CHUNK: usize = 4096;
+const CHUNK: usize = 65_536;
 
 /// Reads what is left, and lets it go. Refuses as [`mtc_io::read_all`], and never with `Memory`.
 pub(crate) fn skip_rest<S: Source>(source: &mut S, limit: u64) -> Result<u64, ReadError>
