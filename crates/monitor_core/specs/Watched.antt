@@ -16,6 +16,22 @@ pub record RunParts : Type 0 where
   pub lines : List Line
   pub peaks : PeaksState
 
+-- How many entries were taken, and what comes of these.
+pub record GrowthParts : Type 0 where
+  pub count : ℕ
+  pub lines : List Line
+  pub peaks : PeaksState
+
+-- A run with this state, these domains and what it took.
+abbrev pub run_with : MonitorState → List Text → GrowthParts → RunParts
+run_with state watch g = record {
+  state = state;
+  watch = watch;
+  count = g.count;
+  lines = g.lines;
+  peaks = g.peaks;
+}
+
 -- It took these entries: it has their report, and the peaks of the list with them, as far as a log
 -- has fewer than 2^64 entries.
 pub record HasWatched (h : HashFunction) (r : RunParts) (entries : List Text) : Type 0 where

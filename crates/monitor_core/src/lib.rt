@@ -18,6 +18,7 @@
 
 mod error;
 mod findings;
+mod growth;
 pub mod laws;
 mod lines;
 mod names;

@@ -6,10 +6,9 @@ ghost use Rattle.monitor_core.specs.declared.error.MonitorError.TheVariants.{Mem
 
 use crate::error::MonitorError;
 use crate::findings::Found;
+use crate::growth::Growth;
 use crate::states::State;
-use crate::taking::Run;
 use crate::watching::Watch;
-use entry_stream::ItemFold;
 use std::alloc::Global;
 use tree_core::TreeHash;
 use tree_proofs::EntryList;
@@ -37,9 +36,9 @@ pub fn monitor<H: TreeHash, L: EntryList>(
     ensures { Answers NoCapacity (monitor_of H.hash state.now watch.now log.now size root.now
         proof.now (L.texts entries.now)) result }
 {
-    let mut run: Run<'_, H> = Run::new(alloc, state, watch);
+    let mut growth: Growth<H> = Growth::new(alloc, state);
     for index in 0..entries.len() {
-        run.take(entries.entry(index), &[])?;
+        growth.take_entry(alloc, state, watch, entries.entry(index))?;
     }
-    run.found(log, size, root, proof)
+    growth.found(alloc, state, log, size, root, proof)
 }

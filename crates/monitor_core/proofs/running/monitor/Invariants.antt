@@ -1,12 +1,9 @@
-use Rattle.std.proofs.Common.{◌≡◌, take}
-use Rattle.monitor_core.specs.Watched.{HasWatched}
+use Rattle.std.proofs.Common.{take}
+use Rattle.monitor_core.specs.Watched.{HasWatched, run_with}
 use Rattle.monitor_core.proofs.running.monitor.Given as goal
 
--- The run took the entries so far.
-pub record Invariant (g : goal.Over) (l : goal.Live-loop-index g) : Type 0 where
-  pub watched : HasWatched g.H.TreeHash.hash l.run (take l.index (g.L.EntryList.texts l.entries))
-  pub state : l.run.state ≡ l.fn.state
-  pub watch : l.run.watch ≡ l.fn.watch
-
+-- The entries so far were taken.
 abbrev pub invariant-loop-index : goal.invariant-loop-index
-invariant-loop-index g l = Invariant g l
+invariant-loop-index g l =
+    HasWatched g.H.TreeHash.hash (run_with l.state l.watch l.growth)
+    (take l.index (g.L.EntryList.texts l.entries))
