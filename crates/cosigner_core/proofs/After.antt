@@ -11,7 +11,6 @@ use Rattle.byte_formats.proofs.Values.{when_some}
 use Rattle.journal_core.specs.Folds.{state_after, taken_from}
 use Rattle.journal_core.proofs.Bodies.{none_left, rest_at}
 use Rattle.lms_core.specs.Heights.{height}
-use Rattle.lms_core.specs.declared.private_key.PrivateKey.{PrivateKey}
 use Rattle.cosigner_core.specs.Counts.{indices_in}
 use Rattle.cosigner_core.specs.Folds.{CosignerState, after_step, begun_cosigner, cosigner_fold}
 use Rattle.cosigner_core.specs.Folds.{cosigner_of}
@@ -144,7 +143,7 @@ after_agrees h k s (body ∷ bodies) =
 step_brings : (h : HashFunction) (s t : CosignerState) (o : Option Step)
     → option_and_then (after_step h s) o ≡ Some t
     → (option_and_then (progress_after h (key_count s) (progress_of s)) o ≡ Some (progress_of t))
-    × (t.key.key ≡ s.key.key)
+    × (key_count t ≡ key_count s)
 step_brings h s t None is = let wrong : None ≡ Some t = is in cc
 step_brings h s t (Some step) is =
     let next = with_step (progress_of s) step in
@@ -153,7 +152,7 @@ step_brings h s t (Some step) is =
     let same = same_Some (with_progress s next) t made.1 in (
       ap (λ (b : Bool). if b then Some next else None) made.0
           ∙ ap (λ (u : CosignerState). Some (progress_of u)) same,
-      ap (λ (u : CosignerState). u.key.key) (sym same),
+      ap key_count (sym same),
     )
 
 pub brings : (h : HashFunction) (k : ℕ) (s : CosignerState) (bodies : List Text)
@@ -170,7 +169,7 @@ brings h k s (body ∷ bodies) t is =
     (some_or_ok k (next_state h s body) step.0 step.1) in
     brought_on h (key_count s) (progress_of s) body bodies
     ∙ ap (option_and_then (λ (q : Progress). brought h (key_count s) q bodies)) first.0
-    ∙ ap (λ (key : PrivateKey). brought h (2 ^ height key.lms) (progress_of step.0) bodies)
+    ∙ ap (λ (keys : ℕ). brought h keys (progress_of step.0) bodies)
     (sym first.1)
     ∙ brings h (k + 1) step.0 bodies t step.2
 

@@ -1,5 +1,5 @@
 -- The Sign records of a journal count up.
-use Rattle.std.proofs.Common.{◌≡◌, ℕ, zero, suc, ◌+◌, ◌^◌, ◌<◌, ◌≤◌, ◌==◌, ◌&&◌, nat_lt}
+use Rattle.std.proofs.Common.{◌≡◌, ℕ, zero, suc, ◌+◌, ◌<◌, ◌≤◌, ◌==◌, ◌&&◌, nat_lt}
 use Rattle.std.proofs.Common.{List, [], ◌∷◌, length, slice_get, Option, Some, None, Ok}
 use Rattle.std.proofs.Common.{option_map, option_and_then, sym, ap, ◌∙◌, subst, arith}
 use Rattle.std.proofs.lemmas.Bool.{and_parts, eqb-true, ltb-true}
@@ -9,9 +9,8 @@ use Rattle.byte_formats.specs.Readings.{some_or}
 use Rattle.byte_formats.proofs.Steps.{bind_ok, ok_is, some_or_ok}
 use Rattle.byte_formats.proofs.Values.{when_some}
 use Rattle.tree_proofs.specs.Checkpoints.{has_subtree, is_prefix_of}
-use Rattle.hss_core.specs.Counted.{Counted}
+use Rattle.hss_keys.specs.Keys.{SigningState, keys_there}
 use Rattle.journal_core.specs.Folds.{state_after, taken_from}
-use Rattle.lms_core.specs.Heights.{height}
 use Rattle.cosigner_core.specs.Counts.{CountsUp, index_before, indices_in, indices_of}
 use Rattle.cosigner_core.specs.Folds.{CosignerState, after_step, begun_cosigner, cosigner_fold}
 use Rattle.cosigner_core.specs.Folds.{cosigner_of}
@@ -31,9 +30,10 @@ record CountsFrom (s : CosignerState) (indices : List ℕ) (t : CosignerState) :
 held_on : (s u t : CosignerState) (indices : List ℕ) → u.key ≡ s.key → CountsFrom u indices t
     → CountsFrom s indices t
 held_on s u t indices same counts = record {
-  each = λ i index is. counts.each i index is ∙ ap (λ (k : Counted). k.next + i) same;
-  count = counts.count ∙ ap (λ (k : Counted). k.next + length indices) same;
-  few = λ few. counts.few (subst (λ (k : Counted). k.next ≤ 2 ^ height k.key.lms) (sym same) few);
+  each = λ i index is. counts.each i index is ∙ ap (λ (k : SigningState). k.next + i) same;
+  count = counts.count ∙ ap (λ (k : SigningState). k.next + length indices) same;
+  few = λ few. counts.few (subst (λ (k : SigningState).
+      k.next ≤ keys_there k.key.top.lms k.key.low k.children) (sym same) few);
 }
 
 -- one number

@@ -42,6 +42,7 @@ use Rattle.cosigner_core.specs.declared.settings.CosignerSettings.{CosignerSetti
 use Rattle.cosigner_core.specs.declared.step.Step.{Step}
 use Rattle.cosigner_core.proofs.After.{brings}
 use Rattle.cosigner_core.proofs.FirstRecords.{cosigner_takes}
+use Rattle.hss_keys.specs.Keys.{SigningKey, public_of}
 
 -- ---- the records
 
@@ -216,25 +217,26 @@ are_short bytes place (body ∷ bodies) there =
     (omega arith, are_short bytes (place + 5 + length body) bodies there.1)
 
 read_whole : (h : HashFunction) (s u : CosignerState) (bodies : List Text)
-    → IsAnchorId u.id → IsAnchorId u.log → length u.key.key.id ≡ 16 → height u.key.key.lms ≤ 10
+    → IsAnchorId u.id → IsAnchorId u.log
+    → signing_keys (public_of u.key.key) ≡ Some (key_count u)
+    → length (public_of u.key.key) ≡ 60
     → progress_of u ≡ first_progress h → taken_from (cosigner_fold h) 1 u bodies ≡ Ok s
     → ((place : ℕ) → IsAgain h u s bodies (length (records_text bodies)) 1 place)
     → (steps : List Step) × (steps_in bodies ≡ Some steps)
-    × (export_in h (prefix_text s.id s.log (one_level_public s.key.key) ++ records_text bodies)
+    × (export_in h (prefix_text s.id s.log (public_of s.key.key) ++ records_text bodies)
     ≡ Ok (Some (export_of s steps)))
     × (export_progress h (export_of s steps) ≡ Some (progress_of s))
 unfolding export_in steps_left
-read_whole h s u bodies id log size small begins taken again =
+read_whole h s u bodies id log known size begins taken again =
     let there = again 0 in
-    let public : Text = one_level_public s.key.key in
+    let public : Text = public_of s.key.key in
     let own : IsAnchorId s.id = subst IsAnchorId (sym there.id) id in
     let other : IsAnchorId s.log = subst IsAnchorId (sym there.log) log in
     let keys : signing_keys public ≡ Some (key_count u) =
-    ap (λ (k : PrivateKey). signing_keys (one_level_public k)) there.key
-    ∙ public_keys u.key.key size small in
+    ap (λ (k : SigningKey). signing_keys (public_of k)) there.key ∙ known in
     let short : length public < 2 ^ 16 =
     let sixty : length public ≡ 60 =
-    ap (λ (k : PrivateKey). length (one_level_public k)) there.key ∙ public_size u.key.key size in
+    ap (λ (k : SigningKey). length (public_of k)) there.key ∙ size in
     omega arith in
     let text : Text = records_text bodies in
     let prefix = prefix_again s.id s.log public text (key_count u) own other short keys in
@@ -275,7 +277,7 @@ export_again h bytes (first ∷ bodies) s are stands is =
         → option_map (λ x. new_cosigner h x.0 x.1) o ≡ Some u
         → taken_from (cosigner_fold h) 1 u bodies ≡ Ok s
         → (steps : List Step) × (steps_in bodies ≡ Some steps)
-        × (export_in h (prefix_text s.id s.log (one_level_public s.key.key) ++ records_text bodies)
+        × (export_in h (prefix_text s.id s.log (public_of s.key.key) ++ records_text bodies)
         ≡ Ok (Some (export_of s steps)))
         × (export_progress h (export_of s steps) ≡ Some (progress_of s))
     go None was u made rest = let wrong : None ≡ Some u = made in absurd cc
@@ -289,6 +291,8 @@ export_again h bytes (first ∷ bodies) s are stands is =
         let taken : taken_from (cosigner_fold h) 1 new bodies ≡ Ok s =
         subst (λ (v : CosignerState). taken_from (cosigner_fold h) 1 v bodies ≡ Ok s) (sym same)
         rest in
-        read_whole h s new bodies fits.id fits.log size fits.small refl taken
+        let top = new.key.key.top in
+        read_whole h s new bodies fits.id fits.log (public_keys top size fits.small)
+        (public_size top size) refl taken
         (λ place. steps_again h new s 1 (length (records_text bodies)) 1 place bodies
         (are_short bytes (16 + 5 + length first) bodies stands.holds.1) taken (omega arith))

@@ -12,7 +12,7 @@ use Rattle.journal_core.specs.Format.{AreRecordsAt, end_offset}
 use Rattle.journal_core.proofs.Copies.{following_first, first_are_bytes, prefix_following}
 use Rattle.journal_core.proofs.Copies.{prefix_of_prefix}
 use Rattle.mtc_io.specs.Streams.{AppendsPrefix}
-use Rattle.hss_core.specs.Hss.{one_level_public}
+use Rattle.hss_keys.specs.Keys.{public_of}
 use Rattle.cosigner_core.specs.Exports.{export_text, prefix_text, records_text}
 use Rattle.cosigner_core.specs.Folds.{CosignerState, cosigner_of}
 use Rattle.cosigner_core.specs.DurableRecords.{IsDurableAs}
@@ -20,7 +20,7 @@ use Rattle.cosigner_core.proofs.Names.{first-long}
 use Rattle.cosigner_core.specs.Records.{first_record_length}
 
 abbrev pub prefix_of : CosignerState → Text
-prefix_of s = prefix_text s.id s.log (one_level_public s.key.key)
+prefix_of s = prefix_text s.id s.log (public_of s.key.key)
 
 -- the records of an export are encoded as the copies of a journal's
 pub same_text : (bodies : List Text) → sized_text bodies ≡ records_text bodies

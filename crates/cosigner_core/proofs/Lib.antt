@@ -10,6 +10,7 @@ pub mod Exported
 pub mod FirstRecords
 pub mod Forms
 pub mod Keeps
+pub mod Keys
 pub mod Lengths
 pub mod Names
 pub mod Encoded

@@ -8,8 +8,7 @@ use Rattle.byte_formats.specs.Readings.{some_or, ◌>>=◌}
 use Rattle.byte_formats.proofs.Steps.{bind_ok, ok_is, some_or_ok}
 use Rattle.byte_formats.proofs.Values.{then_some, when_some}
 use Rattle.journal_core.specs.Folds.{state_after, taken_from}
-use Rattle.lms_core.specs.declared.private_key.PrivateKey.{PrivateKey}
-use Rattle.lms_core.specs.Trees.{private_key}
+use Rattle.hss_keys.specs.Keys.{SigningKey, signing_key}
 use Rattle.cosigner_core.specs.Folds.{CosignerState, after_step, begun_cosigner, cosigner_fold}
 use Rattle.cosigner_core.specs.Folds.{cosigner_of}
 use Rattle.cosigner_core.specs.Folds.{key_count, new_cosigner, next_state, progress_of}
@@ -23,7 +22,7 @@ use Rattle.cosigner_core.proofs.Encoded.{length-cosigner}
 
 -- with what a cosigner began: its ids and its key
 abbrev pub Began : Type 0
-Began = Text × Text × PrivateKey
+Began = Text × Text × SigningKey
 
 abbrev pub began : CosignerState → Began
 began s = (s.id, s.log, s.key.key)
@@ -52,7 +51,7 @@ same_cosigner h k s t (body ∷ bodies) is =
 pub began_first : (h : HashFunction) (settings : CosignerSettings) (first secret : Text)
     (bodies : List Text) (s : CosignerState) → cosigner_in first ≡ Some (settings, secret)
     → cosigner_of h (first ∷ bodies) ≡ Ok s
-    → began s ≡ (settings.id, settings.log, private_key settings.lms settings.ots secret)
+    → began s ≡ (settings.id, settings.log, signing_key settings.lms None settings.ots secret)
 unfolding state_after begun_cosigner
 began_first h settings first secret bodies s begins is =
     same_cosigner h 1 (new_cosigner h settings secret) s bodies

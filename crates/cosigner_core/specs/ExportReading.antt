@@ -7,7 +7,8 @@ use Rattle.std.specs.List.{AllByRecursion}
 use Rattle.byte_formats.specs.Types.{HashFunction, Text}
 use Rattle.byte_formats.specs.Offsets.{At, at}
 use Rattle.byte_formats.specs.Readings.{Reading, ◌>>=◌, blamed, both_at, lifted_at, some_or}
-use Rattle.hss_core.specs.Hss.{hss_key_types, one_level_public}
+use Rattle.hss_core.specs.Hss.{hss_key_types}
+use Rattle.hss_keys.specs.Keys.{public_of}
 use Rattle.lmots_core.specs.declared.parameters.OtsType.{OtsType}
 use Rattle.lms_core.specs.Heights.{height}
 use Rattle.lms_core.specs.declared.heights.LmsType.{LmsType}
@@ -105,7 +106,7 @@ abbrev pub export_of : CosignerState → List Step → Export
 export_of s steps = record {
   cosigner = s.id;
   log = s.log;
-  public = one_level_public s.key.key;
+  public = public_of s.key.key;
   steps = steps;
 }
 

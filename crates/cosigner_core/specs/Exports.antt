@@ -4,7 +4,7 @@ use Rattle.std.specs.Prelude.{◌++◌, List, drop}
 use Rattle.std.specs.List.{flat_map}
 use Rattle.std.specs.Int.{w8, w16, w32}
 use Rattle.byte_formats.specs.Types.{Text}
-use Rattle.hss_core.specs.Hss.{one_level_public}
+use Rattle.hss_keys.specs.Keys.{public_of}
 use Rattle.tls_wire.specs.Encoding.{vector}
 use Rattle.cosigner_core.specs.Folds.{CosignerState}
 
@@ -20,4 +20,4 @@ records_text bodies = flat_map (vector w32) bodies
 -- The export of a cosigner with these records.
 abbrev pub export_text : CosignerState → List Text → Text
 export_text s list =
-    prefix_text s.id s.log (one_level_public s.key.key) ++ records_text (drop 1 list)
+    prefix_text s.id s.log (public_of s.key.key) ++ records_text (drop 1 list)

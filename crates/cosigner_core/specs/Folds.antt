@@ -1,6 +1,6 @@
 -- What the records of a journal make of a cosigner. The first one begins it, and each later one is
 -- an Advance or a Sign that its state allows. Its key counts up as RFC 8554, section 5.2 has it.
-use Rattle.std.specs.Prelude.{ℕ, ◌+◌, ◌^◌, List, Option, Some, None, option_map, option_and_then}
+use Rattle.std.specs.Prelude.{ℕ, ◌+◌, List, Option, Some, None, option_map, option_and_then}
 use Rattle.std.specs.Prelude.{Result, if◌then◌else◌}
 use Rattle.byte_formats.specs.Types.{Hash, HashFunction, Text}
 use Rattle.tree_proofs.specs.Checkpoints.{empty_checkpoint}
@@ -8,9 +8,7 @@ use Rattle.tree_proofs.specs.declared.checkpoint.Checkpoint.{Checkpoint}
 use Rattle.journal_core.specs.Folds.{Fold, state_after}
 use Rattle.state_journal.specs.declared.error.StateOpenError.{StateOpenError}
 use Rattle.state_journal.specs.declared.error.StateOpenError.TheVariants.{BadRecord, Open}
-use Rattle.hss_core.specs.Counted.{Counted}
-use Rattle.lms_core.specs.Heights.{height}
-use Rattle.lms_core.specs.Trees.{private_key}
+use Rattle.hss_keys.specs.Keys.{SigningState, keys_there, signing_state}
 use Rattle.cosigner_core.specs.Progress.{is_allowed, with_step}
 use Rattle.cosigner_core.specs.Records.{cosigner_in, step_in}
 use Rattle.cosigner_core.specs.declared.step.Step.{Step}
@@ -22,7 +20,7 @@ pub record CosignerState : Type 0 where
   pub id : Text
   pub log : Text
   pub held : Checkpoint
-  pub key : Counted
+  pub key : SigningState
 
 -- a new cosigner holds no entries, and no one-time key has signed
 abbrev pub new_cosigner : HashFunction → CosignerSettings → Text → CosignerState
@@ -30,7 +28,7 @@ new_cosigner h s secret = record {
   id = s.id;
   log = s.log;
   held = empty_checkpoint h;
-  key = record { key = private_key s.lms s.ots secret; next = 0 };
+  key = signing_state s.lms None s.ots secret 0 0;
 }
 
 -- this checkpoint instead of the one that is held
@@ -44,12 +42,12 @@ having_signed s = record {
   id = s.id;
   log = s.log;
   held = s.held;
-  key = record { key = s.key.key; next = s.key.next + 1 };
+  key = record { key = s.key.key; children = s.key.children; next = s.key.next + 1 };
 }
 
 -- how many one-time keys there are
 abbrev pub key_count : CosignerState → ℕ
-key_count s = 2 ^ height s.key.key.lms
+key_count s = keys_there s.key.key.top.lms s.key.key.low s.key.children
 
 -- how far it has come
 abbrev pub progress_of : CosignerState → Progress
@@ -61,7 +59,7 @@ with_progress s p = record {
   id = s.id;
   log = s.log;
   held = p.held;
-  key = record { key = s.key.key; next = p.next };
+  key = record { key = s.key.key; children = s.key.children; next = p.next };
 }
 
 -- the cosigner after a step, where it is allowed

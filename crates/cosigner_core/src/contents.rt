@@ -1,6 +1,6 @@
 //! What the records of a journal make of a cosigner.
 
-ghost use Rattle.std.specs.Prelude.{◌≡◌, ◌≢◌, ◌<◌, ◌≤◌, Err, length, IfOk, IfErr, OnOk};
+ghost use Rattle.std.specs.Prelude.{◌≡◌, ◌≢◌, ◌<◌, ◌≤◌, Err, length, IfOk, IfErr, OnOk, ◌^◌};
 ghost use Rattle.byte_formats.specs.Refusals.{answer_of};
 ghost use Rattle.mtc_proof.specs.Inputs.{signed_text};
 ghost use Rattle.cosigner_core.specs.Folds.{begun_cosigner, key_count, next_state};
@@ -16,7 +16,8 @@ use crate::record::{read_settings, read_step};
 use crate::requests::{AdvanceRequest, SubtreeRequest};
 use crate::settings::CosignerSettings;
 use crate::step_record::StepRecord;
-use hss_core::{Key, Secret};
+use hss_keys::HssKey;
+use lms_core::Secret;
 use mtc_io::Memory;
 use mtc_proof::{InputBuf, signature_input};
 use std::alloc::Global;
@@ -33,7 +34,8 @@ pub(crate) struct Contents {
 }
 
 impl Model for Contents {
-    ghost use Rattle.lms_core.specs.Trees.{private_key};
+    ghost use Rattle.std.specs.Prelude.{None};
+    ghost use Rattle.hss_keys.specs.Keys.{signing_state};
     ghost use Rattle.cosigner_core.specs.Folds.{CosignerState};
     ghost use Rattle.cosigner_core.specs.Sound.{IsKey};
 
@@ -43,10 +45,7 @@ impl Model for Contents {
       id = c.settings.id;
       log = c.settings.log;
       held = c.progress.held;
-      key = record {
-        key = private_key c.settings.lms c.settings.ots c.secret;
-        next = c.progress.next;
-      };
+      key = signing_state c.settings.lms None c.settings.ots c.secret 0 c.progress.next;
     } };
 
     ghost invariant = { λ c. IsKey c.settings.lms c.progress.next };
@@ -85,14 +84,16 @@ impl Contents {
     }
 
     /// The key of the cosigner, which is rebuilt: the one-time keys below the next one are used.
-    pub(crate) fn key(&self, alloc: Global) -> Result<Key, Memory>
+    pub(crate) fn key(&self, alloc: Global) -> Result<HssKey, Memory>
         ensures { IfOk result (λ key. key ≡ self.now.key) }
     {
-        Key::make(
+        HssKey::make(
             alloc,
             self.settings.lms,
+            None,
             self.settings.ots,
             &self.secret,
+            0,
             self.progress.next,
         )
     }
@@ -154,6 +155,7 @@ impl Contents {
         ensures kind { IfErr result IsOfRequest }
         ensures short { OnOk result (length request.now.proof.now ≤ 65) }
         ensures left { OnOk result (self.now.key.next < key_count self.now) }
+        ensures number { self.now.key.next < 2 ^ 32 }
     {
         if request.log != self.settings.log.as_bytes() {
             return Err(CosignError::WrongLog);

@@ -1,13 +1,14 @@
 //! A cosigner that is open for requests.
 
 ghost use Rattle.std.specs.Prelude.{◌≡◌, ◌<◌, ◌++◌, [], ◌∷◌, None};
-ghost use Rattle.std.specs.Prelude.{Ok, IfSome, IfOk, IfErr, OnOk, OnErr};
+ghost use Rattle.std.specs.Prelude.{◌^◌, Ok, IfSome, IfOk, IfErr, OnOk, OnErr};
 ghost use Rattle.std.proofs.Props.{props};
 ghost use Rattle.std.specs.Io.KnownBytes.{Appends};
 ghost use Rattle.mtc_io.specs.Streams.{AppendsPrefix};
 ghost use Rattle.disk_core.specs.Times.{OnlyReads};
 ghost use Rattle.journal_core.specs.Copies.{AppendsSome, HasCopyCause};
-ghost use Rattle.hss_core.specs.Hss.{Verifies, one_level_public};
+ghost use Rattle.hss_core.specs.Hss.{Verifies};
+ghost use Rattle.hss_keys.specs.Keys.{public_of};
 ghost use Rattle.mtc_proof.specs.Inputs.{signed_text};
 ghost use Rattle.cosigner_core.specs.Exports.{export_text};
 ghost use Rattle.cosigner_core.specs.Folds.{cosigner_of, having_signed, holding};
@@ -22,7 +23,8 @@ use crate::error::{CosignError, CosignerOpenError};
 use crate::keyless::KeylessCosigner;
 use crate::requests::{AdvanceRequest, SubtreeRequest};
 use disk_core::Disk;
-use hss_core::{Key, PUBLIC_KEY_LEN, SigBuf};
+use hss_core::{PUBLIC_KEY_LEN, SigBuf};
+use hss_keys::HssKey;
 use journal_core::{CopyError, OpenError, Refused};
 use mtc_io::{Memory, Sink};
 use mtc_proof::InputBuf;
@@ -36,7 +38,7 @@ use tree_core::TreeHash;
 pub struct Cosigner<H: TreeHash, D: Disk> {
     keyless: KeylessCosigner<H, D>,
     // Both count the one-time keys that have signed.
-    key: Key,
+    key: HssKey,
     ghost same: { key ≡ (keyless_owner keyless).state.key } by { Prim.hlevel props },
 }
 
@@ -157,10 +159,11 @@ impl<H: TreeHash, D: Disk> Cosigner<H, D> {
         ensures signature { OnOk result (out.new ≡ signature_by (cosigner_state self.old)
             request.now.start request.now.end request.now.hash) }
         ensures verifies { OnOk result
-            (Verifies (one_level_public (cosigner_state self.old).key.key)
+            (Verifies (public_of (cosigner_state self.old).key.key)
             (signed_text (cosigner_state self.old).id
             (cosigner_state self.old).log request.now.start
             request.now.end request.now.hash) out.new) }
+        ensures number { (cosigner_state self.old).key.next < 2 ^ 32 }
         ensures nothing { OnErr result (out.new ≡ []) }
     {
         out.clear();
@@ -215,7 +218,7 @@ impl<H: TreeHash, D: Disk> Cosigner<H, D> {
 
     /// The public key of its signatures (RFC 8554, section 6.1).
     pub fn public(&self) -> [u8; PUBLIC_KEY_LEN]
-        ensures { result ≡ one_level_public (cosigner_state self.now).key.key }
+        ensures { result ≡ public_of (cosigner_state self.now).key.key }
     {
         self.key.public()
     }

@@ -5,7 +5,7 @@ ghost use Rattle.std.specs.Prelude.{◌≡◌, ◌≤◌, ◌+◌, OnOk};
 ghost use Rattle.std.specs.Io.KnownBytes.{Appends};
 ghost use Rattle.mtc_io.specs.Counts.{HasCause};
 ghost use Rattle.mtc_io.specs.Streams.{AppendsPrefix};
-ghost use Rattle.hss_core.specs.Hss.{one_level_public};
+ghost use Rattle.hss_keys.specs.Keys.{public_of};
 ghost use Rattle.cosigner_core.specs.Exports.{prefix_text};
 ghost use Rattle.cosigner_core.specs.Records.{first_record_length};
 
@@ -32,11 +32,11 @@ pub(crate) fn write_prefix<O: Sink>(
     public: &[u8; PUBLIC_KEY_LEN],
     out: &mut O,
 ) -> Result<(), Failed>
-    requires { public.now ≡ one_level_public contents.now.key.key }
+    requires { public.now ≡ public_of contents.now.key.key }
     ensures ok { OnOk result (Appends (O.taken out.old) (O.taken out.new)
-        (prefix_text contents.now.id contents.now.log (one_level_public contents.now.key.key))) }
+        (prefix_text contents.now.id contents.now.log (public_of contents.now.key.key))) }
     ensures prefix { AppendsPrefix (O.taken out.old) (O.taken out.new)
-        (prefix_text contents.now.id contents.now.log (one_level_public contents.now.key.key)) }
+        (prefix_text contents.now.id contents.now.log (public_of contents.now.key.key)) }
     ensures cause { HasCause (O.faults out.old) (O.faults out.new) result }
 {
     let id = contents.id().as_bytes();

@@ -1,7 +1,7 @@
 //! A cosigner without its key, which holds the roots of larger logs and signs nothing.
 
 ghost use Rattle.std.specs.Prelude.{◌≡◌, ◌<◌, ◌++◌, ℕ, List, [], ◌∷◌, None, Some, Ok, IfSome, IfOk};
-ghost use Rattle.std.specs.Prelude.{IfErr, OnOk, OnErr};
+ghost use Rattle.std.specs.Prelude.{◌^◌, IfErr, OnOk, OnErr};
 ghost use Rattle.std.proofs.Props.{props};
 ghost use Rattle.std.specs.Io.KnownBytes.{Appends};
 ghost use Rattle.mtc_io.specs.Streams.{AppendsPrefix};
@@ -9,7 +9,7 @@ ghost use Rattle.disk_core.specs.Times.{OnlyReads};
 ghost use Rattle.journal_core.specs.Copies.{AppendsSome, HasCopyCause};
 ghost use Rattle.journal_core.specs.Owners.{OwnerAppends};
 ghost use Rattle.journal_core.specs.Words.{disk_of, end_of};
-ghost use Rattle.hss_core.specs.Hss.{one_level_public};
+ghost use Rattle.hss_keys.specs.Keys.{public_of};
 ghost use Rattle.mtc_proof.specs.Inputs.{signed_text};
 ghost use Rattle.cosigner_core.specs.DurableRecords.{IsDurableAs, IsDurableAs-prop};
 ghost use Rattle.cosigner_core.specs.Exports.{export_text};
@@ -25,7 +25,8 @@ use crate::machine::Machine;
 use crate::requests::{AdvanceRequest, SubtreeRequest};
 use crate::step_record::StepRecord;
 use disk_core::Disk;
-use hss_core::{Key, PUBLIC_KEY_LEN};
+use hss_core::PUBLIC_KEY_LEN;
+use hss_keys::HssKey;
 use journal_core::{CopyError, Journal, Refused, copy_after};
 use mtc_io::{Failed, Memory, Sink};
 use mtc_proof::InputBuf;
@@ -136,6 +137,7 @@ impl<H: TreeHash, D: Disk> KeylessCosigner<H, D> {
             ≡ (keyless_owner self.old).records) }
         ensures left { let old = keyless_owner self.old in
             OnOk result (old.state.key.next < key_count old.state) }
+        ensures number { (keyless_owner self.old).state.key.next < 2 ^ 32 }
         ensures state { OnErr result ((keyless_owner self.new).state
             ≡ (keyless_owner self.old).state) }
     {
@@ -163,7 +165,7 @@ impl<H: TreeHash, D: Disk> KeylessCosigner<H, D> {
         public: &[u8; PUBLIC_KEY_LEN],
         out: &mut O,
     ) -> Result<(), CopyError>
-        requires { public.now ≡ one_level_public (keyless_owner self.old).state.key.key }
+        requires { public.now ≡ public_of (keyless_owner self.old).state.key.key }
         ensures written { let old = keyless_owner self.old in
             OnOk result (IfSome old.records (λ list. Appends (O.taken out.old) (O.taken out.new)
             (export_text old.state list))) }
@@ -192,7 +194,7 @@ impl<H: TreeHash, D: Disk> KeylessCosigner<H, D> {
 
     /// The key, rebuilt from the secret: the one-time keys that have signed by the records are
     /// used.
-    pub(crate) fn key(&self, alloc: Global) -> Result<Key, Memory>
+    pub(crate) fn key(&self, alloc: Global) -> Result<HssKey, Memory>
         ensures { IfOk result (λ key. key ≡ (keyless_owner self.now).state.key) }
     {
         self.machine.contents.key(alloc)

@@ -12,7 +12,7 @@ ghost use Rattle.cosigner_core.specs.ExportReading.{export_progress, exported_te
 ghost use Rattle.cosigner_core.specs.Exports.{export_text};
 ghost use Rattle.cosigner_core.specs.declared.lists.Export.{Export};
 ghost use Rattle.cosigner_core.specs.Folds.{CosignerState, cosigner_of, progress_of};
-ghost use Rattle.hss_core.specs.Hss.{one_level_public};
+ghost use Rattle.hss_keys.specs.Keys.{public_of};
 ghost use Rattle.cosigner_core.specs.Openings.{FoundCosigner, cosigner_read};
 ghost use Rattle.cosigner_core.specs.Progress.{may_follow_cosigner, steps_in};
 ghost use Rattle.cosigner_core.specs.Records.{FitsCosigner, FitsStep, cosigner_in, cosigner_record};
@@ -94,7 +94,7 @@ pub fn law_exports_decode_as_encoded()
 /// ids, the same public key and the same records after the first one have the same export.
 pub fn law_exports_never_show_the_secret()
     ensures { (s t : CosignerState) (first other : Text) (bodies : List Text) → s.id ≡ t.id
-        → s.log ≡ t.log → one_level_public s.key.key ≡ one_level_public t.key.key
+        → s.log ≡ t.log → public_of s.key.key ≡ public_of t.key.key
         → export_text s (first ∷ bodies) ≡ export_text t (other ∷ bodies) }
 {}
 

@@ -1,5 +1,5 @@
 -- The certificates of a drill are accepted by all three cosigners.
-use Rattle.std.proofs.Common.{◌≡◌, ◌∙◌, ◌+◌, ◌<◌, ◌≤◌, ◌^◌, ◌||◌, ℕ, Bool}
+use Rattle.std.proofs.Common.{◌≡◌, ◌∙◌, ◌+◌, ◌<◌, ◌≤◌, ◌^◌, ◌||◌, ℕ, Bool, None}
 use Rattle.std.proofs.Common.{true, false, List, [], ◌∷◌, length, Option}
 use Rattle.std.proofs.Common.{Ok, inr, refl, ap, subst, arith}
 use Rattle.std.specs.Prelude.{if◌then◌else◌}
@@ -8,8 +8,8 @@ use Rattle.std.specs.Option.{is_none}
 use Rattle.byte_formats.specs.Types.{Hash, HashFunction, Text}
 use Rattle.tree_core.specs.Tree.{tree_hash}
 use Rattle.tree_proofs.specs.declared.checkpoint.Checkpoint.{Checkpoint}
-use Rattle.lms_core.specs.declared.private_key.PrivateKey.{PrivateKey}
-use Rattle.hss_core.specs.Hss.{Verifies, one_level_public}
+use Rattle.hss_core.specs.Hss.{Verifies}
+use Rattle.hss_keys.specs.Keys.{SigningKey, public_of}
 use Rattle.mtc_proof.specs.Inputs.{signed_text}
 use Rattle.mtc_proof.specs.Proofs.{IsMtcSignature, ProofParts, SigParts, signature_text}
 use Rattle.cosigner_core.specs.Folds.{CosignerState}
@@ -189,7 +189,7 @@ signs_under number last count size hash held s part is by = record {
       (signed_text id drill_log_id 0 size hash) part.signature) is.id
       (subst (λ (id : Text). Verifies (drill_public last number)
       (signed_text s.id id 0 size hash) part.signature) is.log_id
-      (subst (λ (k : PrivateKey). Verifies (one_level_public k)
+      (subst (λ (k : SigningKey). Verifies (public_of k)
       (signed_text s.id s.log 0 size hash) part.signature) is.key by.verifies));
   short = by.short;
 }

@@ -29,9 +29,7 @@ use Rattle.mtc_proof.specs.Proofs.{ProofParts, proof_text}
 use Rattle.mtc_proof.specs.Reading.{proof_in}
 use Rattle.lmots_core.specs.declared.parameters.OtsType.TheVariants.{W4}
 use Rattle.lms_core.specs.declared.heights.LmsType.TheVariants.{H5}
-use Rattle.lms_core.specs.Trees.{private_key}
-use Rattle.lms_core.specs.declared.private_key.PrivateKey.{PrivateKey}
-use Rattle.hss_core.specs.Hss.{one_level_public}
+use Rattle.hss_keys.specs.Keys.{SigningKey, public_of, signing_key}
 use Rattle.journal_core.specs.Format.{Represents}
 use Rattle.log_entry.specs.declared.entry.Form.{Form}
 use Rattle.policy_core.specs.Judgement.{admitted, decided, entry_by, judged, judgement}
@@ -207,12 +205,12 @@ both_same a b c d one two =
 
 -- the cosigner of an export counts
 counts_there : (number last : ℕ) (s : CosignerState) (steps : List Step) → Counts number last
-    → s.id ≡ id_of last → s.key.key ≡ private_key H5 W4 (secret_of last number)
+    → s.id ≡ id_of last → s.key.key ≡ signing_key H5 None W4 (secret_of last number)
     → is_counted (drill_store number) 7 (export_of s steps) ≡ true
 counts_there number last s steps counts id key =
-    subst (λ (i : Text). some_index (is_counted_as 7 i (one_level_public s.key.key)) 0
+    subst (λ (i : Text). some_index (is_counted_as 7 i (public_of s.key.key)) 0
     (drill_store number).cosigners ≡ true) (sym id)
-    (subst (λ (k : PrivateKey). some_index (is_counted_as 7 (id_of last) (one_level_public k)) 0
+    (subst (λ (k : SigningKey). some_index (is_counted_as 7 (id_of last) (public_of k)) 0
     (drill_store number).cosigners ≡ true) (sym key) counts)
 
 module _ (h : HashFunction) (number last size larger index : ℕ) (marks : List ℕ) (cert : Text)
@@ -222,7 +220,7 @@ module _ (h : HashFunction) (number last size larger index : ℕ) (marks : List 
   pub audit_stands : size ≤ larger → IsWrittenOf h (log_with h size []) index cert
       → IsAcceptedByAll h number index size cert → Counts number last
       → s.id ≡ id_of last → s.log ≡ drill_log_id
-      → s.key.key ≡ private_key H5 W4 (secret_of last number)
+      → s.key.key ≡ signing_key H5 None W4 (secret_of last number)
       → s.held ≡ record { size = larger; root = tree_hash h (entries_to h larger) }
       → IsBytes bytes → Represents bytes list → cosigner_of h list ≡ Ok s
       → HasSign 0 size (tree_hash h (entries_to h size)) list

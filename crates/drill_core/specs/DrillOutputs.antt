@@ -1,10 +1,10 @@
 -- What a drill leaves.
-use Rattle.std.specs.Prelude.{◌≡◌, ◌≤◌, ℕ, List, length}
+use Rattle.std.specs.Prelude.{◌≡◌, ◌≤◌, ℕ, List, length, None}
 use Rattle.std.specs.List.{AllByRecursion, sum_by}
 use Rattle.byte_formats.specs.Types.{HashFunction, Text}
 use Rattle.lmots_core.specs.declared.parameters.OtsType.TheVariants.{W4}
 use Rattle.lms_core.specs.declared.heights.LmsType.TheVariants.{H5}
-use Rattle.lms_core.specs.Trees.{private_key}
+use Rattle.hss_keys.specs.Keys.{signing_key}
 use Rattle.tree_core.specs.Tree.{tree_hash}
 use Rattle.tree_core.specs.declared.hashing.TreeHash.{Ghosts as Hashes}
 use Rattle.cosigner_core.specs.Folds.{CosignerState}
@@ -45,7 +45,7 @@ pub record IsDrilled (h : HashFunction) (number : ℕ) (d : Drill) (certs : List
   pub log : state.log ≡ drill_log_id
   pub size : state.held.size ≡ d.size
   pub root : state.held.root ≡ tree_hash h (entries_to h d.size)
-  pub key : state.key.key ≡ private_key H5 W4 (secret_of arc number)
+  pub key : state.key.key ≡ signing_key H5 None W4 (secret_of arc number)
   pub signed : 16 ≤ signs_on disk
   pub audits : EachStands h number certs (log_with h d.size d.marks) state (records_on disk)
 

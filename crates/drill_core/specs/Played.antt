@@ -1,11 +1,11 @@
 -- What a round makes of the parties of a drill, and what rounds make of them.
-use Rattle.std.specs.Prelude.{◌≡◌, ◌+◌, ◌*◌, ◌<◌, ◌≤◌, ℕ, zero, suc, List, [], ◌∷◌, ◌++◌, length}
+use Rattle.std.specs.Prelude.{◌≡◌, ◌+◌, ◌*◌, ◌≤◌, ℕ, zero, suc, List, [], ◌∷◌, ◌++◌, length}
 use Rattle.std.specs.Prelude.{pos, Option, Some, None}
 use Rattle.std.specs.List.{AllByRecursion}
 use Rattle.byte_formats.specs.Types.{Hash, HashFunction, Text}
 use Rattle.lmots_core.specs.declared.parameters.OtsType.TheVariants.{W4}
 use Rattle.lms_core.specs.declared.heights.LmsType.TheVariants.{H5}
-use Rattle.lms_core.specs.Trees.{private_key}
+use Rattle.hss_keys.specs.Keys.{signing_key}
 use Rattle.tree_core.specs.Tree.{tree_hash}
 use Rattle.tree_core.specs.declared.hashing.TreeHash.{Ghosts as Hashes}
 use Rattle.tree_proofs.specs.Checkpoints.{empty_checkpoint}
@@ -148,7 +148,7 @@ pub record IsCosignerWithin (number last count : ℕ) (checkpoint : Checkpoint) 
   pub id : s.id ≡ id_of last
   pub log_id : s.log ≡ drill_log_id
   pub held : s.held ≡ checkpoint
-  pub key : s.key.key ≡ private_key H5 W4 (secret_of last number)
+  pub key : s.key.key ≡ signing_key H5 None W4 (secret_of last number)
   pub signed : count ≤ s.key.next
 
 -- Each certificate is of the index and the size of its round, and is accepted by all cosigners.

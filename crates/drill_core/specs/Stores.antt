@@ -6,10 +6,9 @@ use Rattle.tls_wire.specs.Anchors.{text_of}
 use Rattle.tls_wire.specs.Arcs.{IsAnchorId}
 use Rattle.tree_core.specs.Tree.{tree_hash}
 use Rattle.cert_names.specs.LogNames.{name_with}
-use Rattle.hss_core.specs.Hss.{one_level_public}
+use Rattle.hss_keys.specs.Keys.{public_of, signing_key}
 use Rattle.lmots_core.specs.declared.parameters.OtsType.TheVariants.{W4}
 use Rattle.lms_core.specs.declared.heights.LmsType.TheVariants.{H5}
-use Rattle.lms_core.specs.Trees.{private_key}
 use Rattle.issuance_log.specs.Folds.{LogState}
 use Rattle.policy_core.specs.Acceptance.{accepted_by}
 use Rattle.policy_core.specs.Judgement.{accepted, judgement}
@@ -35,7 +34,7 @@ known_with last key = record { id = id_of last; key = key }
 
 -- what is known of a cosigner by its id and its public key
 abbrev pub known_as : CosignerState → Known
-known_as s = record { id = s.id; key = one_level_public s.key.key }
+known_as s = record { id = s.id; key = public_of s.key.key }
 
 -- The store of the log that knows these cosigners, of whom there are three. Two of them have to
 -- have signed; no subtree is trusted, and nothing revoked.
@@ -52,7 +51,7 @@ store_with cosigners = record {
 
 -- the public key of the cosigner 32473.N in the drill with a number
 abbrev pub drill_public : ℕ → ℕ → Text
-drill_public last number = one_level_public (private_key H5 W4 (secret_of last number))
+drill_public last number = public_of (signing_key H5 None W4 (secret_of last number))
 
 -- what is known of the cosigner 32473.N of the drill with a number
 abbrev pub drill_known : ℕ → ℕ → Known

@@ -13,9 +13,8 @@ use Rattle.byte_formats.specs.Types.{Hash, Text}
 use Rattle.tree_core.specs.declared.hashing.TreeHash.{Ghosts as Hashes}
 use Rattle.mtc_proof.specs.Proofs.{SigParts, signature_text}
 use Rattle.drill_parties.specs.CosignerParties.{most_of}
-use Rattle.drill_parties.specs.Cosigners.{HaveSigned, IsPut, IsSignatureBy, Paired, keys_used}
-use Rattle.drill_parties.specs.Cosigners.{stops_by}
-use Rattle.drill_parties.specs.CosignerViews.{cosigner_shown, cosigner_stops}
+use Rattle.drill_parties.specs.Cosigners.{HaveSigned, IsPut, IsSignatureBy, Paired}
+use Rattle.drill_parties.specs.CosignerViews.{cosigner_shown}
 use Rattle.drill_parties.specs.Rounds.{stops_in}
 use Rattle.drill_parties.specs.declared.cosigner_party.CosignerParty.{CosignerParty}
 use Rattle.drill_parties.specs.declared.turns.Stop.{Stop}

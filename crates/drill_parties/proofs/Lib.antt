@@ -7,7 +7,6 @@ mod GrownDisks
 mod Outputs
 mod LeftAfter
 pub mod MadeStops
-pub mod Numbered
 mod Opened
 pub mod Pairs
 mod ReadCrashStates

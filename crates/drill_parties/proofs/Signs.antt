@@ -18,11 +18,11 @@ use Rattle.cosigner_core.specs.declared.lists.Export.{Export}
 use Rattle.cosigner_core.specs.declared.step.Step.{Step}
 use Rattle.cosigner_core.specs.declared.step.Step.TheVariants.{Advance, Sign}
 use Rattle.cosigner_core.proofs.Counts.{counts_up}
+use Rattle.cosigner_core.proofs.Keys.{few_keys}
 use Rattle.drill_parties.specs.CosignerParties.{IsCosignerDisk}
 use Rattle.drill_parties.specs.Disks.{is_sign}
 use Rattle.drill_parties.specs.Disks.{records_on}
 use Rattle.drill_parties.proofs.Exported.{steps_again}
-use Rattle.drill_parties.proofs.Numbered.{few_keys}
 
 -- a step before others
 one_step : (step : Step) (said : Option Step) (rest : List Step) (indices : List ℕ)
@@ -69,7 +69,7 @@ few_signs h list s is =
     let up = counts_up h list s is in
     let few = up.few in
     let count = up.count in
-    let keys = few_keys s.key.key.lms in
+    let keys = few_keys h list s is in
     omega (arith, few, count, keys)
 
 -- What is read of the export of a cosigner has as many Signs as its disk.

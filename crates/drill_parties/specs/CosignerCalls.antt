@@ -6,7 +6,8 @@ use Rattle.disk_core.specs.declared.disk.Disk.{Ghosts}
 use Rattle.tree_core.specs.declared.hashing.TreeHash.{Ghosts as Hashes}
 use Rattle.journal_core.specs.Format.{Represents, RepresentsEither, records_of}
 use Rattle.journal_core.specs.Words.{AllRepresent}
-use Rattle.hss_core.specs.Hss.{Verifies, one_level_public}
+use Rattle.hss_core.specs.Hss.{Verifies}
+use Rattle.hss_keys.specs.Keys.{public_of}
 use Rattle.mtc_proof.specs.Inputs.{signed_text}
 use Rattle.cosigner_core.specs.Folds.{CosignerState, cosigner_of, having_signed, holding}
 use Rattle.cosigner_core.specs.Records.{advance_record, sign_record}
@@ -30,7 +31,7 @@ cosigner_after s (Cosign r) = having_signed s
 abbrev pub IsSignature : CosignerState → CosignerCall → Text → Type 0
 IsSignature s (Advance r) out = Unit {0}
 IsSignature s (Cosign r) out =
-    Verifies (one_level_public s.key.key) (signed_text s.id s.log r.start r.end r.hash) out
+    Verifies (public_of s.key.key) (signed_text s.id s.log r.start r.end r.hash) out
 
 -- The number of the one-time key of a Sign fits in four bytes.
 abbrev pub IsNumbered : CosignerState → CosignerCall → Type 0

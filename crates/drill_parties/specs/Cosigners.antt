@@ -2,7 +2,8 @@
 use Rattle.std.specs.Prelude.{◌≡◌, ◌≤◌, ◌+◌, ◌++◌, [], ◌∷◌, ℕ, List, length}
 use Rattle.std.specs.List.{flat_map, sum_by}
 use Rattle.byte_formats.specs.Types.{Hash, HashFunction, Text}
-use Rattle.hss_core.specs.Hss.{Verifies, one_level_public}
+use Rattle.hss_core.specs.Hss.{Verifies}
+use Rattle.hss_keys.specs.Keys.{public_of}
 use Rattle.mtc_proof.specs.Inputs.{signed_text}
 use Rattle.mtc_proof.specs.Proofs.{SigParts, signature_text}
 use Rattle.tree_core.specs.declared.hashing.TreeHash.{Ghosts as Hashes}
@@ -31,7 +32,7 @@ pub record IsSameWithKeys (old new : CosignerState) : Type 0 where
 pub record IsSignatureBy (size : ℕ) (hash : Hash) (s : CosignerState) (part : SigParts)
     : Type 0 where
   pub cosigner : part.cosigner ≡ s.id
-  pub verifies : Verifies (one_level_public s.key.key) (signed_text s.id s.log 0 size hash)
+  pub verifies : Verifies (public_of s.key.key) (signed_text s.id s.log 0 size hash)
       part.signature
   pub short : length part.signature ≤ 17748
 

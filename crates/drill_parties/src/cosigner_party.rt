@@ -39,7 +39,7 @@ impl<H: TreeHash> Drop for CosignerParty<H> {
 }
 
 impl<H: TreeHash> CosignerParty<H> {
-    ghost use Rattle.hss_core.specs.Hss.{one_level_public};
+    ghost use Rattle.hss_keys.specs.Keys.{public_of};
     ghost use Rattle.std.specs.Prelude.{IfOk};
     ghost use Rattle.drill_parties.specs.CosignerCalls.{IsNumbered, IsSignature, body_called};
     ghost use Rattle.drill_parties.specs.CosignerCalls.{cosigner_after};
@@ -59,7 +59,7 @@ impl<H: TreeHash> CosignerParty<H> {
 
     /// Its public key.
     pub fn public(&self) -> [u8; PUBLIC_KEY_LEN]
-        ensures { result ≡ one_level_public (cosigner_shown self.now).key.key }
+        ensures { result ≡ public_of (cosigner_shown self.now).key.key }
     {
         self.cosigner.public()
     }

@@ -1,5 +1,5 @@
 -- The outcome of `keygen HEIGHT WIDTH SECRET`.
-use Rattle.std.specs.Prelude.{ℕ, ◌==◌, nat_lt, ◌++◌, length, codes, if◌then◌else◌}
+use Rattle.std.specs.Prelude.{ℕ, ◌==◌, nat_lt, ◌++◌, length, codes, if◌then◌else◌, None}
 use Rattle.std.specs.Fmt.{decimal}
 use Rattle.byte_formats.specs.Types.{Text}
 use Rattle.base64.specs.Engines.{standard}
@@ -8,8 +8,7 @@ use Rattle.lmots_core.specs.declared.parameters.OtsType.{OtsType}
 use Rattle.lmots_core.specs.declared.parameters.OtsType.TheVariants.{W1, W2, W4, W8}
 use Rattle.lms_core.specs.declared.heights.LmsType.{LmsType}
 use Rattle.lms_core.specs.declared.heights.LmsType.TheVariants.{H5, H10}
-use Rattle.lms_core.specs.Trees.{private_key}
-use Rattle.hss_core.specs.Hss.{one_level_public}
+use Rattle.hss_keys.specs.Keys.{public_of, signing_key}
 use Rattle.mtc_command.specs.declared.answer.Said.TheVariants.{Done}
 use Rattle.mtc_command.specs.declared.answer.Stopped.TheVariants.{BadForm}
 use Rattle.mtc_command.specs.Steps.{Outcome, Files, says, stops_at, with_bytes}
@@ -24,7 +23,7 @@ ots_type n = if n == 1 then W1 else (if n == 2 then W2 else (if n == 4 then W4 e
 -- The line of a secret's public key, in base64.
 abbrev pub public_line : LmsType → OtsType → Text → Text
 public_line lms ots secret =
-    encode_of standard (one_level_public (private_key lms ots secret)) ++ codes "\n"
+    encode_of standard (public_of (signing_key lms None ots secret)) ++ codes "\n"
 
 -- A secret file has 48 bytes: 16 of identifier and 32 of seed.
 abbrev pub with_secret : Text → Text → Outcome → Outcome

@@ -14,7 +14,8 @@ ghost use Rattle.mtc_command.specs.Endings.{Replies};
 ghost use Rattle.mtc_command.specs.Served.{HasAnswered};
 
 use base64::engine::general_purpose::STANDARD;
-use hss_core::{Key, LmsType, OtsType, SECRET_LEN, Secret};
+use hss_core::{LmsType, OtsType, SECRET_LEN, Secret};
+use hss_keys::HssKey;
 use mtc_command::{Answer, INPUT_LIMIT, Reason, Said, Stop, Stopped, read_input, refuse_file};
 use mtc_io::{Bytes, Memory};
 use mtc_room::Room;
@@ -61,7 +62,7 @@ pub(crate) fn line_of_key(
     requires { IsSigningHeight tree }
     ensures { IfOk result (λ text. text ≡ public_line tree chains secret.now) }
 {
-    let key = Key::make(alloc, tree, chains, secret, 0)?;
+    let key = HssKey::make(alloc, tree, None, chains, secret, 0, 0)?;
     let text = in_base64(alloc, &key.public())?;
     Ok(Bytes::from_vec(format!(in alloc; "{text}\n")?.into_bytes()))
 }

@@ -1,6 +1,6 @@
 -- What `cosign` printed counts for each store that has the cosigner's id and key.
 use Rattle.std.proofs.Common.{◌≡◌, ℕ, ◌+◌, ◌^◌, ◌<◌, Bool, true, false, List, []}
-use Rattle.std.proofs.Common.{◌∷◌, ◌++◌, None, Some, Ok, refl, sym, subst, ap}
+use Rattle.std.proofs.Common.{◌∷◌, ◌++◌, length, None, Some, Ok, refl, sym, subst, ap}
 use Rattle.std.proofs.Common.{◌∙◌, arith}
 use Rattle.std.specs.Int.{w32, to_be_bytes}
 use Rattle.std.specs.Prelude.{slice_get}
@@ -12,8 +12,8 @@ use Rattle.tls_wire.specs.Arcs.{IsAnchorId}
 use Rattle.lms_core.specs.Heights.{height}
 use Rattle.lms_core.specs.Trees.{lms_signature, private_key}
 use Rattle.lms_core.proofs.Verifies.{length-lms_signature}
-use Rattle.lms_core.specs.declared.private_key.PrivateKey.{PrivateKey}
-use Rattle.hss_core.specs.Hss.{Verifies, one_level_public, one_level_signature}
+use Rattle.hss_core.specs.Hss.{Verifies, one_level_signature}
+use Rattle.hss_keys.specs.Keys.{SigningKey, key_signature, keys_there, public_of, signing_key}
 use Rattle.hss_core.proofs.Verifies.{signature_verifies}
 use Rattle.disk_core.specs.declared.disk.Disk.{Ghosts as Disks}
 use Rattle.journal_core.specs.Folds.{state_after}
@@ -45,6 +45,7 @@ use Rattle.cosigner_core.proofs.Forms.{subtree_only}
 use Rattle.cosigner_core.proofs.Names.{Began, began_first}
 use Rattle.cosigner_core.proofs.Allowed.{key_left, none_first}
 use Rattle.cosigner_core.proofs.After.{no_cosigner}
+use Rattle.cosigner_core.proofs.Keys.{few_keys}
 use Rattle.party_history.specs.Rules.{StartsWith}
 use Rattle.party_history.specs.declared.start.PartyStart.{PartyStart}
 use Rattle.party_history.specs.declared.start.PartyStart.TheVariants.{Cosigner}
@@ -69,7 +70,7 @@ use Rattle.mtc_laws.specs.CountLaws.{PrintedSignaturesCount, signature_of}
 key_of_first : (h : HashFunction) (settings : CosignerSettings) (first secret : List ℕ)
     (bodies : List (List ℕ)) (s : CosignerState) → cosigner_in first ≡ Some (settings, secret)
     → cosigner_of h (first ∷ bodies) ≡ Ok s
-    → s.key.key ≡ private_key settings.lms settings.ots secret
+    → s.key.key ≡ signing_key settings.lms None settings.ots secret
 key_of_first h settings first secret bodies s begins is =
     ap (λ (x : Began). x.2) (began_first h settings first secret bodies s begins is)
 
@@ -89,15 +90,18 @@ unfolding one_level_signature
 signature_is h settings public first bodies s r starts bytes made =
     let takes = (cosigner_takes first settings starts.0 bytes starts.1.0).1 in
     let own = of_first h settings public first bodies s starts made in
+    let kept = key_of_first h settings first starts.0 bodies s starts.1.0 made in
     let id : IsAnchorId s.id = subst IsAnchorId (sym own.0) takes.id in
     let text = signed_text s.id s.log r.start r.end r.hash in
-    let size = length-lms_signature s.key.key s.key.next text in
-    let short = signature_short s.key.key.lms s.key.key.ots in
-    let whole = length-append (to_be_bytes w32 0) (lms_signature s.key.key s.key.next text) in
+    let tree = private_key settings.lms settings.ots starts.0 in
+    let size = length-lms_signature tree s.key.next text in
+    let short = signature_short settings.lms settings.ots in
+    let whole = length-append (to_be_bytes w32 0) (lms_signature tree s.key.next text) in
+    let same = ap (λ (x : SigningKey). length (key_signature x s.key.next text)) kept in
     record {
       some = id.some;
       cosigner = omega (arith, id.short);
-      signature = omega (arith, whole, size, short);
+      signature = omega (arith, same, whole, size, short);
     }
 
 counts_so : (h : HashFunction) (settings : CosignerSettings) (public first : List ℕ)
@@ -117,12 +121,12 @@ counts_so h settings public first bodies s r starts bytes made few store index k
     let own = of_first h settings public first bodies s starts made in
     let kept = key_of_first h settings first secret bodies s starts.1.0 made in
     let below : s.key.next < 2 ^ height settings.lms =
-    subst (λ (x : PrivateKey). s.key.next < 2 ^ height x.lms) kept few in
+    subst (λ (x : SigningKey). s.key.next < keys_there x.top.lms x.low s.key.children) kept few in
     let text = signed_text s.id s.log r.start r.end r.hash in
     let signature = signature_by s r.start r.end r.hash in
-    let by_key : Verifies (one_level_public s.key.key) text signature =
-    subst (λ (x : PrivateKey). Verifies (one_level_public x) text
-    (one_level_signature x s.key.next text)) (sym kept)
+    let by_key : Verifies (public_of s.key.key) text signature =
+    subst (λ (x : SigningKey). Verifies (public_of x) text (key_signature x s.key.next text))
+    (sym kept)
     (signature_verifies settings.lms settings.ots secret text s.key.next takes.sized below) in
     let id_is : s.id ≡ known.id = own.0 ∙ sym id in
     let text_is : text ≡ signed_text known.id store.log proof.start proof.end r.hash =
@@ -203,7 +207,7 @@ module _ {R S D O E : Type 0} (h : HashFunction) (rooms : Rooms R S D) (disks : 
       let asked = file_bytes disks (rooms.file old file) (rooms.device old file) s.bytes bytes
       (contents old file is_modelled) s.has_bytes.there in
       let body = sign_record state.key.next r.start r.end r.hash r.proof in
-      let signs = sign_read h state r false (end_offset list)
+      let signs = sign_read h state r false (end_offset list) (few_keys h list state held.1)
       (subtree_only s.bytes r asked s.asked).1 s.fits in
       let did = did_so h rooms disks outs errs old run command spoken name (appended list body)
       refl s.did in

@@ -18,6 +18,7 @@ use Rattle.authority_core.specs.Issues.{issued_entry, issued_record}
 use Rattle.cosigner_core.specs.Folds.{cosigner_fold}
 use Rattle.cosigner_core.specs.Records.{sign_record}
 use Rattle.cosigner_core.proofs.Forms.{subtree_only}
+use Rattle.cosigner_core.proofs.Keys.{few_keys}
 use Rattle.issuance_log.specs.Folds.{log_fold, view_in}
 use Rattle.issuance_log.specs.Records.{switch_record}
 use Rattle.mtc_command.specs.Answers.{Reply, refused, said}
@@ -99,7 +100,7 @@ module _ {R S D O E : Type 0} (h : HashFunction) (rooms : Rooms R S D) (disks : 
       let asked = file_bytes disks (rooms.file old file) (rooms.device old file) s.bytes bytes
       (contents old file is_modelled) s.has_bytes.there in
       let body = sign_record state.key.next r.start r.end r.hash r.proof in
-      let signs = sign_read h state r false (end_offset list)
+      let signs = sign_read h state r false (end_offset list) (few_keys h list state stands.1)
       (subtree_only s.bytes r asked s.asked).1 s.fits in
       record {
         text = s.bytes;

@@ -1,5 +1,5 @@
 -- The rules of a history and those of the journals are the same.
-use Rattle.std.proofs.Common.{◌≡◌, inl, inr, ℕ, ◌==◌, true, false, List, [], ◌∷◌, ◌++◌, Some}
+use Rattle.std.proofs.Common.{◌≡◌, inl, inr, ℕ, ◌==◌, true, false, List, [], ◌∷◌, ◌++◌, Some, None}
 use Rattle.std.proofs.Common.{IfSome, Result, Ok, Err, is_ok, refl, ap, sym, ◌∙◌, subst}
 use Rattle.std.proofs.Common.{option_and_then, arith}
 use Rattle.std.proofs.lemmas.Bool.{eqb-true}
@@ -25,8 +25,7 @@ use Rattle.cosigner_core.specs.Progress.{progress_by, progress_in, steps_in}
 use Rattle.cosigner_core.specs.Records.{cosigner_in, first_by_tag}
 use Rattle.cosigner_core.specs.declared.settings.CosignerSettings.{CosignerSettings}
 use Rattle.cosigner_core.proofs.After as cosigners
-use Rattle.hss_core.specs.Hss.{one_level_public}
-use Rattle.lms_core.specs.Trees.{private_key}
+use Rattle.hss_keys.specs.Keys.{public_of, signing_key}
 use Rattle.party_history.specs.Laws.{IsSoundParty}
 use Rattle.party_history.specs.Parties.{HistoryState}
 use Rattle.party_history.specs.Rules.{AreRecords, IsReadAs, StartsWith, may_follow}
@@ -88,7 +87,7 @@ starts_so h first bodies (inr is) =
     let found = first_of_cosigner h first bodies is in
     let s = found.0.0 in
     let secret = found.0.1 in (
-      Cosigner s (one_level_public (private_key s.lms s.ots secret)),
+      Cosigner s (public_of (signing_key s.lms None s.ots secret)),
       (secret, (found.1, refl)),
     )
 

@@ -1,16 +1,15 @@
 -- The rules of the records of logs and cosigners, by what begins them.
-use Rattle.std.specs.Prelude.{◌≡◌, ◌⊎◌, ◌^◌, Bool, List, Some, Ok, IsOk}
+use Rattle.std.specs.Prelude.{◌≡◌, ◌⊎◌, ◌^◌, Bool, List, Some, Ok, IsOk, None}
 use Rattle.byte_formats.specs.Types.{Text, HashFunction}
 use Rattle.cosigner_core.specs.Folds.{CosignerState, cosigner_of}
 use Rattle.cosigner_core.specs.Openings.{cosigner_read}
 use Rattle.cosigner_core.specs.Progress.{may_follow_cosigner}
 use Rattle.cosigner_core.specs.Records.{cosigner_in}
-use Rattle.hss_core.specs.Hss.{one_level_public}
+use Rattle.hss_keys.specs.Keys.{public_of, signing_key}
 use Rattle.issuance_log.specs.Folds.{LogState, log_of, may_follow_log}
 use Rattle.issuance_log.specs.Openings.{log_read}
 use Rattle.issuance_log.specs.Records.{settings_in}
 use Rattle.lms_core.specs.Heights.{height}
-use Rattle.lms_core.specs.Trees.{private_key}
 use Rattle.party_history.specs.declared.start.PartyStart.{PartyStart}
 use Rattle.party_history.specs.declared.start.PartyStart.TheVariants.{Log, Cosigner}
 
@@ -26,7 +25,7 @@ abbrev pub StartsWith : PartyStart → Text → Type 0
 StartsWith (Log settings) first = settings_in first ≡ Some settings
 StartsWith (Cosigner settings public) first = (secret : Text)
     × ((cosigner_in first ≡ Some (settings, secret))
-    × (one_level_public (private_key settings.lms settings.ots secret) ≡ public))
+    × (public_of (signing_key settings.lms None settings.ots secret) ≡ public))
 
 -- A journal may hold these records: they make a log or a cosigner.
 abbrev pub AreRecords : HashFunction → List Text → Type 0

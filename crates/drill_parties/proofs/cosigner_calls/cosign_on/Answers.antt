@@ -1,9 +1,5 @@
-use Rattle.cosigner_core.specs.Records.{sign_record}
-use Rattle.cosigner_core.specs.Refusals.{journal_refusal}
-use Rattle.cosigner_core.specs.Views.{subtree_parts}
-use Rattle.cosigner_core.specs.Words.{cosigner_broken, cosigner_disk, cosigner_end, cosigner_state}
+use Rattle.cosigner_core.specs.Words.{cosigner_disk}
 use Rattle.drill_parties.proofs.FailedCalls.{failed_none}
-use Rattle.drill_parties.proofs.Numbered.{numbered}
 use Rattle.drill_parties.proofs.ReadCrashStates.{contents_read}
 use Rattle.drill_parties.proofs.cosigner_calls.cosign_on.Goals as goal
 
@@ -14,12 +10,7 @@ returns-in-Ok g c = record {
   grown = λ is. c.in-Ok.ensures.appends.leaves;
   kept = λ is. c.in-Ok.ensures.appends.kept;
   signed = λ is. c.in-Ok.ensures.verifies;
-  numbered = λ is.
-      let it = c.args.cosigner.now in
-      let r = subtree_parts c.args.request.now in
-      numbered g.H.TreeHash.hash (cosigner_state it) r (journal_refusal (cosigner_broken it)
-      (cosigner_end it) (sign_record (cosigner_state it).key.next r.start r.end r.hash r.proof))
-      c.in-Ok.ensures.answer;
+  numbered = λ is. c.in-Ok.ensures.number;
   reads = contents_read (g.D.Disk.contents (cosigner_disk c.cosign.new.self))
       (g.D.Disk.may_leave (cosigner_disk c.cosign.new.self))
       (g.met.D.Disk.reads_crash_state (cosigner_disk c.cosign.new.self));
