@@ -16,7 +16,7 @@ use std::alloc::Global;
 /// The bytes of most input files are at most so many.
 pub const INPUT_LIMIT: u64 = 16_777_216;
 
-/// Those of a list of entries and of an export are at most so many.
+/// Those of an export are at most so many.
 pub const LIST_LIMIT: u64 = 1_073_741_824;
 
 /// Reads a file of at most so many bytes, and closes what the file system opened.
