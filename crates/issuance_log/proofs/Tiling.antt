@@ -1,6 +1,7 @@
 -- What storing tiles and appending their size leaves.
 use Rattle.std.proofs.Common.{◌≡◌, ℕ, ◌^◌, ◌<◌, ◌≤◌, List, [], ◌∷◌, ◌++◌, ◌∙◌, arith, false, max}
 use Rattle.std.proofs.Common.{length, Option, Some, None, IfSome, option_map, refl, ap, subst, sym}
+use Rattle.std.proofs.Common.{Result, Ok, Err, OnOk, OnErr}
 use Rattle.std.proofs.lemmas.List.{length-append}
 use Rattle.byte_formats.specs.Types.{Text, HashFunction}
 use Rattle.byte_formats.proofs.Values.{each_some}
@@ -12,10 +13,13 @@ use Rattle.journal_core.specs.Durable.{IsDurable}
 use Rattle.journal_core.proofs.Records.{records_of-stands}
 use Rattle.journal_core.proofs.Modelled.{if_some}
 use Rattle.state_journal.proofs.Kept.{of_sound}
+use Rattle.mtc_io.specs.declared.fault.Failed.{Failed as DiskFailed}
+use Rattle.tile_store.specs.Calls.{TilesAreStored}
 use Rattle.tile_store.specs.Contents.{HoldsTiles}
 use Rattle.tile_store.specs.Layout.{tiles_end}
 use Rattle.tile_store.specs.Store.{tiles_stored}
 use Rattle.tile_store.specs.Writing.{IsCrashStateAfter}
+use Rattle.tile_store.specs.declared.store.Tiles.{Tiles}
 use Rattle.tile_store.proofs.Prefixes.{prefix-less}
 use Rattle.tile_store.proofs.Kept.{tiles-kept}
 use Rattle.tree_core.specs.declared.hashing.TreeHash.{Ghosts as Hashes}
@@ -160,3 +164,11 @@ module _ {H D T : Type 0} {hashes : Hashes H} {g : Ghosts D} {k : Ghosts T}
       → HoldsTiles hashes.hash leaves size d) (sym same) each))
       (subst (λ (n : ℕ). IfSome (items_leaves log.machine.items) (λ leaves. (d : Text)
       → k.may_leave disk d → HoldsTiles hashes.hash leaves n d)) is holds))
+
+-- the tiles of a size that were stored stay so where more are
+pub stored_still : {H T : Type 0} {hashes : Hashes H} {k : Ghosts T} (size tiled : ℕ)
+    (old new : Tiles H T hashes k) (result : Result (Unit {0}) DiskFailed)
+    → tiled ≤ tiles_stored old → OnOk result (TilesAreStored size old new)
+    → OnErr result (tiles_stored new ≡ tiles_stored old) → tiled ≤ tiles_stored new
+stored_still size tiled old new (Ok done) within stored same = omega (arith, within, stored.stored)
+stored_still size tiled old new (Err failed) within stored same = omega (arith, within, same)

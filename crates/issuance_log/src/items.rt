@@ -1,26 +1,17 @@
 //! The items of a log as they are retained: the offset of each, and the nodes of the tree.
 
-ghost use Rattle.std.specs.Prelude.{◌≡◌, ℕ, ◌<◌, ◌≤◌, ◌+◌, ◌*◌, ◌%◌, ◌^◌, max, [], ◌∷◌, ◌++◌};
-ghost use Rattle.std.specs.Prelude.{length, slice_index_or, vec_len, option_map, IfSome, IfOk};
-ghost use Rattle.std.specs.Prelude.{IfErr, OnOk, OnErr};
-ghost use Rattle.byte_formats.specs.Types.{Text};
-ghost use Rattle.disk_core.specs.Times.{LeavesOnly, OnlyReads};
+ghost use Rattle.std.specs.Prelude.{◌≡◌, ℕ, ◌<◌, ◌+◌, ◌^◌, [], ◌∷◌, ◌++◌, length, slice_index_or};
+ghost use Rattle.std.specs.Prelude.{vec_len, option_map, IfSome, OnOk, OnErr};
 ghost use Rattle.frame_pool.specs.Frames.{HoldsKey};
 ghost use Rattle.frame_pool.specs.declared.key.TileKey.{TileKey as Key};
-ghost use Rattle.mtc_io.specs.Counts.{HasCause};
-ghost use Rattle.tile_store.specs.Causes.{HasCauseOf};
-ghost use Rattle.tile_store.specs.Contents.{HoldsTiles};
-ghost use Rattle.tile_store.specs.Layout.{tiles_end};
 ghost use Rattle.tile_store.specs.Store.{tiles_count, tiles_disk, tiles_stored};
-ghost use Rattle.tile_store.specs.Writing.{IsCrashStateAfter};
 ghost use Rattle.tree_core.specs.Tree.{leaf_hash};
-ghost use Rattle.tree_proofs.specs.Modelled.{IsRootOf};
 
 use disk_core::Disk;
 use frame_pool::Pool;
-use mtc_io::{Failed, Memory};
+use mtc_io::Memory;
 use std::alloc::Global;
-use tile_store::{TileError, Tiles};
+use tile_store::Tiles;
 use tree_core::{TreeHash, leaf};
 
 /// The null entry: the type 0, and no body.
@@ -29,8 +20,8 @@ pub(crate) const NULL_ENTRY: [u8; 2] = [0, 0];
 /// The offset of each item in the journal, and the nodes of the tree over the entries.
 #[derive(Drop)]
 pub(crate) struct Items<H: TreeHash, T: Disk> {
-    offsets: Vec<u64>,
-    nodes: Tiles<H, T>,
+    pub(crate) offsets: Vec<u64>,
+    pub(crate) nodes: Tiles<H, T>,
     ghost even: { tiles_count nodes ≡ vec_len offsets },
 }
 
@@ -110,79 +101,5 @@ impl<H: TreeHash, T: Disk> Items<H, T> {
         ensures { result ≡ slice_index_or (items_offsets self.now) index 0 }
     {
         self.offsets[index as usize]
-    }
-
-    /// A node of the tree, as [`Tiles::tile_node`].
-    pub(crate) fn node(&mut self, level: u32, place: u64) -> Result<[u8; 32], Failed>
-        requires { (place + 1) * 2 ^ level ≤ length (items_offsets self.old) }
-        ensures value { IfOk result (IsRootOf H.hash (items_leaves self.old) (place * 2 ^ level)
-            ((place + 1) * 2 ^ level)) }
-        ensures offsets { items_offsets self.new ≡ items_offsets self.old }
-        ensures leaves { items_leaves self.new ≡ items_leaves self.old }
-        ensures stored { tiles_stored (items_tiles self.new) ≡ tiles_stored (items_tiles self.old) }
-        ensures only_reads { OnlyReads T.Disk (tiles_disk (items_tiles self.old))
-            (tiles_disk (items_tiles self.new)) }
-        ensures cause { HasCause (T.faults (tiles_disk (items_tiles self.old)))
-            (T.faults (tiles_disk (items_tiles self.new))) result }
-    {
-        self.nodes.tile_node(level, place)
-    }
-
-    /// The tiles that the first so many entries fill were stored or adopted.
-    pub(crate) fn stored(&self) -> u64
-        ensures { result ≡ tiles_stored (items_tiles self.now) }
-    {
-        self.nodes.stored()
-    }
-
-    /// Stores the tiles that the first `size` entries fill, as [`Tiles::store`].
-    pub(crate) fn store(&mut self, size: u64) -> Result<(), Failed>
-        requires { size ≤ length (items_offsets self.old) }
-        ensures offsets { items_offsets self.new ≡ items_offsets self.old }
-        ensures leaves { items_leaves self.new ≡ items_leaves self.old }
-        ensures stored { OnOk result (tiles_stored (items_tiles self.new)
-            ≡ max size (tiles_stored (items_tiles self.old))) }
-        ensures stored_err { OnErr result (tiles_stored (items_tiles self.new)
-            ≡ tiles_stored (items_tiles self.old)) }
-        ensures known { OnOk result (T.known (tiles_disk (items_tiles self.new))
-            ≡ max (tiles_end size) (T.known (tiles_disk (items_tiles self.old)))) }
-        ensures reach { T.known (tiles_disk (items_tiles self.new))
-            ≤ max (tiles_end size) (T.known (tiles_disk (items_tiles self.old))) }
-        ensures holds { OnOk result (IfSome (items_leaves self.old) (λ leaves.
-            (c : Text) → T.may_leave (tiles_disk (items_tiles self.new)) c
-            → HoldsTiles H.hash leaves size c)) }
-        ensures any_time { LeavesOnly T.Disk (tiles_disk (items_tiles self.old))
-            (tiles_disk (items_tiles self.new)) (IsCrashStateAfter T.Disk
-            (tiles_disk (items_tiles self.old))
-            (tiles_end (tiles_stored (items_tiles self.old)))) }
-        ensures cause { HasCause (T.faults (tiles_disk (items_tiles self.old)))
-            (T.faults (tiles_disk (items_tiles self.new))) result }
-    {
-        self.nodes.store(size)
-    }
-
-    /// Adopts the tiles that the first `size` entries fill, as [`Tiles::adopt`].
-    pub(crate) fn adopt(&mut self, size: u64) -> Result<(), TileError>
-        requires multiple { size % 256 ≡ 0 }
-        requires within { size ≤ length (items_offsets self.old) }
-        ensures offsets { items_offsets self.new ≡ items_offsets self.old }
-        ensures leaves { items_leaves self.new ≡ items_leaves self.old }
-        ensures only_reads { OnlyReads T.Disk (tiles_disk (items_tiles self.old))
-            (tiles_disk (items_tiles self.new)) }
-        ensures stored { OnOk result (tiles_stored (items_tiles self.new)
-            ≡ max size (tiles_stored (items_tiles self.old))) }
-        ensures fine { OnOk result (T.faults (tiles_disk (items_tiles self.new))
-            ≡ T.faults (tiles_disk (items_tiles self.old))) }
-        ensures cause { IfErr result (HasCauseOf (items_tiles self.old)
-            (tiles_disk (items_tiles self.new)) size) }
-    {
-        self.nodes.adopt(size)
-    }
-
-    /// The disk of the tiles.
-    pub(crate) fn into_disk(self) -> T
-        ensures { result ≡ tiles_disk (items_tiles self) }
-    {
-        self.nodes.into_disk()
     }
 }

@@ -1,6 +1,6 @@
 //! A log that is open for more entries.
 
-ghost use Rattle.std.specs.Prelude.{◌≡◌, ◌↔◌, ℕ, ◌≤◌, ◌+◌, ◌*◌, ◌^◌, List, [], length, true, false};
+ghost use Rattle.std.specs.Prelude.{◌≡◌, ◌↔◌, ℕ, ◌≤◌, ◌+◌, List, [], length, true, false};
 ghost use Rattle.std.specs.Prelude.{Some, None, IfSome, IfOk, IfErr, IsErrOf, IsTrue, OnOk, OnErr};
 ghost use Rattle.std.specs.Prelude.{is_some, max};
 ghost use Rattle.std.proofs.Props.{props};
@@ -9,10 +9,8 @@ ghost use Rattle.frame_pool.specs.Frames.{HoldsKey};
 ghost use Rattle.frame_pool.specs.declared.key.TileKey.{TileKey as Key};
 ghost use Rattle.journal_core.specs.Words.{disk_of, end_of};
 ghost use Rattle.log_entry.specs.Matching.{has_form, matches};
-ghost use Rattle.mtc_io.specs.Counts.{HasCause};
 ghost use Rattle.tile_store.specs.Layout.{tiles_end};
 ghost use Rattle.tile_store.specs.Store.{tiles_stored};
-ghost use Rattle.tree_proofs.specs.Modelled.{IsRootOf};
 ghost use Rattle.issuance_log.specs.Changes.{IsTakenAs, KeepsToJournal};
 ghost use Rattle.issuance_log.specs.Durable.{IsDurableLog, IsDurableLog-prop};
 ghost use Rattle.issuance_log.specs.Entries.{LogCounts};
@@ -42,7 +40,7 @@ use disk_core::Disk;
 use frame_pool::Pool;
 use journal_core::Journal;
 use log_entry::Form;
-use mtc_io::{Bytes, Failed};
+use mtc_io::Bytes;
 use state_journal::{StateRefused, append_to, open_state};
 use std::alloc::Global;
 use tree_core::TreeHash;
@@ -63,7 +61,7 @@ use tree_core::TreeHash;
 pub struct Log<H: TreeHash, D: Disk, T: Disk> {
     alloc: Global,
     journal: Journal<D>,
-    machine: LogMachine<H, T>,
+    pub(crate) machine: LogMachine<H, T>,
     ghost counted: { length (items_offsets machine.items) ≡ machine.numbers.view.size },
     ghost adopted: { is_some machine.refusal ≡ false },
     ghost stored: { machine.numbers.view.tiled ≤ tiles_stored (items_tiles machine.items) },
@@ -110,7 +108,7 @@ impl<H: TreeHash, D: Disk, T: Disk> Log<H, D, T> {
     ghost use Rattle.issuance_log.specs.Opened.{LogIsNotOpened, LogIsOpened};
     ghost use Rattle.issuance_log.specs.Words.{log_disk, log_tiles_disk, log_end};
     ghost use Rattle.issuance_log.specs.Words.{log_broken, log_leaves, modelled_state};
-    ghost use Rattle.issuance_log.specs.Words.{view_of, LogAppends, LogAsksTiles, LogStays};
+    ghost use Rattle.issuance_log.specs.Words.{view_of, LogAppends, LogStays};
     ghost use Rattle.issuance_log.specs.Words.{LogWouldTake};
     ghost use Rattle.issuance_log.specs.Words.{KeepsTiles, TilesStandAfter};
 
@@ -140,7 +138,7 @@ impl<H: TreeHash, D: Disk, T: Disk> Log<H, D, T> {
             Err(refused) => return Err(not_opened(refused)),
         };
         let size = machine.numbers.tiled();
-        match machine.items.adopt(size) {
+        match machine.items.nodes.adopt(size) {
             Ok(()) => {
                 machine.refusal = None;
                 Ok(Log {
@@ -263,7 +261,7 @@ impl<H: TreeHash, D: Disk, T: Disk> Log<H, D, T> {
     {
         let size = self.machine.numbers.full_size();
         let body = prepare_tiles(self.alloc, &self.machine.numbers)?;
-        self.machine.items.store(size)?;
+        self.machine.items.nodes.store(size)?;
         self.append_record(body.as_slice(), size)
     }
 
@@ -365,20 +363,6 @@ impl<H: TreeHash, D: Disk, T: Disk> Log<H, D, T> {
         ensures rising { AreRising 0 (view_of self.now).size result.now }
     {
         self.machine.numbers.marks()
-    }
-
-    // The hash of the `2^level` entries from `place * 2^level` on, where `place` is an index in the
-    // level. The call leaves the journal's disk alone.
-    pub(crate) fn node_at(&mut self, level: u32, place: u64) -> Result<[u8; 32], Failed>
-        requires { (place + 1) * 2 ^ level ≤ (view_of self.old).size }
-        ensures node { IfOk result (IsRootOf H.hash (log_leaves self.old) (place * 2 ^ level)
-            ((place + 1) * 2 ^ level)) }
-        ensures leaves { log_leaves self.new ≡ log_leaves self.old }
-        ensures asks { LogAsksTiles self.old self.new }
-        ensures cause { HasCause (T.faults (log_tiles_disk self.old))
-            (T.faults (log_tiles_disk self.new)) result }
-    {
-        self.machine.items.node(level, place)
     }
 
     /// The entry at an index and its key, instead of what the two byte strings held. It is read

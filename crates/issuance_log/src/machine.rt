@@ -80,6 +80,14 @@ fn begin_items<H: TreeHash, T: Disk>(
     Ok(numbers)
 }
 
+// The disk of the tiles.
+fn disk_under<H: TreeHash, T: Disk>(items: Items<H, T>) -> T
+    ensures { result ≡ tiles_disk (items_tiles items) }
+{
+    let Items { offsets: _, nodes } = items;
+    nodes.into_disk()
+}
+
 // A log that isn't begun.
 fn not_begun<H: TreeHash, T: Disk>(items: Items<H, T>, why: Misfit) -> NotBegun<TileRest<T>, Misfit>
     ensures disk { result.rest.disk ≡ tiles_disk (items_tiles items) }
@@ -88,7 +96,7 @@ fn not_begun<H: TreeHash, T: Disk>(items: Items<H, T>, why: Misfit) -> NotBegun<
 {
     NotBegun {
         rest: TileRest {
-            disk: items.into_disk(),
+            disk: disk_under(items),
             refusal: None,
         },
         why,
@@ -188,7 +196,7 @@ impl<H: TreeHash, T: Disk> LogMachine<H, T> {
         ensures sound { HasSoundNumbers (machine_view self.now) }
     {
         let size = self.numbers.tiled();
-        self.refusal.is_some() || size <= self.items.stored()
+        self.refusal.is_some() || size <= self.items.nodes.stored()
     }
 
     // Adopts the tiles of the last size that are not stored yet, unless tiles were refused before.
@@ -216,7 +224,7 @@ impl<H: TreeHash, T: Disk> LogMachine<H, T> {
             return Ok(());
         }
         let size = self.numbers.tiled();
-        match self.items.adopt(size) {
+        match self.items.nodes.adopt(size) {
             Ok(()) => Ok(()),
             Err(TileError::Failed) => {
                 self.refusal = Some(TileError::Failed);
@@ -238,7 +246,7 @@ impl<H: TreeHash, T: Disk> LogMachine<H, T> {
             items,
             refusal: _,
         } = self;
-        items.into_disk()
+        disk_under(items)
     }
 }
 

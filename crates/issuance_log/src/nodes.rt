@@ -37,6 +37,6 @@ impl<H: TreeHash, D: Disk, T: Disk> Nodes for Log<H, D, T> {
     }
 
     fn node(&mut self, level: u32, place: u64) -> Result<[u8; 32], Failed> {
-        self.node_at(level, place)
+        self.machine.items.nodes.tile_node(level, place)
     }
 }

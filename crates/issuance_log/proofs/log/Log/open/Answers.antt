@@ -1,4 +1,4 @@
-use Rattle.std.proofs.Common.{◌≡◌, ◌%◌, List, None, Ok, ℕ, ap, arith, length, refl, subst, sym, ◌∙◌}
+use Rattle.std.proofs.Common.{◌≡◌, ◌%◌, None, Ok, ℕ, ap, arith, refl, subst, ◌∙◌}
 use Rattle.std.specs.Prelude.{IfSome, option_map}
 use Rattle.std.proofs.lemmas.Option.{IfSome_then}
 use Rattle.disk_core.proofs.Times.{only_read_on}
@@ -6,7 +6,7 @@ use Rattle.journal_core.specs.Ends.{durable_of, durable_records}
 use Rattle.journal_core.specs.Words.{disk_of, end_of}
 use Rattle.tile_store.specs.Causes.{HasCauseOf}
 use Rattle.tile_store.specs.Sound.{leaves_with}
-use Rattle.tile_store.specs.Store.{tiles_disk}
+use Rattle.tile_store.specs.Store.{tiles_disk, tiles_leaves}
 use Rattle.tile_store.proofs.Bad.{all-stand, bad-of-all}
 use Rattle.issuance_log.specs.Counted.{kept_in}
 use Rattle.issuance_log.specs.Items.{AreBelow, items_leaves, items_offsets}
@@ -22,6 +22,7 @@ adopt-requires g c =
     let within = sound.tiled in
     let value = c.tiled-size.ensures.value in
     let counted = c.in-Ok.ensures.made.within.counted in
+    let even = c.in-Ok.opened.1.items.even in
     record {
       multiple = ap (λ (n : ℕ). n % 256) value ∙ sound.multiple;
       within = omega arith;
@@ -35,17 +36,16 @@ invariant_of-result g c =
     let adopted = c.adopt.ensures in
     let begun = journal.begun in
     let value = c.tiled-size.ensures.value in
-    let stored = c.in-Ok-adopt.ensures.stored in
+    let stored = c.in-Ok-adopt.ensures.adopted.stored in
     record {
-      counted = ap (λ (l : List ℕ). length l) adopted.offsets ∙ made.within.counted;
+      counted = made.within.counted;
       adopted = refl;
       stored = omega arith;
-      below = subst (λ (l : List ℕ). AreBelow l (end_of journal)) (sym adopted.offsets)
-          (subst (AreBelow (items_offsets it.items)) (omega arith) made.within.below);
+      below = subst (AreBelow (items_offsets it.items)) (omega arith) made.within.below;
       durable = λ b contents.
           let is = made.durable b contents in
-          durable_as g.H.TreeHash.hash it.numbers.view _ _ _ _ (end_of journal) b adopted.offsets
-          adopted.leaves is.durable is.holds.keeps;
+          durable_as g.H.TreeHash.hash it.numbers.view _ _ _ _ (end_of journal) b refl
+          adopted.leaves.list is.durable is.holds.keeps;
     }
 
 pub returns-in-Ok-adopt-clause-opened : goal.returns-in-Ok-adopt-clause-opened
@@ -54,31 +54,30 @@ returns-in-Ok-adopt-clause-opened g c =
     let journal = c.in-Ok.opened.0 in
     let it = c.in-Ok.opened.1 in
     let v = it.numbers.view in
-    let items = c.adopt.new.self in
-    let offsets = items_offsets items in
-    let leaves = items_leaves items in
-    let tiles = items.nodes in
+    let tiles = c.adopt.new.self in
+    let offsets = items_offsets it.items in
+    let leaves = tiles_leaves tiles in
     let opened = c.in-Ok.ensures.opened in
     let made = c.in-Ok.ensures.made in
     let adopted = c.adopt.ensures in
     let left = c.in-Ok.ensures.rest (record { disk = c.args.tiles; refusal = None })
     (tiles_there g.T.Disk c.args.tiles (g.met.T.Disk.only_now c.args.tiles)) in
     let value = c.tiled-size.ensures.value in
-    let stored = c.in-Ok-adopt.ensures.stored in
+    let stored = c.in-Ok-adopt.ensures.adopted.stored in
     let reported = g.D.Disk.contents (disk_of journal) in
     let only_reads =
     only_read_on g.T.Disk c.args.tiles (tiles_disk it.items.nodes) (tiles_disk tiles)
     left.only_reads adopted.only_reads in
     let kept = kept_in h v offsets leaves (end_of journal) reported (λ b contents.
     let is = made.durable b contents in
-    durable_as h v _ _ _ _ (end_of journal) b adopted.offsets adopted.leaves is.durable
+    durable_as h v _ _ _ _ (end_of journal) b refl adopted.leaves.list is.durable
     is.holds.keeps) in
     record {
       sound = opened.sound;
       only_reads = opened.only_reads;
       only_reads_tiles = only_reads;
       fine = opened.fine;
-      fine_tiles = c.in-Ok-adopt.ensures.fine ∙ left.fine;
+      fine_tiles = c.in-Ok-adopt.ensures.adopted.fine ∙ left.fine;
       list = opened.list;
       found = subst (λ t. IfSome t (λ b. IfSome (durable_records journal) (λ list. log_read h b
           ≡ Ok (record { records = list; state = shown_with v list })))) opened.only_reads.contents
@@ -116,9 +115,9 @@ returns-in-Err-adopt-clause-refused g c =
     let is = made.durable b contents in record { durable = is.durable; kept = is.holds.keeps }) in
     rw (c.into_disk.ensures, c.into_disk-in-Err-adopt.ensures) (tile_refused g.D.Disk c.args.disk
     (disk_of journal) (record { disk = c.args.tiles; refusal = None }) tiles it.refusal
-    (tiles_disk c.adopt.new.self.nodes) c.tiled-size.result c.in-Err-adopt.why opened.only_reads
-    opened.fine left c.adopt.ensures.only_reads c.in-Err-adopt.ensures.cause (λ level place bad.
-    subst (λ t. IfSome t (λ b. IfSome (g.T.Disk.contents c.args.tiles) (λ bytes.
+    (tiles_disk c.adopt.new.self) c.tiled-size.result c.in-Err-adopt.why opened.only_reads
+    opened.fine left c.adopt.ensures.only_reads c.in-Err-adopt.ensures.refused.cause
+    (λ level place bad. subst (λ t. IfSome t (λ b. IfSome (g.T.Disk.contents c.args.tiles) (λ bytes.
     IsBadTile h b bytes level place))) opened.only_reads.contents
     (subst (λ t. IfSome reported (λ b. IfSome t (λ bytes. IsBadTile h b bytes level place)))
     left.only_reads.contents
@@ -128,8 +127,8 @@ returns-in-Err-adopt-clause-refused g c =
     c.tiled-size.ensures.value (omega arith) kept
     (found_so h v offsets (durable_of (end_of journal)) leaves reported opened.stands kept)
     (bad-of-all tiles c.tiled-size.result level place
-    (subst (HasCauseOf tiles (tiles_disk c.adopt.new.self.nodes) c.tiled-size.result) bad
-    c.in-Err-adopt.ensures.cause).1)))))
+    (subst (HasCauseOf tiles (tiles_disk c.adopt.new.self) c.tiled-size.result) bad
+    c.in-Err-adopt.ensures.refused.cause).1)))))
 
 pub returns-in-Err-clause-refused : goal.returns-in-Err-clause-refused
 returns-in-Err-clause-refused g c =

@@ -12,6 +12,7 @@ adopt-requires g c =
     let within = sound.tiled in
     let value = c.tiled-size.ensures.value in
     let counted = c.requires in
+    let even = c.args.self.now.items.even in
     record {
       multiple = ap (λ (n : ℕ). n % 256) value ∙ sound.multiple;
       within = omega arith;
@@ -29,7 +30,7 @@ returns-then-has_stored-clause-only_reads g c =
 -- they are adopted
 pub returns-in-Ok-clause-stored : goal.returns-in-Ok-clause-stored
 returns-in-Ok-clause-stored g c = λ none.
-    let stored = c.in-Ok.ensures.stored in
+    let stored = c.in-Ok.ensures.adopted.stored in
     let value = c.tiled-size.ensures.value in
     omega arith
 
@@ -40,8 +41,8 @@ returns-in-Ok-clause-still g c = λ stored.
 -- their disk failed
 pub returns-in-Err-Failed-clause-cause : goal.returns-in-Err-Failed-clause-cause
 returns-in-Err-Failed-clause-cause g c = subst (HasCauseOf (items_tiles c.args.self.now.items)
-    (tiles_disk (items_tiles c.adopt.new.self)) c.tiled-size.result) c.in-Err-Failed.field-0-is
-    c.in-Err-Failed.ensures.cause
+    (tiles_disk c.adopt.new.self) c.tiled-size.result) c.in-Err-Failed.field-0-is
+    c.in-Err-Failed.ensures.refused.cause
 
 pub returns-in-Err-Failed-clause-still : goal.returns-in-Err-Failed-clause-still
 returns-in-Err-Failed-clause-still g c = λ stored.
@@ -53,8 +54,8 @@ returns-in-Err-BadTile-clause-stored g c = λ none. absurd cc
 
 pub returns-in-Err-BadTile-clause-fine : goal.returns-in-Err-BadTile-clause-fine
 returns-in-Err-BadTile-clause-fine g c = (subst (HasCauseOf (items_tiles c.args.self.now.items)
-    (tiles_disk (items_tiles c.adopt.new.self)) c.tiled-size.result) c.in-Err-BadTile.field-0-is
-    c.in-Err-BadTile.ensures.cause).0
+    (tiles_disk c.adopt.new.self) c.tiled-size.result) c.in-Err-BadTile.field-0-is
+    c.in-Err-BadTile.ensures.refused.cause).0
 
 pub returns-in-Err-BadTile-clause-usable : goal.returns-in-Err-BadTile-clause-usable
 returns-in-Err-BadTile-clause-usable g c = λ usable is. absurd cc
