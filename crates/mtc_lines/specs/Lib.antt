@@ -1,1 +1,2 @@
 pub mod CheckpointLines
+pub mod Outputs
