@@ -3,3 +3,4 @@ pub mod Opened
 pub mod Stepped
 pub mod Asked
 pub mod Begun
+pub mod Streamed

@@ -20,7 +20,7 @@ use Rattle.mtc_cosigner.specs.CosignerOutcomes.{advance_says, cosign_says, expor
 use Rattle.cosigner_core.specs.Reasons.{form_fault_text}
 use Rattle.state_journal.specs.Reasons.{state_open_text}
 use Rattle.mtc_cosigner.specs.declared.work.Work.{Work}
-use Rattle.mtc_cosigner.specs.declared.work.Work.TheVariants.{Advance, Cosign, Export}
+use Rattle.mtc_cosigner.specs.declared.work.Work.TheVariants.{Advance, Cosign}
 
 -- What comes of it: the line says that the file is none, unless the device failed or memory was
 -- refused.
@@ -37,7 +37,6 @@ found_cosigner state list = record { records = list; state = state }
 unfoldable pub cosigner_says : HashFunction → Work → FoundCosigner → Outcome
 cosigner_says h (Advance request) found = advance_says h (advance_parts request) found
 cosigner_says h (Cosign request) found = cosign_says h (subtree_parts request) found
-cosigner_says h Export found = export_says found
 
 -- The outcome of a command on the cosigner of a journal with these bytes.
 abbrev pub cosigner_bytes_say : HashFunction → Text → (FoundCosigner → Outcome) → Text → Outcome

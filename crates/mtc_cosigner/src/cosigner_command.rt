@@ -17,8 +17,8 @@ use mtc_room::Room;
 use std::alloc::Global;
 use tree_core::TreeHash;
 
-// Why a journal isn't opened as a cosigner's.
-fn refuse_cosigner<'a>(journal: &'a str, why: CosignerOpenError) -> Stop<'a>
+/// Why a journal isn't opened as a cosigner's.
+pub(crate) fn refuse_cosigner<'a>(journal: &'a str, why: CosignerOpenError) -> Stop<'a>
     ensures { stop_ending result ≡ cosigner_open_ending journal.now why }
 {
     let bad = Stopped::BadForm;

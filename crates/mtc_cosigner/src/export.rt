@@ -1,95 +1,105 @@
 //! The command `export`: what others may know of a cosigner.
 
-ghost use Rattle.std.specs.Prelude.{◌≡◌, ◌<◌, ◌^◌, [], ◌∷◌, Some};
+ghost use Rattle.std.specs.Prelude.{◌<◌, ◌^◌, [], ◌∷◌};
+ghost use Rattle.cosigner_core.specs.Keyless.{keyless_owner};
 ghost use Rattle.cosigner_core.specs.Words.{cosigner_disk, cosigner_owner};
-ghost use Rattle.mtc_command.specs.Answers.{ending_of};
-ghost use Rattle.mtc_cosigner.specs.CosignerOutcomes.{export_says};
 ghost use Rattle.mtc_command.specs.Served.{HasServed};
-ghost use Rattle.mtc_command.specs.Valid.{KeepsValid};
-ghost use Rattle.mtc_cosigner.specs.Works.{HasWorkedOnCosigner, IsCosigner, IsReadyCosigner};
-ghost use Rattle.mtc_cosigner.specs.Works.{StaysCosigner, export_outcome};
+ghost use Rattle.mtc_command.specs.Valid.{KeepsValid, ServesValidly};
+ghost use Rattle.mtc_command.specs.Works.{HasWorkedOn};
+ghost use Rattle.mtc_lines.specs.Outputs.{Streams};
+ghost use Rattle.mtc_cosigner.specs.CosignerOutcomes.{export_says};
+ghost use Rattle.mtc_cosigner.specs.Works.{HasWorkedOnCosigner, IsCosigner, StaysCosigner};
+ghost use Rattle.mtc_cosigner.specs.Works.{cosigner_bytes_say, export_outcome};
 
-use crate::cosigner_command::on_cosigner;
-use crate::work::Work;
-use cosigner_core::{Cosigner, ExportError};
+use crate::cosigner_command::refuse_cosigner;
+use cosigner_core::{Cosigner, ExportError, KeylessCosigner};
 use disk_core::Disk;
-use mtc_command::{Answer, Said, Stop};
-use mtc_io::{Bytes, Failed, Memory, Sink};
+use journal_core::Refused;
+use mtc_command::{Stop, close, open_file};
+use mtc_io::{Failed, Sink};
+use mtc_lines::Written;
 use mtc_room::Room;
 use std::alloc::Global;
 use tree_core::TreeHash;
 
-// A text in the making. It fails only if memory runs out.
-#[derive(Drop)]
-struct TextSink {
-    text: Bytes,
-    faults: u64,
-}
-
-impl TextSink {
-    fn new(alloc: Global) -> TextSink
-        ensures text { result.text ≡ [] }
-        ensures faults { result.faults ≡ 0 }
-    {
-        TextSink {
-            text: Bytes::new(alloc),
-            faults: 0,
-        }
-    }
-}
-
-impl Sink for TextSink {
-    ghost taken = { λ s. Some s.text };
-
-    ghost faults = { λ s. s.faults };
-
-    fn write(&mut self, piece: &[u8]) -> Result<usize, Failed> {
-        match self.text.append(piece) {
-            Ok(()) => Ok(piece.len()),
-            Err(Memory) => {
-                self.faults = self.faults.saturating_add(1);
-                Err(Failed)
-            }
-        }
-    }
-}
-
-/// The work of `export S`.
-pub(crate) fn export_on<'a, H: TreeHash, D: Disk>(
-    alloc: Global,
+// Writes the export of a cosigner while it reads its journal.
+fn export_on<'a, H: TreeHash, D: Disk, O: Sink>(
     journal: &'a str,
     cosigner: &mut Cosigner<H, D>,
-) -> Result<Answer, Stop<'a>>
-    requires { IsReadyCosigner (cosigner_owner cosigner.old) }
-    ensures works { HasWorkedOnCosigner D.Disk journal.now export_says
-        (cosigner_owner cosigner.old) (cosigner_disk cosigner.new) (ending_of result) }
+    out: &mut O,
+) -> Result<Written, Stop<'a>>
+    ensures streams { Streams O.Sink out.old out.new (HasWorkedOnCosigner D.Disk journal.now
+        export_says (cosigner_owner cosigner.old) (cosigner_disk cosigner.new)) result }
     ensures valid { StaysCosigner D.Disk H.hash export_says (cosigner_owner cosigner.old)
         (cosigner_disk cosigner.new) }
 {
-    let mut out = TextSink::new(alloc);
-    match cosigner.export(&mut out) {
-        Ok(()) => Ok(Answer {
-            status: Said::Done,
-            text: out.text,
-        }),
+    match cosigner.export(out) {
+        Ok(()) => Ok(Ok(())),
         Err(ExportError::Read) => Err(Stop::Room(journal)),
-        Err(ExportError::Write) => Err(Stop::Memory),
+        Err(ExportError::Write) => Ok(Err(Failed)),
     }
 }
 
-/// The command `export S`.
-#[tactic(auto, unfolding(crate::specs::Works::export_outcome, crate::specs::Works::cosigner_says))]
-pub fn export<'a, H: TreeHash, R: Room>(
+// Makes the key of a cosigner, writes its export, and returns its device.
+fn export_keyless<'a, H: TreeHash, D: Disk, O: Sink>(
+    alloc: Global,
+    journal: &'a str,
+    keyless: KeylessCosigner<H, D>,
+    out: &mut O,
+) -> (D, Result<Written, Stop<'a>>)
+    ensures streams { Streams O.Sink out.old out.new (HasWorkedOnCosigner D.Disk journal.now
+        export_says (keyless_owner keyless) result.0) result.1 }
+    ensures valid { StaysCosigner D.Disk H.hash export_says (keyless_owner keyless) result.0 }
+{
+    match Cosigner::with_key(alloc, keyless) {
+        Ok(mut cosigner) => {
+            let written = export_on(journal, &mut cosigner, out);
+            (cosigner.into_disk(), written)
+        }
+        Err(Refused { disk, .. }) => (disk, Err(Stop::Memory)),
+    }
+}
+
+// Opens the cosigner on a device, and writes its export.
+fn export_device<'a, H: TreeHash, D: Disk, O: Sink>(
+    alloc: Global,
+    disk: D,
+    journal: &'a str,
+    out: &mut O,
+) -> (D, Result<Written, Stop<'a>>)
+    ensures streams { Streams O.Sink out.old out.new (HasWorkedOn D.Disk journal.now
+        (cosigner_bytes_say H.hash journal.now export_says) disk result.0) result.1 }
+    ensures valid { ServesValidly D.Disk (IsCosigner H.hash) (cosigner_bytes_say H.hash journal.now
+        export_says) disk result.0 }
+{
+    match KeylessCosigner::<H, D>::open(alloc, disk) {
+        Ok(keyless) => export_keyless(alloc, journal, keyless, out),
+        Err(Refused { disk, why }) => (disk, Err(refuse_cosigner(journal, why))),
+    }
+}
+
+/// The command `export S`. It writes the export to standard output while it reads the journal, in a
+/// piece of memory of one size.
+///
+/// Answers whether all of it went out, or standard output failed at it; and if a file failed or
+/// memory was refused, why it stopped. A prefix of the export may be written then; that it has done
+/// with the journal all that it does is what holds with its reply too.
+#[tactic(auto, unfolding(crate::specs::Works::export_outcome))]
+pub fn export<'a, H: TreeHash, R: Room, O: Sink>(
     alloc: Global,
     room: &mut R,
     journal: &'a str,
-) -> Result<Answer, Stop<'a>>
+    out: &mut O,
+) -> Result<Written, Stop<'a>>
     requires { R.opened room.old < 2 ^ 32 }
-    ensures serves { HasServed R.Room R.Dsk.Disk (journal.now ∷ []) journal.now
-        (export_outcome H.hash journal.now (R.file room.old)) room.old room.new
-        (ending_of result) }
+    ensures streams { Streams O.Sink out.old out.new (HasServed R.Room R.Dsk.Disk
+        (journal.now ∷ []) journal.now (export_outcome H.hash journal.now (R.file room.old))
+        room.old room.new) result }
     ensures valid { KeepsValid R.Room R.Dsk.Disk (IsCosigner H.hash) (journal.now ∷ [])
         (export_outcome H.hash journal.now (R.file room.old)) room.old room.new }
 {
-    on_cosigner::<H, R>(alloc, room, journal, &Work::Export)
+    let disk = open_file(room, journal)?;
+    let (disk, written) = export_device::<H, R::Dsk, O>(alloc, disk, journal, out);
+    close(room, journal, disk);
+    written
 }

@@ -6,7 +6,6 @@ ghost use Rattle.mtc_command.specs.Answers.{ending_of};
 ghost use Rattle.mtc_cosigner.specs.Works.{HasWorkedOnCosigner, IsReadyCosigner, StaysCosigner};
 ghost use Rattle.mtc_cosigner.specs.Works.{cosigner_says};
 
-use crate::export::export_on;
 use crate::requests::{advance_on, cosign_on};
 use cosigner_core::{AdvanceRequest, Cosigner, KeylessCosigner, SubtreeRequest};
 use disk_core::Disk;
@@ -22,13 +21,10 @@ pub enum Work<'r> {
     Advance(AdvanceRequest<'r>),
     /// It signs a subtree.
     Cosign(SubtreeRequest<'r>),
-    /// It prints what others may know of it.
-    Export,
 }
 
 /// Carries out a command on the cosigner of a journal, and returns its device. It makes the key for
-/// a signature and for an export alone. A failure of the device is reported with the journal's
-/// name.
+/// a signature alone. A failure of the device is reported with the journal's name.
 #[tactic(auto, unfolding(crate::specs::Works::cosigner_says))]
 pub(crate) fn carry_out<'a, H: TreeHash, D: Disk>(
     alloc: Global,
@@ -50,13 +46,6 @@ pub(crate) fn carry_out<'a, H: TreeHash, D: Disk>(
         Work::Cosign(request) => match Cosigner::with_key(alloc, keyless) {
             Ok(mut cosigner) => {
                 let answer = cosign_on(alloc, journal, &mut cosigner, request);
-                (cosigner.into_disk(), answer)
-            }
-            Err(Refused { disk, .. }) => (disk, Err(Stop::Memory)),
-        },
-        Work::Export => match Cosigner::with_key(alloc, keyless) {
-            Ok(mut cosigner) => {
-                let answer = export_on(alloc, journal, &mut cosigner);
                 (cosigner.into_disk(), answer)
             }
             Err(Refused { disk, .. }) => (disk, Err(Stop::Memory)),

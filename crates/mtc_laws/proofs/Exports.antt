@@ -36,8 +36,7 @@ use Rattle.party_history.proofs.Cosigners.{of_first}
 use Rattle.mtc_laws.specs.ExportLaws.{ExportsHoldTheSteps, HasExported}
 use Rattle.mtc_laws.proofs.Printed.{did_so, heard_so}
 use Rattle.mtc_laws.proofs.Recovered.{held_prefix, modelled_then, read_again}
-use Rattle.mtc_laws.proofs.HeardRuns.{file_bytes, heard_run, printed_so, modelled_file}
-use Rattle.mtc_laws.proofs.Streams.{plain_command}
+use Rattle.mtc_laws.proofs.HeardRuns.{file_bytes, heard_run, streamed_so, modelled_file}
 use Rattle.mtc_laws.proofs.HeardRuns.{contents_crash_state}
 use Rattle.mtc_top.specs.Executions.{program, IsBegun, Run, FileEvent}
 use Rattle.mtc_laws.proofs.Aliases.{IsRun, IsOwnExecution, IsRecovered, IsHeard}
@@ -147,8 +146,7 @@ module _ {R S D O E : Type 0} (h : HashFunction) (rooms : Rooms R S D) (disks : 
           state_is = stands.1;
           text = text;
           text_is = refl;
-          printed = printed_so h rooms disks outs errs new run is_run heard
-              (plain_command h (export name) spoken refl) text meets;
+          printed = streamed_so h rooms disks outs errs new run is_run heard text meets;
           export = export_of opened.0 again.0;
           read = again.2;
           cosigner_is = own.0;

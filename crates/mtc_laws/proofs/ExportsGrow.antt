@@ -21,7 +21,7 @@ use Rattle.mtc_laws.proofs.Exports.{exports_hold}
 use Rattle.mtc_laws.proofs.Recovered.{each_held, held_prefix}
 use Rattle.mtc_laws.proofs.Secrets.{says_so}
 use Rattle.mtc_laws.proofs.HeardRuns.{heard_read}
-use Rattle.mtc_top.specs.Executions.{program, HasPrinted, Run, FileEvent}
+use Rattle.mtc_top.specs.Executions.{program, HasStreamed, Run, FileEvent}
 use Rattle.mtc_laws.proofs.Aliases.{IsRun, DidWith, HasHeld, IsHeard}
 
 module _ {R S D O E : Type 0} (h : HashFunction) (rooms : Rooms R S D) (disks : Disks D)
@@ -64,7 +64,7 @@ module _ {R S D O E : Type 0} (h : HashFunction) (rooms : Rooms R S D) (disks : 
           state = state;
           state_is = said.1.1.0;
           before = said.1.1.2;
-          now = subst (HasPrinted (program h rooms disks outs errs) run) same now.printed;
+          now = subst (HasStreamed (program h rooms disks outs errs) run) same now.printed;
         }
 
   pub exports_grow : ExportsOnlyGrow h (program h rooms disks outs errs)

@@ -26,7 +26,7 @@ use Rattle.mtc_laws.proofs.HeardBytes.{heard_ways, heard_whole, prefix_none}
 use Rattle.mtc_laws.proofs.RunLaws.{run_shows}
 use Rattle.mtc_laws.proofs.Streams.{is_command}
 use Rattle.mtc_top.proofs.Runs.{cut_prefix, lost_of, prefix_of, wrote_of}
-use Rattle.mtc_top.specs.Executions.{program, HasPrinted, Run}
+use Rattle.mtc_top.specs.Executions.{program, HasPrinted, HasStreamed, Run}
 use Rattle.mtc_laws.proofs.Aliases.{IsRun, DidWith, owner_of, HasHeld, IsHeard}
 
 -- a refusal has another status than 0
@@ -113,6 +113,23 @@ module _ {R S D O E : Type 0} (h : HashFunction) (rooms : Rooms R S D) (disks : 
     ends = elim (not_in_part plain) [
       | inl wrote ↦ inl (wrote.code ∙ ap status_of is)
       | inr lost ↦ inr lost.code
+    ];
+    prefix = subst (λ (r : Reply). PrintsPrefix outs run.out run.out_after (out_of r)) is
+        heard_prefix;
+    whole = λ zero_. subst (λ (r : Reply). Prints outs run.out run.out_after (out_of r)) is
+        (heard_wrote zero_).text;
+  }
+
+  -- the same of a command that may write while it reads
+  pub streamed_so : (text : List ℕ) → heard_run.reply ≡ said Done text
+      → HasStreamed (program h rooms disks outs errs) run text
+  streamed_so text is = record {
+    ends = elim heard_run.went [
+      | inl went ↦ elim went [
+        | inl wrote ↦ inl (wrote.code ∙ ap status_of is)
+        | inr lost ↦ inr (inl lost.code)
+      ]
+      | inr part ↦ inr (inr part.breaks)
     ];
     prefix = subst (λ (r : Reply). PrintsPrefix outs run.out run.out_after (out_of r)) is
         heard_prefix;

@@ -1,5 +1,5 @@
 -- A run of `export` over a journal with the records of two signatures in conflict.
-use Rattle.std.proofs.Common.{◌≡◌, ℕ, List, drop, Some, refl, sym, subst, ap, ◌∙◌}
+use Rattle.std.proofs.Common.{◌≡◌, ℕ, List, drop, Some, sym, subst, ap, ◌∙◌}
 use Rattle.std.proofs.lemmas.Option.{same_Some}
 use Rattle.std.specs.Prelude.{Contains}
 use Rattle.byte_formats.specs.Offsets.{IsBytes}
@@ -27,8 +27,7 @@ use Rattle.mtc_laws.proofs.Convicted.{IsInConflict, conflict_convicts}
 use Rattle.mtc_laws.proofs.Exports.{step_there}
 use Rattle.mtc_laws.proofs.Printed.{heard_so}
 use Rattle.mtc_laws.proofs.HeardBytes.{done_heard}
-use Rattle.mtc_laws.proofs.HeardRuns.{file_bytes, printed_so}
-use Rattle.mtc_laws.proofs.Streams.{plain_command}
+use Rattle.mtc_laws.proofs.HeardRuns.{file_bytes, streamed_so}
 use Rattle.mtc_top.specs.Executions.{program}
 use Rattle.mtc_laws.specs.RecordedTwice.{HasRecordedTwice, RecordedSignaturesCollide}
 use Rattle.mtc_laws.specs.RecordedTwice.{SignIsRecorded}
@@ -65,8 +64,7 @@ module _ {R S D O E : Type 0} (h : HashFunction) (rooms : Rooms R S D) (disks : 
       (subst (λ (c : Text). Represents c s.found.records) file stands.0) by.stands in
       let steps : steps_in (drop 1 by.list) ≡ Some again.0 =
       subst (λ (l : List Text). steps_in (drop 1 l) ≡ Some again.0) list again.1 in
-      let out = printed_so h rooms disks outs errs old by.run by.has_run heard
-      (plain_command h (export by.name) by.spoken refl)
+      let out = streamed_so h rooms disks outs errs old by.run by.has_run heard
       (export_text s.found.state s.found.records) s.reply_is in
       let same = printed_text (outs.taken by.run.out) (outs.taken by.run.out_after) by.before
       kept_text (export_text s.found.state s.found.records) by.contents by.printed

@@ -33,6 +33,7 @@ use Rattle.mtc_laws.specs.PrintLaws.{OnlyCosignSigns, Says}
 use Rattle.mtc_words.specs.Reasons.{word_fault_text}
 use Rattle.mtc_laws.proofs.Printed.{did_so, heard_so, signatures_printed}
 use Rattle.mtc_laws.proofs.HeardRuns.{file_bytes, heard_run, held_rules, not_refused, printed_so}
+use Rattle.mtc_laws.proofs.HeardRuns.{streamed_so}
 use Rattle.mtc_laws.proofs.Streams.{plain_command}
 use Rattle.mtc_top.specs.Executions.{program, Run}
 use Rattle.mtc_laws.proofs.Aliases.{IsRun, HasHeld, IsHeard}
@@ -124,8 +125,7 @@ module _ {R S D O E : Type 0} (h : HashFunction) (rooms : Rooms R S D) (disks : 
               (found_stands (cosigner_fold h) s.held s.found are s.is_cosigner).1,
               did_so h rooms disks outs errs old run (export name) spoken name (reads list) refl
                   s.did,
-              printed_so h rooms disks outs errs old run is_run heard
-                  (plain (export name) spoken refl)
+              streamed_so h rooms disks outs errs old run is_run heard
                   (export_text s.found.state list)
                   s.reply_is,
             ),

@@ -19,7 +19,7 @@ use Rattle.mtc_command.specs.Made.{reads}
 use Rattle.party_history.specs.declared.start.PartyStart.TheVariants.{Cosigner}
 use Rattle.mtc_laws.specs.ExecutionLaws.{OfExecutions}
 use Rattle.mtc_laws.specs.PrintLaws.{OfHeard}
-use Rattle.mtc_top.specs.Executions.{WasHeld, HasPrinted, Run, FileEvent}
+use Rattle.mtc_top.specs.Executions.{WasHeld, HasStreamed, Run, FileEvent}
 
 module _ (h : HashFunction) (p : Program) where
   -- What went out is the export of a list with which the journal might have been recovered then,
@@ -35,7 +35,7 @@ module _ (h : HashFunction) (p : Program) where
     pub state_is : cosigner_of h list ≡ Ok state
     pub text : Text
     pub text_is : text ≡ export_text state list
-    pub printed : HasPrinted p run text
+    pub printed : HasStreamed p run text
     pub export : Export
     pub read : export_in h text ≡ Ok (Some export)
     pub cosigner_is : export.cosigner ≡ settings.id
@@ -68,8 +68,8 @@ module _ (h : HashFunction) (p : Program) where
     pub later_read : did_to p name new later ≡ reads (list ++ rest)
     pub state : CosignerState
     pub state_is : cosigner_of h list ≡ Ok state
-    pub before : HasPrinted p earlier (export_text state list)
-    pub now : HasPrinted p later (export_text state list ++ records_text rest)
+    pub before : HasStreamed p earlier (export_text state list)
+    pub now : HasStreamed p later (export_text state list ++ records_text rest)
 
   -- This holds of each run of `export` after an execution of a cosigner's journal, and of each
   -- before it in the execution, that did its work, or of which a byte may have gone out.

@@ -32,7 +32,7 @@ use Rattle.party_history.specs.Laws.{HasItemAt}
 use Rattle.party_history.specs.declared.start.PartyStart.TheVariants.{Log}
 use Rattle.mtc_laws.specs.AuditLaws.{HoldsText}
 use Rattle.mtc_laws.specs.ExecutionLaws.{OfExecutions, UsesKey}
-use Rattle.mtc_top.specs.Executions.{owner, HasPrinted, Run}
+use Rattle.mtc_top.specs.Executions.{owner, HasPrinted, HasStreamed, Run}
 
 module _ (h : HashFunction) (p : Program) where
   -- The run read a request from this file, and added a record to a log with these records: the
@@ -90,7 +90,7 @@ module _ (h : HashFunction) (p : Program) where
   Says (export name) old run = (list : List Text) × ((state : CosignerState)
       × ((cosigner_of h list ≡ Ok state)
       × (did_to p name old run ≡ reads list)
-      × HasPrinted p run (export_text state list)))
+      × HasStreamed p run (export_text state list)))
   Says (init_cosigner name id log height width file) old run = (secret : Text)
       × (HoldsText (p.rooms.file old) file 16777216 secret
       × HasPrinted p run (public_line (lms_type height) (ots_type width) secret))

@@ -121,20 +121,20 @@ pub fn law_tiles_survive_stops<H: TreeHash, R: Room, O: Sink, E: Sink>()
 {}
 
 /// What goes out of a run of `export` after an execution of a cosigner's journal is the export of a
-/// list with which the journal might have been recovered then, or with status 6 a prefix of it. It
-/// has the ids and the public key with which the journal began. It is read as the steps of these
-/// records: each of them is allowed. The step of each record that a run found or added before is
-/// one, and so each that was released.
+/// list with which the journal might have been recovered then, or with status 5, 6 or 8 a prefix of
+/// it. It has the ids and the public key with which the journal began. It is read as the steps of
+/// these records: each of them is allowed. The step of each record that a run found or added before
+/// is one, and so each that was released.
 pub fn law_exports_hold_what_went_out<H: TreeHash, R: Room, O: Sink, E: Sink>()
     ensures { ExportsHoldTheSteps H.hash (program H.hash R.Room R.Dsk.Disk O.Sink E.Sink) }
 {}
 
 /// What a run of `export` prints after an execution of a cosigner's journal begins with what each
 /// run of `export` in that execution printed, which is the export of the records that this run
-/// read. Of each it is the whole text with status 0, and a prefix of it with 6. Over any output the
-/// run reads the records that each of those read and a rest after them, and what it prints more is
-/// the rest. So if an export doesn't begin with an earlier one, an old copy was restored, or the
-/// journal was damaged.
+/// read. Of each it is the whole text with status 0, and a prefix of it with 5, 6 and 8. Over any
+/// output the run reads the records that each of those read and a rest after them, and what it
+/// prints more is the rest. So if an export doesn't begin with an earlier one, an old copy was
+/// restored, or the journal was damaged.
 pub fn law_exports_only_grow<H: TreeHash, R: Room, O: Sink, E: Sink>()
     ensures { ExportsOnlyGrow H.hash (program H.hash R.Room R.Dsk.Disk O.Sink E.Sink) }
 {}

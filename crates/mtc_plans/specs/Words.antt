@@ -1,8 +1,8 @@
 -- What the arguments of a command say of its journal and of the file beside it, which its plan has
 -- to say too; and of its output.
-use Rattle.std.specs.Prelude.{Bool, false, List, [], Option, None, Some}
+use Rattle.std.specs.Prelude.{Bool, true, false, List, [], Option, None, Some}
 use Rattle.byte_formats.specs.Types.{Text}
-use Rattle.mtc_words.specs.Commands.{CommandValue, init_cosigner, init_log, tile}
+use Rattle.mtc_words.specs.Commands.{CommandValue, export, init_cosigner, init_log, tile}
 
 -- The journal that it makes: two commands begin one.
 abbrev pub journal_made_by : CommandValue → Option Text
@@ -15,7 +15,8 @@ abbrev pub only_read_by : CommandValue → List Text → List Text
 only_read_by (tile journal) besides = []
 only_read_by other besides = besides
 
--- It may write its text while it still reads its journal. No command does so yet: each writes its
--- text once all else is done.
+-- It may write its text while it still reads its journal. The text of any other command is written
+-- once all else is done.
 abbrev pub streams : CommandValue → Bool
-streams command = false
+streams (export journal) = true
+streams other = false

@@ -1,15 +1,18 @@
 -- How a run ends: it answers, or the file system failed, or memory was refused.
 use Rattle.std.proofs.Common.{◌≡◌, ◌≢◌, ◌≤◌, ◌<◌, ◌⊎◌, inl, inr, ℕ, List, [], ◌++◌, length}
-use Rattle.std.proofs.Common.{refl, sym, subst, ◌∙◌, arith, IsErr, IfSome, true, ◌==◌}
+use Rattle.std.proofs.Common.{refl, sym, subst, ◌∙◌, arith, IsErr, IfSome, true, ◌==◌, Result, Ok}
+use Rattle.std.proofs.Common.{Err}
 use Rattle.std.proofs.lemmas.Bool.{eq-eqb, or_left, or_right}
 use Rattle.file_events.specs.Worlds.{breaks_off}
 use Rattle.disk_core.specs.declared.disk.Disk.{Ghosts as Disks}
 use Rattle.mtc_io.specs.Counts.{Rose}
+use Rattle.mtc_io.specs.declared.fault.Failed.{Failed}
 use Rattle.mtc_io.specs.declared.sink.Sink.{Ghosts as Sinks}
 use Rattle.mtc_room.specs.declared.room.Room.{Ghosts as Rooms}
 use Rattle.mtc_words.specs.Words.{command_of, known_word}
 use Rattle.mtc_command.specs.Answers.{Ending, Reply, replied, room_failed, no_memory, said, refused}
-use Rattle.mtc_command.specs.Answers.{status_of, out_of, IsEarly}
+use Rattle.mtc_command.specs.Answers.{status_of, out_of, stop_ending, IsEarly}
+use Rattle.mtc_command.specs.declared.answer.Stop.{Stop}
 use Rattle.mtc_command.specs.Made.{untouched, HasKept, MayHaveMade}
 use Rattle.mtc_command.specs.Served.{EndsAs, HasDone, Journals, LeavesEach, LeavesJournals, OfEach}
 use Rattle.mtc_command.specs.Served.{done_with}
@@ -26,11 +29,14 @@ use Rattle.mtc_command.proofs.Served.{each_so, each_is}
 use Rattle.mtc_authority.specs.NoJournal.{SparesTiles}
 use Rattle.mtc_authority.specs.StoredTiles.{HasTilesOf}
 use Rattle.mtc_io.proofs.Streams.{prefix_whole}
+use Rattle.mtc_lines.specs.Outputs.{BrokeItsText, Streams}
 use Rattle.mtc_top.specs.Concluded.{Wrote, Lost, Concludes, Prints, PrintsPrefix}
+use Rattle.mtc_top.specs.Concluded.{SaysEnding, SaysWritten}
 use Rattle.mtc_top.specs.Cited.{spoken_outcome}
 use Rattle.mtc_top.specs.Facts.{Facts, facts}
 use Rattle.mtc_top.specs.Run.{Answered, CutOff, HasRun, WasCut}
 use Rattle.mtc_top.proofs.Planned.{spoken_planned}
+use Rattle.mtc_top.proofs.Said.{breaks_at, says_nothing}
 
 -- a reply's status is none of those without a reply
 pub record IsReply (status : ℕ) : Type 0 where
@@ -163,11 +169,11 @@ module _ {R S D O E : Type 0} (h : List ℕ → List ℕ) (rooms : Rooms R S D) 
   code_of (replied reply) status gone = tt
   code_of (room_failed file) status gone = elim gone [
     | inl failed ↦ failed.is
-    | inr cut ↦ cut.breaks.is
+    | inr cut ↦ cut.breaks.0
   ]
   code_of no_memory status gone = elim gone [
     | inl out_of_memory ↦ out_of_memory.is
-    | inr cut ↦ cut.breaks.is
+    | inr cut ↦ cut.breaks.0
   ]
 
   -- what went out of a reply
@@ -228,7 +234,7 @@ module _ {R S D O E : Type 0} (h : List ℕ → List ℕ) (rooms : Rooms R S D) 
       text = out_of_memory.nothing;
       made = λ is_modelled. (left is_modelled).left;
     })
-    | inr cut ↦ inr (record { cut = (no_memory, cut); cause = inr cut.breaks.is })
+    | inr cut ↦ inr (record { cut = (no_memory, cut); cause = inr cut.breaks.0 })
   ]))
 
   only_by : (ending : Ending) (status : ℕ) → Ends ending
@@ -274,21 +280,21 @@ module _ {R S D O E : Type 0} (h : List ℕ → List ℕ) (rooms : Rooms R S D) 
   -- a run that was cut off has status 5 or 8, and a prefix of its text went out
   cut_code : (ending : Ending) (status : ℕ) → Cut ending status → status ≢ 5 → status ≢ 8 → ⊥
   cut_code (replied reply) status cut not5 not8 = cut.breaks
-  cut_code (room_failed file) status cut not5 not8 = not5 cut.breaks.is
-  cut_code no_memory status cut not5 not8 = not8 cut.breaks.is
+  cut_code (room_failed file) status cut not5 not8 = not5 cut.breaks.0
+  cut_code no_memory status cut not5 not8 = not8 cut.breaks.0
 
   pub cut_breaks : (ending : Ending) (status : ℕ) → Cut ending status → breaks_off status ≡ true
   cut_breaks (replied reply) status cut = absurd cut.breaks
   cut_breaks (room_failed file) status cut =
-      or_left (status == 5) (status == 8) (eq-eqb status 5 cut.breaks.is)
+      or_left (status == 5) (status == 8) (eq-eqb status 5 cut.breaks.0)
   cut_breaks no_memory status cut =
-      or_right (status == 5) (status == 8) (eq-eqb status 8 cut.breaks.is)
+      or_right (status == 5) (status == 8) (eq-eqb status 8 cut.breaks.0)
 
   pub cut_prefix : (ending : Ending) (status : ℕ) (cut : Cut ending status)
       → PrintsPrefix outs out out' cut.text
   cut_prefix (replied reply) status cut = absurd cut.breaks
-  cut_prefix (room_failed file) status cut = cut.breaks.prefix
-  cut_prefix no_memory status cut = cut.breaks.prefix
+  cut_prefix (room_failed file) status cut = cut.breaks.1.0
+  cut_prefix no_memory status cut = cut.breaks.1.0
 
   module _ (status : ℕ) (run : Run status) where
     pub ended : HasEnded status
@@ -322,27 +328,37 @@ module _ {R S D O E : Type 0} (h : List ℕ → List ℕ) (rooms : Rooms R S D) 
   abbrev cited : Outcome
   cited = spoken_outcome h (command_of words) (rooms.file old)
 
+  same : cited ≡ want
+  same = spoken_planned h (command_of words) (rooms.file old)
+
+  -- what was done, and how it ended
+  abbrev pub DoneSo : Ending → Type 0
+  DoneSo ending = HasDone rooms disks Bad files asked.journals asked.besides cited old new ending
+      × New ending
+
+  done_as : (ending : Ending) → DoneSo ending
+      → HasDone rooms disks Bad files asked.journals asked.besides want old new ending
+  done_as ending done = subst (λ (o : Outcome). HasDone rooms disks Bad files asked.journals
+      asked.besides o old new ending) same done.0
+
   -- a command that was done, as their contracts say, and whose ending went out, is a run
-  pub planned_run : (ending : Ending) (status : ℕ)
-      → HasDone rooms disks Bad files asked.journals asked.besides cited old new ending
+  pub planned_run : (ending : Ending) (status : ℕ) → DoneSo ending
       → KeepsValid rooms disks asked.Valid asked.journals cited old new
       → (rooms.is_modelled old
       → LeavesEach rooms disks old new (done_with asked.only_reads []) HasKept)
       → OfEach (λ name did. SparesTiles rooms old new name)
       (done_with asked.journals cited.journals)
       → StoresBeside (HasTilesOf h) asked.Valid rooms disks old new asked.journals asked.besides
-      cited → New ending → Out ending status → Run status
-  planned_run ending status done valid only_read spares stores began gone =
-      let same : cited ≡ want = spoken_planned h (command_of words) (rooms.file old) in
-      let did = subst (λ (o : Outcome). HasDone rooms disks Bad files asked.journals asked.besides
-      o old new ending) same done in
+      cited → Out ending status ⊎ Cut ending status → Run status
+  planned_run ending status done valid only_read spares stores gone =
+      let did = done_as ending done in
       record {
         ending = ending;
         ends = did.ends;
-        concludes = inl gone;
+        concludes = gone;
         back = did.back;
         made = did.made;
-        began = began;
+        began = done.1;
         only_read = only_read;
         spares = subst (λ (o : Outcome). OfEach (λ name did. SparesTiles rooms old new name)
             (done_with asked.journals o.journals)) same spares;
@@ -351,3 +367,53 @@ module _ {R S D O E : Type 0} (h : List ℕ → List ℕ) (rooms : Rooms R S D) 
         stores = subst (λ (o : Outcome). StoresBeside (HasTilesOf h) asked.Valid rooms disks old new
             asked.journals asked.besides o) same stores;
       }
+
+  -- ---- a command that has written its text itself
+
+  module _ (status : ℕ) where
+    cut_of : (ending : Ending) → asked.streams ≡ true
+        → BrokeItsText outs out out' DoneSo ending
+        → SaysEnding errs (known_word words) err err' ending (rooms.why new) status
+        → Cut ending status
+    cut_of ending may broke says =
+        let did = done_as (replied (said Done broke.text)) broke.ends in record {
+          streams = may;
+          text = broke.text;
+          is = did.ends.reply;
+          breaks = breaks_at outs errs (known_word words) out out' err err' (rooms.why new)
+              status ending broke.text broke.no_reply broke.prefix says;
+          made = λ is_modelled. (did.made is_modelled).left;
+        }
+
+    pub streamed_run : (result : Result (Result (Unit {0}) Failed) Stop) → asked.streams ≡ true
+        → Streams outs out out' DoneSo result
+        → SaysWritten errs (known_word words) err err' result (rooms.why new) status
+        → (ending : Ending) × (DoneSo ending × (Out ending status ⊎ Cut ending status))
+    streamed_run (Ok (Ok done)) may is says = (
+      replied (said Done is.text),
+      (is.ends, inl (inl (record { code = says.0; text = is.written; line = says.1 }))),
+    )
+    streamed_run (Ok (Err failed)) may is says = (
+      replied (said Done is.text),
+      (
+        is.ends,
+        inl (inr (record {
+          code = says.0;
+          some = is.some;
+          cause = is.cause;
+          prefix = is.prefix;
+          line = says.1;
+        })),
+      ),
+    )
+    streamed_run (Err stop) may is says = (
+      stop_ending stop,
+      (
+        is.0,
+        elim is.1 [
+          | inl nothing ↦ inl (says_nothing outs errs (known_word words) out out' err err'
+              (rooms.why new) status stop nothing says)
+          | inr broke ↦ inr (cut_of (stop_ending stop) may broke says)
+        ],
+      ),
+    )

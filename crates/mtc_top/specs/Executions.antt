@@ -1,7 +1,7 @@
 -- Executions: what happens to a file system, one run after the other, with stops of the machine
 -- between the runs and in the middle of one, with programs that are killed, and with other files
 -- that change between runs. What happens to one journal are events of it.
-use Rattle.std.specs.Prelude.{◌≡◌, ◌⊎◌, List, [], ◌∷◌}
+use Rattle.std.specs.Prelude.{◌≡◌, ◌⊎◌, true, List, [], ◌∷◌}
 use Rattle.byte_formats.specs.Types.{HashFunction, Text}
 use Rattle.disk_core.specs.declared.disk.Disk.{Ghosts as Disks}
 use Rattle.mtc_io.specs.declared.sink.Sink.{Ghosts as Sinks}
@@ -10,7 +10,7 @@ use Rattle.file_events.specs.Events.{all_released, FirstHolds, WereHeld}
 use Rattle.file_events.specs.Histories.{RepresentsPending}
 use Rattle.file_events.specs.Owners.{journal_file}
 pub use Rattle.file_events.specs.Worlds.{Run, FileEvent}
-use Rattle.file_events.specs.Worlds.{Program, own_events, states_of, FileOwner}
+use Rattle.file_events.specs.Worlds.{Program, breaks_off, own_events, states_of, FileOwner}
 use Rattle.party_history.specs.Laws.{LeadsTo, released_bodies}
 use Rattle.party_history.specs.Parties.{HistoryState}
 use Rattle.party_history.specs.Rules.{AreRecords, StartsWith, may_follow}
@@ -41,6 +41,14 @@ program {R} {S} {D} {O} {E} h rooms disks outs errs = record {
 -- standard output failed.
 pub record HasPrinted (p : Program) (run : Run p.R p.O p.E) (text : Text) : Type 0 where
   pub ends : (run.status ≡ 0) ⊎ (run.status ≡ 6)
+  pub prefix : PrintsPrefix p.outs run.out run.out_after text
+  pub whole : run.status ≡ 0 → Prints p.outs run.out run.out_after text
+
+-- A prefix of this text went out of a run by a command that may write while it reads its journal:
+-- the whole with status 0; with 6 what came before standard output failed; and with 5 or 8 what
+-- came before a file failed or memory was refused.
+pub record HasStreamed (p : Program) (run : Run p.R p.O p.E) (text : Text) : Type 0 where
+  pub ends : (run.status ≡ 0) ⊎ ((run.status ≡ 6) ⊎ (breaks_off run.status ≡ true))
   pub prefix : PrintsPrefix p.outs run.out run.out_after text
   pub whole : run.status ≡ 0 → Prints p.outs run.out run.out_after text
 

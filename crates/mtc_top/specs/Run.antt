@@ -31,9 +31,10 @@ module _ {R S D O E : Type 0} (h : HashFunction) (rooms : Rooms R S D) (disks : 
   abbrev pub journals : Journals
   journals = done_with asked.journals (asked.outcome (rooms.file old)).journals
 
-  -- A command that may write while it reads its journals was cut off: it had begun to write the
-  -- text that is asked for, and then a file failed, or memory was refused. A prefix of the text
-  -- went out, and a line. It has done with its journals all that is asked.
+  -- A command that may write while it reads its journals was cut off: a file failed, or memory was
+  -- refused, while it wrote. A prefix of its text went out, maybe none of it, and a line. Where the
+  -- contents of all files are known the text is the one that is asked for, and the command has done
+  -- with its journals all that is asked.
   pub record CutOff (ending : Ending) (status : ℕ) : Type 0 where
     pub streams : asked.streams ≡ true
     pub text : Text

@@ -4,13 +4,14 @@ ghost use Rattle.std.specs.Prelude.{◌≡◌, ◌⊎◌, ◌++◌, Some, codes,
 ghost use Rattle.hex.specs.Hex.{encode_lower};
 ghost use Rattle.mtc_io.specs.Counts.{Rose};
 ghost use Rattle.mtc_command.specs.Answers.{said, said_code, stopped_code, ending_of, more_text};
-ghost use Rattle.mtc_command.specs.Answers.{reason_text, tiles_name};
+ghost use Rattle.mtc_command.specs.Answers.{reason_text, stop_ending, tiles_name};
 ghost use Rattle.mtc_command.specs.Lines.{line_of, of_command, WritesLine};
-ghost use Rattle.mtc_top.specs.Concluded.{Wrote, Lost, Concludes, word_of};
+ghost use Rattle.mtc_top.specs.Concluded.{Wrote, Lost, Concludes, SaysEnding, SaysWritten, word_of};
 
 use itoa::Buffer;
 use mtc_command::{Answer, More, Reason, Said, Stop, Stopped};
 use mtc_io::{Failed, Sink, write_all, write_pieces};
+use mtc_lines::Written;
 use mtc_room::Cause;
 
 const ROOM_FAILED: u8 = 5;
@@ -190,6 +191,60 @@ fn write_answer<O: Sink, E: Sink>(command: &str, out: &mut O, err: &mut E, answe
     }
 }
 
+// Writes why a command was stopped, and answers the status. If the file system failed, the line
+// says why.
+fn report<E: Sink>(command: &str, stop: Stop, cause: Cause, err: &mut E) -> u8
+    ensures { SaysEnding E.Sink command.now err.old err.new (stop_ending stop.entry) cause result }
+{
+    match stop {
+        Stop::Refused(refusal) => {
+            write_line(err, command, refusal.file, refusal.reason);
+            code_stopped(refusal.why)
+        }
+        Stop::Room(file) => {
+            write_line(err, command, Some(file), Reason::named(word_of(cause)));
+            ROOM_FAILED
+        }
+        Stop::Tiles(journal) => {
+            write_tiles_line(err, command, journal, Reason::named(word_of(cause)));
+            ROOM_FAILED
+        }
+        Stop::BadTile {
+            journal,
+            level,
+            place,
+        } => {
+            let reason = Reason::with_numbers("BadTile", u64::from(level), place);
+            write_tiles_line(err, command, journal, reason);
+            code_stopped(Stopped::BadForm)
+        }
+        Stop::Memory => {
+            write_line(err, command, None, Reason::named("Memory"));
+            NO_MEMORY
+        }
+    }
+}
+
+/// Writes what is left to say of a command that has written its text itself, and answers the
+/// status.
+pub fn conclude_written<E: Sink>(
+    command: &str,
+    ended: Result<Written, Stop>,
+    cause: Cause,
+    err: &mut E,
+) -> u8
+    ensures { SaysWritten E.Sink command.now err.old err.new ended.entry cause result }
+{
+    match ended {
+        Ok(Ok(())) => code_said(Said::Done),
+        Ok(Err(Failed)) => {
+            write_line(err, command, None, Reason::named("OutputFailed"));
+            OUTPUT_FAILED
+        }
+        Err(stop) => report(command, stop, cause, err),
+    }
+}
+
 /// Writes what a command ended with, and answers the status. If the file system failed, the line
 /// says why.
 pub fn conclude<O: Sink, E: Sink>(
@@ -204,32 +259,6 @@ pub fn conclude<O: Sink, E: Sink>(
 {
     match ended {
         Ok(answer) => write_answer(command, out, err, &answer),
-        Err(Stop::Refused(refusal)) => {
-            write_line(err, command, refusal.file, refusal.reason);
-            code_stopped(refusal.why)
-        }
-        Err(Stop::Room(file)) => {
-            write_line(err, command, Some(file), Reason::named(word_of(cause)));
-            ROOM_FAILED
-        }
-        Err(Stop::Tiles(journal)) => {
-            write_tiles_line(err, command, journal, Reason::named(word_of(cause)));
-            ROOM_FAILED
-        }
-        Err(
-            Stop::BadTile {
-                journal,
-                level,
-                place,
-            },
-        ) => {
-            let reason = Reason::with_numbers("BadTile", u64::from(level), place);
-            write_tiles_line(err, command, journal, reason);
-            code_stopped(Stopped::BadForm)
-        }
-        Err(Stop::Memory) => {
-            write_line(err, command, None, Reason::named("Memory"));
-            NO_MEMORY
-        }
+        Err(stop) => report(command, stop, cause, err),
     }
 }

@@ -7,12 +7,13 @@
 //! comes out, or that something outside failed.
 #![tactic(auto)]
 
+mod ending;
 mod finish;
 mod refused_words;
 mod stopping;
 mod top;
 
-pub use finish::conclude;
+pub use finish::{conclude, conclude_written};
 pub use mtc_room::{MemRoom, Room, RoomError};
 pub use stopping::stop_leaving;
 pub use top::run;

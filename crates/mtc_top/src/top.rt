@@ -1,7 +1,7 @@
 //! The program's one call: the arguments, the work, and what goes out.
 
 ghost use Rattle.std.specs.Prelude.{◌≡◌, ◌<◌, ◌^◌, ◌+◌, [], ◌++◌, map, string_bytes, IfSome};
-ghost use Rattle.std.specs.Prelude.{IsErr, None};
+ghost use Rattle.std.specs.Prelude.{IsErr, None, false};
 ghost use Rattle.mtc_words.specs.Commands.{command_value, journal_of, IsInRange};
 ghost use Rattle.mtc_words.specs.Words.{command_of};
 ghost use Rattle.mtc_command.specs.Answers.{ending_of};
@@ -13,11 +13,14 @@ ghost use Rattle.mtc_command.specs.Stored.{StoresBeside};
 ghost use Rattle.mtc_command.specs.Valid.{KeepsValid};
 ghost use Rattle.mtc_command.specs.Works.{ModelsNew};
 ghost use Rattle.mtc_plans.specs.Cited.{command_outcome};
+ghost use Rattle.mtc_plans.specs.Words.{streams};
 ghost use Rattle.mtc_top.specs.Cited.{spoken_outcome};
+ghost use Rattle.mtc_top.specs.Ended.{HasCarriedOut};
 ghost use Rattle.mtc_top.specs.Facts.{facts, facts_of};
 ghost use Rattle.mtc_top.specs.Run.{HasRun};
 
-use crate::finish::conclude;
+use crate::ending::Ended;
+use crate::finish::{conclude, conclude_written};
 use crate::refused_words::word_reason;
 use mtc_authority::cert::cert;
 use mtc_authority::init_log::init_log;
@@ -100,7 +103,8 @@ fn perform_reading<'a, H: TreeHash, R: Room>(
     }
 }
 
-// Carries out a command. There is one arm for each, here or in `perform_reading`.
+// Carries out a command whose text is written once all else is done. There is one arm for each,
+// here or in `perform_reading`.
 fn perform<'a, H: TreeHash, R: Room>(
     alloc: Global,
     room: &mut R,
@@ -108,6 +112,7 @@ fn perform<'a, H: TreeHash, R: Room>(
 ) -> Result<Answer, Stop<'a>>
     requires opened { R.opened room.old + 1 < 2 ^ 32 }
     requires range { IsInRange (command_value command) }
+    requires kept { streams (command_value command) ≡ false }
     ensures done { let asked = facts_of H.hash (command_value command.entry) in
         HasDone R.Room R.Dsk.Disk ⊥ (asked.journals ++ (asked.besides ++ asked.inputs))
         asked.journals asked.besides
@@ -147,7 +152,7 @@ fn perform<'a, H: TreeHash, R: Room>(
         }
         Command::Advance(journal, request) => advance::<H, R>(alloc, room, journal, request),
         Command::Cosign(journal, request) => cosign::<H, R>(alloc, room, journal, request),
-        Command::Export(journal) => export::<H, R>(alloc, room, journal),
+        Command::Export(_) => unreachable!(),
         Command::Landmark(log) => on_log::<H, R>(alloc, room, log, Work::Landmark),
         Command::Landmarks(log) => on_log::<H, R>(alloc, room, log, Work::Landmarks),
         Command::LightCert(log, index) => on_log::<H, R>(alloc, room, log, Work::LightCert(index)),
@@ -160,24 +165,63 @@ fn perform<'a, H: TreeHash, R: Room>(
     }
 }
 
+// Carries out a command: one that may write while it reads writes its text itself.
+fn carry_out<'a, H: TreeHash, R: Room, O: Sink>(
+    alloc: Global,
+    room: &mut R,
+    command: Command<'a>,
+    out: &mut O,
+) -> Ended<'a>
+    requires opened { R.opened room.old + 1 < 2 ^ 32 }
+    requires range { IsInRange (command_value command) }
+    ensures done { let asked = facts_of H.hash (command_value command.entry) in
+        HasCarriedOut O.Sink out.old out.new asked.streams (λ ending.
+        HasDone R.Room R.Dsk.Disk ⊥ (asked.journals ++ (asked.besides ++ asked.inputs))
+        asked.journals asked.besides
+        (command_outcome H.hash (command_value command.entry) (R.file room.old)) room.old room.new
+        ending × IfSome asked.makes (λ name.
+        ModelsNew R.Room R.Dsk.Disk name room.old room.new ending)) result }
+    ensures valid { let asked = facts_of H.hash (command_value command.entry) in
+        KeepsValid R.Room R.Dsk.Disk asked.Valid asked.journals
+        (command_outcome H.hash (command_value command.entry) (R.file room.old))
+        room.old room.new }
+    ensures only_read { R.is_modelled room.old → LeavesEach R.Room R.Dsk.Disk room.old room.new
+        (done_with (facts_of H.hash (command_value command.entry)).only_reads []) HasKept }
+    ensures spares { let asked = facts_of H.hash (command_value command.entry) in
+        OfEach (λ name did. SparesTiles R.Room room.old room.new name)
+        (done_with asked.journals
+        (command_outcome H.hash (command_value command.entry) (R.file room.old)).journals) }
+    ensures stores { let asked = facts_of H.hash (command_value command.entry) in
+        StoresBeside (HasTilesOf H.hash) asked.Valid R.Room R.Dsk.Disk room.old room.new
+        asked.journals asked.besides
+        (command_outcome H.hash (command_value command.entry) (R.file room.old)) }
+{
+    match command {
+        Command::Export(journal) => Ended::Written(export::<H, R, O>(alloc, room, journal, out)),
+        _ => Ended::Kept(perform::<H, R>(alloc, room, command)),
+    }
+}
+
 // Reads the arguments, and carries out what they say.
-fn answer<'a, H: TreeHash, R: Room>(
+fn answer<'a, H: TreeHash, R: Room, O: Sink>(
     alloc: Global,
     words: &'a [String],
     room: &mut R,
-) -> Result<Answer, Stop<'a>>
+    out: &mut O,
+) -> Ended<'a>
     requires { R.opened room.old + 1 < 2 ^ 32 }
     ensures done { let said = command_of (map string_bytes words.now) in
         let asked = facts H.hash said in
+        HasCarriedOut O.Sink out.old out.new asked.streams (λ ending.
         HasDone R.Room R.Dsk.Disk (IsErr said)
         (asked.journals ++ (asked.besides ++ asked.inputs)) asked.journals asked.besides
-        (spoken_outcome H.hash said (R.file room.old)) room.old room.new (ending_of result) }
+        (spoken_outcome H.hash said (R.file room.old)) room.old room.new ending
+        × IfSome asked.makes (λ name.
+        ModelsNew R.Room R.Dsk.Disk name room.old room.new ending)) result }
     ensures valid { let said = command_of (map string_bytes words.now) in
         let asked = facts H.hash said in
         KeepsValid R.Room R.Dsk.Disk asked.Valid asked.journals
         (spoken_outcome H.hash said (R.file room.old)) room.old room.new }
-    ensures began { IfSome (facts H.hash (command_of (map string_bytes words.now))).makes (λ name.
-        ModelsNew R.Room R.Dsk.Disk name room.old room.new (ending_of result)) }
     ensures only_read { R.is_modelled room.old → LeavesEach R.Room R.Dsk.Disk room.old room.new
         (done_with (facts H.hash (command_of (map string_bytes words.now))).only_reads []) HasKept }
     ensures spares { let said = command_of (map string_bytes words.now) in
@@ -190,9 +234,9 @@ fn answer<'a, H: TreeHash, R: Room>(
         asked.journals asked.besides (spoken_outcome H.hash said (R.file room.old)) }
 {
     match read_words(alloc, words) {
-        Ok(command) => perform::<H, R>(alloc, room, command),
-        Err(WordError::Memory) => Err(Stop::Memory),
-        Err(why) => Err(refuse(Stopped::BadWords, word_reason(why))),
+        Ok(command) => carry_out::<H, R, O>(alloc, room, command, out),
+        Err(WordError::Memory) => Ended::Kept(Err(Stop::Memory)),
+        Err(why) => Ended::Kept(Err(refuse(Stopped::BadWords, word_reason(why)))),
     }
 }
 
@@ -209,7 +253,9 @@ fn answer<'a, H: TreeHash, R: Room>(
 /// there already; 8 memory was refused; 9 an input is over its limit, or the log or a journal takes
 /// no more. Tests come in the order of the program's steps: the arguments, the input files, their
 /// grammars (a certificate's with its judgement), the journal, the log's tiles, and the command's
-/// own. A failure of `err` changes no status.
+/// own. A failure of `err` changes no status. `export` writes while it reads its journal: with 5
+/// and 8 a prefix of its text may have gone out, after all that it does with the journal but read
+/// it.
 ///
 /// What follows of each run, and how it ends as steps of a party, is [`crate::law_runs_are_steps`].
 pub fn run<H: TreeHash, R: Room, O: Sink, E: Sink>(
@@ -223,6 +269,8 @@ pub fn run<H: TreeHash, R: Room, O: Sink, E: Sink>(
     ensures { HasRun H.hash R.Room R.Dsk.Disk O.Sink E.Sink (map string_bytes words.now)
         room.old room.new out.old out.new err.old err.new result }
 {
-    let ended = answer::<H, R>(alloc, words, room);
-    conclude(command_word(words), ended, room.cause(), out, err)
+    match answer::<H, R, O>(alloc, words, room, out) {
+        Ended::Kept(ended) => conclude(command_word(words), ended, room.cause(), out, err),
+        Ended::Written(ended) => { conclude_written(command_word(words), ended, room.cause(), err) }
+    }
 }

@@ -23,12 +23,3 @@ returns-in-Ok-clause-works g c =
     (cosigner_disk c.cosign_on-answer.new.cosigner) c.into_disk-in-Ok.result
     c.into_disk-in-Ok.ensures (ending_of c.cosign_on-answer.result)
     (rw c.in-Cosign.is c.cosign_on-answer.ensures.works)
-
-pub returns-in-Ok-with_key-clause-works : goal.returns-in-Ok-with_key-clause-works
-unfolding Rattle.mtc_cosigner.specs.Works.cosigner_says
-returns-in-Ok-with_key-clause-works g c =
-    with_key g.D.Disk c.args.journal.now (cosigner_says g.H.TreeHash.hash c.args.work.now)
-    (keyless_owner c.args.keyless) (cosigner_owner c.in-Ok-with_key.cosigner)
-    c.in-Ok-with_key.ensures.ok (cosigner_disk c.export_on-answer.new.cosigner)
-    c.into_disk-in-Ok-with_key.result c.into_disk-in-Ok-with_key.ensures
-    (ending_of c.export_on-answer.result) (rw c.in-Export.is c.export_on-answer.ensures.works)

@@ -1,5 +1,4 @@
-use Rattle.std.proofs.Common.{◌≡◌, ℕ, List, [], ◌∷◌, None, refl, sym}
-use Rattle.mtc_room.specs.declared.room.Room.{Ghosts as Rooms}
+use Rattle.std.proofs.Common.{◌≡◌, None, refl}
 use Rattle.mtc_words.specs.Commands.{command_value, journal_of}
 use Rattle.mtc_words.specs.declared.command.Command.{Command}
 use Rattle.mtc_words.specs.declared.command.Command.TheVariants.{Member, Show, Verify, InitLog}
@@ -12,17 +11,8 @@ use Rattle.mtc_words.specs.declared.command.Command.TheVariants.{TrustLandmarks,
 use Rattle.mtc_words.specs.declared.command.Command.TheVariants.{Quarrel, Drill, Tile, Switch}
 use Rattle.mtc_words.specs.declared.command.Command.TheVariants.{Root, Held, MonitorInit, Monitor}
 use Rattle.mtc_words.specs.declared.command.Command.TheVariants.{Help, Version}
-use Rattle.mtc_command.proofs.Beside.{longer_other}
-use Rattle.mtc_command.specs.Answers.{tiles_name}
-use Rattle.mtc_command.specs.Served.{ClosesAll}
-use Rattle.mtc_authority.specs.NoJournal.{SparesTiles}
+use Rattle.mtc_top.proofs.Spared.{spared}
 use Rattle.mtc_top.proofs.top.perform.Goals as goal
-
--- a command that names no file of tiles leaves each
-spared : {R S D : Type 0} (rooms : Rooms R S D) (old new : R) (name : List ℕ)
-    → ClosesAll rooms old new (name ∷ []) → SparesTiles rooms old new name
-spared rooms old new name closes = λ t not. closes.others (tiles_name name)
-    (λ (same : tiles_name name ≡ name). longer_other name (sym same), tt)
 
 pub returns-in-InitLog-clause-valid : goal.returns-in-InitLog-clause-valid
 returns-in-InitLog-clause-valid g c =
@@ -57,10 +47,6 @@ pub returns-in-Cosign-clause-spares : goal.returns-in-Cosign-clause-spares
 returns-in-Cosign-clause-spares g c = rw c.in-Cosign.is
     (spared g.R.Room c.args.room.now c.cosign.new.room _ c.cosign.ensures.serves.back, tt)
 
-pub returns-in-Export-clause-spares : goal.returns-in-Export-clause-spares
-returns-in-Export-clause-spares g c = rw c.in-Export.is
-    (spared g.R.Room c.args.room.now c.export.new.room _ c.export.ensures.serves.back, tt)
-
 pub returns-in-InitLog-clause-stores : goal.returns-in-InitLog-clause-stores
 returns-in-InitLog-clause-stores g c = rw c.in-InitLog.is (λ t. (λ named. absurd named, tt))
 
@@ -73,9 +59,6 @@ returns-in-Advance-clause-stores g c = rw c.in-Advance.is (λ t. (λ named. absu
 
 pub returns-in-Cosign-clause-stores : goal.returns-in-Cosign-clause-stores
 returns-in-Cosign-clause-stores g c = rw c.in-Cosign.is (λ t. (λ named. absurd named, tt))
-
-pub returns-in-Export-clause-stores : goal.returns-in-Export-clause-stores
-returns-in-Export-clause-stores g c = rw c.in-Export.is (λ t. (λ named. absurd named, tt))
 
 -- a command that no arm took before has no journal
 pub perform_reading-requires-clause-alone : goal.perform_reading-requires-clause-alone

@@ -1,11 +1,26 @@
-use Rattle.mtc_top.proofs.Runs.{planned_run}
+use Rattle.std.proofs.Common.{inl}
+use Rattle.mtc_top.proofs.Runs.{planned_run, streamed_run}
 use Rattle.mtc_top.proofs.top.run.Goals as goal
 
-pub returns : goal.returns
-returns g c =
-    let done = c.answer-ended.ensures in
+pub returns-in-Kept : goal.returns-in-Kept
+returns-in-Kept g c =
+    let did = c.answer.ensures in
+    let done = c.in-Kept.ensures.done in
     planned_run g.H.TreeHash.hash g.R.Room g.R.Dsk.Disk g.O.Sink g.E.Sink _ _ _ _ _ _ _ _ _
-    done.done done.valid done.only_read done.spares done.stores done.began (rw (
+    done.0 did.valid did.only_read did.spares did.stores (inl (rw (
       ← c.command_word.ensures,
       ← c.cause.ensures,
-    ) c.conclude.ensures)
+      ← done.1,
+    ) c.conclude.ensures))
+
+pub returns-in-Written : goal.returns-in-Written
+returns-in-Written g c =
+    let did = c.answer.ensures in
+    let done = c.in-Written.ensures.done in
+    let so = streamed_run g.H.TreeHash.hash g.R.Room g.R.Dsk.Disk g.O.Sink g.E.Sink _ _ _ _ _ _ _ _
+    c.in-Written.ended done.0 done.1 (rw (
+      ← c.command_word-in-Written.ensures,
+      ← c.cause-in-Written.ensures,
+    ) c.conclude_written.ensures) in
+    planned_run g.H.TreeHash.hash g.R.Room g.R.Dsk.Disk g.O.Sink g.E.Sink _ _ _ _ _ _ _ _ _
+    so.1.0 did.valid did.only_read did.spares did.stores so.1.1

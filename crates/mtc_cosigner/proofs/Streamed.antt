@@ -1,0 +1,149 @@
+-- What goes out of `export`, over a cosigner whose records the model knows, or doesn't know.
+use Rattle.std.proofs.Common.{◌≡◌, ◌<◌, inl, inr, ℕ, List, [], ◌∷◌, ◌++◌, drop, length, None}
+use Rattle.std.proofs.Common.{Option, Some}
+use Rattle.std.proofs.Common.{IfSome, Ok, Err, refl, sym, subst, ap, arith, length-append, ◌⊎◌}
+use Rattle.std.proofs.lemmas.Option.{IfSome_then}
+use Rattle.std.specs.Io.KnownBytes.{Appends}
+use Rattle.std.specs.Int.{w8, w16, to_be_bytes}
+use Rattle.byte_formats.specs.Types.{Text}
+use Rattle.byte_formats.proofs.Values.{each_some}
+use Rattle.tls_wire.specs.Encoding.{vector}
+use Rattle.disk_core.specs.Times.{OnlyReads}
+use Rattle.disk_core.specs.declared.disk.Disk.{Ghosts}
+use Rattle.mtc_io.specs.Counts.{Rose}
+use Rattle.mtc_io.specs.Streams.{AppendsPrefix}
+use Rattle.mtc_io.specs.declared.fault.Failed.{Failed}
+use Rattle.mtc_io.specs.declared.sink.Sink.{Ghosts as Sinks}
+use Rattle.mtc_io.proofs.Streams.{prefix_whole}
+use Rattle.journal_core.specs.Copies.{AppendsSome, HasCopyCause}
+use Rattle.journal_core.specs.declared.error.CopyError.{CopyError}
+use Rattle.journal_core.specs.declared.error.CopyError.TheVariants.{Read, Write}
+use Rattle.journal_core.specs.Owners.{Owner}
+use Rattle.journal_core.proofs.Copies.{prefix_of_prefix}
+use Rattle.hss_core.specs.Hss.{one_level_public}
+use Rattle.cosigner_core.specs.Exports.{export_text, prefix_text, records_text}
+use Rattle.cosigner_core.specs.Folds.{CosignerState}
+use Rattle.mtc_command.specs.Answers.{Ending, replied, room_failed, said, stop_ending}
+use Rattle.mtc_command.specs.declared.answer.Said.TheVariants.{Done}
+use Rattle.mtc_command.specs.declared.answer.Stop.{Stop}
+use Rattle.mtc_lines.specs.Outputs.{BrokeItsText, Streams}
+use Rattle.mtc_cosigner.specs.CosignerOutcomes.{export_says}
+use Rattle.mtc_cosigner.specs.Works.{HasWorkedOnCosigner}
+
+-- an export has the lengths of the ids at least
+some_export : (s : CosignerState) (list : List Text) → 0 < length (export_text s list)
+some_export s list = omega (
+  arith,
+  length-append (prefix_text s.id s.log (one_level_public s.key.key)) (records_text (drop 1 list)),
+  length-append (vector w8 s.id) (vector w8 s.log ++ vector w16 (one_level_public s.key.key)),
+  length-append (to_be_bytes w8 (length s.id)) s.id,
+)
+
+-- which count rose
+pub read_rose : (disk sink read written : ℕ) (why : CopyError) → why ≡ Read
+    → HasCopyCause {T = Unit {0}} disk sink read written (Err why) → Rose disk read
+read_rose disk sink read written Read is cause = cause.0
+read_rose disk sink read written Write is cause = absurd cc
+
+pub write_rose : (disk sink read written : ℕ) (why : CopyError) → why ≡ Write
+    → HasCopyCause {T = Unit {0}} disk sink read written (Err why) → Rose sink written
+write_rose disk sink read written Read is cause = absurd cc
+write_rose disk sink read written Write is cause = cause.1
+
+-- a text is the export, if the records are known, and this holds of it
+record IsExport (s : CosignerState) (records : Option (List Text)) (Holds : Text → Type 0)
+    : Type 0 where
+  pub text : Text
+  pub is : IfSome records (λ list. text ≡ export_text s list)
+  pub holds : Holds text
+
+module _ {D O : Type 0} (g : Ghosts D) (outs : Sinks O) (name : Text) (it : Owner D CosignerState)
+    (new : D) (only : OnlyReads g it.disk new) (out out' : O)
+    (grows : AppendsSome (outs.taken out) (outs.taken out')) where
+  abbrev Does : Ending → Type 0
+  Does = HasWorkedOnCosigner g name export_says it new
+
+  -- ---- what was done
+
+  does_reply : (text : Text) → IfSome it.records (λ list. text ≡ export_text it.state list)
+      → Does (replied (said Done text))
+  does_reply text is = record {
+    ends = record { plain = λ one. absurd cc; later = only.faults; fault = tt };
+    reply = IfSome_then it.records is (λ list same. ap (λ (t : Text). said Done t) same);
+    adds = each_some _ it.records (λ list opened. (opened, inr only));
+  }
+
+  does_fail : Rose (g.faults it.disk) (g.faults new) → Does (room_failed name)
+  does_fail rose = record {
+    ends = record { plain = tt; later = only.faults; fault = (rose, inl refl) };
+    reply = tt;
+    adds = each_some _ it.records (λ list opened. (opened, inr only));
+  }
+
+  -- ---- what went out
+
+  -- all of it
+  written_of : (records : Option (List Text))
+      → IfSome records (λ list. Appends (outs.taken out) (outs.taken out')
+      (export_text it.state list))
+      → IsExport it.state records (Appends (outs.taken out) (outs.taken out'))
+  written_of None is = record { text = grows.0; is = tt; holds = grows.1 }
+  written_of (Some list) is = record { text = export_text it.state list; is = refl; holds = is }
+
+  -- or a prefix
+  abbrev Prefix : Text → Type 0
+  Prefix text = AppendsPrefix (outs.taken out) (outs.taken out') text × (0 < length text)
+
+  prefix_of : (records : Option (List Text))
+      → IfSome records (λ list. AppendsPrefix (outs.taken out) (outs.taken out')
+      (export_text it.state list))
+      → IsExport it.state records Prefix
+  prefix_of None is = record {
+    text = grows.0 ++ 0 ∷ [];
+    is = tt;
+    holds = (
+      prefix_of_prefix _ _ grows.0 (0 ∷ []) (prefix_whole _ _ grows.0 grows.1),
+      omega (arith, length-append grows.0 (0 ∷ [])),
+    );
+  }
+  prefix_of (Some list) is = record {
+    text = export_text it.state list;
+    is = refl;
+    holds = (is, some_export it.state list);
+  }
+
+  pub export_written : IfSome it.records
+      (λ list. Appends (outs.taken out) (outs.taken out') (export_text it.state list))
+      → (done : Unit {0}) → Streams outs out out' Does (Ok (Ok done))
+  export_written is done =
+      let whole = written_of it.records is in
+      record { text = whole.text; ends = does_reply whole.text whole.is; written = whole.holds }
+
+  module _ (is : IfSome it.records (λ list. AppendsPrefix (outs.taken out) (outs.taken out')
+      (export_text it.state list))) where
+    part : IsExport it.state it.records Prefix
+    part = prefix_of it.records is
+
+    pub export_lost : Rose (outs.faults out) (outs.faults out') → (failed : Failed)
+        → Streams outs out out' Does (Ok (Err failed))
+    export_lost cause failed = record {
+      text = part.text;
+      ends = does_reply part.text part.is;
+      some = part.holds.1;
+      cause = cause;
+      prefix = part.holds.0;
+    }
+
+    pub export_broken : Rose (g.faults it.disk) (g.faults new) → (stop : Stop)
+        → stop_ending stop ≡ room_failed name → Streams outs out out' Does (Err stop)
+    export_broken rose stop is_failure = subst (λ (e : Ending). Does e
+        × (Appends (outs.taken out) (outs.taken out') [] ⊎ BrokeItsText outs out out' Does e))
+        (sym is_failure) (
+          does_fail rose,
+          inr (record {
+            no_reply = tt;
+            text = part.text;
+            ends = does_reply part.text part.is;
+            prefix = part.holds.0;
+          }),
+        )
