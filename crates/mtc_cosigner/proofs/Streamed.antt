@@ -20,7 +20,7 @@ use Rattle.journal_core.specs.declared.error.CopyError.{CopyError}
 use Rattle.journal_core.specs.declared.error.CopyError.TheVariants.{Read, Write}
 use Rattle.journal_core.specs.Owners.{Owner}
 use Rattle.journal_core.proofs.Copies.{prefix_of_prefix}
-use Rattle.hss_core.specs.Hss.{one_level_public}
+use Rattle.hss_keys.specs.Keys.{public_of}
 use Rattle.cosigner_core.specs.Exports.{export_text, prefix_text, records_text}
 use Rattle.cosigner_core.specs.Folds.{CosignerState}
 use Rattle.mtc_command.specs.Answers.{Ending, replied, room_failed, said, stop_ending}
@@ -34,8 +34,8 @@ use Rattle.mtc_cosigner.specs.Works.{HasWorkedOnCosigner}
 some_export : (s : CosignerState) (list : List Text) → 0 < length (export_text s list)
 some_export s list = omega (
   arith,
-  length-append (prefix_text s.id s.log (one_level_public s.key.key)) (records_text (drop 1 list)),
-  length-append (vector w8 s.id) (vector w8 s.log ++ vector w16 (one_level_public s.key.key)),
+  length-append (prefix_text s.id s.log (public_of s.key.key)) (records_text (drop 1 list)),
+  length-append (vector w8 s.id) (vector w8 s.log ++ vector w16 (public_of s.key.key)),
   length-append (to_be_bytes w8 (length s.id)) s.id,
 )
 

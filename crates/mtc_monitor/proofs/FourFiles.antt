@@ -1,15 +1,15 @@
 -- A command after each of the four files that it reads.
-use Rattle.std.proofs.Common.{◌≡◌, ◌≤◌, ℕ, List, [], ◌∷◌, length, Option, Some, ap, sym, subst, ◌∙◌}
+use Rattle.std.proofs.Common.{◌≡◌, ◌≤◌, ℕ, List, [], ◌∷◌, length, Option, Some, inl, inr, refl, ap}
+use Rattle.std.proofs.Common.{subst, ◌∙◌, arith}
 use Rattle.disk_core.specs.declared.disk.Disk.{Ghosts as Disks}
 use Rattle.mtc_room.specs.declared.room.Room.{Ghosts as Rooms}
 use Rattle.byte_formats.specs.Types.{Text}
 use Rattle.mtc_command.specs.Answers.{Ending}
 use Rattle.mtc_command.specs.Served.{ClosesAll, HasAnswered}
 use Rattle.mtc_command.specs.Steps.{Outcome, with_bytes}
-use Rattle.mtc_command.specs.Endings.{Replies}
-use Rattle.mtc_command.proofs.Inputs.{after_file, bytes_read}
-use Rattle.mtc_command.proofs.Made.{OnlyNow}
-use Rattle.mtc_command.proofs.Served.{answered}
+use Rattle.mtc_command.specs.Endings.{IsNamed, Replies}
+use Rattle.mtc_command.proofs.Inputs.{after_file}
+use Rattle.mtc_command.proofs.Served.{following}
 
 module _ (says : Text → Text → Text → Text → Outcome) (one two three four : Text) where
   -- What is to be answered where the files from here on hold this, and the bytes of the ones before
@@ -30,13 +30,16 @@ module _ (says : Text → Text → Text → Text → Outcome) (one two three fou
   names = one ∷ two ∷ three ∷ four ∷ []
 
   -- the bytes that were read are these
-  replies_so : (sa sb sc sd a b c d : Text) (ending : Ending) → sa ≡ a → sb ≡ b → sc ≡ c → sd ≡ d
-      → Replies (says sa sb sc sd).answer ending → Replies (says a b c d).answer ending
-  replies_so sa sb sc sd a b c d ending is_a is_b is_c is_d replies =
-      subst (λ t. Replies (says a b c t).answer ending) is_d
-      (subst (λ t. Replies (says a b t sd).answer ending) is_c
-      (subst (λ t. Replies (says a t sc sd).answer ending) is_b
-      (subst (λ t. Replies (says t sb sc sd).answer ending) is_a replies)))
+  module _ (sa sb sc a b c : Text) (is_a : sa ≡ a) (is_b : sb ≡ b) (is_c : sc ≡ c) where
+    pub says_so : (d : Text) → says sa sb sc d ≡ says a b c d
+    says_so d =
+        ap (λ t. says t sb sc d) is_a
+        ∙ ap (λ t. says a t sc d) is_b
+        ∙ ap (λ t. says a b t d) is_c
+
+    pub replies_so : (ending : Ending) (d : Text) → Replies (says sa sb sc d).answer ending
+        → Replies (says a b c d).answer ending
+    replies_so ending d = subst (λ (w : Outcome). Replies w.answer ending) (says_so d)
 
   module _ {R S D : Type 0} (rooms : Rooms R S D) (disks : Disks D) (old mid new : R)
       (ending : Ending) (back : ClosesAll rooms old mid []) where
@@ -80,16 +83,30 @@ module _ (says : Text → Text → Text → Text → Outcome) (one two three fou
         ∙ ap (λ f3. from_second (rooms.file old two) f3 (rooms.file mid four) a) (same three)
         ∙ ap (λ f4. from_second (rooms.file old two) (rooms.file old three) f4 a) (same four))
 
-  -- the last file was read, and the answer given
+  -- the rest of the command reads the last file
   module _ {R S D : Type 0} (rooms : Rooms R S D) (disks : Disks D) (old new : R)
-      (ending : Ending) (back : ClosesAll rooms old new []) (only_now : OnlyNow disks) where
-    pub after_fourth : (sa sb sc sd a b c d : Text)
-        → (rooms.is_modelled old → (rooms.file old four ≡ Some d) × (length d ≤ 1073741824))
-        → sa ≡ a → sb ≡ b → sc ≡ c → sd ≡ d → Replies (says sa sb sc sd).answer ending
+      (ending : Ending) where
+    stays : ClosesAll rooms old old []
+    stays = record {
+      opened = refl;
+      later = omega arith;
+      is_modelled = λ t. t;
+      others = λ name other. record { bytes = refl; disk = refl };
+    }
+
+    among : (file : Text) → IsNamed (four ∷ []) file → IsNamed names file
+    among file is = elim is [
+      | inl same ↦ inr (inr (inr (inl same)))
+      | inr never ↦ absurd never
+    ]
+
+    pub at_fourth : (a b c : Text) (next : Text → Outcome)
+        → ((d : Text) → next d ≡ says a b c d)
+        → HasAnswered rooms disks (four ∷ [])
+        (with_bytes 1073741824 four (rooms.file old four) next) old new ending
         → HasAnswered rooms disks names (from_fourth (rooms.file old four) a b c) old new ending
-    after_fourth sa sb sc sd a b c d is is_a is_b is_c is_d replies =
-        answered rooms disks names [] [] (from_fourth (rooms.file old four) a b c) old new back
-        only_now ending (says a b c d).answer
-        (λ t. ap (λ (w : Outcome). w.answer) (sym (bytes_read 1073741824 four
-        (rooms.file old four) d (λ y. says a b c y) (is t).0 (is t).1)))
-        (replies_so sa sb sc sd a b c d ending is_a is_b is_c is_d replies)
+    at_fourth a b c next same done =
+        following rooms disks names (four ∷ []) [] [] (from_fourth (rooms.file old four) a b c)
+        (with_bytes 1073741824 four (rooms.file old four) next) old old new ending stays
+        (λ t. ap (λ (n : Text → Outcome). with_bytes 1073741824 four (rooms.file old four) n)
+        (λ i d. same d i)) among done

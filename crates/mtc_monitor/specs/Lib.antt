@@ -2,3 +2,4 @@ pub mod RootOutcome
 pub mod HeldOutcome
 pub mod MonitorOutcome
 pub mod StateFiles
+pub mod Asked

@@ -2,27 +2,33 @@
 //! monitor.
 
 ghost use Rattle.std.specs.Prelude.{◌<◌, ◌^◌, [], ◌∷◌};
+ghost use Rattle.byte_formats.specs.Types.{HashFunction, Text};
 ghost use Rattle.cosigner_core.specs.Views.{advance_parts};
-ghost use Rattle.mtc_command.specs.Answers.{ending_of};
+ghost use Rattle.entry_list.specs.Items.{ItemLists};
+ghost use Rattle.entry_stream.specs.Streams.{AreItemsOf};
+ghost use Rattle.mtc_command.specs.Answers.{ending_of, stop_ending};
 ghost use Rattle.mtc_command.specs.Endings.{Replies};
 ghost use Rattle.mtc_command.specs.Served.{HasAnswered};
+ghost use Rattle.mtc_command.specs.Steps.{Outcome, with_bytes};
 ghost use Rattle.monitor_core.specs.Monitor.{monitor_of};
+ghost use Rattle.monitor_core.specs.Watched.{HasWatched};
+ghost use Rattle.mtc_monitor.specs.Asked.{AsksFor};
 ghost use Rattle.mtc_monitor.specs.MonitorOutcome.{kept_says, monitor_init_outcome};
-ghost use Rattle.mtc_monitor.specs.MonitorOutcome.{monitor_outcome};
-ghost use Rattle.mtc_monitor.specs.MonitorOutcome.{new_items_say, new_size_says, run_says};
-ghost use Rattle.mtc_monitor.specs.MonitorOutcome.{watch_says};
+ghost use Rattle.mtc_monitor.specs.MonitorOutcome.{monitor_outcome, new_items_say, new_size_says};
+ghost use Rattle.mtc_monitor.specs.MonitorOutcome.{run_says, watch_says};
 
 use crate::reasons::{run_reason, text_reason};
 use cosigner_core::{AdvanceRequest, read_advance};
-use entry_list::{Items, ItemsError, read_items};
+use entry_list::ItemsError;
 use monitor_core::{
-    MonitorError, State, TextError, Watch, read_state, read_watch, write_found, write_state,
+    MonitorError, Run, State, TextError, Watch, read_state, read_watch, write_found, write_state,
 };
 use mtc_command::{
     Answer, INPUT_LIMIT, LIST_LIMIT, Said, Stop, Stopped, read_input, refuse, refuse_file,
 };
 use mtc_lines::{form_reason, items_reason};
 use mtc_room::Room;
+use mtc_streams::fold_input;
 use std::alloc::Global;
 use tls_wire::AnchorId;
 use tree_core::TreeHash;
@@ -37,29 +43,87 @@ pub fn monitor_init<'a>(alloc: Global, log: AnchorId) -> Result<Answer, Stop<'a>
     })
 }
 
-// One run over these items.
+// What the files say beside the entries.
+#[derive(Drop)]
+struct Asked<'b> {
+    state: State,
+    watch: Watch,
+    request: AdvanceRequest<'b>,
+}
+
+// Reads the request.
+fn request_asked<'a, 'b>(
+    state: State,
+    watch: Watch,
+    request: &'a str,
+    form: &'b [u8],
+) -> Result<Asked<'b>, Stop<'a>>
+    ensures asked { (h : HashFunction) (entries bytes : Text) → AsksFor h entries bytes
+        (new_size_says h state watch request.now form.now entries bytes) result }
+{
+    match read_advance(form) {
+        Ok(request) => Ok(Asked {
+            state,
+            watch,
+            request,
+        }),
+        Err(why) => Err(refuse_file(Stopped::BadForm, request, form_reason(why))),
+    }
+}
+
+// Reads the domains, and then the request.
+fn watch_asked<'a, 'b>(
+    alloc: Global,
+    state: State,
+    watch: &'a str,
+    text: &[u8],
+    request: &'a str,
+    form: &'b [u8],
+) -> Result<Asked<'b>, Stop<'a>>
+    ensures { (h : HashFunction) (entries bytes : Text) → AsksFor h entries bytes
+        (watch_says h state watch.now text.now request.now form.now entries bytes) result }
+{
+    match read_watch(alloc, text) {
+        Ok(domains) => request_asked(state, domains, request, form),
+        Err(TextError::Memory) => Err(Stop::Memory),
+        Err(why) => Err(refuse_file(Stopped::BadForm, watch, text_reason(why))),
+    }
+}
+
+// Reads the state, and then the domains and the request.
+fn read_forms<'a, 'b>(
+    alloc: Global,
+    state: &'a str,
+    line: &[u8],
+    watch: &'a str,
+    text: &[u8],
+    request: &'a str,
+    form: &'b [u8],
+) -> Result<Asked<'b>, Stop<'a>>
+    ensures { (h : HashFunction) (entries bytes : Text) → AsksFor h entries bytes
+        (kept_says h state.now line.now watch.now text.now request.now form.now entries bytes)
+        result }
+{
+    match read_state(alloc, line) {
+        Ok(kept) => watch_asked(alloc, kept, watch, text, request, form),
+        Err(TextError::Memory) => Err(Stop::Memory),
+        Err(why) => Err(refuse_file(Stopped::BadForm, state, text_reason(why))),
+    }
+}
+
+// What a run found that took all entries.
 fn run_answer<'a, H: TreeHash>(
     alloc: Global,
-    state: &State,
-    watch: &Watch,
+    run: Run<H>,
     request: &AdvanceRequest<'_>,
-    items: &Items<'_, H>,
 ) -> Result<Answer, Stop<'a>>
-    ensures { Replies (run_says (monitor_of H.hash state.now watch.now
+    ensures { (items : ItemLists) → HasWatched H.hash run items.entries
+        → Replies (run_says (monitor_of H.hash run.state run.watch
         (advance_parts request.now).log (advance_parts request.now).size
         (advance_parts request.now).root (advance_parts request.now).proof
-        items.now.entries)).answer (ending_of result) }
+        items.entries)).answer (ending_of result) }
 {
-    match monitor_core::monitor::<H, _>(
-        alloc,
-        state,
-        watch,
-        request.log,
-        request.size,
-        &request.root,
-        request.proof,
-        &items.entries(),
-    ) {
+    match run.found(request.log, request.size, &request.root, request.proof) {
         Ok(found) => Ok(Answer {
             status: Said::Done,
             text: write_found(alloc, &found)?,
@@ -69,91 +133,64 @@ fn run_answer<'a, H: TreeHash>(
     }
 }
 
-// Reads the entries.
+// The same, unless the entries have a fault.
 fn new_items_answer<'a, H: TreeHash>(
     alloc: Global,
-    state: &State,
-    watch: &Watch,
-    request: &AdvanceRequest<'_>,
     entries: &'a str,
-    bytes: &[u8],
+    counted: Result<u64, ItemsError>,
+    run: Run<H>,
+    request: &AdvanceRequest<'_>,
 ) -> Result<Answer, Stop<'a>>
-    ensures { Replies (new_items_say H.hash state.now watch.now (advance_parts request.now)
-        entries.now bytes.now).answer (ending_of result) }
+    ensures { (bytes : Text)
+        → AreItemsOf H.hash (λ items. HasWatched H.hash run items.entries) counted bytes
+        → Replies (new_items_say H.hash run.state run.watch (advance_parts request.now)
+        entries.now bytes).answer (ending_of result) }
 {
-    match read_items::<H>(alloc, bytes) {
-        Ok(items) => run_answer(alloc, state, watch, request, &items),
-        Err(ItemsError::Memory) => Err(Stop::Memory),
+    match counted {
+        Ok(_) => run_answer(alloc, run, request),
         Err(why) => Err(refuse_file(Stopped::BadForm, entries, items_reason(why))),
     }
 }
 
-// Reads the request, and then the entries.
-fn new_size_answer<'a, H: TreeHash>(
+// Reads the entries, and runs the monitor.
+fn watched<'a, H: TreeHash, R: Room>(
     alloc: Global,
-    state: &State,
-    watch: &Watch,
-    request: &'a str,
-    form: &[u8],
+    room: &mut R,
     entries: &'a str,
-    bytes: &[u8],
+    asked: Asked<'_>,
 ) -> Result<Answer, Stop<'a>>
-    ensures { Replies (new_size_says H.hash state.now watch.now request.now form.now entries.now
-        bytes.now).answer (ending_of result) }
+    requires { R.opened room.old < 2 ^ 32 }
+    ensures { HasAnswered R.Room R.Dsk.Disk (entries.now ∷ [])
+        (with_bytes 1073741824 entries.now (R.file room.old entries.now)
+        (new_items_say H.hash asked.entry.state asked.entry.watch
+        (advance_parts asked.entry.request) entries.now)) room.old room.new (ending_of result) }
 {
-    match read_advance(form) {
-        Ok(asked) => new_items_answer::<H>(alloc, state, watch, &asked, entries, bytes),
-        Err(why) => Err(refuse_file(Stopped::BadForm, request, form_reason(why))),
-    }
+    let mut run: Run<H> = Run::new(alloc, asked.state, asked.watch);
+    let counted = fold_input::<H, _, _>(alloc, room, entries, LIST_LIMIT, &mut run)?;
+    new_items_answer(alloc, entries, counted, run, &asked.request)
 }
 
-// Reads the domains, and then the request, and so on.
-fn watch_answer<'a, H: TreeHash>(
+// Reads the entries, and then stops.
+fn unwatched<'a, H: TreeHash, R: Room>(
     alloc: Global,
-    state: &State,
-    watch: &'a str,
-    text: &[u8],
-    request: &'a str,
-    form: &[u8],
+    room: &mut R,
     entries: &'a str,
-    bytes: &[u8],
+    stop: Stop<'a>,
 ) -> Result<Answer, Stop<'a>>
-    ensures { Replies (watch_says H.hash state.now watch.now text.now request.now form.now
-        entries.now bytes.now).answer (ending_of result) }
+    requires { R.opened room.old < 2 ^ 32 }
+    ensures { (wanted : Text → Outcome)
+        → ((bytes : Text) → Replies (wanted bytes).answer (stop_ending stop.entry))
+        → HasAnswered R.Room R.Dsk.Disk (entries.now ∷ [])
+        (with_bytes 1073741824 entries.now (R.file room.old entries.now) wanted) room.old room.new
+        (ending_of result) }
 {
-    match read_watch(alloc, text) {
-        Ok(domains) => {
-            new_size_answer::<H>(alloc, state, &domains, request, form, entries, bytes)
-        }
-        Err(TextError::Memory) => Err(Stop::Memory),
-        Err(why) => Err(refuse_file(Stopped::BadForm, watch, text_reason(why))),
-    }
+    let _read = fold_input::<H, _, _>(alloc, room, entries, LIST_LIMIT, &mut ())?;
+    Err(stop)
 }
 
-// Reads the state, and then the domains, and so on.
-fn kept_answer<'a, H: TreeHash>(
-    alloc: Global,
-    state: &'a str,
-    line: &[u8],
-    watch: &'a str,
-    text: &[u8],
-    request: &'a str,
-    form: &[u8],
-    entries: &'a str,
-    bytes: &[u8],
-) -> Result<Answer, Stop<'a>>
-    ensures { Replies (kept_says H.hash state.now line.now watch.now text.now request.now form.now
-        entries.now bytes.now).answer (ending_of result) }
-{
-    match read_state(alloc, line) {
-        Ok(kept) => { watch_answer::<H>(alloc, &kept, watch, text, request, form, entries, bytes) }
-        Err(TextError::Memory) => Err(Stop::Memory),
-        Err(why) => Err(refuse_file(Stopped::BadForm, state, text_reason(why))),
-    }
-}
-
-/// The command `monitor STATE WATCH REQUEST ENTRIES`. All files are read before any is tested; then
-/// the state is tested, the domains, the request and the entries, and the monitor runs last.
+/// The command `monitor STATE WATCH REQUEST ENTRIES`. The answer is as if all files were read before
+/// any is tested; then the state is tested, the domains, the request and the entries, and the
+/// monitor runs last. The entries are read as a stream.
 pub fn monitor<'a, H: TreeHash, R: Room>(
     alloc: Global,
     room: &mut R,
@@ -170,17 +207,17 @@ pub fn monitor<'a, H: TreeHash, R: Room>(
 {
     let kept = read_input(alloc, room, state, INPUT_LIMIT)?;
     let domains = read_input(alloc, room, watch, INPUT_LIMIT)?;
-    let asked = read_input(alloc, room, request, INPUT_LIMIT)?;
-    let listed = read_input(alloc, room, entries, LIST_LIMIT)?;
-    kept_answer::<H>(
+    let form = read_input(alloc, room, request, INPUT_LIMIT)?;
+    match read_forms(
         alloc,
         state,
         kept.as_slice(),
         watch,
         domains.as_slice(),
         request,
-        asked.as_slice(),
-        entries,
-        listed.as_slice(),
-    )
+        form.as_slice(),
+    ) {
+        Ok(asked) => watched::<H, R>(alloc, room, entries, asked),
+        Err(stop) => unwatched::<H, R>(alloc, room, entries, stop),
+    }
 }

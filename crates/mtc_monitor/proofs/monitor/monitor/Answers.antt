@@ -1,10 +1,11 @@
-use Rattle.std.proofs.Common.{[], inl, inr, refl}
+use Rattle.std.proofs.Common.{[], inl, inr, refl, sym, ◌∙◌}
 use Rattle.std.proofs.lemmas.Result.{err_from_is_err_and}
 use Rattle.byte_formats.specs.Types.{HashFunction, Text}
 use Rattle.mtc_command.specs.Steps.{Outcome}
 use Rattle.mtc_monitor.specs.MonitorOutcome.{kept_says}
-use Rattle.mtc_monitor.proofs.FourFiles.{following_first, after_fourth, after_second, after_third}
-use Rattle.mtc_monitor.proofs.FourFiles.{from_fourth, from_second, from_third, names}
+use Rattle.mtc_monitor.proofs.FourFiles.{after_second, after_third, at_fourth, following_first}
+use Rattle.mtc_monitor.proofs.FourFiles.{from_fourth, from_second, from_third, names, replies_so}
+use Rattle.mtc_monitor.proofs.FourFiles.{says_so}
 use Rattle.mtc_monitor.proofs.monitor.monitor.Goals as goal
 
 -- what is answered to the bytes of the four files
@@ -37,10 +38,10 @@ returns-in_err-domains g c =
     (from_third f a.state.now a.watch.now a.request.now a.entries.now
     (file a.request.now) (file a.entries.now) c.in_ok-kept.kept) (inr (inl refl))))
 
-pub returns-in_err-asked : goal.returns-in_err-asked
-returns-in_err-asked g c =
-    let p = err_from_is_err_and c.from_residual-in_err-asked.result
-    c.from_residual-in_err-asked.ensures.1 in
+pub returns-in_err-form : goal.returns-in_err-form
+returns-in_err-form g c =
+    let p = err_from_is_err_and c.from_residual-in_err-form.result
+    c.from_residual-in_err-form.ensures.1 in
     let a = c.args in
     let f = says g.H.TreeHash.hash a.state.now a.watch.now a.request.now a.entries.now in
     rw (p.1, p.2) (following_first f a.state.now a.watch.now a.request.now a.entries.now
@@ -49,47 +50,51 @@ returns-in_err-asked g c =
     (after_second f a.state.now a.watch.now a.request.now a.entries.now
     g.R.Room g.R.Dsk.Disk _ _ _ _ c.in_ok-domains.ensures.all_closed c.in_ok-kept.kept
     c.in_ok-domains.domains c.in_ok-domains.ensures.bytes
-    (c.in_err-asked.ensures.stops
+    (c.in_err-form.ensures.stops
     (names f a.state.now a.watch.now a.request.now a.entries.now) []
     (from_fourth f a.state.now a.watch.now a.request.now a.entries.now
     (g.R.Room.file c.read_input-2.new.room a.entries.now) c.in_ok-kept.kept
     c.in_ok-domains.domains) (inr (inr (inl refl))))))
 
-pub returns-in_err-listed : goal.returns-in_err-listed
-returns-in_err-listed g c =
-    let p = err_from_is_err_and c.from_residual-in_err-listed.result
-    c.from_residual-in_err-listed.ensures.1 in
+-- the other files are read, and then the entries by what they ask
+pub returns-in-Ok : goal.returns-in-Ok
+returns-in-Ok g c =
     let a = c.args in
     let f = says g.H.TreeHash.hash a.state.now a.watch.now a.request.now a.entries.now in
-    rw (p.1, p.2) (following_first f a.state.now a.watch.now a.request.now a.entries.now
-    g.R.Room g.R.Dsk.Disk _ _ _ _ c.in_ok-kept.ensures.all_closed c.in_ok-kept.kept
-    c.in_ok-kept.ensures.bytes
+    let s = c.in_ok-kept.kept in
+    let w = c.in_ok-domains.domains in
+    let r = c.in_ok-form.form in
+    following_first f a.state.now a.watch.now a.request.now a.entries.now
+    g.R.Room g.R.Dsk.Disk _ _ _ _ c.in_ok-kept.ensures.all_closed s c.in_ok-kept.ensures.bytes
     (after_second f a.state.now a.watch.now a.request.now a.entries.now
-    g.R.Room g.R.Dsk.Disk _ _ _ _ c.in_ok-domains.ensures.all_closed c.in_ok-kept.kept
-    c.in_ok-domains.domains c.in_ok-domains.ensures.bytes
+    g.R.Room g.R.Dsk.Disk _ _ _ _ c.in_ok-domains.ensures.all_closed s w
+    c.in_ok-domains.ensures.bytes
     (after_third f a.state.now a.watch.now a.request.now a.entries.now
-    g.R.Room g.R.Dsk.Disk _ _ _ _ c.in_ok-asked.ensures.all_closed c.in_ok-kept.kept
-    c.in_ok-domains.domains c.in_ok-asked.asked c.in_ok-asked.ensures.bytes
-    (c.in_err-listed.ensures.stops
-    (names f a.state.now a.watch.now a.request.now a.entries.now) []
-    (f c.in_ok-kept.kept c.in_ok-domains.domains c.in_ok-asked.asked)
-    (inr (inr (inr (inl refl))))))))
+    g.R.Room g.R.Dsk.Disk _ _ _ _ c.in_ok-form.ensures.all_closed s w r c.in_ok-form.ensures.bytes
+    (at_fourth f a.state.now a.watch.now a.request.now a.entries.now
+    g.R.Room g.R.Dsk.Disk _ _ _ s w r _
+    (λ d. sym (c.in-Ok.ensures g.H.TreeHash.hash a.entries.now d)
+    ∙ says_so f a.state.now a.watch.now a.request.now a.entries.now _ _ _ s w r c.as_slice.ensures
+    c.as_slice-2.ensures c.as_slice-3.ensures d)
+    c.watched.ensures)))
 
 pub returns : goal.returns
 returns g c =
     let a = c.args in
     let f = says g.H.TreeHash.hash a.state.now a.watch.now a.request.now a.entries.now in
+    let s = c.in_ok-kept.kept in
+    let w = c.in_ok-domains.domains in
+    let r = c.in_ok-form.form in
     following_first f a.state.now a.watch.now a.request.now a.entries.now
-    g.R.Room g.R.Dsk.Disk _ _ _ _ c.in_ok-kept.ensures.all_closed c.in_ok-kept.kept
-    c.in_ok-kept.ensures.bytes
+    g.R.Room g.R.Dsk.Disk _ _ _ _ c.in_ok-kept.ensures.all_closed s c.in_ok-kept.ensures.bytes
     (after_second f a.state.now a.watch.now a.request.now a.entries.now
-    g.R.Room g.R.Dsk.Disk _ _ _ _ c.in_ok-domains.ensures.all_closed c.in_ok-kept.kept
-    c.in_ok-domains.domains c.in_ok-domains.ensures.bytes
+    g.R.Room g.R.Dsk.Disk _ _ _ _ c.in_ok-domains.ensures.all_closed s w
+    c.in_ok-domains.ensures.bytes
     (after_third f a.state.now a.watch.now a.request.now a.entries.now
-    g.R.Room g.R.Dsk.Disk _ _ _ _ c.in_ok-asked.ensures.all_closed c.in_ok-kept.kept
-    c.in_ok-domains.domains c.in_ok-asked.asked c.in_ok-asked.ensures.bytes
-    (after_fourth f a.state.now a.watch.now a.request.now a.entries.now
-    g.R.Room g.R.Dsk.Disk _ _ _ c.in_ok-listed.ensures.all_closed g.met.R.Dsk.Disk.only_now _ _ _ _
-    c.in_ok-kept.kept c.in_ok-domains.domains c.in_ok-asked.asked c.in_ok-listed.listed
-    c.in_ok-listed.ensures.bytes c.as_slice.ensures c.as_slice-2.ensures c.as_slice-3.ensures
-    c.as_slice-4.ensures c.kept_answer.ensures)))
+    g.R.Room g.R.Dsk.Disk _ _ _ _ c.in_ok-form.ensures.all_closed s w r c.in_ok-form.ensures.bytes
+    (at_fourth f a.state.now a.watch.now a.request.now a.entries.now
+    g.R.Room g.R.Dsk.Disk _ _ _ s w r _ (λ d. refl)
+    (c.unwatched.ensures (λ d. f s w r d)
+    (λ d. replies_so f a.state.now a.watch.now a.request.now a.entries.now _ _ _ s w r
+    c.as_slice.ensures c.as_slice-2.ensures c.as_slice-3.ensures _ d
+    (c.in-Err.ensures g.H.TreeHash.hash a.entries.now d))))))
