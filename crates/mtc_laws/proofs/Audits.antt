@@ -74,12 +74,12 @@ audit_asked h files cert store unix_time entries kept x is =
     let e : InputFile = record { name = entries; text = is.entries_text } in
     let k : InputFile = record { name = kept; text = is.kept_text } in
     input_there 16777216 cert files (λ a. with_input 16777216 store files
-    (λ b. with_input 1073741824 entries files (λ d. with_input 1073741824 kept files
+    (λ b. with_input 8589934592 entries files (λ d. with_input 1073741824 kept files
     (λ f. audit_store_says h a b unix_time d f)))) is.cert_text is.has_cert
-    ∙ input_there 16777216 store files (λ b. with_input 1073741824 entries files
+    ∙ input_there 16777216 store files (λ b. with_input 8589934592 entries files
     (λ d. with_input 1073741824 kept files (λ f. audit_store_says h c b unix_time d f)))
     is.store_text is.has_store
-    ∙ input_there 1073741824 entries files (λ d. with_input 1073741824 kept files
+    ∙ input_there 8589934592 entries files (λ d. with_input 1073741824 kept files
     (λ f. audit_store_says h c s unix_time d f)) is.entries_text is.has_entries
     ∙ input_there 1073741824 kept files (λ f. audit_store_says h c s unix_time e f) is.kept_text
     is.has_kept

@@ -78,7 +78,7 @@ module _ (h : HashFunction) (files : Files) (state watch request entries : List 
   after_entries s w r bytes = kept_says h state s watch w request r entries bytes
 
   abbrev after_request : List ℕ → List ℕ → List ℕ → Outcome
-  after_request s w r = with_bytes 1073741824 entries (files entries) (after_entries s w r)
+  after_request s w r = with_bytes 8589934592 entries (files entries) (after_entries s w r)
 
   abbrev after_watch : List ℕ → List ℕ → Outcome
   after_watch s w = with_bytes 16777216 request (files request) (after_request s w)
@@ -104,7 +104,7 @@ module _ (h : HashFunction) (files : Files) (state watch request entries : List 
       bytes_say 16777216 state (files state) after_state (λ s.
       bytes_say 16777216 watch (files watch) (after_watch s) (λ w.
       bytes_say 16777216 request (files request) (after_request s w) (λ r.
-      bytes_say 1073741824 entries (files entries) (after_entries s w r) (λ bytes.
+      bytes_say 8589934592 entries (files entries) (after_entries s w r) (λ bytes.
       entries_say s w r bytes))))
 
   -- what the command may say

@@ -40,7 +40,7 @@ pub record IsAuditOf (h : HashFunction) (files : Files) (cert store : Text) (uni
   pub store_text : Text
   pub has_store : HoldsText files store 16777216 store_text
   pub entries_text : Text
-  pub has_entries : HoldsText files entries 1073741824 entries_text
+  pub has_entries : HoldsText files entries 8589934592 entries_text
   pub kept_text : Text
   pub has_kept : HoldsText files kept 1073741824 kept_text
   pub store_read : store_of store_text ≡ Ok x.store

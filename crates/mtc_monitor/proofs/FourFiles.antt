@@ -15,7 +15,7 @@ module _ (says : Text → Text → Text → Text → Outcome) (one two three fou
   -- What is to be answered where the files from here on hold this, and the bytes of the ones before
   -- are known.
   abbrev pub from_fourth : Option Text → Text → Text → Text → Outcome
-  from_fourth f4 a b c = with_bytes 1073741824 four f4 (λ d. says a b c d)
+  from_fourth f4 a b c = with_bytes 8589934592 four f4 (λ d. says a b c d)
 
   abbrev pub from_third : Option Text → Option Text → Text → Text → Outcome
   from_third f3 f4 a b = with_bytes 16777216 three f3 (λ c. from_fourth f4 a b c)
@@ -103,10 +103,10 @@ module _ (says : Text → Text → Text → Text → Outcome) (one two three fou
     pub at_fourth : (a b c : Text) (next : Text → Outcome)
         → ((d : Text) → next d ≡ says a b c d)
         → HasAnswered rooms disks (four ∷ [])
-        (with_bytes 1073741824 four (rooms.file old four) next) old new ending
+        (with_bytes 8589934592 four (rooms.file old four) next) old new ending
         → HasAnswered rooms disks names (from_fourth (rooms.file old four) a b c) old new ending
     at_fourth a b c next same done =
         following rooms disks names (four ∷ []) [] [] (from_fourth (rooms.file old four) a b c)
-        (with_bytes 1073741824 four (rooms.file old four) next) old old new ending stays
-        (λ t. ap (λ (n : Text → Outcome). with_bytes 1073741824 four (rooms.file old four) n)
+        (with_bytes 8589934592 four (rooms.file old four) next) old old new ending stays
+        (λ t. ap (λ (n : Text → Outcome). with_bytes 8589934592 four (rooms.file old four) n)
         (λ i d. same d i)) among done

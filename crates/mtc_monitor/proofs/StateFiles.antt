@@ -91,7 +91,7 @@ record HasRead (h : HashFunction) (c : MonitorCommand) : Type 0 where
 module _ (h : HashFunction) (c : MonitorCommand) where
   -- what is asked after each file
   abbrev after_request : Text → Text → Text → Outcome
-  after_request s w r = with_bytes 1073741824 c.entries (c.files c.entries)
+  after_request s w r = with_bytes 8589934592 c.entries (c.files c.entries)
       (λ bytes. kept_says h c.state s c.watch w c.request r c.entries bytes)
 
   abbrev after_watch : Text → Text → Outcome
@@ -107,7 +107,7 @@ module _ (h : HashFunction) (c : MonitorCommand) where
       line.2 in
       let request = bytes_there 16777216 c.request (c.files c.request)
       (after_request line.0 watched.0) c.printed watched.2 in
-      let bytes = bytes_there 1073741824 c.entries (c.files c.entries) (λ b. kept_says h c.state
+      let bytes = bytes_there 8589934592 c.entries (c.files c.entries) (λ b. kept_says h c.state
       line.0 c.watch watched.0 c.request request.0 c.entries b) c.printed request.2 in
       let kept = form_there text_fault_text c.state (state_in line.0) (λ k. watch_says h k c.watch
       watched.0 c.request request.0 c.entries bytes.0) c.printed bytes.2 in

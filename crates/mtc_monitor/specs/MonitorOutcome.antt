@@ -58,5 +58,5 @@ monitor_outcome h state watch request entries files =
     with_bytes 16777216 state (files state)
     (λ s. with_bytes 16777216 watch (files watch)
     (λ w. with_bytes 16777216 request (files request)
-    (λ r. with_bytes 1073741824 entries (files entries)
+    (λ r. with_bytes 8589934592 entries (files entries)
     (λ bytes. kept_says h state s watch w request r entries bytes))))

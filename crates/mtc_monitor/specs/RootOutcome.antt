@@ -21,4 +21,4 @@ root_says h entries bytes = with_form items_fault_text entries (items_in h bytes
 -- The outcome of `root ENTRIES`: at most 1 GiB is read of the file.
 abbrev pub root_outcome : HashFunction → Text → Files → Outcome
 root_outcome h entries files =
-    with_bytes 1073741824 entries (files entries) (root_says h entries)
+    with_bytes 8589934592 entries (files entries) (root_says h entries)

@@ -23,12 +23,10 @@ use entry_list::ItemsError;
 use monitor_core::{
     MonitorError, Run, State, TextError, Watch, read_state, read_watch, write_found, write_state,
 };
-use mtc_command::{
-    Answer, INPUT_LIMIT, LIST_LIMIT, Said, Stop, Stopped, read_input, refuse, refuse_file,
-};
+use mtc_command::{Answer, INPUT_LIMIT, Said, Stop, Stopped, read_input, refuse, refuse_file};
 use mtc_lines::{form_reason, items_reason};
 use mtc_room::Room;
-use mtc_streams::fold_input;
+use mtc_streams::{ENTRIES_LIMIT, fold_input};
 use std::alloc::Global;
 use tls_wire::AnchorId;
 use tree_core::TreeHash;
@@ -161,12 +159,12 @@ fn watched<'a, H: TreeHash, R: Room>(
 ) -> Result<Answer, Stop<'a>>
     requires { R.opened room.old < 2 ^ 32 }
     ensures { HasAnswered R.Room R.Dsk.Disk (entries.now ∷ [])
-        (with_bytes 1073741824 entries.now (R.file room.old entries.now)
+        (with_bytes 8589934592 entries.now (R.file room.old entries.now)
         (new_items_say H.hash asked.entry.state asked.entry.watch
         (advance_parts asked.entry.request) entries.now)) room.old room.new (ending_of result) }
 {
     let mut run: Run<H> = Run::new(alloc, asked.state, asked.watch);
-    let counted = fold_input::<H, _, _>(alloc, room, entries, LIST_LIMIT, &mut run)?;
+    let counted = fold_input::<H, _, _>(alloc, room, entries, ENTRIES_LIMIT, &mut run)?;
     new_items_answer(alloc, entries, counted, run, &asked.request)
 }
 
@@ -181,10 +179,10 @@ fn unwatched<'a, H: TreeHash, R: Room>(
     ensures { (wanted : Text → Outcome)
         → ((bytes : Text) → Replies (wanted bytes).answer (stop_ending stop.entry))
         → HasAnswered R.Room R.Dsk.Disk (entries.now ∷ [])
-        (with_bytes 1073741824 entries.now (R.file room.old entries.now) wanted) room.old room.new
+        (with_bytes 8589934592 entries.now (R.file room.old entries.now) wanted) room.old room.new
         (ending_of result) }
 {
-    let _read = fold_input::<H, _, _>(alloc, room, entries, LIST_LIMIT, &mut ())?;
+    let _read = fold_input::<H, _, _>(alloc, room, entries, ENTRIES_LIMIT, &mut ())?;
     Err(stop)
 }
 

@@ -28,7 +28,7 @@ use Rattle.command_plans.proofs.Forms.{bytes_same, form_same}
 use Rattle.mtc_plans.specs.AuditPlans.{audit_judged_by, audit_plan, audit_step, audited_step}
 use Rattle.mtc_plans.specs.AuditPlans.{quarrel_judged, quarrel_judged_by, quarrel_plan}
 use Rattle.mtc_plans.specs.AuditPlans.{quarrel_step}
-use Rattle.mtc_plans.specs.Steps.{large_file, small_file}
+use Rattle.mtc_plans.specs.Steps.{entries_file, large_file, small_file}
 use Rattle.mtc_plans.proofs.Reading.{verdict_same}
 use Rattle.mtc_plans.proofs.Texts.{first_read, fourth_read, second_read, third_read, reported_alone}
 
@@ -70,11 +70,11 @@ pub audit_plans : (k : Kinds) (h : HashFunction) (cert store : List ℕ) (unix_t
 audit_plans k h cert store unix_time entries export files =
     let one = small_file cert in
     let two = small_file store in
-    let three = large_file entries in
+    let three = entries_file entries in
     let four = large_file export in
     bytes_same 16777216 cert (files cert) _ _
     (λ c. bytes_same 16777216 store (files store) _ _
-    (λ s. bytes_same 1073741824 entries (files entries) _ _
+    (λ s. bytes_same 8589934592 entries (files entries) _ _
     (λ e. bytes_same 1073741824 export (files export) _ _
     (λ x. audit_same k h files (one ∷ (two ∷ (three ∷ (four ∷ [])))) unix_time
     (first_read one (two ∷ (three ∷ (four ∷ []))) c)

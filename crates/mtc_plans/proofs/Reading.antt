@@ -33,7 +33,7 @@ use Rattle.command_plans.proofs.Forms.{bytes_same, form_same, test_same}
 use Rattle.mtc_plans.specs.ReadPlans.{drill_plan, keygen_plan, keygen_step, member_judged}
 use Rattle.mtc_plans.specs.ReadPlans.{member_plan, member_step, show_plan, show_step, trust_plan}
 use Rattle.mtc_plans.specs.ReadPlans.{trust_step, verdict_step, verify_plan, verify_step}
-use Rattle.mtc_plans.specs.Steps.{in_secret, large_file, small_file}
+use Rattle.mtc_plans.specs.Steps.{entries_file, in_secret, small_file}
 use Rattle.mtc_plans.proofs.Texts.{first_read, second_read, reported_alone}
 
 judged_same : (index : ℕ) (r : Result Bool EvalError)
@@ -122,9 +122,9 @@ module _ (k : Kinds) (h : HashFunction) where
       ≡ outcome_of (trust_plan {k = k} h list most entries) files
   trust_plans list most entries files =
       let one = small_file list in
-      let two = large_file entries in
+      let two = entries_file entries in
       bytes_same 16777216 list (files list) _ _
-      (λ b. bytes_same 1073741824 entries (files entries) _ _
+      (λ b. bytes_same 8589934592 entries (files entries) _ _
       (λ t. trust_same k h files (one ∷ (two ∷ [])) most (first_read one (two ∷ []) b)
       (second_read one two [] t)))
 

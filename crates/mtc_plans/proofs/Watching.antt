@@ -20,7 +20,7 @@ use Rattle.command_plans.specs.Kinds.{Kinds}
 use Rattle.command_plans.specs.Outcomes.{outcome_of, step_outcome}
 use Rattle.command_plans.specs.Plans.{Input, Read}
 use Rattle.command_plans.proofs.Forms.{bytes_same, form_same}
-use Rattle.mtc_plans.specs.Steps.{large_file, small_file}
+use Rattle.mtc_plans.specs.Steps.{entries_file, large_file, small_file}
 use Rattle.mtc_plans.specs.WatchPlans.{held_plan, held_step, monitor_init_plan, monitor_plan}
 use Rattle.mtc_plans.specs.WatchPlans.{monitor_step, root_plan, root_step, run_judged}
 use Rattle.mtc_plans.proofs.Texts.{first_read, fourth_read, second_read, third_read, reported_alone}
@@ -52,8 +52,8 @@ module _ (k : Kinds) (h : HashFunction) where
   pub root_plans : (entries : List ℕ) (files : Files)
       → root_outcome h entries files ≡ outcome_of (root_plan {k = k} h entries) files
   root_plans entries files =
-      let one = large_file entries in
-      bytes_same 1073741824 entries (files entries) _ _
+      let one = entries_file entries in
+      bytes_same 8589934592 entries (files entries) _ _
       (λ b. root_same k h files (one ∷ []) (first_read one [] b))
 
   pub held_plans : (export : List ℕ) (files : Files)
@@ -74,11 +74,11 @@ module _ (k : Kinds) (h : HashFunction) where
       let one = small_file state in
       let two = small_file watch in
       let three = small_file request in
-      let four = large_file entries in
+      let four = entries_file entries in
       bytes_same 16777216 state (files state) _ _
       (λ s. bytes_same 16777216 watch (files watch) _ _
       (λ w. bytes_same 16777216 request (files request) _ _
-      (λ r. bytes_same 1073741824 entries (files entries) _ _
+      (λ r. bytes_same 8589934592 entries (files entries) _ _
       (λ e. monitor_same k h files (one ∷ (two ∷ (three ∷ (four ∷ []))))
       (first_read one (two ∷ (three ∷ (four ∷ []))) s)
       (second_read one two (three ∷ (four ∷ [])) w)

@@ -25,7 +25,7 @@ use Rattle.command_plans.specs.Kinds.{Kinds}
 use Rattle.command_plans.specs.Plans.{Input, Judged, Plan, Read, Step, in_form, only_prints}
 use Rattle.command_plans.specs.Plans.{prints, prints_pair}
 use Rattle.mtc_plans.specs.ReadPlans.{verdict_step}
-use Rattle.mtc_plans.specs.Steps.{large_file, small_file}
+use Rattle.mtc_plans.specs.Steps.{entries_file, large_file, small_file}
 
 -- The hash that is wanted of the list and the one that it has, where they aren't the same; or else
 -- that no export supports the acceptance; or that the entry and the key stand at the index; or any
@@ -61,7 +61,7 @@ audit_step h unix_time cert store entries export =
 
 abbrev pub audit_plan : {k : Kinds} → HashFunction → Text → Text → ℕ → Text → Text → Plan k
 audit_plan h cert store unix_time entries export = record {
-  inputs = small_file cert ∷ (small_file store ∷ (large_file entries ∷ (large_file export ∷ [])));
+  inputs = small_file cert ∷ (small_file store ∷ (entries_file entries ∷ (large_file export ∷ [])));
   journals = [];
   steps = λ (c, (s, (e, (x, none)))). audit_step h unix_time c s e x;
 }

@@ -29,7 +29,7 @@ use Rattle.mtc_relying.specs.ShowOutcome.{show_text}
 use Rattle.command_plans.specs.Kinds.{Kinds}
 use Rattle.command_plans.specs.Plans.{Input, Judged, Plan, Read, Step, in_form, misreads}
 use Rattle.command_plans.specs.Plans.{only_prints, prints, prints_formed}
-use Rattle.mtc_plans.specs.Steps.{in_secret, prints_against, large_file, small_file}
+use Rattle.mtc_plans.specs.Steps.{entries_file, in_secret, prints_against, small_file}
 
 -- ---- member FILE
 
@@ -100,7 +100,7 @@ trust_step h most list entries = in_form entries items_fault_text (items_in h en
 
 abbrev pub trust_plan : {k : Kinds} → HashFunction → Text → ℕ → Text → Plan k
 trust_plan h list most entries = record {
-  inputs = small_file list ∷ (large_file entries ∷ []);
+  inputs = small_file list ∷ (entries_file entries ∷ []);
   journals = [];
   steps = λ (l, (e, none)). trust_step h most l e;
 }

@@ -10,12 +10,15 @@ use Rattle.command_plans.specs.Plans.{makes, misreads, opens, prints}
 
 -- ---- inputs
 
--- A file of at most 16 MiB, and one of at most 1 GiB.
+-- A file of at most 16 MiB, one of at most 1 GiB, and a file of entries of at most 8 GiB.
 abbrev pub small_file : Text → Input
 small_file name = record { limit = 16777216; name = name }
 
 abbrev pub large_file : Text → Input
 large_file name = record { limit = 1073741824; name = name }
+
+abbrev pub entries_file : Text → Input
+entries_file name = record { limit = 8589934592; name = name }
 
 -- ---- judgements
 

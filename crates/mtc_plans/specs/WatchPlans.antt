@@ -20,7 +20,7 @@ use Rattle.mtc_monitor.specs.RootOutcome.{root_text}
 use Rattle.command_plans.specs.Kinds.{Kinds}
 use Rattle.command_plans.specs.Plans.{Input, Judged, Plan, Read, Step, forbids, in_form}
 use Rattle.command_plans.specs.Plans.{only_prints, prints}
-use Rattle.mtc_plans.specs.Steps.{large_file, small_file}
+use Rattle.mtc_plans.specs.Steps.{entries_file, large_file, small_file}
 
 -- ---- root ENTRIES
 
@@ -32,7 +32,7 @@ root_step h entries = in_form entries items_fault_text (items_in h entries.text)
 
 abbrev pub root_plan : {k : Kinds} → HashFunction → Text → Plan k
 root_plan h entries = record {
-  inputs = large_file entries ∷ [];
+  inputs = entries_file entries ∷ [];
   journals = [];
   steps = λ (e, none). root_step h e;
 }
@@ -81,7 +81,8 @@ monitor_step h state watch request entries =
 
 abbrev pub monitor_plan : {k : Kinds} → HashFunction → Text → Text → Text → Text → Plan k
 monitor_plan h state watch request entries = record {
-  inputs = small_file state ∷ (small_file watch ∷ (small_file request ∷ (large_file entries ∷ [])));
+  inputs =
+      small_file state ∷ (small_file watch ∷ (small_file request ∷ (entries_file entries ∷ [])));
   journals = [];
   steps = λ (s, (w, (r, (e, none)))). monitor_step h s w r e;
 }

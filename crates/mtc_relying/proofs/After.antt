@@ -86,7 +86,7 @@ module _ (h : HashFunction) (unix_time : ℕ) (cert store entries export : Text)
   of_export fx c s e = with_bytes 1073741824 export fx (λ x. says c s e x)
 
   abbrev pub of_entries : Option Text → Option Text → Text → Text → Outcome
-  of_entries fe fx c s = with_bytes 1073741824 entries fe (λ e. of_export fx c s e)
+  of_entries fe fx c s = with_bytes 8589934592 entries fe (λ e. of_export fx c s e)
 
   abbrev pub of_store : Option Text → Option Text → Option Text → Text → Outcome
   of_store fs fe fx c = with_bytes 16777216 store fs (λ s. of_entries fe fx c s)
@@ -150,12 +150,12 @@ module _ (h : HashFunction) (unix_time : ℕ) (cert store entries export : Text)
     -- and the entries stop the command
     pub before_export : (c s : Text)
         → HasAnswered rooms disks names
-        (with_bytes 1073741824 entries (rooms.file mid entries)
+        (with_bytes 8589934592 entries (rooms.file mid entries)
         (λ e. of_export (rooms.file old export) c s e)) mid new ending
         → HasAnswered rooms disks names (of_both c s) old new ending
     before_export c s done =
         following rooms disks names names [] [] (of_both c s)
-        (with_bytes 1073741824 entries (rooms.file mid entries)
+        (with_bytes 8589934592 entries (rooms.file mid entries)
         (λ e. of_export (rooms.file old export) c s e)) old mid new ending read
         (λ t. ap (λ f. of_entries f (rooms.file old export) c s) listed) (λ file among. among) done
 
@@ -165,7 +165,7 @@ module _ (h : HashFunction) (unix_time : ℕ) (cert store entries export : Text)
         → fc ≡ record { name = cert; text = c } → fs ≡ record { name = store; text = s }
         → fx ≡ record { name = export; text = x }
         → HasAnswered rooms disks (entries ∷ [])
-        (with_bytes 1073741824 entries (rooms.file mid entries)
+        (with_bytes 8589934592 entries (rooms.file mid entries)
         (λ e. audit_store_says h fc fs unix_time (record { name = entries; text = e }) fx))
         mid new ending
         → HasAnswered rooms disks names (of_both c s) old new ending
@@ -178,19 +178,19 @@ module _ (h : HashFunction) (unix_time : ℕ) (cert store entries export : Text)
         ∙ sym (bytes_read 1073741824 export (rooms.file old export) x (λ y. says c s e y)
         (is_x t).0 (is_x t).1)) i in
         following rooms disks names (entries ∷ []) [] [] (of_both c s)
-        (with_bytes 1073741824 entries (rooms.file mid entries) next) old mid new ending read
-        (λ t. ap (λ f. with_bytes 1073741824 entries f next) listed
-        ∙ ap (λ (n : Text → Outcome). with_bytes 1073741824 entries (rooms.file old entries) n)
+        (with_bytes 8589934592 entries (rooms.file mid entries) next) old mid new ending read
+        (λ t. ap (λ f. with_bytes 8589934592 entries f next) listed
+        ∙ ap (λ (n : Text → Outcome). with_bytes 8589934592 entries (rooms.file old entries) n)
         (so t)) named done
 
     -- or the export stops the command, after the entries were read
     pub at_export : (c s e : Text) (late : ClosesAll rooms mid new [])
-        → (rooms.is_modelled mid → (rooms.file mid entries ≡ Some e) × (length e ≤ 1073741824))
+        → (rooms.is_modelled mid → (rooms.file mid entries ≡ Some e) × (length e ≤ 8589934592))
         → HasAnswered rooms disks names (of_export (rooms.file old export) c s e) old mid ending
         → HasAnswered rooms disks names (of_both c s) old new ending
     at_export c s e late is_e done =
         followed rooms disks names (of_both c s) (of_export (rooms.file old export) c s e) old mid
         new ending late
-        (λ t. sym (bytes_read 1073741824 entries (rooms.file old entries) e
+        (λ t. sym (bytes_read 8589934592 entries (rooms.file old entries) e
         (λ y. of_export (rooms.file old export) c s y)
         (sym listed ∙ (is_e (read.is_modelled t)).0) (is_e (read.is_modelled t)).1)) done

@@ -140,6 +140,6 @@ abbrev pub audit_outcome : HashFunction → Text → Text → ℕ → Text → T
 audit_outcome h cert store unix_time entries export files =
     with_input 16777216 cert files
     (λ c. with_input 16777216 store files
-    (λ s. with_input 1073741824 entries files
+    (λ s. with_input 8589934592 entries files
     (λ e. with_input 1073741824 export files
     (λ x. audit_store_says h c s unix_time e x))))

@@ -69,5 +69,5 @@ trust_says h list most entries text bytes =
 -- and then the entries, at most 1 GiB.
 abbrev pub trust_outcome : HashFunction → Text → ℕ → Text → Files → Outcome
 trust_outcome h list most entries files = with_bytes 16777216 list (files list)
-    (λ text. with_bytes 1073741824 entries (files entries)
+    (λ text. with_bytes 8589934592 entries (files entries)
     (λ bytes. trust_says h list most entries text bytes))

@@ -33,7 +33,7 @@ use mtc_io::Bytes;
 use mtc_lines::export_reason;
 use mtc_proof::read_proof;
 use mtc_room::Room;
-use mtc_streams::fold_input;
+use mtc_streams::{ENTRIES_LIMIT, fold_input};
 use policy_core::{Refusal, StoreError, ValidStore};
 use relying_party::judge_cert;
 use std::alloc::Global;
@@ -182,7 +182,7 @@ pub fn audit<'a, H: TreeHash, R: Room>(
             compared::<H, R>(alloc, room, entries, judged)
         }
         Err(stop) => {
-            let _read = fold_input::<H, R, ()>(alloc, room, entries, LIST_LIMIT, &mut ())?;
+            let _read = fold_input::<H, R, ()>(alloc, room, entries, ENTRIES_LIMIT, &mut ())?;
             Err(stop)
         }
     }

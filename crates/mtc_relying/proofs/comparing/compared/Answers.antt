@@ -43,9 +43,9 @@ returns-in_err-answer-in-Claims g c =
     ∙ subst (IfClaims _) c.in-Claims.is c.asking-fold.ensures.made_with in
     rw (p.1, p.2) (λ wanted leaves.
     let same = subst (λ (j : Judged). LeavesOf h e wanted j) c.in-Claims.is leaves in
-    with_same g.R.Room g.R.Dsk.Disk (e ∷ []) 1073741824 e (g.R.Room.file c.args.room.now e) wanted
+    with_same g.R.Room g.R.Dsk.Disk (e ∷ []) 8589934592 e (g.R.Room.file c.args.room.now e) wanted
     (claim_says h e k) _ _ _ same
-    (streamed g.R.Room g.R.Dsk.Disk g.met.R.Dsk.Disk.only_now (e ∷ []) 1073741824 e
+    (streamed g.R.Room g.R.Dsk.Disk g.met.R.Dsk.Disk.only_now (e ∷ []) 8589934592 e
     (claim_says h e k) _ _ _
     c.in_ok-counted.ensures.all_closed _ c.in_ok-counted.ensures.items (λ bytes holds.
     c.in_err-answer-in-Claims.ensures bytes (of_items h _ _ bytes c.in_ok-counted.counted
@@ -60,9 +60,9 @@ returns-in-Some g c = λ wanted leaves.
     let made = c.in_ok-counted.ensures.same
     ∙ subst (IfClaims _) c.in-Claims.is c.asking-fold.ensures.made_with in
     let same = subst (λ (j : Judged). LeavesOf h e wanted j) c.in-Claims.is leaves in
-    with_same g.R.Room g.R.Dsk.Disk (e ∷ []) 1073741824 e (g.R.Room.file c.args.room.now e) wanted
+    with_same g.R.Room g.R.Dsk.Disk (e ∷ []) 8589934592 e (g.R.Room.file c.args.room.now e) wanted
     (claim_says h e k) _ _ _ same
-    (streamed g.R.Room g.R.Dsk.Disk g.met.R.Dsk.Disk.only_now (e ∷ []) 1073741824 e
+    (streamed g.R.Room g.R.Dsk.Disk g.met.R.Dsk.Disk.only_now (e ∷ []) 8589934592 e
     (claim_says h e k) _ _ _
     c.in_ok-counted.ensures.all_closed _ c.in_ok-counted.ensures.items (λ bytes holds.
     subst (λ (r : Option Answer). RepliesFirst (claim_says h e k bytes) (Ok r)) c.in-Some.is
@@ -76,7 +76,7 @@ returns g c = λ wanted leaves.
     let e = c.args.entries.now in
     let k = c.in-Claims.claim in
     let same = subst (λ (j : Judged). LeavesOf h e wanted j) c.in-Claims.is leaves in
-    with_same g.R.Room g.R.Dsk.Disk (e ∷ []) 1073741824 e (g.R.Room.file c.args.room.now e) wanted
+    with_same g.R.Room g.R.Dsk.Disk (e ∷ []) 8589934592 e (g.R.Room.file c.args.room.now e) wanted
     (claim_says h e k) _ _ _ same
-    (read_again g.R.Room g.R.Dsk.Disk (e ∷ []) 1073741824 e (claim_says h e k) _ _ _ _
+    (read_again g.R.Room g.R.Dsk.Disk (e ∷ []) 8589934592 e (claim_says h e k) _ _ _ _
     c.in_ok-counted.ensures.all_closed c.shown.ensures)

@@ -16,7 +16,7 @@ pub returns-in_err-text : goal.returns-in_err-text
 returns-in_err-text g c =
     let p = err_from_is_err_and c.from_residual.result c.from_residual.ensures.1 in
     rw (p.1, p.2) (c.in_err-text.ensures.stops (c.args.list.now ∷ c.args.entries.now ∷ []) []
-    (λ text. with_bytes 1073741824 c.args.entries.now
+    (λ text. with_bytes 8589934592 c.args.entries.now
     (g.R.Room.file c.args.room.now c.args.entries.now)
     (λ bytes. trust_says g.H.TreeHash.hash c.args.list.now c.args.max_active c.args.entries.now text
     bytes)) (inl refl))
@@ -41,8 +41,8 @@ returns-in_err-counted g c =
     rw (p.1, p.2)
     (after_file g.R.Room g.R.Dsk.Disk 16777216 a.list.now _ _ _ c.in_ok-text.text
     c.in_ok-text.ensures.all_closed c.in_ok-text.ensures.bytes (a.list.now ∷ e ∷ []) [] []
-    (λ text. with_bytes 1073741824 e (g.R.Room.file a.room.now e) (says text)) _ _
-    (λ t. ap (λ f. with_bytes 1073741824 e f (says c.in_ok-text.text))
+    (λ text. with_bytes 8589934592 e (g.R.Room.file a.room.now e) (says text)) _ _
+    (λ t. ap (λ f. with_bytes 8589934592 e f (says c.in_ok-text.text))
     (c.in_ok-text.ensures.all_closed.others e tt).bytes)
     (c.in_err-counted.ensures.stops (a.list.now ∷ e ∷ []) [] (says c.in_ok-text.text)
     (inr (inl refl))))
@@ -60,8 +60,8 @@ returns g c =
     let says = trust_says g.H.TreeHash.hash a.list.now a.max_active e in
     after_file g.R.Room g.R.Dsk.Disk 16777216 a.list.now _ _ _ c.in_ok-text.text
     c.in_ok-text.ensures.all_closed c.in_ok-text.ensures.bytes (a.list.now ∷ e ∷ []) [] []
-    (λ text. with_bytes 1073741824 e (g.R.Room.file a.room.now e) (says text)) _ _
-    (λ t. ap (λ f. with_bytes 1073741824 e f (says c.in_ok-text.text))
+    (λ text. with_bytes 8589934592 e (g.R.Room.file a.room.now e) (says text)) _ _
+    (λ t. ap (λ f. with_bytes 8589934592 e f (says c.in_ok-text.text))
     (c.in_ok-text.ensures.all_closed.others e tt).bytes)
     (streamed g.R.Room g.R.Dsk.Disk g.met.R.Dsk.Disk.only_now (a.list.now ∷ e ∷ []) _ e
     (says c.in_ok-text.text) _ _ _ c.in_ok-counted.ensures.all_closed _
