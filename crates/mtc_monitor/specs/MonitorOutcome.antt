@@ -51,7 +51,7 @@ abbrev pub kept_says : HashFunction → Text → Text → Text → Text → Text
 kept_says h state s watch w request r entries bytes = with_form text_fault_text state (state_in s)
     (λ kept. watch_says h kept watch w request r entries bytes)
 
--- The outcome of `monitor STATE WATCH REQUEST ENTRIES`: the four files are read, at most 1 GiB of
+-- The outcome of `monitor STATE WATCH REQUEST ENTRIES`: the four files are read, at most 8 GiB of
 -- the entries and at most 16 MiB of each other one.
 abbrev pub monitor_outcome : HashFunction → Text → Text → Text → Text → Files → Outcome
 monitor_outcome h state watch request entries files =

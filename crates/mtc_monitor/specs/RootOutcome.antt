@@ -18,7 +18,7 @@ abbrev pub root_says : HashFunction → Text → Text → Outcome
 root_says h entries bytes = with_form items_fault_text entries (items_in h bytes)
     (λ items. says Done (root_text h items))
 
--- The outcome of `root ENTRIES`: at most 1 GiB is read of the file.
+-- The outcome of `root ENTRIES`: at most 8 GiB is read of the file.
 abbrev pub root_outcome : HashFunction → Text → Files → Outcome
 root_outcome h entries files =
     with_bytes 8589934592 entries (files entries) (root_says h entries)

@@ -135,7 +135,7 @@ with_input limit name files next =
     with_bytes limit name (files name) (λ text. next (record { name = name; text = text }))
 
 -- The outcome of `audit CERT STORE NOW ENTRIES EXPORT`: the four files are read in this order,
--- certificate and store at most 16 MiB each, the others 1 GiB.
+-- certificate and store at most 16 MiB each, entries 8 GiB, the export 1 GiB.
 abbrev pub audit_outcome : HashFunction → Text → Text → ℕ → Text → Text → Files → Outcome
 audit_outcome h cert store unix_time entries export files =
     with_input 16777216 cert files

@@ -66,7 +66,7 @@ trust_says h list most entries text bytes =
     (λ items. list_says h list most text items.entries)
 
 -- The outcome of `trust-landmarks LIST MAXACTIVE ENTRIES`: the list is read, at most 16 MiB of it,
--- and then the entries, at most 1 GiB.
+-- and then the entries, at most 8 GiB.
 abbrev pub trust_outcome : HashFunction → Text → ℕ → Text → Files → Outcome
 trust_outcome h list most entries files = with_bytes 16777216 list (files list)
     (λ text. with_bytes 8589934592 entries (files entries)
