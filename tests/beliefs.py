@@ -43,7 +43,7 @@ STANDARDS = {
     "the draft: proofs, stores and judgement, issuing": ("mtc_proof", "policy_core", "authority_core"),
     "RFC 9162 and the draft: trees": ("tree_core", "tree_proofs", "landmarks", "collide"),
     "RFC 5280: certificates and entries": ("cert_time", "cert_fields", "cert_names", "log_entry"),
-    "RFC 8554: HSS, LMS and LM-OTS": ("hss_core", "lms_core", "lmots_core"),
+    "RFC 8554: HSS, LMS and LM-OTS": ("hss_core", "hss_keys", "lms_core", "lmots_core"),
     "RFC 8446, 3: TLS presentation": ("tls_wire",),
     "X.690: DER": ("der_core",),
     "TOML and RFC 4648": ("toml_fields",),
