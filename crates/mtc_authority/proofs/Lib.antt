@@ -12,6 +12,10 @@ pub mod Plain
 pub mod Both
 pub mod Replied
 pub mod Reading
+pub mod Texts
+pub mod Listed
+pub mod OpenLogs
+pub mod NotOpened
 pub mod Certified
 pub mod OnlyRead
 pub mod Requested

@@ -11,3 +11,4 @@ pub mod StoredTiles
 pub mod CertCommand
 pub mod IssueCommand
 pub mod NoJournal
+pub mod OpenLogs

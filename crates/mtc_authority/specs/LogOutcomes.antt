@@ -1,7 +1,8 @@
 -- The outcomes of the commands on a log: `init-log`, `checkpoint`, `entries` and `entries-from`.
 use Rattle.std.specs.Prelude.{ℕ, ◌-◌, nat_le, nat_lt, List, [], ◌++◌, length, slice_index_or, codes}
-use Rattle.std.specs.Prelude.{None, ◌≡◌, ◌<◌, if◌then◌else◌}
+use Rattle.std.specs.Prelude.{Option, None, ◌≡◌, ◌<◌, if◌then◌else◌}
 use Rattle.std.specs.Fmt.{decimal}
+use Rattle.std.specs.Io.KnownBytes.{Appends}
 use Rattle.byte_formats.specs.Types.{HashFunction, Text}
 use Rattle.tls_wire.specs.Anchors.{text_of}
 use Rattle.tree_core.specs.Tree.{tree_hash}
@@ -75,3 +76,9 @@ abbrev pub StopsAt : Type 0 → Text → Ending → Type 0
 StopsAt Fault file (replied reply) = ⊥
 StopsAt Fault file (room_failed at) = (at ≡ file) × Fault
 StopsAt Fault file no_memory = Unit {0}
+
+-- The first of the bytes that were held went out, by what a sink took before and after; these are
+-- still held.
+abbrev pub PassesOn : Option Text → Option Text → Text → Text → Type 0
+PassesOn before after held left =
+    (gone : Text) × Appends before after gone × (held ≡ gone ++ left)

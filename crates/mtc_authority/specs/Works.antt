@@ -1,5 +1,5 @@
 -- What files are opened as a log with its tiles, and what a command has to reply over it.
-use Rattle.std.specs.Prelude.{◌≡◌, ◌≢◌, ℕ, false, List, Option, None, Some, IfSome}
+use Rattle.std.specs.Prelude.{◌≡◌, ◌≢◌, ℕ, Bool, true, false, List, Option, None, Some, IfSome}
 use Rattle.std.specs.Prelude.{IsOk}
 use Rattle.byte_formats.specs.Types.{HashFunction, Text}
 use Rattle.issuance_log.specs.Reasons.{log_open_text}
@@ -52,6 +52,12 @@ log_open_ending file (NoTiles tile_error.Failed) = room_failed (tiles_name file)
 log_open_ending file (NoTiles (tile_error.BadTile level place)) =
     replied (bad_tile file level place)
 log_open_ending file why = replied (refused BadForm (Some file) (log_open_text why))
+
+-- The work lists items of the log. It writes them while it reads them.
+abbrev pub lists_items : Work → Bool
+lists_items (Entries size) = true
+lists_items (EntriesFrom first size) = true
+lists_items other = false
 
 -- A log was found, with its records.
 abbrev pub found_log : LogState → List Text → FoundLog

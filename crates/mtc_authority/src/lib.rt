@@ -3,8 +3,9 @@
 //! and `tile`.
 //!
 //! The file system opens a journal and the file of its tiles, the log is opened over them and
-//! worked on, and both are closed ([`on_log`]); what is done with the log is a [`Work`]. What each
-//! command has to answer, and what it leaves of the journal, are definitions in `specs/`.
+//! worked on, and both are closed ([`on_log`]); what is done with the log is a [`Work`]. A work
+//! that lists items writes them while it reads them ([`stream_log`]). What each command has to
+//! answer, and what it leaves of the journal, are definitions in `specs/`.
 //!
 //! No clause says that the tiles are closed before the journal, or that no call asks for their file
 //! if there is no journal: that is tested alone. No clause says that there are 64 frames.
@@ -12,16 +13,18 @@
 
 pub mod cert;
 mod checkpoint;
+mod entries;
 pub mod init_log;
 pub mod issue;
 pub mod laws;
 mod log_command;
 mod marks;
+mod opening;
 mod requests;
 mod switch;
 mod tiles;
 mod tree;
 mod work;
 
-pub use log_command::on_log;
+pub use log_command::{on_log, stream_log};
 pub use work::Work;

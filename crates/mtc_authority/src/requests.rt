@@ -11,7 +11,7 @@ ghost use Rattle.mtc_authority.specs.RequestOutcomes.{advance_by_log, consist_re
 ghost use Rattle.mtc_authority.specs.RequestOutcomes.{subtree_reply};
 ghost use Rattle.mtc_authority.specs.Works.{RepliesOnLog};
 
-use crate::checkpoint::too_many;
+use crate::entries::too_many;
 use crate::tree::{growth_of, hash_of, proof_of, root_of};
 use cosigner_core::{write_advance, write_subtree};
 use disk_core::Disk;

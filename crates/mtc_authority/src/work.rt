@@ -1,13 +1,14 @@
 //! The work of a command on a log whose journal is open: its own refusals, its text, and at most
 //! one append, which is its last step.
 
+ghost use Rattle.std.specs.Prelude.{◌≡◌, false};
 ghost use Rattle.mtc_authority.specs.StoredTiles.{StoresTiles};
 ghost use Rattle.mtc_authority.specs.Works.{HasWorkedOnLog, IsReadyLog, OnlyReadsTiles, StaysLog};
-ghost use Rattle.mtc_authority.specs.Works.{log_says};
+ghost use Rattle.mtc_authority.specs.Works.{lists_items, log_says};
 ghost use Rattle.mtc_command.specs.Answers.{ending_of};
 
 use crate::cert::{Signatures, certificate, light_certificate};
-use crate::checkpoint::{checkpoint, entries, entries_from};
+use crate::checkpoint::checkpoint;
 use crate::issue::issue_on;
 use crate::marks::{list_landmarks, set_landmark};
 use crate::requests::{consist, subtree};
@@ -52,8 +53,9 @@ pub enum Work {
     Tile,
 }
 
-/// Carries out a command on the log of a journal. A failure of a device is reported with the name
-/// of its file. The device of the tiles is only read, unless tiles are stored.
+/// Carries out a command on the log of a journal, unless it lists items. A failure of a device is
+/// reported with the name of its file. The device of the tiles is only read, unless tiles are
+/// stored.
 #[tactic(auto, unfolding(crate::specs::Works::log_says))]
 pub fn carry_out<'a, H: TreeHash, D: Disk>(
     alloc: Global,
@@ -61,7 +63,8 @@ pub fn carry_out<'a, H: TreeHash, D: Disk>(
     log: &mut Log<H, D, D>,
     work: Work,
 ) -> Result<Answer, Stop<'a>>
-    requires { IsReadyLog log.old }
+    requires ready { IsReadyLog log.old }
+    requires kept { lists_items work ≡ false }
     ensures works { HasWorkedOnLog journal.now (log_says H.hash work) log.old log.new
         (ending_of result) }
     ensures valid { StaysLog H.hash (log_says H.hash work) log.old log.new }
@@ -70,8 +73,7 @@ pub fn carry_out<'a, H: TreeHash, D: Disk>(
 {
     match work {
         Work::Checkpoint => checkpoint(alloc, journal, log),
-        Work::Entries(size) => entries(alloc, journal, log, size),
-        Work::EntriesFrom(first, size) => entries_from(alloc, journal, log, first, size),
+        Work::Entries(_) | Work::EntriesFrom(_, _) => unreachable!(),
         Work::Issue(request) => issue_on(alloc, journal, log, &request),
         Work::Consist(old, new) => consist(alloc, journal, log, old, new),
         Work::Subtree(start, end, size) => subtree(alloc, journal, log, start, end, size),

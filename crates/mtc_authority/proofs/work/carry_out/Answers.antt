@@ -3,8 +3,7 @@ use Rattle.issuance_log.specs.Folds.{LogState, view_in}
 use Rattle.mtc_command.specs.Answers.{ending_of}
 use Rattle.mtc_authority.specs.CertOutcome.{cert_reply, light_reply}
 use Rattle.mtc_authority.specs.LandmarkOutcomes.{landmarks_reply}
-use Rattle.mtc_authority.specs.LogOutcomes.{checkpoint_reply, entries_from_reply}
-use Rattle.mtc_authority.specs.LogOutcomes.{entries_reply}
+use Rattle.mtc_authority.specs.LogOutcomes.{checkpoint_reply}
 use Rattle.mtc_authority.specs.RequestOutcomes.{consist_reply, subtree_reply}
 use Rattle.mtc_authority.specs.Works.{HasWorkedOnLog, StaysLog, log_says}
 use Rattle.mtc_authority.specs.declared.work.Work.{Work}
@@ -18,21 +17,6 @@ returns-in-Checkpoint-clause-works g c = subst
     c.args.log.now c.checkpoint.new.log (ending_of c.checkpoint.result)) (sym c.in-Checkpoint.is)
     (worked_by _ _ _ _ (λ (s : LogState). checkpoint_reply g.H.TreeHash.hash s.entries)
     c.checkpoint.ensures)
-
-pub returns-in-Entries-clause-works : goal.returns-in-Entries-clause-works
-unfolding Rattle.mtc_authority.specs.Works.log_says
-returns-in-Entries-clause-works g c = subst
-    (λ (w : Work). HasWorkedOnLog c.args.journal.now (log_says g.H.TreeHash.hash w)
-    c.args.log.now c.entries.new.log (ending_of c.entries.result)) (sym c.in-Entries.is)
-    (worked_by _ _ _ _ (entries_reply _) c.entries.ensures)
-
-pub returns-in-EntriesFrom-clause-works : goal.returns-in-EntriesFrom-clause-works
-unfolding Rattle.mtc_authority.specs.Works.log_says
-returns-in-EntriesFrom-clause-works g c = subst
-    (λ (w : Work). HasWorkedOnLog c.args.journal.now (log_says g.H.TreeHash.hash w)
-    c.args.log.now c.entries_from.new.log (ending_of c.entries_from.result))
-    (sym c.in-EntriesFrom.is)
-    (worked_by _ _ _ _ (entries_from_reply _ _) c.entries_from.ensures)
 
 pub returns-in-Issue-clause-works : goal.returns-in-Issue-clause-works
 unfolding Rattle.mtc_authority.specs.Works.log_says
@@ -103,16 +87,10 @@ returns-in-Landmarks-clause-works g c =
     log c.list_landmarks.new.log ending) (sym c.in-Landmarks.is)
     (worked_by _ _ _ _ (λ (s : LogState). landmarks_reply (view_in s))
     (landmarks_so c.args.journal.now log c.list_landmarks.new.log ending
-    c.list_landmarks.ensures.stays c.requires.view c.list_landmarks.ensures.reply))
+    c.list_landmarks.ensures.stays c.requires.ready.view c.list_landmarks.ensures.reply))
 
 pub returns-in-Checkpoint-clause-valid : goal.returns-in-Checkpoint-clause-valid
 returns-in-Checkpoint-clause-valid g c = inl (inr c.checkpoint.ensures.stays.only_reads)
-
-pub returns-in-Entries-clause-valid : goal.returns-in-Entries-clause-valid
-returns-in-Entries-clause-valid g c = inl (inr c.entries.ensures.stays.only_reads)
-
-pub returns-in-EntriesFrom-clause-valid : goal.returns-in-EntriesFrom-clause-valid
-returns-in-EntriesFrom-clause-valid g c = inl (inr c.entries_from.ensures.stays.only_reads)
 
 pub returns-in-Consist-clause-valid : goal.returns-in-Consist-clause-valid
 returns-in-Consist-clause-valid g c = inl (inr c.consist.ensures.stays.only_reads)
@@ -156,12 +134,6 @@ returns-in-Tile-clause-valid g c = subst
 pub returns-in-Checkpoint-clause-only_read : goal.returns-in-Checkpoint-clause-only_read
 returns-in-Checkpoint-clause-only_read g c = λ other. inr c.checkpoint.ensures.stays.tiles
 
-pub returns-in-Entries-clause-only_read : goal.returns-in-Entries-clause-only_read
-returns-in-Entries-clause-only_read g c = λ other. inr c.entries.ensures.stays.tiles
-
-pub returns-in-EntriesFrom-clause-only_read : goal.returns-in-EntriesFrom-clause-only_read
-returns-in-EntriesFrom-clause-only_read g c = λ other. inr c.entries_from.ensures.stays.tiles
-
 pub returns-in-Consist-clause-only_read : goal.returns-in-Consist-clause-only_read
 returns-in-Consist-clause-only_read g c = λ other. inr c.consist.ensures.stays.tiles
 
@@ -192,14 +164,6 @@ returns-in-Tile-clause-only_read g c = λ other. absurd (other c.in-Tile.is)
 pub returns-in-Checkpoint-clause-stores : goal.returns-in-Checkpoint-clause-stores
 returns-in-Checkpoint-clause-stores g c =
     λ tile. absurd (let wrong = sym c.in-Checkpoint.is ∙ tile in cc)
-
-pub returns-in-Entries-clause-stores : goal.returns-in-Entries-clause-stores
-returns-in-Entries-clause-stores g c =
-    λ tile. absurd (let wrong = sym c.in-Entries.is ∙ tile in cc)
-
-pub returns-in-EntriesFrom-clause-stores : goal.returns-in-EntriesFrom-clause-stores
-returns-in-EntriesFrom-clause-stores g c =
-    λ tile. absurd (let wrong = sym c.in-EntriesFrom.is ∙ tile in cc)
 
 pub returns-in-Issue-clause-stores : goal.returns-in-Issue-clause-stores
 returns-in-Issue-clause-stores g c =

@@ -5,7 +5,7 @@ use Rattle.byte_formats.specs.Types.{Text}
 use Rattle.tls_wire.specs.Encoding.{vector}
 use Rattle.issuance_log.specs.Words.{modelled_state}
 use Rattle.mtc_authority.proofs.Items.{item_after}
-use Rattle.mtc_authority.proofs.checkpoint.put_item.Goals as goal
+use Rattle.mtc_authority.proofs.entries.put_item.Goals as goal
 
 pub returns-in_err-read_item : goal.returns-in_err-read_item
 returns-in_err-read_item g c =

@@ -1,0 +1,112 @@
+use Rattle.std.proofs.Common.{◌∙◌, inl, inr, arith}
+use Rattle.std.proofs.lemmas.Result.{err_from_is_err_and}
+use Rattle.mtc_command.specs.declared.answer.Stop.TheVariants.{Memory}
+use Rattle.mtc_lines.proofs.Outputs.{stopped_before, streams_so}
+use Rattle.mtc_authority.proofs.NotOpened.{none_opened}
+use Rattle.mtc_authority.proofs.OpenLogs.{log_keeps_valid, log_only_reads, log_serves, log_spares}
+use Rattle.mtc_authority.specs.Works.{log_says}
+use Rattle.mtc_authority.proofs.OpenLogs.{log_stores_both, read_stores}
+use Rattle.mtc_authority.proofs.log_command.stream_log.Goals as goal
+
+pub open_log-requires : goal.open_log-requires
+open_log-requires g c =
+    record { opened = c.requires.opened; named = c.deref.ensures ∙ c.in_ok-name.ensures }
+
+pub close_log-requires : goal.close_log-requires
+close_log-requires g c =
+    let is = c.in_ok-log.ensures.opened in
+    record {
+      both = omega (arith, is.header.opened.opened, is.beside.opened);
+      named = c.deref-2.ensures ∙ c.in_ok-name.ensures;
+    }
+
+pub returns-in_err-name-clause-streams : goal.returns-in_err-name-clause-streams
+returns-in_err-name-clause-streams g c =
+    let refused = err_from_is_err_and c.from_residual.result c.from_residual.ensures.1 in
+    let none = none_opened g.R.Room g.R.Dsk.Disk c.args.journal.now g.H.TreeHash.hash
+    c.args.room.now g.met.R.Dsk.Disk.only_now in
+    rw (refused.1, refused.2)
+    (stopped_before g.O.Sink c.args.out.now _ Memory (none.serves c.args.work))
+
+pub returns-in_err-log-clause-streams : goal.returns-in_err-log-clause-streams
+returns-in_err-log-clause-streams g c =
+    let refused = err_from_is_err_and c.from_residual-in_err-log.result
+    c.from_residual-in_err-log.ensures.1 in
+    rw (refused.1, refused.2) (stopped_before g.O.Sink c.args.out.now _ _
+    (c.in_err-log.ensures.stops.serves c.args.work))
+
+pub returns-in_err-name-clause-valid : goal.returns-in_err-name-clause-valid
+returns-in_err-name-clause-valid g c =
+    let none = none_opened g.R.Room g.R.Dsk.Disk c.args.journal.now g.H.TreeHash.hash
+    c.args.room.now g.met.R.Dsk.Disk.only_now in
+    none.valid c.args.work
+
+pub returns-in_err-log-clause-valid : goal.returns-in_err-log-clause-valid
+returns-in_err-log-clause-valid g c = c.in_err-log.ensures.stops.valid c.args.work
+
+pub returns-in_err-name-clause-only_read : goal.returns-in_err-name-clause-only_read
+returns-in_err-name-clause-only_read g c =
+    let none = none_opened g.R.Room g.R.Dsk.Disk c.args.journal.now g.H.TreeHash.hash
+    c.args.room.now g.met.R.Dsk.Disk.only_now in
+    none.only_read
+
+pub returns-in_err-log-clause-only_read : goal.returns-in_err-log-clause-only_read
+returns-in_err-log-clause-only_read g c = c.in_err-log.ensures.stops.only_read
+
+pub returns-in_err-name-clause-stores : goal.returns-in_err-name-clause-stores
+returns-in_err-name-clause-stores g c =
+    let none = none_opened g.R.Room g.R.Dsk.Disk c.args.journal.now g.H.TreeHash.hash
+    c.args.room.now g.met.R.Dsk.Disk.only_now in
+    none.stores c.args.work
+
+pub returns-in_err-log-clause-stores : goal.returns-in_err-log-clause-stores
+returns-in_err-log-clause-stores g c = c.in_err-log.ensures.stops.stores c.args.work
+
+pub returns-in_err-name-clause-spares : goal.returns-in_err-name-clause-spares
+returns-in_err-name-clause-spares g c =
+    let none = none_opened g.R.Room g.R.Dsk.Disk c.args.journal.now g.H.TreeHash.hash
+    c.args.room.now g.met.R.Dsk.Disk.only_now in
+    none.spares
+
+pub returns-in_err-log-clause-spares : goal.returns-in_err-log-clause-spares
+returns-in_err-log-clause-spares g c = c.in_err-log.ensures.stops.spares
+
+pub returns-clause-streams : goal.returns-clause-streams
+returns-clause-streams g c =
+    streams_so g.O.Sink c.args.out.now c.write_entries-written.new.out _ _
+    (log_serves g.R.Room g.R.Dsk.Disk c.args.journal.now c.args.room.now
+    c.open_log.new.room c.close_log.new.room c.in_ok-log.log c.write_entries-written.new.log
+    c.in_ok-log.ensures.opened c.close_log.ensures c.args.work
+    g.met.R.Dsk.Disk.reads_crash_state) c.write_entries-written.result
+    c.write_entries-written.ensures.streams
+
+pub returns-clause-valid : goal.returns-clause-valid
+returns-clause-valid g c =
+    log_keeps_valid g.R.Room g.R.Dsk.Disk c.args.journal.now c.args.room.now
+    c.open_log.new.room c.close_log.new.room c.in_ok-log.log c.write_entries-written.new.log
+    c.in_ok-log.ensures.opened c.close_log.ensures c.args.work
+    (inl (inr c.write_entries-written.ensures.stays.only_reads))
+
+pub returns-clause-only_read : goal.returns-clause-only_read
+returns-clause-only_read g c =
+    log_only_reads g.R.Room g.R.Dsk.Disk c.args.journal.now c.args.room.now
+    c.open_log.new.room c.close_log.new.room c.in_ok-log.log c.write_entries-written.new.log
+    c.in_ok-log.ensures.opened c.close_log.ensures c.args.work
+    g.met.R.Dsk.Disk.only_now g.met.R.Room.modelled_file
+    (inr c.write_entries-written.ensures.stays.tiles)
+
+pub returns-clause-stores : goal.returns-clause-stores
+returns-clause-stores g c =
+    let stays = c.write_entries-written.ensures.stays in
+    log_stores_both g.R.Room g.R.Dsk.Disk c.args.journal.now c.args.room.now
+    c.open_log.new.room c.close_log.new.room c.in_ok-log.log c.write_entries-written.new.log
+    c.in_ok-log.ensures.opened c.close_log.ensures c.args.work
+    g.met.R.Room.modelled_file
+    (read_stores c.in_ok-log.log c.write_entries-written.new.log (log_says g.H.TreeHash.hash
+    c.args.work) stays.only_reads stays.tiles)
+
+pub returns-clause-spares : goal.returns-clause-spares
+returns-clause-spares g c =
+    log_spares g.R.Room g.R.Dsk.Disk c.args.journal.now c.args.room.now
+    c.open_log.new.room c.close_log.new.room c.in_ok-log.log c.write_entries-written.new.log
+    c.in_ok-log.ensures.opened c.close_log.ensures c.args.work
