@@ -2,7 +2,8 @@
 -- to say too; and of its output.
 use Rattle.std.specs.Prelude.{Bool, true, false, List, [], Option, None, Some}
 use Rattle.byte_formats.specs.Types.{Text}
-use Rattle.mtc_words.specs.Commands.{CommandValue, export, init_cosigner, init_log, tile}
+use Rattle.mtc_words.specs.Commands.{CommandValue, entries, entries_from, export, init_cosigner}
+use Rattle.mtc_words.specs.Commands.{init_log, tile}
 
 -- The journal that it makes: two commands begin one.
 abbrev pub journal_made_by : CommandValue → Option Text
@@ -18,5 +19,7 @@ only_read_by other besides = besides
 -- It may write its text while it still reads its journal. The text of any other command is written
 -- once all else is done.
 abbrev pub streams : CommandValue → Bool
+streams (entries journal size) = true
+streams (entries_from journal first size) = true
 streams (export journal) = true
 streams other = false

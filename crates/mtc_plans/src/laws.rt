@@ -45,7 +45,7 @@ pub fn law_plans_name_their_files()
 {}
 
 /// A command that may write its text while it reads its journal adds no record and makes no
-/// journal, whatever files there are. No command does so yet.
+/// journal, whatever files there are: `entries`, `entries-from` and `export`.
 pub fn law_streams_add_no_record()
     ensures records { StreamsAddNone }
     ensures journals { StreamsMakeNone }

@@ -25,7 +25,7 @@ use crate::refused_words::word_reason;
 use mtc_authority::cert::cert;
 use mtc_authority::init_log::init_log;
 use mtc_authority::issue::issue;
-use mtc_authority::{Work, on_log};
+use mtc_authority::{Work, on_log, stream_log};
 use mtc_command::{Answer, Stop, Stopped, refuse};
 use mtc_cosigner::export::export;
 use mtc_cosigner::init_cosigner::init_cosigner;
@@ -139,10 +139,8 @@ fn perform<'a, H: TreeHash, R: Room>(
         Command::InitLog(log, id, active, limit) => init_log(alloc, room, log, id, active, limit),
         Command::Issue(journal, request) => issue::<H, R>(alloc, room, journal, request),
         Command::Checkpoint(log) => on_log::<H, R>(alloc, room, log, Work::Checkpoint),
-        Command::Entries(log, size) => on_log::<H, R>(alloc, room, log, Work::Entries(size)),
-        Command::EntriesFrom(log, first, to) => {
-            on_log::<H, R>(alloc, room, log, Work::EntriesFrom(first, to))
-        }
+        Command::Entries(_, _) => unreachable!(),
+        Command::EntriesFrom(_, _, _) => unreachable!(),
         Command::Consist(log, old, to) => on_log::<H, R>(alloc, room, log, Work::Consist(old, to)),
         Command::Subtree(log, start, end, size) => {
             on_log::<H, R>(alloc, room, log, Work::Subtree(start, end, size))
@@ -197,6 +195,14 @@ fn carry_out<'a, H: TreeHash, R: Room, O: Sink>(
         (command_outcome H.hash (command_value command.entry) (R.file room.old)) }
 {
     match command {
+        Command::Entries(log, size) => {
+            let work = Work::Entries(size);
+            Ended::Written(stream_log::<H, R, O>(alloc, room, log, work, out))
+        }
+        Command::EntriesFrom(log, first, to) => {
+            let work = Work::EntriesFrom(first, to);
+            Ended::Written(stream_log::<H, R, O>(alloc, room, log, work, out))
+        }
         Command::Export(journal) => Ended::Written(export::<H, R, O>(alloc, room, journal, out)),
         _ => Ended::Kept(perform::<H, R>(alloc, room, command)),
     }
@@ -253,9 +259,9 @@ fn answer<'a, H: TreeHash, R: Room, O: Sink>(
 /// there already; 8 memory was refused; 9 an input is over its limit, or the log or a journal takes
 /// no more. Tests come in the order of the program's steps: the arguments, the input files, their
 /// grammars (a certificate's with its judgement), the journal, the log's tiles, and the command's
-/// own. A failure of `err` changes no status. `export` writes while it reads its journal: with 5
-/// and 8 a prefix of its text may have gone out, after all that it does with the journal but read
-/// it.
+/// own. A failure of `err` changes no status. `entries`, `entries-from` and `export` write while
+/// they read their journal: with 5 and 8 a prefix of the text may have gone out, after all that is
+/// done with the journal but read it.
 ///
 /// What follows of each run, and how it ends as steps of a party, is [`crate::law_runs_are_steps`].
 pub fn run<H: TreeHash, R: Room, O: Sink, E: Sink>(

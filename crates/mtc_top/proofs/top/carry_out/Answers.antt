@@ -1,6 +1,7 @@
 use Rattle.std.proofs.Common.{◌≡◌, false, refl}
 use Rattle.mtc_words.specs.Commands.{command_value}
 use Rattle.mtc_words.specs.declared.command.Command.{Command}
+use Rattle.mtc_words.specs.declared.command.Command.TheVariants.{Entries, EntriesFrom}
 use Rattle.mtc_words.specs.declared.command.Command.TheVariants.{Export}
 use Rattle.mtc_lines.proofs.Outputs.{some_ending, streams_so}
 use Rattle.mtc_plans.specs.Words.{streams}
@@ -29,5 +30,52 @@ perform-requires-clause-kept g c = go c.args.command refl
   where
     go : (command : Command) → c.args.command ≡ command
         → streams (command_value command) ≡ false
+    go (Entries journal size) is = absurd (c.in_default.not-Entries journal size is)
+    go (EntriesFrom journal first size) is =
+        absurd (c.in_default.not-EntriesFrom journal first size is)
     go (Export journal) is = absurd (c.in_default.not-Export journal is)
     go other is = refl
+
+pub returns-in-Entries-clause-done : goal.returns-in-Entries-clause-done
+returns-in-Entries-clause-done g c = rw c.in-Entries.is (
+  refl,
+  streams_so g.O.Sink c.args.out.now c.stream_log.new.out _ _ (λ ending served. (served, tt))
+      c.stream_log.result c.stream_log.ensures.streams,
+)
+
+pub returns-in-Entries-clause-valid : goal.returns-in-Entries-clause-valid
+returns-in-Entries-clause-valid g c = rw c.in-Entries.is c.stream_log.ensures.valid
+
+pub returns-in-Entries-clause-only_read : goal.returns-in-Entries-clause-only_read
+returns-in-Entries-clause-only_read g c =
+    rw c.in-Entries.is (λ t. (c.stream_log.ensures.only_read t, tt))
+
+pub returns-in-Entries-clause-spares : goal.returns-in-Entries-clause-spares
+returns-in-Entries-clause-spares g c = rw c.in-Entries.is (c.stream_log.ensures.spares, tt)
+
+pub returns-in-Entries-clause-stores : goal.returns-in-Entries-clause-stores
+returns-in-Entries-clause-stores g c = rw c.in-Entries.is c.stream_log.ensures.stores
+
+pub returns-in-EntriesFrom-clause-done : goal.returns-in-EntriesFrom-clause-done
+returns-in-EntriesFrom-clause-done g c = rw c.in-EntriesFrom.is (
+  refl,
+  streams_so g.O.Sink c.args.out.now c.stream_log-in-EntriesFrom.new.out _ _
+      (λ ending served. (served, tt)) c.stream_log-in-EntriesFrom.result
+      c.stream_log-in-EntriesFrom.ensures.streams,
+)
+
+pub returns-in-EntriesFrom-clause-valid : goal.returns-in-EntriesFrom-clause-valid
+returns-in-EntriesFrom-clause-valid g c =
+    rw c.in-EntriesFrom.is c.stream_log-in-EntriesFrom.ensures.valid
+
+pub returns-in-EntriesFrom-clause-only_read : goal.returns-in-EntriesFrom-clause-only_read
+returns-in-EntriesFrom-clause-only_read g c =
+    rw c.in-EntriesFrom.is (λ t. (c.stream_log-in-EntriesFrom.ensures.only_read t, tt))
+
+pub returns-in-EntriesFrom-clause-spares : goal.returns-in-EntriesFrom-clause-spares
+returns-in-EntriesFrom-clause-spares g c =
+    rw c.in-EntriesFrom.is (c.stream_log-in-EntriesFrom.ensures.spares, tt)
+
+pub returns-in-EntriesFrom-clause-stores : goal.returns-in-EntriesFrom-clause-stores
+returns-in-EntriesFrom-clause-stores g c =
+    rw c.in-EntriesFrom.is c.stream_log-in-EntriesFrom.ensures.stores
