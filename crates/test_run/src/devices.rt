@@ -1,7 +1,8 @@
 //! What the commands on the journal of a log answer where a call of its device fails.
 
-use crate::desk::{Answer, Desk};
+use crate::desk::{Answer, Desk, sink};
 use crate::scripts::{Outcome, desk_after, outcome_of};
+use crate::texts::owned_words;
 use std::alloc::Global;
 
 const SCRIPT: &str = r#"
@@ -332,5 +333,81 @@ fn a_device_fails_an_append(rt: HostRuntime) {
                 appending.words
             );
         }
+    }
+}
+
+// A log of two entries, each with a key of 4,200 bytes: with the null entry before it the first one
+// goes out before the second one is read.
+const LONG_ENTRIES: &str = r#"
+file q
+| not_before = "2026-01-01T00:00:00Z"
+| not_after = "2026-01-08T00:00:00Z"
+| dns = ["a.example"]
+|= key = "MIIQZDAFBgMrZXADghBZ
+times 1395 41414141
+| "
+$ issue j q
+| issued 1
+$ issue j q
+| issued 2
+"#;
+
+// What went out of `entries j 3` after a failure: nothing; the null entry and the first one; these
+// and 1,000 bytes more; and all of them. An entry has 131 bytes, and each string its length before
+// it.
+const NONE: usize = 0;
+
+const FIRST: usize = 6 + 4_335;
+
+const PART: usize = FIRST + 1_000;
+
+const ALL: usize = FIRST + 4_335;
+
+fn long_log(alloc: Global) -> Option<Desk> {
+    let mut desk = desk_after(alloc, READY, LONG_ENTRIES)?;
+    let calls = Vec::new(alloc);
+    desk.fail(alloc, "j", calls)?;
+    Some(desk)
+}
+
+// The status and how much went out, where this call of the journal's device fails.
+fn listed_with(alloc: Global, call: u64) -> Option<(u8, usize)> {
+    let mut desk = long_log(alloc)?;
+    desk.fail(alloc, "j", vec![in alloc; call].ok()?)?;
+    let answer = desk.answer(alloc, "entries j 3").ok()?;
+    Some((answer.status, answer.out.taken().len()))
+}
+
+// The same where this call of standard output fails, which takes 1,000 bytes a call.
+fn listed_to(alloc: Global, call: u64) -> Option<(u8, usize)> {
+    let mut desk = long_log(alloc)?;
+    let words = owned_words(alloc, "entries j 3").ok()?;
+    let out = sink(alloc, 1_000, vec![in alloc; call].ok()?);
+    let err = sink(alloc, 1_000, Vec::new(alloc));
+    let answer = desk.run_over(alloc, words.as_slice(), out, err);
+    Some((answer.status, answer.out.taken().len()))
+}
+
+// Six calls open the log, and two read each entry but the null entry: its length, and the whole.
+#[test]
+fn a_device_cuts_off_a_listing(rt: HostRuntime) {
+    let alloc = rt.alloc();
+    for call in 0..8 {
+        let cut = listed_with(alloc, call);
+        assert!(rt; cut == Some((5, NONE)), "{call}: {cut:?}");
+    }
+    for call in 8..10 {
+        let cut = listed_with(alloc, call);
+        assert!(rt; cut == Some((5, FIRST)), "{call}: {cut:?}");
+    }
+    let whole = listed_with(alloc, 10);
+    assert!(rt; whole == Some((0, ALL)), "{whole:?}");
+}
+
+#[test]
+fn standard_output_cuts_off_a_listing(rt: HostRuntime) {
+    for (call, length) in [(0, NONE), (5, FIRST), (6, PART)] {
+        let cut = listed_to(rt.alloc(), call);
+        assert!(rt; cut == Some((6, length)), "{call}: {cut:?}");
     }
 }
