@@ -129,12 +129,12 @@ pub fn law_exports_hold_what_went_out<H: TreeHash, R: Room, O: Sink, E: Sink>()
     ensures { ExportsHoldTheSteps H.hash (program H.hash R.Room R.Dsk.Disk O.Sink E.Sink) }
 {}
 
-/// What a run of `export` prints after an execution of a cosigner's journal begins with what each
-/// run of `export` in that execution printed, which is the export of the records that this run
-/// read. Of each it is the whole text with status 0, and a prefix of it with 5, 6 and 8. Over any
-/// output the run reads the records that each of those read and a rest after them, and what it
-/// prints more is the rest. So if an export doesn't begin with an earlier one, an old copy was
-/// restored, or the journal was damaged.
+/// The text of a run of `export` after an execution of a cosigner's journal begins with that of
+/// each run of `export` in the execution, which is the export of the records that this run read. Of
+/// its text a run prints all with status 0, and a prefix with 5, 6 and 8. Over any output the run
+/// reads the records that each of those read and a rest after them, and its text has the rest more.
+/// So if an export that was printed with status 0 doesn't begin with an earlier one, an old copy
+/// was restored, or the journal was damaged.
 pub fn law_exports_only_grow<H: TreeHash, R: Room, O: Sink, E: Sink>()
     ensures { ExportsOnlyGrow H.hash (program H.hash R.Room R.Dsk.Disk O.Sink E.Sink) }
 {}
