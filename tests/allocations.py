@@ -2,7 +2,8 @@
 """Refuses each allocation of each command in turn, over real files; of a drill, which makes many, one in so many.
 
 The command then ends with status 8, one line that says so, nothing on standard output and every
-file as it was; or with its outcome, as if nothing had been refused. Of a log without a file of
+file as it was; or with its outcome, as if nothing had been refused. The lists here are shorter
+than what `entries` writes at once: of a longer one a prefix may be out. Of a log without a file of
 tiles an empty one may be there then. The allocations are those of the C library, of which a
 preloaded library refuses one. Needs a C compiler; where there is none it says that this is left
 out, and ends with status 0.

@@ -30,7 +30,7 @@ PLACES = [
            ("Commands.antt", r"^journal_of \(?{value}\b"), ("Names.antt", r'codes "{word}"'), ("Names.antt", r"^word_count {Name} ="),
            ("Names.antt", r"^takes_journal {Name} ="), ("Words.antt", r"^command_from {Name} ")]),
     Place(f"{WORDS}/proofs/Journals.antt", "a line of `from_words`", [("", r"^from_words {Name} ")]),
-    Place(f"{TOP}/src/top.rt", "a line of `perform`, or of `perform_reading` if it has no journal: the call, in the crate of its role", [("", r"Command::{Name}\b")]),
+    Place(f"{TOP}/src/top.rt", "a line of `perform`, or of `perform_reading` if it has no journal: the call, in the crate of its role", [("", r"Command::{Name}\b(?!.*unreachable)")]),
     Place("crates/mtc_plans", "in `specs/Commands.antt` a line of `plan_of`: the plan, which stands beside it in `specs/`, has its inputs, "
           "its journals and its steps. In `specs/Cited.antt` a line of `command_outcome`: the outcome that its contract cites, a nest of the "
           "steps of `Steps`, in `specs/` of its crate. In `proofs/Planned.antt` a line of `outcome_planned`: that is what comes of the plan. "
