@@ -31,13 +31,18 @@ $ export s
   HEAD ADVANCE
 left s ADVANCED 00 SIGN 00
 
-case an export doesn't go out
+case an export doesn't go out: the ids do, and the length of the key, each by a call of its own
 file s ADVANCED 00
-takes 100
-out-fails 1
+out-fails 5
 $ export s
 status 6
-  HEAD 0000002b12000000000000040077566825cd25f263271e3fa5341db2
+  0481fd59020481fd5901003c
+! mtc: export: OutputFailed
+left s ADVANCED 00
+file s ADVANCED 00
+out-fails 0
+$ export s
+status 6
 ! mtc: export: OutputFailed
 left s ADVANCED 00
 
@@ -62,7 +67,7 @@ status 2
 #[test]
 fn exports(rt: HostRuntime) {
     let outcome = outcome_after(rt.alloc(), NAMES, EXPORTS);
-    assert!(rt; outcome == Ok(Outcome::Passed(8)), "{outcome:?}");
+    assert!(rt; outcome == Ok(Outcome::Passed(9)), "{outcome:?}");
 }
 
 const FRESH: &str = r#"
