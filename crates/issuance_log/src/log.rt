@@ -107,7 +107,7 @@ impl<H: TreeHash, D: Disk + Drop, T: Disk + Drop> Drop for Log<H, D, T> {
 impl<H: TreeHash, D: Disk, T: Disk> Log<H, D, T> {
     ghost use Rattle.issuance_log.specs.Opened.{LogIsNotOpened, LogIsOpened};
     ghost use Rattle.issuance_log.specs.Words.{log_disk, log_tiles_disk, log_end};
-    ghost use Rattle.issuance_log.specs.Words.{log_broken, log_leaves, modelled_state};
+    ghost use Rattle.issuance_log.specs.Words.{log_broken, modelled_state};
     ghost use Rattle.issuance_log.specs.Words.{view_of, LogAppends, LogStays};
     ghost use Rattle.issuance_log.specs.Words.{LogWouldTake};
     ghost use Rattle.issuance_log.specs.Words.{KeepsTiles, TilesStandAfter};

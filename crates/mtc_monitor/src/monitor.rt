@@ -186,9 +186,9 @@ fn unwatched<'a, H: TreeHash, R: Room>(
     Err(stop)
 }
 
-/// The command `monitor STATE WATCH REQUEST ENTRIES`. The answer is as if all files were read before
-/// any is tested; then the state is tested, the domains, the request and the entries, and the
-/// monitor runs last. The entries are read as a stream.
+/// The command `monitor STATE WATCH REQUEST ENTRIES`. The answer is as if all files were read, then
+/// the state tested, the domains, the request and the entries, and the monitor run last. The
+/// entries are read as a stream.
 pub fn monitor<'a, H: TreeHash, R: Room>(
     alloc: Global,
     room: &mut R,

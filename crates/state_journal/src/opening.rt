@@ -60,8 +60,8 @@ fn read_first<M: StateMachine, D: Disk>(
     }
 }
 
-// From a commit byte up to here on, eight bytes hold the offset after the record: a body has at most
-// 131,072 bytes, and a mark and a length before them.
+// From a commit byte up to here on, eight bytes hold the offset after the record: a mark, four
+// bytes of length and a body of at most 131,072 bytes follow it.
 const FARTHEST: u64 = u64::MAX - 131_077;
 
 // Reads the next record, which the machine takes: whether there was one. Where eight bytes may not
@@ -150,9 +150,10 @@ fn read_machine<M: StateMachine, D: Disk>(
 ///
 /// Errors: what [`Opening::begin`] and [`Opening::next`] refuse; `BadRecord` at the first record
 /// that breaks the rules, or where there is none; `Open(Memory)` where the machine is refused
-/// memory, or stops for what it has in addition to its records. Of the faults of the file the first
-/// is answered. The disk is returned, and was only read. What is returned of the seed is what the
-/// records that were read made of it.
+/// memory, or stops for what it has in addition to its records, or where eight bytes may not hold
+/// the offset after a record. Of the faults of the file the first is answered. The disk is
+/// returned, and was only read. What is returned of the seed is what the records that were read
+/// made of it.
 pub fn open_state<M: StateMachine, D: Disk>(
     alloc: Global,
     disk: D,
