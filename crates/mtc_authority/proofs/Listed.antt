@@ -2,7 +2,8 @@
 use Rattle.std.proofs.Common.{◌≡◌, ◌∙◌, ℕ, ◌+◌, ◌<◌, ◌≤◌, ◌++◌, List, [], ◌∷◌, length, take, drop}
 use Rattle.std.proofs.Common.{Option, Some, None, IfSome, Result, Ok, Err, OnOk, OnErr, inr}
 use Rattle.std.proofs.Common.{ap, sym, subst, arith, append_assoc, append-nil, length-append}
-use Rattle.std.specs.Prelude.{map}
+use Rattle.std.specs.Int.{w16, to_be_bytes}
+use Rattle.std.specs.Prelude.{map, slice_index_or}
 use Rattle.std.specs.List.{concat, range_with_len}
 use Rattle.std.specs.Io.KnownBytes.{Appends}
 use Rattle.std.proofs.KnownBytes.{Appends-nil, Appends-trans}
@@ -11,6 +12,7 @@ use Rattle.std.proofs.lemmas.List.Folds.{concat-append}
 use Rattle.std.proofs.lemmas.List.FromFn.{take-map-range_with_len}
 use Rattle.std.proofs.lemmas.Option.{IfSome_then}
 use Rattle.byte_formats.specs.Types.{Text}
+use Rattle.tls_wire.specs.Encoding.{vector}
 use Rattle.disk_core.specs.declared.disk.Disk.{Ghosts}
 use Rattle.mtc_io.specs.Counts.{HasCause, Rose}
 use Rattle.mtc_io.specs.Streams.{AppendsPrefix}
@@ -19,7 +21,6 @@ use Rattle.mtc_io.specs.declared.sink.Sink.{Ghosts as Sinks}
 use Rattle.mtc_io.proofs.Streams.{prefix_more}
 use Rattle.tree_core.specs.declared.hashing.TreeHash.{Ghosts as Hashes}
 use Rattle.journal_core.specs.Copies.{AppendsSome}
-use Rattle.journal_core.proofs.Copies.{prefix_none}
 use Rattle.entry_list.specs.Items.{ItemLists, file_part, listed_text}
 use Rattle.entry_list.proofs.OwnKeys.{part_more}
 use Rattle.issuance_log.specs.Folds.{LogState}
@@ -31,8 +32,8 @@ use Rattle.mtc_command.specs.declared.answer.Said.TheVariants.{Done}
 use Rattle.mtc_command.specs.declared.answer.Stop.{Stop}
 use Rattle.mtc_command.proofs.Served.{reply_so, rose_since}
 use Rattle.mtc_command.proofs.Works.{both_some, each_some}
-use Rattle.mtc_lines.specs.Outputs.{HasNoReply, Streams}
-use Rattle.mtc_authority.proofs.Texts.{part_text, prefix_text, whole_text}
+use Rattle.mtc_lines.specs.Outputs.{Streams, WentOutBefore}
+use Rattle.mtc_authority.proofs.Texts.{GoesShort, first_goes, part_text, short_text, whole_text}
 use Rattle.mtc_authority.specs.LogOutcomes.{PassesOn, StopsAt, items_of}
 use Rattle.mtc_authority.specs.Works.{RepliesOnLog}
 use Rattle.mtc_authority.proofs.Replied.{at_journal, modelled_both, modelled_so}
@@ -52,6 +53,34 @@ part_rest items first count n le =
     ∙ concat-append (take n all) (drop n all)
     ∙ ap (λ (xss : List Text). concat xss ++ rest_text items first count n)
     (take-map-range_with_len (listed_text items) first count n le)
+
+-- which isn't empty before the last
+rest_some : (items : ItemLists) (first count n : ℕ) → n < count
+    → 0 < length (rest_text items first count n)
+rest_some items first count n less =
+    let item = listed_text items (first + n) in
+    let entry = slice_index_or items.entries (first + n) [] in
+    let key = slice_index_or items.keys (first + n) [] in
+    let here = file_part items first n in
+    let whole : length (file_part items first count)
+    ≡ length (here ++ rest_text items first count n) =
+    ap length (part_rest items first count n (omega arith)) in
+    let more : length (file_part items first count)
+    ≡ length (file_part items first (n + 1) ++ rest_text items first count (n + 1)) =
+    ap length (part_rest items first count (n + 1) (omega arith)) in
+    let one : length (file_part items first (n + 1)) ≡ length (here ++ item) =
+    ap length (part_more items first n) in
+    omega (
+      arith,
+      whole,
+      more,
+      one,
+      length-append here (rest_text items first count n),
+      length-append (file_part items first (n + 1)) (rest_text items first count (n + 1)),
+      length-append here item,
+      length-append (vector w16 entry) (vector w16 key),
+      length-append (to_be_bytes w16 (length entry)) entry,
+    )
 
 -- ---- what is held of it, where a sink took a, then b, then c
 
@@ -87,14 +116,14 @@ passes_all a b all [] none is =
     subst (Appends a b) (sym (is.2 ∙ append-nil is.0)) is.1
 passes_all a b all (byte ∷ bytes) none is = absurd (omega arith)
 
--- what went out is a prefix yet
-pub passes_prefix : (a b : Option Text) (all left rest : Text) → PassesOn a b all left
-    → AppendsPrefix a b (all ++ rest)
-passes_prefix a b all left rest is =
+-- what went out isn't all of it yet
+passes_short : (a b : Option Text) (all left rest : Text) → PassesOn a b all left
+    → 0 < length rest → GoesShort a b (all ++ rest)
+passes_short a b all left rest is some =
     let whole : all ++ rest ≡ is.0 ++ (left ++ rest) =
     ap (λ (t : Text). t ++ rest) is.2 ∙ append_assoc is.0 left rest in
-    subst (AppendsPrefix a b) (sym whole)
-    (prefix_more a b b is.0 left rest is.1 (prefix_none b left))
+    subst (GoesShort a b) (sym whole)
+    (first_goes a b is.0 (left ++ rest) is.1 (omega (arith, length-append left rest, some)))
 
 -- ---- the items so far, as the model knows them
 
@@ -127,31 +156,31 @@ module _ (before : Option Text) (first n : ℕ) where
   more_gone (Some s) now then held left gone more =
       passes_both before now then (file_part (items_of s) first n) held left gone more
 
-  module _ (count : ℕ) (le : n ≤ count) where
-    -- a prefix of all the items went out
-    pub some_gone : (contents : Option LogState) (now : Option Text) (held : Text)
-        → HaveGone contents before now first n held
-        → IfSome contents (λ s. AppendsPrefix before now (file_part (items_of s) first count))
-    some_gone None now held gone = tt
-    some_gone (Some s) now held gone =
-        subst (AppendsPrefix before now) (sym (part_rest (items_of s) first count n le))
-        (passes_prefix before now _ held (rest_text (items_of s) first count n) gone)
+  -- a prefix of all the items went out, but not all of them
+  pub some_gone : (count : ℕ) → n < count → (contents : Option LogState) (now : Option Text)
+      (held : Text) → HaveGone contents before now first n held
+      → IfSome contents (λ s. GoesShort before now (file_part (items_of s) first count))
+  some_gone count less None now held gone = tt
+  some_gone count less (Some s) now held gone =
+      subst (GoesShort before now) (sym (part_rest (items_of s) first count n (omega arith)))
+      (passes_short before now _ held (rest_text (items_of s) first count n) gone
+      (rest_some (items_of s) first count n less))
 
-    -- and a prefix of what was held, where that isn't empty
-    pub part_gone : (contents : Option LogState) (now then : Option Text) (held : Text)
-        → HaveGone contents before now first n held → AppendsPrefix now then held
-        → 0 < length held
-        → IfSome contents (λ s. AppendsPrefix before then (file_part (items_of s) first count)
-        × (0 < length (file_part (items_of s) first count)))
-    part_gone None now then held gone prefix some = tt
-    part_gone (Some s) now then held gone prefix some =
-        let all = file_part (items_of s) first n in
-        let rest = rest_text (items_of s) first count n in
-        subst (λ (t : Text). AppendsPrefix before then t × (0 < length t))
-        (sym (part_rest (items_of s) first count n le)) (
-          held_prefix before now then all held rest gone prefix,
-          held_some before now then all held rest gone some,
-        )
+  -- and a prefix of what was held, where that isn't empty
+  pub part_gone : (count : ℕ) → n ≤ count → (contents : Option LogState)
+      (now then : Option Text) (held : Text) → HaveGone contents before now first n held
+      → AppendsPrefix now then held → 0 < length held
+      → IfSome contents (λ s. AppendsPrefix before then (file_part (items_of s) first count)
+      × (0 < length (file_part (items_of s) first count)))
+  part_gone count le None now then held gone prefix some = tt
+  part_gone count le (Some s) now then held gone prefix some =
+      let all = file_part (items_of s) first n in
+      let rest = rest_text (items_of s) first count n in
+      subst (λ (t : Text). AppendsPrefix before then t × (0 < length t))
+      (sym (part_rest (items_of s) first count n le)) (
+        held_prefix before now then all held rest gone prefix,
+        held_some before now then all held rest gone some,
+      )
 
   -- all of them, where nothing is held
   pub all_gone : (contents : Option LogState) (now : Option Text) (held : Text)
@@ -168,11 +197,12 @@ none_gone contents now first held none =
 
 -- ---- what comes of it
 
-no_reply_at : (Fault : Type 0) (name : Text) (ending : Ending) → StopsAt Fault name ending
-    → HasNoReply ending
-no_reply_at Fault name (replied reply) stops = absurd stops
-no_reply_at Fault name (room_failed file) stops = tt
-no_reply_at Fault name no_memory stops = tt
+went_before : (Fault : Type 0) (name : Text) (before after : Option Text) (text : Text)
+    → GoesShort before after text → (ending : Ending) → StopsAt Fault name ending
+    → WentOutBefore ending before after text
+went_before Fault name before after text short (replied reply) stops = absurd stops
+went_before Fault name before after text short (room_failed file) stops = short.0
+went_before Fault name before after text short no_memory stops = short
 
 module _ {H D O : Type 0} {hashes : Hashes H} {g : Ghosts D} (outs : Sinks O) (name : Text)
     (old new : Log H D D hashes g g) (stays : LogStays old new) (out out' : O)
@@ -210,19 +240,21 @@ module _ {H D O : Type 0} {hashes : Hashes H} {g : Ghosts D} (outs : Sinks O) (n
       }
 
   pub listed_broken : IfSome (modelled_state old)
-      (λ s. AppendsPrefix (outs.taken out) (outs.taken out') (text_of s)) → (stop : Stop)
+      (λ s. GoesShort (outs.taken out) (outs.taken out') (text_of s))
+      → outs.faults out' ≡ outs.faults out → (stop : Stop)
       → StopsAt (Rose (g.faults (log_disk old)) (g.faults (log_disk new))) name (stop_ending stop)
       → Streams outs out out' Ends (Err stop)
-  listed_broken went stop stops =
-      let part = prefix_text text_of _ _ grows (modelled_state old) went in (
-        at_journal name _ old new stays (stop_ending stop) stops,
-        inr (record {
-          no_reply = no_reply_at _ name (stop_ending stop) stops;
+  listed_broken went fine stop stops =
+      let part = short_text text_of _ _ grows (modelled_state old) went in
+      record {
+        ends = at_journal name _ old new stays (stop_ending stop) stops;
+        fine = fine;
+        went = inr (record {
           text = part.text;
           ends = reply_of part.text part.is;
-          prefix = part.holds;
-        }),
-      )
+          went = went_before _ name _ _ part.text part.holds (stop_ending stop) stops;
+        });
+      }
 
 module _ {H D O : Type 0} {hashes : Hashes H} {g : Ghosts D} (outs : Sinks O) (name : Text)
     (old new : Log H D D hashes g g) (stays : LogStays old new) (out now out' : O)

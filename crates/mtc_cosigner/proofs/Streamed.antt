@@ -1,7 +1,7 @@
 -- What goes out of `export`, over a cosigner whose records the model knows, or doesn't know.
 use Rattle.std.proofs.Common.{◌≡◌, ◌<◌, inl, inr, ℕ, List, [], ◌∷◌, ◌++◌, drop, length, None}
 use Rattle.std.proofs.Common.{Option, Some}
-use Rattle.std.proofs.Common.{IfSome, Ok, Err, refl, sym, subst, ap, arith, length-append, ◌⊎◌}
+use Rattle.std.proofs.Common.{IfSome, Ok, Err, refl, sym, subst, ap, arith, length-append}
 use Rattle.std.proofs.lemmas.Option.{IfSome_then}
 use Rattle.std.specs.Io.KnownBytes.{Appends}
 use Rattle.std.specs.Int.{w8, w16, to_be_bytes}
@@ -26,7 +26,7 @@ use Rattle.cosigner_core.specs.Folds.{CosignerState}
 use Rattle.mtc_command.specs.Answers.{Ending, replied, room_failed, said, stop_ending}
 use Rattle.mtc_command.specs.declared.answer.Said.TheVariants.{Done}
 use Rattle.mtc_command.specs.declared.answer.Stop.{Stop}
-use Rattle.mtc_lines.specs.Outputs.{BrokeItsText, Streams}
+use Rattle.mtc_lines.specs.Outputs.{Streams, WasStopped}
 use Rattle.mtc_cosigner.specs.CosignerOutcomes.{export_says}
 use Rattle.mtc_cosigner.specs.Works.{HasWorkedOnCosigner}
 
@@ -44,6 +44,12 @@ pub read_rose : (disk sink read written : ℕ) (why : CopyError) → why ≡ Rea
     → HasCopyCause {T = Unit {0}} disk sink read written (Err why) → Rose disk read
 read_rose disk sink read written Read is cause = cause.0
 read_rose disk sink read written Write is cause = absurd cc
+
+-- and the other didn't
+pub read_fine : (disk sink read written : ℕ) (why : CopyError) → why ≡ Read
+    → HasCopyCause {T = Unit {0}} disk sink read written (Err why) → written ≡ sink
+read_fine disk sink read written Read is cause = cause.1
+read_fine disk sink read written Write is cause = absurd cc
 
 pub write_rose : (disk sink read written : ℕ) (why : CopyError) → why ≡ Write
     → HasCopyCause {T = Unit {0}} disk sink read written (Err why) → Rose sink written
@@ -134,16 +140,16 @@ module _ {D O : Type 0} (g : Ghosts D) (outs : Sinks O) (name : Text) (it : Owne
       prefix = part.holds.0;
     }
 
-    pub export_broken : Rose (g.faults it.disk) (g.faults new) → (stop : Stop)
+    pub export_broken : Rose (g.faults it.disk) (g.faults new)
+        → outs.faults out' ≡ outs.faults out → (stop : Stop)
         → stop_ending stop ≡ room_failed name → Streams outs out out' Does (Err stop)
-    export_broken rose stop is_failure = subst (λ (e : Ending). Does e
-        × (Appends (outs.taken out) (outs.taken out') [] ⊎ BrokeItsText outs out out' Does e))
-        (sym is_failure) (
-          does_fail rose,
-          inr (record {
-            no_reply = tt;
+    export_broken rose fine stop is_failure =
+        subst (WasStopped outs out out' Does) (sym is_failure) (record {
+          ends = does_fail rose;
+          fine = fine;
+          went = inr (record {
             text = part.text;
             ends = does_reply part.text part.is;
-            prefix = part.holds.0;
-          }),
-        )
+            went = part.holds.0;
+          });
+        })

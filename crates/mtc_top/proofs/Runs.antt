@@ -372,16 +372,17 @@ module _ {R S D O E : Type 0} (h : List ℕ → List ℕ) (rooms : Rooms R S D) 
 
   module _ (status : ℕ) where
     cut_of : (ending : Ending) → asked.streams ≡ true
-        → BrokeItsText outs out out' DoneSo ending
+        → outs.faults out' ≡ outs.faults out → BrokeItsText outs out out' DoneSo ending
         → SaysEnding errs (known_word words) err err' ending (rooms.why new) status
         → Cut ending status
-    cut_of ending may broke says =
+    cut_of ending may fine broke says =
         let did = done_as (replied (said Done broke.text)) broke.ends in record {
           streams = may;
           text = broke.text;
           is = did.ends.reply;
+          fine = fine;
           breaks = breaks_at outs errs (known_word words) out out' err err' (rooms.why new)
-              status ending broke.text broke.no_reply broke.prefix says;
+              status ending broke.text broke.went says;
           made = λ is_modelled. (did.made is_modelled).left;
         }
 
@@ -409,11 +410,11 @@ module _ {R S D O E : Type 0} (h : List ℕ → List ℕ) (rooms : Rooms R S D) 
     streamed_run (Err stop) may is says = (
       stop_ending stop,
       (
-        is.0,
-        elim is.1 [
+        is.ends,
+        elim is.went [
           | inl nothing ↦ inl (says_nothing outs errs (known_word words) out out' err err'
-              (rooms.why new) status stop nothing says)
-          | inr broke ↦ inr (cut_of (stop_ending stop) may broke says)
+              (rooms.why new) status stop is.fine nothing says)
+          | inr broke ↦ inr (cut_of (stop_ending stop) may is.fine broke says)
         ],
       ),
     )

@@ -65,18 +65,21 @@ module _ {O E : Type 0} (outs : Sinks O) (errs : Sinks E) (command : Text)
     pub prefix : PrintsPrefix outs out out' text
     pub line : Reports errs err err' (line_of command None (codes "OutputFailed"))
 
-  -- There is no reply.
+  -- There is no reply, and standard output didn't fail.
   pub record Reported (code : ℕ) (file : Option Text) (reason : Text) (status : ℕ) : Type 0 where
     pub is : status ≡ code
+    pub fine : outs.faults out' ≡ outs.faults out
     pub nothing : Prints outs out out' []
     pub line : Reports errs err err' (line_of command file reason)
 
-  -- A file failed, or memory was refused, while this text went out: a prefix of it did.
+  -- A file failed, or memory was refused, while this text went out: a prefix of it did, which isn't
+  -- all of it where memory was refused.
   abbrev pub BreaksAt : Text → Ending → Cause → ℕ → Type 0
   BreaksAt text (replied reply) cause status = ⊥
   BreaksAt text (room_failed file) cause status = (status ≡ 5) × (PrintsPrefix outs out out' text
       × Reports errs err err' (line_of command (Some file) (word_of cause)))
-  BreaksAt text no_memory cause status = (status ≡ 8) × (PrintsPrefix outs out out' text
+  BreaksAt text no_memory cause status = (status ≡ 8)
+      × ((prefix : PrintsPrefix outs out out' text) × (prefix.0 < length text)
       × Reports errs err err' (line_of command None (codes "Memory")))
 
   -- How it ended; and, if the file system failed, why it failed last. A reply went out, or standard

@@ -32,14 +32,16 @@ module _ {R S D O E : Type 0} (h : HashFunction) (rooms : Rooms R S D) (disks : 
   journals = done_with asked.journals (asked.outcome (rooms.file old)).journals
 
   -- A command that may write while it reads its journals was cut off: a file failed, or memory was
-  -- refused, while it wrote. A prefix of its text went out, maybe none of it, and a line. Where the
-  -- contents of all files are known the text is the one that is asked for, and the command has done
-  -- with its journals all that is asked.
+  -- refused, while it wrote, and standard output didn't fail. A prefix of its text went out, maybe
+  -- none of it, and a line; all of it only where a file failed. Where the contents of all files are
+  -- known the text is the one that is asked for, and the command has done with its journals all
+  -- that is asked.
   pub record CutOff (ending : Ending) (status : ℕ) : Type 0 where
     pub streams : asked.streams ≡ true
     pub text : Text
     pub is : rooms.is_modelled old
         → Meets (asked.outcome (rooms.file old)).answer (said Done text)
+    pub fine : outs.faults out' ≡ outs.faults out
     pub breaks : BreaksAt outs errs (known_word words) out out' err err' text ending
         (rooms.why new) status
     pub made : rooms.is_modelled old → LeavesEach rooms disks old new journals HasMade

@@ -1,4 +1,4 @@
-use Rattle.std.proofs.Common.{◌≡◌, ◌+◌, ◌++◌, Option, IfSome, subst, arith}
+use Rattle.std.proofs.Common.{◌≡◌, ◌∙◌, ◌+◌, ◌++◌, Option, IfSome, refl, subst, arith}
 use Rattle.std.proofs.lemmas.Result.{err_from_is_err_and}
 use Rattle.entry_list.specs.Items.{file_part, listed_text}
 use Rattle.issuance_log.specs.Folds.{LogState}
@@ -21,7 +21,7 @@ loop-number-init g c =
       gone = none_gone (modelled_state log) (g.O.Sink.taken c.args.out.now) c.args.first _
           c.new-held.ensures;
       grows = grows_none (g.O.Sink.taken c.args.out.now);
-      later = omega arith;
+      fine = refl;
     }
 
 pub loop-number-preserved : goal.loop-number-preserved
@@ -46,7 +46,7 @@ loop-number-preserved g c =
           c.in-Ok.ensures.passed;
       grows = grows_more before now then so_far.grows
           (grows_prefix now then c.put_item.new.out c.pass_on.ensures.prefix);
-      later = omega (arith, so_far.later, c.pass_on.ensures.cause.later);
+      fine = c.in-Ok.ensures.cause.fine ∙ so_far.fine;
     }
 
 pub returns-in_err-put_item-clause-stays : goal.returns-in_err-put_item-clause-stays
@@ -63,7 +63,8 @@ returns-in_err-put_item-clause-streams g c =
     (stays_both _ _ _ so_far.stays c.put_item.ensures.stays) c.args.out.now c.loop-number.out
     so_far.grows (λ s. file_part (items_of s) c.args.first c.args.count)
     (some_gone _ c.args.first c.loop-number.number c.args.count (omega arith)
-    (modelled_state old) _ c.loop-number.held so_far.gone) c.in_err-put_item.field-0.0
+    (modelled_state old) _ c.loop-number.held so_far.gone) so_far.fine
+    c.in_err-put_item.field-0.0
     (stops_later (faults (log_disk old)) (faults (log_disk c.loop-number.log))
     (faults (log_disk c.put_item.new.log)) c.args.journal.now so_far.stays.only_reads.faults
     (stop_ending c.in_err-put_item.field-0.0) c.in_err-put_item.ensures.stops))
@@ -93,8 +94,8 @@ returns-in-Err-clause-streams g c =
     so_far.gone (subst (λ (o : Option LogState). IfSome o (λ s.
     c.put_item.new.out ≡ c.loop-number.held ++ listed_text (items_of s) (first + n)))
     (modelled_stays old log so_far.stays) c.in_ok-put_item.ensures.text))
-    (omega arith) c.pass_on.ensures.prefix c.in-Err.ensures.some so_far.later
-    c.in-Err.ensures.cause.failed _
+    (omega arith) c.pass_on.ensures.prefix c.in-Err.ensures.some
+    (omega (arith, so_far.fine)) c.in-Err.ensures.cause.failed _
 
 pub returns-clause-streams : goal.returns-clause-streams
 returns-clause-streams g c =
@@ -109,6 +110,6 @@ returns-clause-streams g c =
     c.loop-number.out c.pass_on-2.new.out
     (grows_more before now then so_far.grows
     (grows_prefix now then c.loop-number.held passed.prefix)) c.args.first c.args.count
-    c.loop-number.number c.loop-number.held so_far.gone (omega arith) so_far.later
-    c.pass_on-2.result c.pass_on-2.new.held passed.passed passed.few passed.some passed.prefix
-    passed.cause
+    c.loop-number.number c.loop-number.held so_far.gone (omega arith)
+    (omega (arith, so_far.fine)) c.pass_on-2.result c.pass_on-2.new.held passed.passed passed.few
+    passed.some passed.prefix passed.cause

@@ -1,4 +1,4 @@
-use Rattle.std.proofs.Common.{◌≤◌}
+use Rattle.std.proofs.Common.{◌≡◌}
 use Rattle.issuance_log.specs.Words.{LogStays, modelled_state}
 use Rattle.journal_core.specs.Copies.{AppendsSome}
 use Rattle.mtc_authority.proofs.Listed.{HaveGone}
@@ -13,5 +13,5 @@ invariant-loop-number g l =
       gone : HaveGone (modelled_state l.initial.log) (outs.taken l.initial.out) (outs.taken l.out)
           l.initial.first l.number l.held;
       grows : AppendsSome (outs.taken l.initial.out) (outs.taken l.out);
-      later : outs.faults l.initial.out ≤ outs.faults l.out;
+      fine : outs.faults l.out ≡ outs.faults l.initial.out;
     }

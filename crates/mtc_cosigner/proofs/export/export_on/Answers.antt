@@ -1,8 +1,8 @@
 use Rattle.std.proofs.Common.{refl}
 use Rattle.cosigner_core.specs.Words.{cosigner_disk, cosigner_owner}
 use Rattle.mtc_command.specs.declared.answer.Stop.TheVariants.{Room}
-use Rattle.mtc_cosigner.proofs.Streamed.{export_broken, export_lost, export_written, read_rose}
-use Rattle.mtc_cosigner.proofs.Streamed.{write_rose}
+use Rattle.mtc_cosigner.proofs.Streamed.{export_broken, export_lost, export_written, read_fine}
+use Rattle.mtc_cosigner.proofs.Streamed.{read_rose, write_rose}
 use Rattle.mtc_cosigner.proofs.export.export_on.Goals as goal
 
 pub returns-in-Ok-clause-streams : goal.returns-in-Ok-clause-streams
@@ -18,6 +18,7 @@ returns-in-Err-Read-clause-streams g c =
     export_broken g.D.Disk g.O.Sink c.args.journal.now (cosigner_owner c.args.cosigner.now)
     (cosigner_disk c.export.new.self) did.only_reads c.args.out.now c.export.new.out did.grows
     did.prefix (read_rose _ _ _ _ _ c.in-Err-Read.field-0-is c.in-Err-Read.ensures.cause)
+    (read_fine _ _ _ _ _ c.in-Err-Read.field-0-is c.in-Err-Read.ensures.cause)
     (Room c.args.journal) refl
 
 pub returns-in-Err-Write-clause-streams : goal.returns-in-Err-Write-clause-streams
