@@ -12,7 +12,6 @@ pub mod Plain
 pub mod Both
 pub mod Replied
 pub mod Reading
-pub mod Texts
 pub mod Listed
 pub mod OpenLogs
 pub mod NotOpened

@@ -33,7 +33,7 @@ use Rattle.mtc_command.specs.declared.answer.Stop.{Stop}
 use Rattle.mtc_command.proofs.Served.{reply_so, rose_since}
 use Rattle.mtc_command.proofs.Works.{both_some, each_some}
 use Rattle.mtc_lines.specs.Outputs.{Streams, WentOutBefore}
-use Rattle.mtc_authority.proofs.Texts.{GoesShort, first_goes, part_text, short_text, whole_text}
+use Rattle.mtc_lines.proofs.Texts.{GoesShort, first_goes, part_text, short_text, whole_text}
 use Rattle.mtc_authority.specs.LogOutcomes.{PassesOn, StopsAt, items_of}
 use Rattle.mtc_authority.specs.Works.{RepliesOnLog}
 use Rattle.mtc_authority.proofs.Replied.{at_journal, modelled_both, modelled_so}

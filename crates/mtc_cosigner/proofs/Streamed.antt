@@ -1,7 +1,6 @@
 -- What goes out of `export`, over a cosigner whose records the model knows, or doesn't know.
-use Rattle.std.proofs.Common.{◌≡◌, ◌<◌, inl, inr, ℕ, List, [], ◌∷◌, ◌++◌, drop, length, None}
-use Rattle.std.proofs.Common.{Option, Some}
-use Rattle.std.proofs.Common.{IfSome, Ok, Err, refl, sym, subst, ap, arith, length-append}
+use Rattle.std.proofs.Common.{◌≡◌, ◌<◌, inl, inr, ℕ, List, ◌++◌, drop, length, IfSome, Ok, Err}
+use Rattle.std.proofs.Common.{refl, sym, subst, ap, arith, length-append}
 use Rattle.std.proofs.lemmas.Option.{IfSome_then}
 use Rattle.std.specs.Io.KnownBytes.{Appends}
 use Rattle.std.specs.Int.{w8, w16, to_be_bytes}
@@ -14,12 +13,10 @@ use Rattle.mtc_io.specs.Counts.{Rose}
 use Rattle.mtc_io.specs.Streams.{AppendsPrefix}
 use Rattle.mtc_io.specs.declared.fault.Failed.{Failed}
 use Rattle.mtc_io.specs.declared.sink.Sink.{Ghosts as Sinks}
-use Rattle.mtc_io.proofs.Streams.{prefix_whole}
 use Rattle.journal_core.specs.Copies.{AppendsSome, HasCopyCause}
 use Rattle.journal_core.specs.declared.error.CopyError.{CopyError}
 use Rattle.journal_core.specs.declared.error.CopyError.TheVariants.{Read, Write}
 use Rattle.journal_core.specs.Owners.{Owner}
-use Rattle.journal_core.proofs.Copies.{prefix_of_prefix}
 use Rattle.hss_keys.specs.Keys.{public_of}
 use Rattle.cosigner_core.specs.Exports.{export_text, prefix_text, records_text}
 use Rattle.cosigner_core.specs.Folds.{CosignerState}
@@ -27,6 +24,7 @@ use Rattle.mtc_command.specs.Answers.{Ending, replied, room_failed, said, stop_e
 use Rattle.mtc_command.specs.declared.answer.Said.TheVariants.{Done}
 use Rattle.mtc_command.specs.declared.answer.Stop.{Stop}
 use Rattle.mtc_lines.specs.Outputs.{Streams, WasStopped}
+use Rattle.mtc_lines.proofs.Texts.{GoesInPart, IsTextOf, part_text, whole_text}
 use Rattle.mtc_cosigner.specs.CosignerOutcomes.{export_says}
 use Rattle.mtc_cosigner.specs.Works.{HasWorkedOnCosigner}
 
@@ -56,13 +54,6 @@ pub write_rose : (disk sink read written : ℕ) (why : CopyError) → why ≡ Wr
 write_rose disk sink read written Read is cause = absurd cc
 write_rose disk sink read written Write is cause = cause.1
 
--- a text is the export, if the records are known, and this holds of it
-record IsExport (s : CosignerState) (records : Option (List Text)) (Holds : Text → Type 0)
-    : Type 0 where
-  pub text : Text
-  pub is : IfSome records (λ list. text ≡ export_text s list)
-  pub holds : Holds text
-
 module _ {D O : Type 0} (g : Ghosts D) (outs : Sinks O) (name : Text) (it : Owner D CosignerState)
     (new : D) (only : OnlyReads g it.disk new) (out out' : O)
     (grows : AppendsSome (outs.taken out) (outs.taken out')) where
@@ -88,47 +79,19 @@ module _ {D O : Type 0} (g : Ghosts D) (outs : Sinks O) (name : Text) (it : Owne
 
   -- ---- what went out
 
-  -- all of it
-  written_of : (records : Option (List Text))
-      → IfSome records (λ list. Appends (outs.taken out) (outs.taken out')
-      (export_text it.state list))
-      → IsExport it.state records (Appends (outs.taken out) (outs.taken out'))
-  written_of None is = record { text = grows.0; is = tt; holds = grows.1 }
-  written_of (Some list) is = record { text = export_text it.state list; is = refl; holds = is }
-
-  -- or a prefix
-  abbrev Prefix : Text → Type 0
-  Prefix text = AppendsPrefix (outs.taken out) (outs.taken out') text × (0 < length text)
-
-  prefix_of : (records : Option (List Text))
-      → IfSome records (λ list. AppendsPrefix (outs.taken out) (outs.taken out')
-      (export_text it.state list))
-      → IsExport it.state records Prefix
-  prefix_of None is = record {
-    text = grows.0 ++ 0 ∷ [];
-    is = tt;
-    holds = (
-      prefix_of_prefix _ _ grows.0 (0 ∷ []) (prefix_whole _ _ grows.0 grows.1),
-      omega (arith, length-append grows.0 (0 ∷ [])),
-    );
-  }
-  prefix_of (Some list) is = record {
-    text = export_text it.state list;
-    is = refl;
-    holds = (is, some_export it.state list);
-  }
-
   pub export_written : IfSome it.records
       (λ list. Appends (outs.taken out) (outs.taken out') (export_text it.state list))
       → (done : Unit {0}) → Streams outs out out' Does (Ok (Ok done))
   export_written is done =
-      let whole = written_of it.records is in
+      let whole = whole_text (export_text it.state) _ _ grows it.records is in
       record { text = whole.text; ends = does_reply whole.text whole.is; written = whole.holds }
 
   module _ (is : IfSome it.records (λ list. AppendsPrefix (outs.taken out) (outs.taken out')
       (export_text it.state list))) where
-    part : IsExport it.state it.records Prefix
-    part = prefix_of it.records is
+    part : IsTextOf (export_text it.state) it.records
+        (GoesInPart (outs.taken out) (outs.taken out'))
+    part = part_text (export_text it.state) _ _ grows it.records
+        (IfSome_then it.records is (λ list prefix. (prefix, some_export it.state list)))
 
     pub export_lost : Rose (outs.faults out) (outs.faults out') → (failed : Failed)
         → Streams outs out out' Does (Ok (Err failed))

@@ -1,5 +1,5 @@
 -- Commands that write their text while they read: from what one has done to what follows of it.
-use Rattle.std.proofs.Common.{inl, inr, refl, Option, Result, Ok, Err, ℕ, List}
+use Rattle.std.proofs.Common.{inl, inr, refl, Result, Ok, Err}
 use Rattle.std.proofs.KnownBytes.{Appends-nil}
 use Rattle.mtc_io.specs.declared.fault.Failed.{Failed}
 use Rattle.mtc_io.specs.declared.sink.Sink.{Ghosts as Sinks}

@@ -1,7 +1,7 @@
 -- The text of a command that writes it while it reads, where the model knows what it reads, and
 -- where it doesn't.
 use Rattle.std.proofs.Common.{◌≡◌, ◌<◌, ◌++◌, [], ◌∷◌, length, Option, None, Some, IfSome}
-use Rattle.std.proofs.Common.{refl, arith, length-append, subst, sym, take}
+use Rattle.std.proofs.Common.{refl, arith, length-append, subst, sym}
 use Rattle.std.specs.Io.KnownBytes.{Appends}
 use Rattle.std.proofs.KnownBytes.{Appends-nil}
 use Rattle.std.proofs.Math.Seq.{take-append_seam}
@@ -32,6 +32,10 @@ first_goes before after first second gone some = (
   omega (arith, length-append first second, some),
 )
 
+-- a prefix of a text that isn't empty
+abbrev pub GoesInPart : Option Text → Option Text → Text → Type 0
+GoesInPart before after text = AppendsPrefix before after text × (0 < length text)
+
 module _ {X : Type 0} (text_of : X → Text) (before after : Option Text)
     (grows : (text : Text) × Appends before after text) where
   -- all of it went out
@@ -50,12 +54,9 @@ module _ {X : Type 0} (text_of : X → Text) (before after : Option Text)
   }
   short_text (Some x) went = record { text = text_of x; is = refl; holds = went }
 
-  -- a prefix of a text that isn't empty
-  abbrev pub GoesInPart : Text → Type 0
-  GoesInPart text = AppendsPrefix before after text × (0 < length text)
-
-  pub part_text : (known : Option X) → IfSome known (λ x. GoesInPart (text_of x))
-      → IsTextOf text_of known GoesInPart
+  -- a prefix of one that isn't empty did
+  pub part_text : (known : Option X) → IfSome known (λ x. GoesInPart before after (text_of x))
+      → IsTextOf text_of known (GoesInPart before after)
   part_text None went = record {
     text = grows.0 ++ 0 ∷ [];
     is = tt;
