@@ -337,7 +337,8 @@ fn a_device_fails_an_append(rt: HostRuntime) {
 }
 
 // A log of two entries, each with a key of 4,200 bytes: with the null entry before it the first one
-// goes out before the second one is read.
+// goes out before the second one is read. Beside it stand what may have gone out of `entries j 3`:
+// nothing; the null entry and the first one; these and 1,000 bytes more; and all of them.
 const LONG_ENTRIES: &str = r#"
 file q
 | not_before = "2026-01-01T00:00:00Z"
@@ -350,18 +351,22 @@ $ issue j q
 | issued 1
 $ issue j q
 | issued 2
+name NULL 000200000000
+# The entry, which holds the SHA-256 of the key, and the key.
+name ITEM 0083
+  0001a003020102301931173015060a2b0601040182da4b2f010c0733323437332e31301e170d3236303130
+  313030303030305a170d3236303130383030303030305a30000420
+  5b604e55998b9ee7656c3120acb854a17f87c9c617f93afdb17d295d3f686a8e
+  a31b301930170603551d110101ff040d300b8209612e6578616d706c65
+  1068 30821064300506032b657003821059
+times 4185 00
+name PART ITEM
+cut 1000
+file nothing
+file first NULL ITEM
+file more NULL ITEM PART
+file all NULL ITEM ITEM
 "#;
-
-// What went out of `entries j 3` after a failure: nothing; the null entry and the first one; these
-// and 1,000 bytes more; and all of them. An entry has 131 bytes, and each string its length before
-// it.
-const NONE: usize = 0;
-
-const FIRST: usize = 6 + 4_335;
-
-const PART: usize = FIRST + 1_000;
-
-const ALL: usize = FIRST + 4_335;
 
 fn long_log(alloc: Global) -> Option<Desk> {
     let mut desk = desk_after(alloc, READY, LONG_ENTRIES)?;
@@ -370,44 +375,50 @@ fn long_log(alloc: Global) -> Option<Desk> {
     Some(desk)
 }
 
-// The status and how much went out, where this call of the journal's device fails.
-fn listed_with(alloc: Global, call: u64) -> Option<(u8, usize)> {
+// Whether a run ended with this status and this line, and wrote what this file holds.
+fn wrote(desk: &Desk, answer: &Answer, status: u8, file: &str, line: &[u8]) -> bool {
+    match desk.bytes(file) {
+        Some(out) => answer.is(status, out, line),
+        None => false,
+    }
+}
+
+// The same of `entries j 3` where this call of the journal's device fails.
+fn lists(alloc: Global, call: u64, status: u8, file: &str, line: &[u8]) -> Option<bool> {
     let mut desk = long_log(alloc)?;
     desk.fail(alloc, "j", vec![in alloc; call].ok()?)?;
     let answer = desk.answer(alloc, "entries j 3").ok()?;
-    Some((answer.status, answer.out.taken().len()))
+    Some(wrote(&desk, &answer, status, file, line))
 }
 
 // The same where this call of standard output fails, which takes 1,000 bytes a call.
-fn listed_to(alloc: Global, call: u64) -> Option<(u8, usize)> {
+fn lists_to(alloc: Global, call: u64, file: &str) -> Option<bool> {
     let mut desk = long_log(alloc)?;
     let words = owned_words(alloc, "entries j 3").ok()?;
     let out = sink(alloc, 1_000, vec![in alloc; call].ok()?);
     let err = sink(alloc, 1_000, Vec::new(alloc));
     let answer = desk.run_over(alloc, words.as_slice(), out, err);
-    Some((answer.status, answer.out.taken().len()))
+    Some(wrote(&desk, &answer, 6, file, b"mtc: entries: OutputFailed\n"))
 }
 
 // Six calls open the log, and two read each entry but the null entry: its length, and the whole.
 #[test]
 fn a_device_cuts_off_a_listing(rt: HostRuntime) {
     let alloc = rt.alloc();
-    for call in 0..8 {
-        let cut = listed_with(alloc, call);
-        assert!(rt; cut == Some((5, NONE)), "{call}: {cut:?}");
+    for call in 0..10 {
+        let file = if call < 8 { "nothing" } else { "first" };
+        let is_right = lists(alloc, call, 5, file, b"mtc: entries: j: Failed\n");
+        assert!(rt; is_right == Some(true), "{call}: {is_right:?}");
     }
-    for call in 8..10 {
-        let cut = listed_with(alloc, call);
-        assert!(rt; cut == Some((5, FIRST)), "{call}: {cut:?}");
-    }
-    let whole = listed_with(alloc, 10);
-    assert!(rt; whole == Some((0, ALL)), "{whole:?}");
+    let is_right = lists(alloc, 10, 0, "all", b"");
+    assert!(rt; is_right == Some(true), "{is_right:?}");
 }
 
+// Five calls take the null entry and the first one, which go out together.
 #[test]
 fn standard_output_cuts_off_a_listing(rt: HostRuntime) {
-    for (call, length) in [(0, NONE), (5, FIRST), (6, PART)] {
-        let cut = listed_to(rt.alloc(), call);
-        assert!(rt; cut == Some((6, length)), "{call}: {cut:?}");
+    for (call, file) in [(0, "nothing"), (5, "first"), (6, "more")] {
+        let is_right = lists_to(rt.alloc(), call, file);
+        assert!(rt; is_right == Some(true), "{call}: {is_right:?}");
     }
 }

@@ -46,6 +46,25 @@ status 6
 ! mtc: export: OutputFailed
 left s ADVANCED 00
 
+# Four calls open the journal, and two read the record: its length, and the whole. Six calls write
+# what stands before it.
+case the first of two failures is reported
+file s ADVANCED 00
+fails 4
+out-fails 5
+$ export s
+status 6
+  0481fd59020481fd5901003c
+! mtc: export: OutputFailed
+file s ADVANCED 00
+fails 5
+out-fails 6
+$ export s
+status 5
+  HEAD
+! mtc: export: s: Failed
+left s ADVANCED 00
+
 case what is no cosigner's journal isn't exported
 $ export s
 status 7
@@ -67,7 +86,7 @@ status 2
 #[test]
 fn exports(rt: HostRuntime) {
     let outcome = outcome_after(rt.alloc(), NAMES, EXPORTS);
-    assert!(rt; outcome == Ok(Outcome::Passed(9)), "{outcome:?}");
+    assert!(rt; outcome == Ok(Outcome::Passed(11)), "{outcome:?}");
 }
 
 const FRESH: &str = r#"

@@ -86,6 +86,13 @@ $ root e
 status 5
 ! mtc: root: e: Failed
 
+case a read that fails after the last item
+file e SIX
+fails 1
+$ root e
+status 5
+! mtc: root: e: Failed
+
 case what is no list of entries has no root
 $ root e
 status 7
@@ -103,7 +110,7 @@ status 2
 #[test]
 fn roots(rt: HostRuntime) {
     let outcome = outcome_after(rt.alloc(), GIVEN, ROOTS);
-    assert!(rt; outcome == Ok(Outcome::Passed(9)), "{outcome:?}");
+    assert!(rt; outcome == Ok(Outcome::Passed(10)), "{outcome:?}");
 }
 
 const HELD: &str = r#"
@@ -287,6 +294,25 @@ $ monitor s w r e
 status 7
 ! mtc: monitor: e: Absent
 
+case a read that fails after the last item is reported before a bad state
+file s KEPT
+file w WATCH
+file r TO_8 BEHIND_6
+file e SEVENTH EIGHTH
+fails 1
+$ monitor s w r e
+status 5
+! mtc: monitor: e: Failed
+file s 00
+file e SEVENTH EIGHTH
+fails 1
+$ monitor s w r e
+status 5
+! mtc: monitor: e: Failed
+$ monitor s w r e
+status 2
+! mtc: monitor: s: BadLine 0
+
 case what doesn't lead on, in the order of the tests
 file s KEPT
 file w WATCH
@@ -320,5 +346,5 @@ left s KEPT
 #[test]
 fn refused(rt: HostRuntime) {
     let outcome = outcome_after(rt.alloc(), GIVEN, REFUSED);
-    assert!(rt; outcome == Ok(Outcome::Passed(13)), "{outcome:?}");
+    assert!(rt; outcome == Ok(Outcome::Passed(16)), "{outcome:?}");
 }
