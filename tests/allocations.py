@@ -3,13 +3,14 @@
 
 The command then ends with status 8, one line that says so, nothing on standard output and every
 file as it was; or with its outcome, as if nothing had been refused. The lists here are shorter
-than what `entries` writes at once: of a longer one a prefix may be out. Of a log without a file of
-tiles an empty one may be there then. The allocations are those of the C library, of which a
-preloaded library refuses one. Needs a C compiler; where there is none it says that this is left
-out, and ends with status 0.
+than what `entries` writes at once, but for that of LONG, of which the first items are out if the
+memory for the last one is refused. Of a log without a file of tiles an empty one may be there
+then. The allocations are those of the C library, of which a preloaded library refuses one. Needs a
+C compiler; where there is none it says that this is left out, and ends with status 0.
 Usage: tests/allocations.py [PROGRAM]
 """
 
+import base64
 import os
 import shutil
 import subprocess
@@ -27,7 +28,7 @@ REQUEST = f'{DATES}dns = ["{{}}.example", "*.b.example"]\ncommon_name = "b"\nkey
 COMMANDS = [
     "frob", "member first.member", "member absent", "show cert", "verify cert store " + NOW,
     "verify light trusting " + NOW, "verify cert trusting " + NOW, "init-log new 32473.1 2 32",
-    "init-log log 32473.1 2 32", "issue log request", "issue log wrong", "checkpoint log", "entries log 5", "entries-from log 3 5", "entries-from log 5 5",
+    "init-log log 32473.1 2 32", "issue log request", "issue log wrong", "checkpoint log", "entries log 5", "entries long 3", "entries-from log 3 5", "entries-from log 5 5",
     "consist log 3 5", "subtree log 0 4 5", "keygen 5 4 secret", "init-cosigner new 32473.2 32473.1 5 4 secret",
     "advance early advance", "cosign cosigner subtree", "cosign early subtree", "export cosigner", "landmark log",
     "landmarks log", "light-cert log 2", "light-cert log 4", "trust-landmarks list 2 entries",
@@ -40,6 +41,9 @@ COMMANDS = [
     "checkpoint bare", "tile log", "tile full", "cert tiled 2 0 256 empty", "issue tiled request", "tile none.tiles",
     "help", "version", "help x",
 ]
+
+# The null entry and the first one go out together before the second one is read, whose key is longer.
+LONG, KEY_SIZES = "entries long 3", (4_200, 9_000)
 
 # Of the allocations of this command one in so many is refused.
 STEPS = {"drill 7": 97}
@@ -58,8 +62,31 @@ def make_log(folder):
         folder.run(*words.split(), into=name)
 
 
+def key_of(size):
+    """A public key of so many bytes, in base64."""
+    head = b"\x30\x82" + (size - 4).to_bytes(2, "big") + bytes.fromhex("300506032b65700382")
+    return base64.b64encode(head + (size - 15).to_bytes(2, "big") + bytes(size - 15)).decode()
+
+
+def first_items(text, count):
+    """The first items of a list, each of two byte strings after their lengths of two bytes."""
+    end = 0
+    for _ in range(2 * count):
+        end += 2 + int.from_bytes(text[end:end + 2], "big")
+    return text[:end]
+
+
+def make_long_log(folder):
+    """A log of entries with long keys."""
+    folder.run("init-log", "long", LOG, "2", "32")
+    for size in KEY_SIZES:
+        (folder.path / "request").write_text(REQUEST.format("long").replace(KEY, key_of(size)))
+        folder.run("issue", "long", "request")
+
+
 def make_files(folder):
     """The files of all commands."""
+    make_long_log(folder)
     make_log(folder)
     for name, text in (("empty", b""), ("state", b"state 32473.1 0\n"), ("watch", b"b.example\n"), ("secret", bytes(range(48))), ("wrong", REQUEST.format("-a").encode())):
         (folder.path / name).write_bytes(text)
@@ -123,14 +150,17 @@ class Refusals:
         # The command isn't known before its arguments are copied.
         lines = ["mtc: Memory\n", f"mtc: {words.split()[0]}: Memory\n"]
         made = {**self.files, "bare.tiles": b""} if words == "checkpoint bare" else self.files
-        allowed = [wanted, *((8, b"", line, files) for line in lines for files in (self.files, made))]
+        outs = {b"", first_items(wanted[1], 2)} if words == LONG else {b""}
+        allowed = [wanted, *((8, out, line, files) for out in outs for line in lines for files in (self.files, made))]
+        seen = set()
         while True:
             came, found = self.ended(words, number + step)
             if not came:
                 # A command copies its arguments, so one that asks for nothing isn't watched.
-                same = number > 0 and found == wanted
+                same = number > 0 and found == wanted and outs <= seen
                 return number // step, wrong if same else [*wrong, f"{words}: {number} allocations, {found[:3]}"]
             number += step
+            seen.add(found[1])
             if found not in allowed:
                 wrong.append(f"{words}: allocation {number}: {found[:3]}")
 
