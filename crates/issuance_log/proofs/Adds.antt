@@ -1,6 +1,7 @@
 -- What an item, a landmark, tiles or a switch more make of a log that does not refuse them.
 use Rattle.std.proofs.Common.{◌≡◌, ◌≢◌, ℕ, ◌+◌, ◌<◌, ◌≤◌, ◌==◌, nat_lt, not, ◌∙◌, arith}
-use Rattle.std.proofs.Common.{if◌then◌else◌, Bool, true, false, length, Option, Some, None, refl}
+use Rattle.std.proofs.Common.{List, if◌then◌else◌, Bool, true, false, length, Option, Some, None}
+use Rattle.std.proofs.Common.{refl}
 use Rattle.std.proofs.Common.{sym}
 use Rattle.std.proofs.lemmas.Bool.{leb-false, ltb-true, ltb-false, not-false}
 use Rattle.std.proofs.lemmas.Bool.Decides.{nat_tests}
@@ -11,13 +12,16 @@ use Rattle.journal_core.specs.declared.error.AppendError.{AppendError}
 use Rattle.journal_core.proofs.Folds.{state_next}
 use Rattle.log_entry.specs.Matching.{has_form, matches}
 use Rattle.tree_core.specs.declared.hashing.TreeHash.{Ghosts as Hashes}
+use Rattle.issuance_log.specs.Batches.{AreOfForm}
 use Rattle.issuance_log.specs.Changes.{MakesOfLog}
 use Rattle.issuance_log.specs.Counted.{log_keeps}
 use Rattle.issuance_log.specs.Folds.{LogState, LogView, log_fold, log_form, with_item, with_mark}
-use Rattle.issuance_log.specs.Folds.{with_switch, with_tiles}
+use Rattle.issuance_log.specs.Folds.{with_items, with_switch, with_tiles}
 use Rattle.issuance_log.specs.Marks.{last_mark}
-use Rattle.issuance_log.specs.Records.{entry_record, landmark_record, switch_record, tiles_record}
-use Rattle.issuance_log.specs.Refusals.{add_refusal, full_size, mark_refusal, switch_refusal}
+use Rattle.issuance_log.specs.Records.{batch_record, entry_record, landmark_record, switch_record}
+use Rattle.issuance_log.specs.Records.{tiles_record}
+use Rattle.issuance_log.specs.Refusals.{add_refusal, batch_refusal, full_size, mark_refusal}
+use Rattle.issuance_log.specs.Refusals.{switch_refusal}
 use Rattle.issuance_log.specs.Refusals.{tile_refusal, unless_switched}
 use Rattle.issuance_log.specs.Settings.{most_item}
 use Rattle.issuance_log.specs.Shown.{shown_with}
@@ -26,9 +30,12 @@ use Rattle.issuance_log.specs.declared.error.LogError.{LogError}
 use Rattle.issuance_log.specs.declared.error.LogError.TheVariants.{AlreadySwitched}
 use Rattle.issuance_log.specs.Words.{LogWouldTake, log_broken, log_end, log_records, view_of}
 use Rattle.issuance_log.specs.declared.log.Log.{Log}
-use Rattle.issuance_log.proofs.Changes.{item_makes, mark_makes, switch_makes, tiles_make}
+use Rattle.issuance_log.proofs.Changes.{batch_makes, item_makes, mark_makes, switch_makes}
+use Rattle.issuance_log.proofs.Changes.{tiles_make}
+use Rattle.issuance_log.proofs.Fitting.{can_be, unrefused}
 use Rattle.issuance_log.proofs.Growth.{last_in, size_fits}
 use Rattle.issuance_log.proofs.Shown.{shown_view}
+use Rattle.issuance_log.proofs.TakenItems.{taken_together}
 
 -- a log that isn't full has capacity
 pub capacity_of : (size limit : ℕ) → not (nat_lt size limit) ≡ false → size < limit
@@ -80,6 +87,16 @@ module _ {H D T : Type 0} {hashes : Hashes H} {g : Ghosts D} {k : Ghosts T}
       makes_after (entry_record entry key) (with_item entry key)
       (item_makes hashes.hash (view_of log) entry key (below _ _ sound.few first.0)
       (ltb-false most_item (length entry + length key) second.0) form belongs)
+
+  pub batch_unrefused : (items : List (Text × Text)) → 1 ≤ length items
+      → AreOfForm hashes.hash (log_form (view_of log)) items
+      → batch_refusal (view_of log) (log_broken log) (log_end log) items ≡ None
+      → LogWouldTake (batch_record items) (with_items items) log
+  batch_unrefused items some each none =
+      let pass = unrefused (view_of log) (log_broken log) (log_end log) items none in
+      makes_after (batch_record items) (with_items items)
+      (batch_makes hashes.hash (view_of log) items (can_be items some pass.fit pass.large) pass.fit
+      (taken_together hashes.hash (view_of log) items sound pass.within each))
 
   pub marked_unrefused : mark_refusal (view_of log) (log_broken log) (log_end log) ≡ None
       → LogWouldTake (landmark_record (view_of log).size) with_mark log

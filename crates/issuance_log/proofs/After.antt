@@ -2,7 +2,7 @@
 use Rattle.std.proofs.Common.{◌≡◌, ℕ, ◌+◌, ◌<◌, ◌≤◌, Bool, true, false}
 use Rattle.std.proofs.Common.{List, [], ◌∷◌, ◌++◌, length, drop, get_or, Option, Some, None, Result}
 use Rattle.std.proofs.Common.{Ok, Err, is_ok, option_map, refl, ap, sym, subst, ◌∙◌}
-use Rattle.std.specs.Prelude.{if◌then◌else◌, map, flat_map, option_to_list}
+use Rattle.std.specs.Prelude.{if◌then◌else◌, map, flat_map}
 use Rattle.std.proofs.lemmas.List.{append_assoc, append-nil, map-append}
 use Rattle.std.proofs.lemmas.Option.{same_Some}
 use Rattle.byte_formats.specs.Types.{Text, HashFunction}
@@ -12,11 +12,11 @@ use Rattle.journal_core.specs.Folds.{Fold, state_after, taken_from}
 use Rattle.journal_core.proofs.Bodies.{none_left, rest_at}
 use Rattle.issuance_log.specs.Folds.{LogState, begun_log, log_after, log_fold, log_of, new_log}
 use Rattle.issuance_log.specs.Folds.{log_by_step, next_log, takes_log_step, view_in}
-use Rattle.issuance_log.specs.LogSteps.{LogStep, adds_item, log_step_in, sets_mark, stores_tiles}
+use Rattle.issuance_log.specs.LogSteps.{LogStep, adds_items, log_step_in, sets_mark, stores_tiles}
 use Rattle.issuance_log.specs.LogSteps.{switches, unknown_step}
-use Rattle.issuance_log.specs.Records.{item_in, settings_in}
+use Rattle.issuance_log.specs.Records.{added_items, settings_in}
 use Rattle.issuance_log.specs.Settings.{Settings}
-use Rattle.issuance_log.proofs.Steps.{step_item, step_item_is}
+use Rattle.issuance_log.proofs.Steps.{items_of_step, step_items_are}
 
 module _ {S E : Type 0} (fold : Fold S E) where
   -- the first of these records is taken, or breaks the rules
@@ -97,7 +97,7 @@ keys_of items = map (λ item. item.1) items
 
 -- the items in the records after the first
 abbrev pub later_items : List Text → List (Text × Text)
-later_items bodies = flat_map (λ body. option_to_list (item_in body)) bodies
+later_items bodies = flat_map added_items bodies
 
 -- the items of a log are those of another one, and these after them
 pub record HasItems (s t : LogState) (items : List (Text × Text)) : Type 0 where
@@ -107,8 +107,8 @@ pub record HasItems (s t : LogState) (items : List (Text × Text)) : Type 0 wher
 
 -- so it is after a step that is taken
 step_items : (s : LogState) (x : LogStep)
-    → HasItems s (log_by_step x s) (option_to_list (step_item x))
-step_items s (adds_item x) = record { settings = refl; entries = refl; keys = refl }
+    → HasItems s (log_by_step x s) (items_of_step x)
+step_items s (adds_items items) = record { settings = refl; entries = refl; keys = refl }
 step_items s (sets_mark size) = record {
   settings = refl;
   entries = sym (append-nil s.entries);
@@ -131,14 +131,13 @@ step_items s unknown_step = record {
 }
 
 pub next_items : (h : HashFunction) (s t : LogState) (body : Text) → next_log h s body ≡ Some t
-    → HasItems s t (option_to_list (item_in body))
+    → HasItems s t (added_items body)
 unfolding next_log
 next_items h s t body is =
     let x = log_step_in body in
     let made = when (takes_log_step h (view_in s) x) (log_by_step x s) t is in
-    subst (λ (u : LogState). HasItems s u (option_to_list (item_in body))) made
-    (subst (λ o. HasItems s (log_by_step x s) (option_to_list o)) (sym (step_item_is body))
-    (step_items s x))
+    subst (λ (u : LogState). HasItems s u (added_items body)) made
+    (subst (λ l. HasItems s (log_by_step x s) l) (sym (step_items_are body)) (step_items s x))
 
 pub following_items : (h : HashFunction) (k : ℕ) (s t : LogState) (bodies : List Text)
     → taken_from (log_fold h) k s bodies ≡ Ok t → HasItems s t (later_items bodies)
@@ -157,9 +156,9 @@ following_items h k s t (body ∷ bodies) is =
     let rest = following_items h (k + 1) step.0 t bodies step.2 in
     record {
       settings = rest.settings ∙ one.settings;
-      entries = joined s.entries (λ item. item.0) _ _ (option_to_list (item_in body))
+      entries = joined s.entries (λ item. item.0) _ _ (added_items body)
           (later_items bodies) one.entries rest.entries;
-      keys = joined s.keys (λ item. item.1) _ _ (option_to_list (item_in body))
+      keys = joined s.keys (λ item. item.1) _ _ (added_items body)
           (later_items bodies) one.keys rest.keys;
     }
   where

@@ -1,7 +1,7 @@
 -- The answers of the calls of a log that append a record.
 use Rattle.std.proofs.Common.{◌≡◌, ℕ, ◌+◌, ◌<◌, ◌≤◌, ◌==◌, nat_lt, if◌then◌else◌, Bool, true, false}
 use Rattle.std.specs.Prelude.{nat_le}
-use Rattle.std.proofs.Common.{length, Option, Some, None, option_map, Result, Ok, Err, refl}
+use Rattle.std.proofs.Common.{List, length, Option, Some, None, option_map, Result, Ok, Err, refl}
 use Rattle.std.proofs.Common.{sym, ◌∙◌, ap, subst, arith}
 use Rattle.std.specs.Prelude.{◌↔◌, IsErrOf, IsTrue}
 use Rattle.std.proofs.lemmas.Bool.{le-ltb}
@@ -11,13 +11,16 @@ use Rattle.journal_core.specs.Format.{most_bytes}
 use Rattle.journal_core.specs.declared.error.AppendError.{AppendError}
 use Rattle.journal_core.specs.declared.error.AppendError.TheVariants.{Broken, Failed, Full}
 use Rattle.state_journal.proofs.Answered.{AnswersSo, answered_so}
+use Rattle.issuance_log.specs.Batches.{fitting, has_large, most_listed}
 use Rattle.issuance_log.specs.Changes.{IsJournalAnswer, KeepsToJournal}
 use Rattle.issuance_log.specs.Entries.{LogCounts}
 use Rattle.issuance_log.specs.Folds.{LogView}
 use Rattle.issuance_log.specs.Marks.{last_mark}
-use Rattle.issuance_log.specs.Records.{entry_record, landmark_record, switch_record, tiles_record}
-use Rattle.issuance_log.specs.Refusals.{ItemKeepsTo, MarkKeepsTo, SwitchKeepsTo, TilesKeepTo}
-use Rattle.issuance_log.specs.Refusals.{add_refusal, append_refusal, full_size, mark_refusal}
+use Rattle.issuance_log.specs.Records.{batch_record, entry_record, landmark_record, switch_record}
+use Rattle.issuance_log.specs.Records.{tiles_record}
+use Rattle.issuance_log.specs.Refusals.{BatchKeepsTo, ItemKeepsTo, MarkKeepsTo, SwitchKeepsTo}
+use Rattle.issuance_log.specs.Refusals.{TilesKeepTo, add_refusal, append_refusal, batch_refusal}
+use Rattle.issuance_log.specs.Refusals.{full_size, mark_refusal}
 use Rattle.issuance_log.specs.Refusals.{switch_refusal, tile_refusal, unless_switched}
 use Rattle.issuance_log.specs.Settings.{most_item}
 use Rattle.issuance_log.specs.declared.error.LogError.{LogError}
@@ -96,6 +99,24 @@ added_answer v broken end entry key text encoded capacity few result is =
     ∙ else_is (nat_lt most_item (length entry + length key)) _ _
     (le-ltb most_item (length entry + length key) few)))
     (by_answer ItemKeepsTo (λ answer o is. is) (λ o is. is) (λ o is. is) (λ o is. is) (by text)
+    result is)
+
+pub batch_answer : (v : LogView) (broken : Bool) (end : ℕ) (items : List (Text × Text))
+    (text : Text) → text ≡ batch_record items → v.size + length items ≤ v.settings.limit
+    → fitting most_listed items ≡ length items → has_large items ≡ false
+    → (result : Result ℕ LogError) → KeepsToJournal (append_refusal broken end text) result
+    → BatchKeepsTo (batch_refusal v broken end items) result
+unfolding batch_refusal
+batch_answer v broken end items text encoded capacity fit large result is =
+    let by = append_refusal broken end in
+    subst (λ (o : Option LogError). BatchKeepsTo o result)
+    (ap (λ (t : Text). option_map Append (by t)) encoded
+    ∙ sym (else_is (nat_lt v.settings.limit (v.size + length items)) _ _
+    (le-ltb v.settings.limit (v.size + length items) capacity)
+    ∙ else_is (nat_lt (fitting most_listed items) (length items)) _ _
+    (le-ltb (fitting most_listed items) (length items) (omega (arith, fit)))
+    ∙ else_is (has_large items) _ _ large))
+    (by_answer BatchKeepsTo (λ answer o is. is) (λ o is. is) (λ o is. is) (λ o is. is) (by text)
     result is)
 
 pub marked_answer : (v : LogView) (broken : Bool) (end : ℕ) (text : Text)

@@ -1,32 +1,41 @@
 -- The records of an item, of a landmark, of tiles and of a switch: what they make, and which
 -- capacity they need.
-use Rattle.std.proofs.Common.{◌≡◌, ℕ, ◌+◌, ◌%◌, ◌^◌, ◌<◌, ◌≤◌, length, Some, None}
+use Rattle.std.proofs.Common.{◌≡◌, ℕ, ◌+◌, ◌%◌, ◌^◌, ◌<◌, ◌≤◌, List, [], ◌∷◌, length, Some, None}
 use Rattle.std.proofs.Common.{ap, sym, subst, ◌∙◌, true, arith}
 use Rattle.std.proofs.lemmas.Option.{same_Some}
 use Rattle.byte_formats.specs.Types.{HashFunction, Text}
 use Rattle.disk_core.specs.declared.disk.Disk.{Ghosts}
 use Rattle.log_entry.specs.Matching.{has_form, matches}
 use Rattle.tree_core.specs.declared.hashing.TreeHash.{Ghosts as Hashes}
+use Rattle.issuance_log.specs.Batches.{fitting, most_listed}
 use Rattle.issuance_log.specs.Changes.{IsTakenAs, MakesOfLog}
 use Rattle.issuance_log.specs.Folds.{LogNumbers, LogView, next_log, next_view, one_item_more}
-use Rattle.issuance_log.specs.Folds.{log_form, one_mark_more, switched_now, tiled_to, with_item}
-use Rattle.issuance_log.specs.Folds.{with_mark, with_switch, with_tiles}
-use Rattle.issuance_log.specs.Items.{HasItemCapacity}
+use Rattle.issuance_log.specs.Folds.{log_form, more_entries, one_mark_more, switched_now}
+use Rattle.issuance_log.specs.Folds.{takes_items}
+use Rattle.issuance_log.specs.Folds.{tiled_to, with_item, with_items, with_mark, with_switch}
+use Rattle.issuance_log.specs.Folds.{with_tiles}
+use Rattle.issuance_log.specs.Items.{HasCapacityOf}
 use Rattle.issuance_log.specs.Machine.{HasCapacityFor}
 use Rattle.issuance_log.specs.Marks.{last_mark}
-use Rattle.issuance_log.specs.Records.{IsShort, entry_record, item_in, landmark_record, mark_in}
+use Rattle.issuance_log.specs.Records.{CanBeBatch, IsShort, added_in, batch_record, entry_record}
+use Rattle.issuance_log.specs.Records.{landmark_record, mark_in}
 use Rattle.issuance_log.specs.Records.{landmark_tag, switch_record, switch_tag, tiles_record}
 use Rattle.issuance_log.specs.Records.{tiles_tag}
 use Rattle.issuance_log.specs.Results.{HasMarkCapacity}
 use Rattle.issuance_log.specs.Settings.{most_item}
 use Rattle.issuance_log.specs.Sound.{HasSoundNumbers}
 use Rattle.issuance_log.specs.declared.items.Items.{Items}
-use Rattle.issuance_log.proofs.Encoded.{item_again, length-entry, length-size, mark_alone}
-use Rattle.issuance_log.proofs.Encoded.{next_added, next_marked, next_switched, next_tiled}
-use Rattle.issuance_log.proofs.Encoded.{size_again, switch_no_item, switch_no_mark, tiles_no_item}
+use Rattle.issuance_log.proofs.Encoded.{batch_adds, item_again, length-entry, length-size}
+use Rattle.issuance_log.proofs.Encoded.{mark_adds_none, next_added, next_batched, next_marked}
+use Rattle.issuance_log.proofs.Encoded.{next_switched, next_tiled}
+use Rattle.issuance_log.proofs.Encoded.{size_again, switch_adds_none, switch_no_mark}
+use Rattle.issuance_log.proofs.Encoded.{tiles_add_none}
 use Rattle.issuance_log.proofs.Encoded.{tiles_no_mark}
+use Rattle.issuance_log.proofs.Fitting.{fitting_all, length-batch}
 use Rattle.issuance_log.proofs.Growth.{size_fits}
-use Rattle.issuance_log.proofs.Views.{view_added, view_marked, view_switched, view_tiled}
+use Rattle.issuance_log.proofs.Steps.{added_by_entry}
+use Rattle.issuance_log.proofs.Views.{view_added, view_batched, view_marked, view_switched}
+use Rattle.issuance_log.proofs.Views.{view_tiled}
 
 -- a record whose length may be appended, and which is taken
 pub record IsGoodRecord (h : HashFunction) (v w : LogView) (body : Text) : Type 0 where
@@ -65,6 +74,32 @@ module _ (h : HashFunction) (v : LogView) (entry key : Text) (capacity : v.size 
         some = omega arith;
         few = omega arith;
         takes = item_taken_as.shows;
+      })
+
+-- ---- items that are added together
+
+module _ (h : HashFunction) (v : LogView) (items : List (Text × Text)) (can : CanBeBatch items)
+    (fit : fitting most_listed items ≡ length items)
+    (taken : takes_items h v items ≡ true) where
+  pub batch_makes : MakesOfLog h v (batch_record items) (with_items items)
+  batch_makes s is =
+      next_batched h s items can
+      (subst (λ (u : LogView). takes_items h u items ≡ true) (sym is) taken)
+
+  pub batch_taken_as
+      : IsTakenAs h v (batch_record items) (more_entries (length items)) (with_items items)
+  batch_taken_as = record { shows = view_batched h v items can taken; makes = batch_makes }
+
+  pub batch_record_of : (text : Text) → text ≡ batch_record items
+      → IsGoodRecord h v (more_entries (length items) v) text
+  batch_record_of text text_is =
+      let size = length-batch items in
+      let few = fitting_all most_listed items fit in
+      subst (λ (t : Text). IsGoodRecord h v (more_entries (length items) v) t) (sym text_is)
+      (record {
+        some = omega (arith, size);
+        few = omega (arith, size, few);
+        takes = batch_taken_as.shows;
       })
 
 -- ---- a landmark
@@ -149,37 +184,49 @@ module _ (h : HashFunction) (v : LogView) (sound : HasSoundNumbers v)
 
 module _ {H T : Type 0} {hashes : Hashes H} {k : Ghosts T} (numbers : LogNumbers)
     (items : Items H T hashes k) (text : Text) where
-  pub item_ready : (entry key : Text) → text ≡ entry_record entry key → IsShort entry
-      → IsShort key → HasItemCapacity items → HasCapacityFor numbers items text
-  item_ready entry key is few_entry few_key capacity = record {
-    item = λ x there. capacity;
-    mark = λ none. let wrong : Some (entry, key) ≡ None =
-        sym (ap item_in is ∙ item_again entry key few_entry few_key) ∙ none in absurd cc;
+  -- these items
+  added_ready : (added : List (Text × Text)) → added_in text ≡ Some added
+      → HasCapacityOf (length added) items → HasCapacityFor numbers items text
+  added_ready added is capacity = record {
+    items = λ list there. subst (λ (l : List (Text × Text)). HasCapacityOf (length l) items)
+        (same_Some added list (sym is ∙ there)) capacity;
+    mark = λ none. let wrong : Some added ≡ None = sym is ∙ none in absurd cc;
   }
 
-  -- where it has no item
-  without_item : item_in text ≡ None → HasMarkCapacity numbers (mark_in text)
+  pub item_ready : (entry key : Text) → text ≡ entry_record entry key → IsShort entry
+      → IsShort key → HasCapacityOf 1 items → HasCapacityFor numbers items text
+  item_ready entry key is few_entry few_key capacity =
+      added_ready ((entry, key) ∷ []) (ap added_in is ∙ added_by_entry (entry_record entry key)
+      (entry, key) (item_again entry key few_entry few_key)) capacity
+
+  pub batch_ready : (list : List (Text × Text)) → text ≡ batch_record list → CanBeBatch list
+      → HasCapacityOf (length list) items → HasCapacityFor numbers items text
+  batch_ready list is can capacity =
+      added_ready list (ap added_in is ∙ batch_adds list can) capacity
+
+  -- where it adds none
+  without_item : added_in text ≡ None → HasMarkCapacity numbers (mark_in text)
       → HasCapacityFor numbers items text
   without_item alone capacity = record {
-    item = λ x there. let wrong : None ≡ Some x = sym alone ∙ there in absurd cc;
+    items = λ list there. let wrong : None ≡ Some list = sym alone ∙ there in absurd cc;
     mark = λ none. capacity;
   }
 
   pub mark_ready : (size : ℕ) → text ≡ landmark_record size → size < 2 ^ 64
       → 1 ≤ numbers.mark_spare → HasCapacityFor numbers items text
   mark_ready size is fits capacity =
-      without_item (ap item_in is ∙ mark_alone size)
+      without_item (ap added_in is ∙ mark_adds_none size)
       (subst (HasMarkCapacity numbers)
       (sym (ap mark_in is ∙ size_again landmark_tag (omega arith) size fits)) capacity)
 
   pub tiles_ready : (size : ℕ) → text ≡ tiles_record size → HasCapacityFor numbers items text
   tiles_ready size is =
-      without_item (ap item_in is ∙ tiles_no_item size)
+      without_item (ap added_in is ∙ tiles_add_none size)
       (subst (HasMarkCapacity numbers) (sym (ap mark_in is ∙ tiles_no_mark size)) tt)
 
   pub switch_ready : (size : ℕ) → text ≡ switch_record size → HasCapacityFor numbers items text
   switch_ready size is =
-      without_item (ap item_in is ∙ switch_no_item size)
+      without_item (ap added_in is ∙ switch_adds_none size)
       (subst (HasMarkCapacity numbers) (sym (ap mark_in is ∙ switch_no_mark size)) tt)
 
 -- the tiles of the size that the record makes are stored

@@ -2,14 +2,22 @@
 use Rattle.std.proofs.Common.{◌≡◌, ℕ, ◌+◌, ◌%◌, ◌^◌, ◌==◌, ◌<◌, ◌≤◌, if◌then◌else◌, Bool, arith}
 use Rattle.std.proofs.Common.{true, false, List, [], ◌∷◌, ◌++◌, length, Option, Some, None}
 use Rattle.std.proofs.Common.{option_map, option_and_then, Result, Ok, Err, refl, ap, ◌∙◌}
+use Rattle.std.proofs.Common.{◌&&◌, nat_le, subst, sym}
+use Rattle.std.specs.Option.{unwrap_or}
+use Rattle.std.specs.Prelude.{flat_map}
+use Rattle.std.proofs.lemmas.Bool.{and_parts, leb-true}
+use Rattle.std.proofs.lemmas.Option.{same_Some}
 use Rattle.std.specs.Borrow.{Bor}
 use Rattle.std.specs.Int.{w8, w16, w32, w64}
 use Rattle.std.proofs.lemmas.Bool.{eq-eqb, le-leb, lt-ltb, eqb-true}
 use Rattle.std.proofs.lemmas.List.{length-append}
 use Rattle.byte_formats.specs.Offsets.{At, at, IsBytes}
-use Rattle.byte_formats.specs.Forms.{IsForm, Anything, both, FitsBoth}
+use Rattle.byte_formats.specs.Forms.{IsForm, Anything, Nothing, both, FitsBoth}
+use Rattle.byte_formats.specs.Lists.{up_to_end}
 use Rattle.byte_formats.specs.Readings.{whole_of}
 use Rattle.byte_formats.proofs.FormLaws.{then_form, whole_again, whole_takes}
+use Rattle.byte_formats.proofs.FormLists.{many_form}
+use Rattle.byte_formats.proofs.Values.{when_some}
 use Rattle.tls_wire.specs.Arcs.{IsAnchorId}
 use Rattle.tls_wire.specs.Anchors.{anchor_of}
 use Rattle.tls_wire.specs.Reading.{number_at}
@@ -21,12 +29,15 @@ use Rattle.tls_wire.proofs.AnchorForm.{anchor_again}
 use Rattle.landmarks.specs.Limits.{most_active, most_entries}
 use Rattle.issuance_log.specs.Folds.{LogState, new_log, with_item, with_mark, with_tiles, view_in}
 use Rattle.issuance_log.specs.Folds.{begun_log, log_after_step, log_form, next_log, log_fold}
-use Rattle.issuance_log.specs.Folds.{log_of, takes_entry, takes_landmark, takes_switch, takes_tiles}
-use Rattle.issuance_log.specs.Folds.{with_switch}
-use Rattle.issuance_log.specs.LogSteps.{LogStep, adds_item, log_step_in, sets_mark, stores_tiles}
+use Rattle.issuance_log.specs.Folds.{log_of, takes_items, takes_landmark, takes_switch, takes_tiles}
+use Rattle.issuance_log.specs.Folds.{with_items, with_switch}
+use Rattle.issuance_log.specs.LogSteps.{LogStep, adds_items, log_step_in, sets_mark, stores_tiles}
 use Rattle.issuance_log.specs.LogSteps.{switches}
 use Rattle.issuance_log.specs.Marks.{last_mark}
 use Rattle.log_entry.specs.Matching.{has_form, matches}
+use Rattle.issuance_log.specs.Records.{CanBeBatch, HaveShortItems, added_in, added_items}
+use Rattle.issuance_log.specs.Records.{batch_at, batch_in}
+use Rattle.issuance_log.specs.Records.{batch_record, batch_tag, counted_items, item_text}
 use Rattle.issuance_log.specs.Records.{log_tag, entry_tag, landmark_tag, tiles_tag, settings_at}
 use Rattle.issuance_log.specs.Records.{entry_at, entry_record, tiled_in, tiles_record}
 use Rattle.issuance_log.specs.Records.{with_id, log_settings_with, tagged, settings_in}
@@ -36,7 +47,9 @@ use Rattle.issuance_log.specs.Results.{LogFinds}
 use Rattle.issuance_log.specs.declared.error.RecordError.{RecordError}
 use Rattle.issuance_log.specs.declared.error.RecordError.TheVariants.{Unfit, Memory}
 use Rattle.issuance_log.specs.Settings.{Settings, most_item, are_allowed, AreAllowed}
-use Rattle.issuance_log.proofs.Steps.{says_item, says_mark, says_switch, says_tiles}
+use Rattle.issuance_log.proofs.Steps.{added_by_batch, added_by_entry, added_none, items_are}
+use Rattle.issuance_log.proofs.Steps.{items_of_entry, says_items, says_mark, says_switch}
+use Rattle.issuance_log.proofs.Steps.{says_tiles}
 use Rattle.journal_core.proofs.Folds.{state_begins, state_next}
 
 pub length-settings : (s : Settings) → length (settings_record s) ≡ 10 + length s.id
@@ -55,12 +68,13 @@ length-size tag size = simp length-append (omega arith)
 -- ---- a form after its tag
 
 module _ {X : Type 0} (wanted : ℕ) (small : wanted < 256) {encode : X → List ℕ} {Fits : X
-    → Type 0} {read : At → Result (X × At) Short} (form : IsForm encode Fits Anything read) where
-  pub tagged_again : (x : X) → Fits x
+    → Type 0} {Follows : List ℕ → Type 0} {read : At → Result (X × At) Short}
+    (form : IsForm encode Fits Follows read) where
+  pub tagged_again : Follows [] → (x : X) → Fits x
       → tagged wanted read (number_at w8 (at (number w8 wanted ++ encode x) 0)) ≡ Some x
-  tagged_again x fits =
+  tagged_again ended x fits =
       let tag = (number_form w8 (2 ^ 8) wide8).again wanted 0 (encode x) small tt in
-      ap (tagged wanted read) tag ∙ rw (eq-eqb wanted wanted refl) (whole_again form tt x 1 fits)
+      ap (tagged wanted read) tag ∙ rw (eq-eqb wanted wanted refl) (whole_again form ended x 1 fits)
 
   pub tagged_takes : (body : List ℕ) (x : X) → IsBytes body
       → tagged wanted read (number_at w8 (at body 0)) ≡ Some x
@@ -86,7 +100,7 @@ module _ {X : Type 0} (wanted : ℕ) (small : wanted < 256) {encode : X → List
 
 -- ---- an Entry
 
-entry_form : IsForm (both (vector w16) (vector w16)) (FitsBoth IsShort IsShort)
+pub entry_form : IsForm (both (vector w16) (vector w16)) (FitsBoth IsShort IsShort)
     Anything entry_at
 unfolding entry_at
 entry_form = then_form (vector_form w16 (2 ^ 16) wide16) (vector_form w16 (2 ^ 16) wide16)
@@ -95,7 +109,7 @@ pub item_again : (entry key : List ℕ) → IsShort entry → IsShort key
     → item_in (entry_record entry key) ≡ Some (entry, key)
 unfolding item_in entry_record
 item_again entry key few_entry few_key =
-    tagged_again entry_tag (omega arith) entry_form (entry, key) (few_entry, few_key)
+    tagged_again entry_tag (omega arith) entry_form tt (entry, key) (few_entry, few_key)
 
 pub item_takes : (body entry key : List ℕ) → IsBytes body → item_in body ≡ Some (entry, key)
     → (body ≡ entry_record entry key) × IsShort entry × IsShort key
@@ -110,6 +124,92 @@ pub no_item : (body : List ℕ) (why : RecordError) → why ≡ Unfit
     → item_in body ≡ None
 no_item body Unfit is none = none
 no_item body Memory is none = let wrong : Memory ≡ Unfit = is in cc
+
+-- ---- a Batch
+
+pub item_some : (x : List ℕ × List ℕ) → FitsBoth IsShort IsShort x → 0 < length (item_text x)
+item_some x fits =
+    let size = length-append (vector w16 x.0) (vector w16 x.1) in
+    let first = length-append (number w16 (length x.0)) x.0 in
+    omega arith
+
+-- the items of a Batch, each as that of an Entry
+pub items_form : IsForm (flat_map item_text) HaveShortItems Nothing (up_to_end entry_at)
+items_form = many_form entry_form item_some
+
+batch_form : IsForm (both (number w16) (flat_map item_text))
+    (FitsBoth (λ (n : ℕ). n < 2 ^ 16) HaveShortItems) Nothing batch_at
+unfolding batch_at
+batch_form = then_form (number_form w16 (2 ^ 16) wide16) items_form
+
+pub batch_again : (items : List (List ℕ × List ℕ)) → CanBeBatch items
+    → batch_in (batch_record items) ≡ Some items
+unfolding batch_in batch_record
+batch_again items can =
+    ap (option_and_then counted_items) (tagged_again batch_tag (omega arith) batch_form refl
+    (length items, items) (can.few, can.short))
+    ∙ rw (
+      eq-eqb (length items) (length items) refl,
+      le-leb 1 (length items) can.some,
+    ) refl
+
+-- the items that were counted
+pub counted_from : (o : Option (ℕ × List (List ℕ × List ℕ))) (items : List (List ℕ × List ℕ))
+    → option_and_then counted_items o ≡ Some items
+    → (x : ℕ × List (List ℕ × List ℕ)) × (o ≡ Some x) × (counted_items x ≡ Some items)
+counted_from None items is = let wrong : None ≡ Some items = is in absurd cc
+counted_from (Some x) items is = (x, refl, is)
+
+pub batch_takes : (body : List ℕ) (items : List (List ℕ × List ℕ)) → IsBytes body
+    → batch_in body ≡ Some items → (body ≡ batch_record items) × CanBeBatch items
+unfolding batch_in batch_record
+batch_takes body items bytes is =
+    let found = counted_from (tagged batch_tag batch_at (number_at w8 (at body 0))) items is in
+    let count = found.0.0 in
+    let all = found.0.1 in
+    let encoded = tagged_takes batch_tag (omega arith) batch_form body found.0 bytes found.1 in
+    let tests = when_some ((count == length all) && nat_le 1 count) (Some all) items found.2 in
+    let both_tests = and_parts (count == length all) (nat_le 1 count) tests.0 in
+    let same : count ≡ length all = eqb-true count (length all) both_tests.0 in
+    let some = leb-true 1 count both_tests.1 in
+    subst (λ (l : List (List ℕ × List ℕ)). (body ≡ number w8 batch_tag
+    ++ (number w16 (length l) ++ flat_map item_text l)) × CanBeBatch l)
+    (same_Some all items tests.1) (
+      encoded.0 ∙ ap (λ (n : ℕ). number w8 batch_tag ++ (number w16 n ++ flat_map item_text all))
+          same,
+      record {
+        some = subst (λ (n : ℕ). 1 ≤ n) same some;
+        few = subst (λ (n : ℕ). n < 65536) same encoded.1.0;
+        short = encoded.1.1;
+      },
+    )
+
+-- a Batch is no Entry
+pub batch_no_item : (items : List (List ℕ × List ℕ)) → item_in (batch_record items) ≡ None
+unfolding item_in batch_record
+batch_no_item items = ap (tagged entry_tag entry_at)
+    ((number_form w8 (2 ^ 8) wide8).again batch_tag 0
+    (number w16 (length items) ++ flat_map item_text items) (omega arith) tt)
+
+pub batch_adds : (items : List (List ℕ × List ℕ)) → CanBeBatch items
+    → added_in (batch_record items) ≡ Some items
+batch_adds items can =
+    added_by_batch (batch_record items) items (batch_no_item items) (batch_again items can)
+
+-- the lengths of what a record adds fit two bytes
+pub added_short : (body : List ℕ) → IsBytes body → HaveShortItems (added_items body)
+added_short body bytes = go (item_in body) (batch_in body) refl refl
+  where
+    go : (item : Option (List ℕ × List ℕ)) (batch : Option (List (List ℕ × List ℕ)))
+        → item_in body ≡ item → batch_in body ≡ batch → HaveShortItems (added_items body)
+    go (Some x) batch one two =
+        let takes = item_takes body x.0 x.1 bytes one in
+        subst HaveShortItems (sym (items_of_entry body x one)) ((takes.1, takes.2), tt)
+    go None (Some items) one two =
+        subst HaveShortItems (sym (items_are body items (added_by_batch body items one two)))
+        (batch_takes body items bytes two).1.short
+    go None None one two =
+        subst HaveShortItems (sym (ap (λ o. unwrap_or o []) (added_none body one two))) tt
 
 -- the log after a record that says this
 pub next_says : (h : List ℕ → List ℕ) (s : LogState) (body : List ℕ) (x : LogStep)
@@ -126,7 +226,7 @@ IsLong n = n < 2 ^ 64
 module _ (tag : ℕ) (small : tag < 256) where
   pub size_again : (size : ℕ) → size < 2 ^ 64 → size_in tag (size_record tag size) ≡ Some size
   unfolding size_in size_record
-  size_again = tagged_again tag small word_form
+  size_again = tagged_again tag small word_form tt
 
   pub size_takes : (body : List ℕ) (size : ℕ) → IsBytes body → size_in tag body ≡ Some size
       → (body ≡ size_record tag size) × (size < 2 ^ 64)
@@ -139,11 +239,28 @@ unfolding item_in size_record
 mark_alone size = ap (tagged entry_tag entry_at)
     ((number_form w8 (2 ^ 8) wide8).again landmark_tag 0 (number w64 size) (omega arith) tt)
 
+mark_no_batch : (size : ℕ) → batch_in (landmark_record size) ≡ None
+unfolding batch_in size_record
+mark_no_batch size = ap (λ r. option_and_then counted_items (tagged batch_tag batch_at r))
+    ((number_form w8 (2 ^ 8) wide8).again landmark_tag 0 (number w64 size) (omega arith) tt)
+
+pub mark_adds_none : (size : ℕ) → added_in (landmark_record size) ≡ None
+mark_adds_none size =
+    added_none (landmark_record size) (mark_alone size) (mark_no_batch size)
+
 -- a Tiles is neither an Entry nor a Landmark
 pub tiles_no_item : (size : ℕ) → item_in (tiles_record size) ≡ None
 unfolding item_in size_record
 tiles_no_item size = ap (tagged entry_tag entry_at)
     ((number_form w8 (2 ^ 8) wide8).again tiles_tag 0 (number w64 size) (omega arith) tt)
+
+tiles_no_batch : (size : ℕ) → batch_in (tiles_record size) ≡ None
+unfolding batch_in size_record
+tiles_no_batch size = ap (λ r. option_and_then counted_items (tagged batch_tag batch_at r))
+    ((number_form w8 (2 ^ 8) wide8).again tiles_tag 0 (number w64 size) (omega arith) tt)
+
+pub tiles_add_none : (size : ℕ) → added_in (tiles_record size) ≡ None
+tiles_add_none size = added_none (tiles_record size) (tiles_no_item size) (tiles_no_batch size)
 
 pub tiles_no_mark : (size : ℕ) → mark_in (tiles_record size) ≡ None
 unfolding size_in size_record
@@ -155,6 +272,15 @@ pub switch_no_item : (size : ℕ) → item_in (switch_record size) ≡ None
 unfolding item_in size_record
 switch_no_item size = ap (tagged entry_tag entry_at)
     ((number_form w8 (2 ^ 8) wide8).again switch_tag 0 (number w64 size) (omega arith) tt)
+
+switch_no_batch : (size : ℕ) → batch_in (switch_record size) ≡ None
+unfolding batch_in size_record
+switch_no_batch size = ap (λ r. option_and_then counted_items (tagged batch_tag batch_at r))
+    ((number_form w8 (2 ^ 8) wide8).again switch_tag 0 (number w64 size) (omega arith) tt)
+
+pub switch_adds_none : (size : ℕ) → added_in (switch_record size) ≡ None
+switch_adds_none size =
+    added_none (switch_record size) (switch_no_item size) (switch_no_batch size)
 
 pub switch_no_mark : (size : ℕ) → mark_in (switch_record size) ≡ None
 unfolding size_in size_record
@@ -204,7 +330,7 @@ settings_again s id allowed =
     let short = id.short in
     let fits : FitSettings (s.id, (s.max_active, s.limit)) =
     (omega arith, (omega arith, omega arith)) in
-    ap (option_and_then log_settings_with) (tagged_again log_tag (omega arith) settings_form
+    ap (option_and_then log_settings_with) (tagged_again log_tag (omega arith) settings_form tt
     (s.id, (s.max_active, s.limit)) fits)
     ∙ ap (λ (b : Bool). if b then with_id s.max_active s.limit (anchor_of s.id) else None)
     (tests_allowed s.max_active s.limit allowed)
@@ -225,11 +351,21 @@ pub next_added : (h : List ℕ → List ℕ) (s : LogState) (entry key : List �
     → has_form (log_form (view_in s)) entry ≡ true → matches h entry key ≡ true
     → next_log h s (entry_record entry key) ≡ Some (with_item entry key s)
 next_added h s entry key capacity few_entry few_key form belongs =
-    let test : takes_entry h (view_in s) (entry, key) ≡ true =
+    let test : takes_items h (view_in s) ((entry, key) ∷ []) ≡ true =
     rw (lt-ltb (length s.entries) s.settings.limit capacity, form, belongs) refl in
-    next_says h s (entry_record entry key) (adds_item (entry, key))
-    (says_item (entry_record entry key) (entry, key) (item_again entry key few_entry few_key))
+    next_says h s (entry_record entry key) (adds_items ((entry, key) ∷ []))
+    (says_items (entry_record entry key) ((entry, key) ∷ []) (added_by_entry
+    (entry_record entry key) (entry, key) (item_again entry key few_entry few_key)))
     ∙ ap (λ (b : Bool). if b then Some (with_item entry key s) else None) test
+
+-- of one Batch more
+pub next_batched : (h : List ℕ → List ℕ) (s : LogState) (items : List (List ℕ × List ℕ))
+    → CanBeBatch items → takes_items h (view_in s) items ≡ true
+    → next_log h s (batch_record items) ≡ Some (with_items items s)
+next_batched h s items can taken =
+    next_says h s (batch_record items) (adds_items items)
+    (says_items (batch_record items) items (batch_adds items can))
+    ∙ ap (λ (b : Bool). if b then Some (with_items items s) else None) taken
 
 -- of one Landmark more
 pub next_marked : (h : List ℕ → List ℕ) (s : LogState) → length s.entries < 2 ^ 64
@@ -240,7 +376,7 @@ next_marked h s fits above =
     let test : takes_landmark (view_in s) size ≡ true =
     rw (eq-eqb size size refl, lt-ltb (last_mark s.marks) size above) refl in
     next_says h s (landmark_record size) (sets_mark size)
-    (says_mark (landmark_record size) size (mark_alone size)
+    (says_mark (landmark_record size) size (mark_adds_none size)
     (size_again landmark_tag (omega arith) size fits))
     ∙ ap (λ (b : Bool). if b then Some (with_mark s) else None) test
 
@@ -256,7 +392,7 @@ next_tiled h s size fits multiple above within =
       le-leb size (length s.entries) within,
     ) refl in
     next_says h s (tiles_record size) (stores_tiles size)
-    (says_tiles (tiles_record size) size (tiles_no_item size) (tiles_no_mark size)
+    (says_tiles (tiles_record size) size (tiles_add_none size) (tiles_no_mark size)
     (size_again tiles_tag (omega arith) size fits))
     ∙ ap (λ (b : Bool). if b then Some (with_tiles size s) else None) test
 
@@ -267,7 +403,7 @@ next_switched h s fits first =
     let size = length s.entries in
     let test : takes_switch (view_in s) size ≡ true = rw (first, eq-eqb size size refl) refl in
     next_says h s (switch_record size) (switches size)
-    (says_switch (switch_record size) size (switch_no_item size) (switch_no_mark size)
+    (says_switch (switch_record size) size (switch_adds_none size) (switch_no_mark size)
     (switch_no_tiles size) (size_again switch_tag (omega arith) size fits))
     ∙ ap (λ (b : Bool). if b then Some (with_switch s) else None) test
 

@@ -10,7 +10,8 @@ use Rattle.byte_formats.specs.Types.{Text, HashFunction}
 use Rattle.log_entry.specs.Forms.{form_at}
 use Rattle.log_entry.specs.declared.entry.Form.{Form}
 use Rattle.log_entry.specs.declared.entry.Form.TheVariants.{One, Two}
-use Rattle.issuance_log.specs.Folds.{LogState, LogView, log_form, one_item_more, one_mark_more}
+use Rattle.issuance_log.specs.Folds.{LogState, LogView, log_form, more_entries, one_item_more}
+use Rattle.issuance_log.specs.Folds.{one_mark_more}
 use Rattle.issuance_log.specs.Folds.{switched_now, tiled_to, view_in, with_item, with_switch}
 use Rattle.issuance_log.specs.Marks.{last_mark, AreRising}
 use Rattle.issuance_log.specs.Sound.{HasSoundNumbers, IsItem, IsSound}
@@ -94,6 +95,23 @@ numbers_with v is capacity = record {
   tiled = omega (arith, is.tiled);
   switched = within_later v.switched v.size is.switched;
 }
+
+pub numbers_more : (v : LogView) (count : ℕ) → HasSoundNumbers v
+    → v.size + count ≤ v.settings.limit → HasSoundNumbers (more_entries count v)
+numbers_more v count is capacity = record {
+  allowed = is.allowed;
+  some = omega (arith, is.some);
+  few = capacity;
+  marks = rising_on 0 v.size (v.size + count) v.marks (omega arith) is.marks;
+  multiple = is.multiple;
+  tiled = omega (arith, is.tiled);
+  switched = within_more v.switched v.size count is.switched;
+}
+  where
+    within_more : (switched : Option ℕ) (size more : ℕ) → IfSome switched (λ index. index ≤ size)
+        → IfSome switched (λ index. index ≤ size + more)
+    within_more None size more within = tt
+    within_more (Some index) size more within = omega (arith, within)
 
 pub numbers_tiled : (v : LogView) (size : ℕ) → HasSoundNumbers v → size % 256 ≡ 0
     → size ≤ v.size → HasSoundNumbers (tiled_to size v)

@@ -2,9 +2,9 @@
 use Rattle.std.proofs.Common.{◌≡◌, ℕ, ◌<◌, ◌≤◌, List, [], ◌∷◌, ◌++◌, length, Option}
 use Rattle.std.proofs.Common.{Some, None, IfSome, option_map, Ok, refl, ap, sym, subst, ◌∙◌, arith}
 use Rattle.std.proofs.Common.{◌%◌, ◌==◌, ◌&&◌, nat_le, nat_lt, true, false}
-use Rattle.std.specs.Prelude.{is_none, map, option_to_list}
+use Rattle.std.specs.Prelude.{is_none, map}
 use Rattle.std.proofs.lemmas.Bool.{and_parts, eqb-true, leb-true, ltb-true}
-use Rattle.std.proofs.lemmas.List.{map-append}
+use Rattle.std.proofs.lemmas.List.{append-nil, append_assoc, map-append}
 use Rattle.std.proofs.lemmas.Option.{same_Some}
 use Rattle.byte_formats.specs.Types.{Text, HashFunction}
 use Rattle.byte_formats.proofs.Values.{map_some, when_some}
@@ -14,13 +14,14 @@ use Rattle.log_entry.specs.Matching.{has_form, matches}
 use Rattle.tree_core.specs.Tree.{leaf_hash}
 use Rattle.issuance_log.specs.Folds.{LogState, LogView, begun_log, log_fold, log_of, new_log}
 use Rattle.issuance_log.specs.Folds.{log_by_step, log_form, next_log, next_view, null_entry}
-use Rattle.issuance_log.specs.Folds.{takes_log_step, view_in, with_mark, with_tiles}
-use Rattle.issuance_log.specs.Items.{AreKept, HasShortItem}
-use Rattle.issuance_log.specs.LogSteps.{LogStep, adds_item, log_step_in, sets_mark, stores_tiles}
+use Rattle.issuance_log.specs.Folds.{one_item_more, takes_entry, takes_items, takes_log_step}
+use Rattle.issuance_log.specs.Folds.{view_in, with_item, with_items, with_mark, with_tiles}
+use Rattle.issuance_log.specs.Items.{AreKept}
+use Rattle.issuance_log.specs.LogSteps.{LogStep, adds_items, log_step_in, sets_mark, stores_tiles}
 use Rattle.issuance_log.specs.LogSteps.{switches, unknown_step}
 use Rattle.issuance_log.specs.Marks.{last_mark}
-use Rattle.issuance_log.specs.ItemOffsets.{offsets_after}
-use Rattle.issuance_log.specs.Records.{item_in, settings_in}
+use Rattle.issuance_log.specs.ItemOffsets.{offsets_after, places_in}
+use Rattle.issuance_log.specs.Records.{HaveShortItems, IsShort, added_items, settings_in}
 use Rattle.issuance_log.specs.Settings.{Settings}
 use Rattle.issuance_log.specs.Shown.{recorded_items, shown_with}
 use Rattle.issuance_log.specs.Sound.{HasSoundNumbers, IsSound}
@@ -30,8 +31,8 @@ use Rattle.issuance_log.proofs.Growth.{sound_with}
 use Rattle.issuance_log.proofs.Shown.{all_shown, shown_size, shown_so}
 use Rattle.issuance_log.proofs.Shown.{shown_view}
 use Rattle.issuance_log.proofs.Standing.{offsets_with}
-use Rattle.issuance_log.proofs.Steps.{step_item, step_item_is}
-use Rattle.issuance_log.proofs.Views.{views_follow}
+use Rattle.issuance_log.proofs.Steps.{items_of_step, step_items_are}
+use Rattle.issuance_log.proofs.Views.{view_item, views_follow}
 
 -- ---- sound with one record more
 
@@ -55,23 +56,55 @@ sound_tiled h s size is multiple within = record {
   items = is.items;
 }
 
--- so it is with a step that is taken
-sound_step : (h : HashFunction) (s : LogState) (x : LogStep) → IsSound h s
-    → HasShortItem (step_item x) → takes_log_step h (view_in s) x ≡ true
-    → IsSound h (log_by_step x s)
-sound_step h s (adds_item x) sound short takes =
+-- with one item that is taken
+sound_one : (h : HashFunction) (s : LogState) (x : Text × Text) → IsSound h s
+    → IsShort x.0 × IsShort x.1 → takes_entry h (view_in s) x ≡ true
+    → IsSound h (with_item x.0 x.1 s)
+sound_one h s x sound short takes =
     let form = log_form (view_in s) in
     let tests = and_parts (nat_lt (length s.entries) s.settings.limit)
     (has_form form x.0 && matches h x.0 x.1) takes in
     let belongs = and_parts (has_form form x.0) (matches h x.0 x.1) tests.1 in
-    let both = short x.0 x.1 refl in
     sound_with h s x.0 x.1 sound (ltb-true (length s.entries) s.settings.limit tests.0)
     (record {
       form_is = belongs.0;
       belongs = belongs.1;
-      short_entry = both.0;
-      short_key = both.1;
+      short_entry = short.0;
+      short_key = short.1;
     })
+
+-- other entries and keys
+same_lists : (s : LogState) (entries keys entries' keys' : List Text) → entries ≡ entries'
+    → keys ≡ keys' → record s { entries = entries; keys = keys }
+    ≡ record s { entries = entries'; keys = keys' }
+same_lists s entries keys entries' keys' one two = cc
+
+with_none : (s : LogState) → with_items [] s ≡ s
+with_none s = same_lists s _ _ _ _ (append-nil s.entries) (append-nil s.keys)
+
+with_later : (s : LogState) (x : Text × Text) (items : List (Text × Text))
+    → with_items items (with_item x.0 x.1 s) ≡ with_items (x ∷ items) s
+with_later s x items = same_lists s _ _ _ _
+    (append_assoc s.entries (x.0 ∷ []) (map (λ item. item.0) items))
+    (append_assoc s.keys (x.1 ∷ []) (map (λ item. item.1) items))
+
+-- with several, each of which is taken after those before it
+sound_items : (h : HashFunction) (s : LogState) (items : List (Text × Text)) → IsSound h s
+    → HaveShortItems items → takes_items h (view_in s) items ≡ true
+    → IsSound h (with_items items s)
+sound_items h s [] sound short takes = subst (IsSound h) (sym (with_none s)) sound
+sound_items h s (x ∷ items) sound short takes =
+    let tests = and_parts (takes_entry h (view_in s) x)
+    (takes_items h (one_item_more (view_in s)) items) takes in
+    subst (IsSound h) (with_later s x items)
+    (sound_items h (with_item x.0 x.1 s) items (sound_one h s x sound short.0 tests.0) short.1
+    (subst (λ (v : LogView). takes_items h v items ≡ true) (sym (view_item s x.0 x.1)) tests.1))
+
+-- so it is with a step that is taken
+sound_step : (h : HashFunction) (s : LogState) (x : LogStep) → IsSound h s
+    → HaveShortItems (items_of_step x) → takes_log_step h (view_in s) x ≡ true
+    → IsSound h (log_by_step x s)
+sound_step h s (adds_items items) sound short takes = sound_items h s items sound short takes
 sound_step h s (sets_mark size) sound short takes =
     let tests = and_parts (size == length s.entries) (nat_lt (last_mark s.marks) size) takes in
     let same : size ≡ length s.entries = eqb-true size (length s.entries) tests.0 in
@@ -89,13 +122,13 @@ sound_step h s (switches index) sound short takes =
 sound_step h s unknown_step sound short takes = let wrong : false ≡ true = takes in absurd cc
 
 pub sound_next : (h : HashFunction) (s t : LogState) (body : Text) → IsSound h s
-    → HasShortItem (item_in body) → next_log h s body ≡ Some t → IsSound h t
+    → HaveShortItems (added_items body) → next_log h s body ≡ Some t → IsSound h t
 unfolding next_log
 sound_next h s t body sound short is =
     let x = log_step_in body in
     let made = when_some (takes_log_step h (view_in s) x) (Some (log_by_step x s)) t is in
     subst (IsSound h) (same_Some (log_by_step x s) t made.1)
-    (sound_step h s x sound (subst HasShortItem (step_item_is body) short) made.0)
+    (sound_step h s x sound (subst HaveShortItems (step_items_are body) short) made.0)
 
 -- ---- what a record makes of the log that is shown
 
@@ -140,10 +173,9 @@ hashed_with (Some l) leaves' old new more was are is =
 pub kept_next : (h : HashFunction) (v w : LogView) (offsets offsets' : List ℕ)
     (leaves leaves' : Option (List (List ℕ))) (first : Text) (bodies : List Text) (body : Text)
     → AreKept h v offsets leaves (first ∷ bodies) → next_view h v body ≡ Some w
-    → HasShortItem (item_in body)
-    → offsets' ≡ offsets
-    ++ map (λ x. following 16 (first ∷ bodies)) (option_to_list (item_in body))
-    → leaves' ≡ option_map (λ l. l ++ map (λ x. leaf_hash h x.0) (option_to_list (item_in body)))
+    → HaveShortItems (added_items body)
+    → offsets' ≡ offsets ++ places_in (following 16 (first ∷ bodies)) body
+    → leaves' ≡ option_map (λ l. l ++ map (λ x. leaf_hash h x.0) (added_items body))
     leaves
     → AreKept h w offsets' leaves' ((first ∷ bodies) ++ body ∷ [])
 kept_next h v w offsets offsets' leaves leaves' first bodies body is next short offsets_is
@@ -163,26 +195,25 @@ kept_next h v w offsets offsets' leaves leaves' first bodies body is next short 
       made = log_is ∙ ap Ok (sym shown);
       all = size;
       offsets_are = offsets_is
-          ∙ ap (λ (l : List ℕ). l
-          ++ map (λ x. following 16 list) (option_to_list (item_in body))) is.offsets_are
+          ∙ ap (λ (l : List ℕ). l ++ places_in (following 16 list) body) is.offsets_are
           ∙ sym (offsets_with first bodies body);
       sound = subst (IsSound h) (sym shown) (sound_next h s t body is.sound short step.1);
       hashed = hashed_with leaves leaves' (map (leaf_hash h) s.entries) _
-          (map (λ x. leaf_hash h x.0) (option_to_list (item_in body))) is.hashed leaves_is
+          (map (λ x. leaf_hash h x.0) (added_items body)) is.hashed leaves_is
           (ap (λ (u : LogState). map (leaf_hash h) u.entries) shown
           ∙ ap (map (leaf_hash h)) items.entries
-          ∙ map-append (leaf_hash h) s.entries (entries_of (option_to_list (item_in body)))
+          ∙ map-append (leaf_hash h) s.entries (entries_of (added_items body))
           ∙ ap (λ x. map (leaf_hash h) s.entries ++ x)
-          (hashed_twice h (option_to_list (item_in body))));
+          (hashed_twice h (added_items body)));
     }
 
 -- This holds after any records.
 pub kept_more : (h : HashFunction) (v w : LogView) (offsets offsets' : List ℕ)
     (leaves leaves' : Option (List (List ℕ))) (list : List Text) (body : Text)
     → AreKept h v offsets leaves list → next_view h v body ≡ Some w
-    → HasShortItem (item_in body)
-    → offsets' ≡ offsets ++ map (λ x. following 16 list) (option_to_list (item_in body))
-    → leaves' ≡ option_map (λ l. l ++ map (λ x. leaf_hash h x.0) (option_to_list (item_in body)))
+    → HaveShortItems (added_items body)
+    → offsets' ≡ offsets ++ places_in (following 16 list) body
+    → leaves' ≡ option_map (λ l. l ++ map (λ x. leaf_hash h x.0) (added_items body))
     leaves
     → AreKept h w offsets' leaves' (list ++ body ∷ [])
 kept_more h v w offsets offsets' leaves leaves' [] body is next short offsets_is leaves_is =

@@ -34,6 +34,8 @@ placed_prefix list all rest place item is at = record {
   prefix = at.prefix;
   body = at.body;
   back = at.back ++ rest;
+  inside = at.inside;
+  later = at.later;
   split = is ∙ ap (λ (l : List Text). l ++ rest) at.split
       ∙ append_assoc at.prefix (at.body ∷ at.back) rest;
   offset_is = at.offset_is;

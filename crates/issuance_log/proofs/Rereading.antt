@@ -8,12 +8,18 @@ use Rattle.std.proofs.lemmas.Bool.{le-ltb, lt-ltb}
 use Rattle.std.specs.Result.{IsErrAnd}
 use Rattle.std.proofs.lemmas.List.{get_or-map, get_or-take, take-append-le, take_all}
 use Rattle.byte_formats.specs.Types.{Hash, HashFunction, Text}
+use Rattle.byte_formats.specs.Offsets.{At, at}
+use Rattle.byte_formats.proofs.Steps.{bind_ok, ok_is}
 use Rattle.byte_formats.proofs.Values.{err_is}
-use Rattle.journal_core.specs.Words.{HasSize, HoldsBody}
-use Rattle.issuance_log.specs.Entries.{IsBodyAt, IsNoAnswer}
+use Rattle.tls_wire.specs.Reading.{vector_at}
+use Rattle.tls_wire.specs.declared.cursor.Short.{Short}
+use Rattle.journal_core.specs.Words.{HoldsBody}
+use Rattle.std.specs.Int.{w16, from_be_bytes}
+use Rattle.issuance_log.specs.Entries.{IsNoAnswer, IsVectorAt}
 use Rattle.issuance_log.specs.Folds.{LogState, LogView, null_entry}
 use Rattle.issuance_log.specs.Items.{AreKept}
 use Rattle.issuance_log.specs.ItemOffsets.{IsAtOffset, offsets_of}
+use Rattle.issuance_log.specs.Records.{entry_at}
 use Rattle.issuance_log.specs.Refusals.{GivesItem, item_at}
 use Rattle.issuance_log.specs.Shown.{recorded_items, shown_with}
 use Rattle.issuance_log.specs.declared.error.LogError.{LogError}
@@ -21,6 +27,7 @@ use Rattle.issuance_log.specs.declared.error.LogError.TheVariants.{Full, TooLarg
 use Rattle.issuance_log.specs.declared.error.LogError.TheVariants.{NothingNew, Failed, Append}
 use Rattle.issuance_log.specs.declared.error.LogError.TheVariants.{Memory}
 use Rattle.issuance_log.proofs.After.{entries_of, keys_of}
+use Rattle.issuance_log.proofs.Inside.{vector_read}
 use Rattle.issuance_log.proofs.Shown.{shown_size}
 use Rattle.issuance_log.proofs.Standing.{placed_of}
 
@@ -146,22 +153,77 @@ gives_item h v offsets leaves (Some list) kept index place entry key some there 
 gives_item h v offsets leaves (Some list) kept index place entry key some there is (Err why) none
     gives = gives_nothing h v offsets leaves (Some list) kept index why entry key there none
 
--- the body of the record at an offset, by its length and the bytes that were read
-pub body_read : (place size : ℕ) (o later : Option (List Text)) (out items : List ℕ) (len : ℕ)
-    → later ≡ o → IfSome o (HasSize (place + 1) size)
-    → IfSome later (HoldsBody (place + 1 + 4) out) → length out ≡ size → length items ≡ size
-    → len ≡ size → IfSome o (IsBodyAt place (take len (out ++ drop (length out) items)))
-body_read place size o later out items len same sized holds of_out of_items of_len =
-    each o sized (subst (λ p. IfSome p (HoldsBody (place + 1 + 4) out)) same holds)
+-- the bytes after their length inside a body, by what was read at both places
+vector_found : (place : ℕ) (first out : List ℕ) (list : List Text)
+    → HoldsBody place first list → length first ≡ 2 → HoldsBody (place + 2) out list
+    → length out ≡ from_be_bytes w16 first → IsVectorAt place out list
+vector_found place first out list one two next long prefix body back inside bytes later split
+    place_is read =
+    let v = vector_read body inside bytes later read in
+    let head : first ≡ take 2 (drop inside body) =
+    one prefix body back inside split (omega (arith, place_is)) (omega (arith, v.within, two))
+    ∙ ap (λ (n : ℕ). take n (drop inside body)) two in
+    let same : length out ≡ length bytes =
+    long ∙ ap (from_be_bytes w16) head ∙ sym v.counted in
+    let out_is : out ≡ take (length out) (drop (inside + 2) body) =
+    next prefix body back (inside + 2) split (omega (arith, place_is))
+    (omega (arith, v.within, same)) in
+    v.part ∙ ap (λ (n : ℕ). take n (drop (inside + 2) body)) (sym same) ∙ sym out_is
+
+pub vector_back : (place size : ℕ) (first out items : List ℕ) (o later : Option (List Text))
+    (len : ℕ) → IfSome o (HoldsBody place first) → length first ≡ 2
+    → size ≡ from_be_bytes w16 first → later ≡ o → IfSome later (HoldsBody (place + 2) out)
+    → length out ≡ size → length items ≡ size → len ≡ size
+    → IfSome o (IsVectorAt place (take len (out ++ drop (length out) items)))
+vector_back place size first out items o later len one two sized same next of_out of_items of_len =
+    each o one (subst (λ p. IfSome p (HoldsBody (place + 2) out)) same next)
   where
-    each : (p : Option (List Text)) → IfSome p (HasSize (place + 1) size)
-        → IfSome p (HoldsBody (place + 1 + 4) out)
-        → IfSome p (IsBodyAt place (take len (out ++ drop (length out) items)))
-    each None has body_is = tt
-    each (Some list) has body_is = λ prefix body back list_is offset_is.
-        let size_is : size ≡ length body =
-        (has prefix body back list_is (ap (λ (n : ℕ). n + 1) offset_is)).0 in
-        let read : out ≡ take (length out) body =
-        body_is prefix body back 0 list_is (omega arith) (omega arith) in
+    whole : out ≡ take len (out ++ drop (length out) items)
+    whole =
         sym (take-append-le len out (drop (length out) items) (omega arith)
-        ∙ take_all len out (omega arith) ∙ read ∙ take_all (length out) body (omega arith))
+        ∙ take_all len out (omega arith))
+
+    each : (p : Option (List Text)) → IfSome p (HoldsBody place first)
+        → IfSome p (HoldsBody (place + 2) out)
+        → IfSome p (IsVectorAt place (take len (out ++ drop (length out) items)))
+    each None holds after = tt
+    each (Some list) holds after =
+        subst (λ (t : Text). IsVectorAt place t list) whole
+        (vector_found place first out list holds two after (of_out ∙ sized))
+
+-- the item at an offset, by its two vectors
+item_found : (place : ℕ) (first second : Text) (list : List Text) → IsVectorAt place first list
+    → IsVectorAt (place + 2 + length first) second list → (item : Text × Text)
+    → IsAtOffset list place item → item ≡ (first, second)
+unfolding entry_at
+item_found place first second list one two item there =
+    let a = at there.body there.inside in
+    let head = bind_ok (vector_at w16 a) _ (item, there.later) there.is in
+    let rest = bind_ok (vector_at w16 head.0.1) _ (item, there.later) head.2 in
+    let same = ok_is Short ((head.0.0, rest.0.0), rest.0.1) (item, there.later) rest.2 in
+    let first_is : head.0.0 ≡ first =
+    one there.prefix there.body there.back there.inside head.0.0 head.0.1 there.split
+    there.offset_is head.1 in
+    let moved = (vector_read there.body there.inside head.0.0 head.0.1 head.1).next in
+    let count = ap length first_is in
+    let second_is : rest.0.0 ≡ second =
+    two there.prefix there.body there.back (there.inside + 2 + length head.0.0) rest.0.0 rest.0.1
+    there.split (omega (arith, there.offset_is, count)) (ap (vector_at w16) (sym moved) ∙ rest.1) in
+    sym (ap (λ (v : (Text × Text) × At). v.0) same)
+    ∙ ap (λ (t : Text). (t, rest.0.0)) first_is ∙ ap (λ (t : Text). (first, t)) second_is
+
+pub item_back : (place after : ℕ) (first second : Text) (o later : Option (List Text))
+    → IfSome o (IsVectorAt place first) → after ≡ place + 2 + length first → later ≡ o
+    → IfSome later (IsVectorAt after second)
+    → IfSome o (λ list. (item : Text × Text) → IsAtOffset list place item
+    → item ≡ (first, second))
+item_back place after first second o later one after_is same two =
+    each o one (subst (λ (n : ℕ). IfSome o (IsVectorAt n second)) after_is
+    (subst (λ p. IfSome p (IsVectorAt after second)) same two))
+  where
+    each : (p : Option (List Text)) → IfSome p (IsVectorAt place first)
+        → IfSome p (IsVectorAt (place + 2 + length first) second)
+        → IfSome p (λ list. (item : Text × Text) → IsAtOffset list place item
+        → item ≡ (first, second))
+    each None head rest = tt
+    each (Some list) head rest = item_found place first second list head rest

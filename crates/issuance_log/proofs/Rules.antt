@@ -3,7 +3,9 @@ use Rattle.std.proofs.Common.{◌≡◌, inl, inr, ℕ, ◌%◌, ◌^◌, ◌<�
 use Rattle.std.proofs.Common.{true, List, ◌++◌, length, Option, Some, sym, ◌∙◌, arith}
 use Rattle.std.proofs.Common.{None, option_map, option_and_then, Result, Ok, Err, refl, subst, ap}
 use Rattle.std.specs.Int.{w8, w32}
-use Rattle.std.specs.Prelude.{is_none}
+use Rattle.std.specs.Prelude.{◌∷◌, [], is_none}
+use Rattle.std.specs.Option.{option_or}
+use Rattle.std.proofs.Math.Bool.{and-true}
 use Rattle.std.proofs.lemmas.Bool.{and_parts, eqb-true, leb-true, ltb-true}
 use Rattle.std.proofs.lemmas.Option.{same_Some}
 use Rattle.byte_formats.specs.Offsets.{at, IsBytes}
@@ -18,18 +20,20 @@ use Rattle.landmarks.specs.Limits.{most_active, most_entries}
 use Rattle.log_entry.specs.Matching.{has_form, matches}
 use Rattle.issuance_log.specs.Folds.{LogState, new_log, with_item, with_mark, with_tiles, view_in}
 use Rattle.issuance_log.specs.Folds.{begun_log, log_after_step, log_form, next_log, takes_entry}
-use Rattle.issuance_log.specs.Folds.{takes_landmark, takes_switch, takes_tiles, with_switch}
+use Rattle.issuance_log.specs.Folds.{takes_items, takes_landmark, takes_switch, takes_tiles}
+use Rattle.issuance_log.specs.Folds.{with_items, with_switch}
 use Rattle.issuance_log.specs.LogSteps.{log_step}
 use Rattle.issuance_log.specs.Marks.{last_mark}
 use Rattle.issuance_log.specs.Records.{log_tag, settings_at, with_id, log_settings_with, tagged}
 use Rattle.issuance_log.specs.Records.{settings_in, item_in, mark_in, tiled_in, settings_record}
 use Rattle.issuance_log.specs.Records.{landmark_record, landmark_tag, switch_in, switch_record}
-use Rattle.issuance_log.specs.Records.{switch_tag, tiles_tag}
+use Rattle.issuance_log.specs.Records.{batch_in, switch_tag, tiles_tag}
 use Rattle.issuance_log.specs.Rules.{IsFirst, IsNext}
 use Rattle.issuance_log.specs.Settings.{Settings, are_allowed, AreAllowed}
 use Rattle.issuance_log.proofs.Encoded.{settings_text, settings_form}
 use Rattle.issuance_log.proofs.Encoded.{settings_again, item_takes, size_takes, tagged_takes}
-use Rattle.issuance_log.proofs.Encoded.{next_added, next_marked, next_switched, next_tiled}
+use Rattle.issuance_log.proofs.Encoded.{batch_takes, next_added, next_batched, next_marked}
+use Rattle.issuance_log.proofs.Encoded.{next_switched, next_tiled}
 use Rattle.issuance_log.proofs.Growth.{none_is}
 
 pub is_next : (h : List ℕ → List ℕ) (s : LogState) (body : List ℕ) (t : LogState)
@@ -42,23 +46,41 @@ is_next h s body t (inr (inl is)) =
 is_next h s body t (inr (inr (inl is))) =
     ap (next_log h s) is.encoded
     ∙ next_tiled h s is.size is.fits is.multiple is.above is.within ∙ ap Some (sym is.made)
-is_next h s body t (inr (inr (inr is))) =
+is_next h s body t (inr (inr (inr (inl is)))) =
     ap (next_log h s) is.encoded ∙ next_switched h s is.fits is.first ∙ ap Some (sym is.made)
+is_next h s body t (inr (inr (inr (inr is)))) =
+    ap (next_log h s) is.encoded ∙ next_batched h s is.items is.batch is.taken
+    ∙ ap Some (sym is.made)
 
 pub next_is : (h : List ℕ → List ℕ) (s : LogState) (body : List ℕ) (t : LogState) → IsBytes body
     → next_log h s body ≡ Some t → IsNext h s body t
 unfolding next_log
 next_is h s body t bytes is =
-    go (item_in body) (mark_in body) (tiled_in body) (switch_in body) refl refl refl refl is
+    go (item_in body) (batch_in body) (mark_in body) (tiled_in body) (switch_in body) refl refl refl
+    refl refl is
   where
-    go : (item : Option (List ℕ × List ℕ)) (mark tiled switch : Option ℕ) → item_in body ≡ item
+    go : (item : Option (List ℕ × List ℕ)) (batch : Option (List (List ℕ × List ℕ)))
+        (mark tiled switch : Option ℕ) → item_in body ≡ item → batch_in body ≡ batch
         → mark_in body ≡ mark → tiled_in body ≡ tiled → switch_in body ≡ switch
-        → log_after_step h s (log_step item mark tiled switch) ≡ Some t → IsNext h s body t
-    go (Some x) mark tiled switch one two three four is =
+        → log_after_step h s (log_step (option_or (option_map (λ x. x ∷ []) item) batch) mark tiled
+        switch) ≡ Some t → IsNext h s body t
+    go None (Some items) mark tiled switch one other two three four is =
+        let encoded = batch_takes body items bytes other in
+        let made = when_some (takes_items h (view_in s) items) (Some (with_items items s)) t is in
+        inr (inr (inr (inr (record {
+          items = items;
+          encoded = encoded.0;
+          batch = encoded.1;
+          taken = made.0;
+          made = sym (same_Some _ _ made.1);
+        }))))
+    go (Some x) batch mark tiled switch one other two three four is =
         let encoded = item_takes body x.0 x.1 bytes one in
-        let made = when_some (takes_entry h (view_in s) x) (Some (with_item x.0 x.1 s)) t is in
+        let made = when_some (takes_entry h (view_in s) x && true) (Some (with_item x.0 x.1 s)) t
+        is in
         let tests = and_parts (nat_lt (length s.entries) s.settings.limit)
-        (has_form (log_form (view_in s)) x.0 && matches h x.0 x.1) made.0 in
+        (has_form (log_form (view_in s)) x.0 && matches h x.0 x.1)
+        (sym (and-true (takes_entry h (view_in s) x)) ∙ made.0) in
         let both = and_parts (has_form (log_form (view_in s)) x.0) (matches h x.0 x.1) tests.1 in
         inl (record {
           entry = x.0;
@@ -71,7 +93,7 @@ next_is h s body t bytes is =
           capacity = ltb-true (length s.entries) s.settings.limit tests.0;
           made = sym (same_Some _ _ made.1);
         })
-    go None (Some size) tiled switch one two three four is =
+    go None None (Some size) tiled switch one other two three four is =
         let encoded = size_takes landmark_tag (omega arith) body size bytes two in
         let made = when_some (takes_landmark (view_in s) size) (Some (with_mark s)) t is in
         let tests = and_parts (size == length s.entries) (nat_lt (last_mark s.marks) size)
@@ -83,7 +105,7 @@ next_is h s body t bytes is =
           above = subst (λ (n : ℕ). last_mark s.marks < n) same (ltb-true _ _ tests.1);
           made = sym (same_Some _ _ made.1);
         }))
-    go None None (Some size) switch one two three four is =
+    go None None None (Some size) switch one other two three four is =
         let encoded = size_takes tiles_tag (omega arith) body size bytes three in
         let made = when_some (takes_tiles (view_in s) size) (Some (with_tiles size s)) t is in
         let tests = and_parts (size % 256 == 0)
@@ -98,18 +120,19 @@ next_is h s body t bytes is =
           within = leb-true size (length s.entries) both.1;
           made = sym (same_Some _ _ made.1);
         })))
-    go None None None (Some index) one two three four is =
+    go None None None None (Some index) one other two three four is =
         let encoded = size_takes switch_tag (omega arith) body index bytes four in
         let made = when_some (takes_switch (view_in s) index) (Some (with_switch s)) t is in
         let tests = and_parts (is_none s.switched) (index == length s.entries) made.0 in
         let same : index ≡ length s.entries = eqb-true index (length s.entries) tests.1 in
-        inr (inr (inr (record {
+        inr (inr (inr (inl (record {
           encoded = encoded.0 ∙ ap switch_record same;
           fits = subst (λ (n : ℕ). n < 2 ^ 64) same encoded.1;
           first = none_is s.switched tests.0;
           made = sym (same_Some _ _ made.1);
-        })))
-    go None None None None one two three four is = let wrong : None ≡ Some t = is in absurd cc
+        }))))
+    go None None None None None one other two three four is =
+        let wrong : None ≡ Some t = is in absurd cc
 
 pub is_first : (body : List ℕ) (s : LogState) → IsFirst body s → begun_log body ≡ Some s
 unfolding begun_log

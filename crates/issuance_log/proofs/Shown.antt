@@ -1,18 +1,21 @@
 -- A log is what it shows over every disk, with the first items in its records.
 use Rattle.std.proofs.Common.{◌≡◌, ℕ, ◌+◌, ◌≤◌, List, [], ◌∷◌, ◌++◌, length, take}
 use Rattle.std.proofs.Common.{None, Ok, refl, ap, sym, ◌∙◌, arith}
-use Rattle.std.specs.Prelude.{map, option_to_list}
+use Rattle.std.specs.Prelude.{map}
+use Rattle.std.specs.Option.{unwrap_or}
 use Rattle.std.proofs.lemmas.List.{append-nil, length-append, length-map}
 use Rattle.std.proofs.lemmas.List.{length-take-le, map-append, take-append-le, take_all}
 use Rattle.std.proofs.lemmas.Grind.{flat_map-append}
 use Rattle.byte_formats.specs.Types.{Text, HashFunction}
 use Rattle.issuance_log.specs.Folds.{LogState, LogView, log_of, new_log, null_entry, view_in}
-use Rattle.issuance_log.specs.Folds.{with_item}
-use Rattle.issuance_log.specs.Records.{IsShort, entry_record, item_in}
+use Rattle.issuance_log.specs.Folds.{with_item, with_items}
+use Rattle.issuance_log.specs.Records.{CanBeBatch, IsShort, added_in, added_items}
+use Rattle.issuance_log.specs.Records.{batch_record, entry_record}
 use Rattle.issuance_log.specs.Shown.{recorded_items, shown_with}
 use Rattle.issuance_log.proofs.After.{following_items, entries_of, keys_of, later_items}
 use Rattle.issuance_log.proofs.After.{only_begins}
-use Rattle.issuance_log.proofs.Encoded.{item_again}
+use Rattle.issuance_log.proofs.Encoded.{batch_adds, item_again}
+use Rattle.issuance_log.proofs.Steps.{items_are, items_of_entry}
 
 -- what is shown, with these entries and keys
 abbrev made : LogView → List Text → List Text → LogState
@@ -60,7 +63,7 @@ recorded_more [] body = (recorded_items (body ∷ []), refl)
 recorded_more (first ∷ bodies) body = (
   later_items (body ∷ []),
   ap (λ l. (null_entry, []) ∷ l)
-      (flat_map-append (λ b. option_to_list (item_in b)) bodies (body ∷ [])),
+      (flat_map-append added_items bodies (body ∷ [])),
 )
 
 first_same : (f : Text × Text → Text) (n : ℕ) (list : List Text) (body : Text)
@@ -87,31 +90,43 @@ recorded_item : (list : List Text) (entry key : Text) → IsShort entry → IsSh
 recorded_item [] entry key few_entry few_key some = absurd (omega arith)
 recorded_item (first ∷ bodies) entry key few_entry few_key some =
     ap (λ l. (null_entry, []) ∷ l)
-    (flat_map-append (λ b. option_to_list (item_in b)) bodies (entry_record entry key ∷ []))
-    ∙ ap (λ o. recorded_items (first ∷ bodies) ++ (option_to_list o ++ []))
-    (item_again entry key few_entry few_key)
+    (flat_map-append added_items bodies (entry_record entry key ∷ []))
+    ∙ ap (λ l. recorded_items (first ∷ bodies) ++ (l ++ []))
+    (items_of_entry (entry_record entry key) (entry, key) (item_again entry key few_entry few_key))
 
--- a record without an item has none
-pub recorded_other : (list : List Text) (body : Text) → item_in body ≡ None
+-- the record of several has them after the others
+recorded_batch : (list : List Text) (items : List (Text × Text)) → CanBeBatch items
+    → 1 ≤ length (recorded_items list)
+    → recorded_items (list ++ batch_record items ∷ []) ≡ recorded_items list ++ items
+recorded_batch [] items can some = absurd (omega arith)
+recorded_batch (first ∷ bodies) items can some =
+    ap (λ l. (null_entry, []) ∷ l) (flat_map-append added_items bodies (batch_record items ∷ []))
+    ∙ ap (λ l. recorded_items (first ∷ bodies) ++ (l ++ []))
+    (items_are (batch_record items) items (batch_adds items can))
+    ∙ ap (λ l. recorded_items (first ∷ bodies) ++ l) (append-nil items)
+
+-- a record that adds none has none
+pub recorded_other : (list : List Text) (body : Text) → added_in body ≡ None
     → 1 ≤ length (recorded_items list)
     → recorded_items (list ++ body ∷ []) ≡ recorded_items list
 recorded_other [] body none some = absurd (omega arith)
 recorded_other (first ∷ bodies) body none some =
     ap (λ l. (null_entry, []) ∷ l)
-    (flat_map-append (λ b. option_to_list (item_in b)) bodies (body ∷ []))
-    ∙ ap (λ o. recorded_items (first ∷ bodies) ++ (option_to_list o ++ [])) none
+    (flat_map-append added_items bodies (body ∷ []))
+    ∙ ap (λ o. recorded_items (first ∷ bodies) ++ (unwrap_or o [] ++ [])) none
     ∙ append-nil (recorded_items (first ∷ bodies))
 
-one_more : (f : Text × Text → Text) (n : ℕ) (items more : List (Text × Text)) (x : Text × Text)
-    → n ≡ length items → more ≡ items ++ x ∷ []
-    → take (n + 1) (map f more) ≡ take n (map f items) ++ f x ∷ []
-one_more f n items more x size is =
+several_more : (f : Text × Text → Text) (n : ℕ) (items more added : List (Text × Text))
+    → n ≡ length items → more ≡ items ++ added
+    → take (n + length added) (map f more) ≡ take n (map f items) ++ map f added
+several_more f n items more added size is =
     let count = length-map items f in
-    let counts : length (map f (items ++ x ∷ [])) ≡ length items + 1 =
-    length-map (items ++ x ∷ []) f ∙ length-append items (x ∷ []) in
-    ap (λ l. take (n + 1) (map f l)) is
-    ∙ take_all (n + 1) (map f (items ++ x ∷ [])) (omega arith) ∙ map-append f items (x ∷ [])
-    ∙ ap (λ l. l ++ f x ∷ []) (sym (take_all n (map f items) (omega arith)))
+    let counts : length (map f (items ++ added)) ≡ length items + length added =
+    length-map (items ++ added) f ∙ length-append items added in
+    ap (λ l. take (n + length added) (map f l)) is
+    ∙ take_all (n + length added) (map f (items ++ added)) (omega arith)
+    ∙ map-append f items added
+    ∙ ap (λ l. l ++ map f added) (sym (take_all n (map f items) (omega arith)))
 
 -- the record of an item after as many items as are shown
 pub shown_added : (v : LogView) (list : List Text) (entry key : Text) → IsShort entry → IsShort key
@@ -121,8 +136,19 @@ pub shown_added : (v : LogView) (list : List Text) (entry key : Text) → IsShor
 shown_added v list entry key few_entry few_key some size =
     let more = recorded_item list entry key few_entry few_key (omega arith) in
     same_shown v _ _ _ _
-    (one_more (λ item. item.0) v.size (recorded_items list) _ (entry, key) size more)
-    (one_more (λ item. item.1) v.size (recorded_items list) _ (entry, key) size more)
+    (several_more (λ item. item.0) v.size (recorded_items list) _ ((entry, key) ∷ []) size more)
+    (several_more (λ item. item.1) v.size (recorded_items list) _ ((entry, key) ∷ []) size more)
+
+-- and that of several
+pub shown_batched : (v : LogView) (list : List Text) (items : List (Text × Text))
+    → CanBeBatch items → 1 ≤ v.size → v.size ≡ length (recorded_items list)
+    → shown_with (record v { size = v.size + length items }) (list ++ batch_record items ∷ [])
+    ≡ with_items items (shown_with v list)
+shown_batched v list items can some size =
+    let more = recorded_batch list items can (omega arith) in
+    same_shown v _ _ _ _
+    (several_more (λ item. item.0) v.size (recorded_items list) _ items size more)
+    (several_more (λ item. item.1) v.size (recorded_items list) _ items size more)
 
 -- Records that make a log have as many items as it has entries.
 pub all_shown : (h : HashFunction) (list : List Text) (s : LogState) → log_of h list ≡ Ok s

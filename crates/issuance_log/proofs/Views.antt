@@ -2,10 +2,11 @@
 use Rattle.std.proofs.Common.{◌≡◌, ℕ, ◌+◌, ◌%◌, ◌^◌, ◌<◌, ◌≤◌, Bool, true, false, List}
 use Rattle.std.proofs.Common.{[], ◌∷◌, ◌++◌, length, drop, Option, Some, None, option_map, Result}
 use Rattle.std.proofs.Common.{Ok, Err, IfOk, is_ok, refl, ap, sym, ◌∙◌, arith}
-use Rattle.std.specs.Prelude.{◌&&◌, if◌then◌else◌, nat_lt}
+use Rattle.std.specs.Prelude.{◌&&◌, if◌then◌else◌, map, nat_lt}
 use Rattle.std.specs.Result.{result_map_both}
 use Rattle.std.proofs.lemmas.Bool.{and_parts, eq-eqb, le-leb, lt-ltb, ltb-true}
-use Rattle.std.proofs.lemmas.List.{length_push}
+use Rattle.std.proofs.lemmas.List.{length-append, length-map, length_push}
+use Rattle.std.proofs.Math.Bool.{and-true}
 use Rattle.byte_formats.specs.Types.{Text, HashFunction}
 use Rattle.byte_formats.specs.Readings.{◌>>=◌, some_or}
 use Rattle.journal_core.specs.Folds.{Fold, state_after, taken_from}
@@ -14,22 +15,25 @@ use Rattle.state_journal.specs.declared.error.StateOpenError.{StateOpenError}
 use Rattle.state_journal.specs.declared.error.StateOpenError.TheVariants.{BadRecord, Open}
 use Rattle.issuance_log.specs.Folds.{LogState, LogView, begun_log, begun_view, log_by_step}
 use Rattle.issuance_log.specs.Folds.{log_fold, next_log}
-use Rattle.issuance_log.specs.Folds.{next_view, one_item_more, one_mark_more, takes_entry}
+use Rattle.issuance_log.specs.Folds.{more_entries, next_view, one_item_more, one_mark_more}
+use Rattle.issuance_log.specs.Folds.{takes_entry, takes_items, with_items}
 use Rattle.issuance_log.specs.Folds.{log_form, switched_now, takes_landmark, takes_log_step}
 use Rattle.issuance_log.specs.Folds.{takes_switch, takes_tiles, tiled_to, view_after_step}
 use Rattle.issuance_log.specs.Folds.{view_by_step, view_in, with_item}
-use Rattle.issuance_log.specs.LogSteps.{LogStep, adds_item, log_step_in, sets_mark, stores_tiles}
+use Rattle.issuance_log.specs.LogSteps.{LogStep, adds_items, log_step_in, sets_mark, stores_tiles}
 use Rattle.issuance_log.specs.LogSteps.{switches, unknown_step}
 use Rattle.issuance_log.specs.Marks.{last_mark}
-use Rattle.issuance_log.specs.Records.{IsShort, entry_record, item_in, landmark_record}
+use Rattle.issuance_log.specs.Records.{CanBeBatch, IsShort, added_in, batch_record}
+use Rattle.issuance_log.specs.Records.{entry_record, item_in, landmark_record}
 use Rattle.issuance_log.specs.Records.{landmark_tag, switch_record, switch_tag, tiles_record}
 use Rattle.issuance_log.specs.Records.{tiles_tag}
 use Rattle.issuance_log.specs.Results.{HasTried}
 use Rattle.issuance_log.proofs.After.{last_follows, last_not}
-use Rattle.issuance_log.proofs.Encoded.{item_again, mark_alone, size_again, tiles_no_item}
-use Rattle.issuance_log.proofs.Encoded.{switch_no_item, switch_no_mark, switch_no_tiles}
-use Rattle.issuance_log.proofs.Encoded.{tiles_no_mark}
-use Rattle.issuance_log.proofs.Steps.{says_item, says_mark, says_switch, says_tiles}
+use Rattle.issuance_log.proofs.Encoded.{batch_adds, item_again, mark_adds_none, size_again}
+use Rattle.issuance_log.proofs.Encoded.{switch_adds_none, switch_no_mark, switch_no_tiles}
+use Rattle.issuance_log.proofs.Encoded.{tiles_add_none, tiles_no_mark}
+use Rattle.issuance_log.proofs.Steps.{added_by_entry, says_items, says_mark, says_switch}
+use Rattle.issuance_log.proofs.Steps.{says_tiles}
 
 -- what is shown as a kind of journal
 abbrev pub view_fold : HashFunction → Fold LogView StateOpenError
@@ -40,7 +44,7 @@ view_fold h = record {
   not_read = Open;
 }
 
-view_item : (s : LogState) (entry key : Text)
+pub view_item : (s : LogState) (entry key : Text)
     → view_in (with_item entry key s) ≡ one_item_more (view_in s)
 view_item s entry key =
     ap (λ (n : ℕ). record {
@@ -51,6 +55,18 @@ view_item s entry key =
       switched = s.switched;
     }) (length_push s.entries entry)
 
+view_items : (s : LogState) (items : List (Text × Text))
+    → view_in (with_items items s) ≡ more_entries (length items) (view_in s)
+view_items s items =
+    ap (λ (n : ℕ). record {
+      settings = s.settings;
+      size = n;
+      marks = s.marks;
+      tiled = s.tiled;
+      switched = s.switched;
+    }) (length-append s.entries (map (λ item. item.0) items)
+    ∙ ap (λ (n : ℕ). length s.entries + n) (length-map items (λ item. item.0)))
+
 map_if : (b : Bool) (s : LogState) (v : LogView) → v ≡ view_in s
     → (if b then Some v else None) ≡ option_map view_in (if b then Some s else None)
 map_if true s v is = ap Some is
@@ -58,7 +74,7 @@ map_if false s v is = refl
 
 view_step : (x : LogStep) (s : LogState)
     → view_in (log_by_step x s) ≡ view_by_step x (view_in s)
-view_step (adds_item x) s = view_item s x.0 x.1
+view_step (adds_items items) s = view_items s items
 view_step (sets_mark size) s = refl
 view_step (stores_tiles size) s = refl
 view_step (switches index) s = refl
@@ -135,7 +151,7 @@ pub was_not : (wanted : Option LogView) (w : LogView) (E : Type 0) (b : Bool)
 was_not wanted w E false tried is = tried
 was_not wanted w E true tried is = let wrong : true ≡ false = is in absurd cc
 
--- ---- the four records, by what is shown
+-- ---- the five records, by what is shown
 
 view_says : (h : HashFunction) (v : LogView) (body : Text) (x : LogStep) → log_step_in body ≡ x
     → next_view h v body ≡ view_after_step h v x
@@ -147,8 +163,10 @@ view_item_is : (h : HashFunction) (v : LogView) (body : Text) (x : Text × Text)
     → item_in body ≡ Some x → takes_entry h v x ≡ b
     → next_view h v body ≡ (if b then Some (one_item_more v) else None)
 view_item_is h v body x b is takes =
-    view_says h v body (adds_item x) (says_item body x is)
-    ∙ ap (λ (t : Bool). if t then Some (one_item_more v) else None) takes
+    view_says h v body (adds_items (x ∷ []))
+    (says_items body (x ∷ []) (added_by_entry body x is))
+    ∙ ap (λ (t : Bool). if t then Some (one_item_more v) else None)
+    (ap (λ (t : Bool). t && true) takes ∙ and-true b)
 
 pub item_taken : (h : HashFunction) (v : LogView) (body : Text) (x : Text × Text)
     → item_in body ≡ Some x → takes_entry h v x ≡ true → next_view h v body ≡ Some (one_item_more v)
@@ -157,6 +175,23 @@ item_taken h v body x is takes = view_item_is h v body x true is takes
 pub item_refused : (h : HashFunction) (v : LogView) (body : Text) (x : Text × Text)
     → item_in body ≡ Some x → takes_entry h v x ≡ false → next_view h v body ≡ None
 item_refused h v body x is takes = view_item_is h v body x false is takes
+
+-- the items of a Batch that are taken, or aren't
+view_items_are : (h : HashFunction) (v : LogView) (body : Text) (items : List (Text × Text))
+    (b : Bool) → added_in body ≡ Some items → takes_items h v items ≡ b
+    → next_view h v body ≡ (if b then Some (more_entries (length items) v) else None)
+view_items_are h v body items b is takes =
+    view_says h v body (adds_items items) (says_items body items is)
+    ∙ ap (λ (t : Bool). if t then Some (more_entries (length items) v) else None) takes
+
+pub items_taken : (h : HashFunction) (v : LogView) (body : Text) (items : List (Text × Text))
+    → added_in body ≡ Some items → takes_items h v items ≡ true
+    → next_view h v body ≡ Some (more_entries (length items) v)
+items_taken h v body items is takes = view_items_are h v body items true is takes
+
+pub items_refused : (h : HashFunction) (v : LogView) (body : Text) (items : List (Text × Text))
+    → added_in body ≡ Some items → takes_items h v items ≡ false → next_view h v body ≡ None
+items_refused h v body items is takes = view_items_are h v body items false is takes
 
 pub taken_capacity : (h : HashFunction) (v : LogView) (x : Text × Text) → takes_entry h v x ≡ true
     → v.size < v.settings.limit
@@ -171,9 +206,14 @@ pub view_added : (h : HashFunction) (v : LogView) (entry key : Text)
 view_added h v entry key capacity few_entry few_key form belongs =
     let test : takes_entry h v (entry, key) ≡ true =
     rw (lt-ltb v.size v.settings.limit capacity, form, belongs) refl in
-    view_says h v (entry_record entry key) (adds_item (entry, key))
-    (says_item (entry_record entry key) (entry, key) (item_again entry key few_entry few_key))
-    ∙ ap (λ (b : Bool). if b then Some (one_item_more v) else None) test
+    item_taken h v (entry_record entry key) (entry, key)
+    (item_again entry key few_entry few_key) test
+
+pub view_batched : (h : HashFunction) (v : LogView) (items : List (Text × Text))
+    → CanBeBatch items → takes_items h v items ≡ true
+    → next_view h v (batch_record items) ≡ Some (more_entries (length items) v)
+view_batched h v items can taken =
+    items_taken h v (batch_record items) items (batch_adds items can) taken
 
 pub view_marked : (h : HashFunction) (v : LogView) → v.size < 2 ^ 64 → last_mark v.marks < v.size
     → next_view h v (landmark_record v.size) ≡ Some (one_mark_more v)
@@ -181,7 +221,7 @@ view_marked h v fits above =
     let test : takes_landmark v v.size ≡ true =
     rw (eq-eqb v.size v.size refl, lt-ltb (last_mark v.marks) v.size above) refl in
     view_says h v (landmark_record v.size) (sets_mark v.size)
-    (says_mark (landmark_record v.size) v.size (mark_alone v.size)
+    (says_mark (landmark_record v.size) v.size (mark_adds_none v.size)
     (size_again landmark_tag (omega arith) v.size fits))
     ∙ ap (λ (b : Bool). if b then Some (one_mark_more v) else None) test
 
@@ -196,7 +236,7 @@ view_tiled h v size fits multiple above within =
       le-leb size v.size within,
     ) refl in
     view_says h v (tiles_record size) (stores_tiles size)
-    (says_tiles (tiles_record size) size (tiles_no_item size) (tiles_no_mark size)
+    (says_tiles (tiles_record size) size (tiles_add_none size) (tiles_no_mark size)
     (size_again tiles_tag (omega arith) size fits))
     ∙ ap (λ (b : Bool). if b then Some (tiled_to size v) else None) test
 
@@ -205,6 +245,6 @@ pub view_switched : (h : HashFunction) (v : LogView) → v.size < 2 ^ 64 → v.s
 view_switched h v fits first =
     let test : takes_switch v v.size ≡ true = rw (first, eq-eqb v.size v.size refl) refl in
     view_says h v (switch_record v.size) (switches v.size)
-    (says_switch (switch_record v.size) v.size (switch_no_item v.size) (switch_no_mark v.size)
+    (says_switch (switch_record v.size) v.size (switch_adds_none v.size) (switch_no_mark v.size)
     (switch_no_tiles v.size) (size_again switch_tag (omega arith) v.size fits))
     ∙ ap (λ (b : Bool). if b then Some (switched_now v) else None) test

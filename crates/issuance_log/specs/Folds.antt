@@ -2,13 +2,13 @@
 -- it by what it says.
 use Rattle.std.specs.Prelude.{ℕ, ◌+◌, ◌%◌, ◌==◌, ◌&&◌, nat_lt, nat_le, List, [], ◌∷◌, ◌++◌, length}
 use Rattle.std.specs.Prelude.{Option, Some, None, option_map, is_none, Result, is_ok}
-use Rattle.std.specs.Prelude.{if◌then◌else◌, Bool, false}
+use Rattle.std.specs.Prelude.{if◌then◌else◌, Bool, true, false, map}
 use Rattle.byte_formats.specs.Types.{Text, HashFunction}
 use Rattle.journal_core.specs.Folds.{Fold, state_after, taken_from}
 use Rattle.log_entry.specs.Forms.{form_at}
 use Rattle.log_entry.specs.Matching.{has_form, matches}
 use Rattle.log_entry.specs.declared.entry.Form.{Form}
-use Rattle.issuance_log.specs.LogSteps.{LogStep, adds_item, log_step_in, sets_mark, stores_tiles}
+use Rattle.issuance_log.specs.LogSteps.{LogStep, adds_items, log_step_in, sets_mark, stores_tiles}
 use Rattle.issuance_log.specs.LogSteps.{switches, unknown_step}
 use Rattle.issuance_log.specs.Marks.{last_mark}
 use Rattle.issuance_log.specs.Records.{settings_in}
@@ -70,6 +70,13 @@ new_log settings = record {
 abbrev pub with_item : Text → Text → LogState → LogState
 with_item entry key s = record s { entries = s.entries ++ entry ∷ []; keys = s.keys ++ key ∷ [] }
 
+-- these items more, in their order
+abbrev pub with_items : List (Text × Text) → LogState → LogState
+with_items items s = record s {
+  entries = s.entries ++ map (λ item. item.0) items;
+  keys = s.keys ++ map (λ item. item.1) items;
+}
+
 -- a landmark more, at the size
 abbrev pub with_mark : LogState → LogState
 with_mark s = record s { marks = s.marks ++ length s.entries ∷ [] }
@@ -82,9 +89,17 @@ with_tiles size s = record s { tiled = size }
 abbrev pub with_switch : LogState → LogState
 with_switch s = record s { switched = Some (length s.entries) }
 
--- what the four make of what a log shows over every disk
+-- what these make of what a log shows over every disk
 abbrev pub one_item_more : LogView → LogView
 one_item_more v = record v { size = v.size + 1 }
+
+-- so many items more
+abbrev pub more_entries : ℕ → LogView → LogView
+more_entries count v = record v { size = v.size + count }
+
+-- the same with another size
+abbrev pub of_size : ℕ → LogView → LogView
+of_size size v = record v { size = size }
 
 abbrev pub one_mark_more : LogView → LogView
 one_mark_more v = record v { marks = v.marks ++ v.size ∷ [] }
@@ -113,6 +128,11 @@ abbrev pub takes_entry : HashFunction → LogView → Text × Text → Bool
 takes_entry h v x =
     nat_lt v.size v.settings.limit && (has_form (log_form v) x.0 && matches h x.0 x.1)
 
+-- Items, in their order: each by the rule of an Entry, after those before it.
+abbrev pub takes_items : HashFunction → LogView → List (Text × Text) → Bool
+takes_items h v [] = true
+takes_items h v (x ∷ items) = takes_entry h v x && takes_items h (one_item_more v) items
+
 -- a Landmark: it is the size, and above the last one
 abbrev pub takes_landmark : LogView → ℕ → Bool
 takes_landmark v size = size == v.size && nat_lt (last_mark v.marks) size
@@ -127,7 +147,7 @@ takes_switch v index = is_none v.switched && (index == v.size)
 
 -- Whether a log that shows this takes what a record says.
 abbrev pub takes_log_step : HashFunction → LogView → LogStep → Bool
-takes_log_step h v (adds_item x) = takes_entry h v x
+takes_log_step h v (adds_items items) = takes_items h v items
 takes_log_step h v (sets_mark size) = takes_landmark v size
 takes_log_step h v (stores_tiles size) = takes_tiles v size
 takes_log_step h v (switches index) = takes_switch v index
@@ -135,7 +155,7 @@ takes_log_step h v unknown_step = false
 
 -- what it makes of the log
 abbrev pub log_by_step : LogStep → LogState → LogState
-log_by_step (adds_item x) s = with_item x.0 x.1 s
+log_by_step (adds_items items) s = with_items items s
 log_by_step (sets_mark size) s = with_mark s
 log_by_step (stores_tiles size) s = with_tiles size s
 log_by_step (switches index) s = with_switch s
@@ -143,7 +163,7 @@ log_by_step unknown_step s = s
 
 -- and of what the log shows over every disk
 abbrev pub view_by_step : LogStep → LogView → LogView
-view_by_step (adds_item x) v = one_item_more v
+view_by_step (adds_items items) v = more_entries (length items) v
 view_by_step (sets_mark size) v = one_mark_more v
 view_by_step (stores_tiles size) v = tiled_to size v
 view_by_step (switches index) v = switched_now v

@@ -1,7 +1,7 @@
 -- What is retained of the items of a log: where each stands in the journal, and the nodes of the
 -- tree over the entries.
 use Rattle.std.specs.Prelude.{◌≡◌, ℕ, ◌+◌, ◌<◌, ◌≤◌, List, ◌++◌, length, map, slice_index_or}
-use Rattle.std.specs.Prelude.{Option, Some, option_map, option_to_list, IfSome, Ok, vec_len}
+use Rattle.std.specs.Prelude.{Option, option_map, IfSome, Ok, vec_len}
 use Rattle.std.specs.Prelude.{vec_capacity}
 use Rattle.std.proofs.Props.{props}
 use Rattle.byte_formats.specs.Types.{Hash, HashFunction, Text}
@@ -11,20 +11,14 @@ use Rattle.tile_store.specs.declared.store.Tiles.{Tiles}
 use Rattle.tree_core.specs.Tree.{leaf_hash}
 use Rattle.tree_core.specs.declared.hashing.TreeHash.{Ghosts as Hashes}
 use Rattle.issuance_log.specs.Folds.{LogView, log_of}
-use Rattle.issuance_log.specs.ItemOffsets.{offsets_of}
-use Rattle.issuance_log.specs.Records.{IsShort}
+use Rattle.issuance_log.specs.ItemOffsets.{offsets_of, places_from}
 use Rattle.issuance_log.specs.Shown.{recorded_items, shown_with}
 use Rattle.issuance_log.specs.Sound.{IsSound, IsSound-prop}
 use Rattle.issuance_log.specs.declared.items.Items.{Items}
 
--- After each of the offsets a commit byte and a length fit below an end.
+-- After each of the offsets two lengths of two bytes fit below an end.
 abbrev pub AreBelow : List ℕ → ℕ → Type 0
-AreBelow offsets end = (i : ℕ) → i < length offsets → slice_index_or offsets i 0 + 5 ≤ end
-
--- The lengths of an item fit two bytes.
-abbrev pub HasShortItem : Option (Text × Text) → Type 0
-HasShortItem item =
-    (entry key : Text) → item ≡ Some (entry, key) → IsShort entry × IsShort key
+AreBelow offsets end = (i : ℕ) → i < length offsets → slice_index_or offsets i 0 + 4 ≤ end
 
 -- The nodes are those over the entries.
 abbrev pub AreHashed : HashFunction → LogView → Option (List Hash) → List Text → Type 0
@@ -57,16 +51,14 @@ module _ {H T : Type 0} {hashes : Hashes H} {k : Ghosts T} where
   abbrev pub items_offsets : Items H T hashes k → List ℕ
   items_offsets items = items.offsets.items
 
-  -- The item in a record at an offset follows the others; if it has none, they stay.
-  pub record HaveTaken (h : HashFunction) (item : Option (Text × Text)) (place : ℕ)
+  -- These items, which follow each other from an offset on, follow the others.
+  pub record HaveTaken (h : HashFunction) (added : List (Text × Text)) (place : ℕ)
       (old new : Items H T hashes k) : Type 0 where
-    pub offsets : items_offsets new
-        ≡ items_offsets old ++ map (λ x. place) (option_to_list item)
+    pub offsets : items_offsets new ≡ items_offsets old ++ places_from place added
     pub leaves : items_leaves new
-        ≡ option_map (λ list. list ++ map (λ x. leaf_hash h x.0) (option_to_list item))
-        (items_leaves old)
+        ≡ option_map (λ list. list ++ map (λ x. leaf_hash h x.0) added) (items_leaves old)
 
-  -- one item more needs no memory
-  pub record HasItemCapacity (items : Items H T hashes k) : Type 0 where
-    pub place : vec_len items.offsets < vec_capacity items.offsets
-    pub leaf : 0 < tiles_spare items.nodes
+  -- so many items more need no memory
+  pub record HasCapacityOf (count : ℕ) (items : Items H T hashes k) : Type 0 where
+    pub places : vec_len items.offsets + count ≤ vec_capacity items.offsets
+    pub leaves : count ≤ tiles_spare items.nodes

@@ -1,3 +1,4 @@
+pub mod Batches
 pub mod Changes
 pub mod Counted
 pub mod Durable

@@ -13,9 +13,9 @@ use Rattle.tile_store.specs.declared.error.TileError.{TileError}
 use Rattle.tile_store.specs.declared.error.TileError.TheVariants.{Failed}
 use Rattle.tree_core.specs.declared.hashing.TreeHash.{Ghosts as Hashes}
 use Rattle.issuance_log.specs.Folds.{LogNumbers, LogView, next_view}
-use Rattle.issuance_log.specs.Items.{AreBelow, AreKept, HasItemCapacity, items_leaves}
+use Rattle.issuance_log.specs.Items.{AreBelow, AreKept, HasCapacityOf, items_leaves}
 use Rattle.issuance_log.specs.Items.{items_offsets, items_tiles}
-use Rattle.issuance_log.specs.Records.{item_in, mark_in}
+use Rattle.issuance_log.specs.Records.{added_in, mark_in}
 use Rattle.issuance_log.specs.Results.{HasMarkCapacity}
 use Rattle.issuance_log.specs.Sound.{HasSoundNumbers}
 use Rattle.issuance_log.specs.declared.items.Items.{Items}
@@ -79,11 +79,12 @@ module _ {H T : Type 0} {hashes : Hashes H} {k : Ghosts T} where
     pub counted : length (items_offsets it.items) ≡ (machine_view it).size
     pub stored : HasStored it
 
-  -- the item or the landmark of a record needs no memory
-  pub record HasCapacityFor (numbers : LogNumbers) (items : Items H T hashes k) (body : Text)
+  -- the items or the landmark of a record need no memory
+  pub record HasCapacityFor (numbers : LogNumbers) (kept : Items H T hashes k) (body : Text)
       : Type 0 where
-    pub item : (x : Text × Text) → item_in body ≡ Some x → HasItemCapacity items
-    pub mark : item_in body ≡ None → HasMarkCapacity numbers (mark_in body)
+    pub items : (list : List (Text × Text)) → added_in body ≡ Some list
+        → HasCapacityOf (length list) kept
+    pub mark : added_in body ≡ None → HasMarkCapacity numbers (mark_in body)
 
   -- A record is taken with what is there: it needs no memory, and the tiles of the size that it
   -- makes are stored.

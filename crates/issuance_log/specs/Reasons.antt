@@ -19,6 +19,7 @@ log_open_text (log_open_error.Open why) = open_fault_text why
 abbrev pub log_fault_text : LogError → Text
 log_fault_text log_error.Full = codes "Full"
 log_fault_text log_error.TooLarge = codes "TooLarge"
+log_fault_text (log_error.TooMany count) = codes "TooMany " ++ decimal count
 log_fault_text log_error.NoSuchEntry = codes "NoSuchEntry"
 log_fault_text log_error.NothingNew = codes "NothingNew"
 log_fault_text (log_error.AlreadySwitched index) = codes "AlreadySwitched " ++ decimal index

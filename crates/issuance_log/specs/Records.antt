@@ -1,10 +1,15 @@
 -- The records of a log's journal: a tag of one byte, and what it says. Numbers have their highest
 -- byte first.
-use Rattle.std.specs.Prelude.{ℕ, ◌<◌, ◌++◌, length, ◌==◌, Option, Some, None, option_and_then}
-use Rattle.std.specs.Prelude.{Result, Ok, Err, if◌then◌else◌}
+use Rattle.std.specs.Prelude.{◌≡◌, ℕ, zero, suc, ◌<◌, ◌≤◌, ◌==◌, ◌&&◌, nat_le, List, [], ◌∷◌}
+use Rattle.std.specs.Prelude.{◌++◌, length, flat_map, Option, Some, None, option_and_then}
+use Rattle.std.specs.Prelude.{option_map, Result, Ok, Err, if◌then◌else◌}
+use Rattle.std.specs.List.{AllByRecursion}
+use Rattle.std.specs.Option.{option_or, unwrap_or}
 use Rattle.std.specs.Int.{w8, w16, w32, w64}
 use Rattle.byte_formats.specs.Types.{Text}
 use Rattle.byte_formats.specs.Offsets.{At, at}
+use Rattle.byte_formats.specs.Forms.{both, FitsBoth}
+use Rattle.byte_formats.specs.Lists.{up_to_end}
 use Rattle.byte_formats.specs.Readings.{both_at, whole_of}
 use Rattle.tls_wire.specs.Anchors.{anchor_of}
 use Rattle.tls_wire.specs.Reading.{number_at, vector_at}
@@ -30,6 +35,9 @@ tiles_tag = 4
 abbrev pub switch_tag : ℕ
 switch_tag = 5
 
+abbrev pub batch_tag : ℕ
+batch_tag = 6
+
 -- ---- encodings
 
 -- Log: the id after its length of one byte, the most active landmarks and the limit in four bytes
@@ -45,6 +53,25 @@ IsShort text = length text < 65536
 -- Entry: the entry and its key, each after its length of two bytes
 unfoldable pub entry_record : Text → Text → Text
 entry_record entry key = number w8 entry_tag ++ (vector w16 entry ++ vector w16 key)
+
+-- an entry and its key in a Batch, each after its length of two bytes
+abbrev pub item_text : Text × Text → Text
+item_text = both (vector w16) (vector w16)
+
+-- Batch: how many items it has in two bytes, and the items in their order
+unfoldable pub batch_record : List (Text × Text) → Text
+batch_record items = number w8 batch_tag ++ (number w16 (length items) ++ flat_map item_text items)
+
+-- The lengths of each item fit two bytes.
+abbrev pub HaveShortItems : List (Text × Text) → Type 0
+HaveShortItems items = AllByRecursion (FitsBoth IsShort IsShort) items
+
+-- Items of a Batch: one at least, as many as two bytes count, and the lengths of each fit two
+-- bytes.
+pub record CanBeBatch (items : List (Text × Text)) : Type 0 where
+  pub some : 1 ≤ length items
+  pub few : length items < 65536
+  pub short : HaveShortItems items
 
 -- Landmark, Tiles and Switch: the size in eight bytes
 unfoldable pub size_record : ℕ → ℕ → Text
@@ -69,6 +96,14 @@ settings_at a = both_at (vector_at w8) (both_at (number_at w32) (number_at w32))
 unfoldable pub entry_at : At → Result ((Text × Text) × At) Short
 entry_at a = both_at (vector_at w16) (vector_at w16) a
 
+-- what follows the tag of a Batch: a number, and items up to the end
+unfoldable pub batch_at : At → Result ((ℕ × List (Text × Text)) × At) Short
+batch_at a = both_at (number_at w16) (up_to_end entry_at) a
+
+-- the items, where they are as many as the number says, and one at least
+abbrev pub counted_items : ℕ × List (Text × Text) → Option (List (Text × Text))
+counted_items x = if (x.0 == length x.1) && nat_le 1 x.0 then Some x.1 else None
+
 -- what follows this tag
 abbrev pub tagged : {X : Type 0} → ℕ → (At → Result (X × At) Short) → Result (ℕ × At) Short
     → Option X
@@ -92,6 +127,19 @@ settings_in body =
 -- the entry and the key in an Entry
 unfoldable pub item_in : Text → Option (Text × Text)
 item_in body = tagged entry_tag entry_at (number_at w8 (at body 0))
+
+-- the items in a Batch
+unfoldable pub batch_in : Text → Option (List (Text × Text))
+batch_in body =
+    option_and_then counted_items (tagged batch_tag batch_at (number_at w8 (at body 0)))
+
+-- The items in a record that adds any: the one in an Entry, or those in a Batch.
+abbrev pub added_in : Text → Option (List (Text × Text))
+added_in body = option_or (option_map (λ item. item ∷ []) (item_in body)) (batch_in body)
+
+-- the items that a record adds, in their order; none where it is of another kind
+abbrev pub added_items : Text → List (Text × Text)
+added_items body = unwrap_or (added_in body) []
 
 -- the size in a record of this tag
 unfoldable pub size_in : ℕ → Text → Option ℕ

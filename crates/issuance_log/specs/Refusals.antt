@@ -1,19 +1,22 @@
 -- What the calls of a log refuse, as functions of what it shows.
-use Rattle.std.specs.Prelude.{◌≡◌, ◌≢◌, ℕ, ◌+◌, ◌*◌, ◌/◌, ◌==◌, nat_le, nat_lt, Bool, [], length}
+use Rattle.std.specs.Prelude.{◌≡◌, ◌≢◌, ℕ, ◌+◌, ◌*◌, ◌/◌, ◌==◌, nat_le, nat_lt, Bool, List, []}
+use Rattle.std.specs.Prelude.{length}
 use Rattle.std.specs.Prelude.{slice_index_or, Option, Some, None, option_map, Result, Ok, Err}
 use Rattle.std.specs.Prelude.{if◌then◌else◌}
 use Rattle.byte_formats.specs.Types.{Text}
 use Rattle.journal_core.specs.Format.{most_bytes}
 use Rattle.journal_core.specs.declared.error.AppendError.{AppendError}
 use Rattle.journal_core.specs.declared.error.AppendError.TheVariants as append_error
+use Rattle.issuance_log.specs.Batches.{fitting, has_large, most_listed}
 use Rattle.issuance_log.specs.Folds.{LogState, LogView}
 use Rattle.issuance_log.specs.Marks.{last_mark}
-use Rattle.issuance_log.specs.Records.{entry_record, landmark_record, switch_record, tiles_record}
+use Rattle.issuance_log.specs.Records.{batch_record, entry_record, landmark_record, switch_record}
+use Rattle.issuance_log.specs.Records.{tiles_record}
 use Rattle.issuance_log.specs.Settings.{most_item}
 use Rattle.issuance_log.specs.declared.error.LogError.{LogError}
 use Rattle.issuance_log.specs.declared.error.LogError.TheVariants.{Full, TooLarge, NoSuchEntry}
 use Rattle.issuance_log.specs.declared.error.LogError.TheVariants.{NothingNew, Failed, Append}
-use Rattle.issuance_log.specs.declared.error.LogError.TheVariants.{AlreadySwitched, Memory}
+use Rattle.issuance_log.specs.declared.error.LogError.TheVariants.{AlreadySwitched, Memory, TooMany}
 
 -- The refusal of a record that the journal determines, the first that holds: of a journal that an
 -- append has broken, and of one whose file would pass 2^31 bytes.
@@ -29,6 +32,17 @@ add_refusal v broken end entry key =
     if v.size == v.settings.limit then Some Full
     else (if nat_lt most_item (length entry + length key) then Some TooLarge
     else option_map Append (append_refusal broken end (entry_record entry key)))
+
+-- The refusal of items that are added together, the first that holds: where the log would have more
+-- entries than its limit allows, of more than a record holds, with how many of the first fit one,
+-- of an entry and key that are too large together, and what the journal refuses.
+unfoldable pub batch_refusal : LogView → Bool → ℕ → List (Text × Text) → Option LogError
+batch_refusal v broken end items =
+    if nat_lt v.settings.limit (v.size + length items) then Some Full
+    else (if nat_lt (fitting most_listed items) (length items)
+    then Some (TooMany (fitting most_listed items))
+    else (if has_large items then Some TooLarge
+    else option_map Append (append_refusal broken end (batch_record items))))
 
 -- The refusal of a landmark: of one at the size of the last one, and what the journal refuses.
 unfoldable pub mark_refusal : LogView → Bool → ℕ → Option LogError
@@ -68,6 +82,25 @@ ItemKeepsTo wanted (Err (Append append_error.Broken)) = wanted ≡ Some (Append 
 ItemKeepsTo wanted (Err (Append append_error.Full)) = wanted ≡ Some (Append append_error.Full)
 ItemKeepsTo wanted (Err Memory) = (wanted ≢ Some Full) × (wanted ≢ Some TooLarge)
 ItemKeepsTo wanted (Err other) = ⊥
+
+-- It is none of those that the items and what the log shows determine.
+pub record IsOfJournal (wanted : Option LogError) : Type 0 where
+  pub not_full : wanted ≢ Some Full
+  pub not_many : (count : ℕ) → wanted ≢ Some (TooMany count)
+  pub not_large : wanted ≢ Some TooLarge
+
+-- The answer to items that are added together follows their refusal. Memory may be refused after
+-- the first three tests.
+abbrev pub BatchKeepsTo : Option LogError → Result ℕ LogError → Type 0
+BatchKeepsTo wanted (Ok index) = wanted ≡ None
+BatchKeepsTo wanted (Err Full) = wanted ≡ Some Full
+BatchKeepsTo wanted (Err (TooMany count)) = wanted ≡ Some (TooMany count)
+BatchKeepsTo wanted (Err TooLarge) = wanted ≡ Some TooLarge
+BatchKeepsTo wanted (Err (Append append_error.Failed)) = wanted ≡ None
+BatchKeepsTo wanted (Err (Append append_error.Broken)) = wanted ≡ Some (Append append_error.Broken)
+BatchKeepsTo wanted (Err (Append append_error.Full)) = wanted ≡ Some (Append append_error.Full)
+BatchKeepsTo wanted (Err Memory) = IsOfJournal wanted
+BatchKeepsTo wanted (Err other) = ⊥
 
 -- So does the answer to a landmark, but memory may be refused after the first test.
 abbrev pub MarkKeepsTo : Option LogError → Result (ℕ × ℕ) LogError → Type 0

@@ -1,13 +1,13 @@
 -- The rules of a log's records, each for itself.
-use Rattle.std.specs.Prelude.{◌≡◌, ◌⊎◌, ℕ, ◌%◌, ◌^◌, ◌<◌, ◌≤◌, true, length, None}
+use Rattle.std.specs.Prelude.{◌≡◌, ◌⊎◌, ℕ, ◌%◌, ◌^◌, ◌<◌, ◌≤◌, true, List, length, None}
 use Rattle.byte_formats.specs.Types.{Text, HashFunction}
 use Rattle.log_entry.specs.Matching.{has_form, matches}
 use Rattle.tls_wire.specs.Arcs.{IsAnchorId}
-use Rattle.issuance_log.specs.Folds.{LogState, log_form, new_log, view_in, with_item, with_mark}
-use Rattle.issuance_log.specs.Folds.{with_switch, with_tiles}
+use Rattle.issuance_log.specs.Folds.{LogState, log_form, new_log, takes_items, view_in, with_item}
+use Rattle.issuance_log.specs.Folds.{with_items, with_mark, with_switch, with_tiles}
 use Rattle.issuance_log.specs.Marks.{last_mark}
-use Rattle.issuance_log.specs.Records.{settings_record, IsShort, entry_record, landmark_record}
-use Rattle.issuance_log.specs.Records.{switch_record, tiles_record}
+use Rattle.issuance_log.specs.Records.{CanBeBatch, batch_record, settings_record, IsShort}
+use Rattle.issuance_log.specs.Records.{entry_record, landmark_record, switch_record, tiles_record}
 use Rattle.issuance_log.specs.Settings.{Settings, AreAllowed}
 
 -- The first record is a Log with an anchor id and allowed numbers. It makes a log of the null
@@ -32,6 +32,16 @@ pub record IsEntryRecord (h : HashFunction) (s : LogState) (body : Text)
   pub belongs : matches h entry key ≡ true
   pub capacity : length s.entries < s.settings.limit
   pub made : t ≡ with_item entry key s
+
+-- A Batch has items that the log takes, each by the rule of an Entry, after those before it. It
+-- makes the log with these items.
+pub record IsBatchRecord (h : HashFunction) (s : LogState) (body : Text)
+    (t : LogState) : Type 0 where
+  pub items : List (Text × Text)
+  pub encoded : body ≡ batch_record items
+  pub batch : CanBeBatch items
+  pub taken : takes_items h (view_in s) items ≡ true
+  pub made : t ≡ with_items items s
 
 -- A Landmark is the size, and above the last one. It makes the log with that landmark.
 pub record IsLandmarkRecord (s : LogState) (body : Text) (t : LogState) : Type 0 where
@@ -59,7 +69,8 @@ pub record IsSwitchRecord (s : LogState) (body : Text) (t : LogState) : Type 0 w
   pub first : s.switched ≡ None
   pub made : t ≡ with_switch s
 
--- Each later record is one of the four.
+-- Each later record is one of the five.
 abbrev pub IsNext : HashFunction → LogState → Text → LogState → Type 0
 IsNext h s body t = IsEntryRecord h s body t
-    ⊎ (IsLandmarkRecord s body t ⊎ (IsTilesRecord s body t ⊎ IsSwitchRecord s body t))
+    ⊎ (IsLandmarkRecord s body t ⊎ (IsTilesRecord s body t ⊎ (IsSwitchRecord s body t
+    ⊎ IsBatchRecord h s body t)))

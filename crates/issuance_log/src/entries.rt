@@ -1,25 +1,21 @@
 //! An entry and its key, read back from the journal.
 
-ghost use Rattle.std.specs.Prelude.{◌≡◌, ◌+◌, ◌≤◌, [], length, Some, IfSome, IfOk, IfErr};
-ghost use Rattle.std.specs.Prelude.{OnOk, OnErr};
+ghost use Rattle.std.specs.Prelude.{◌≡◌, ◌+◌, ◌≤◌, [], length, IfSome, IfOk, IfErr, OnOk, OnErr};
 ghost use Rattle.byte_formats.specs.Types.{Text};
 ghost use Rattle.disk_core.specs.Times.{OnlyReads};
 ghost use Rattle.journal_core.specs.Words.{disk_of, end_of, is_broken, records};
-ghost use Rattle.issuance_log.specs.Entries.{IsBodyAt, IsNoAnswer, LogCounts};
+ghost use Rattle.issuance_log.specs.Entries.{IsNoAnswer, IsVectorAt, LogCounts};
 ghost use Rattle.issuance_log.specs.ItemOffsets.{IsAtOffset};
-ghost use Rattle.issuance_log.specs.Records.{item_in, IsShort};
+ghost use Rattle.issuance_log.specs.Records.{IsShort};
 
 use crate::error::LogError;
-use crate::record::read_item;
 use disk_core::Disk;
-use journal_core::{Journal, MAX_BODY};
+use journal_core::Journal;
 use mtc_io::{Bytes, Memory};
 use std::alloc::Global;
 
-// The commit byte of a record, and its length.
-const COMMIT_BYTE: u64 = 1;
-
-const LENGTH: u64 = 4;
+// The length of an entry or of a key.
+const LENGTH: u64 = 2;
 
 fn zeros(alloc: Global, size: usize) -> Result<Vec<u8>, Memory>
     ensures { IfOk result (λ bytes. length bytes.items ≡ size) }
@@ -27,16 +23,18 @@ fn zeros(alloc: Global, size: usize) -> Result<Vec<u8>, Memory>
     Ok(vec![in alloc; 0; size]?)
 }
 
-// The body of the record at an offset. Only a disk whose bytes the model doesn't know can give a
-// length that no record has there; the answer is then out of memory.
-fn read_body<D: Disk>(
+// The bytes after their length of two bytes, at an offset inside a body. Only a disk whose bytes
+// the model doesn't know can give a length that isn't there; the answer is then out of memory.
+fn read_vector<D: Disk>(
     alloc: Global,
     journal: &mut Journal<D>,
     place: u64,
 ) -> Result<Vec<u8>, LogError>
-    requires { place + 5 ≤ end_of journal.old }
-    ensures body { IfOk result (λ body. IfSome (records journal.old)
-        (IsBodyAt place body.items)) }
+    requires { place + 2 ≤ end_of journal.old }
+    ensures bytes { IfOk result (λ bytes. IfSome (records journal.old)
+        (IsVectorAt place bytes.items)) }
+    ensures short { IfOk result (λ bytes. IsShort bytes.items) }
+    ensures within { IfOk result (λ bytes. place + 2 + length bytes.items ≤ end_of journal.old) }
     ensures none { IfErr result IsNoAnswer }
     ensures records { records journal.new ≡ records journal.old }
     ensures end { end_of journal.new ≡ end_of journal.old }
@@ -45,40 +43,36 @@ fn read_body<D: Disk>(
     ensures cause { LogCounts (D.faults (disk_of journal.old)) (D.faults (disk_of journal.new))
         result }
 {
-    let there = journal.end() - place - COMMIT_BYTE - LENGTH;
-    let size = journal.read_size(place + COMMIT_BYTE)? as usize;
-    if size > MAX_BODY || size as u64 > there {
+    let mut length = [0; 2];
+    journal.read(place, &mut length)?;
+    let size = u16::from_be_bytes(length) as usize;
+    if size as u64 > journal.end() - place - LENGTH {
         return Err(LogError::Memory);
     }
-    let mut body = zeros(alloc, size)?;
-    journal.read(place + COMMIT_BYTE + LENGTH, &mut body)?;
-    Ok(body)
+    let mut bytes = zeros(alloc, size)?;
+    journal.read(place + LENGTH, &mut bytes)?;
+    Ok(bytes)
 }
 
-// The item of a body into two empty byte strings, which stay empty where memory is refused. A body
-// that is no Entry is answered so too.
-fn copy_item(body: &[u8], entry: &mut Bytes, spki: &mut Bytes) -> Result<(), LogError>
+// Two byte strings into two empty ones, which stay empty where memory is refused.
+fn copy_both(first: &[u8], second: &[u8], entry: &mut Bytes, spki: &mut Bytes) -> Result<(), Memory>
     requires entry { entry.old ≡ [] }
     requires spki { spki.old ≡ [] }
-    ensures ok { OnOk result (item_in body.now ≡ Some (entry.new, spki.new)) }
-    ensures short { OnOk result (IsShort entry.new × IsShort spki.new) }
+    ensures ok { OnOk result ((entry.new ≡ first.now) × (spki.new ≡ second.now)) }
     ensures err { OnErr result ((entry.new ≡ []) × (spki.new ≡ [])) }
-    ensures why { IfErr result (λ why. why ≡ LogError.Memory) }
 {
-    let Ok((prefix, back)) = read_item(body) else {
-        return Err(LogError::Memory);
-    };
-    entry.append(prefix)?;
-    if spki.append(back).is_err() {
+    entry.append(first)?;
+    if spki.append(second).is_err() {
         entry.truncate(0);
-        return Err(LogError::Memory);
+        return Err(Memory);
     }
     Ok(())
 }
 
-/// The entry and the key of the record at an offset, into two empty byte strings. They stay empty
-/// after a refusal: `Failed`, or out of memory. The latter is answered too if a disk whose bytes
-/// the model doesn't know gives no Entry there. The disk is only read.
+/// The entry and the key at an offset inside the body of a record, into two empty byte strings.
+/// They stay empty after a refusal: `Failed`, or out of memory. The latter is answered too if a
+/// disk whose bytes the model doesn't know gives no item there. The disk is only read, and no more
+/// of it than the item.
 pub(crate) fn read_entry<D: Disk>(
     alloc: Global,
     journal: &mut Journal<D>,
@@ -86,7 +80,7 @@ pub(crate) fn read_entry<D: Disk>(
     entry: &mut Bytes,
     spki: &mut Bytes,
 ) -> Result<(), LogError>
-    requires place { place + 5 ≤ end_of journal.old }
+    requires place { place + 4 ≤ end_of journal.old }
     requires entry { entry.old ≡ [] }
     requires spki { spki.old ≡ [] }
     ensures item { OnOk result (IfSome (records journal.old) (λ list. (item : Text × Text)
@@ -101,6 +95,13 @@ pub(crate) fn read_entry<D: Disk>(
     ensures cause { LogCounts (D.faults (disk_of journal.old)) (D.faults (disk_of journal.new))
         result }
 {
-    let body = read_body(alloc, journal, place)?;
-    copy_item(&body, entry, spki)
+    let end = journal.end();
+    let first = read_vector(alloc, journal, place)?;
+    let after = place + LENGTH + first.len() as u64;
+    if end - after < LENGTH {
+        return Err(LogError::Memory);
+    }
+    let second = read_vector(alloc, journal, after)?;
+    copy_both(&first, &second, entry, spki)?;
+    Ok(())
 }

@@ -75,6 +75,8 @@ pub enum LogError {
     Full,
     /// The entry and its key have more than 65,535 bytes together.
     TooLarge,
+    /// The items are more than one record holds: so many of the first ones fit it.
+    TooMany(u64),
     /// The log has no entry at this index.
     NoSuchEntry,
     /// The last landmark has the size of the log, or its full tiles are stored.
@@ -99,6 +101,7 @@ impl fmt::Display for LogError {
         match self {
             LogError::Full => f.write_str("Full"),
             LogError::TooLarge => f.write_str("TooLarge"),
+            LogError::TooMany(count) => write!(f, "TooMany {count}"),
             LogError::NoSuchEntry => f.write_str("NoSuchEntry"),
             LogError::NothingNew => f.write_str("NothingNew"),
             LogError::AlreadySwitched(index) => write!(f, "AlreadySwitched {index}"),

@@ -7,6 +7,7 @@ ghost use Rattle.frame_pool.specs.declared.key.TileKey.{TileKey as Key};
 ghost use Rattle.tile_store.specs.Store.{tiles_count, tiles_disk, tiles_stored};
 ghost use Rattle.tree_core.specs.Tree.{leaf_hash};
 
+use crate::record::next_item;
 use disk_core::Disk;
 use frame_pool::Pool;
 use mtc_io::Memory;
@@ -26,7 +27,8 @@ pub(crate) struct Items<H: TreeHash, T: Disk> {
 }
 
 impl<H: TreeHash, T: Disk> Items<H, T> {
-    ghost use Rattle.issuance_log.specs.Items.{HasItemCapacity, items_leaves};
+    ghost use Rattle.issuance_log.specs.Batches.{leading_items};
+    ghost use Rattle.issuance_log.specs.Items.{HasCapacityOf, HaveTaken, items_leaves};
     ghost use Rattle.issuance_log.specs.Items.{items_offsets, items_tiles};
 
     /// No items, over a disk and a pool whose frames hold no tile. It takes no memory.
@@ -43,26 +45,28 @@ impl<H: TreeHash, T: Disk> Items<H, T> {
         }
     }
 
-    /// Reserves capacity for one item more. The items stay as they were.
-    pub(crate) fn reserve(&mut self) -> Result<(), Memory>
-        ensures capacity { OnOk result (HasItemCapacity self.new) }
-        ensures full { OnErr result (HasItemCapacity self.old → ⊥) }
+    /// Reserves capacity for so many items more. The items stay as they were.
+    pub(crate) fn reserve(&mut self, count: usize) -> Result<(), Memory>
+        ensures capacity { OnOk result (HasCapacityOf count self.new) }
+        ensures full { OnErr result (HasCapacityOf count self.old → ⊥) }
         ensures offsets { items_offsets self.new ≡ items_offsets self.old }
         ensures leaves { items_leaves self.new ≡ items_leaves self.old }
         ensures disk { tiles_disk (items_tiles self.new) ≡ tiles_disk (items_tiles self.old) }
         ensures stored { tiles_stored (items_tiles self.new) ≡ tiles_stored (items_tiles self.old) }
     {
-        self.offsets.reserve(1)?;
-        self.nodes.reserve(1)
+        self.offsets.reserve(count)?;
+        self.nodes.reserve(count)
     }
 
     /// Appends the offset of an item and the hash of its entry to the others, within the capacity.
     pub(crate) fn push(&mut self, place: u64, leaf: &[u8; 32])
-        requires capacity { HasItemCapacity self.old }
+        requires capacity { HasCapacityOf 1 self.old }
         requires few { length (items_offsets self.old) + 1 < 2 ^ 32 }
         ensures offsets { items_offsets self.new ≡ items_offsets self.old ++ place ∷ [] }
         ensures leaves { items_leaves self.new
             ≡ option_map (λ list. list ++ leaf.now ∷ []) (items_leaves self.old) }
+        ensures capacity { (count : ℕ) → HasCapacityOf (count + 1) self.old
+            → HasCapacityOf count self.new }
         ensures disk { tiles_disk (items_tiles self.new) ≡ tiles_disk (items_tiles self.old) }
         ensures stored { tiles_stored (items_tiles self.new) ≡ tiles_stored (items_tiles self.old) }
     {
@@ -86,13 +90,33 @@ impl<H: TreeHash, T: Disk> Items<H, T> {
             (λ list. list ++ leaf_hash H.hash entry.now ∷ []) (items_leaves self.old)) }
         ensures offsets_err { OnErr result (items_offsets self.new ≡ items_offsets self.old) }
         ensures leaves_err { OnErr result (items_leaves self.new ≡ items_leaves self.old) }
-        ensures full { OnErr result (HasItemCapacity self.old → ⊥) }
+        ensures full { OnErr result (HasCapacityOf 1 self.old → ⊥) }
         ensures disk { tiles_disk (items_tiles self.new) ≡ tiles_disk (items_tiles self.old) }
         ensures stored { tiles_stored (items_tiles self.new) ≡ tiles_stored (items_tiles self.old) }
     {
-        self.reserve()?;
+        self.reserve(1)?;
         self.push(place, &leaf::<H>(entry));
         Ok(())
+    }
+
+    /// Appends the offsets of the items that begin these bytes, which follow each other from an
+    /// offset on, and the hashes of their entries to the others, within the capacity.
+    pub(crate) fn push_all(&mut self, place: u64, list: &[u8])
+        requires capacity { HasCapacityOf (length (leading_items list.now)) self.old }
+        requires few { length (items_offsets self.old) + length (leading_items list.now)
+            < 2 ^ 32 }
+        requires fits { place + length list.now < 2 ^ 64 }
+        ensures taken { HaveTaken H.hash (leading_items list.now) place self.old self.new }
+        ensures disk { tiles_disk (items_tiles self.new) ≡ tiles_disk (items_tiles self.old) }
+        ensures stored { tiles_stored (items_tiles self.new) ≡ tiles_stored (items_tiles self.old) }
+    {
+        let mut place = place;
+        let mut rest = list;
+        'items: while let Some((entry, key, later)) = next_item(rest) {
+            self.push(place, &leaf::<H>(entry));
+            place += (rest.len() - later.len()) as u64;
+            rest = later;
+        }
     }
 
     /// The offset of an item.

@@ -1,13 +1,15 @@
 //! Laws of a log's records: the clauses are the laws, and the functions do nothing.
 
 ghost use Rattle.std.specs.Prelude.{◌≡◌, ◌+◌, ◌<◌, ◌≤◌, ◌^◌, ℕ, List, [], ◌∷◌, ◌++◌, length};
-ghost use Rattle.std.specs.Prelude.{Some, Ok, option_map};
+ghost use Rattle.std.specs.Prelude.{Some, Ok, option_map, take};
 ghost use Rattle.byte_formats.specs.Types.{Text, HashFunction};
 ghost use Rattle.byte_formats.specs.Offsets.{IsBytes};
 ghost use Rattle.journal_core.specs.Format.{Represents};
+ghost use Rattle.issuance_log.specs.Batches.{fitting, most_listed};
 ghost use Rattle.issuance_log.specs.Folds.{LogState, LogView, begun_log, next_log, next_view};
-ghost use Rattle.issuance_log.specs.Folds.{log_after, log_of, view_in, with_item};
+ghost use Rattle.issuance_log.specs.Folds.{log_after, log_of, view_in, with_item, with_items};
 ghost use Rattle.issuance_log.specs.Openings.{FoundLog, log_read};
+ghost use Rattle.issuance_log.specs.Records.{CanBeBatch, batch_in, batch_record};
 ghost use Rattle.issuance_log.specs.Records.{IsShort, entry_record, item_in, landmark_record};
 ghost use Rattle.issuance_log.specs.Records.{mark_in, settings_in, switch_in, switch_record};
 ghost use Rattle.issuance_log.specs.Records.{tiled_in, tiles_record};
@@ -22,6 +24,14 @@ pub fn law_items_decode_as_encoded()
         → item_in (entry_record entry key) ≡ Some (entry, key) }
     ensures only { (body entry key : Text) → IsBytes body → item_in body ≡ Some (entry, key)
         → (body ≡ entry_record entry key) × IsShort entry × IsShort key }
+{}
+
+/// The body of a Batch is read as the items that it encodes, and only such an encoding is read.
+pub fn law_batches_decode_as_encoded()
+    ensures again { (items : List (Text × Text)) → CanBeBatch items
+        → batch_in (batch_record items) ≡ Some items }
+    ensures only { (body : Text) (items : List (Text × Text)) → IsBytes body
+        → batch_in body ≡ Some items → (body ≡ batch_record items) × CanBeBatch items }
 {}
 
 /// The body of a Landmark is read as the size that it encodes, and only such an encoding is read.
@@ -43,6 +53,19 @@ pub fn law_switches_decode_as_encoded()
     ensures again { (size : ℕ) → size < 2 ^ 64 → switch_in (switch_record size) ≡ Some size }
     ensures only { (body : Text) (size : ℕ) → IsBytes body → switch_in body ≡ Some size
         → (body ≡ switch_record size) × (size < 2 ^ 64) }
+{}
+
+/// How many of the first items fit a Batch: all of them exactly if its body is within the bytes of
+/// a record, and else as many as make such a body, and no more.
+pub fn law_batches_hold_as_many_as_fit()
+    ensures all { (items : List (Text × Text)) → fitting most_listed items ≡ length items
+        → length (batch_record items) ≤ 131072 }
+    ensures only { (items : List (Text × Text)) → length (batch_record items) ≤ 131072
+        → fitting most_listed items ≡ length items }
+    ensures first { (items : List (Text × Text))
+        → length (batch_record (take (fitting most_listed items) items)) ≤ 131072 }
+    ensures more { (items : List (Text × Text)) (n : ℕ) → fitting most_listed items < n
+        → n ≤ length items → 131072 < length (batch_record (take n items)) }
 {}
 
 /// A record makes of what a log shows over every disk what the log that it makes shows.
@@ -76,7 +99,8 @@ pub fn law_logs_are_read_from_their_journals()
 
 /// A log that records make is what it shows over every disk, with the first items in the records.
 /// It stays so if one more record follows them. If all of the items are shown, the record of an
-/// item adds this one, and that of a landmark, of tiles or of a switch adds none.
+/// item adds this one, a Batch adds its items in their order, and the record of a landmark, of
+/// tiles or of a switch adds none.
 pub fn law_records_determine_the_items()
     ensures whole { (h : HashFunction) (list : List Text) (s : LogState) → log_of h list ≡ Ok s
         → shown_with (view_in s) list ≡ s }
@@ -87,6 +111,10 @@ pub fn law_records_determine_the_items()
         → IsShort key → 1 ≤ v.size → v.size ≡ length (recorded_items list)
         → shown_with (record v { size = v.size + 1 }) (list ++ entry_record entry key ∷ [])
         ≡ with_item entry key (shown_with v list) }
+    ensures batched { (v : LogView) (list : List Text) (items : List (Text × Text))
+        → CanBeBatch items → 1 ≤ v.size → v.size ≡ length (recorded_items list)
+        → shown_with (record v { size = v.size + length items }) (list ++ batch_record items ∷ [])
+        ≡ with_items items (shown_with v list) }
     ensures marked { (list : List Text) (size : ℕ) → 1 ≤ length (recorded_items list)
         → recorded_items (list ++ landmark_record size ∷ []) ≡ recorded_items list }
     ensures tiled { (list : List Text) (size : ℕ) → 1 ≤ length (recorded_items list)

@@ -4,7 +4,8 @@
 //! [`create`] begins the journal of a new log, which has the null entry at index 0; [`pack`] takes
 //! the memory for it before there is a disk. [`Log::open`] reads and tests the records of a journal
 //! one by one, and [`Log::add`] adds an entry: once it has answered Ok, a crash of the machine
-//! leaves the entry. [`Log::mark`] sets a landmark at the size of the log in the same way, and
+//! leaves the entry. [`Log::add_all`] adds several by one record: a crash leaves all of them or
+//! none. [`Log::mark`] sets a landmark at the size of the log in the same way, and
 //! [`Log::switch`] appends, once, that from there on entries name the algorithm of their key.
 //!
 //! What the records of a journal make of a log is one function of them. A log follows it: unless an
@@ -17,6 +18,7 @@
 //! keeps the nodes over the entries after the last such record alone.
 #![tactic(auto)]
 
+mod batch;
 mod creation;
 mod entries;
 mod error;
@@ -31,6 +33,7 @@ mod preparing;
 mod record;
 mod settings;
 
+pub use batch::LogItem;
 pub use creation::{create, pack};
 pub use error::{LogError, LogOpenError, LogRefused};
 pub use following::may_follow;

@@ -11,30 +11,34 @@ ghost use Rattle.journal_core.specs.Words.{disk_of, end_of};
 ghost use Rattle.log_entry.specs.Matching.{has_form, matches};
 ghost use Rattle.tile_store.specs.Layout.{tiles_end};
 ghost use Rattle.tile_store.specs.Store.{tiles_stored};
+ghost use Rattle.issuance_log.specs.Batches.{AreOfForm};
 ghost use Rattle.issuance_log.specs.Changes.{IsTakenAs, KeepsToJournal};
 ghost use Rattle.issuance_log.specs.Durable.{IsDurableLog, IsDurableLog-prop};
 ghost use Rattle.issuance_log.specs.Entries.{LogCounts};
 ghost use Rattle.issuance_log.specs.Faults.{open_refusal};
 ghost use Rattle.issuance_log.specs.Folds.{LogState, LogView, log_form, next_view, with_item};
 ghost use Rattle.issuance_log.specs.Folds.{one_item_more, one_mark_more, switched_now, tiled_to};
-ghost use Rattle.issuance_log.specs.Folds.{view_in, with_mark, with_switch, with_tiles};
+ghost use Rattle.issuance_log.specs.Folds.{more_entries, view_in, with_items, with_mark};
+ghost use Rattle.issuance_log.specs.Folds.{with_switch, with_tiles};
 ghost use Rattle.issuance_log.specs.Items.{AreBelow, items_leaves, items_offsets, items_tiles};
 ghost use Rattle.issuance_log.specs.Machine.{HasRecordCapacity};
 ghost use Rattle.issuance_log.specs.Marks.{AreRising};
-ghost use Rattle.issuance_log.specs.Records.{entry_record, landmark_record, switch_record};
-ghost use Rattle.issuance_log.specs.Records.{tiles_record, IsShort};
-ghost use Rattle.issuance_log.specs.Refusals.{add_refusal, ItemKeepsTo, mark_refusal, MarkKeepsTo};
+ghost use Rattle.issuance_log.specs.Records.{batch_record, entry_record, landmark_record};
+ghost use Rattle.issuance_log.specs.Records.{switch_record, tiles_record, IsShort};
+ghost use Rattle.issuance_log.specs.Refusals.{add_refusal, ItemKeepsTo, batch_refusal};
+ghost use Rattle.issuance_log.specs.Refusals.{BatchKeepsTo, mark_refusal, MarkKeepsTo};
 ghost use Rattle.issuance_log.specs.Refusals.{full_size, switch_refusal, SwitchKeepsTo};
 ghost use Rattle.issuance_log.specs.Refusals.{tile_refusal, TilesKeepTo};
 ghost use Rattle.issuance_log.specs.Refusals.{append_refusal, item_at, GivesItem};
 ghost use Rattle.issuance_log.specs.Settings.{AreAllowed};
 ghost use Rattle.issuance_log.specs.Sound.{HasSoundNumbers, IsSound};
 
+use crate::batch::LogItem;
 use crate::entries::read_entry;
 use crate::error::{LogError, LogOpenError, LogRefused, open_refusal};
 use crate::items::NULL_ENTRY;
 use crate::machine::{LogMachine, TileRest, TileSeed};
-use crate::preparing::{prepare_item, prepare_mark, prepare_switch, prepare_tiles};
+use crate::preparing::{prepare_item, prepare_items, prepare_mark, prepare_switch, prepare_tiles};
 use crate::settings::LogSettings;
 use disk_core::Disk;
 use frame_pool::Pool;
@@ -184,6 +188,39 @@ impl<H: TreeHash, D: Disk, T: Disk> Log<H, D, T> {
             spki,
         )?;
         self.append_record(body.as_slice(), index)
+    }
+
+    /// Adds entries, each in the form that [`Log::form`] says, with the key that belongs to it, by
+    /// one record, and answers the index of the first: the others follow it in their order. At Ok a
+    /// crash leaves the records with that of the entries; at any time of the call it leaves the old
+    /// records, or these and that one, so all of the entries or none. The call leaves the disk of
+    /// the tiles alone.
+    ///
+    /// Errors, in the order of the tests, each made for all items before the next: `Full` where the
+    /// log would have more entries than its limit allows; `TooMany`, with how many of the first
+    /// items fit it, where the body of the record would be longer than 131,072 bytes; `TooLarge`
+    /// where an entry and its key have more than 65,535 bytes together; `Memory`; and what
+    /// [`Journal::append`] refuses. A refusal leaves the log as it was. After `Append(Failed)` it
+    /// shows what it showed before, and each further call that passes the tests before answers
+    /// `Append(Broken)`.
+    pub fn add_all(&mut self, items: &[LogItem]) -> Result<u64, LogError>
+        requires some { 1 ≤ length items.now }
+        requires each { AreOfForm H.hash (log_form (view_of self.old)) items.now }
+        ensures appends { LogAppends (batch_record items.now) (more_entries (length items.now))
+            (with_items items.now) self.old self.new result }
+        ensures tiles { log_tiles_disk self.new ≡ log_tiles_disk self.old }
+        ensures index { IfOk result (λ index. index ≡ (view_of self.old).size) }
+        ensures answer { BatchKeepsTo (batch_refusal (view_of self.old) (log_broken self.old)
+            (log_end self.old) items.now) result }
+    {
+        let first = self.machine.numbers.size();
+        let body = prepare_items(
+            self.alloc,
+            &self.machine.numbers,
+            &mut self.machine.items,
+            items,
+        )?;
+        self.append_record(body.as_slice(), first)
     }
 
     /// Sets a landmark at the size of the log, and answers its number, counted from 1, and that
@@ -336,6 +373,10 @@ impl<H: TreeHash, D: Disk, T: Disk> Log<H, D, T> {
             → has_form (log_form (view_of self.now)) entry ≡ true
             → add_refusal (view_of self.now) (log_broken self.now) (log_end self.now) entry key
             ≡ None → LogWouldTake (entry_record entry key) (with_item entry key) self.now }
+        ensures listed { (items : List (Text × Text)) → 1 ≤ length items
+            → AreOfForm H.hash (log_form (view_of self.now)) items
+            → batch_refusal (view_of self.now) (log_broken self.now) (log_end self.now) items
+            ≡ None → LogWouldTake (batch_record items) (with_items items) self.now }
         ensures marked { mark_refusal (view_of self.now) (log_broken self.now) (log_end self.now)
             ≡ None → LogWouldTake (landmark_record (view_of self.now).size) with_mark self.now }
         ensures tiled { tile_refusal (view_of self.now) (log_broken self.now) (log_end self.now)

@@ -1,24 +1,26 @@
 //! A log as a state machine over its journal.
 
-ghost use Rattle.std.specs.Prelude.{◌≡◌, ◌<◌, ◌+◌, [], true, false, Some, None, option_map};
-ghost use Rattle.std.specs.Prelude.{is_some, length, IfOk, IfErr, IsOk, OnOk, OnErr, MatchResult};
+ghost use Rattle.std.specs.Prelude.{◌≡◌, ◌<◌, ◌+◌, ◌^◌, [], ◌∷◌, true, false, Some, None};
+ghost use Rattle.std.specs.Prelude.{option_map, is_some, length, IfOk, IfErr, IsOk, OnOk, OnErr};
+ghost use Rattle.std.specs.Prelude.{MatchResult};
 ghost use Rattle.disk_core.specs.Times.{OnlyReads};
 ghost use Rattle.mtc_io.specs.Counts.{Rose};
 ghost use Rattle.state_journal.specs.Steps.{BeginsMachine, IsLeftBy, IsOutOfMemory, TakesRecord};
 ghost use Rattle.tile_store.specs.Store.{tiles_disk, tiles_stored};
 ghost use Rattle.issuance_log.specs.Folds.{begun_log, begun_view, next_view, view_in, null_entry};
-ghost use Rattle.issuance_log.specs.Items.{HasShortItem, HaveTaken, items_leaves, items_offsets};
+ghost use Rattle.issuance_log.specs.Items.{HaveTaken, items_leaves, items_offsets};
 ghost use Rattle.issuance_log.specs.Items.{items_tiles};
 ghost use Rattle.issuance_log.specs.Machine.{HasCapacityFor, HasNoTiles, TilesAreLeft};
 ghost use Rattle.issuance_log.specs.Machine.{TilesAreRead, rest_of_seed};
-ghost use Rattle.issuance_log.specs.Records.{item_in};
+ghost use Rattle.issuance_log.specs.ItemOffsets.{before_items};
+ghost use Rattle.issuance_log.specs.Records.{added_items, item_in};
 ghost use Rattle.issuance_log.specs.Results.{IsMemoryRefused, LogFinds, LogTakes};
 ghost use Rattle.issuance_log.specs.Sound.{HasSoundNumbers};
 
 use crate::error::RecordError;
 use crate::items::{Items, NULL_ENTRY};
 use crate::numbers::Numbers;
-use crate::record::read_item;
+use crate::record::{read_batch, read_item};
 use disk_core::Disk;
 use frame_pool::Pool;
 use state_journal::{Misfit, NotBegun, StateMachine};
@@ -72,7 +74,7 @@ fn begin_items<H: TreeHash, T: Disk>(
     ensures found { LogFinds (λ n. n.view) (option_map view_in (begun_log body.now)) result }
     ensures sound { IfOk result (λ n. HasSoundNumbers n.view) }
     ensures untiled { IfOk result (λ n. n.view.tiled ≡ 0) }
-    ensures taken { OnOk result (HaveTaken H.hash (Some (null_entry, [])) 0 items.old items.new) }
+    ensures taken { OnOk result (HaveTaken H.hash ((null_entry, []) ∷ []) 0 items.old items.new) }
     ensures disk { tiles_disk (items_tiles items.new) ≡ tiles_disk (items_tiles items.old) }
 {
     let numbers = Numbers::begin(alloc, body)?;
@@ -103,19 +105,59 @@ fn not_begun<H: TreeHash, T: Disk>(items: Items<H, T>, why: Misfit) -> NotBegun<
     }
 }
 
-// Takes one record more, which stands at an offset. A refusal leaves all as it was.
+// From the commit byte of a record up to the item in an Entry: that byte, four bytes of length, and
+// the tag. Up to the first in a Batch there are two more, of how many items it has.
+const BEFORE_ITEM: u64 = 6;
+
+const BEFORE_ITEMS: u64 = 8;
+
+// Takes one record more that is no Entry, whose commit byte stands at an offset. A refusal leaves
+// all as it was.
+fn take_no_item<H: TreeHash, T: Disk>(
+    numbers: &mut Numbers,
+    items: &mut Items<H, T>,
+    place: u64,
+    body: &[u8],
+) -> Result<(), RecordError>
+    requires other { item_in body.now ≡ None }
+    requires counted { length (items_offsets items.old) ≡ numbers.old.view.size }
+    requires fits { place + 5 + length body.now < 2 ^ 64 }
+    ensures view { LogTakes (next_view H.hash numbers.old.view body.now) numbers.old.view result
+        numbers.new.view }
+    ensures taken { OnOk result (HaveTaken H.hash (added_items body.now)
+        (place + before_items body.now) items.old items.new) }
+    ensures disk { tiles_disk (items_tiles items.new) ≡ tiles_disk (items_tiles items.old) }
+    ensures stored { tiles_stored (items_tiles items.new) ≡ tiles_stored (items_tiles items.old) }
+    ensures capacity { HasCapacityFor numbers.old items.old body.now → IsMemoryRefused result → ⊥ }
+{
+    match read_batch(body) {
+        Ok((count, list)) => {
+            if !numbers.takes_all::<H>(list) {
+                return Err(RecordError::Unfit);
+            }
+            items.reserve(count as usize)?;
+            items.push_all(place + BEFORE_ITEMS, list);
+            numbers.add_items(count);
+            Ok(())
+        }
+        Err(RecordError::Unfit) => numbers.take_other::<H>(body),
+        Err(RecordError::Memory) => Err(RecordError::Memory),
+    }
+}
+
+// Takes one record more, whose commit byte stands at an offset. A refusal leaves all as it was.
 fn take_record<H: TreeHash, T: Disk>(
     numbers: &mut Numbers,
     items: &mut Items<H, T>,
     place: u64,
     body: &[u8],
 ) -> Result<(), RecordError>
-    requires { length (items_offsets items.old) ≡ numbers.old.view.size }
+    requires counted { length (items_offsets items.old) ≡ numbers.old.view.size }
+    requires fits { place + 5 + length body.now < 2 ^ 64 }
     ensures view { LogTakes (next_view H.hash numbers.old.view body.now) numbers.old.view result
         numbers.new.view }
-    ensures taken { OnOk result
-        (HaveTaken H.hash (item_in body.now) place items.old items.new) }
-    ensures short { HasShortItem (item_in body.now) }
+    ensures taken { OnOk result (HaveTaken H.hash (added_items body.now)
+        (place + before_items body.now) items.old items.new) }
     ensures disk { tiles_disk (items_tiles items.new) ≡ tiles_disk (items_tiles items.old) }
     ensures stored { tiles_stored (items_tiles items.new) ≡ tiles_stored (items_tiles items.old) }
     ensures capacity { HasCapacityFor numbers.old items.old body.now → IsMemoryRefused result → ⊥ }
@@ -125,11 +167,11 @@ fn take_record<H: TreeHash, T: Disk>(
             if !numbers.takes::<H>(entry, key) {
                 return Err(RecordError::Unfit);
             }
-            items.add(place, entry)?;
+            items.add(place + BEFORE_ITEM, entry)?;
             numbers.add_item();
             Ok(())
         }
-        Err(RecordError::Unfit) => numbers.take_other::<H>(body),
+        Err(RecordError::Unfit) => take_no_item::<H, T>(numbers, items, place, body),
         Err(RecordError::Memory) => Err(RecordError::Memory),
     }
 }
@@ -169,7 +211,8 @@ impl<H: TreeHash, T: Disk> LogMachine<H, T> {
     // Takes one record more, whose commit byte stands at an offset, and adopts the tiles of its
     // size.
     fn take_next(&mut self, place: u64, body: &[u8]) -> Result<(), Misfit>
-        requires { IsKeptWithin self.old place }
+        requires within { IsKeptWithin self.old place }
+        requires fits { place + 5 + length body.now < 2 ^ 64 }
         ensures takes { TakesRecord (next_view H.hash) (λ it. machine_view it)
             (λ it list. KeepsRecords it list) place body.now self.old self.new result }
         ensures within { OnOk result (IsKeptWithin self.new (place + 5 + length body.now)) }

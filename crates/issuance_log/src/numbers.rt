@@ -1,22 +1,26 @@
 //! What a log shows over every disk.
 
-ghost use Rattle.std.specs.Prelude.{◌≡◌, ◌%◌, ◌<◌, ◌≤◌, ◌++◌, [], ◌∷◌, true, false, Some, None};
-ghost use Rattle.std.specs.Prelude.{if◌then◌else◌, nat_lt, not, option_map};
+ghost use Rattle.std.specs.Prelude.{◌≡◌, ◌+◌, ◌%◌, ◌<◌, ◌≤◌, ◌++◌, [], ◌∷◌, length, true, false};
+ghost use Rattle.std.specs.Prelude.{Some, None, if◌then◌else◌, nat_lt, not, option_map};
 ghost use Rattle.std.specs.Prelude.{vec_len, vec_capacity, IfOk, IfErr, OnOk, OnErr};
 ghost use Rattle.issuance_log.specs.Folds.{begun_log, log_form, new_log, next_view, one_item_more};
-ghost use Rattle.issuance_log.specs.Folds.{one_mark_more, switched_now, takes_entry};
-ghost use Rattle.issuance_log.specs.Folds.{takes_landmark, takes_switch, takes_tiles, tiled_to};
+ghost use Rattle.issuance_log.specs.Folds.{more_entries, of_size, one_mark_more, switched_now};
+ghost use Rattle.issuance_log.specs.Folds.{takes_entry, takes_items, takes_landmark};
+ghost use Rattle.issuance_log.specs.Folds.{takes_switch, takes_tiles, tiled_to};
+ghost use Rattle.issuance_log.specs.Batches.{leading_items};
 ghost use Rattle.issuance_log.specs.Folds.{view_after_step, view_in};
 ghost use Rattle.issuance_log.specs.LogSteps.{log_step};
 ghost use Rattle.issuance_log.specs.Marks.{last_mark, AreRising};
-ghost use Rattle.issuance_log.specs.Records.{item_in, mark_in, switch_in, tiled_in};
+ghost use Rattle.issuance_log.specs.Records.{added_in, item_in, mark_in, switch_in, tiled_in};
 ghost use Rattle.issuance_log.specs.Refusals.{full_size};
 ghost use Rattle.issuance_log.specs.Results.{HasMarkCapacity, IsMemoryRefused, LogFinds, LogTakes};
 ghost use Rattle.issuance_log.specs.Settings.{AreAllowed};
 ghost use Rattle.issuance_log.specs.Sound.{HasSoundNumbers};
 
 use crate::error::RecordError;
-use crate::record::{LANDMARK, SWITCH, TILES, read_item, read_settings, size_in};
+use crate::record::{
+    LANDMARK, SWITCH, TILES, next_item, read_batch, read_item, read_settings, size_in,
+};
 use crate::settings::LogSettings;
 use log_entry::{Form, key_matches_in};
 use mtc_io::Memory;
@@ -114,7 +118,7 @@ impl Numbers {
     {
         match read_item(body) {
             Ok((entry, key)) => self.take_item::<H>(entry, key),
-            Err(RecordError::Unfit) => self.take_other::<H>(body),
+            Err(RecordError::Unfit) => self.take_no_item::<H>(body),
             Err(RecordError::Memory) => Err(RecordError::Memory),
         }
     }
@@ -133,10 +137,39 @@ impl Numbers {
         Ok(())
     }
 
-    /// Takes a record that is no Entry.
+    // Takes a record that is no Entry.
+    #[tactic(auto, unfolding(crate::specs::Folds::next_view))]
+    fn take_no_item<H: TreeHash>(&mut self, body: &[u8]) -> Result<(), RecordError>
+        requires { item_in body.now ≡ None }
+        ensures taken { LogTakes (next_view H.hash self.old.view body.now)
+            self.old.view result self.new.view }
+    {
+        match read_batch(body) {
+            Ok((count, items)) => self.take_items::<H>(count, items),
+            Err(RecordError::Unfit) => self.take_other::<H>(body),
+            Err(RecordError::Memory) => Err(RecordError::Memory),
+        }
+    }
+
+    fn take_items<H: TreeHash>(&mut self, count: u64, items: &[u8]) -> Result<(), RecordError>
+        requires { count ≡ length (leading_items items.now) }
+        ensures ok { OnOk result ((takes_items H.hash self.old.view (leading_items items.now)
+            ≡ true) × (self.new.view ≡ more_entries count self.old.view)) }
+        ensures err { IfErr result (λ why. (why ≡ RecordError.Unfit)
+            × (takes_items H.hash self.old.view (leading_items items.now) ≡ false)
+            × (self.new.view ≡ self.old.view)) }
+    {
+        if !self.takes_all::<H>(items) {
+            return Err(RecordError::Unfit);
+        }
+        self.add_items(count);
+        Ok(())
+    }
+
+    /// Takes a record that adds no item.
     #[tactic(auto, unfolding(crate::specs::Folds::next_view))]
     pub(crate) fn take_other<H: TreeHash>(&mut self, body: &[u8]) -> Result<(), RecordError>
-        requires { item_in body.now ≡ None }
+        requires { added_in body.now ≡ None }
         ensures taken { LogTakes (next_view H.hash self.old.view body.now)
             self.old.view result self.new.view }
         ensures capacity { HasMarkCapacity self.old (mark_in body.now)
@@ -162,7 +195,7 @@ impl Numbers {
         Ok(())
     }
 
-    // Takes a record that is neither an Entry nor a Landmark.
+    // Takes a record that adds no item and is no Landmark.
     fn take_rest<H: TreeHash>(&mut self, body: &[u8]) -> Result<(), RecordError>
         ensures taken { LogTakes (view_after_step H.hash self.old.view
             (log_step None None (tiled_in body.now) (switch_in body.now)))
@@ -211,7 +244,35 @@ impl Numbers {
         ensures value { result ≡ takes_entry H.hash self.now.view (entry.now, key.now) }
         ensures sound { HasSoundNumbers self.now.view }
     {
-        !self.is_full() && key_matches_in::<H>(entry, key, self.form())
+        self.takes_at::<H>(self.size, entry, key)
+    }
+
+    // Whether it would take an Entry if it had so many entries.
+    fn takes_at<H: TreeHash>(&self, size: u64, entry: &[u8], key: &[u8]) -> bool
+        ensures { result ≡ takes_entry H.hash (of_size size self.now.view) (entry.now, key.now) }
+    {
+        size < self.settings.limit as u64
+            && key_matches_in::<H>(entry, key, Form::at(self.switched, size))
+    }
+
+    /// Whether the log takes the items that begin these bytes: each by the rule of an Entry, after
+    /// those before it.
+    pub(crate) fn takes_all<H: TreeHash>(&self, items: &[u8]) -> bool
+        ensures value { result ≡ takes_items H.hash self.now.view (leading_items items.now) }
+        ensures within { result ≡ true → self.now.view.size + length (leading_items items.now)
+            ≤ self.now.view.settings.limit }
+        ensures sound { HasSoundNumbers self.now.view }
+    {
+        let mut size = self.size;
+        let mut rest = items;
+        'items: while let Some((entry, key, later)) = next_item(rest) {
+            if !self.takes_at::<H>(size, entry, key) {
+                return false;
+            }
+            size += 1;
+            rest = later;
+        }
+        true
     }
 
     /// The log has as many entries as its limit allows.
@@ -220,6 +281,14 @@ impl Numbers {
         ensures sound { HasSoundNumbers self.now.view }
     {
         self.size >= self.settings.limit as u64
+    }
+
+    /// How many entries more its limit allows.
+    pub(crate) fn left(&self) -> u64
+        ensures left { self.now.view.size + result ≡ self.now.view.settings.limit }
+        ensures sound { HasSoundNumbers self.now.view }
+    {
+        self.settings.limit as u64 - self.size
     }
 
     pub(crate) fn size(&self) -> u64
@@ -294,6 +363,15 @@ impl Numbers {
         ensures spare { self.new.mark_spare ≡ self.old.mark_spare }
     {
         self.size += 1;
+    }
+
+    /// So many entries more.
+    pub(crate) fn add_items(&mut self, count: u64)
+        requires { self.old.view.size + count ≤ self.old.view.settings.limit }
+        ensures view { self.new.view ≡ more_entries count self.old.view }
+        ensures spare { self.new.mark_spare ≡ self.old.mark_spare }
+    {
+        self.size += count;
     }
 
     /// Reserves capacity for a landmark. All else stays as it was.

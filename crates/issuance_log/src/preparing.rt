@@ -1,20 +1,25 @@
 //! What is tested and made ready before a record is appended to the journal of a log.
 
-ghost use Rattle.std.specs.Prelude.{◌≡◌, ℕ, ◌+◌, ◌<◌, ◌≤◌, Bool, None, length, Err, IfOk, IfErr};
+ghost use Rattle.std.specs.Prelude.{◌≡◌, ℕ, ◌+◌, ◌<◌, ◌≤◌, Bool, None, false, length, Err, IfOk};
+ghost use Rattle.std.specs.Prelude.{IfErr};
 ghost use Rattle.std.specs.Prelude.{OnOk};
 ghost use Rattle.tile_store.specs.Store.{tiles_disk, tiles_stored};
 ghost use Rattle.issuance_log.specs.Entries.{LogCounts};
-ghost use Rattle.issuance_log.specs.Items.{HasItemCapacity, items_leaves, items_offsets};
+ghost use Rattle.issuance_log.specs.Items.{HasCapacityOf, items_leaves, items_offsets};
 ghost use Rattle.issuance_log.specs.Items.{items_tiles};
 ghost use Rattle.issuance_log.specs.Marks.{last_mark};
+ghost use Rattle.issuance_log.specs.Batches.{fitting, has_large, most_listed};
+ghost use Rattle.issuance_log.specs.Records.{CanBeBatch, batch_record};
 ghost use Rattle.issuance_log.specs.Records.{entry_record, landmark_record, switch_record};
 ghost use Rattle.issuance_log.specs.Records.{tiles_record};
-ghost use Rattle.issuance_log.specs.Refusals.{add_refusal, ItemKeepsTo, mark_refusal, MarkKeepsTo};
+ghost use Rattle.issuance_log.specs.Refusals.{add_refusal, ItemKeepsTo, batch_refusal};
+ghost use Rattle.issuance_log.specs.Refusals.{BatchKeepsTo, mark_refusal, MarkKeepsTo};
 ghost use Rattle.issuance_log.specs.Refusals.{full_size, switch_refusal, SwitchKeepsTo};
 ghost use Rattle.issuance_log.specs.Refusals.{tile_refusal, TilesKeepTo};
 ghost use Rattle.issuance_log.specs.Settings.{most_item};
 ghost use Rattle.issuance_log.specs.Words.{of_log_journal};
 
+use crate::batch::{LogItem, MAX_ITEM, batch_record, fitting, has_large};
 use crate::error::LogError;
 use crate::items::Items;
 use crate::numbers::Numbers;
@@ -23,9 +28,6 @@ use disk_core::Disk;
 use mtc_io::Bytes;
 use std::alloc::Global;
 use tree_core::TreeHash;
-
-// An entry and its key have at most so many bytes together.
-const MAX_ITEM: usize = 65_535;
 
 /// Tests an item and reserves memory for it: the body of its record.
 #[tactic(auto, unfolding(crate::specs::Refusals::add_refusal))]
@@ -37,7 +39,7 @@ pub(crate) fn prepare_item<H: TreeHash, T: Disk>(
     spki: &[u8],
 ) -> Result<Bytes, LogError>
     ensures body { IfOk result (λ body. body ≡ entry_record entry.now spki.now) }
-    ensures capacity { OnOk result (HasItemCapacity items.new) }
+    ensures capacity { OnOk result (HasCapacityOf 1 items.new) }
     ensures size { OnOk result (numbers.now.view.size < numbers.now.view.settings.limit) }
     ensures few { OnOk result (length entry.now + length spki.now ≤ most_item) }
     ensures refused { IfErr result (λ why. (broken : Bool) (end : ℕ)
@@ -55,7 +57,47 @@ pub(crate) fn prepare_item<H: TreeHash, T: Disk>(
         return Err(LogError::TooLarge);
     }
     let body = entry_record(alloc, entry, spki)?;
-    items.reserve()?;
+    items.reserve(1)?;
+    Ok(body)
+}
+
+/// Tests items that are to be added together and reserves memory for them: the body of their
+/// record.
+#[tactic(auto, unfolding(crate::specs::Refusals::batch_refusal))]
+pub(crate) fn prepare_items<H: TreeHash, T: Disk>(
+    alloc: Global,
+    numbers: &Numbers,
+    items: &mut Items<H, T>,
+    list: &[LogItem],
+) -> Result<Bytes, LogError>
+    requires { 1 ≤ length list.now }
+    ensures body { IfOk result (λ body. body ≡ batch_record list.now) }
+    ensures capacity { OnOk result (HasCapacityOf (length list.now) items.new) }
+    ensures size { OnOk result
+        (numbers.now.view.size + length list.now ≤ numbers.now.view.settings.limit) }
+    ensures fits { OnOk result (fitting most_listed list.now ≡ length list.now) }
+    ensures large { OnOk result (has_large list.now ≡ false) }
+    ensures batch { OnOk result (CanBeBatch list.now) }
+    ensures refused { IfErr result (λ why. (broken : Bool) (end : ℕ)
+        → BatchKeepsTo (batch_refusal numbers.now.view broken end list.now) (Err why)) }
+    ensures before { IfErr result (λ why. of_log_journal why ≡ None) }
+    ensures offsets { items_offsets items.new ≡ items_offsets items.old }
+    ensures leaves { items_leaves items.new ≡ items_leaves items.old }
+    ensures disk { tiles_disk (items_tiles items.new) ≡ tiles_disk (items_tiles items.old) }
+    ensures stored { tiles_stored (items_tiles items.new) ≡ tiles_stored (items_tiles items.old) }
+{
+    if (list.len() as u64) > numbers.left() {
+        return Err(LogError::Full);
+    }
+    let fit = fitting(list);
+    if fit < list.len() {
+        return Err(LogError::TooMany(fit as u64));
+    }
+    if has_large(list) {
+        return Err(LogError::TooLarge);
+    }
+    let body = batch_record(alloc, list)?;
+    items.reserve(list.len())?;
     Ok(body)
 }
 

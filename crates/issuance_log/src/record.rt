@@ -1,7 +1,10 @@
 //! The bodies of a log's records.
 
-ghost use Rattle.std.specs.Prelude.{◌≡◌, ◌+◌, ◌<◌, ◌≤◌, length, true, IfOk, IfErr};
+ghost use Rattle.std.specs.Prelude.{◌≡◌, ◌+◌, ◌<◌, ◌≤◌, drop, length, option_map, true, IfOk};
+ghost use Rattle.std.specs.Prelude.{◌*◌, is_some, IfErr, IfSome};
 ghost use Rattle.byte_formats.specs.Readings.{Moves};
+ghost use Rattle.issuance_log.specs.Batches.{is_filled, leading_item, leading_items};
+ghost use Rattle.issuance_log.specs.Records.{HaveShortItems, batch_in};
 ghost use Rattle.issuance_log.specs.Records.{settings_at, entry_at, log_settings_with, settings_in};
 ghost use Rattle.issuance_log.specs.Records.{item_in, settings_record, IsShort};
 ghost use Rattle.issuance_log.specs.Records.{entry_record, size_in, size_record};
@@ -26,6 +29,8 @@ pub(crate) const LANDMARK: u8 = 3;
 pub(crate) const TILES: u8 = 4;
 
 pub(crate) const SWITCH: u8 = 5;
+
+pub(crate) const BATCH: u8 = 6;
 
 // The settings after the tag, in their order.
 #[tactic(auto, unfolding(crate::specs::Records::settings_at))]
@@ -119,6 +124,60 @@ pub(crate) fn read_item(body: &[u8]) -> Result<(&[u8], &[u8]), RecordError>
 {
     let item = item_in(body)?;
     Ok(item)
+}
+
+/// The item that begins these bytes, and the bytes after it.
+pub(crate) fn next_item(bytes: &[u8]) -> Option<(&[u8], &[u8], &[u8])>
+    ensures item { option_map (λ x. ((x.0.now, x.1.now), x.2.now)) result
+        ≡ leading_item bytes.now }
+    ensures size { IfSome result (λ x. 4 + length x.0.now + length x.1.now + length x.2.now
+        ≡ length bytes.now) }
+    ensures short { IfSome result (λ x. IsShort x.0.now × IsShort x.1.now) }
+{
+    let mut cursor = Cursor::new(bytes);
+    match entry_fields(&mut cursor) {
+        Ok((entry, key)) => Some((entry, key, cursor.rest())),
+        Err(_short) => None,
+    }
+}
+
+// How many items begin these bytes, if nothing follows them.
+fn count_items(bytes: &[u8]) -> Option<u64>
+    ensures counted { IfSome result (λ count. count ≡ length (leading_items bytes.now)) }
+    ensures few { IfSome result (λ count. count * 4 ≤ length bytes.now) }
+    ensures whole { is_some result ≡ is_filled (leading_items bytes.now) bytes.now }
+{
+    let mut count = 0;
+    let mut rest = bytes;
+    'items: while let Some((_entry, _key, later)) = next_item(rest) {
+        rest = later;
+        count += 1;
+    }
+    if rest.is_empty() { Some(count) } else { None }
+}
+
+/// How many items the body of a Batch has, and the bytes in which they follow each other.
+#[tactic(auto, unfolding(crate::specs::Records::batch_in, crate::specs::Records::batch_at))]
+pub(crate) fn read_batch(body: &[u8]) -> Result<(u64, &[u8]), RecordError>
+    ensures found { LogFinds (λ x. leading_items x.1.now) (batch_in body.now) result }
+    ensures count { IfOk result (λ x. x.0 ≡ length (leading_items x.1.now)) }
+    ensures some { IfOk result (λ x. 1 ≤ x.0) }
+    ensures few { IfOk result (λ x. x.0 < 65536) }
+    ensures there { IfOk result (λ x. x.1.now ≡ drop 3 body.now) }
+    ensures size { IfOk result (λ x. 3 + length x.1.now ≡ length body.now) }
+    ensures short { IfOk result (λ x. HaveShortItems (leading_items x.1.now)) }
+    ensures unfit { IfErr result (λ why. why ≡ RecordError.Unfit) }
+{
+    let mut cursor = Cursor::new(body);
+    if cursor.u8()? != BATCH {
+        return Err(RecordError::Unfit);
+    }
+    let count = cursor.u16()? as u64;
+    let items = cursor.rest();
+    match count_items(items) {
+        Some(there) if there == count && count != 0 => Ok((count, items)),
+        _ => Err(RecordError::Unfit),
+    }
 }
 
 /// The size in the body of a Landmark, a Tiles or a Switch, by its tag.

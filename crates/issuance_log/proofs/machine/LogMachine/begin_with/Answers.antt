@@ -6,7 +6,7 @@ use Rattle.issuance_log.specs.Items.{AreBelow, items_leaves, items_offsets}
 use Rattle.issuance_log.specs.Machine.{TilesAreLeft, TilesAreRead, rest_of_seed}
 use Rattle.issuance_log.proofs.Keeping.{kept_first}
 use Rattle.issuance_log.proofs.Resting.{read_as, read_left}
-use Rattle.issuance_log.proofs.Standing.{below_item}
+use Rattle.issuance_log.proofs.Standing.{below_one}
 use Rattle.issuance_log.proofs.machine.LogMachine.begin_with.Goals as goal
 
 pub returns-in-Ok-clause-begins : goal.returns-in-Ok-clause-begins
@@ -30,7 +30,7 @@ returns-in-Ok-clause-within g c =
     record {
       sound = is.sound;
       below = subst (λ (l : List ℕ). AreBelow l (commit_offset + 1)) (sym one)
-          (below_item (Some (null_entry, [])) 0 (commit_offset + 1) (omega arith));
+          (below_one 0 (commit_offset + 1) (omega arith));
       counted = ap (λ (l : List ℕ). length l) one
           ∙ (kept_first g.H.TreeHash.hash c.in-Ok.numbers.view c.args.body.now offsets
           (items_leaves c.new-items.result) (items_leaves c.begin_items.new.items) is.found is.sound

@@ -1,25 +1,25 @@
 use Rattle.std.proofs.Common.{◌++◌, ℕ, Some, Err, ap, refl, sym, ◌∙◌, arith}
-use Rattle.std.specs.Prelude.{map, option_to_list}
 use Rattle.std.proofs.lemmas.Result.{on_ok_weaker}
 use Rattle.tile_store.specs.Store.{tiles_disk}
 use Rattle.issuance_log.specs.Items.{items_leaves, items_offsets, items_tiles}
 use Rattle.issuance_log.specs.Machine.{HasStored, rest_in}
-use Rattle.issuance_log.specs.Records.{item_in}
+use Rattle.issuance_log.specs.ItemOffsets.{places_in}
+use Rattle.issuance_log.proofs.Encoded.{added_short}
 use Rattle.issuance_log.proofs.Keeping.{kept_more}
 use Rattle.issuance_log.proofs.Resting.{left_from, not_out_of_memory, read_as, read_left, rest_same}
 use Rattle.issuance_log.proofs.Resting.{out_of_memory_is}
 use Rattle.issuance_log.proofs.Taking.{below_next, counted_next, taken_so}
 use Rattle.issuance_log.proofs.machine.LogMachine.take_next.Goals as goal
 
-pub take_record-requires : goal.take_record-requires
-take_record-requires g c = c.requires.counted
+pub take_record-requires-clause-counted : goal.take_record-requires-clause-counted
+take_record-requires-clause-counted g c = c.requires.within.counted
 
 pub adopt_new-requires : goal.adopt_new-requires
 adopt_new-requires g c =
     let was = c.args.self.now in
     counted_next g.H.TreeHash.hash was.numbers.view c.take_record.new.numbers.view c.args.body.now
     (items_offsets was.items) (items_offsets c.take_record.new.items) c.args.place
-    c.in-Ok.ensures.view c.requires.counted c.in-Ok.ensures.taken.offsets
+    c.in-Ok.ensures.view c.requires.within.counted c.in-Ok.ensures.taken.offsets
 
 -- the record makes the next log, and its items are retained
 pub returns-in-Ok-clause-takes : goal.returns-in-Ok-clause-takes
@@ -36,9 +36,9 @@ returns-in-Ok-clause-takes g c =
       keeps = λ list kept there.
           kept_more h was.numbers.view now.numbers.view (items_offsets was.items)
           (items_offsets now.items) (items_leaves was.items) (items_leaves now.items) list body kept
-          next c.take_record.ensures.short
+          next (added_short body (λ i. (c.type_inv.body i).fits))
           (adopted.offsets ∙ taken.offsets ∙ ap (λ (n : ℕ). items_offsets was.items
-          ++ map (λ x. n) (option_to_list (item_in body))) there)
+          ++ places_in n body) there)
           (adopted.leaves ∙ taken.leaves);
     })
 
@@ -52,10 +52,10 @@ returns-in-Ok-clause-within g c =
     on_ok_weaker c.adopt_new.result (λ (stored : HasStored now). record {
       sound = adopted.sound;
       below = below_next body (items_offsets was.items) (items_offsets now.items) c.args.place
-          c.requires.below offsets;
+          c.requires.within.below offsets;
       counted = counted_next g.H.TreeHash.hash was.numbers.view now.numbers.view body
           (items_offsets was.items) (items_offsets now.items) c.args.place
-          (c.in-Ok.ensures.view ∙ ap Some (sym adopted.view)) c.requires.counted offsets;
+          (c.in-Ok.ensures.view ∙ ap Some (sym adopted.view)) c.requires.within.counted offsets;
       stored = stored;
     }) adopted.stored
 
