@@ -54,3 +54,9 @@ lightly_after wanted (Err write_error.TooManySignatures) none is = absurd is
 lightly_after wanted (Err write_error.JournalFailed) none is = none
 lightly_after wanted (Err write_error.TilesFailed) none is = none
 lightly_after wanted (Err write_error.Memory) none is = (λ one. cc, λ other. cc)
+
+-- what the exit of a `?` returns, which only hands its refusal on
+pub err_seen : {X E : Type 0} (P : E → Type 0) (result : Result X E) (why : E)
+    → IsErrAnd result (λ e. e ≡ why) → P why → IfErr result P
+err_seen P (Ok x) why is holds = tt
+err_seen P (Err e) why is holds = subst P (sym is) holds

@@ -2,9 +2,13 @@ pub mod Certificates
 pub mod Identifiers
 mod Labels
 mod Items
+mod Tables
+mod Lines
+mod Several
 pub mod Marks
 mod Sizes
 pub mod Issued
+pub mod IssuedLists
 pub mod Accepted
 pub mod Modelled
 mod Answered

@@ -1,8 +1,10 @@
 pub mod Certificates
 pub mod Acceptance
+pub mod Several
 pub mod Hosts
 pub mod Requests
 pub mod Files
+pub mod RequestLists
 pub mod Issuing
 pub mod Issues
 pub mod Reasons

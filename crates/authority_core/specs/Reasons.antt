@@ -9,6 +9,10 @@ use Rattle.authority_core.specs.declared.requests.error.Field.{Field}
 use Rattle.authority_core.specs.declared.requests.error.Field.TheVariants as request_field
 use Rattle.authority_core.specs.declared.requests.error.RequestError.{RequestError}
 use Rattle.authority_core.specs.declared.requests.error.RequestError.TheVariants as request_error
+use Rattle.authority_core.specs.declared.requests.error.RequestListError.{RequestListError}
+use Rattle.authority_core.specs.declared.requests.error.RequestListError.TheVariants as request_list
+use Rattle.authority_core.specs.declared.writing.error.SeveralError.{SeveralError}
+use Rattle.authority_core.specs.declared.writing.error.SeveralError.TheVariants as several
 use Rattle.authority_core.specs.declared.writing.error.WriteError.{WriteError}
 use Rattle.authority_core.specs.declared.writing.error.WriteError.TheVariants as write_error
 
@@ -34,6 +38,16 @@ request_fault_text request_error.DatesReversed = codes "DatesReversed"
 request_fault_text request_error.NoNames = codes "NoNames"
 request_fault_text request_error.Memory = codes "Memory"
 
+-- Why a file is no list of requests.
+abbrev pub request_list_fault_text : RequestListError → Text
+request_list_fault_text request_list.NotToml = codes "NotToml"
+request_list_fault_text request_list.UnknownKey = codes "UnknownKey"
+request_list_fault_text request_list.Missing = codes "Missing " ++ codes "Requests"
+request_list_fault_text request_list.BadValue = codes "BadValue " ++ codes "Requests"
+request_list_fault_text (request_list.OfRequest why number) =
+    request_fault_text why ++ codes " " ++ decimal number
+request_list_fault_text request_list.Memory = codes "Memory"
+
 -- Why no certificate is written.
 abbrev pub write_fault_text : WriteError → Text
 write_fault_text write_error.NoSuchEntry = codes "NoSuchEntry"
@@ -46,3 +60,12 @@ write_fault_text write_error.TooManySignatures = codes "TooManySignatures"
 write_fault_text write_error.JournalFailed = codes "Failed"
 write_fault_text write_error.TilesFailed = codes "Failed"
 write_fault_text write_error.Memory = codes "Memory"
+
+-- Why no certificates of several entries are written.
+abbrev pub several_fault_text : SeveralError → Text
+several_fault_text several.NothingNew = codes "NothingNew"
+several_fault_text (several.OfEntry why index) =
+    write_fault_text why ++ codes " " ++ decimal index
+several_fault_text several.JournalFailed = codes "Failed"
+several_fault_text several.TilesFailed = codes "Failed"
+several_fault_text several.Memory = codes "Memory"

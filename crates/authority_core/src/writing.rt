@@ -4,8 +4,11 @@ mod certificate;
 mod error;
 mod item;
 mod light;
+mod pem;
 mod proof;
+mod several;
 
 pub use certificate::cert;
-pub use error::WriteError;
+pub use error::{SeveralError, WriteError};
 pub use light::light_cert;
+pub use several::{certs, light_certs};

@@ -12,13 +12,16 @@ ghost use Rattle.log_entry.specs.Forms.{form_of};
 ghost use Rattle.log_entry.specs.Matching.{has_form, matches};
 ghost use Rattle.log_entry.specs.declared.entry.Form.{Form};
 ghost use Rattle.log_entry.specs.Reading.{entry_in};
-ghost use Rattle.issuance_log.specs.Folds.{LogState, log_of, view_in, with_item};
+ghost use Rattle.std.specs.List.{AllByRecursion};
+ghost use Rattle.issuance_log.specs.Batches.{fitting, has_large, most_listed};
+ghost use Rattle.issuance_log.specs.Folds.{LogState, log_of, view_in, with_item, with_items};
 ghost use Rattle.issuance_log.specs.Settings.{most_item};
 ghost use Rattle.issuance_log.specs.Sound.{IsSound};
 ghost use Rattle.policy_core.specs.Judgement.{form_by};
 ghost use Rattle.policy_core.specs.declared.store.Store.{Store};
 ghost use Rattle.authority_core.specs.Acceptance.{IsOwnEntry};
-ghost use Rattle.authority_core.specs.Issues.{issued_entry, issued_record};
+ghost use Rattle.authority_core.specs.Issues.{issued_batch, issued_entry, issued_items};
+ghost use Rattle.authority_core.specs.Issues.{issued_record};
 ghost use Rattle.authority_core.specs.Issuing.{entry_for, tbs_for};
 ghost use Rattle.authority_core.specs.Requests.{CanBeIssued, RequestParts};
 
@@ -57,6 +60,20 @@ pub fn law_issued_entries_keep_to_the_rules()
         → length (issued_entry h (view_in s) r) + length r.key ≤ most_item
         → log_of h (list ++ issued_record h (view_in s) r ∷ [])
         ≡ Ok (with_item (issued_entry h (view_in s) r) r.key s) }
+{}
+
+/// The one record of what is issued for several requests follows the rules too. After records that
+/// make a log which has capacity for all of them, it makes that log with their entries and keys in
+/// their order, if they fit one record and no entry and key are too large together.
+pub fn law_issued_lists_keep_to_the_rules()
+    ensures { (h : HashFunction) (list : List Text) (s : LogState) (rs : List RequestParts)
+        → ((bytes : Text) → length (h bytes) ≡ 32) → IsAnchorId s.settings.id
+        → AllByRecursion CanBeIssued rs → 1 ≤ length rs
+        → log_of h list ≡ Ok s → IsSound h s → length s.entries + length rs ≤ s.settings.limit
+        → fitting most_listed (issued_items h (view_in s) rs) ≡ length rs
+        → has_large (issued_items h (view_in s) rs) ≡ false
+        → log_of h (list ++ issued_batch h (view_in s) rs ∷ [])
+        ≡ Ok (with_items (issued_items h (view_in s) rs) s) }
 {}
 
 /// A store that has the index at which the log was switched, or none if it wasn't, gives each entry

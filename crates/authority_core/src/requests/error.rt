@@ -1,5 +1,8 @@
 //! Why a text is no request file.
 
+ghost use Rattle.std.specs.Prelude.{◌≡◌};
+ghost use Rattle.authority_core.specs.declared.requests.error.RequestListError.TheVariants.{Memory as NoMemory};
+
 use mtc_io::Memory;
 use std::error::Error;
 use std::fmt;
@@ -85,5 +88,51 @@ impl From<Memory> for RequestError {
 
     fn from(_refused: Memory) -> RequestError {
         RequestError::Memory
+    }
+}
+
+/// Why a text is no file of several requests. The tests are made in this order, and those of the
+/// tables table by table.
+#[derive(Clone, Copy, Debug, PartialEq, Eq)]
+pub enum RequestListError {
+    /// The text isn't UTF-8, or isn't TOML.
+    NotToml,
+    /// There is a key at the root that isn't `request`.
+    UnknownKey,
+    /// There is no list.
+    Missing,
+    /// The list is no array, is empty, or has an item that is no table.
+    BadValue,
+    /// The table with this number, counted from 0, is no request.
+    OfRequest(RequestError, u64),
+    /// Memory was refused.
+    Memory,
+}
+
+impl fmt::Display for RequestListError {
+    ghost use Rattle.std.specs.Prelude.{Some};
+    ghost use Rattle.authority_core.specs.Reasons.{request_list_fault_text};
+
+    ghost output = { λ why. Some (request_list_fault_text why) };
+
+    fn fmt<W: fmt::Write>(&self, f: &mut fmt::Formatter<W>) -> fmt::Result {
+        match self {
+            RequestListError::NotToml => f.write_str("NotToml"),
+            RequestListError::UnknownKey => f.write_str("UnknownKey"),
+            RequestListError::Missing => f.write_str("Missing Requests"),
+            RequestListError::BadValue => f.write_str("BadValue Requests"),
+            RequestListError::OfRequest(why, number) => write!(f, "{why} {number}"),
+            RequestListError::Memory => f.write_str("Memory"),
+        }
+    }
+}
+
+impl Error for RequestListError {}
+
+impl From<Memory> for RequestListError {
+    ghost from_gives = { λ _ e. e ≡ NoMemory };
+
+    fn from(_refused: Memory) -> RequestListError {
+        RequestListError::Memory
     }
 }

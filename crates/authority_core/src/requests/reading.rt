@@ -1,9 +1,9 @@
 //! Reading a request file.
 
-ghost use Rattle.std.specs.Prelude.{IfOk};
+ghost use Rattle.std.specs.Prelude.{Some, IfOk};
 ghost use Rattle.byte_formats.specs.Readings.{Answers};
 ghost use Rattle.toml.specs.View.{table_view};
-ghost use Rattle.authority_core.specs.Files.{request_in, request_of};
+ghost use Rattle.authority_core.specs.Files.{request_in, request_of, request_of_tree};
 ghost use Rattle.authority_core.specs.Requests.{CanBeIssued};
 
 use crate::requests::error::{Field, RequestError};
@@ -43,6 +43,22 @@ fn request_from(alloc: Global, root: &Table) -> Result<Request, RequestError>
     })
 }
 
+/// The request of a table: its keys are among those of a request.
+pub(crate) fn request_of_table(alloc: Global, table: &Table) -> Result<Request, RequestError>
+    ensures exact { Answers RequestError.Memory
+        (request_of_tree (Some (table_view table.now))) result }
+    ensures valid { IfOk result CanBeIssued }
+{
+    if keys_are_among(
+        table,
+        &["not_before", "not_after", "dns", "common_name", "key"],
+    ) {
+        request_from(alloc, table)
+    } else {
+        Err(RequestError::UnknownKey)
+    }
+}
+
 /// Reads a request file. It has the texts `not_before` and `not_after` (`YYYY-MM-DDTHH:MM:SSZ`,
 /// from 1950 to 9999), the array `dns` of at most 100 host names, and the text `key`, a
 /// subjectPublicKeyInfo element in base64; it may have the text `common_name` of 1 to 64 bytes. The
@@ -57,12 +73,5 @@ pub fn read_request(alloc: Global, text: &[u8]) -> Result<Request, RequestError>
         Err(TreeError::NotToml) => return Err(RequestError::NotToml),
         Err(TreeError::Memory) => return Err(RequestError::Memory),
     };
-    if keys_are_among(
-        &root,
-        &["not_before", "not_after", "dns", "common_name", "key"],
-    ) {
-        request_from(alloc, &root)
-    } else {
-        Err(RequestError::UnknownKey)
-    }
+    request_of_table(alloc, &root)
 }

@@ -1,6 +1,6 @@
 //! Certificates of the entries of a log, in any subtree of it and with signatures.
 
-ghost use Rattle.std.specs.Prelude.{IfSome, IfOk};
+ghost use Rattle.std.specs.Prelude.{◌≡◌, IfSome, IfOk};
 ghost use Rattle.issuance_log.specs.Words.{LogStays, log_disk, log_tiles_disk, modelled_by_both};
 ghost use Rattle.issuance_log.specs.Words.{view_of};
 ghost use Rattle.mtc_proof.specs.Proofs.{AreSignatures};
@@ -18,6 +18,34 @@ use tree_core::{TreeHash, subtree_ok};
 
 // The signatures of a certificate have at most so many bytes.
 const MOST_SIGNATURES: usize = 65_535;
+
+/// Why no certificate of this log is written, by the tests alone.
+#[tactic(auto, unfolding(crate::specs::Certificates::cert_refusal))]
+pub(crate) fn refused<H: TreeHash, D: Disk, T: Disk>(
+    log: &Log<H, D, T>,
+    index: u64,
+    start: u64,
+    end: u64,
+    signatures: &[u8],
+) -> Option<WriteError>
+    ensures { result ≡ cert_refusal (view_of log.now) index start end signatures.now }
+{
+    if log.size() <= index {
+        Some(WriteError::NoSuchEntry)
+    } else if index == 0 {
+        Some(WriteError::NullEntry)
+    } else if !subtree_ok(start, end) {
+        Some(WriteError::BadSubtree)
+    } else if index < start || end <= index {
+        Some(WriteError::Outside)
+    } else if log.size() < end {
+        Some(WriteError::Beyond(log.size()))
+    } else if signatures.len() > MOST_SIGNATURES {
+        Some(WriteError::TooManySignatures)
+    } else {
+        None
+    }
+}
 
 /// Writes the certificate of an entry: its fields, its key, its index as the serial number, and as
 /// the signature its path in the subtree `[start, end)` of the log, with these signatures of

@@ -1,6 +1,8 @@
 //! Why no certificate is written.
 
 ghost use Rattle.std.specs.Prelude.{◌≡◌};
+ghost use Rattle.authority_core.specs.Several.{several_error};
+ghost use Rattle.authority_core.specs.declared.writing.error.SeveralError.TheVariants.{Memory as NoMemory};
 ghost use Rattle.authority_core.specs.declared.writing.error.WriteError.TheVariants.{Memory as WriteMemory};
 
 use mtc_io::Memory;
@@ -63,5 +65,60 @@ impl From<Memory> for WriteError {
 
     fn from(_refused: Memory) -> WriteError {
         WriteError::Memory
+    }
+}
+
+/// Why no certificates of several entries are written, in the order of the tests. Of the last three
+/// the one that comes first is answered.
+#[derive(Clone, Copy, Debug, PartialEq, Eq)]
+pub enum SeveralError {
+    /// The first index isn't below the last one.
+    NothingNew,
+    /// The certificate of the entry at this index is refused.
+    OfEntry(WriteError, u64),
+    /// The disk of the journal failed.
+    JournalFailed,
+    /// The disk of the tiles failed.
+    TilesFailed,
+    /// Memory was refused.
+    Memory,
+}
+
+/// Why several are not written, by why the one of the entry at an index is not.
+pub(crate) fn several_error(why: WriteError, index: u64) -> SeveralError
+    ensures { result ≡ several_error why index }
+{
+    match why {
+        WriteError::JournalFailed => SeveralError::JournalFailed,
+        WriteError::TilesFailed => SeveralError::TilesFailed,
+        WriteError::Memory => SeveralError::Memory,
+        refused => SeveralError::OfEntry(refused, index),
+    }
+}
+
+impl fmt::Display for SeveralError {
+    ghost use Rattle.std.specs.Prelude.{Some};
+    ghost use Rattle.authority_core.specs.Reasons.{several_fault_text};
+
+    ghost output = { λ why. Some (several_fault_text why) };
+
+    fn fmt<W: fmt::Write>(&self, f: &mut fmt::Formatter<W>) -> fmt::Result {
+        match self {
+            SeveralError::NothingNew => f.write_str("NothingNew"),
+            SeveralError::OfEntry(why, index) => write!(f, "{why} {index}"),
+            SeveralError::JournalFailed => f.write_str("Failed"),
+            SeveralError::TilesFailed => f.write_str("Failed"),
+            SeveralError::Memory => f.write_str("Memory"),
+        }
+    }
+}
+
+impl Error for SeveralError {}
+
+impl From<Memory> for SeveralError {
+    ghost from_gives = { λ _ e. e ≡ NoMemory };
+
+    fn from(_refused: Memory) -> SeveralError {
+        SeveralError::Memory
     }
 }

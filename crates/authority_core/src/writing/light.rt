@@ -1,6 +1,7 @@
 //! Certificates of the entries of a log by its landmarks, without signatures.
 
 ghost use Rattle.std.specs.Prelude.{◌≡◌, IfOk, IfSome};
+ghost use Rattle.landmarks.specs.Landmarks.{landmarks_of};
 ghost use Rattle.issuance_log.specs.Words.{LogStays, log_disk, log_tiles_disk, modelled_by_both};
 ghost use Rattle.issuance_log.specs.Words.{view_of};
 ghost use Rattle.authority_core.specs.Acceptance.{StoresAcceptLightly};
@@ -12,7 +13,7 @@ use crate::writing::error::WriteError;
 use crate::writing::item::written;
 use disk_core::Disk;
 use issuance_log::Log;
-use landmarks::{covering, of_marks};
+use landmarks::{Landmarks, covering, of_marks};
 use mtc_io::{Bytes, Memory};
 use std::alloc::Global;
 use tree_core::{Span, TreeHash};
@@ -30,6 +31,29 @@ fn covering_subtree<H: TreeHash, D: Disk, T: Disk>(
     log.law_sound();
     let landmarks = of_marks(alloc, log.marks(), log.settings().max_active)?;
     Ok(covering(&landmarks, index))
+}
+
+/// Why no certificate without signatures is written of a log with these landmarks, by the tests
+/// alone.
+#[tactic(auto, unfolding(crate::specs::Certificates::light_refusal))]
+pub(crate) fn light_refused<H: TreeHash, D: Disk, T: Disk>(
+    log: &Log<H, D, T>,
+    landmarks: &Landmarks,
+    index: u64,
+) -> Option<WriteError>
+    requires { landmarks.now
+        ≡ landmarks_of (view_of log.now).marks (view_of log.now).settings.max_active }
+    ensures { result ≡ light_refusal (view_of log.now) index }
+{
+    if log.size() <= index {
+        Some(WriteError::NoSuchEntry)
+    } else if index == 0 {
+        Some(WriteError::NullEntry)
+    } else if covering(landmarks, index).is_none() {
+        Some(WriteError::NotCovered)
+    } else {
+        None
+    }
 }
 
 /// Writes the certificate of an entry that needs no signature: its fields, its key, its index as
