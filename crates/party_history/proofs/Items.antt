@@ -1,15 +1,17 @@
 -- A log keeps its items whatever records follow its own.
-use Rattle.std.proofs.Common.{◌≡◌, List, [], ◌∷◌, ◌++◌, length, slice_get, Some, Ok, ap, sym}
-use Rattle.std.proofs.Common.{◌∙◌, subst, append_assoc}
-use Rattle.std.specs.Prelude.{option_to_list}
+use Rattle.std.proofs.Common.{◌≡◌, ℕ, zero, suc, ◌+◌, List, [], ◌∷◌, ◌++◌, length, slice_get}
+use Rattle.std.proofs.Common.{Some, None, option_map, Ok, ap, sym}
+use Rattle.std.specs.Prelude.{map}
+use Rattle.std.proofs.Common.{◌∙◌, subst, append_assoc, arith}
 use Rattle.std.proofs.lemmas.List.{length-map}
 use Rattle.byte_formats.specs.Types.{HashFunction, Text}
 use Rattle.journal_core.proofs.Folds.{state_more}
 use Rattle.issuance_log.specs.Folds.{LogState, log_fold, log_of, new_log}
-use Rattle.issuance_log.specs.Records.{item_in}
+use Rattle.issuance_log.specs.Records.{added_items, item_in}
 use Rattle.issuance_log.specs.Shown.{recorded_items}
 use Rattle.issuance_log.proofs.After.{HasItems, following_items, entries_of, keys_of, later_items}
 use Rattle.issuance_log.proofs.After.{only_begins}
+use Rattle.issuance_log.proofs.Steps.{items_of_entry}
 use Rattle.party_history.specs.Laws.{HasItemAt, KeepsItems}
 use Rattle.party_history.proofs.Chains.{at_seam}
 
@@ -47,7 +49,7 @@ item_added h list body more entry key s t is same whole =
     let joined = ap (λ (l : List Text). log_of h l) (append_assoc list (body ∷ []) more) in
     let has = items_after h list (body ∷ more) s t is (sym joined ∙ whole) in
     let items : later_items (body ∷ more) ≡ (entry, key) ∷ later_items more
-    = ap (λ o. option_to_list o ++ later_items more) same in
+    = ap (λ l. l ++ later_items more) (items_of_entry body (entry, key) same) in
     record {
       entry_is = ap (λ (l : List Text). slice_get l (length s.entries))
           (has.entries ∙ ap (λ i. s.entries ++ entries_of i) items)
@@ -56,4 +58,41 @@ item_added h list body more entry key s t is same whole =
           (ap (λ (l : List Text). slice_get l (length s.keys))
           (has.keys ∙ ap (λ i. s.keys ++ keys_of i) items)
           ∙ at_seam s.keys key (keys_of (later_items more)));
+    }
+
+-- one of some items, whatever follows them
+in_prefix : (f : Text × Text → Text) (items later : List (Text × Text)) (i : ℕ) (x : Text × Text)
+    → slice_get items i ≡ Some x → slice_get (map f (items ++ later)) i ≡ Some (f x)
+in_prefix f [] later i x is = let wrong : None ≡ Some x = is in absurd cc
+in_prefix f (y ∷ items) later zero x is = ap (option_map f) is
+in_prefix f (y ∷ items) later (suc i) x is = in_prefix f items later i x is
+
+-- and whatever stands before
+past_prefix : (before list : List Text) (i : ℕ) (x : Text) → slice_get list i ≡ Some x
+    → slice_get (before ++ list) (length before + i) ≡ Some x
+past_prefix [] list i x is =
+    let same : i ≡ length {A = Text} [] + i = omega arith in
+    subst (λ (n : ℕ). slice_get list n ≡ Some x) same is
+past_prefix (first ∷ before) list i x is =
+    let same : suc (length before + i) ≡ length (first ∷ before) + i = omega arith in
+    subst (λ (n : ℕ). slice_get (first ∷ (before ++ list)) n ≡ Some x) same
+    (past_prefix before list i x is)
+
+-- each item of a record that adds any stands after those before it, in its order
+pub each_added : (h : HashFunction) (list : List Text) (body : Text) (more : List Text) (i : ℕ)
+    (entry key : Text) (s t : LogState) → log_of h list ≡ Ok s
+    → slice_get (added_items body) i ≡ Some (entry, key)
+    → log_of h ((list ++ body ∷ []) ++ more) ≡ Ok t → HasItemAt (length s.entries + i) entry key t
+each_added h list body more i entry key s t is there whole =
+    let joined = ap (λ (l : List Text). log_of h l) (append_assoc list (body ∷ []) more) in
+    let has = items_after h list (body ∷ more) s t is (sym joined ∙ whole) in
+    let later = later_items more in
+    record {
+      entry_is = ap (λ (l : List Text). slice_get l (length s.entries + i)) has.entries
+          ∙ past_prefix s.entries (entries_of (added_items body ++ later)) i entry
+          (in_prefix (λ x. x.0) (added_items body) later i (entry, key) there);
+      key_is = subst (λ (n : ℕ). slice_get t.keys (n + i) ≡ Some key) (even_log h list s is)
+          (ap (λ (l : List Text). slice_get l (length s.keys + i)) has.keys
+          ∙ past_prefix s.keys (keys_of (added_items body ++ later)) i key
+          (in_prefix (λ x. x.1) (added_items body) later i (entry, key) there));
     }

@@ -11,11 +11,11 @@ use Rattle.journal_core.specs.Folds.{taken_from}
 use Rattle.journal_core.proofs.Folds.{state_more}
 use Rattle.issuance_log.specs.Folds.{LogState, log_after_step, log_by_step, log_fold, log_of}
 use Rattle.issuance_log.specs.Folds.{next_log, takes_log_step, takes_switch, view_in, with_switch}
-use Rattle.issuance_log.specs.LogSteps.{LogStep, adds_item, log_step, log_step_in, sets_mark}
+use Rattle.issuance_log.specs.LogSteps.{LogStep, adds_items, log_step, log_step_in, sets_mark}
 use Rattle.issuance_log.specs.LogSteps.{stores_tiles, switches, unknown_step}
 use Rattle.issuance_log.specs.Records.{switch_in, switch_record}
 use Rattle.issuance_log.proofs.After.{when}
-use Rattle.issuance_log.proofs.Encoded.{next_says, switch_no_item, switch_no_mark}
+use Rattle.issuance_log.proofs.Encoded.{next_says, switch_adds_none, switch_no_mark}
 use Rattle.issuance_log.proofs.Encoded.{switch_no_tiles}
 use Rattle.issuance_log.proofs.Steps.{says_so}
 
@@ -36,7 +36,7 @@ module _ (h : HashFunction) where
   next_switched s t size is =
       let body = switch_record size in
       let says : log_step_in body ≡ log_step None None None (switch_in body) =
-      says_so body None None None (switch_in body) (switch_no_item size) (switch_no_mark size)
+      says_so body None None None (switch_in body) (switch_adds_none size) (switch_no_mark size)
       (switch_no_tiles size) refl in
       by_switch s t (switch_in body) (sym (next_says h s body _ says) ∙ is)
 
@@ -44,7 +44,7 @@ module _ (h : HashFunction) where
 
   step_stays : (s : LogState) (x : LogStep) (index : ℕ) → s.switched ≡ Some index
       → takes_log_step h (view_in s) x ≡ true → (log_by_step x s).switched ≡ Some index
-  step_stays s (adds_item x) index was takes = was
+  step_stays s (adds_items items) index was takes = was
   step_stays s (sets_mark size) index was takes = was
   step_stays s (stores_tiles size) index was takes = was
   step_stays s (switches other) index was takes =

@@ -1,14 +1,14 @@
 //! Laws of histories: the clauses are the laws, and the functions do nothing.
 
-ghost use Rattle.std.specs.Prelude.{◌≡◌, ℕ, true, List, [], ◌∷◌, ◌++◌, length, slice_get, Some};
-ghost use Rattle.std.specs.Prelude.{IfSome, Contains, Ok};
+ghost use Rattle.std.specs.Prelude.{◌≡◌, ℕ, ◌+◌, true, List, [], ◌∷◌, ◌++◌, length, slice_get};
+ghost use Rattle.std.specs.Prelude.{Some, IfSome, Contains, Ok};
 ghost use Rattle.byte_formats.specs.Types.{HashFunction, Text};
 ghost use Rattle.cosigner_core.specs.Counts.{AreCounted};
 ghost use Rattle.cosigner_core.specs.declared.settings.CosignerSettings.{CosignerSettings};
 ghost use Rattle.journal_core.specs.Format.{Represents};
 ghost use Rattle.file_events.specs.Histories.{ReachesAll, TakesSteps};
 ghost use Rattle.issuance_log.specs.Folds.{LogState, log_of};
-ghost use Rattle.issuance_log.specs.Records.{item_in, switch_record};
+ghost use Rattle.issuance_log.specs.Records.{added_items, item_in, switch_record};
 ghost use Rattle.party_history.specs.Histories.{history_of, moved};
 ghost use Rattle.party_history.specs.Journals.{Continues, HasHistory};
 ghost use Rattle.party_history.specs.Laws.{HasGrown, HasItemAt, IsOfDurable, IsSoundParty};
@@ -98,12 +98,18 @@ pub fn law_journals_have_histories()
 {}
 
 /// The entries of a log and their keys keep their indices, whatever records follow its own. The
-/// item of a record is the next one after those of the records before it.
+/// item of a record is the next one after those of the records before it, and of a record that adds
+/// several each is the next one after those before it.
 pub fn law_logs_keep_their_items()
     ensures added { (h : HashFunction) (list : List Text) (body : Text) (more : List Text)
         (entry key : Text) (s t : LogState) → log_of h list ≡ Ok s
         → item_in body ≡ Some (entry, key) → log_of h ((list ++ body ∷ []) ++ more) ≡ Ok t
         → HasItemAt (length s.entries) entry key t }
+    ensures each { (h : HashFunction) (list : List Text) (body : Text) (more : List Text) (i : ℕ)
+        (entry key : Text) (s t : LogState) → log_of h list ≡ Ok s
+        → slice_get (added_items body) i ≡ Some (entry, key)
+        → log_of h ((list ++ body ∷ []) ++ more) ≡ Ok t
+        → HasItemAt (length s.entries + i) entry key t }
     ensures kept { (h : HashFunction) (list more : List Text) (s t : LogState)
         → log_of h list ≡ Ok s → log_of h (list ++ more) ≡ Ok t → KeepsItems s t }
 {}
