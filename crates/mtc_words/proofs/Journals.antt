@@ -17,6 +17,7 @@ use Rattle.mtc_words.specs.declared.name.Name.TheVariants.{Keygen, InitCosigner,
 use Rattle.mtc_words.specs.declared.name.Name.TheVariants.{Export, Landmark, Landmarks, LightCert}
 use Rattle.mtc_words.specs.declared.name.Name.TheVariants.{TrustLandmarks, Cert, Audit, Drill}
 use Rattle.mtc_words.specs.declared.name.Name.TheVariants.{Quarrel, Tile, Switch}
+use Rattle.mtc_words.specs.declared.name.Name.TheVariants.{IssueList, LightCerts, Certs}
 use Rattle.mtc_words.specs.declared.name.Name.TheVariants.{Root, Held, MonitorInit, Monitor}
 use Rattle.mtc_words.specs.declared.name.Name.TheVariants.{Help, Version}
 use Rattle.mtc_words.specs.Commands.{CommandValue, journal_of, is_height, is_width, is_time}
@@ -108,6 +109,17 @@ from_words Drill ws c e =
     following (Has Drill ws) (number_word 1 is_any (word ws 0)) _ c (λ number is. reported _ c is) e
 from_words Tile ws c e = reported _ c e
 from_words Switch ws c e = reported _ c e
+from_words IssueList ws c e = reported _ c e
+from_words LightCerts ws c e =
+    following (Has LightCerts ws) (number_word 2 is_any (word ws 1)) _ c (λ start first.
+    following (Has LightCerts ws) (number_word 3 is_any (word ws 2)) _ c (λ end is.
+    reported _ c is) first) e
+from_words Certs ws c e =
+    following (Has Certs ws) (number_word 2 is_any (word ws 1)) _ c (λ from first.
+    following (Has Certs ws) (number_word 3 is_any (word ws 2)) _ c (λ last second.
+    following (Has Certs ws) (number_word 4 is_any (word ws 3)) _ c (λ start third.
+    following (Has Certs ws) (number_word 5 is_any (word ws 4)) _ c (λ end is.
+    reported _ c is) third) second) first) e
 from_words Root ws c e = reported _ c e
 from_words Held ws c e = reported _ c e
 from_words MonitorInit ws c e =

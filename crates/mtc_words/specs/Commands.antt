@@ -13,6 +13,7 @@ use Rattle.mtc_words.specs.declared.command.Command.TheVariants.{Export, Quarrel
 use Rattle.mtc_words.specs.declared.command.Command.TheVariants.{Landmark, Landmarks, LightCert}
 use Rattle.mtc_words.specs.declared.command.Command.TheVariants.{TrustLandmarks, Cert, Audit, Drill}
 use Rattle.mtc_words.specs.declared.command.Command.TheVariants.{Tile, Switch}
+use Rattle.mtc_words.specs.declared.command.Command.TheVariants.{IssueList, LightCerts, Certs}
 use Rattle.mtc_words.specs.declared.command.Command.TheVariants.{Root, Held, MonitorInit, Monitor}
 use Rattle.mtc_words.specs.declared.command.Command.TheVariants.{Help, Version}
 use Rattle.mtc_words.specs.declared.error.WordError.{WordError}
@@ -44,6 +45,9 @@ pub data CommandValue : Type 0 where
   drill : ℕ → CommandValue
   tile : Text → CommandValue
   switch : Text → CommandValue
+  issue_list : Text → Text → CommandValue
+  light_certs : Text → ℕ → ℕ → CommandValue
+  certs : Text → ℕ → ℕ → ℕ → ℕ → Text → CommandValue
   root : Text → CommandValue
   held : Text → CommandValue
   monitor_init : Text → CommandValue
@@ -82,6 +86,10 @@ command_value (Quarrel kept) = quarrel kept.now
 command_value (Drill number) = drill number
 command_value (Tile journal) = tile journal.now
 command_value (Switch journal) = switch journal.now
+command_value (IssueList journal requests) = issue_list journal.now requests.now
+command_value (LightCerts journal first last) = light_certs journal.now first last
+command_value (Certs journal first last start end signatures) =
+    certs journal.now first last start end signatures.now
 command_value (Root items) = root items.now
 command_value (Held kept) = held kept.now
 command_value (MonitorInit id) = monitor_init id
@@ -148,6 +156,9 @@ IsInRange (quarrel kept) = Unit {0}
 IsInRange (drill number) = Unit {0}
 IsInRange (tile journal) = Unit {0}
 IsInRange (switch journal) = Unit {0}
+IsInRange (issue_list journal requests) = Unit {0}
+IsInRange (light_certs journal first last) = Unit {0}
+IsInRange (certs journal first last start end signatures) = Unit {0}
 IsInRange (root items) = Unit {0}
 IsInRange (held kept) = Unit {0}
 IsInRange (monitor_init id) = Unit {0}
@@ -182,6 +193,9 @@ journal_of (quarrel kept) = None
 journal_of (drill number) = None
 journal_of (tile journal) = Some journal
 journal_of (switch journal) = Some journal
+journal_of (issue_list journal requests) = Some journal
+journal_of (light_certs journal first last) = Some journal
+journal_of (certs journal first last start end signatures) = Some journal
 journal_of (root items) = None
 journal_of (held kept) = None
 journal_of (monitor_init id) = None

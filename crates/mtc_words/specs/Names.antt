@@ -13,6 +13,7 @@ use Rattle.mtc_words.specs.declared.name.Name.TheVariants.{Export, Quarrel}
 use Rattle.mtc_words.specs.declared.name.Name.TheVariants.{Landmark, Landmarks, LightCert}
 use Rattle.mtc_words.specs.declared.name.Name.TheVariants.{TrustLandmarks, Cert, Audit, Drill}
 use Rattle.mtc_words.specs.declared.name.Name.TheVariants.{Tile, Switch}
+use Rattle.mtc_words.specs.declared.name.Name.TheVariants.{IssueList, LightCerts, Certs}
 use Rattle.mtc_words.specs.declared.name.Name.TheVariants.{Root, Held, MonitorInit, Monitor}
 use Rattle.mtc_words.specs.declared.name.Name.TheVariants.{Help, Version}
 
@@ -27,6 +28,14 @@ named_from_monitor word =
     else (if bytes_eq word (codes "version") then Some Version
     else None)))))
 
+-- The same for an argument that names none of those before the commands on lists.
+abbrev pub named_from_list : Text → Option Name
+named_from_list word =
+    if bytes_eq word (codes "issue-list") then Some IssueList
+    else (if bytes_eq word (codes "light-certs") then Some LightCerts
+    else (if bytes_eq word (codes "certs") then Some Certs
+    else named_from_monitor word))
+
 -- The same for an argument that names none of those before the commands of landmarks.
 abbrev pub named_from_landmark : Text → Option Name
 named_from_landmark word =
@@ -40,7 +49,7 @@ named_from_landmark word =
     else (if bytes_eq word (codes "drill") then Some Drill
     else (if bytes_eq word (codes "tile") then Some Tile
     else (if bytes_eq word (codes "switch") then Some Switch
-    else named_from_monitor word)))))))))
+    else named_from_list word)))))))))
 
 -- The same for an argument that names none of those before the commands of a cosigner.
 abbrev pub named_from_cosigner : Text → Option Name
@@ -94,6 +103,9 @@ word_count Quarrel = 1
 word_count Drill = 1
 word_count Tile = 1
 word_count Switch = 1
+word_count IssueList = 2
+word_count LightCerts = 3
+word_count Certs = 6
 word_count Root = 1
 word_count Held = 1
 word_count MonitorInit = 1
@@ -128,6 +140,9 @@ takes_journal Quarrel = false
 takes_journal Drill = false
 takes_journal Tile = true
 takes_journal Switch = true
+takes_journal IssueList = true
+takes_journal LightCerts = true
+takes_journal Certs = true
 takes_journal Root = false
 takes_journal Held = false
 takes_journal MonitorInit = false

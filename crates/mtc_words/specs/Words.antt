@@ -19,6 +19,7 @@ use Rattle.mtc_words.specs.declared.name.Name.TheVariants.{Export, Quarrel}
 use Rattle.mtc_words.specs.declared.name.Name.TheVariants.{Landmark, Landmarks, LightCert}
 use Rattle.mtc_words.specs.declared.name.Name.TheVariants.{TrustLandmarks, Cert, Audit, Drill}
 use Rattle.mtc_words.specs.declared.name.Name.TheVariants.{Tile, Switch}
+use Rattle.mtc_words.specs.declared.name.Name.TheVariants.{IssueList, LightCerts, Certs}
 use Rattle.mtc_words.specs.declared.name.Name.TheVariants.{Root, Held, MonitorInit, Monitor}
 use Rattle.mtc_words.specs.declared.name.Name.TheVariants.{Help, Version}
 use Rattle.mtc_words.specs.Commands.{CommandValue, member, show, verify, init_log, issue}
@@ -28,6 +29,7 @@ use Rattle.mtc_words.specs.Commands.{is_width, is_time, is_active, is_limit, is_
 use Rattle.mtc_words.specs.Commands.{init_cosigner, advance, cosign, landmark, landmarks}
 use Rattle.mtc_words.specs.Commands.{export, light_cert, trust_landmarks, cert, audit, drill}
 use Rattle.mtc_words.specs.Commands.{quarrel, tile, switch, root, held, monitor_init, monitor}
+use Rattle.mtc_words.specs.Commands.{issue_list, light_certs, certs}
 use Rattle.mtc_words.specs.Commands.{help, version}
 use Rattle.mtc_words.specs.Names.{named_command, word_count, takes_journal, is_tiles_name}
 
@@ -138,6 +140,17 @@ command_from Drill ws = do
   Ok (drill number)
 command_from Tile ws = Ok (tile (word ws 0))
 command_from Switch ws = Ok (switch (word ws 0))
+command_from IssueList ws = Ok (issue_list (word ws 0) (word ws 1))
+command_from LightCerts ws = do
+  first ← number_word 2 is_any (word ws 1)
+  last ← number_word 3 is_any (word ws 2)
+  Ok (light_certs (word ws 0) first last)
+command_from Certs ws = do
+  first ← number_word 2 is_any (word ws 1)
+  last ← number_word 3 is_any (word ws 2)
+  start ← number_word 4 is_any (word ws 3)
+  end ← number_word 5 is_any (word ws 4)
+  Ok (certs (word ws 0) first last start end (word ws 5))
 command_from Root ws = Ok (root (word ws 0))
 command_from Held ws = Ok (held (word ws 0))
 command_from MonitorInit ws = do

@@ -194,6 +194,28 @@ fn light_cert<'a>(words: &'a [String]) -> Result<Command<'a>, WordError>
     Ok(Command::LightCert(text(words, 0), index))
 }
 
+fn light_certs<'a>(words: &'a [String]) -> Result<Command<'a>, WordError>
+    requires { length words.now ≡ word_count Name.LightCerts }
+    ensures exact { said result ≡ command_from Name.LightCerts (map string_bytes words.now) }
+    ensures range { IfOk result (λ command. IsInRange (command_value command)) }
+{
+    let first = number(words, 1)?;
+    let last = number(words, 2)?;
+    Ok(Command::LightCerts(text(words, 0), first, last))
+}
+
+fn certs<'a>(words: &'a [String]) -> Result<Command<'a>, WordError>
+    requires { length words.now ≡ word_count Name.Certs }
+    ensures exact { said result ≡ command_from Name.Certs (map string_bytes words.now) }
+    ensures range { IfOk result (λ command. IsInRange (command_value command)) }
+{
+    let first = number(words, 1)?;
+    let last = number(words, 2)?;
+    let start = number(words, 3)?;
+    let end = number(words, 4)?;
+    Ok(Command::Certs(text(words, 0), first, last, start, end, text(words, 5)))
+}
+
 // The arguments of `init-cosigner`.
 fn init_cosigner<'a>(alloc: Global, words: &'a [String]) -> Result<Command<'a>, WordError>
     requires { length words.now ≡ word_count Name.InitCosigner }
@@ -308,6 +330,9 @@ pub fn build<'a>(alloc: Global, name: Name, words: &'a [String]) -> Result<Comma
         Name::Drill => drill(words),
         Name::Tile => Ok(Command::Tile(text(words, 0))),
         Name::Switch => Ok(Command::Switch(text(words, 0))),
+        Name::IssueList => Ok(Command::IssueList(text(words, 0), text(words, 1))),
+        Name::LightCerts => light_certs(words),
+        Name::Certs => certs(words),
         Name::Root => Ok(Command::Root(text(words, 0))),
         Name::Held => Ok(Command::Held(text(words, 0))),
         Name::MonitorInit => monitor_init(alloc, words),

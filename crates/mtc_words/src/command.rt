@@ -70,6 +70,14 @@ pub enum Command<'a> {
     Tile(&'a str),
     /// `switch J`: from the size of the log on entries name the algorithm of their key.
     Switch(&'a str),
+    /// `issue-list J REQUESTS`: add the entries of several requests to the log, all or none.
+    IssueList(&'a str, &'a str),
+    /// `light-certs J FIRST LAST`: write the certificates of the entries from FIRST up to LAST,
+    /// without it, that need no signatures, as PEM.
+    LightCerts(&'a str, u64, u64),
+    /// `certs J FIRST LAST START END SIGNATURES`: write the certificates of the entries from FIRST
+    /// up to LAST, without it, in one subtree and with the cosigners' signatures, as PEM.
+    Certs(&'a str, u64, u64, u64, u64, &'a str),
     /// `root ENTRIES`: print the number of the entries of a file and their tree hash.
     Root(&'a str),
     /// `held EXPORT`: print what an export says of its cosigner.

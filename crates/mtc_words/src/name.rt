@@ -2,7 +2,8 @@
 
 ghost use Rattle.std.specs.Prelude.{◌≡◌};
 ghost use Rattle.mtc_words.specs.Names.{named_command, named_from_cosigner, named_from_landmark};
-ghost use Rattle.mtc_words.specs.Names.{named_from_monitor, takes_journal, word_count};
+ghost use Rattle.mtc_words.specs.Names.{named_from_list, named_from_monitor, takes_journal};
+ghost use Rattle.mtc_words.specs.Names.{word_count};
 
 /// The name of a command.
 #[derive(Clone, Copy)]
@@ -32,6 +33,9 @@ pub enum Name {
     Drill,
     Tile,
     Switch,
+    IssueList,
+    LightCerts,
+    Certs,
     Root,
     Held,
     MonitorInit,
@@ -89,6 +93,18 @@ fn read_landmark_name(word: &str) -> Option<Name>
         "drill" => Some(Name::Drill),
         "tile" => Some(Name::Tile),
         "switch" => Some(Name::Switch),
+        _ => read_list_name(word),
+    }
+}
+
+// The same from the commands on lists of requests and of certificates on.
+fn read_list_name(word: &str) -> Option<Name>
+    ensures { result ≡ named_from_list word.now }
+{
+    match word {
+        "issue-list" => Some(Name::IssueList),
+        "light-certs" => Some(Name::LightCerts),
+        "certs" => Some(Name::Certs),
         _ => read_monitor_name(word),
     }
 }
@@ -118,11 +134,12 @@ pub fn wanted_count(name: Name) -> usize
         Name::Export | Name::Landmark | Name::Landmarks | Name::Drill | Name::Tile => 1,
         Name::Quarrel | Name::Root | Name::Held | Name::MonitorInit | Name::Switch => 1,
         Name::Issue | Name::Entries | Name::Advance | Name::Cosign | Name::LightCert => 2,
-        Name::Verify | Name::EntriesFrom | Name::Consist => 3,
+        Name::IssueList => 2,
+        Name::Verify | Name::EntriesFrom | Name::Consist | Name::LightCerts => 3,
         Name::Keygen | Name::TrustLandmarks => 3,
         Name::InitLog | Name::Subtree | Name::Monitor => 4,
         Name::Cert | Name::Audit => 5,
-        Name::InitCosigner => 6,
+        Name::InitCosigner | Name::Certs => 6,
     }
 }
 
@@ -138,6 +155,7 @@ pub fn takes_journal(name: Name) -> bool
         Name::EntriesFrom | Name::Consist | Name::Subtree => true,
         Name::Landmark | Name::Landmarks => true,
         Name::LightCert | Name::Cert | Name::Tile | Name::Switch => true,
+        Name::IssueList | Name::LightCerts | Name::Certs => true,
         Name::InitCosigner | Name::Advance | Name::Cosign | Name::Export => true,
     }
 }
