@@ -15,7 +15,7 @@ use Rattle.mtc_command.specs.declared.answer.Stopped.TheVariants.{Missing, Beyon
 use Rattle.mtc_command.specs.declared.answer.Answer.{Answer}
 use Rattle.mtc_command.specs.declared.answer.More.{More}
 use Rattle.mtc_command.specs.declared.answer.More.TheVariants.{Nothing, Name, Number, Numbers}
-use Rattle.mtc_command.specs.declared.answer.More.TheVariants.{Hashes}
+use Rattle.mtc_command.specs.declared.answer.More.TheVariants.{Hashes, NameAndNumber}
 use Rattle.mtc_command.specs.declared.answer.Reason.{Reason}
 use Rattle.mtc_command.specs.declared.answer.Refusal.{Refusal}
 use Rattle.mtc_command.specs.declared.answer.Stop.{Stop}
@@ -82,6 +82,8 @@ abbrev pub more_text : More → Text
 more_text Nothing = []
 more_text (Name name) = codes " " ++ name.now
 more_text (Number number) = codes " " ++ decimal number
+more_text (NameAndNumber second number) =
+    codes " " ++ (second.now ++ (codes " " ++ decimal number))
 more_text (Numbers first second) = codes " " ++ (decimal first ++ (codes " " ++ decimal second))
 more_text (Hashes first second) =
     codes " " ++ (encode_lower first ++ (codes " " ++ encode_lower second))

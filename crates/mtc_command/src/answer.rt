@@ -38,6 +38,8 @@ pub enum More {
     Name(&'static str),
     Number(u64),
     Numbers(u64, u64),
+    /// As `Missing NotBefore 3`.
+    NameAndNumber(&'static str, u64),
     /// Each hash in 64 hexadecimal digits.
     Hashes([u8; 32], [u8; 32]),
 }

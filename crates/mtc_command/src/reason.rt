@@ -38,6 +38,17 @@ impl Reason {
         }
     }
 
+    /// The same with a second name and a number.
+    pub fn with_name_and_number(name: &'static str, second: &'static str, number: u64) -> Reason
+        ensures { reason_text result
+            ≡ name.now ++ (codes " " ++ (second.now ++ (codes " " ++ decimal number))) }
+    {
+        Reason {
+            name,
+            more: More::NameAndNumber(second, number),
+        }
+    }
+
     /// The same with two numbers.
     pub fn with_numbers(name: &'static str, first: u64, second: u64) -> Reason
         ensures { reason_text result
