@@ -4,6 +4,7 @@ pub mod Appends
 pub mod BadTiles
 pub mod Opened
 pub mod Issued
+pub mod IssuedLists
 pub mod Marked
 pub mod Stored
 pub mod Switched
@@ -12,9 +13,11 @@ pub mod Plain
 pub mod Both
 pub mod Replied
 pub mod Reading
+pub mod ReadingLists
 pub mod Listed
 pub mod OpenLogs
 pub mod NotOpened
 pub mod Certified
+pub mod CertifiedLists
 pub mod OnlyRead
 pub mod Requested

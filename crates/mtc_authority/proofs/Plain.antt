@@ -16,10 +16,10 @@ use Rattle.tile_store.proofs.Numbers.{full-more}
 use Rattle.tree_core.specs.Tree.{leaf_hash}
 use Rattle.authority_core.specs.Requests.{RequestParts}
 use Rattle.issuance_log.specs.Folds.{LogState, LogView, log_after_step, log_fold, log_of}
-use Rattle.issuance_log.specs.Folds.{next_log, takes_entry, takes_landmark, takes_switch, view_in}
-use Rattle.issuance_log.specs.Folds.{with_item, with_mark, with_switch}
+use Rattle.issuance_log.specs.Folds.{next_log, takes_items, takes_landmark, takes_switch, view_in}
+use Rattle.issuance_log.specs.Folds.{with_items, with_mark, with_switch}
 use Rattle.issuance_log.specs.LogSteps.{log_step}
-use Rattle.issuance_log.specs.Records.{entry_record, entry_tag, item_in, landmark_record}
+use Rattle.issuance_log.specs.Records.{added_in, entry_record, entry_tag, landmark_record}
 use Rattle.issuance_log.specs.Records.{landmark_tag, mark_in, size_in, size_record, tagged}
 use Rattle.issuance_log.specs.Records.{switch_in, tiled_in, tiles_tag}
 use Rattle.issuance_log.specs.declared.error.LogError.{LogError}
@@ -56,20 +56,21 @@ module _ (h : HashFunction) (s : LogState) (within : s.tiled ≤ length s.entrie
   Holds u = HoldsTiles h (map (leaf_hash h) u.entries) u.tiled t
 
   -- the tiles of more entries
-  longer : (entry key : Text) → Holds s → Holds (with_item entry key s)
-  longer entry key holds =
+  longer : (items : List (Text × Text)) → Holds s → Holds (with_items items s)
+  longer items holds =
+      let more = map (λ item. item.0) items in
       let leaves = map (leaf_hash h) s.entries in
       let few : s.tiled ≤ length leaves =
       subst (λ (n : ℕ). s.tiled ≤ n) (sym (length-map s.entries (leaf_hash h))) within in
-      subst (λ l. HoldsTiles h l s.tiled t) (sym (map-append (leaf_hash h) s.entries (entry ∷ [])))
-      (λ level place full. tile-longer h leaves (map (leaf_hash h) (entry ∷ [])) level place _
+      subst (λ l. HoldsTiles h l s.tiled t) (sym (map-append (leaf_hash h) s.entries more))
+      (λ level place full. tile-longer h leaves (map (leaf_hash h) more) level place _
       (full-more s.tiled (length leaves) level place few full) (holds level place full))
 
-  changed_holds : (u : LogState) (item : Option (Text × Text)) (mark switch : Option ℕ)
-      → log_after_step h s (log_step item mark None switch) ≡ Some u → Holds s → Holds u
-  changed_holds u (Some x) mark switch is holds =
-      subst Holds (when (takes_entry h (view_in s) x) (with_item x.0 x.1 s) u is)
-      (longer x.0 x.1 holds)
+  changed_holds : (u : LogState) (added : Option (List (Text × Text))) (mark switch : Option ℕ)
+      → log_after_step h s (log_step added mark None switch) ≡ Some u → Holds s → Holds u
+  changed_holds u (Some items) mark switch is holds =
+      subst Holds (when (takes_items h (view_in s) items) (with_items items s) u is)
+      (longer items holds)
   changed_holds u None (Some size) switch is holds =
       subst Holds (when (takes_landmark (view_in s) size) (with_mark s) u is) holds
   changed_holds u None None (Some index) is holds =
@@ -80,9 +81,9 @@ module _ (h : HashFunction) (s : LogState) (within : s.tiled ≤ length s.entrie
       (plain : tiled_in body ≡ None) where
     next_holds : (u : LogState) → next_log h s body ≡ Some u → Holds s → Holds u
     next_holds u is holds =
-        let said = says_so body (item_in body) (mark_in body) None (switch_in body) refl refl plain
+        let said = says_so body (added_in body) (mark_in body) None (switch_in body) refl refl plain
         refl in
-        changed_holds u (item_in body) (mark_in body) (switch_in body)
+        changed_holds u (added_in body) (mark_in body) (switch_in body)
         (sym (next_says h s body _ said) ∙ is) holds
 
     go : (u : LogState) (o : Option LogState) → next_log h s body ≡ o

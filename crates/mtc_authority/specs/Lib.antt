@@ -9,6 +9,8 @@ pub mod BadTiles
 pub mod Works
 pub mod StoredTiles
 pub mod CertCommand
+pub mod ListCommands
+pub mod ListOutcomes
 pub mod IssueCommand
 pub mod NoJournal
 pub mod OpenLogs

@@ -31,6 +31,7 @@ use Rattle.mtc_authority.specs.BadTiles.{first_bad}
 use Rattle.mtc_authority.specs.CertOutcome.{cert_reply, light_reply}
 use Rattle.mtc_authority.specs.IssueOutcome.{issue_says}
 use Rattle.mtc_authority.specs.LandmarkOutcomes.{landmark_says, landmarks_reply}
+use Rattle.mtc_authority.specs.ListOutcomes.{certs_reply, issue_list_says, light_certs_reply}
 use Rattle.mtc_authority.specs.LogOutcomes.{checkpoint_reply, entries_from_reply}
 use Rattle.mtc_authority.specs.LogOutcomes.{entries_reply}
 use Rattle.mtc_authority.specs.RequestOutcomes.{consist_reply, subtree_reply}
@@ -42,6 +43,7 @@ use Rattle.mtc_authority.specs.declared.work.Work.TheVariants.{EntriesFrom, Issu
 use Rattle.mtc_authority.specs.declared.work.Work.TheVariants.{Subtree, Landmark, Landmarks}
 use Rattle.mtc_authority.specs.declared.work.Work.TheVariants.{LightCert}
 use Rattle.mtc_authority.specs.declared.work.Work.TheVariants.{Cert, Switch, Tile}
+use Rattle.mtc_authority.specs.declared.work.Work.TheVariants.{Certs, IssueList, LightCerts}
 
 -- What comes of it: the line says that the file isn't a log, or that the file of its tiles doesn't
 -- have them, unless the device of one failed or memory was refused.
@@ -79,6 +81,11 @@ log_says h Landmarks found = answers_on found.records (landmarks_reply (view_in 
 log_says h (LightCert index) found = answers_on found.records (light_reply h index found.state)
 log_says h (Cert index start end signatures) found =
     answers_on found.records (cert_reply h index start end signatures found.state)
+log_says h (IssueList requests) found = issue_list_says h requests found
+log_says h (LightCerts first last) found =
+    answers_on found.records (light_certs_reply h first last found.state)
+log_says h (Certs first last start end signatures) found =
+    answers_on found.records (certs_reply h first last start end signatures found.state)
 log_says h Switch found = switch_says found
 log_says h Tile found = tile_says found
 

@@ -48,7 +48,7 @@ impl Model for Signatures {
 
 impl Signatures {
     // The signatures that bytes are.
-    fn read(bytes: Bytes) -> Result<Signatures, ProofError>
+    pub(crate) fn read(bytes: Bytes) -> Result<Signatures, ProofError>
         ensures { Gives (λ s. s) result (signatures_in bytes) }
     {
         match check_signatures(bytes.as_slice()) {
@@ -57,7 +57,7 @@ impl Signatures {
         }
     }
 
-    fn as_slice(&self) -> &[u8]
+    pub(crate) fn as_slice(&self) -> &[u8]
         ensures value { result.now ≡ self.now }
         ensures signed { AreSignatures result.now }
     {
@@ -130,7 +130,7 @@ pub(crate) fn light_certificate<'a, H: TreeHash, D: Disk>(
 }
 
 // Why a file doesn't hold signatures.
-fn refuse_signatures<'a>(file: &'a str, why: ProofError) -> Stop<'a>
+pub(crate) fn refuse_signatures<'a>(file: &'a str, why: ProofError) -> Stop<'a>
     ensures { stop_ending result ≡ signatures_ending file.now why }
 {
     let bad = Stopped::BadForm;

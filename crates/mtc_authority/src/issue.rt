@@ -30,7 +30,7 @@ use std::alloc::Global;
 use tree_core::TreeHash;
 
 // The line of an entry at this index.
-fn text_of_index(alloc: Global, index: u64) -> Result<Bytes, Memory>
+pub(crate) fn text_of_index(alloc: Global, index: u64) -> Result<Bytes, Memory>
     ensures { IfOk result (λ text. text ≡ issued_text index) }
 {
     Ok(Bytes::from_vec(format!(in alloc; "issued {index}\n")?.into_bytes()))
@@ -78,7 +78,7 @@ pub fn issue_on<'a, H: TreeHash, D: Disk>(
     }
 }
 
-fn field_name(field: Field) -> &'static str
+pub(crate) fn field_name(field: Field) -> &'static str
     ensures { result.now ≡ field_text field }
 {
     match field {

@@ -1,6 +1,6 @@
 //! The commands on the journal of a log: `init-log`, `issue`, `checkpoint`, `entries`,
-//! `entries-from`, `consist`, `subtree`, `landmark`, `landmarks`, `light-cert`, `cert`, `switch`
-//! and `tile`.
+//! `entries-from`, `consist`, `subtree`, `landmark`, `landmarks`, `light-cert`, `cert`, `switch`,
+//! `tile`, `issue-list`, `light-certs` and `certs`.
 //!
 //! The file system opens a journal and the file of its tiles, the log is opened over them and
 //! worked on, and both are closed ([`on_log`]); what is done with the log is a [`Work`]. A work
@@ -12,10 +12,12 @@
 #![tactic(auto)]
 
 pub mod cert;
+pub mod certs;
 mod checkpoint;
 mod entries;
 pub mod init_log;
 pub mod issue;
+pub mod issue_list;
 pub mod laws;
 mod log_command;
 mod marks;

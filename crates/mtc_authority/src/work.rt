@@ -8,8 +8,10 @@ ghost use Rattle.mtc_authority.specs.Works.{lists_items, log_says};
 ghost use Rattle.mtc_command.specs.Answers.{ending_of};
 
 use crate::cert::{Signatures, certificate, light_certificate};
+use crate::certs::{certificates, light_certificates};
 use crate::checkpoint::checkpoint;
 use crate::issue::issue_on;
+use crate::issue_list::{Requests, issue_list_on};
 use crate::marks::{list_landmarks, set_landmark};
 use crate::requests::{consist, subtree};
 use crate::switch::switch_on;
@@ -47,6 +49,14 @@ pub enum Work {
     /// The certificate of the entry at the first number, in the subtree from the second number up
     /// to the third one, with these signatures.
     Cert(u64, u64, u64, Signatures),
+    /// As many entries more as there are requests: those of the requests, in their order.
+    IssueList(Requests),
+    /// The certificates of the entries from the first number up to the second one, without it,
+    /// without signatures, as PEM.
+    LightCerts(u64, u64),
+    /// The certificates of the entries from the first number up to the second one, without it, in
+    /// the subtree from the third number up to the fourth one, with these signatures, as PEM.
+    Certs(u64, u64, u64, u64, Signatures),
     /// From the size on entries name the algorithm of their key.
     Switch,
     /// The tiles that the entries fill are stored.
@@ -82,6 +92,11 @@ pub fn carry_out<'a, H: TreeHash, D: Disk>(
         Work::LightCert(index) => light_certificate(alloc, journal, log, index),
         Work::Cert(index, start, end, signatures) => {
             certificate(alloc, journal, log, index, start, end, &signatures)
+        }
+        Work::IssueList(requests) => issue_list_on(alloc, journal, log, &requests),
+        Work::LightCerts(first, last) => light_certificates(alloc, journal, log, first, last),
+        Work::Certs(first, last, start, end, signatures) => {
+            certificates(alloc, journal, log, first, last, start, end, &signatures)
         }
         Work::Switch => switch_on(alloc, journal, log),
         Work::Tile => tile_on(alloc, journal, log),

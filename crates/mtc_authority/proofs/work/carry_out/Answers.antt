@@ -3,6 +3,7 @@ use Rattle.issuance_log.specs.Folds.{LogState, view_in}
 use Rattle.mtc_command.specs.Answers.{ending_of}
 use Rattle.mtc_authority.specs.CertOutcome.{cert_reply, light_reply}
 use Rattle.mtc_authority.specs.LandmarkOutcomes.{landmarks_reply}
+use Rattle.mtc_authority.specs.ListOutcomes.{certs_reply, light_certs_reply}
 use Rattle.mtc_authority.specs.LogOutcomes.{checkpoint_reply}
 use Rattle.mtc_authority.specs.RequestOutcomes.{consist_reply, subtree_reply}
 use Rattle.mtc_authority.specs.Works.{HasWorkedOnLog, StaysLog, log_says}
@@ -199,3 +200,60 @@ returns-in-Cert-clause-stores g c =
 
 pub returns-in-Tile-clause-stores : goal.returns-in-Tile-clause-stores
 returns-in-Tile-clause-stores g c = λ tile. c.tile_on.ensures.stores
+
+pub returns-in-LightCerts-clause-works : goal.returns-in-LightCerts-clause-works
+unfolding Rattle.mtc_authority.specs.Works.log_says
+returns-in-LightCerts-clause-works g c = subst
+    (λ (w : Work). HasWorkedOnLog c.args.journal.now (log_says g.H.TreeHash.hash w)
+    c.args.log.now c.light_certificates.new.log (ending_of c.light_certificates.result))
+    (sym c.in-LightCerts.is)
+    (worked_by _ _ _ _ (light_certs_reply g.H.TreeHash.hash _ _) c.light_certificates.ensures)
+
+pub returns-in-Certs-clause-works : goal.returns-in-Certs-clause-works
+unfolding Rattle.mtc_authority.specs.Works.log_says
+returns-in-Certs-clause-works g c = subst
+    (λ (w : Work). HasWorkedOnLog c.args.journal.now (log_says g.H.TreeHash.hash w)
+    c.args.log.now c.certificates.new.log (ending_of c.certificates.result))
+    (sym c.in-Certs.is)
+    (worked_by _ _ _ _ (certs_reply g.H.TreeHash.hash _ _ _ _ _) c.certificates.ensures)
+
+pub returns-in-IssueList-clause-works : goal.returns-in-IssueList-clause-works
+unfolding Rattle.mtc_authority.specs.Works.log_says
+returns-in-IssueList-clause-works g c = subst
+    (λ (w : Work). HasWorkedOnLog c.args.journal.now (log_says g.H.TreeHash.hash w)
+    c.args.log.now
+    c.issue_list_on.new.log (ending_of c.issue_list_on.result)) (sym c.in-IssueList.is)
+    c.issue_list_on.ensures.works
+
+pub returns-in-LightCerts-clause-valid : goal.returns-in-LightCerts-clause-valid
+returns-in-LightCerts-clause-valid g c = inl (inr c.light_certificates.ensures.stays.only_reads)
+
+pub returns-in-Certs-clause-valid : goal.returns-in-Certs-clause-valid
+returns-in-Certs-clause-valid g c = inl (inr c.certificates.ensures.stays.only_reads)
+
+pub returns-in-IssueList-clause-valid : goal.returns-in-IssueList-clause-valid
+unfolding Rattle.mtc_authority.specs.Works.log_says
+returns-in-IssueList-clause-valid g c = subst
+    (λ (w : Work). StaysLog g.H.TreeHash.hash (log_says g.H.TreeHash.hash w) c.args.log.now
+    c.issue_list_on.new.log) (sym c.in-IssueList.is) c.issue_list_on.ensures.valid
+
+pub returns-in-LightCerts-clause-only_read : goal.returns-in-LightCerts-clause-only_read
+returns-in-LightCerts-clause-only_read g c = λ other. inr c.light_certificates.ensures.stays.tiles
+
+pub returns-in-Certs-clause-only_read : goal.returns-in-Certs-clause-only_read
+returns-in-Certs-clause-only_read g c = λ other. inr c.certificates.ensures.stays.tiles
+
+pub returns-in-IssueList-clause-only_read : goal.returns-in-IssueList-clause-only_read
+returns-in-IssueList-clause-only_read g c = λ other. inl c.issue_list_on.ensures.tiles
+
+pub returns-in-LightCerts-clause-stores : goal.returns-in-LightCerts-clause-stores
+returns-in-LightCerts-clause-stores g c =
+    λ tile. absurd (let wrong = sym c.in-LightCerts.is ∙ tile in cc)
+
+pub returns-in-Certs-clause-stores : goal.returns-in-Certs-clause-stores
+returns-in-Certs-clause-stores g c =
+    λ tile. absurd (let wrong = sym c.in-Certs.is ∙ tile in cc)
+
+pub returns-in-IssueList-clause-stores : goal.returns-in-IssueList-clause-stores
+returns-in-IssueList-clause-stores g c =
+    λ tile. absurd (let wrong = sym c.in-IssueList.is ∙ tile in cc)
