@@ -29,6 +29,9 @@ pub fn against<'a>(alloc: Global, reason: Reason) -> Result<Answer, Stop<'a>>
         More::Nothing => format!(in alloc; "refused {name}\n")?,
         More::Name(second) => format!(in alloc; "refused {name} {second}\n")?,
         More::Number(number) => format!(in alloc; "refused {name} {number}\n")?,
+        More::NameAndNumber(second, number) => {
+            format!(in alloc; "refused {name} {second} {number}\n")?
+        }
         More::Numbers(first, second) => format!(in alloc; "refused {name} {first} {second}\n")?,
         More::Hashes(first, second) => {
             let first = hex::encode(alloc, first)?;
