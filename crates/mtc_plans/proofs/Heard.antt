@@ -7,7 +7,8 @@ use Rattle.byte_formats.specs.Types.{HashFunction}
 use Rattle.journal_core.specs.Folds.{Found, read_by}
 use Rattle.journal_core.specs.Format.{end_offset}
 use Rattle.authority_core.specs.Files.{request_of}
-use Rattle.authority_core.specs.Issues.{issued_entry, issued_record}
+use Rattle.authority_core.specs.Issues.{issued_batch, issued_entry, issued_items, issued_record}
+use Rattle.authority_core.specs.RequestLists.{requests_of}
 use Rattle.authority_core.specs.Requests.{RequestParts}
 use Rattle.cosigner_core.specs.Reading.{advance_in, subtree_in}
 use Rattle.cosigner_core.specs.Records.{advance_record, cosigner_record, sign_record}
@@ -17,7 +18,7 @@ use Rattle.cosigner_core.specs.declared.error.CosignError.TheVariants.{Append}
 use Rattle.issuance_log.specs.Folds.{LogView, view_in}
 use Rattle.issuance_log.specs.Openings.{FoundLog}
 use Rattle.issuance_log.specs.Records.{switch_record}
-use Rattle.issuance_log.specs.Refusals.{add_refusal, switch_refusal}
+use Rattle.issuance_log.specs.Refusals.{add_refusal, batch_refusal, switch_refusal}
 use Rattle.issuance_log.specs.declared.error.LogError.{LogError}
 use Rattle.issuance_log.specs.declared.error.LogError.TheVariants.{AlreadySwitched}
 use Rattle.mtc_command.specs.Answers.{said}
@@ -26,12 +27,13 @@ use Rattle.mtc_command.specs.Wanted.{Meets}
 use Rattle.mtc_command.specs.declared.answer.Said.{Said}
 use Rattle.mtc_command.specs.declared.answer.Said.TheVariants.{Done}
 use Rattle.mtc_command.specs.declared.answer.Stopped.TheVariants.{Beyond, NotAllowed}
-use Rattle.authority_core.specs.Reasons.{request_fault_text}
+use Rattle.authority_core.specs.Reasons.{request_fault_text, request_list_fault_text}
 use Rattle.cosigner_core.specs.Reasons.{step_fault_text, form_fault_text}
 use Rattle.issuance_log.specs.Reasons.{log_fault_text}
 use Rattle.mtc_authority.specs.IssueOutcome.{issued_text}
+use Rattle.mtc_authority.specs.ListOutcomes.{issued_lines}
 use Rattle.mtc_authority.specs.SwitchOutcome.{switched_line}
-use Rattle.mtc_authority.specs.declared.work.Work.TheVariants.{Issue, Switch}
+use Rattle.mtc_authority.specs.declared.work.Work.TheVariants.{Issue, IssueList, Switch}
 use Rattle.mtc_cosigner.specs.CosignerOutcomes.{advanced_text, cosigned_text}
 use Rattle.mtc_cosigner.specs.InitOutcome.{cosigner_settings_of}
 use Rattle.mtc_cosigner.specs.KeygenOutcome.{lms_type, ots_type, public_line}
@@ -46,10 +48,10 @@ use Rattle.mtc_plans.specs.CosignerPlans.{export_reported}
 use Rattle.mtc_plans.specs.CosignerPlans.{init_cosigner_plan, step_reported}
 use Rattle.mtc_plans.specs.Heard.{AdvancedTextsAreOfRecords, BegunTextsAreOfSecrets}
 use Rattle.mtc_plans.specs.Heard.{CosignedTextsAreOfRecords, ExportedTextsAreOfRecords}
-use Rattle.mtc_plans.specs.Heard.{HoldsSmall, IssuedTextsAreOfRecords, KeyTextsAreOfSecrets}
-use Rattle.mtc_plans.specs.Heard.{SwitchedTextsAreOfRecords}
+use Rattle.mtc_plans.specs.Heard.{HoldsSmall, IssuedListsAreOfRecords, IssuedTextsAreOfRecords}
+use Rattle.mtc_plans.specs.Heard.{KeyTextsAreOfSecrets, SwitchedTextsAreOfRecords}
 use Rattle.mtc_plans.specs.LogPlans.{work_plan}
-use Rattle.mtc_plans.specs.LogWork.{issue_reported, switch_reported, work_reported}
+use Rattle.mtc_plans.specs.LogWork.{issue_reported, list_reported, switch_reported, work_reported}
 use Rattle.mtc_plans.specs.PartyKinds.{PartyKind, PartyState, cosigner, log, party_fold}
 use Rattle.mtc_plans.specs.PartyKinds.{party_kinds}
 use Rattle.mtc_plans.specs.ReadPlans.{keygen_plan}
@@ -178,6 +180,39 @@ issued_so h files journal file status text meets =
       bytes = t.bytes;
       has_bytes = t.has_bytes;
       request = t.form;
+      asked = t.asked;
+      held = t.held;
+      there = t.there;
+      found = t.found;
+      is_log = t.is_party;
+      fits = so.0;
+      did = t.did ∙ ap (λ (m : Option (List ℕ)). opened_did t.found.records m ∷ []) so.1.0;
+      reply_is = so.1.1;
+    }
+
+-- ---- issue-list
+
+list_so : (h : HashFunction) (rs : List RequestParts) (v : LogView) (why : Option LogError)
+    (status : Said) (text : List ℕ)
+    → Meets (wanted_of (list_reported h rs v why).0) (said status text)
+    → (why ≡ None) × (((list_reported h rs v why).1 ≡ Some (issued_batch h v rs))
+    × (said status text ≡ said Done (issued_lines v.size (length rs))))
+list_so h rs v None status text meets = (refl, (refl, meets))
+list_so h rs v (Some why) status text meets =
+    absurd (not_refused status text Beyond None (log_fault_text why) meets)
+
+pub all_issued_so : IssuedListsAreOfRecords
+all_issued_so h files journal file status text meets =
+    let t = has_reported h files log only_reads journal file request_list_fault_text requests_of
+    (λ (rs : List RequestParts) (found : FoundLog). work_reported h (IssueList rs) found) status
+    text meets in
+    let v = view_in t.found.state in
+    let so = list_so h t.form v (batch_refusal v false (end_offset t.found.records)
+    (issued_items h v t.form)) status text t.meets in
+    record {
+      bytes = t.bytes;
+      has_bytes = t.has_bytes;
+      requests = t.form;
       asked = t.asked;
       held = t.held;
       there = t.there;

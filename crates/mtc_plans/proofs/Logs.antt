@@ -2,26 +2,28 @@
 use Rattle.std.proofs.Common.{◌≡◌, ℕ, List, [], ◌∷◌, Option, None, Some, refl}
 use Rattle.byte_formats.specs.Types.{HashFunction}
 use Rattle.authority_core.specs.Files.{request_of}
+use Rattle.authority_core.specs.RequestLists.{requests_of}
 use Rattle.issuance_log.specs.Openings.{FoundLog, log_read}
 use Rattle.mtc_command.specs.Answers.{tiles_name}
 use Rattle.mtc_command.specs.Steps.{Files, Outcome, held_in, with_file, with_form}
 use Rattle.mtc_authority.specs.BadTiles.{first_bad}
 use Rattle.mtc_authority.specs.CertCommand.{cert_outcome}
-use Rattle.authority_core.specs.Reasons.{request_fault_text}
+use Rattle.authority_core.specs.Reasons.{request_fault_text, request_list_fault_text}
 use Rattle.issuance_log.specs.Reasons.{log_open_text}
 use Rattle.mtc_proof.specs.Reasons.{proof_fault_text}
 use Rattle.mtc_authority.specs.CertOutcome.{signatures_in}
 use Rattle.mtc_authority.specs.IssueCommand.{issue_outcome}
+use Rattle.mtc_authority.specs.ListCommands.{certs_outcome, issue_list_outcome}
 use Rattle.mtc_authority.specs.LogOutcomes.{init_log_outcome}
 use Rattle.mtc_authority.specs.Works.{log_outcome, log_says, tested_says}
 use Rattle.mtc_authority.specs.Works.{unless_missing}
 use Rattle.mtc_authority.specs.declared.work.Work.{Work}
-use Rattle.mtc_authority.specs.declared.work.Work.TheVariants.{Cert, Issue}
+use Rattle.mtc_authority.specs.declared.work.Work.TheVariants.{Cert, Certs, Issue, IssueList}
 use Rattle.command_plans.specs.Outcomes.{outcome_of, step_outcome, unless_lacking, with_beside}
 use Rattle.command_plans.specs.Plans.{Beside, Input, only_reads}
 use Rattle.command_plans.proofs.Forms.{bytes_same, form_same}
-use Rattle.mtc_plans.specs.LogPlans.{cert_plan, init_log_plan, issue_plan}
-use Rattle.mtc_plans.specs.LogPlans.{opens_log, work_plan, work_step}
+use Rattle.mtc_plans.specs.LogPlans.{cert_plan, certs_plan, init_log_plan, issue_list_plan}
+use Rattle.mtc_plans.specs.LogPlans.{issue_plan, opens_log, work_plan, work_step}
 use Rattle.mtc_plans.specs.LogWork.{work_reported}
 use Rattle.mtc_plans.specs.PartyKinds.{log, missing_text, party_kinds}
 use Rattle.mtc_plans.specs.Steps.{small_file}
@@ -83,3 +85,24 @@ module _ (h : HashFunction) (files : Files) where
       (λ b. form_same on files (first_read one [] b) proof_fault_text (signatures_in b) _ _
       (λ signatures. opened_same h files (one ∷ []) only_reads journal
       (Cert index start end signatures)))
+
+  pub issue_list_plans : (journal requests : List ℕ)
+      → issue_list_outcome h journal requests files
+      ≡ outcome_of (issue_list_plan h journal requests) files
+  issue_list_plans journal requests =
+      let one = small_file requests in
+      let on = opens_log h only_reads journal in
+      bytes_same 16777216 requests (files requests) _ _
+      (λ b. form_same on files (first_read one [] b) request_list_fault_text (requests_of b) _ _
+      (λ rs. opened_same h files (one ∷ []) only_reads journal (IssueList rs)))
+
+  pub certs_plans : (journal : List ℕ) (first last start end : ℕ) (file : List ℕ)
+      → certs_outcome h journal first last start end file files
+      ≡ outcome_of (certs_plan h journal first last start end file) files
+  certs_plans journal first last start end file =
+      let one = small_file file in
+      let on = opens_log h only_reads journal in
+      bytes_same 16777216 file (files file) _ _
+      (λ b. form_same on files (first_read one [] b) proof_fault_text (signatures_in b) _ _
+      (λ signatures. opened_same h files (one ∷ []) only_reads journal
+      (Certs first last start end signatures)))

@@ -6,6 +6,7 @@ use Rattle.mtc_words.specs.Commands.{checkpoint, entries, entries_from, consist,
 use Rattle.mtc_words.specs.Commands.{keygen}
 use Rattle.mtc_words.specs.Commands.{init_cosigner, advance, cosign, export, landmark, landmarks}
 use Rattle.mtc_words.specs.Commands.{light_cert, trust_landmarks, cert, audit, drill, tile}
+use Rattle.mtc_words.specs.Commands.{certs, issue_list, light_certs}
 use Rattle.mtc_words.specs.Commands.{switch}
 use Rattle.mtc_words.specs.Commands.{quarrel, root, held, monitor_init, monitor}
 use Rattle.mtc_words.specs.Commands.{help, version}
@@ -13,6 +14,7 @@ use Rattle.mtc_command.specs.Steps.{Files}
 use Rattle.mtc_authority.specs.declared.work.Work.TheVariants.{Checkpoint, Consist, Entries}
 use Rattle.mtc_authority.specs.declared.work.Work.TheVariants.{EntriesFrom}
 use Rattle.mtc_authority.specs.declared.work.Work.TheVariants.{Landmark, Landmarks, LightCert}
+use Rattle.mtc_authority.specs.declared.work.Work.TheVariants.{LightCerts}
 use Rattle.mtc_authority.specs.declared.work.Work.TheVariants.{Subtree, Switch, Tile}
 use Rattle.command_plans.specs.Plans.{changes, only_reads}
 use Rattle.mtc_plans.specs.Cited.{command_outcome}
@@ -21,7 +23,8 @@ use Rattle.mtc_plans.specs.PartyKinds.{party_kinds}
 use Rattle.mtc_plans.proofs.Auditing.{audit_plans, quarrel_plans}
 use Rattle.mtc_plans.proofs.Cosigners.{advance_plans, cosign_plans, export_plans}
 use Rattle.mtc_plans.proofs.Cosigners.{init_cosigner_plans}
-use Rattle.mtc_plans.proofs.Logs.{cert_plans, init_log_plans, issue_plans, work_plans}
+use Rattle.mtc_plans.proofs.Logs.{cert_plans, certs_plans, init_log_plans, issue_list_plans}
+use Rattle.mtc_plans.proofs.Logs.{issue_plans, work_plans}
 use Rattle.mtc_plans.proofs.Reading.{drill_plans, keygen_plans, member_plans, show_plans}
 use Rattle.mtc_plans.proofs.Reading.{trust_plans, verify_plans}
 use Rattle.mtc_plans.proofs.Watching.{held_plans, monitor_init_plans, monitor_plans, root_plans}
@@ -66,6 +69,12 @@ module _ (h : HashFunction) where
   outcome_planned (drill number) files = drill_plans (party_kinds h) h number files
   outcome_planned (tile journal) files = work_plans h files changes journal Tile
   outcome_planned (switch journal) files = work_plans h files only_reads journal Switch
+  outcome_planned (issue_list journal requests) files =
+      issue_list_plans h files journal requests
+  outcome_planned (light_certs journal first last) files =
+      work_plans h files only_reads journal (LightCerts first last)
+  outcome_planned (certs journal first last start end file) files =
+      certs_plans h files journal first last start end file
   outcome_planned (root items) files = root_plans (party_kinds h) h items files
   outcome_planned (held kept) files = held_plans (party_kinds h) h kept files
   outcome_planned (monitor_init id) files = monitor_init_plans (party_kinds h) h id files

@@ -1,16 +1,20 @@
 -- What a command has to reply over a log that was found is what its plan prints.
 use Rattle.std.proofs.Common.{◌≡◌, ℕ, false, nat_le, nat_lt, not, List, length, Option, None}
 use Rattle.std.proofs.Common.{Some, refl}
-use Rattle.byte_formats.specs.Types.{HashFunction}
+use Rattle.byte_formats.specs.Types.{HashFunction, Text}
 use Rattle.journal_core.specs.Format.{end_offset}
 use Rattle.authority_core.specs.Certificates.{cert_refusal, covering_in, light_refusal}
-use Rattle.authority_core.specs.Issues.{issued_entry}
+use Rattle.authority_core.specs.Issues.{issued_entry, issued_items}
 use Rattle.authority_core.specs.Requests.{RequestParts}
+use Rattle.authority_core.specs.Several.{certs_refusal, light_certs_refusal}
+use Rattle.authority_core.specs.declared.writing.error.SeveralError.{SeveralError}
+use Rattle.authority_core.specs.declared.writing.error.SeveralError.TheVariants as several
 use Rattle.authority_core.specs.declared.writing.error.WriteError.{WriteError}
 use Rattle.authority_core.specs.declared.writing.error.WriteError.TheVariants as write_error
 use Rattle.issuance_log.specs.Folds.{LogState, view_in}
 use Rattle.issuance_log.specs.Openings.{FoundLog}
-use Rattle.issuance_log.specs.Refusals.{add_refusal, mark_refusal, switch_refusal, tile_refusal}
+use Rattle.issuance_log.specs.Refusals.{add_refusal, batch_refusal, mark_refusal}
+use Rattle.issuance_log.specs.Refusals.{switch_refusal, tile_refusal}
 use Rattle.issuance_log.specs.declared.error.LogError.{LogError}
 use Rattle.issuance_log.specs.declared.error.LogError.TheVariants as log_error
 use Rattle.tree_core.specs.Subtree.{is_subtree}
@@ -19,6 +23,8 @@ use Rattle.mtc_authority.specs.CertOutcome.{cert_refused, cert_replies, certific
 use Rattle.mtc_authority.specs.CertOutcome.{light_text}
 use Rattle.mtc_authority.specs.IssueOutcome.{issued}
 use Rattle.mtc_authority.specs.LandmarkOutcomes.{mark_refused, marked}
+use Rattle.mtc_authority.specs.ListOutcomes.{certs_text, light_certs_text, list_issued_by}
+use Rattle.mtc_authority.specs.ListOutcomes.{several_refused, several_replies}
 use Rattle.mtc_authority.specs.LogOutcomes.{entries_from_reply, entries_reply}
 use Rattle.mtc_authority.specs.RequestOutcomes.{consist_reply, subtree_reply}
 use Rattle.mtc_authority.specs.SwitchOutcome.{switch_refused, switched_by}
@@ -29,10 +35,12 @@ use Rattle.mtc_authority.specs.declared.work.Work.TheVariants.{Cert, Checkpoint,
 use Rattle.mtc_authority.specs.declared.work.Work.TheVariants.{EntriesFrom}
 use Rattle.mtc_authority.specs.declared.work.Work.TheVariants.{Issue, Landmark, Landmarks}
 use Rattle.mtc_authority.specs.declared.work.Work.TheVariants.{LightCert, Subtree, Switch, Tile}
+use Rattle.mtc_authority.specs.declared.work.Work.TheVariants.{Certs, IssueList, LightCerts}
 use Rattle.command_plans.specs.Outcomes.{wanted_of}
-use Rattle.mtc_plans.specs.LogWork.{cert_judged, consist_judged, entries_from_judged}
-use Rattle.mtc_plans.specs.LogWork.{entries_judged}
-use Rattle.mtc_plans.specs.LogWork.{issue_reported, log_judged, mark_reported, subtree_judged}
+use Rattle.mtc_plans.specs.LogWork.{cert_judged, certs_judged, consist_judged}
+use Rattle.mtc_plans.specs.LogWork.{entries_from_judged, entries_judged, issue_reported}
+use Rattle.mtc_plans.specs.LogWork.{list_reported, log_judged, mark_reported, several_judged}
+use Rattle.mtc_plans.specs.LogWork.{subtree_judged}
 use Rattle.mtc_plans.specs.LogWork.{switch_judged, switch_reported, tile_reported}
 use Rattle.mtc_plans.specs.LogWork.{work_reported, write_judged}
 use Rattle.mtc_plans.proofs.Texts.{either_same, on_list, reported_on}
@@ -66,6 +74,17 @@ switch_same : (why : LogError) → exactly (switch_refused why) ≡ wanted_of (s
 switch_same (log_error.AlreadySwitched index) = refl
 switch_same why = refl
 
+-- The text of one that has too many signatures is the same by computation; if it isn't, codes and
+-- decimal are joined by append_assoc.
+several_same : (why : SeveralError) → exactly (several_refused why) ≡ wanted_of (several_judged why)
+several_same (several.OfEntry write_error.TooManySignatures index) = refl
+several_same why = refl
+
+certs_same : (why : Option SeveralError) (text : Text)
+    → exactly (several_replies why text) ≡ wanted_of (certs_judged why text)
+certs_same None text = refl
+certs_same (Some why) text = several_same why
+
 module _ (h : HashFunction) where
   entries_same : (size : ℕ) (s : LogState)
       → exactly (entries_reply size s) ≡ wanted_of (entries_judged size s)
@@ -92,6 +111,12 @@ module _ (h : HashFunction) where
       ≡ reported_on found.records (issue_reported h r (view_in found.state) why)
   issued_same r found None = refl
   issued_same r found (Some why) = refl
+
+  list_issued_same : (rs : List RequestParts) (found : FoundLog) (why : Option LogError)
+      → list_issued_by h rs (view_in found.state) found.records why
+      ≡ reported_on found.records (list_reported h rs (view_in found.state) why)
+  list_issued_same rs found None = refl
+  list_issued_same rs found (Some why) = refl
 
   marked_same : (found : FoundLog) (why : Option LogError)
       → marked found why ≡ reported_on found.records (mark_reported (view_in found.state) why)
@@ -141,6 +166,19 @@ module _ (h : HashFunction) where
       let why = cert_refusal (view_in found.state) index start end signatures in
       let text = certificate_in h index start end signatures found.state in
       on_list found.records (cert_replies why text) (cert_judged why text) (cert_same why text)
+  work_same (IssueList requests) found = list_issued_same requests found
+      (batch_refusal (view_in found.state) false (end_offset found.records)
+      (issued_items h (view_in found.state) requests))
+  work_same (LightCerts first last) found =
+      let why = light_certs_refusal (view_in found.state) first last in
+      let text = light_certs_text h first last found.state in
+      on_list found.records (several_replies why text) (certs_judged why text)
+      (certs_same why text)
+  work_same (Certs first last start end signatures) found =
+      let why = certs_refusal (view_in found.state) first last start end signatures in
+      let text = certs_text h first last start end signatures found.state in
+      on_list found.records (several_replies why text) (certs_judged why text)
+      (certs_same why text)
   work_same Switch found =
       switched_same found (switch_refusal (view_in found.state) false (end_offset found.records))
   work_same Tile found =

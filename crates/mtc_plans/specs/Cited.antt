@@ -6,6 +6,7 @@ use Rattle.mtc_words.specs.Commands.{checkpoint, entries, entries_from, consist,
 use Rattle.mtc_words.specs.Commands.{keygen}
 use Rattle.mtc_words.specs.Commands.{init_cosigner, advance, cosign, export, landmark, landmarks}
 use Rattle.mtc_words.specs.Commands.{light_cert, trust_landmarks, cert, audit, drill, tile}
+use Rattle.mtc_words.specs.Commands.{certs, issue_list, light_certs}
 use Rattle.mtc_words.specs.Commands.{switch}
 use Rattle.mtc_words.specs.Commands.{quarrel, root, held, monitor_init, monitor}
 use Rattle.mtc_words.specs.Commands.{help, version}
@@ -25,6 +26,8 @@ use Rattle.mtc_authority.specs.declared.work.Work.TheVariants.{Checkpoint, Consi
 use Rattle.mtc_authority.specs.declared.work.Work.TheVariants.{EntriesFrom}
 use Rattle.mtc_authority.specs.declared.work.Work.TheVariants.{Subtree, Switch}
 use Rattle.mtc_authority.specs.declared.work.Work.TheVariants.{Landmark, Landmarks, LightCert, Tile}
+use Rattle.mtc_authority.specs.declared.work.Work.TheVariants.{LightCerts}
+use Rattle.mtc_authority.specs.ListCommands.{certs_outcome, issue_list_outcome}
 use Rattle.mtc_relying.specs.AuditOutcome.{audit_outcome}
 use Rattle.mtc_relying.specs.QuarrelOutcome.{quarrel_outcome}
 use Rattle.mtc_relying.specs.TrustOutcome.{trust_outcome}
@@ -72,6 +75,11 @@ command_outcome h (quarrel kept) = quarrel_outcome h kept
 command_outcome h (drill number) = λ files. drill_outcome number
 command_outcome h (tile journal) = outcome_on_log h journal Tile
 command_outcome h (switch journal) = outcome_on_log h journal Switch
+command_outcome h (issue_list journal requests) = issue_list_outcome h journal requests
+command_outcome h (light_certs journal first last) =
+    outcome_on_log h journal (LightCerts first last)
+command_outcome h (certs journal first last start end file) =
+    certs_outcome h journal first last start end file
 command_outcome h (root items) = root_outcome h items
 command_outcome h (held kept) = held_outcome h kept
 command_outcome h (monitor_init id) = λ files. monitor_init_outcome id

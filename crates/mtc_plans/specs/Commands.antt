@@ -5,6 +5,7 @@ use Rattle.mtc_words.specs.Commands.{checkpoint, entries, entries_from, consist,
 use Rattle.mtc_words.specs.Commands.{keygen}
 use Rattle.mtc_words.specs.Commands.{init_cosigner, advance, cosign, export, landmark, landmarks}
 use Rattle.mtc_words.specs.Commands.{light_cert, trust_landmarks, cert, audit, drill, tile}
+use Rattle.mtc_words.specs.Commands.{certs, issue_list, light_certs}
 use Rattle.mtc_words.specs.Commands.{switch}
 use Rattle.mtc_words.specs.Commands.{quarrel, root, held, monitor_init, monitor}
 use Rattle.mtc_words.specs.Commands.{help, version}
@@ -12,6 +13,7 @@ use Rattle.mtc_command.specs.Steps.{Files, Outcome}
 use Rattle.mtc_authority.specs.declared.work.Work.TheVariants.{Checkpoint, Consist, Entries}
 use Rattle.mtc_authority.specs.declared.work.Work.TheVariants.{EntriesFrom}
 use Rattle.mtc_authority.specs.declared.work.Work.TheVariants.{Landmark, Landmarks, LightCert}
+use Rattle.mtc_authority.specs.declared.work.Work.TheVariants.{LightCerts}
 use Rattle.mtc_authority.specs.declared.work.Work.TheVariants.{Subtree, Switch, Tile}
 use Rattle.command_plans.specs.Outcomes.{outcome_of}
 use Rattle.command_plans.specs.Plans.{Plan, changes, only_reads}
@@ -19,7 +21,8 @@ use Rattle.mtc_plans.specs.AuditPlans.{audit_plan, quarrel_plan}
 use Rattle.mtc_plans.specs.CosignerPlans.{advance_plan, cosign_plan, export_plan}
 use Rattle.mtc_plans.specs.CosignerPlans.{init_cosigner_plan}
 use Rattle.mtc_plans.specs.HelpPlans.{help_plan, version_plan}
-use Rattle.mtc_plans.specs.LogPlans.{cert_plan, init_log_plan, issue_plan, work_plan}
+use Rattle.mtc_plans.specs.LogPlans.{cert_plan, certs_plan, init_log_plan, issue_list_plan}
+use Rattle.mtc_plans.specs.LogPlans.{issue_plan, work_plan}
 use Rattle.mtc_plans.specs.PartyKinds.{party_kinds}
 use Rattle.mtc_plans.specs.ReadPlans.{drill_plan, keygen_plan, member_plan, show_plan}
 use Rattle.mtc_plans.specs.ReadPlans.{trust_plan, verify_plan}
@@ -56,6 +59,11 @@ plan_of h (quarrel kept) = quarrel_plan h kept
 plan_of h (drill number) = drill_plan number
 plan_of h (tile journal) = work_plan h changes journal Tile
 plan_of h (switch journal) = work_plan h only_reads journal Switch
+plan_of h (issue_list journal requests) = issue_list_plan h journal requests
+plan_of h (light_certs journal first last) =
+    work_plan h only_reads journal (LightCerts first last)
+plan_of h (certs journal first last start end file) =
+    certs_plan h journal first last start end file
 plan_of h (root items) = root_plan h items
 plan_of h (held kept) = held_plan h kept
 plan_of h (monitor_init id) = monitor_init_plan id

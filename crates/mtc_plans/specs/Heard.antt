@@ -1,10 +1,11 @@
--- What of its files and journals follows from the text of a command: of `issue` and `switch`, and
--- of those that open a cosigner's journal or are given a secret file.
-use Rattle.std.specs.Prelude.{◌≡◌, ◌≤◌, ℕ, false, [], ◌∷◌, length, None, Ok, Some}
+-- What of its files and journals follows from the text of a command: of `issue`, `issue-list` and
+-- `switch`, and of those that open a cosigner's journal or are given a secret file.
+use Rattle.std.specs.Prelude.{◌≡◌, ◌≤◌, ℕ, false, List, [], ◌∷◌, length, None, Ok, Some}
 use Rattle.byte_formats.specs.Types.{HashFunction, Text}
 use Rattle.journal_core.specs.Format.{end_offset}
 use Rattle.authority_core.specs.Files.{request_of}
-use Rattle.authority_core.specs.Issues.{issued_entry, issued_record}
+use Rattle.authority_core.specs.Issues.{issued_batch, issued_entry, issued_items, issued_record}
+use Rattle.authority_core.specs.RequestLists.{requests_of}
 use Rattle.authority_core.specs.Requests.{RequestParts}
 use Rattle.cosigner_core.specs.Exports.{export_text}
 use Rattle.cosigner_core.specs.Openings.{FoundCosigner, cosigner_read}
@@ -15,9 +16,9 @@ use Rattle.cosigner_core.specs.Requests.{AdvanceParts, SubtreeParts}
 use Rattle.issuance_log.specs.Folds.{view_in}
 use Rattle.issuance_log.specs.Openings.{FoundLog, log_read}
 use Rattle.issuance_log.specs.Records.{switch_record}
-use Rattle.issuance_log.specs.Refusals.{add_refusal, switch_refusal}
-use Rattle.mtc_words.specs.Commands.{advance, cosign, export, init_cosigner, issue, keygen}
-use Rattle.mtc_words.specs.Commands.{switch}
+use Rattle.issuance_log.specs.Refusals.{add_refusal, batch_refusal, switch_refusal}
+use Rattle.mtc_words.specs.Commands.{advance, cosign, export, init_cosigner, issue, issue_list}
+use Rattle.mtc_words.specs.Commands.{keygen, switch}
 use Rattle.mtc_command.specs.Answers.{Reply, said}
 use Rattle.mtc_command.specs.Made.{appended, reads, started}
 use Rattle.mtc_command.specs.Steps.{Files, Outcome}
@@ -25,6 +26,7 @@ use Rattle.mtc_command.specs.Wanted.{Meets}
 use Rattle.mtc_command.specs.declared.answer.Said.{Said}
 use Rattle.mtc_command.specs.declared.answer.Said.TheVariants.{Done}
 use Rattle.mtc_authority.specs.IssueOutcome.{issued_text}
+use Rattle.mtc_authority.specs.ListOutcomes.{issued_lines}
 use Rattle.mtc_authority.specs.SwitchOutcome.{switched_line}
 use Rattle.mtc_cosigner.specs.CosignerOutcomes.{advanced_text, cosigned_text}
 use Rattle.mtc_cosigner.specs.InitOutcome.{cosigner_settings_of}
@@ -65,6 +67,31 @@ pub record IssuesSo (h : HashFunction) (files : Files) (journal file : Text) (re
 abbrev pub IssuedTextsAreOfRecords : Type 0
 IssuedTextsAreOfRecords = (h : HashFunction) (files : Files) (journal file : Text)
     → OfSaid (planned_outcome h (issue journal file) files) (IssuesSo h files journal file)
+
+-- ---- `issue-list`
+
+-- Requests were read, a log was found that takes the entries of all of them, and they are added by
+-- one record. The text has their indexes, a line for each.
+pub record IssuesAllSo (h : HashFunction) (files : Files) (journal file : Text) (reply : Reply)
+    : Type 0 where
+  pub bytes : Text
+  pub has_bytes : HoldsSmall files file bytes
+  pub requests : List RequestParts
+  pub asked : requests_of bytes ≡ Ok requests
+  pub held : Text
+  pub there : files journal ≡ Some held
+  pub found : FoundLog
+  pub is_log : log_read h held ≡ Ok found
+  pub fits : batch_refusal (view_in found.state) false (end_offset found.records)
+      (issued_items h (view_in found.state) requests) ≡ None
+  pub did : (planned_outcome h (issue_list journal file) files).journals
+      ≡ appended found.records (issued_batch h (view_in found.state) requests) ∷ []
+  pub reply_is : reply ≡ said Done (issued_lines (view_in found.state).size (length requests))
+
+-- So it is of each text that `issue-list` may say.
+abbrev pub IssuedListsAreOfRecords : Type 0
+IssuedListsAreOfRecords = (h : HashFunction) (files : Files) (journal file : Text)
+    → OfSaid (planned_outcome h (issue_list journal file) files) (IssuesAllSo h files journal file)
 
 -- ---- `switch`
 

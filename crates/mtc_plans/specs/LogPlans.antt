@@ -9,7 +9,9 @@ use Rattle.mtc_proof.specs.Reasons.{proof_fault_text}
 use Rattle.mtc_authority.specs.CertOutcome.{signatures_in}
 use Rattle.mtc_authority.specs.LogOutcomes.{log_line, log_settings_of}
 use Rattle.mtc_authority.specs.declared.work.Work.{Work}
-use Rattle.mtc_authority.specs.declared.work.Work.TheVariants.{Cert, Issue}
+use Rattle.mtc_authority.specs.declared.work.Work.TheVariants.{Cert, Certs, Issue, IssueList}
+use Rattle.authority_core.specs.RequestLists.{requests_of}
+use Rattle.authority_core.specs.Reasons.{request_list_fault_text}
 use Rattle.command_plans.specs.Plans.{Beside, Input, Journal, Plan, Read, Step}
 use Rattle.command_plans.specs.Plans.{in_form, makes, only_reads, opens, prints, works}
 use Rattle.mtc_plans.specs.LogWork.{work_reported}
@@ -57,6 +59,35 @@ module _ (h : HashFunction) where
     inputs = small_file request ∷ [];
     journals = opens_log only_reads journal;
     steps = λ (r, none). issue_step journal r;
+  }
+
+  -- `issue-list J REQUESTS`: the requests are read, and then their entries are added.
+  abbrev pub issue_list_step : {inputs : List Input} (journal : Text) → Read inputs
+      → Step inputs (opens_log only_reads journal)
+  issue_list_step journal requests =
+      in_form requests request_list_fault_text (requests_of requests.text)
+      (λ rs. work_step only_reads journal (IssueList rs))
+
+  abbrev pub issue_list_plan : Text → Text → Plan (party_kinds h)
+  issue_list_plan journal requests = record {
+    inputs = small_file requests ∷ [];
+    journals = opens_log only_reads journal;
+    steps = λ (r, none). issue_list_step journal r;
+  }
+
+  -- `certs J FIRST LAST START END SIGNATURES`: the signatures are read, and then the certificates
+  -- are written.
+  abbrev pub certs_step : {inputs : List Input} (journal : Text) → ℕ → ℕ → ℕ → ℕ → Read inputs
+      → Step inputs (opens_log only_reads journal)
+  certs_step journal first last start end file =
+      in_form file proof_fault_text (signatures_in file.text)
+      (λ signatures. work_step only_reads journal (Certs first last start end signatures))
+
+  abbrev pub certs_plan : Text → ℕ → ℕ → ℕ → ℕ → Text → Plan (party_kinds h)
+  certs_plan journal first last start end file = record {
+    inputs = small_file file ∷ [];
+    journals = opens_log only_reads journal;
+    steps = λ (s, none). certs_step journal first last start end s;
   }
 
   -- `cert J INDEX START END SIGNATURES`: the signatures are read, and then the certificate is

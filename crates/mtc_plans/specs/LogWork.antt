@@ -5,7 +5,13 @@ use Rattle.std.specs.Fmt.{decimal}
 use Rattle.byte_formats.specs.Types.{HashFunction, Text}
 use Rattle.journal_core.specs.Format.{end_offset}
 use Rattle.authority_core.specs.Certificates.{cert_refusal, covering_in, light_refusal}
-use Rattle.authority_core.specs.Issues.{issued_entry, issued_record}
+use Rattle.authority_core.specs.Issues.{issued_batch, issued_entry, issued_items, issued_record}
+use Rattle.authority_core.specs.Reasons.{several_fault_text}
+use Rattle.authority_core.specs.Several.{certs_refusal, light_certs_refusal}
+use Rattle.authority_core.specs.declared.writing.error.SeveralError.{SeveralError}
+use Rattle.authority_core.specs.declared.writing.error.SeveralError.TheVariants as several
+use Rattle.issuance_log.specs.Refusals.{batch_refusal}
+use Rattle.mtc_authority.specs.ListOutcomes.{certs_text, issued_lines, light_certs_text}
 use Rattle.authority_core.specs.Requests.{RequestParts}
 use Rattle.authority_core.specs.declared.writing.error.WriteError.{WriteError}
 use Rattle.authority_core.specs.declared.writing.error.WriteError.TheVariants as write_error
@@ -36,6 +42,7 @@ use Rattle.mtc_authority.specs.declared.work.Work.TheVariants.{Cert, Checkpoint,
 use Rattle.mtc_authority.specs.declared.work.Work.TheVariants.{EntriesFrom}
 use Rattle.mtc_authority.specs.declared.work.Work.TheVariants.{Issue, Landmark, Landmarks}
 use Rattle.mtc_authority.specs.declared.work.Work.TheVariants.{LightCert, Subtree, Switch, Tile}
+use Rattle.mtc_authority.specs.declared.work.Work.TheVariants.{Certs, IssueList, LightCerts}
 use Rattle.command_plans.specs.Plans.{Judged, exceeds, forbids, prints}
 use Rattle.mtc_plans.specs.Steps.{StepReport, beyond_size}
 
@@ -92,12 +99,29 @@ abbrev pub cert_judged : Option WriteError → Text → Judged
 cert_judged None text = prints Done text
 cert_judged (Some why) text = write_judged why
 
+-- Why no certificates of several entries are written.
+abbrev pub several_judged : SeveralError → Judged
+several_judged (several.OfEntry write_error.TooManySignatures index) =
+    exceeds (codes "TooManySignatures " ++ decimal index)
+several_judged why = forbids (several_fault_text why)
+
+abbrev pub certs_judged : Option SeveralError → Text → Judged
+certs_judged None text = prints Done text
+certs_judged (Some why) text = several_judged why
+
 -- ---- what adds a record
 
 -- The entry of a request is added with its key, unless the log refuses it.
 abbrev pub issue_reported : HashFunction → RequestParts → LogView → Option LogError → StepReport
 issue_reported h r v None = (prints Done (issued_text v.size), Some (issued_record h v r))
 issue_reported h r v (Some why) = (exceeds (log_fault_text why), None)
+
+-- The entries of several requests are added with their keys, unless the log refuses them.
+abbrev pub list_reported : HashFunction → List RequestParts → LogView → Option LogError
+    → StepReport
+list_reported h rs v None =
+    (prints Done (issued_lines v.size (length rs)), Some (issued_batch h v rs))
+list_reported h rs v (Some why) = (exceeds (log_fault_text why), None)
 
 -- Why a log takes no landmark, and stores no tiles.
 abbrev pub log_judged : LogError → Judged
@@ -148,6 +172,19 @@ work_reported h (LightCert index) found = (
 work_reported h (Cert index start end signatures) found = (
   cert_judged (cert_refusal (view_in found.state) index start end signatures)
       (certificate_in h index start end signatures found.state),
+  None,
+)
+work_reported h (IssueList requests) found = list_reported h requests (view_in found.state)
+    (batch_refusal (view_in found.state) false (end_offset found.records)
+    (issued_items h (view_in found.state) requests))
+work_reported h (LightCerts first last) found = (
+  certs_judged (light_certs_refusal (view_in found.state) first last)
+      (light_certs_text h first last found.state),
+  None,
+)
+work_reported h (Certs first last start end signatures) found = (
+  certs_judged (certs_refusal (view_in found.state) first last start end signatures)
+      (certs_text h first last start end signatures found.state),
   None,
 )
 work_reported h Switch found = switch_reported (view_in found.state)

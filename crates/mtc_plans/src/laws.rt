@@ -16,8 +16,8 @@ ghost use Rattle.mtc_plans.specs.Cited.{command_outcome};
 ghost use Rattle.mtc_plans.specs.Commands.{plan_of, planned_outcome};
 ghost use Rattle.mtc_plans.specs.Heard.{AdvancedTextsAreOfRecords, BegunTextsAreOfSecrets};
 ghost use Rattle.mtc_plans.specs.Heard.{CosignedTextsAreOfRecords, ExportedTextsAreOfRecords};
-ghost use Rattle.mtc_plans.specs.Heard.{IssuedTextsAreOfRecords, KeyTextsAreOfSecrets};
-ghost use Rattle.mtc_plans.specs.Heard.{SwitchedTextsAreOfRecords};
+ghost use Rattle.mtc_plans.specs.Heard.{IssuedListsAreOfRecords, IssuedTextsAreOfRecords};
+ghost use Rattle.mtc_plans.specs.Heard.{KeyTextsAreOfSecrets, SwitchedTextsAreOfRecords};
 ghost use Rattle.mtc_plans.specs.PartyKinds.{party_kinds};
 ghost use Rattle.mtc_plans.specs.Streams.{StreamsAddNone, StreamsMakeNone};
 ghost use Rattle.mtc_plans.specs.Words.{journal_made_by, only_read_by};
@@ -65,15 +65,18 @@ pub fn law_commands_come()
 {}
 
 /// Where `issue` answers with a text, its request was read, its log was found and takes the entry
-/// of the request, which is added, and the text is its index. Where `switch` does, a Switch is
-/// added to a log that may be switched, and the text is its size. Where `cosign` does, a Sign
-/// record is added with the next one-time key, and the text is the signature by that; where
-/// `advance` does, an Advance record, and the text is the size of the request. The text of `export`
+/// of the request, which is added, and the text is its index. Where `issue-list` does, its requests
+/// were read, and its log takes the entries of all of them: they are added by one record, and the
+/// text is their indexes, a line for each. Where `switch` does, a Switch is added to a log that may
+/// be switched, and the text is its size. Where `cosign` does, a Sign record is added with the next
+/// one-time key, and the text is the signature by that; where `advance` does, an Advance record,
+/// and the text is the size of the request. The text of `export`
 /// is what others may know of the cosigner that was found, and no record is added. The text of
 /// `keygen` and of `init-cosigner` is the public key of the secret that was read, and the new
 /// cosigner's first record is of that secret.
 pub fn law_texts_are_of_their_records()
     ensures issue { IssuedTextsAreOfRecords }
+    ensures issue_list { IssuedListsAreOfRecords }
     ensures switch { SwitchedTextsAreOfRecords }
     ensures cosign { CosignedTextsAreOfRecords }
     ensures advance { AdvancedTextsAreOfRecords }

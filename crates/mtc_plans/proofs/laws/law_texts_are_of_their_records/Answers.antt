@@ -1,9 +1,12 @@
 use Rattle.mtc_plans.proofs.Heard.{advanced_so, begun_so, cosigned_so, exported_so, issued_so}
-use Rattle.mtc_plans.proofs.Heard.{keyed_so, switched_so}
+use Rattle.mtc_plans.proofs.Heard.{all_issued_so, keyed_so, switched_so}
 use Rattle.mtc_plans.proofs.laws.law_texts_are_of_their_records.Goals as goal
 
 pub returns-clause-issue : goal.returns-clause-issue
 returns-clause-issue c = issued_so
+
+pub returns-clause-issue_list : goal.returns-clause-issue_list
+returns-clause-issue_list c = all_issued_so
 
 pub returns-clause-switch : goal.returns-clause-switch
 returns-clause-switch c = switched_so
