@@ -78,6 +78,12 @@ fn pieces_of<'x>(
         More::Nothing => (none, none, none, none),
         More::Name(name) => (blank, name.as_bytes(), none, none),
         More::Number(number) => (blank, numbers.0.format(number).as_bytes(), none, none),
+        More::NameAndNumber(name, number) => (
+            blank,
+            name.as_bytes(),
+            blank,
+            numbers.0.format(number).as_bytes(),
+        ),
         More::Numbers(one, two) => (
             blank,
             numbers.0.format(one).as_bytes(),

@@ -23,8 +23,10 @@ use crate::ending::Ended;
 use crate::finish::{conclude, conclude_written};
 use crate::refused_words::word_reason;
 use mtc_authority::cert::cert;
+use mtc_authority::certs::certs;
 use mtc_authority::init_log::init_log;
 use mtc_authority::issue::issue;
+use mtc_authority::issue_list::issue_list;
 use mtc_authority::{Work, on_log, stream_log};
 use mtc_command::{Answer, Stop, Stopped, refuse};
 use mtc_cosigner::export::export;
@@ -139,8 +141,7 @@ fn perform<'a, H: TreeHash, R: Room>(
         Command::InitLog(log, id, active, limit) => init_log(alloc, room, log, id, active, limit),
         Command::Issue(journal, request) => issue::<H, R>(alloc, room, journal, request),
         Command::Checkpoint(log) => on_log::<H, R>(alloc, room, log, Work::Checkpoint),
-        Command::Entries(_, _) => unreachable!(),
-        Command::EntriesFrom(_, _, _) => unreachable!(),
+        Command::Entries(_, _) | Command::EntriesFrom(_, _, _) => unreachable!(),
         Command::Consist(log, old, to) => on_log::<H, R>(alloc, room, log, Work::Consist(old, to)),
         Command::Subtree(log, start, end, size) => {
             on_log::<H, R>(alloc, room, log, Work::Subtree(start, end, size))
@@ -156,6 +157,13 @@ fn perform<'a, H: TreeHash, R: Room>(
         Command::LightCert(log, index) => on_log::<H, R>(alloc, room, log, Work::LightCert(index)),
         Command::Cert(journal, index, start, end, signatures) => {
             cert::<H, R>(alloc, room, journal, index, start, end, signatures)
+        }
+        Command::IssueList(log, requests) => issue_list::<H, R>(alloc, room, log, requests),
+        Command::LightCerts(log, first, last) => {
+            on_log::<H, R>(alloc, room, log, Work::LightCerts(first, last))
+        }
+        Command::Certs(journal, first, last, start, end, signatures) => {
+            certs::<H, R>(alloc, room, journal, first, last, start, end, signatures)
         }
         Command::Switch(log) => on_log::<H, R>(alloc, room, log, Work::Switch),
         Command::Tile(log) => on_log::<H, R>(alloc, room, log, Work::Tile),

@@ -9,6 +9,7 @@ use Rattle.mtc_words.specs.declared.command.Command.TheVariants.{Cosign, Export,
 use Rattle.mtc_words.specs.declared.command.Command.TheVariants.{Landmarks, LightCert}
 use Rattle.mtc_words.specs.declared.command.Command.TheVariants.{TrustLandmarks, Cert, Audit}
 use Rattle.mtc_words.specs.declared.command.Command.TheVariants.{Quarrel, Drill, Tile, Switch}
+use Rattle.mtc_words.specs.declared.command.Command.TheVariants.{IssueList, LightCerts, Certs}
 use Rattle.mtc_words.specs.declared.command.Command.TheVariants.{Root, Held, MonitorInit, Monitor}
 use Rattle.mtc_words.specs.declared.command.Command.TheVariants.{Help, Version}
 use Rattle.mtc_top.proofs.Spared.{spared}
@@ -96,6 +97,12 @@ perform_reading-requires-clause-alone g c = go c.args.command refl
     go (Drill number) is = refl
     go (Tile journal) is = absurd (c.in_default.not-Tile journal is)
     go (Switch journal) is = absurd (c.in_default.not-Switch journal is)
+    go (IssueList journal requests) is =
+        absurd (c.in_default.not-IssueList journal requests is)
+    go (LightCerts journal first last) is =
+        absurd (c.in_default.not-LightCerts journal first last is)
+    go (Certs journal first last start end signatures) is =
+        absurd (c.in_default.not-Certs journal first last start end signatures is)
     go (Root items) is = refl
     go (Held kept) is = refl
     go (MonitorInit id) is = refl
