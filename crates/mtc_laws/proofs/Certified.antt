@@ -40,7 +40,7 @@ covered_if false true o is = let wrong : Some NullEntry ≡ None = is in absurd 
 covered_if false false None is = let wrong : Some NotCovered ≡ None = is in absurd cc
 covered_if false false (Some span) is = (span, refl)
 
-covered : (v : LogView) (index : ℕ) → light_refusal v index ≡ None
+pub covered : (v : LogView) (index : ℕ) → light_refusal v index ≡ None
     → (span : Span) × (covering_in v index ≡ Some span)
 unfolding light_refusal
 covered v index is = covered_if (nat_le v.size index) (index == 0) (covering_in v index) is

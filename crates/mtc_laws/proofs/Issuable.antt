@@ -175,12 +175,14 @@ can_be_in ms r is bytes =
 no_request : (why : RequestError) (r : RequestParts) → Err why ≡ Ok r → ⊥
 no_request why r is = cc
 
+-- of the tree of a text
+pub can_be_of : (o : Option Members) (r : RequestParts) → request_of_tree o ≡ Ok r → IsBytes r.key
+    → CanBeIssued r
+can_be_of None r is bytes = absurd (no_request _ r is)
+can_be_of (Some ms) r is bytes =
+    can_be_in ms r (pass_ok (has_only request_keys ms) (request_in ms) _ r is).1 bytes
+
 pub can_be_issued : (text : Text) (r : RequestParts) → request_of text ≡ Ok r → IsBytes r.key
     → CanBeIssued r
 unfolding request_of
-can_be_issued text r is bytes = go (tree_of text) is
-  where
-    go : (o : Option Members) → request_of_tree o ≡ Ok r → CanBeIssued r
-    go None is = absurd (no_request _ r is)
-    go (Some ms) is =
-        can_be_in ms r (pass_ok (has_only request_keys ms) (request_in ms) _ r is).1 bytes
+can_be_issued text r is bytes = can_be_of (tree_of text) r is bytes

@@ -21,18 +21,23 @@ pub mod Together
 pub mod TilesBeside
 pub mod LogLeaves
 pub mod TilesStay
+mod AcceptedLists
 mod Acceptances
+mod Bundled
 mod CertTexts
 mod Certified
 mod Counted
 mod Covering
 mod Issuable
+mod Listed
+mod PemTexts
 pub mod KilledRuns
 mod Monitored
 mod PathHashes
 mod PrintedSignatures
 mod RecordBytes
 mod Recordings
+mod Requested
 mod SoundLogs
 mod Unrefused
 mod ValidStores

@@ -9,13 +9,12 @@ use Rattle.byte_formats.proofs.Steps.{bind_ok, ok_is, some_or_ok}
 use Rattle.journal_core.specs.Folds.{taken_from}
 use Rattle.tls_wire.specs.Arcs.{IsAnchorId}
 use Rattle.issuance_log.specs.Folds.{LogState, begun_log, log_fold, log_of, new_log, next_log}
-use Rattle.issuance_log.specs.Items.{HasShortItem}
-use Rattle.issuance_log.specs.Records.{item_in, settings_in}
+use Rattle.issuance_log.specs.Records.{settings_in}
 use Rattle.issuance_log.specs.Rules.{IsFirst}
 use Rattle.issuance_log.specs.Settings.{Settings}
 use Rattle.issuance_log.specs.Sound.{IsSound}
 use Rattle.issuance_log.proofs.After.{only_begins}
-use Rattle.issuance_log.proofs.Encoded.{item_takes}
+use Rattle.issuance_log.proofs.Encoded.{added_short}
 use Rattle.issuance_log.proofs.Keeping.{sound_new, sound_next}
 
 -- It is sound, and its id is an anchor id.
@@ -29,10 +28,6 @@ FirstsKeepToRules = (body : Text) (s : LogState) → IsBytes body → begun_log 
     → IsFirst body s
 
 module _ (h : HashFunction) where
-  short_item : (body : Text) → IsBytes body → HasShortItem (item_in body)
-  short_item body bytes =
-      λ entry key is. let takes = item_takes body entry key bytes is in (takes.1, takes.2)
-
   sound_after : (k : ℕ) (s t : LogState) (bodies : List Text) → IsSound h s
       → AllByRecursion IsBytes bodies → taken_from (log_fold h) k s bodies ≡ Ok t → IsSound h t
   unfolding taken_from
@@ -42,7 +37,7 @@ module _ (h : HashFunction) where
       (λ (u : LogState). taken_from (log_fold h) (k + 1) u bodies) t is in
       let next = some_or_ok k (next_log h s body) step.0 step.1 in
       sound_after (k + 1) step.0 t bodies
-      (sound_next h s step.0 body sound (short_item body bytes.0) next) bytes.1 step.2
+      (sound_next h s step.0 body sound (added_short body bytes.0) next) bytes.1 step.2
 
   -- ---- a whole log
 

@@ -12,7 +12,7 @@ use Rattle.log_entry.specs.Forms.{form_at}
 use Rattle.policy_core.specs.Judgement.{form_by, is_in}
 use Rattle.policy_core.specs.declared.cosigners.Known.{Known}
 use Rattle.policy_core.specs.declared.store.Store.{Store}
-use Rattle.issuance_log.specs.Folds.{view_in}
+use Rattle.issuance_log.specs.Folds.{LogState, view_in}
 use Rattle.cosigner_core.specs.Reading.{subtree_in}
 use Rattle.cosigner_core.specs.Requests.{SubtreeParts}
 use Rattle.cosigner_core.specs.declared.settings.CosignerSettings.{CosignerSettings}
@@ -60,11 +60,9 @@ module _ (h : HashFunction) (p : Program) where
         ⊎ ((command_of run.words ≡ Ok (light_cert name index))
         × ((signatures ≡ []) × (covering_in (view_in prints.state) index ≡ Some span)))
 
-  -- The tree hash of the log's entries in its subtree.
-  abbrev pub certified_hash : {name : Text} {index : ℕ} {old : p.R} {run : Run p.R p.O p.E}
-      → WritesCertificate name index old run → Hash
-  certified_hash {name} {index} {old} {run} c =
-      tree_hash h (part_of c.prints.state.entries c.span.start c.span.end)
+  -- The tree hash of the log's entries in a subtree.
+  abbrev pub certified_hash : LogState → Span → Hash
+  certified_hash s span = tree_hash h (part_of s.entries span.start span.end)
 
   -- ---- the signatures
 
@@ -117,20 +115,20 @@ module _ (h : HashFunction) (p : Program) where
 
   -- ---- the store
 
-  -- The store is for the log of the certificate, and gives the index the form that the log gives
-  -- it. It doesn't revoke the entry, and holds no other hash for the subtree. It trusts the subtree
-  -- with the log's hash; or its rules are met by the signatures, or by those of them that runs of
-  -- `cosign` printed.
-  pub record Backs {name : Text} {index : ℕ} {old : p.R} {run : Run p.R p.O p.E}
-      (c : WritesCertificate name index old run) (store : Store) : Type 0 where
-    pub log : store.log ≡ c.prints.state.settings.id
-    pub form : form_by store index ≡ form_at c.prints.state.switched index
+  -- The store is for this log, and gives the index the form that the log gives it. It doesn't
+  -- revoke the entry, and holds no other hash for the subtree of its certificate. It trusts the
+  -- subtree with the log's hash; or its rules are met by the signatures, or by those of them that
+  -- runs of `cosign` printed.
+  pub record Backs (s : LogState) (index : ℕ) (span : Span) (signatures : Text)
+      (are : AreSignatures signatures) (store : Store) : Type 0 where
+    pub log : store.log ≡ s.settings.id
+    pub form : form_by store index ≡ form_at s.switched index
     pub not_revoked : AllByRecursion (λ range. is_in index range ≡ false) store.revoked
-    pub no_other : HoldsNoOther store c.span.start c.span.end (certified_hash c)
-    pub enough : Trusts store c.span.start c.span.end (certified_hash c)
+    pub no_other : HoldsNoOther store span.start span.end (certified_hash s span)
+    pub enough : Trusts store span.start span.end (certified_hash s span)
         ⊎ (IsSatisfied store
-        (proof_for h c.prints.state index c.span.start c.span.end c.signatures) (certified_hash c)
-        ⊎ HaveCosigned store c.span.start c.span.end (certified_hash c) c.are.list)
+        (proof_for h s index span.start span.end signatures) (certified_hash s span)
+        ⊎ HaveCosigned store span.start span.end (certified_hash s span) are.list)
 
   -- ---- the law
 
@@ -143,7 +141,8 @@ module _ (h : HashFunction) (p : Program) where
       (issued : HasIssued h p name file before earlier)
       × (length issued.state.entries ≡ index
       → (store : Store) (unix_time : ℕ) (room : p.R) (verifying : Run p.R p.O p.E)
-      → HasVerified h p bytes store unix_time room verifying → Backs c store
+      → HasVerified h p bytes store unix_time room verifying
+      → Backs c.prints.state index c.span c.signatures c.are store
       → issued.request.validity.not_before ≤ℤ pos unix_time
       → pos unix_time ≤ℤ issued.request.validity.not_after
       → PrintsAccepted h p index verifying)

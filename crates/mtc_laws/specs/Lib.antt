@@ -13,3 +13,5 @@ pub mod CountLaws
 pub mod Killed
 pub mod MonitorLaws
 pub mod RecordedTwice
+pub mod ListLaws
+pub mod PemLaws

@@ -9,5 +9,6 @@
 pub mod certificates;
 pub mod killed;
 pub mod laws;
+pub mod lists;
 pub mod monitors;
 pub mod recorded;
