@@ -57,6 +57,23 @@ stops 0 0 0 0 8
 then 16
 ";
 
+/// Two entries by one record: each crash state has both, or none.
+pub const ISSUE_LIST: &str = "
+run issue-list j q
+device j
+journal j
+limit 64
+old HEADER LOG
+record 01 00000169 06 0002 2*ITEM
+ask checkpoint j
+before| size 1
+before| root 709e80c88487a2411e1ee4dfb9f22a861492d20c4765150c0c794abd70f8147c
+after| size 3
+after| root f2ce814f4c469cc3345b4e09f337f46d4dce10d0c521d1ce15fdbef35d11002a
+stops 0 0 0 0 8
+then 16
+";
+
 pub const LANDMARK: &str = "
 run landmark j
 device j

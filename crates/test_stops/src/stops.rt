@@ -1,8 +1,8 @@
 //! Each stop of a command, and sixteen of the crash states that it may leave.
 
 use crate::cases::{
-    ADVANCE, COSIGN, COSIGN_AGAIN, ISSUE, LANDMARK, NEW_COSIGNER, NEW_LOG, SWITCH, TILE,
-    TILE_COMMIT, TILES,
+    ADVANCE, COSIGN, COSIGN_AGAIN, ISSUE, ISSUE_LIST, LANDMARK, NEW_COSIGNER, NEW_LOG, SWITCH,
+    TILE, TILE_COMMIT, TILES,
 };
 use crate::coded::{coded, field, lines, numbers};
 use crate::files::{Answer, CrashState, Files, Stopped};
@@ -140,10 +140,14 @@ fn place_coded(alloc: Global, files: &mut Files, name: &str, words: &str) -> Opt
     files.place(name, coded(alloc, words)?.as_slice())
 }
 
-// A file system with a request, a secret, and what a cosigner is asked to hold and to sign.
+// A file system with a request, a list that has it twice, a secret, and what a cosigner is asked to
+// hold and to sign.
 fn with_inputs(alloc: Global) -> Option<Files> {
     let mut files = Files::new(alloc);
     files.place("r", REQUEST.as_bytes())?;
+    let table = format!(in alloc; "[[request]]\n{REQUEST}").ok()?;
+    let list = format!(in alloc; "{table}{table}").ok()?;
+    files.place("q", list.as_bytes())?;
     for (name, words) in [("f", "SECRET"), ("a", "TO_1024"), ("t", "ALL")] {
         place_coded(alloc, &mut files, name, words)?;
     }
@@ -307,6 +311,12 @@ fn a_new_log_stops(rt: HostRuntime) {
 #[test]
 fn an_issue_stops(rt: HostRuntime) {
     let wrong = wrong_stop(rt.alloc(), ISSUE);
+    assert!(rt; wrong == None, "{wrong:?}");
+}
+
+#[test]
+fn entries_of_a_list_stop(rt: HostRuntime) {
+    let wrong = wrong_stop(rt.alloc(), ISSUE_LIST);
     assert!(rt; wrong == None, "{wrong:?}");
 }
 
