@@ -28,11 +28,12 @@ REQUEST = f'{DATES}dns = ["{{}}.example", "*.b.example"]\ncommon_name = "b"\nkey
 COMMANDS = [
     "frob", "member first.member", "member absent", "show cert", "verify cert store " + NOW,
     "verify light trusting " + NOW, "verify cert trusting " + NOW, "init-log new 32473.1 2 32",
-    "init-log log 32473.1 2 32", "issue log request", "issue log wrong", "checkpoint log", "entries log 5", "entries long 3", "entries-from log 3 5", "entries-from log 5 5",
+    "init-log log 32473.1 2 32", "issue log request", "issue log wrong", "issue-list log requests", "issue-list log wrong", "checkpoint log", "entries log 5", "entries long 3",
+    "entries-from log 3 5", "entries-from log 5 5",
     "consist log 3 5", "subtree log 0 4 5", "keygen 5 4 secret", "init-cosigner new 32473.2 32473.1 5 4 secret",
     "advance early advance", "cosign cosigner subtree", "cosign early subtree", "export cosigner", "landmark log",
-    "landmarks log", "light-cert log 2", "light-cert log 4", "trust-landmarks list 2 entries",
-    "cert log 2 0 4 signatures", "audit cert store " + NOW + " entries export",
+    "landmarks log", "light-cert log 2", "light-cert log 4", "light-certs log 1 4", "light-certs log 1 5",
+    "trust-landmarks list 2 entries", "cert log 2 0 4 signatures", "certs log 1 4 0 4 signatures", "certs log 3 5 0 4 empty", "audit cert store " + NOW + " entries export",
     "audit light trusting " + NOW + " entries empty", "audit light trusting " + NOW + " few empty", "quarrel export", "quarrel empty",
     "quarrel entries", "drill 7", "root entries", "root export", "held export", "held empty", "held entries",
     "monitor-init 32473.1", "monitor state watch advance entries", "monitor state watch advance few", "monitor watch watch advance entries",
@@ -88,7 +89,8 @@ def make_files(folder):
     """The files of all commands."""
     make_long_log(folder)
     make_log(folder)
-    for name, text in (("empty", b""), ("state", b"state 32473.1 0\n"), ("watch", b"b.example\n"), ("secret", bytes(range(48))), ("wrong", REQUEST.format("-a").encode())):
+    for name, text in (("empty", b""), ("state", b"state 32473.1 0\n"), ("watch", b"b.example\n"), ("secret", bytes(range(48))), ("wrong", REQUEST.format("-a").encode()),
+                       ("requests", "".join(f"[[request]]\n{REQUEST.format(name)}" for name in "ab").encode())):
         (folder.path / name).write_bytes(text)
     for name in ("member", "cert", "journal"):
         shutil.copy(ROOT / f"examples/first.{name}", folder.path / f"first.{name}")

@@ -23,6 +23,8 @@ request 2049-12-31T23:59:59Z 2050-01-01T00:00:00Z '"*.b.example", "c.example"' $
     MCowBQYDK2VwAyEAAQEBAQEBAQEBAQEBAQEBAQEBAQEBAQEBAQEBAQEBAQE= >s
 request 2026-01-08T00:00:00Z 2026-01-01T00:00:00Z '"a.example"' '' "$key" >t
 request 2026-01-01T00:00:00Z 2026-01-08T00:00:00Z '"-a.example"' '' "$key" >u
+printf '[[request]]\n%s\n[[request]]\n%s\n' "$(<r)" "$(<s)" >R
+printf '[[request]]\n%s\n[[request]]\n%s\n' "$(<r)" "$(<t)" >T
 printf %048d 0 >secret
 printf '[log]\nid = "32473.1"\n' | tee store >other
 printf '[[%s]]\n%s\n%s\n' cosigner 'id = "32473.2"' 'key = "AAAAAQAAAAUAAAADMDAwMDAwMDAwMDAwMDAwMIB1NLdgPEPM0E/kvwFyxip3db1CJTKwvsyumrhWwUuV"' \
@@ -272,6 +274,30 @@ switch k|7|-|mtc: switch: k: Absent
 switch w|2|-|mtc: switch: w: BadRecord 0
 switch C r|1|-|mtc: switch: WrongCount 2 1
 switch C.tiles|1|-|mtc: switch: TilesName 1
+init-log H 32473.1 2 64|0|d2ef99de8024e444|
+issue-list H r|2|-|mtc: issue-list: r: UnknownKey
+issue-list H T|2|-|mtc: issue-list: T: DatesReversed 1
+issue-list H empty|2|-|mtc: issue-list: empty: Missing Requests
+issue-list H k|7|-|mtc: issue-list: k: Absent
+issue-list k R|7|-|mtc: issue-list: k: Absent
+issue-list H.tiles R|1|-|mtc: issue-list: TilesName 1
+checkpoint H|0|c931cd8221615ff2|
+issue-list H R|0|692fb4dd3df54df0|
+checkpoint H|0|0eedf9c50912344e|
+entries H 3|0|a183d917c04cb5db|
+certs H 1 3 0 4 empty|4|-|mtc: certs: Beyond 3 1
+certs H 1 3 0 2 empty|4|-|mtc: certs: Outside 2
+certs H 0 2 0 2 empty|4|-|mtc: certs: NullEntry 0
+certs H 2 2 0 2 empty|4|-|mtc: certs: NothingNew
+certs H 1 2 0 2 secret|2|-|mtc: certs: secret: Short 0
+certs H 1 2 0 2|1|-|mtc: certs: WrongCount 5 6
+certs H 1 2 0 2 empty|0|ffd2c075f03f6603|
+light-certs H 1 3|4|-|mtc: light-certs: NotCovered 1
+landmark H|0|168b23993494f42f|
+light-certs H 1 3|0|bbad0ed1df1ebaad|
+light-certs H 1 4|4|-|mtc: light-certs: NoSuchEntry 3
+light-certs H 01 2|1|-|mtc: light-certs: BadNumber 2
+issue-list w R|2|-|mtc: issue-list: w: BadRecord 0
 drill 7|0|bdada2c469064269|
 drill 7|0|bdada2c469064269|
 drill|1|-|mtc: drill: WrongCount 0 1

@@ -13,7 +13,7 @@ HEADER = b"mtc-journal/v1\n\0"
 # So many entries fill a tile; the log of a scene has one more.
 TILE = 256
 # The tags of records (docs/FORMATS.md, "Journals").
-ENTRY, LANDMARK, TILES, SWITCH, ADVANCE, SIGN = 0x02, 0x03, 0x04, 0x05, 0x12, 0x13
+ENTRY, LANDMARK, TILES, SWITCH, BATCH, ADVANCE, SIGN = 0x02, 0x03, 0x04, 0x05, 0x06, 0x12, 0x13
 LOG_BEGINS, COSIGNER_BEGINS = 0x01, 0x11
 
 
@@ -37,6 +37,7 @@ COMMANDS = [
     Command("init-log new 32473.1 2 100000", "log 32473.1\n", begins=LOG_BEGINS),
     Command("init-cosigner new 32473.2 32473.1 5 4 secret", begins=COSIGNER_BEGINS),
     Command("issue j r", "issued 257\n", adds=ENTRY),
+    Command("issue-list j list", "issued 257\nissued 258\n", adds=BATCH),
     Command("landmark j", "landmark 2 257\n", adds=LANDMARK, again="mtc: landmark: NothingNew\n"),
     Command("tile j", "tiled 256\n", adds=TILES, again="mtc: tile: NothingNew\n"),
     Command("switch j", "switched 257\n", adds=SWITCH, again="mtc: switch: AlreadySwitched 257\n"),
@@ -44,7 +45,7 @@ COMMANDS = [
     Command("cosign s part", adds=SIGN),
     Command("checkpoint j"), Command("entries j 2"), Command("entries-from j 2 257"), Command("consist j 1 257"),
     Command("subtree j 0 4 257"), Command("landmarks j", "1 1\n256\n0\n"), Command("light-cert j 1"),
-    Command("cert j 1 0 4 none"), Command("export s"),
+    Command("light-certs j 1 3"), Command("cert j 1 0 4 none"), Command("certs j 1 3 0 4 none"), Command("export s"),
 ]
 BEGINNING = [command for command in COMMANDS if command.begins]
 ADDING = [command for command in COMMANDS if command.adds]
@@ -61,6 +62,7 @@ class Scene(Folder):
         super().__init__(program)
         self.write("secret", bytes(range(48)))
         self.write("none", b"")
+        self.write("list", 2 * (b"[[request]]\n" + self.bytes("r")))
         self.long_log(TILE)
         self.said("landmark j")
         self.write("first", self.said(f"consist j 0 {TILE}"))

@@ -116,22 +116,23 @@ class Judged(Scene):
 
     def __init__(self, program):
         super().__init__(program)
-        for file, words in (("light", "light-cert j 1"), ("list", "landmarks j"), ("entries", "entries j 257"),
+        for file, words in (("light", "light-cert j 1"), ("marks", "landmarks j"), ("entries", "entries j 257"),
                             ("export", "export s"), ("state", f"monitor-init {LOG}"), ("all", "consist j 0 257")):
             self.write(file, self.said(words))
         self.write("watch", b"example\n")
-        self.write("trusting", f'[log]\nid = "{LOG}"\n'.encode() + self.said("trust-landmarks list 2 entries"))
+        self.write("trusting", f'[log]\nid = "{LOG}"\n'.encode() + self.said("trust-landmarks marks 2 entries"))
         self.write("member", (ROOT / "examples/first.member").read_bytes())
         self.kept = self.files()
 
 
 # The words of docs/COMMANDS.md that are inputs, and commands with such words and what they print where that is a line.
-INPUTS = ["FILE", "CERT", "STORE", "REQUEST", "SECRET", "SIGNATURES", "LIST", "ENTRIES", "EXPORT"]
+INPUTS = ["FILE", "CERT", "STORE", "REQUEST", "REQUESTS", "SECRET", "SIGNATURES", "LIST", "ENTRIES", "EXPORT"]
 READING = [
     ("member member", "member 0\n"), ("show light", None), (f"verify light trusting {NOW}", "accepted 1\n"),
     ("keygen 5 4 secret", None), (f"init-cosigner new {COSIGNER} {LOG} 5 4 secret", None), ("issue j r", "issued 257\n"),
-    ("advance s forward", "advanced 257\n"), ("cosign s part", None), ("cert j 1 0 4 none", None),
-    ("trust-landmarks list 2 entries", None), (f"audit light trusting {NOW} entries none", "stands 1\n"),
+    ("issue-list j list", "issued 257\nissued 258\n"), ("advance s forward", "advanced 257\n"), ("cosign s part", None),
+    ("cert j 1 0 4 none", None), ("certs j 1 3 0 4 none", None),
+    ("trust-landmarks marks 2 entries", None), (f"audit light trusting {NOW} entries none", "stands 1\n"),
     ("quarrel export", "agree\n"), ("root entries", None), ("held export", None), ("monitor state watch all entries", None),
 ]
 # A file given as a pipe, in a shell. Where the program doesn't open it, the writer waits for ever: so many seconds are enough.

@@ -3,12 +3,13 @@
 Words name files by their bytes in `files`, of which those that are written are changed there. Nothing fails but by them.
 """
 
+import base64
 from datetime import UTC, datetime
 
 from . import auditing, certificate, cosigner, entry, journal, judging, log, merkle, proof, request, store
 from .fault import Fault
 
-EMPTY_NAME, PRINTED = b"\x30\0", range(0x21, 0x7F)
+EMPTY_NAME, PRINTED, MOST_ITEM = b"\x30\0", range(0x21, 0x7F), 65_535
 
 
 class Refused(Exception):
@@ -119,6 +120,25 @@ def issue(words, files):
     return lines(f"issued {held.size}")
 
 
+def fitting(items):
+    """How many of the first items one record holds."""
+    return next((count for count in range(len(items)) if len(log.batch_body(items[:count + 1])) > journal.MOST), len(items))
+
+
+def issue_list(words, files):
+    _, name, file = words
+    asked = checked(words, file, 2, request.read_list, files[file])
+    held = opened_log(words, files)
+    items = [(request.entry(one, store.id_text(held.id), held.form), one.key) for one in asked]
+    faults = [("Full", held.size + len(items) > held.limit), (f"TooMany {fitting(items)}", fitting(items) < len(items)),
+              ("TooLarge", any(len(text) + len(key) > MOST_ITEM for text, key in items))]
+    for fault, is_so in faults:
+        if is_so:
+            raise Refused(9, b"", f"mtc: issue-list: {fault}\n".encode())
+    files[name] = journal.appended(files[name], log.batch_body(items))
+    return lines(*(f"issued {index}" for index in range(held.size, held.size + len(items))))
+
+
 def switch(words, files):
     held = opened_log(words, files)
     if held.switched is not None:
@@ -141,19 +161,51 @@ def asked_subtree(held, index, start, end):
         raise Fault("Beyond", held.size)
 
 
+def certificate_in(held, index, start, end, signatures):
+    """The certificate of an entry in a subtree."""
+    path = merkle.List([text for text, _ in held.items]).path(index, start, end)
+    written = proof.written(start, end, path, signatures)
+    return entry.certificate_of(index, *held.items[index], judging.MTC_PROOF, written)
+
+
 def cert(words, files):
     *_, file = words
     checked(words, file, 2, proof.signatures_in, proof.Cursor(files[file], 0, len(files[file])))
     held = opened_log(words, files)
     index, start, end = map(int, words[2:5])
     checked(words, None, 4, asked_subtree, held, index, start, end)
-    path = merkle.List([text for text, _ in held.items]).path(index, start, end)
-    written = proof.written(start, end, path, files[file])
-    return entry.certificate_of(index, *held.items[index], judging.MTC_PROOF, written)
+    return certificate_in(held, index, start, end, files[file])
+
+
+def pem(der):
+    """A certificate in the textual encoding of RFC 7468, sections 2 and 5."""
+    text = base64.b64encode(der).decode()
+    return lines("-----BEGIN CERTIFICATE-----", *(text[at:at + 64] for at in range(0, len(text), 64)),
+                 "-----END CERTIFICATE-----")
+
+
+def indexed(index, ask, *values):
+    """Asks for the certificate of the entry at an index, which follows a fault."""
+    try:
+        ask(*values)
+    except Fault as fault:
+        raise Fault(str(fault), index) from None
+
+
+def certs(words, files):
+    *_, file = words
+    checked(words, file, 2, proof.signatures_in, proof.Cursor(files[file], 0, len(files[file])))
+    held = opened_log(words, files)
+    first, last, start, end = map(int, words[2:6])
+    if first >= last:
+        raise Refused(4, b"", b"mtc: certs: NothingNew\n")
+    for index in range(first, last):
+        checked(words, None, 4, indexed, index, asked_subtree, held, index, start, end)
+    return b"".join(pem(certificate_in(held, index, start, end, files[file])) for index in range(first, last))
 
 
 COMMANDS = {"show": show, "verify": verify, "audit": audit, "advance": advance, "checkpoint": checkpoint, "issue": issue,
-            "cert": cert, "switch": switch}
+            "cert": cert, "switch": switch, "issue-list": issue_list, "certs": certs}
 
 
 def answer(words, files):

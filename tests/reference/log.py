@@ -8,7 +8,7 @@ from .cosigner import close, id_at
 from .fault import Fault
 from .proof import Cursor
 
-LOG, ENTRY, LANDMARK, TILES, SWITCH = 1, 2, 3, 4, 5
+LOG, ENTRY, LANDMARK, TILES, SWITCH, BATCH = 1, 2, 3, 4, 5, 6
 MOST_ACTIVE, MOST_ENTRIES, TILE = 10_000, 1 << 20, 256
 NULL = bytes(2)
 
@@ -44,13 +44,22 @@ def started(cursor):
     return State(id, limit, [(NULL, b"")], 0, 0, None)
 
 
+def with_item(state, cursor):
+    """The log with the item that is read next: an entry and its key."""
+    text, key = cursor.vector(2), cursor.vector(2)
+    if state.size == state.limit or not entry.has_form(text, state.form) or not entry.fits(text, key):
+        raise Fault("BreaksTheRules")
+    return state._replace(items=[*state.items, (text, key)])
+
+
 def following(state, cursor):
     """The log after a later record."""
     tag = cursor.number(1)
-    if tag == ENTRY:
-        text, key = cursor.vector(2), cursor.vector(2)
-        fits = state.size < state.limit and entry.has_form(text, state.form) and entry.fits(text, key)
-        after = state._replace(items=[*state.items, (text, key)])
+    if tag in (ENTRY, BATCH):
+        count = 1 if tag == ENTRY else cursor.number(2)
+        fits, after = count > 0, state
+        for _ in range(count):
+            after = with_item(after, cursor)
     elif tag in (LANDMARK, TILES):
         size = cursor.number(8)
         is_next = size == state.size > state.marked, size % TILE == 0 and state.tiled < size <= state.size
@@ -95,6 +104,11 @@ def log_body(id, active, limit):
 def entry_body(text, key):
     """The body of the record of an entry."""
     return bytes([ENTRY]) + b"".join(len(part).to_bytes(2, "big") + part for part in (text, key))
+
+
+def batch_body(items):
+    """The body of the record of several entries with their keys."""
+    return bytes([BATCH]) + len(items).to_bytes(2, "big") + b"".join(entry_body(*item)[1:] for item in items)
 
 
 def switch_body(size):

@@ -1,4 +1,4 @@
-"""What an authority is asked to issue, by docs/FORMATS.md, "Request file", and docs/COMMANDS.md, "issue"."""
+"""What an authority is asked to issue, by docs/FORMATS.md, "Request file", and docs/COMMANDS.md, "issue" and "issue-list"."""
 
 import base64
 import binascii
@@ -70,7 +70,12 @@ def public_key(value):
 
 def read(text):
     """The request that these bytes are."""
-    root = checked(parsed(text), *KEYS)
+    return read_table(parsed(text))
+
+
+def read_table(table):
+    """The request that a table is."""
+    root = checked(table, *KEYS)
     first, last = field(root, "not_before", "NotBefore", unix_time), field(root, "not_after", "NotAfter", unix_time)
     names = field(root, "dns", "Dns", hosts)
     common = field(root, "common_name", "CommonName", common_name) if "common_name" in root else None
@@ -80,6 +85,26 @@ def read(text):
     if not names:
         raise Fault("NoNames")
     return Request([first, last], names, common, key)
+
+
+def tables(value):
+    """One table at least; none from another value."""
+    fits = isinstance(value, list) and value and all(isinstance(one, dict) for one in value)
+    return value if fits else None
+
+
+def numbered(number, table):
+    """The request of the table with this number, which follows a fault."""
+    try:
+        return read_table(table)
+    except Fault as fault:
+        raise Fault(str(fault), number) from None
+
+
+def read_list(text):
+    """The requests that these bytes are."""
+    root = checked(parsed(text), "request")
+    return [numbered(number, table) for number, table in enumerate(field(root, "request", "Requests", tables))]
 
 
 def time(seconds):
