@@ -1,7 +1,8 @@
 #!/bin/bash
 # What it takes of the processor from a request to a certificate that is verified, at logs of some sizes: `issue`, `cert` over all
-# entries and `verify`, each a run of the program, and by the clock what its syncs take. The checkpoint between them isn't counted,
-# nor are cosignatures of it (bench/cosigners.sh has these). Batches of requests aren't measured: no command takes a list of them.
+# entries and `verify`, each a run of the program, and by the clock what its syncs take. Then the same of lists of 10, 100 and 700
+# requests: one `issue-list`, one `certs`, and `verify` of each certificate in turn. The checkpoint between them isn't counted,
+# nor are cosignatures of it (bench/cosigners.sh has these).
 # Beside it what a user would take instead on the same machine: `openssl x509 -req` and `openssl verify`, with each algorithm that this
 # OpenSSL has; and Go's sumdb/tlog, where Debian's golang-go and golang-golang-x-mod-dev are installed: StoredHashes into a file, with
 # one sync a batch of 1, 10, 100 or 700 entries, at the last size, and no certificate. Needs python3, openssl and, for syncs, strace. Not part of the gate.
@@ -19,8 +20,8 @@ if [ "${1-}" = --write ]; then
     write=1
     shift
 fi
-# A log of 1,048,576 entries takes no more, so the largest has some less.
-[ $# -gt 0 ] || set -- 1000 100000 1048000
+# A log of 1,048,576 entries takes no more, so the largest has less by what six lists of 700 add.
+[ $# -gt 0 ] || set -- 1000 100000 1044000
 rounds=${ROUNDS:-5}
 [ -n "${PROGRAM-}" ] || "$root/mtc" member "$root/examples/first.member" >/dev/null || exit 70
 program=${PROGRAM:-$root/crates/mtc_main/out/mtc_main}
@@ -30,8 +31,12 @@ for count; do
     rm -f "$work"/journal*
     python3 -B "$root/bench/log/make_journal.py" "$count" "$work/journal"
     python3 -B "$root/bench/issuing/time_runs.py" log "$program" "$work" "$count" "$rounds" "$root/examples/www.request"
+    for many in 10 100 700; do
+        rm -f "$work"/journal*
+        python3 -B "$root/bench/log/make_journal.py" "$count" "$work/journal"
+        python3 -B "$root/bench/issuing/time_runs.py" list "$program" "$work" "$count" "$rounds" "$root/examples/www.request" "$many"
+    done
 done | tee "$work/figures"
-# Lists of requests would be measured here, in batches of 10, 100 and 700.
 python3 -B "$root/bench/issuing/time_runs.py" openssl "$work" "$rounds" | tee -a "$work/figures"
 
 packages=/usr/share/gocode/src/golang.org/x/mod

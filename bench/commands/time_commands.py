@@ -11,7 +11,11 @@ from pathlib import Path
 ROOT = Path(__file__).resolve().parents[2]
 LOG, COSIGNER, NOW = "32473.1", "32473.2", "1767571200"
 ROUNDS = int(os.environ.get("ROUNDS", "3"))
-APPENDING = {"init-log", "issue", "landmark", "switch", "tile", "init-cosigner", "advance", "cosign"}
+# So many requests a list has, and so many certificates.
+MANY = 700
+APPENDING = {"init-log", "issue", "issue-list", "landmark", "switch", "tile", "init-cosigner", "advance", "cosign"}
+
+SOURCES = {"issue": "short", "issue-list": "brief", "switch": "short", "advance": "early", "cosign": "early-held"}
 
 
 class Bench:
@@ -31,7 +35,7 @@ class Bench:
             for end in ("", ".tiles"):
                 (self.folder / f"new{end}").unlink(missing_ok=True)
                 if not words[0].startswith("init-"):
-                    source = self.folder / {"issue": "short", "switch": "short", "advance": "early", "cosign": "early-held"}.get(words[0], "log")
+                    source = self.folder / SOURCES.get(words[0], "log")
                     if Path(f"{source}{end}").exists():
                         shutil.copy(f"{source}{end}", self.folder / f"new{end}")
 
@@ -63,13 +67,14 @@ class Bench:
 def make_files(bench):
     """All files that the commands read."""
     make = [sys.executable, "-B", str(ROOT / "bench/log/make_journal.py")]
-    for name, count in (("log", bench.entries), ("short", bench.last)):
+    for name, count in (("log", bench.entries), ("short", bench.last), ("brief", bench.entries - MANY)):
         subprocess.run([*make, str(count), name], cwd=bench.folder, check=True)
     (bench.folder / "secret").write_bytes(bytes(48))
     (bench.folder / "none").write_bytes(b"")
     (bench.folder / "watch").write_text("www.example\n")
     for name in ("first.member", "www.request"):
         shutil.copy(ROOT / "examples" / name, bench.folder / name)
+    (bench.folder / "requests").write_text(MANY * f"[[request]]\n{(bench.folder / 'www.request').read_text()}")
     size = bench.entries
     bench.run("consist", "log", 0, size, into="consist")
     bench.run("subtree", "log", 0, size, size, into="subtree")
@@ -99,13 +104,14 @@ def lines(bench):
     return [
         ("member first.member", ""), ("show cert", "1 cosignature"), (f"verify cert store {NOW}", "1 cosignature"),
         (f"verify light trusting {NOW}", "a certificate without signatures"), (f"init-log new {LOG} 2 1048576", ""),
-        ("issue new www.request", ""), ("checkpoint log", ""), (f"entries log {n}", "all entries"),
+        ("issue new www.request", ""), ("issue-list new requests", f"{MANY} requests"), ("checkpoint log", ""), (f"entries log {n}", "all entries"),
         (f"entries-from log {max(1, n - 256)} {n}", "the last 256"), (f"consist log {n // 2 + 1} {n}", ""),
         (f"subtree log 0 {n} {n}", ""), ("keygen 10 8 secret", "height 10, width 8"),
         (f"init-cosigner new {COSIGNER} {LOG} 10 8 secret", "height 10, width 8"), ("advance new consist", ""),
         ("cosign new subtree", "height 10, width 8"), ("export cosigner", "1 signature"), ("landmark new", ""), ("landmarks marked", ""),
-        (f"light-cert marked {last}", ""), ("switch new", ""), ("tile new", "all tiles"), ("trust-landmarks list 2 entries", "1 landmark"),
-        (f"cert log {last} 0 {n} signature", ""), (f"audit cert store {NOW} entries export", "1 cosignature"), ("quarrel export", "1 signature"),
+        (f"light-cert marked {last}", ""), (f"light-certs marked {n - MANY} {n}", f"{MANY} certificates"), ("switch new", ""), ("tile new", "all tiles"), ("trust-landmarks list 2 entries", "1 landmark"),
+        (f"cert log {last} 0 {n} signature", ""), (f"certs log {n - MANY} {n} 0 {n} signature", f"{MANY} certificates"),
+        (f"audit cert store {NOW} entries export", "1 cosignature"), ("quarrel export", "1 signature"),
         ("drill 7", ""), ("root entries", ""), ("held export", "1 signature"), (f"monitor-init {LOG}", ""),
         ("monitor state watch consist entries", "all entries, 1 domain"), ("help", ""), ("version", ""),
     ]

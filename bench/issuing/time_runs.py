@@ -1,10 +1,12 @@
-"""Times the way from a request to a certificate that is verified, one at a time; prints lines WORK|OF|SECONDS|SYNCS.
+"""Times the way from a request to a certificate that is verified, one at a time or by lists; prints lines WORK|OF|SECONDS|SYNCS.
 
 SECONDS are of the processor, the median of the rounds; SYNCS are the seconds by the clock of the syncs of one more run, and their number.
 Usage: time_runs.py log PROGRAM FOLDER ENTRIES ROUNDS REQUEST    FOLDER has the log `journal` of so many entries
+       time_runs.py list PROGRAM FOLDER ENTRIES ROUNDS REQUEST MANY    the same by lists that have the request so many times
        time_runs.py openssl FOLDER ROUNDS                        by OpenSSL, with each algorithm that it has
 """
 
+import base64
 import re
 import resource
 import shutil
@@ -80,6 +82,47 @@ def log(program, path, entries, rounds, request):
     shown("from a request to a verified certificate", of, all_three, "")
 
 
+def certificates(text):
+    """Each certificate of a text of PEM, in DER."""
+    blocks = re.findall(r"-----BEGIN CERTIFICATE-----\n(.*?)-----END CERTIFICATE-----\n", text.decode(), re.S)
+    return [base64.b64decode(block) for block in blocks]
+
+
+def verified(folder, program, first, found):
+    """What it takes to verify each of these certificates, of the entries from this index on."""
+    seconds = 0
+    for index, certificate in enumerate(found, first):
+        (folder.path / "cert").write_bytes(certificate)
+        took, text = folder.run(program, "verify", "cert", "store", NOW)
+        if text.decode() != f"accepted {index}\n":
+            sys.exit(f"wrong: verify: {text.decode()}")
+        seconds += took
+    return seconds
+
+
+def lists(program, path, entries, rounds, request, many):
+    folder, found, count = Folder(path), [], int(many)
+    (folder.path / "none").write_bytes(b"")
+    (folder.path / "requests").write_text(count * f"[[request]]\n{Path(request).read_text()}")
+    for _ in range(int(rounds)):
+        issuing, text = folder.run(program, "issue-list", "journal", "requests")
+        first = int(text.decode().split()[1])
+        size = store_of(folder, program)
+        words = [program, "certs", "journal", str(first), str(first + count), "0", size, "none"]
+        certifying, text = folder.run(*words)
+        listed = certificates(text)
+        if len(listed) != count:
+            sys.exit(f"wrong: certs: {len(listed)} certificates")
+        verifying = verified(folder, program, first, listed)
+        found.append((issuing, certifying, verifying, issuing + certifying + verifying))
+    of = f"{many} certificates, at {entries} entries"
+    issuing, certifying, verifying, all_three = zip(*found)
+    shown("`issue-list`", of, issuing, folder.syncs(program, "issue-list", "journal", "requests"))
+    shown("`certs`", of, certifying, folder.syncs(*words))
+    shown("`verify`", of, verifying, "")
+    shown("from requests to verified certificates", of, all_three, "")
+
+
 def openssl(path, rounds):
     folder = Folder(path)
     folder.run("openssl", "req", "-new", "-newkey", "ED25519", "-nodes", "-keyout", "server.key", "-subj", "/CN=www.example", "-out", "csr")
@@ -99,4 +142,4 @@ def openssl(path, rounds):
 
 
 if __name__ == "__main__":
-    {"log": log, "openssl": openssl}[sys.argv[1]](*sys.argv[2:])
+    {"log": log, "list": lists, "openssl": openssl}[sys.argv[1]](*sys.argv[2:])
