@@ -3,7 +3,7 @@
 _mtc() {
     local word=${COMP_WORDS[COMP_CWORD]} kinds=()
     if [ "$COMP_CWORD" -eq 1 ]; then
-        COMPREPLY=($(compgen -W 'member show verify init-log issue checkpoint entries entries-from consist subtree keygen init-cosigner advance cosign export landmark landmarks light-cert switch tile trust-landmarks cert audit quarrel drill root held monitor-init monitor help version' -- "$word"))
+        COMPREPLY=($(compgen -W 'member show verify init-log issue issue-list checkpoint entries entries-from consist subtree keygen init-cosigner advance cosign export landmark landmarks light-cert light-certs switch tile trust-landmarks cert certs audit quarrel drill root held monitor-init monitor help version' -- "$word"))
         return
     fi
     case ${COMP_WORDS[1]} in
@@ -12,6 +12,7 @@ _mtc() {
         verify) kinds=(CERT STORE NOW) ;;
         init-log) kinds=(J LOGID MAXACTIVE LIMIT) ;;
         issue) kinds=(J REQUEST) ;;
+        issue-list) kinds=(J REQUESTS) ;;
         checkpoint) kinds=(J) ;;
         entries) kinds=(J SIZE) ;;
         entries-from) kinds=(J FIRST SIZE) ;;
@@ -25,10 +26,12 @@ _mtc() {
         landmark) kinds=(J) ;;
         landmarks) kinds=(J) ;;
         light-cert) kinds=(J INDEX) ;;
+        light-certs) kinds=(J FIRST LAST) ;;
         switch) kinds=(J) ;;
         tile) kinds=(J) ;;
         trust-landmarks) kinds=(LIST MAXACTIVE ENTRIES) ;;
         cert) kinds=(J INDEX START END SIGNATURES) ;;
+        certs) kinds=(J FIRST LAST START END SIGNATURES) ;;
         audit) kinds=(CERT STORE NOW ENTRIES EXPORT) ;;
         quarrel) kinds=(EXPORT) ;;
         drill) kinds=(NUMBER) ;;
@@ -38,7 +41,7 @@ _mtc() {
         monitor) kinds=(STATE WATCH REQUEST ENTRIES) ;;
     esac
     case ${kinds[COMP_CWORD - 2]-} in
-        J | S | FILE | CERT | STORE | REQUEST | SECRET | SIGNATURES | LIST | ENTRIES | EXPORT | STATE | WATCH) COMPREPLY=($(compgen -f -- "$word")) ;;
+        J | S | FILE | CERT | STORE | REQUEST | REQUESTS | SECRET | SIGNATURES | LIST | ENTRIES | EXPORT | STATE | WATCH) COMPREPLY=($(compgen -f -- "$word")) ;;
         HEIGHT) COMPREPLY=($(compgen -W '5 10' -- "$word")) ;;
         WIDTH) COMPREPLY=($(compgen -W '1 2 4 8' -- "$word")) ;;
         *) COMPREPLY=() ;;
