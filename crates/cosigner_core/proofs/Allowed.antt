@@ -1,5 +1,5 @@
 -- What a request that is not refused makes of the records.
-use Rattle.std.proofs.Common.{◌≡◌, ◌<◌, ◌==◌, ◌&&◌, nat_le, nat_lt, not, Bool, true, false}
+use Rattle.std.proofs.Common.{◌≡◌, ℕ, ◌<◌, ◌==◌, ◌&&◌, nat_le, nat_lt, not, Bool, true, false}
 use Rattle.std.proofs.Common.{List, []}
 use Rattle.std.proofs.Common.{◌∷◌, ◌++◌, Option, Some, None, IfSome, option_and_then, Ok, IsTrue}
 use Rattle.std.proofs.Common.{refl, sym, ap}
@@ -13,7 +13,8 @@ use Rattle.byte_formats.proofs.Values.{when_some}
 use Rattle.tree_core.specs.Subtree.{is_subtree}
 use Rattle.tree_proofs.specs.Checkpoints.{has_subtree, is_prefix_of}
 use Rattle.cosigner_core.specs.Folds.{CosignerState, after_step, cosigner_of, having_signed}
-use Rattle.cosigner_core.specs.Folds.{holding, key_count, next_state}
+use Rattle.cosigner_core.specs.Folds.{holding, key_count, next_state, progress_of, terms_by}
+use Rattle.cosigner_core.specs.Progress.{keys_by}
 use Rattle.cosigner_core.specs.Records.{FitsStep, advance_record, sign_record, step_in}
 use Rattle.cosigner_core.specs.Records.{step_record}
 use Rattle.cosigner_core.specs.declared.step.Step.{Step}
@@ -24,6 +25,7 @@ use Rattle.cosigner_core.specs.Requests.{AdvanceParts, SubtreeParts}
 use Rattle.cosigner_core.specs.declared.error.CosignError.{CosignError}
 use Rattle.cosigner_core.proofs.Adds.{none_of}
 use Rattle.cosigner_core.proofs.Encoded.{step_added, step_again}
+use Rattle.cosigner_core.proofs.Brought.{keys_agree}
 
 -- a test that doesn't refuse leaves the answer to the next one
 pub passed : (b : Bool) (why : CosignError) (o : Option CosignError)
@@ -59,9 +61,12 @@ sign_allowed h s r is =
     let within = passed (nat_lt s.held.size r.end) _ _ whole.1 in
     let shown = passed (not (has_subtree h s.held r.start r.end r.hash r.proof)) _ _ within.1 in
     let left = passed (not (nat_lt s.key.next (key_count s))) _ _ shown.1 in
+    let there : nat_lt s.key.next (keys_by (terms_by s) (progress_of s)) ≡ true =
+    ap (λ (n : ℕ). nat_lt s.key.next n) (keys_agree s)
+    ∙ not-false (nat_lt s.key.next (key_count s)) left.0 in
     rw (
       eq-eqb s.key.next s.key.next refl,
-      not-false (nat_lt s.key.next (key_count s)) left.0,
+      there,
       not-false (has_subtree h s.held r.start r.end r.hash r.proof) shown.0,
     ) refl
 
@@ -69,14 +74,14 @@ sign_allowed h s r is =
 pub key_left : (h : HashFunction) (s : CosignerState) (r : SubtreeParts)
     → subtree_refusal h s r ≡ None → s.key.next < key_count s
 key_left h s r is =
-    let shown = nat_lt s.key.next (key_count s)
-    && has_subtree h s.held r.start r.end r.hash r.proof in
+    let keys = keys_by (terms_by s) (progress_of s) in
+    let shown = nat_lt s.key.next keys && has_subtree h s.held r.start r.end r.hash r.proof in
     let made = when_some ((s.key.next == s.key.next) && shown) (Some (having_signed s))
     (having_signed s) (sign_allowed h s r is) in
     let counts = and_parts (s.key.next == s.key.next) shown made.0 in
-    ltb-true s.key.next (key_count s)
-    (and_parts (nat_lt s.key.next (key_count s))
-    (has_subtree h s.held r.start r.end r.hash r.proof) counts.1).0
+    subst (λ (n : ℕ). s.key.next < n) (keys_agree s) (ltb-true s.key.next keys
+    (and_parts (nat_lt s.key.next keys) (has_subtree h s.held r.start r.end r.hash r.proof)
+    counts.1).0)
 
 -- the record of a step that is allowed makes the next cosigner
 module _ (h : HashFunction) (s t : CosignerState) (step : Step) (fits : FitsStep step)

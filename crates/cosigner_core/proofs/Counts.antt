@@ -15,10 +15,13 @@ use Rattle.cosigner_core.specs.Counts.{CountsUp, index_before, indices_in, indic
 use Rattle.cosigner_core.specs.Folds.{CosignerState, after_step, begun_cosigner, cosigner_fold}
 use Rattle.cosigner_core.specs.Folds.{cosigner_of}
 use Rattle.cosigner_core.specs.Folds.{having_signed, holding, key_count, new_cosigner, next_state}
+use Rattle.cosigner_core.specs.Folds.{progress_of, terms_by}
+use Rattle.cosigner_core.specs.Progress.{keys_by}
 use Rattle.cosigner_core.specs.Records.{cosigner_in, step_in}
 use Rattle.cosigner_core.specs.declared.step.Step.{Step}
 use Rattle.cosigner_core.specs.declared.step.Step.TheVariants.{Advance, Sign}
 use Rattle.cosigner_core.specs.declared.settings.CosignerSettings.{CosignerSettings}
+use Rattle.cosigner_core.proofs.Brought.{keys_agree}
 
 -- after a cosigner: these numbers, and then this cosigner
 record CountsFrom (s : CosignerState) (indices : List ℕ) (t : CosignerState) : Type 0 where
@@ -60,13 +63,13 @@ counts_step h s u t (Some (Advance size root proof)) indices is counts =
     let same = same_Some (holding size root s) u made.1 in
     held_on s u t indices (sym (ap (λ (v : CosignerState). v.key) same)) counts
 counts_step h s u t (Some (Sign index start end hash proof)) indices is counts =
-    let shown = nat_lt index (key_count s) && has_subtree h s.held start end hash proof in
+    let keys = keys_by (terms_by s) (progress_of s) in
+    let shown = nat_lt index keys && has_subtree h s.held start end hash proof in
     let made = when_some ((index == s.key.next) && shown) (Some (having_signed s)) u is in
     let tests = and_parts (index == s.key.next) shown made.0 in
-    let there = and_parts (nat_lt index (key_count s)) (has_subtree h s.held start end hash proof)
-    tests.1 in
+    let there = and_parts (nat_lt index keys) (has_subtree h s.held start end hash proof) tests.1 in
     signed_on s t index indices (eqb-true index s.key.next tests.0)
-    (ltb-true index (key_count s) there.0)
+    (subst (λ (n : ℕ). index < n) (keys_agree s) (ltb-true index keys there.0))
     (subst (λ (v : CosignerState). CountsFrom v indices t)
     (sym (same_Some (having_signed s) u made.1)) counts)
 

@@ -28,11 +28,11 @@ use Rattle.tls_wire.proofs.Numbers.{wide8, wide16, wide32}
 use Rattle.tls_wire.proofs.Vectors.{vector_form}
 use Rattle.cosigner_core.specs.ExportReading.{all_exported_at, export_prefix_at, export_id_at}
 use Rattle.cosigner_core.specs.ExportReading.{export_in, export_key_at, export_of, exported_at}
-use Rattle.cosigner_core.specs.ExportReading.{export_progress, signing_keys, steps_left}
+use Rattle.cosigner_core.specs.ExportReading.{export_progress, signing_terms, steps_left}
 use Rattle.cosigner_core.specs.Exports.{export_text, prefix_text, records_text}
 use Rattle.cosigner_core.specs.Folds.{CosignerState, after_step, begun_cosigner, cosigner_fold}
 use Rattle.cosigner_core.specs.Folds.{cosigner_of}
-use Rattle.cosigner_core.specs.Folds.{key_count, new_cosigner, next_state, progress_of}
+use Rattle.cosigner_core.specs.Folds.{new_cosigner, next_state, progress_of, terms_by}
 use Rattle.cosigner_core.specs.Folds.{with_progress}
 use Rattle.cosigner_core.specs.Progress.{first_progress, is_allowed, progress_by, steps_in}
 use Rattle.cosigner_core.specs.Progress.{with_step}
@@ -40,19 +40,23 @@ use Rattle.cosigner_core.specs.Records.{cosigner_in, step_in}
 use Rattle.cosigner_core.specs.declared.progress.Progress.{Progress}
 use Rattle.cosigner_core.specs.declared.settings.CosignerSettings.{CosignerSettings}
 use Rattle.cosigner_core.specs.declared.step.Step.{Step}
+use Rattle.cosigner_core.specs.declared.terms.KeyTerms.{KeyTerms}
+use Rattle.cosigner_core.specs.declared.terms.KeyTerms.TheVariants.{OneLevel}
 use Rattle.cosigner_core.proofs.After.{brings}
 use Rattle.cosigner_core.proofs.FirstRecords.{cosigner_takes}
+use Rattle.cosigner_core.proofs.Brought.{comes_to}
 use Rattle.hss_keys.specs.Keys.{SigningKey, public_of}
 
 -- ---- the records
 
-pub exported_again : (h : HashFunction) (keys k place : ℕ) (p : Progress) (body rest : Text)
+pub exported_again : (h : HashFunction) (terms : KeyTerms) (k place : ℕ) (p : Progress)
+    (body rest : Text)
     (x : Step)
-    → length body < 2 ^ 32 → step_in body ≡ Some x → is_allowed h keys p x ≡ true
-    → exported_at h keys k p (record { place = place; rest = vector w32 body ++ rest })
+    → length body < 2 ^ 32 → step_in body ≡ Some x → is_allowed h terms p x ≡ true
+    → exported_at h terms k p (record { place = place; rest = vector w32 body ++ rest })
     ≡ Ok (x, record { place = place + length (vector w32 body); rest = rest })
 unfolding exported_at
-exported_again h keys k place p body rest x short said fits =
+exported_again h terms k place p body rest x short said fits =
     let one = (vector_form w32 (2 ^ 32) wide32).again body place rest short tt in
     rw (one, said, fits) refl
 
@@ -62,7 +66,7 @@ record IsAgain (h : HashFunction) (s t : CosignerState) (bodies : List Text)
   pub steps : List Step
   pub said : steps_in bodies ≡ Some steps
   pub end : At
-  pub read : all_exported_at h (key_count s) most k (progress_of s)
+  pub read : all_exported_at h (terms_by s) most k (progress_of s)
       (record { place = place; rest = records_text bodies }) ≡ Ok (steps, end)
   pub id : t.id ≡ s.id
   pub log : t.log ≡ s.log
@@ -95,7 +99,7 @@ again_none h s t (suc most) k place same = record {
 
 again_more : (h : HashFunction) (s t : CosignerState) (most k place : ℕ) (body : Text)
     (bodies : List Text) (x : Step) → length body < 2 ^ 32 → step_in body ≡ Some x
-    → is_allowed h (key_count s) (progress_of s) x ≡ true
+    → is_allowed h (terms_by s) (progress_of s) x ≡ true
     → IsAgain h (with_progress s (with_step (progress_of s) x)) t bodies most (k + 1)
     (place + length (vector w32 body))
     → IsAgain h s t (body ∷ bodies) (suc most) k place
@@ -105,14 +109,18 @@ again_more h s t most k place body bodies x short said fits rest = record {
   said = rw (said, rest.said) refl;
   end = rest.end;
   read =
-      let one = exported_again h (key_count s) k place (progress_of s) body (records_text bodies) x
+      let one = exported_again h (terms_by s) k place (progress_of s) body (records_text bodies) x
       short said fits in
       let long : length (vector w32 body ++ records_text bodies) ≢ 0 = omega (
         arith,
         length-append (vector w32 body) (records_text bodies),
         length-append (to_be_bytes w32 (length body)) body,
       ) in
-      rw (ne_eqb (length (vector w32 body ++ records_text bodies)) 0 long, one, rest.read) refl;
+      let next : At =
+      record { place = place + length (vector w32 body); rest = records_text bodies } in
+      let more = subst (λ (p : Progress). all_exported_at h (terms_by s) most (k + 1) p next
+      ≡ Ok (rest.steps, rest.end)) (comes_to s x) rest.read in
+      rw (ne_eqb (length (vector w32 body ++ records_text bodies)) 0 long, one, more) refl;
   id = rest.id;
   log = rest.log;
   key = rest.key;
@@ -136,7 +144,7 @@ steps_again h s t n (suc most) k place (body ∷ bodies) short is le =
     let said = then_some (after_step h s) (step_in body) step.0
     (some_or_ok n (next_state h s body) step.0 step.1) in
     let next : CosignerState = with_progress s (with_step (progress_of s) said.0) in
-    let made = when_some (is_allowed h (key_count s) (progress_of s) said.0) (Some next) step.0
+    let made = when_some (is_allowed h (terms_by s) (progress_of s) said.0) (Some next) step.0
     said.2 in
     let less : length (records_text bodies) ≤ most = omega (
       arith,
@@ -160,28 +168,28 @@ id_again place id rest fits =
     let one = (vector_form w8 (2 ^ 8) wide8).again id place rest short tt in
     rw (one, anchor_again id fits) refl
 
-key_again : (place keys : ℕ) (key rest : Text) → length key < 2 ^ 16
-    → signing_keys key ≡ Some keys
+key_again : (place : ℕ) (terms : KeyTerms) (key rest : Text) → length key < 2 ^ 16
+    → signing_terms key ≡ Some terms
     → export_key_at (record { place = place; rest = vector w16 key ++ rest })
-    ≡ Ok ((key, keys), record { place = place + length (vector w16 key); rest = rest })
+    ≡ Ok ((key, terms), record { place = place + length (vector w16 key); rest = rest })
 unfolding export_key_at
-key_again place keys key rest short is =
+key_again place terms key rest short is =
     let one = (vector_form w16 (2 ^ 16) wide16).again key place rest short tt in
     rw (one, is) refl
 
-pub prefix_again : (id log key rest : Text) (keys : ℕ) → IsAnchorId id → IsAnchorId log
-    → length key < 2 ^ 16 → signing_keys key ≡ Some keys
+pub prefix_again : (id log key rest : Text) (terms : KeyTerms) → IsAnchorId id → IsAnchorId log
+    → length key < 2 ^ 16 → signing_terms key ≡ Some terms
     → (place : ℕ) × (export_prefix_at (at (prefix_text id log key ++ rest) 0)
-    ≡ Ok ((id, (log, (key, keys))), record { place = place; rest = rest }))
+    ≡ Ok ((id, (log, (key, terms))), record { place = place; rest = rest }))
 unfolding export_prefix_at
-prefix_again id log key rest keys fits other short is =
+prefix_again id log key rest terms fits other short is =
     let grouped : prefix_text id log key ++ rest
     ≡ vector w8 id ++ (vector w8 log ++ (vector w16 key ++ rest)) =
     append_assoc (vector w8 id) (vector w8 log ++ vector w16 key) rest
     ∙ ap (λ (t : Text). vector w8 id ++ t) (append_assoc (vector w8 log) (vector w16 key) rest) in
     let one = id_again 0 id (vector w8 log ++ (vector w16 key ++ rest)) fits in
     let two = id_again (0 + length (vector w8 id)) log (vector w16 key ++ rest) other in
-    let three = key_again (0 + length (vector w8 id) + length (vector w8 log)) keys key rest short
+    let three = key_again (0 + length (vector w8 id) + length (vector w8 log)) terms key rest short
     is in (
       0 + length (vector w8 id) + length (vector w8 log) + length (vector w16 key),
       ap (λ (t : Text). export_prefix_at (record { place = 0; rest = t })) grouped
@@ -189,8 +197,8 @@ prefix_again id log key rest keys fits other short is =
     )
 
 public_keys : (k : PrivateKey) → length k.id ≡ 16 → height k.lms ≤ 10
-    → signing_keys (one_level_public k) ≡ Some (2 ^ height k.lms)
-unfolding signing_keys hss_key_types one_level_public u32_at
+    → signing_terms (one_level_public k) ≡ Some (OneLevel k.lms)
+unfolding signing_terms hss_key_types one_level_public u32_at
 public_keys k size small =
     let all : length (to_be_bytes w32 1 ++ lms_public k) ≡ 60 =
     omega (arith, length-append (to_be_bytes w32 1) (lms_public k), length-lms_public k size) in
@@ -218,7 +226,7 @@ are_short bytes place (body ∷ bodies) there =
 
 read_whole : (h : HashFunction) (s u : CosignerState) (bodies : List Text)
     → IsAnchorId u.id → IsAnchorId u.log
-    → signing_keys (public_of u.key.key) ≡ Some (key_count u)
+    → signing_terms (public_of u.key.key) ≡ Some (terms_by u)
     → length (public_of u.key.key) ≡ 60
     → progress_of u ≡ first_progress h → taken_from (cosigner_fold h) 1 u bodies ≡ Ok s
     → ((place : ℕ) → IsAgain h u s bodies (length (records_text bodies)) 1 place)
@@ -232,18 +240,18 @@ read_whole h s u bodies id log known size begins taken again =
     let public : Text = public_of s.key.key in
     let own : IsAnchorId s.id = subst IsAnchorId (sym there.id) id in
     let other : IsAnchorId s.log = subst IsAnchorId (sym there.log) log in
-    let keys : signing_keys public ≡ Some (key_count u) =
-    ap (λ (k : SigningKey). signing_keys (public_of k)) there.key ∙ known in
+    let terms : signing_terms public ≡ Some (terms_by u) =
+    ap (λ (k : SigningKey). signing_terms (public_of k)) there.key ∙ known in
     let short : length public < 2 ^ 16 =
     let sixty : length public ≡ 60 =
     ap (λ (k : SigningKey). length (public_of k)) there.key ∙ size in
     omega arith in
     let text : Text = records_text bodies in
-    let prefix = prefix_again s.id s.log public text (key_count u) own other short keys in
+    let prefix = prefix_again s.id s.log public text (terms_by u) own other short terms in
     let here = again prefix.0 in
-    let read : all_exported_at h (key_count u) (length text) 1 (first_progress h)
+    let read : all_exported_at h (terms_by u) (length text) 1 (first_progress h)
     (record { place = prefix.0; rest = text }) ≡ Ok (here.steps, here.end) =
-    ap (λ (p : Progress). all_exported_at h (key_count u) (length text) 1 p
+    ap (λ (p : Progress). all_exported_at h (terms_by u) (length text) 1 p
     (record { place = prefix.0; rest = text })) (sym begins) ∙ here.read in
     let long : length (prefix_text s.id s.log public ++ text) ≢ 0 = omega (
       arith,
@@ -254,9 +262,9 @@ read_whole h s u bodies id log known size begins taken again =
       here.steps,
       here.said,
       rw (ne_eqb (length (prefix_text s.id s.log public ++ text)) 0 long, prefix.1, read) refl,
-      ap (option_and_then (λ (n : ℕ). progress_by h n (first_progress h) here.steps)) keys
-          ∙ ap (λ (p : Progress). progress_by h (key_count u) p here.steps) (sym begins)
-          ∙ sym (ap (option_and_then (progress_by h (key_count u) (progress_of u))) here.said)
+      ap (option_and_then (λ (t : KeyTerms). progress_by h t (first_progress h) here.steps)) terms
+          ∙ ap (λ (p : Progress). progress_by h (terms_by u) p here.steps) (sym begins)
+          ∙ sym (ap (option_and_then (progress_by h (terms_by u) (progress_of u))) here.said)
           ∙ brings h 1 u bodies s taken,
     )
 

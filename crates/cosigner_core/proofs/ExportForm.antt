@@ -27,7 +27,7 @@ use Rattle.cosigner_core.specs.ExportReading.{IsExport, all_exported_at, allowed
 use Rattle.cosigner_core.specs.ExportReading.{export_prefix_at}
 use Rattle.cosigner_core.specs.ExportReading.{export_id_at, export_in, export_key_at, export_with}
 use Rattle.cosigner_core.specs.ExportReading.{exported_at, exported_text, short_export}
-use Rattle.cosigner_core.specs.ExportReading.{signing_keys}
+use Rattle.cosigner_core.specs.ExportReading.{signing_terms}
 use Rattle.cosigner_core.specs.ExportReading.{steps_left}
 use Rattle.cosigner_core.specs.Exports.{prefix_text, records_text}
 use Rattle.cosigner_core.specs.Progress.{first_progress, is_allowed, progress_by, with_step}
@@ -37,6 +37,7 @@ use Rattle.cosigner_core.specs.declared.error.ReadExportError.TheVariants.{BadId
 use Rattle.cosigner_core.specs.declared.lists.Export.{Export}
 use Rattle.cosigner_core.specs.declared.progress.Progress.{Progress}
 use Rattle.cosigner_core.specs.declared.step.Step.{Step}
+use Rattle.cosigner_core.specs.declared.terms.KeyTerms.{KeyTerms}
 use Rattle.cosigner_core.proofs.Encoded.{step_takes}
 
 -- the bytes of a vector that stands somewhere are bytes
@@ -47,49 +48,50 @@ vector_bytes a size bytes b are stands =
 
 -- ---- one record
 
-allowed_is : (h : HashFunction) (keys : ℕ) (p : Progress) (said : Option Step) (step : Step)
-    → allowed_step h keys p said ≡ Some step
-    → (said ≡ Some step) × (is_allowed h keys p step ≡ true)
-allowed_is h keys p None step is = let wrong : None ≡ Some step = is in cc
-allowed_is h keys p (Some s) step is =
-    let made = when_some (is_allowed h keys p s) (Some s) step is in
-    (made.1, subst (λ (t : Step). is_allowed h keys p t ≡ true) (same_Some s step made.1) made.0)
+allowed_is : (h : HashFunction) (terms : KeyTerms) (p : Progress) (said : Option Step) (step : Step)
+    → allowed_step h terms p said ≡ Some step
+    → (said ≡ Some step) × (is_allowed h terms p step ≡ true)
+allowed_is h terms p None step is = let wrong : None ≡ Some step = is in cc
+allowed_is h terms p (Some s) step is =
+    let made = when_some (is_allowed h terms p s) (Some s) step is in
+    (made.1, subst (λ (t : Step). is_allowed h terms p t ≡ true) (same_Some s step made.1) made.0)
 
-exported_takes : (h : HashFunction) (keys k : ℕ) (p : Progress) (a : At) (x : Step × At)
-    → IsBytes a.rest → exported_at h keys k p a ≡ Ok x
-    → Stands a (vector w32 (step_record x.0)) x.1 × (is_allowed h keys p x.0 ≡ true) × FitsStep x.0
+exported_takes : (h : HashFunction) (terms : KeyTerms) (k : ℕ) (p : Progress) (a : At)
+    (x : Step × At)
+    → IsBytes a.rest → exported_at h terms k p a ≡ Ok x
+    → Stands a (vector w32 (step_record x.0)) x.1 × (is_allowed h terms p x.0 ≡ true) × FitsStep x.0
 unfolding exported_at
-exported_takes h keys k p a x are e =
+exported_takes h terms k p a x are e =
     let s = bind_ok (lifted short_export (vector_at w32 a)) (λ (body : Text
-    × At). some_or (BadRecord k) (allowed_step h keys p (step_in body.0))
+    × At). some_or (BadRecord k) (allowed_step h terms p (step_in body.0))
     >>= λ (step : Step). Ok (step, body.1)) x e in
-    let t = bind_ok (some_or (BadRecord k) (allowed_step h keys p (step_in s.0.0)))
+    let t = bind_ok (some_or (BadRecord k) (allowed_step h terms p (step_in s.0.0)))
     (λ (step : Step). Ok (step, s.0.1)) x s.2 in
     let stands = (vector_form w32 (2 ^ 32) wide32).takes a s.0.0 s.0.1 are
     (lifted_ok short_export (vector_at w32 a) s.0 s.1) in
-    let fits = allowed_is h keys p (step_in s.0.0) t.0
-    (some_or_ok (BadRecord k) (allowed_step h keys p (step_in s.0.0)) t.0 t.1) in
+    let fits = allowed_is h terms p (step_in s.0.0) t.0
+    (some_or_ok (BadRecord k) (allowed_step h terms p (step_in s.0.0)) t.0 t.1) in
     let body = step_takes s.0.0 t.0
     (vector_bytes a (number w32 (length s.0.0)) s.0.0 s.0.1 are stands.0) fits.0 in
     subst (λ (y : Step × At). Stands a (vector w32 (step_record y.0)) y.1
-    × (is_allowed h keys p y.0 ≡ true) × FitsStep y.0) (ok_is ReadExportError (t.0, s.0.1) x t.2)
+    × (is_allowed h terms p y.0 ≡ true) × FitsStep y.0) (ok_is ReadExportError (t.0, s.0.1) x t.2)
     (subst (λ (text : Text). Stands a (vector w32 text) s.0.1) body.0 stands.0, fits.1, body.1)
 
 -- ---- all records
 
 -- records that were read up to the end
-record TakesSteps (h : HashFunction) (keys : ℕ) (p : Progress) (a : At)
+record TakesSteps (h : HashFunction) (terms : KeyTerms) (p : Progress) (a : At)
     (x : List Step × At) : Type 0 where
   pub stands : Stands a (records_text (map step_record x.0)) x.1
   pub end : x.1.rest ≡ []
   pub fits : AllByRecursion FitsStep x.0
   pub progress : Progress
-  pub valid : progress_by h keys p x.0 ≡ Some progress
+  pub valid : progress_by h terms p x.0 ≡ Some progress
 
-no_steps : (h : HashFunction) (keys : ℕ) (p : Progress) (a : At) → IsBytes a.rest
-    → a.rest ≡ [] → TakesSteps h keys p a ([], a)
+no_steps : (h : HashFunction) (terms : KeyTerms) (p : Progress) (a : At) → IsBytes a.rest
+    → a.rest ≡ [] → TakesSteps h terms p a ([], a)
 unfolding progress_by
-no_steps h keys p a are none = record {
+no_steps h terms p a are none = record {
   stands = Stands-none a are;
   end = none;
   fits = tt;
@@ -97,12 +99,12 @@ no_steps h keys p a are none = record {
   valid = refl;
 }
 
-more_steps : (h : HashFunction) (keys : ℕ) (p : Progress) (a : At) (x : Step) (b : At)
+more_steps : (h : HashFunction) (terms : KeyTerms) (p : Progress) (a : At) (x : Step) (b : At)
     (xs : List Step × At) → Stands a (vector w32 (step_record x)) b
-    → is_allowed h keys p x ≡ true → FitsStep x → TakesSteps h keys (with_step p x) b xs
-    → TakesSteps h keys p a (x ∷ xs.0, xs.1)
+    → is_allowed h terms p x ≡ true → FitsStep x → TakesSteps h terms (with_step p x) b xs
+    → TakesSteps h terms p a (x ∷ xs.0, xs.1)
 unfolding progress_by
-more_steps h keys p a x b xs stands allowed fits rest = record {
+more_steps h terms p a x b xs stands allowed fits rest = record {
   stands = Stands-then a (vector w32 (step_record x)) b (records_text (map step_record xs.0)) xs.1
       stands rest.stands;
   end = rest.end;
@@ -111,37 +113,38 @@ more_steps h keys p a x b xs stands allowed fits rest = record {
   valid = rw allowed rest.valid;
 }
 
-steps_take : (h : HashFunction) (keys most k : ℕ) (p : Progress) (a : At) (x : List Step × At)
-    → IsBytes a.rest → length a.rest ≤ most → all_exported_at h keys most k p a ≡ Ok x
-    → TakesSteps h keys p a x
+steps_take : (h : HashFunction) (terms : KeyTerms) (most k : ℕ) (p : Progress) (a : At)
+    (x : List Step × At)
+    → IsBytes a.rest → length a.rest ≤ most → all_exported_at h terms most k p a ≡ Ok x
+    → TakesSteps h terms p a x
 unfolding all_exported_at
-steps_take h keys zero k p a x are few e =
-    subst (TakesSteps h keys p a) (ok_is ReadExportError ([], a) x e)
-    (no_steps h keys p a are (nil_from_length a.rest (omega arith)))
-steps_take h keys (suc most) k p a x are few e =
+steps_take h terms zero k p a x are few e =
+    subst (TakesSteps h terms p a) (ok_is ReadExportError ([], a) x e)
+    (no_steps h terms p a are (nil_from_length a.rest (omega arith)))
+steps_take h terms (suc most) k p a x are few e =
     let more : Result (List Step × At) ReadExportError =
-    exported_at h keys k p a
-    >>= λ (y : Step × At). all_exported_at h keys most (k + 1) (with_step p y.0) y.1
+    exported_at h terms k p a
+    >>= λ (y : Step × At). all_exported_at h terms most (k + 1) (with_step p y.0) y.1
     >>= λ (xs : List Step × At). Ok (y.0 ∷ xs.0, xs.1) in
     elim (chosen (length a.rest == 0) (Ok ([], a)) more (Ok x) e) [
-      | inl c ↦ subst (TakesSteps h keys p a) (ok_is ReadExportError ([], a) x c.1)
-          (no_steps h keys p a are (nil_from_length a.rest (eqb-true (length a.rest) 0 c.0)))
+      | inl c ↦ subst (TakesSteps h terms p a) (ok_is ReadExportError ([], a) x c.1)
+          (no_steps h terms p a are (nil_from_length a.rest (eqb-true (length a.rest) 0 c.0)))
       | inr c ↦
-          let s = bind_ok (exported_at h keys k p a)
-          (λ (y : Step × At). all_exported_at h keys most (k + 1) (with_step p y.0) y.1
+          let s = bind_ok (exported_at h terms k p a)
+          (λ (y : Step × At). all_exported_at h terms most (k + 1) (with_step p y.0) y.1
           >>= λ (xs : List Step × At). Ok (y.0 ∷ xs.0, xs.1)) x c.1 in
-          let t = bind_ok (all_exported_at h keys most (k + 1) (with_step p s.0.0) s.0.1)
+          let t = bind_ok (all_exported_at h terms most (k + 1) (with_step p s.0.0) s.0.1)
           (λ (xs : List Step × At). Ok (s.0.0 ∷ xs.0, xs.1)) x s.2 in
-          let one = exported_takes h keys k p a s.0 are s.1 in
+          let one = exported_takes h terms k p a s.0 are s.1 in
           let less : length s.0.1.rest ≤ most = omega (
             arith,
             ap length one.0.parts,
             length-append (vector w32 (step_record s.0.0)) s.0.1.rest,
           ) in
-          let rest = steps_take h keys most (k + 1) (with_step p s.0.0) s.0.1 t.0 one.0.bytes
+          let rest = steps_take h terms most (k + 1) (with_step p s.0.0) s.0.1 t.0 one.0.bytes
           less t.1 in
-          subst (TakesSteps h keys p a) (ok_is ReadExportError (s.0.0 ∷ t.0.0, t.0.1) x t.2)
-          (more_steps h keys p a s.0.0 s.0.1 t.0 one.0 one.1 one.2 rest)
+          subst (TakesSteps h terms p a) (ok_is ReadExportError (s.0.0 ∷ t.0.0, t.0.1) x t.2)
+          (more_steps h terms p a s.0.0 s.0.1 t.0 one.0 one.1 one.2 rest)
     ]
 
 -- ---- the prefix
@@ -164,41 +167,44 @@ id_takes a x are e =
     (subst (λ (text : Text). Stands a (vector w8 text) s.0.1 × IsAnchorId text) (sym id.0)
     (stands.0, id.1))
 
-key_takes : (a : At) (x : (Text × ℕ) × At) → IsBytes a.rest → export_key_at a ≡ Ok x
-    → Stands a (vector w16 x.0.0) x.1 × (signing_keys x.0.0 ≡ Some x.0.1)
+key_takes : (a : At) (x : (Text × KeyTerms) × At) → IsBytes a.rest → export_key_at a ≡ Ok x
+    → Stands a (vector w16 x.0.0) x.1 × (signing_terms x.0.0 ≡ Some x.0.1)
 unfolding export_key_at
 key_takes a x are e =
     let s = bind_ok (lifted short_export (vector_at w16 a)) (λ (key : Text
-    × At). some_or BadKey (signing_keys key.0) >>= λ (keys : ℕ). Ok ((key.0, keys), key.1)) x e in
-    let t = bind_ok (some_or BadKey (signing_keys s.0.0)) (λ (keys : ℕ). Ok ((s.0.0, keys), s.0.1))
+    × At). some_or BadKey (signing_terms key.0) >>= λ (terms : KeyTerms). Ok
+    ((key.0, terms), key.1)) x e in
+    let t = bind_ok (some_or BadKey (signing_terms s.0.0))
+    (λ (terms : KeyTerms). Ok ((s.0.0, terms), s.0.1))
     x s.2 in
     let stands = (vector_form w16 (2 ^ 16) wide16).takes a s.0.0 s.0.1 are
     (lifted_ok short_export (vector_at w16 a) s.0 s.1) in
-    subst (λ (y : (Text × ℕ) × At). Stands a (vector w16 y.0.0) y.1
-    × (signing_keys y.0.0 ≡ Some y.0.1))
+    subst (λ (y : (Text × KeyTerms) × At). Stands a (vector w16 y.0.0) y.1
+    × (signing_terms y.0.0 ≡ Some y.0.1))
     (ok_is ReadExportError ((s.0.0, t.0), s.0.1) x t.2)
-    (stands.0, some_or_ok BadKey (signing_keys s.0.0) t.0 t.1)
+    (stands.0, some_or_ok BadKey (signing_terms s.0.0) t.0 t.1)
 
 abbrev Prefix : Type 0
-Prefix = Text × (Text × (Text × ℕ))
+Prefix = Text × (Text × (Text × KeyTerms))
 
 record TakesPrefix (a : At) (x : Prefix × At) : Type 0 where
   pub stands : Stands a (prefix_text x.0.0 x.0.1.0 x.0.1.1.0) x.1
   pub cosigner : IsAnchorId x.0.0
   pub log : IsAnchorId x.0.1.0
-  pub keys : signing_keys x.0.1.1.0 ≡ Some x.0.1.1.1
+  pub terms : signing_terms x.0.1.1.0 ≡ Some x.0.1.1.1
 
 prefix_takes : (a : At) (x : Prefix × At) → IsBytes a.rest → export_prefix_at a ≡ Ok x
     → TakesPrefix a x
 unfolding export_prefix_at
 prefix_takes a x are e =
     let s = bind_ok (export_id_at a) (λ (y : Text × At). both_at export_id_at export_key_at y.1
-    >>= λ (z : (Text × (Text × ℕ)) × At). Ok ((y.0, z.0), z.1)) x e in
+    >>= λ (z : (Text × (Text × KeyTerms)) × At). Ok ((y.0, z.0), z.1)) x e in
     let t = bind_ok (both_at export_id_at export_key_at s.0.1)
-    (λ (z : (Text × (Text × ℕ)) × At). Ok ((s.0.0, z.0), z.1)) x s.2 in
+    (λ (z : (Text × (Text × KeyTerms)) × At). Ok ((s.0.0, z.0), z.1)) x s.2 in
     let u = bind_ok (export_id_at s.0.1) (λ (y : Text × At). export_key_at y.1
-    >>= λ (z : (Text × ℕ) × At). Ok ((y.0, z.0), z.1)) t.0 t.1 in
-    let w = bind_ok (export_key_at u.0.1) (λ (z : (Text × ℕ) × At). Ok ((u.0.0, z.0), z.1)) t.0
+    >>= λ (z : (Text × KeyTerms) × At). Ok ((y.0, z.0), z.1)) t.0 t.1 in
+    let w = bind_ok (export_key_at u.0.1)
+    (λ (z : (Text × KeyTerms) × At). Ok ((u.0.0, z.0), z.1)) t.0
     u.2 in
     let one = id_takes a s.0 are s.1 in
     let two = id_takes s.0.1 u.0 one.0.bytes u.1 in
@@ -209,10 +215,10 @@ prefix_takes a x are e =
           three.0);
       cosigner = one.1;
       log = two.1;
-      keys = three.1;
+      terms = three.1;
     } in
     subst (TakesPrefix a) (ok_is ReadExportError ((s.0.0, t.0.0), t.0.1) x t.2)
-    (subst (λ (z : (Text × (Text × ℕ)) × At). TakesPrefix a ((s.0.0, z.0), z.1))
+    (subst (λ (z : (Text × (Text × KeyTerms)) × At). TakesPrefix a ((s.0.0, z.0), z.1))
     (ok_is ReadExportError ((u.0.0, w.0.0), w.0.1) t.0 w.2) made)
 
 -- ---- the whole
@@ -249,7 +255,7 @@ export_takes h bytes e are is =
             log = prefix.log;
             fits = steps.fits;
             progress = steps.progress;
-            valid = rw prefix.keys steps.valid;
+            valid = rw prefix.terms steps.valid;
           } in
           let P : Export → Type 0 = λ f. (bytes ≡ exported_text f) × IsExport h f in
           subst P (same_Some (export_with s.0.0 t.0) e

@@ -16,7 +16,7 @@ use Rattle.lmots_core.specs.Strings.{u32_at}
 use Rattle.lms_core.specs.Refusals.{key_types}
 use Rattle.tls_wire.specs.Encoding.{hashes, number, vector}
 use Rattle.cosigner_core.specs.ExportReading.{IsExport, all_exported_at, export_in, exported_text}
-use Rattle.cosigner_core.specs.ExportReading.{keys_of_types, signing_keys, steps_left}
+use Rattle.cosigner_core.specs.ExportReading.{terms_of_types, signing_terms, steps_left}
 use Rattle.cosigner_core.specs.Exports.{prefix_text, records_text}
 use Rattle.cosigner_core.specs.Progress.{first_progress, is_allowed, progress_by, with_step}
 use Rattle.cosigner_core.specs.Records.{FitsStep, advance_record, sign_record, step_record}
@@ -24,6 +24,7 @@ use Rattle.cosigner_core.specs.declared.lists.Export.{Export}
 use Rattle.cosigner_core.specs.declared.progress.Progress.{Progress}
 use Rattle.cosigner_core.specs.declared.step.Step.{Step}
 use Rattle.cosigner_core.specs.declared.step.Step.TheVariants.{Advance, Sign}
+use Rattle.cosigner_core.specs.declared.terms.KeyTerms.{KeyTerms}
 use Rattle.cosigner_core.proofs.ExportAgain.{exported_again, prefix_again}
 use Rattle.cosigner_core.proofs.Encoded.{step_again}
 
@@ -73,49 +74,51 @@ step_short (Sign index start end hash proof) fits =
       hashes_size proof fits.all_hashes.0,
     )
 
-types_size : (key : Text) (keys : ℕ) → keys_of_types (hss_key_types key) ≡ Some keys
+types_size : (key : Text) (terms : KeyTerms) → terms_of_types (hss_key_types key) ≡ Some terms
     → length key ≡ 60
 unfolding hss_key_types
-types_size key keys is = go ((length key == 60) && nat_le 1 (u32_at key 0)
+types_size key terms is = go ((length key == 60) && nat_le 1 (u32_at key 0)
     && nat_le (u32_at key 0) 8) refl is
   where
     go : (b : Bool) → ((length key == 60) && nat_le 1 (u32_at key 0) && nat_le (u32_at key 0) 8) ≡ b
-        → keys_of_types (if b then with_levels (u32_at key 0) (key_types (drop 4 key)) else None)
-        ≡ Some keys → length key ≡ 60
+        → terms_of_types (if b then with_levels (u32_at key 0) (key_types (drop 4 key)) else None)
+        ≡ Some terms → length key ≡ 60
     go true test is = eqb-true (length key) 60 (and_parts (length key == 60) _
         (and_parts ((length key == 60) && nat_le 1 (u32_at key 0)) _ test).0).0
-    go false test is = let wrong : None ≡ Some keys = is in absurd cc
+    go false test is = let wrong : None ≡ Some terms = is in absurd cc
 
-key_size : (key : Text) (keys : ℕ) → signing_keys key ≡ Some keys → length key ≡ 60
-unfolding signing_keys
-key_size key keys is = types_size key keys is
+key_size : (key : Text) (terms : KeyTerms) → signing_terms key ≡ Some terms → length key ≡ 60
+unfolding signing_terms
+key_size key terms is = types_size key terms is
 
 -- ---- the records
 
 -- all of them are read as their steps
-record AreRead (h : HashFunction) (keys most k place : ℕ) (p : Progress) (steps : List Step)
+record AreRead (h : HashFunction) (terms : KeyTerms) (most k place : ℕ) (p : Progress)
+    (steps : List Step)
     : Type 0 where
   pub end : At
-  pub read : all_exported_at h keys most k p
+  pub read : all_exported_at h terms most k p
       (record { place = place; rest = records_text (map step_record steps) }) ≡ Ok (steps, end)
 
-none_read : (h : HashFunction) (keys most k place : ℕ) (p : Progress)
-    → AreRead h keys most k place p []
+none_read : (h : HashFunction) (terms : KeyTerms) (most k place : ℕ) (p : Progress)
+    → AreRead h terms most k place p []
 unfolding all_exported_at
-none_read h keys zero k place p = record { end = record { place = place; rest = [] }; read = refl }
-none_read h keys (suc most) k place p =
+none_read h terms zero k place p = record { end = record { place = place; rest = [] }; read = refl }
+none_read h terms (suc most) k place p =
     record { end = record { place = place; rest = [] }; read = refl }
 
-one_more : (h : HashFunction) (keys most k place : ℕ) (p : Progress) (x : Step) (xs : List Step)
-    → FitsStep x → is_allowed h keys p x ≡ true
-    → AreRead h keys most (k + 1) (place + length (vector w32 (step_record x))) (with_step p x) xs
-    → AreRead h keys (suc most) k place p (x ∷ xs)
+one_more : (h : HashFunction) (terms : KeyTerms) (most k place : ℕ) (p : Progress) (x : Step)
+    (xs : List Step)
+    → FitsStep x → is_allowed h terms p x ≡ true
+    → AreRead h terms most (k + 1) (place + length (vector w32 (step_record x))) (with_step p x) xs
+    → AreRead h terms (suc most) k place p (x ∷ xs)
 unfolding all_exported_at
-one_more h keys most k place p x xs fits allowed rest = record {
+one_more h terms most k place p x xs fits allowed rest = record {
   end = rest.end;
   read =
       let following : Text = records_text (map step_record xs) in
-      let one = exported_again h keys k place p (step_record x) following x (step_short x fits)
+      let one = exported_again h terms k place p (step_record x) following x (step_short x fits)
       (step_again x fits) allowed in
       let long : length (vector w32 (step_record x) ++ following) ≢ 0 = omega (
         arith,
@@ -125,31 +128,32 @@ one_more h keys most k place p x xs fits allowed rest = record {
       rw (ne_eqb (length (vector w32 (step_record x) ++ following)) 0 long, one, rest.read) refl;
 }
 
-steps_written : (h : HashFunction) (keys most k place : ℕ) (p q : Progress) (steps : List Step)
-    → AllByRecursion FitsStep steps → progress_by h keys p steps ≡ Some q
-    → length (records_text (map step_record steps)) ≤ most → AreRead h keys most k place p steps
+steps_written : (h : HashFunction) (terms : KeyTerms) (most k place : ℕ) (p q : Progress)
+    (steps : List Step)
+    → AllByRecursion FitsStep steps → progress_by h terms p steps ≡ Some q
+    → length (records_text (map step_record steps)) ≤ most → AreRead h terms most k place p steps
 unfolding progress_by
-steps_written h keys most k place p q [] fits is le = none_read h keys most k place p
-steps_written h keys zero k place p q (x ∷ xs) fits is le =
+steps_written h terms most k place p q [] fits is le = none_read h terms most k place p
+steps_written h terms zero k place p q (x ∷ xs) fits is le =
     absurd (omega (
       arith,
       length-append (vector w32 (step_record x)) (records_text (map step_record xs)),
       length-append (to_be_bytes w32 (length (step_record x))) (step_record x),
     ))
-steps_written h keys (suc most) k place p q (x ∷ xs) fits is le =
-    let made = then_some (λ (r : Progress). progress_by h keys r xs)
-    (if is_allowed h keys p x then Some (with_step p x) else None) q is in
-    let test = when_some (is_allowed h keys p x) (Some (with_step p x)) made.0 made.1 in
+steps_written h terms (suc most) k place p q (x ∷ xs) fits is le =
+    let made = then_some (λ (r : Progress). progress_by h terms r xs)
+    (if is_allowed h terms p x then Some (with_step p x) else None) q is in
+    let test = when_some (is_allowed h terms p x) (Some (with_step p x)) made.0 made.1 in
     let less : length (records_text (map step_record xs)) ≤ most = omega (
       arith,
       length-append (vector w32 (step_record x)) (records_text (map step_record xs)),
       length-append (to_be_bytes w32 (length (step_record x))) (step_record x),
     ) in
-    let next : progress_by h keys (with_step p x) xs ≡ Some q =
-    ap (λ (r : Progress). progress_by h keys r xs)
+    let next : progress_by h terms (with_step p x) xs ≡ Some q =
+    ap (λ (r : Progress). progress_by h terms r xs)
     (same_Some (with_step p x) made.0 test.1) ∙ made.2 in
-    one_more h keys most k place p x xs fits.0 test.0
-    (steps_written h keys most (k + 1) (place + length (vector w32 (step_record x)))
+    one_more h terms most k place p x xs fits.0 test.0
+    (steps_written h terms most (k + 1) (place + length (vector w32 (step_record x)))
     (with_step p x) q xs fits.1 next less)
 
 -- ---- the whole
@@ -158,14 +162,15 @@ pub export_written : (h : HashFunction) (e : Export) → IsExport h e
     → export_in h (exported_text e) ≡ Ok (Some e)
 unfolding export_in steps_left
 export_written h e is =
-    let made = then_some (λ (n : ℕ). progress_by h n (first_progress h) e.steps)
-    (signing_keys e.public) is.progress is.valid in
-    let keys : ℕ = made.0 in
+    let made = then_some (λ (t : KeyTerms). progress_by h t (first_progress h) e.steps)
+    (signing_terms e.public) is.progress is.valid in
+    let terms : KeyTerms = made.0 in
     let text : Text = records_text (map step_record e.steps) in
-    let sixty = key_size e.public keys made.1 in
+    let sixty = key_size e.public terms made.1 in
     let short : length e.public < 2 ^ 16 = omega arith in
-    let prefix = prefix_again e.cosigner e.log e.public text keys is.cosigner is.log short made.1 in
-    let rest = steps_written h keys (length text) 1 prefix.0 (first_progress h) is.progress e.steps
+    let prefix = prefix_again e.cosigner e.log e.public text terms is.cosigner is.log short made.1
+    in
+    let rest = steps_written h terms (length text) 1 prefix.0 (first_progress h) is.progress e.steps
     is.fits made.2 (omega arith) in
     let long : length (prefix_text e.cosigner e.log e.public ++ text) ≢ 0 = omega (
       arith,

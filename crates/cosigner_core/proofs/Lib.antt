@@ -1,6 +1,7 @@
 pub mod Adds
 pub mod Allowed
 pub mod After
+pub mod Brought
 pub mod Counts
 pub mod ExportAgain
 pub mod ExportForm

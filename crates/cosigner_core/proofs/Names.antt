@@ -11,7 +11,7 @@ use Rattle.journal_core.specs.Folds.{state_after, taken_from}
 use Rattle.hss_keys.specs.Keys.{SigningKey, signing_key}
 use Rattle.cosigner_core.specs.Folds.{CosignerState, after_step, begun_cosigner, cosigner_fold}
 use Rattle.cosigner_core.specs.Folds.{cosigner_of}
-use Rattle.cosigner_core.specs.Folds.{key_count, new_cosigner, next_state, progress_of}
+use Rattle.cosigner_core.specs.Folds.{new_cosigner, next_state, progress_of, terms_by}
 use Rattle.cosigner_core.specs.Folds.{with_progress}
 use Rattle.cosigner_core.specs.Progress.{is_allowed, with_step}
 use Rattle.cosigner_core.specs.Records.{cosigner_in, first_record_length, step_in}
@@ -32,7 +32,7 @@ step_keeps : (h : HashFunction) (s u : CosignerState) (said : Option Step)
 step_keeps h s u said is =
     let step = then_some (after_step h s) said u is in
     let next = with_progress s (with_step (progress_of s) step.0) in
-    let made = when_some (is_allowed h (key_count s) (progress_of s) step.0) (Some next) u step.2
+    let made = when_some (is_allowed h (terms_by s) (progress_of s) step.0) (Some next) u step.2
     in
     ap began (sym (same_Some next u made.1))
 

@@ -1,5 +1,5 @@
 -- Reading an export, with its faults in their order.
-use Rattle.std.specs.Prelude.{◌≡◌, ◌≢◌, ℕ, zero, suc, ◌+◌, ◌^◌, ◌==◌, ◌&&◌, nat_le, List, [], ◌∷◌}
+use Rattle.std.specs.Prelude.{◌≡◌, ◌≢◌, ℕ, zero, suc, ◌+◌, ◌==◌, ◌&&◌, nat_le, List, [], ◌∷◌}
 use Rattle.std.specs.Prelude.{length, Option, Some, None, option_and_then, Result, Ok, Err}
 use Rattle.std.specs.Prelude.{if◌then◌else◌, map, ◌++◌}
 use Rattle.std.specs.Int.{w8, w16, w32}
@@ -26,16 +26,18 @@ use Rattle.cosigner_core.specs.declared.error.ReadExportError.TheVariants.{BadRe
 use Rattle.cosigner_core.specs.declared.lists.Export.{Export}
 use Rattle.cosigner_core.specs.declared.progress.Progress.{Progress}
 use Rattle.cosigner_core.specs.declared.step.Step.{Step}
+use Rattle.cosigner_core.specs.declared.terms.KeyTerms.{KeyTerms}
+use Rattle.cosigner_core.specs.declared.terms.KeyTerms.TheVariants.{OneLevel}
 
--- the number of one-time keys of a key of one level, whose tree has height 5 or 10
-abbrev pub keys_of_types : Option (ℕ × LmsType × OtsType) → Option ℕ
-keys_of_types None = None
-keys_of_types (Some (levels, lms, ots)) =
-    if (levels == 1) && nat_le (height lms) 10 then Some (2 ^ height lms) else None
+-- the terms of a key of one level, whose tree has height 5 or 10
+abbrev pub terms_of_types : Option (ℕ × LmsType × OtsType) → Option KeyTerms
+terms_of_types None = None
+terms_of_types (Some (levels, lms, ots)) =
+    if (levels == 1) && nat_le (height lms) 10 then Some (OneLevel lms) else None
 
 -- the same of a public key, which has to be in its grammar (RFC 8554, section 6.1)
-unfoldable pub signing_keys : Text → Option ℕ
-signing_keys public = keys_of_types (hss_key_types public)
+unfoldable pub signing_terms : Text → Option KeyTerms
+signing_terms public = terms_of_types (hss_key_types public)
 
 -- A form that doesn't fit, as a fault of the export.
 abbrev pub short_export : ShortForm → ReadExportError
@@ -47,46 +49,46 @@ export_id_at a =
     lifted_at short_export (vector_at w8) a
     >>= λ id. blamed BadId (anchor_of id.0) >>= λ anchor. Ok (anchor, id.1)
 
--- A public key, and the number of its one-time keys.
-unfoldable pub export_key_at : Reading (Text × ℕ) ReadExportError
+-- A public key, and its terms.
+unfoldable pub export_key_at : Reading (Text × KeyTerms) ReadExportError
 export_key_at a =
     lifted_at short_export (vector_at w16) a
-    >>= λ key. some_or BadKey (signing_keys key.0) >>= λ keys. Ok ((key.0, keys), key.1)
+    >>= λ key. some_or BadKey (signing_terms key.0) >>= λ terms. Ok ((key.0, terms), key.1)
 
 -- what stands before the records: the ids of the cosigner and of its log, and the public key
-unfoldable pub export_prefix_at : Reading (Text × (Text × (Text × ℕ))) ReadExportError
+unfoldable pub export_prefix_at : Reading (Text × (Text × (Text × KeyTerms))) ReadExportError
 export_prefix_at a = both_at export_id_at (both_at export_id_at export_key_at) a
 
 -- the step that a record says, where it is allowed
-abbrev pub allowed_step : HashFunction → ℕ → Progress → Option Step → Option Step
-allowed_step h keys p None = None
-allowed_step h keys p (Some step) = if is_allowed h keys p step then Some step else None
+abbrev pub allowed_step : HashFunction → KeyTerms → Progress → Option Step → Option Step
+allowed_step h terms p None = None
+allowed_step h terms p (Some step) = if is_allowed h terms p step then Some step else None
 
 -- The record with this number: its length in four bytes, and its body, which says a step that is
 -- allowed after those before it.
-unfoldable pub exported_at : HashFunction → ℕ → ℕ → Progress → Reading Step ReadExportError
-exported_at h keys number p a =
+unfoldable pub exported_at : HashFunction → KeyTerms → ℕ → Progress → Reading Step ReadExportError
+exported_at h terms number p a =
     lifted_at short_export (vector_at w32) a
-    >>= λ body. some_or (BadRecord number) (allowed_step h keys p (step_in body.0))
+    >>= λ body. some_or (BadRecord number) (allowed_step h terms p (step_in body.0))
     >>= λ step. Ok (step, body.1)
 
 -- Records up to the end, the first of which has this number. They are at most so many.
-unfoldable pub all_exported_at : HashFunction → ℕ → ℕ → ℕ → Progress
+unfoldable pub all_exported_at : HashFunction → KeyTerms → ℕ → ℕ → Progress
     → Reading (List Step) ReadExportError
-all_exported_at h keys zero number p a = Ok ([], a)
-all_exported_at h keys (suc most) number p a =
+all_exported_at h terms zero number p a = Ok ([], a)
+all_exported_at h terms (suc most) number p a =
     if length a.rest == 0 then Ok ([], a)
-    else (exported_at h keys number p a
-    >>= λ x. all_exported_at h keys most (number + 1) (with_step p x.0) x.1
+    else (exported_at h terms number p a
+    >>= λ x. all_exported_at h terms most (number + 1) (with_step p x.0) x.1
     >>= λ xs. Ok (x.0 ∷ xs.0, xs.1))
 
 -- the steps of the records that are left
-unfoldable pub steps_left : HashFunction → ℕ → At → Result (List Step) ReadExportError
-steps_left h keys a =
-    all_exported_at h keys (length a.rest) 1 (first_progress h) a >>= λ xs. Ok xs.0
+unfoldable pub steps_left : HashFunction → KeyTerms → At → Result (List Step) ReadExportError
+steps_left h terms a =
+    all_exported_at h terms (length a.rest) 1 (first_progress h) a >>= λ xs. Ok xs.0
 
 -- An export of its head and its steps.
-abbrev pub export_with : Text × (Text × (Text × ℕ)) → List Step → Export
+abbrev pub export_with : Text × (Text × (Text × KeyTerms)) → List Step → Export
 export_with x steps = record { cosigner = x.0; log = x.1.0; public = x.1.1.0; steps = steps }
 
 -- The export that these bytes are. No bytes are none.
@@ -113,8 +115,8 @@ export_of s steps = record {
 -- How far its steps bring the cosigner of an export, where each is allowed.
 abbrev pub export_progress : HashFunction → Export → Option Progress
 export_progress h e =
-    option_and_then (λ keys. progress_by h keys (first_progress h) e.steps)
-    (signing_keys e.public)
+    option_and_then (λ terms. progress_by h terms (first_progress h) e.steps)
+    (signing_terms e.public)
 
 -- The ids are anchor ids, the key is one that signs, and each step fits a record and is allowed.
 pub record IsExport (h : HashFunction) (e : Export) : Type 0 where

@@ -9,11 +9,12 @@ use Rattle.journal_core.specs.Folds.{Fold, state_after}
 use Rattle.state_journal.specs.declared.error.StateOpenError.{StateOpenError}
 use Rattle.state_journal.specs.declared.error.StateOpenError.TheVariants.{BadRecord, Open}
 use Rattle.hss_keys.specs.Keys.{SigningState, keys_there, signing_state}
-use Rattle.cosigner_core.specs.Progress.{is_allowed, with_step}
+use Rattle.cosigner_core.specs.Progress.{is_allowed, shown_low, terms_of, with_step}
 use Rattle.cosigner_core.specs.Records.{cosigner_in, step_in}
 use Rattle.cosigner_core.specs.declared.step.Step.{Step}
 use Rattle.cosigner_core.specs.declared.progress.Progress.{Progress}
 use Rattle.cosigner_core.specs.declared.settings.CosignerSettings.{CosignerSettings}
+use Rattle.cosigner_core.specs.declared.terms.KeyTerms.{KeyTerms}
 
 -- A cosigner: its id and that of its log, what it holds of the log, and its key, which counts.
 pub record CosignerState : Type 0 where
@@ -49,9 +50,18 @@ having_signed s = record {
 abbrev pub key_count : CosignerState → ℕ
 key_count s = keys_there s.key.key.top.lms s.key.key.low s.key.children
 
+-- the terms of its key
+abbrev pub terms_by : CosignerState → KeyTerms
+terms_by s = terms_of s.key.key.top.lms s.key.key.low
+
 -- how far it has come
 abbrev pub progress_of : CosignerState → Progress
-progress_of s = record { held = s.held; next = s.key.next }
+progress_of s = record {
+  held = s.held;
+  next = s.key.next;
+  children = s.key.children;
+  low = shown_low s.key.children s.key.key.low;
+}
 
 -- the same cosigner, having come so far
 abbrev pub with_progress : CosignerState → Progress → CosignerState
@@ -59,13 +69,13 @@ with_progress s p = record {
   id = s.id;
   log = s.log;
   held = p.held;
-  key = record { key = s.key.key; children = s.key.children; next = p.next };
+  key = record { key = s.key.key; children = p.children; next = p.next };
 }
 
 -- the cosigner after a step, where it is allowed
 abbrev pub after_step : HashFunction → CosignerState → Step → Option CosignerState
 after_step h s step =
-    if is_allowed h (key_count s) (progress_of s) step
+    if is_allowed h (terms_by s) (progress_of s) step
     then Some (with_progress s (with_step (progress_of s) step)) else None
 
 -- the cosigner that a first record begins

@@ -1,9 +1,11 @@
 -- What holds of every cosigner, over any disk.
-use Rattle.std.specs.Prelude.{ℕ, ◌^◌, ◌≤◌}
-use Rattle.lms_core.specs.Heights.{IsSigningHeight, height}
-use Rattle.lms_core.specs.declared.heights.LmsType.{LmsType}
+use Rattle.std.specs.Prelude.{◌≡◌}
+use Rattle.hss_keys.specs.Keys.{CountsKeys, SigningState}
+use Rattle.cosigner_core.specs.Progress.{shown_low}
+use Rattle.cosigner_core.specs.declared.progress.Progress.{Progress}
 
--- Its key's tree has height 5 or 10, and no more than its one-time keys have signed.
-pub record IsKey (lms : LmsType) (next : ℕ) : Type 0 where
-  pub small : IsSigningHeight lms
-  pub few : next ≤ 2 ^ height lms
+-- The key can be made, and no more than its one-time keys have signed. How far it has come shows
+-- the height of its lower trees if it has one.
+pub record IsKey (s : SigningState) (p : Progress) : Type 0 where
+  pub counts : CountsKeys s
+  pub shown : p.low ≡ shown_low s.children s.key.low

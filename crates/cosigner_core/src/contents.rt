@@ -45,10 +45,12 @@ impl Model for Contents {
       id = c.settings.id;
       log = c.settings.log;
       held = c.progress.held;
-      key = signing_state c.settings.lms None c.settings.ots c.secret 0 c.progress.next;
+      key = signing_state c.settings.lms None c.settings.ots c.secret c.progress.children
+          c.progress.next;
     } };
 
-    ghost invariant = { λ c. IsKey c.settings.lms c.progress.next };
+    ghost invariant = { λ c. IsKey (signing_state c.settings.lms None c.settings.ots c.secret
+        c.progress.children c.progress.next) c.progress };
 }
 
 impl Contents {
@@ -74,13 +76,21 @@ impl Contents {
         ensures never { result ≢ Err RecordMemory }
     {
         let step = read_step(body)?;
-        match self.progress.after::<H>(self.settings.lms.leaves(), &step) {
+        match self.progress.after::<H>(self.settings.terms(), &step) {
             Some(progress) => {
                 self.progress = progress;
                 Ok(())
             }
             None => Err(RecordError::Unfit),
         }
+    }
+
+    // The number of the one-time key that signs next. It fits four bytes, since trees are small.
+    #[tactic(auto, using(crate::proofs::Keys::few_there))]
+    fn next(&self) -> u32
+        ensures { result ≡ self.now.key.next }
+    {
+        self.progress.next as u32
     }
 
     /// The key of the cosigner, which is rebuilt: the one-time keys below the next one are used.
@@ -93,8 +103,8 @@ impl Contents {
             None,
             self.settings.ots,
             &self.secret,
-            0,
-            self.progress.next,
+            self.progress.children,
+            self.next(),
         )
     }
 
@@ -173,7 +183,7 @@ impl Contents {
         {
             return Err(CosignError::BadProof);
         }
-        if self.progress.next >= self.settings.lms.leaves() {
+        if self.progress.next >= self.progress.keys(self.settings.terms()) {
             return Err(CosignError::Exhausted);
         }
         Ok(())
@@ -187,7 +197,7 @@ impl Contents {
         ensures fits { FitsSign self.now.key.next request.now.start request.now.end
             request.now.hash request.now.proof.now }
     {
-        let index = self.progress.next;
+        let index = self.next();
         StepRecord::sign(
             index,
             request.start,

@@ -6,7 +6,7 @@ ghost use Rattle.byte_formats.specs.Readings.{Answers, Moves};
 ghost use Rattle.tls_wire.specs.Reading.{vector_at};
 ghost use Rattle.cosigner_core.specs.ExportReading.{MovesUnless, export_prefix_at, export_id_at};
 ghost use Rattle.cosigner_core.specs.ExportReading.{export_in, export_key_at, exported_at};
-ghost use Rattle.cosigner_core.specs.ExportReading.{signing_keys, steps_left};
+ghost use Rattle.cosigner_core.specs.ExportReading.{signing_terms, steps_left};
 ghost use Rattle.cosigner_core.specs.Progress.{with_step};
 ghost use Rattle.cosigner_core.specs.Views.{step_said};
 ghost use Rattle.cosigner_core.specs.declared.error.ReadExportError.TheVariants.{Memory as NoCapacity};
@@ -16,6 +16,7 @@ use crate::lists::{Export, StepList};
 use crate::progress::Progress;
 use crate::record::read_step;
 use crate::step::{Step, StepRef};
+use crate::terms::KeyTerms;
 use hss_core::{PUBLIC_KEY_LEN, read_key};
 use mtc_io::Memory;
 use std::alloc::Global;
@@ -23,14 +24,14 @@ use tls_wire::{AnchorBytesError, AnchorId, Cursor, Short};
 use tree_core::TreeHash;
 use tree_proofs::Hashes;
 
-// The number of one-time keys of a public key of one level, whose tree has height 5 or 10.
-#[tactic(auto, unfolding(crate::specs::ExportReading::signing_keys))]
-fn signing_keys(public: &[u8]) -> Option<u32>
-    ensures exact { result ≡ signing_keys public.now }
-    ensures length { IfSome result (λ keys. length public.now ≡ 60) }
+// The terms of a public key of one level, whose tree has height 5 or 10.
+#[tactic(auto, unfolding(crate::specs::ExportReading::signing_terms))]
+fn signing_terms(public: &[u8]) -> Option<KeyTerms>
+    ensures exact { result ≡ signing_terms public.now }
+    ensures length { IfSome result (λ terms. length public.now ≡ 60) }
 {
     match read_key(public) {
-        Some((1, lms, _)) if lms.is_signing_height() => Some(lms.leaves()),
+        Some((1, lms, _)) if lms.is_signing_height() => Some(KeyTerms::OneLevel(lms)),
         _ => None,
     }
 }
@@ -61,42 +62,42 @@ fn read_id(alloc: Global, cursor: &mut Cursor<'_>) -> Result<AnchorId, ReadExpor
 }
 
 #[tactic(auto, unfolding(crate::specs::ExportReading::export_key_at))]
-fn read_public(cursor: &mut Cursor<'_>) -> Result<([u8; PUBLIC_KEY_LEN], u32), ReadExportError>
+fn read_public(cursor: &mut Cursor<'_>) -> Result<([u8; PUBLIC_KEY_LEN], KeyTerms), ReadExportError>
     ensures { Moves (λ key. key) export_key_at cursor.old result cursor.new }
 {
     let bytes = cursor.vec16()?;
-    let Some(keys) = signing_keys(bytes) else {
+    let Some(terms) = signing_terms(bytes) else {
         return Err(ReadExportError::BadKey);
     };
     let mut public = [0; PUBLIC_KEY_LEN];
     public.copy_from_slice(bytes);
-    Ok((public, keys))
+    Ok((public, terms))
 }
 
-// The two ids, the public key, and the number of its one-time keys.
+// The two ids, the public key, and its terms.
 #[tactic(auto, unfolding(crate::specs::ExportReading::export_prefix_at))]
 fn read_prefix(
     alloc: Global,
     cursor: &mut Cursor<'_>,
-) -> Result<(AnchorId, AnchorId, [u8; PUBLIC_KEY_LEN], u32), ReadExportError>
+) -> Result<(AnchorId, AnchorId, [u8; PUBLIC_KEY_LEN], KeyTerms), ReadExportError>
     ensures { MovesUnless NoCapacity (λ x. (x.0, (x.1, (x.2, x.3)))) export_prefix_at cursor.old
         result cursor.new }
 {
     let cosigner = read_id(alloc, cursor)?;
     let log = read_id(alloc, cursor)?;
-    let (public, keys) = read_public(cursor)?;
-    Ok((cosigner, log, public, keys))
+    let (public, terms) = read_public(cursor)?;
+    Ok((cosigner, log, public, terms))
 }
 
 // The record with this number, and the progress after it.
 #[tactic(auto, unfolding(crate::specs::ExportReading::exported_at))]
 fn read_record<'a, H: TreeHash>(
     cursor: &mut Cursor<'a>,
-    keys: u32,
+    terms: KeyTerms,
     number: u64,
     progress: &Progress,
 ) -> Result<(StepRef<'a>, Progress), ReadExportError>
-    ensures exact { Moves (λ x. step_said x.0) (exported_at H.hash keys number progress.now)
+    ensures exact { Moves (λ x. step_said x.0) (exported_at H.hash terms number progress.now)
         cursor.old result cursor.new }
     ensures following { IfOk result (λ x. x.1 ≡ with_step progress.now (step_said x.0)) }
     ensures forward { OnOk result (length cursor.new.rest < length cursor.old.rest) }
@@ -106,7 +107,7 @@ fn read_record<'a, H: TreeHash>(
         Ok(step) => step,
         Err(_) => return Err(ReadExportError::BadRecord(number)),
     };
-    match progress.after::<H>(keys, &step) {
+    match progress.after::<H>(terms, &step) {
         Some(following) => Ok((step, following)),
         None => Err(ReadExportError::BadRecord(number)),
     }
@@ -149,15 +150,15 @@ fn push(alloc: Global, steps: &mut Vec<Step>, step: &StepRef<'_>) -> Result<(), 
 fn read_steps<H: TreeHash>(
     alloc: Global,
     mut cursor: Cursor<'_>,
-    keys: u32,
+    terms: KeyTerms,
 ) -> Result<StepList, ReadExportError>
-    ensures { Answers NoCapacity (steps_left H.hash keys cursor.entry) result }
+    ensures { Answers NoCapacity (steps_left H.hash terms cursor.entry) result }
 {
     let mut progress = Progress::empty::<H>();
     let mut steps = Vec::new(alloc);
     while cursor.left() > 0 {
         let number = steps.len() as u64 + 1;
-        let (step, following) = read_record::<H>(&mut cursor, keys, number, &progress)?;
+        let (step, following) = read_record::<H>(&mut cursor, terms, number, &progress)?;
         push(alloc, &mut steps, &step)?;
         progress = following;
     }
@@ -184,8 +185,8 @@ pub fn read_export<H: TreeHash>(
         return Ok(None);
     }
     let mut cursor = Cursor::new(bytes);
-    let (cosigner, log, public, keys) = read_prefix(alloc, &mut cursor)?;
-    let steps = read_steps::<H>(alloc, cursor, keys)?;
+    let (cosigner, log, public, terms) = read_prefix(alloc, &mut cursor)?;
+    let steps = read_steps::<H>(alloc, cursor, terms)?;
     Ok(Some(Export {
         cosigner,
         log,

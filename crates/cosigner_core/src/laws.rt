@@ -1,7 +1,6 @@
 //! Laws of requests and records: the clauses are the laws, and the functions do nothing.
 
-ghost use Rattle.std.specs.Prelude.{◌≡◌, ◌^◌, true, List, ◌∷◌, drop, is_ok, Some, Ok};
-ghost use Rattle.lms_core.specs.Heights.{height};
+ghost use Rattle.std.specs.Prelude.{◌≡◌, true, List, ◌∷◌, drop, is_ok, None, Some, Ok};
 ghost use Rattle.byte_formats.specs.Types.{HashFunction, Text};
 ghost use Rattle.byte_formats.specs.Forms.{Anything, IsForm};
 ghost use Rattle.byte_formats.specs.Offsets.{IsBytes};
@@ -14,7 +13,7 @@ ghost use Rattle.cosigner_core.specs.declared.lists.Export.{Export};
 ghost use Rattle.cosigner_core.specs.Folds.{CosignerState, cosigner_of, progress_of};
 ghost use Rattle.hss_keys.specs.Keys.{public_of};
 ghost use Rattle.cosigner_core.specs.Openings.{FoundCosigner, cosigner_read};
-ghost use Rattle.cosigner_core.specs.Progress.{may_follow_cosigner, steps_in};
+ghost use Rattle.cosigner_core.specs.Progress.{may_follow_cosigner, steps_in, terms_of};
 ghost use Rattle.cosigner_core.specs.Records.{FitsCosigner, FitsStep, cosigner_in, cosigner_record};
 ghost use Rattle.cosigner_core.specs.Records.{step_in, step_record};
 ghost use Rattle.cosigner_core.specs.declared.step.Step.{Step};
@@ -105,12 +104,12 @@ pub fn law_cosigners_begin_with_their_settings()
     ensures following { (h : HashFunction) (first : Text) (s : CosignerSettings) (secret : Text)
         (bodies : List Text) → cosigner_in first ≡ Some (s, secret)
         → is_ok (cosigner_of h (first ∷ bodies))
-        ≡ may_follow_cosigner h (2 ^ height s.lms) bodies }
+        ≡ may_follow_cosigner h (terms_of s.lms None) bodies }
     ensures only { (h : HashFunction) (list : List Text) (t : CosignerState)
         → cosigner_of h list ≡ Ok t → (first : Text) × ((bodies : List Text)
         × ((s : CosignerSettings) × ((secret : Text) × ((list ≡ first ∷ bodies)
         × (cosigner_in first ≡ Some (s, secret))
-        × (may_follow_cosigner h (2 ^ height s.lms) bodies ≡ true))))) }
+        × (may_follow_cosigner h (terms_of s.lms None) bodies ≡ true))))) }
     ensures once { (h : HashFunction) (s : CosignerSettings) (bodies : List Text)
-        → may_follow_cosigner h (2 ^ height s.lms) bodies ≡ true → AreCounted bodies }
+        → may_follow_cosigner h (terms_of s.lms None) bodies ≡ true → AreCounted bodies }
 {}

@@ -38,6 +38,7 @@ mod requests;
 mod settings;
 mod step;
 mod step_record;
+mod terms;
 mod writing;
 
 pub use cosigner::Cosigner;
@@ -54,5 +55,6 @@ pub use reading::{read_advance, read_subtree};
 pub use requests::{AdvanceRequest, SubtreeRequest};
 pub use settings::CosignerSettings;
 pub use step::Step;
+pub use terms::KeyTerms;
 pub use tree_proofs::{Checkpoint, Hashes};
 pub use writing::{write_advance, write_subtree};

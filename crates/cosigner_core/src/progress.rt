@@ -1,35 +1,55 @@
 //! How far its steps bring a cosigner.
 
 ghost use Rattle.std.specs.Prelude.{◌≡◌};
-ghost use Rattle.cosigner_core.specs.Progress.{first_progress, progress_after};
+ghost use Rattle.cosigner_core.specs.Progress.{first_progress, keys_by, progress_after};
 ghost use Rattle.cosigner_core.specs.Views.{step_said};
 
 use crate::step::StepRef;
+use crate::terms::KeyTerms;
+use lms_core::LmsType;
 use tree_core::TreeHash;
 use tree_proofs::Checkpoint;
 
-/// What a cosigner holds of its log, and the number of the one-time key that signs next.
+/// What a cosigner holds of its log, the number of the one-time key that signs next, and how many
+/// lower trees its key has, with their height if there are any.
 #[derive(Clone, Copy, Debug)]
 pub struct Progress {
     pub held: Checkpoint,
-    pub next: u32,
+    pub next: u64,
+    pub children: u32,
+    pub low: Option<LmsType>,
 }
 
 impl Progress {
-    /// No entries are held, and no one-time key has signed.
+    /// No entries are held, no one-time key has signed, and no lower tree is made.
     pub(crate) fn empty<H: TreeHash>() -> Progress
         ensures { result ≡ first_progress H.hash }
     {
         Progress {
             held: Checkpoint::empty::<H>(),
             next: 0,
+            children: 0,
+            low: None,
         }
     }
 
-    /// The progress after one step more of a cosigner with so many one-time keys, or none where the
+    /// How many one-time keys of these terms may sign messages after so many steps.
+    pub(crate) fn keys(&self, terms: KeyTerms) -> u64
+        ensures { result ≡ keys_by terms self.now }
+    {
+        match (terms, self.low) {
+            (KeyTerms::OneLevel(lms), _) => u64::from(lms.leaves()),
+            (KeyTerms::TwoLevels { .. }, None) => 0,
+            (KeyTerms::TwoLevels { .. }, Some(low)) => {
+                u64::from(self.children) * u64::from(low.leaves())
+            }
+        }
+    }
+
+    /// The progress after one step more of a cosigner with a key of these terms, or none where the
     /// step is not allowed.
-    pub(crate) fn after<H: TreeHash>(&self, keys: u32, step: &StepRef<'_>) -> Option<Progress>
-        ensures { result ≡ progress_after H.hash keys self.now (step_said step.now) }
+    pub(crate) fn after<H: TreeHash>(&self, terms: KeyTerms, step: &StepRef<'_>) -> Option<Progress>
+        ensures { result ≡ progress_after H.hash terms self.now (step_said step.now) }
     {
         match step {
             StepRef::Advance { size, root, proof } => {
@@ -42,6 +62,8 @@ impl Progress {
                         root: *root,
                     },
                     next: self.next,
+                    children: self.children,
+                    low: self.low,
                 })
             }
             StepRef::Sign {
@@ -51,7 +73,8 @@ impl Progress {
                 hash,
                 proof,
             } => {
-                if *index != self.next || *index >= keys {
+                let index = u64::from(*index);
+                if index != self.next || index >= self.keys(terms) {
                     return None;
                 }
                 if !self.held.has_subtree::<H>(*start, *end, hash, proof) {
@@ -60,6 +83,8 @@ impl Progress {
                 Some(Progress {
                     held: self.held,
                     next: self.next + 1,
+                    children: self.children,
+                    low: self.low,
                 })
             }
         }

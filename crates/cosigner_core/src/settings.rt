@@ -1,5 +1,9 @@
 //! What is fixed when a cosigner begins.
 
+ghost use Rattle.std.specs.Prelude.{◌≡◌, None};
+ghost use Rattle.cosigner_core.specs.Progress.{terms_of};
+
+use crate::terms::KeyTerms;
 use hss_core::{LmsType, OtsType};
 use tls_wire::AnchorId;
 
@@ -14,4 +18,13 @@ pub struct CosignerSettings {
     pub lms: LmsType,
     /// The width of its one-time keys.
     pub ots: OtsType,
+}
+
+impl CosignerSettings {
+    /// The terms of its key.
+    pub(crate) fn terms(&self) -> KeyTerms
+        ensures { result ≡ terms_of self.now.lms None }
+    {
+        KeyTerms::OneLevel(self.lms)
+    }
 }

@@ -5,21 +5,22 @@ use Rattle.std.specs.List.{AllByRecursion}
 use Rattle.byte_formats.specs.Types.{HashFunction, Text}
 use Rattle.byte_formats.specs.Offsets.{IsBytes}
 use Rattle.byte_formats.proofs.Values.{then_some}
-use Rattle.cosigner_core.specs.ExportReading.{IsExport, export_in, signing_keys}
+use Rattle.cosigner_core.specs.ExportReading.{IsExport, export_in, signing_terms}
 use Rattle.cosigner_core.specs.Progress.{first_progress, progress_by}
 use Rattle.cosigner_core.specs.Records.{FitsStep}
 use Rattle.cosigner_core.specs.declared.lists.Export.{Export}
 use Rattle.cosigner_core.specs.declared.step.Step.{Step}
 use Rattle.cosigner_core.specs.declared.step.Step.TheVariants.{Advance, Sign}
+use Rattle.cosigner_core.specs.declared.terms.KeyTerms.{KeyTerms}
 use Rattle.cosigner_core.proofs.ExportForm.{export_takes}
 use Rattle.cosigner_steps.specs.Laws.{HasHashes}
 use Rattle.cosigner_steps.specs.Steps.{AreSteps}
 
 pub are_steps : (h : HashFunction) (e : Export) → IsExport h e → AreSteps h e.steps
 are_steps h e is =
-    let made = then_some (λ (keys : ℕ). progress_by h keys (first_progress h) e.steps)
-    (signing_keys e.public) is.progress is.valid in
-    record { keys = made.0; done = is.progress; each = made.2 }
+    let made = then_some (λ (terms : KeyTerms). progress_by h terms (first_progress h) e.steps)
+    (signing_terms e.public) is.progress is.valid in
+    record { terms = made.0; done = is.progress; each = made.2 }
 
 pub export_steps : (h : HashFunction) (bytes : Text) (kept : Option Export) → IsBytes bytes
     → export_in h bytes ≡ Ok kept → IfSome kept (λ e. AreSteps h e.steps)

@@ -14,6 +14,7 @@ use Rattle.cosigner_core.specs.Progress.{first_progress, is_allowed, progress_by
 use Rattle.cosigner_core.specs.declared.progress.Progress.{Progress}
 use Rattle.cosigner_core.specs.declared.step.Step.{Step}
 use Rattle.cosigner_core.specs.declared.step.Step.TheVariants.{Advance, Sign}
+use Rattle.cosigner_core.specs.declared.terms.KeyTerms.{KeyTerms}
 use Rattle.cosigner_steps.specs.Steps.{AreSteps, HasPrefix, IsWithin, held_by_first, held_by}
 use Rattle.cosigner_steps.specs.Steps.{held_sizes, with_steps}
 use Rattle.cosigner_steps.proofs.Steps.{IsAdvanceFrom, advance_checks, allowed_at, held_advance}
@@ -22,21 +23,21 @@ use Rattle.cosigner_steps.proofs.Steps.{size_held, sizes_take, step_first}
 
 -- ---- what is held at last
 
-done_by : (h : HashFunction) (keys : ℕ) (p q : Progress) (steps : List Step)
-    → progress_by h keys p steps ≡ Some q → with_steps p steps ≡ q
+done_by : (h : HashFunction) (terms : KeyTerms) (p q : Progress) (steps : List Step)
+    → progress_by h terms p steps ≡ Some q → with_steps p steps ≡ q
 unfolding progress_by with_steps
-done_by h keys p q [] e = same_Some p q e
-done_by h keys p q (step ∷ steps) e =
-    let one = step_first (is_allowed h keys p step) (with_step p step) q
-    (λ (r : Progress). progress_by h keys r steps) e in
-    done_by h keys (with_step p step) q steps one.1
+done_by h terms p q [] e = same_Some p q e
+done_by h terms p q (step ∷ steps) e =
+    let one = step_first (is_allowed h terms p step) (with_step p step) q
+    (λ (r : Progress). progress_by h terms r steps) e in
+    done_by h terms (with_step p step) q steps one.1
 
 -- Steps that are allowed bring a cosigner just so far.
-pub held_at_last : (h : HashFunction) (keys : ℕ) (q : Progress) (steps : List Step)
-    → progress_by h keys (first_progress h) steps ≡ Some q → held_by h steps ≡ q.held
+pub held_at_last : (h : HashFunction) (terms : KeyTerms) (q : Progress) (steps : List Step)
+    → progress_by h terms (first_progress h) steps ≡ Some q → held_by h steps ≡ q.held
 unfolding held_by
-held_at_last h keys q steps e =
-    ap (λ (r : Progress). r.held) (done_by h keys (first_progress h) q steps e)
+held_at_last h terms q steps e =
+    ap (λ (r : Progress). r.held) (done_by h terms (first_progress h) q steps e)
 
 pub found_at : (steps : List Step) (k : ℕ) (s t : Step) → s ≡ get_or steps k s → s ≡ t
     → t ≡ get_or steps k t
@@ -88,8 +89,9 @@ pub sign_checked : (h : HashFunction) (steps : List Step) (k index start end : �
     → Checks h start end (held_by_first h steps k).size hash (held_by_first h steps k).root proof
 unfolding held_by
 sign_checked h steps k index start end hash proof are below is =
-    sign_checks h are.keys (with_steps (first_progress h) (take k steps)) index start end hash proof
-    (allowed_at h are.keys (first_progress h) are.done steps k (Sign index start end hash proof)
+    sign_checks h are.terms
+    (with_steps (first_progress h) (take k steps)) index start end hash proof
+    (allowed_at h are.terms (first_progress h) are.done steps k (Sign index start end hash proof)
     are.each below is)
 
 pub sign_long : (h : HashFunction) (entries : List Text) (steps : List Step) (k : ℕ)
@@ -99,7 +101,7 @@ unfolding held_by
 sign_long h entries steps k (Advance size root proof) are below is prefix = tt
 sign_long h entries steps k (Sign index start end hash proof) are below is prefix =
     let checks = sign_checked h steps k index start end hash proof are below is in
-    let rise = rises_to h are.keys (first_progress h) are.done steps k are.each in
+    let rise = rises_to h are.terms (first_progress h) are.done steps k are.each in
     let all = ap (λ (xs : List Step). (held_by h xs).size) (take-length steps) in
     let long = prefix.within in
     let within = checks.within in
@@ -114,8 +116,8 @@ pub advance_at : (h : HashFunction) (steps : List Step) (k size : ℕ) (root : H
 unfolding held_by
 advance_at h steps k size root proof are below is =
     let first = first_progress h in
-    advance_checks h are.keys (with_steps first (take k steps)) size root proof
-    (allowed_at h are.keys first are.done steps k (Advance size root proof) are.each below is)
+    advance_checks h are.terms (with_steps first (take k steps)) size root proof
+    (allowed_at h are.terms first are.done steps k (Advance size root proof) are.each below is)
 
 pub nothing_held : (h : HashFunction) (entries : List Text) (steps : List Step) (k : ℕ)
     → AreSteps h steps → (held_by_first h steps k).size ≡ 0
@@ -123,7 +125,7 @@ pub nothing_held : (h : HashFunction) (entries : List Text) (steps : List Step) 
 unfolding held_by
 nothing_held h entries steps k are none =
     subst (HasPrefix h entries)
-    (sym (none_held h are.keys (first_progress h) are.done steps k are.each none))
+    (sym (none_held h are.terms (first_progress h) are.done steps k are.each none))
     (empty_prefix h entries)
 
 pub size_there : (h : HashFunction) (steps : List Step) (k start end : ℕ)

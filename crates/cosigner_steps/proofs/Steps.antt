@@ -16,10 +16,11 @@ use Rattle.tree_proofs.proofs.Checkpoints.{CheckpointsAreShown_always}
 use Rattle.tree_proofs.specs.Checkpoints.{empty_checkpoint, is_prefix_of}
 use Rattle.tree_proofs.specs.declared.checkpoint.Checkpoint.{Checkpoint}
 use Rattle.cosigner_core.specs.Progress.{first_progress, is_allowed, progress_by}
-use Rattle.cosigner_core.specs.Progress.{with_step}
+use Rattle.cosigner_core.specs.Progress.{keys_by, with_step}
 use Rattle.cosigner_core.specs.declared.progress.Progress.{Progress}
 use Rattle.cosigner_core.specs.declared.step.Step.{Step}
 use Rattle.cosigner_core.specs.declared.step.Step.TheVariants.{Advance, Sign}
+use Rattle.cosigner_core.specs.declared.terms.KeyTerms.{KeyTerms}
 use Rattle.collide.specs.Inputs.{inputs_of}
 use Rattle.cosigner_steps.specs.Steps.{held_by_first, held_by, inputs_from, held_sizes}
 use Rattle.cosigner_steps.specs.Steps.{step_inputs, with_steps}
@@ -73,19 +74,19 @@ pub step_first : (b : Bool) (q r : Progress) (next : Progress → Option Progres
 step_first true q r next e = (refl, e)
 step_first false q r next e = absurd cc
 
-pub allowed_at : (h : HashFunction) (keys : ℕ) (p q : Progress) (steps : List Step) (k : ℕ)
-    (s : Step) → progress_by h keys p steps ≡ Some q → k < length steps → s ≡ get_or steps k s
-    → is_allowed h keys (with_steps p (take k steps)) s ≡ true
+pub allowed_at : (h : HashFunction) (terms : KeyTerms) (p q : Progress) (steps : List Step) (k : ℕ)
+    (s : Step) → progress_by h terms p steps ≡ Some q → k < length steps → s ≡ get_or steps k s
+    → is_allowed h terms (with_steps p (take k steps)) s ≡ true
 unfolding progress_by with_steps
-allowed_at h keys p q [] k s e below is = absurd (omega arith)
-allowed_at h keys p q (step ∷ steps) zero s e below is =
-    let one = step_first (is_allowed h keys p step) (with_step p step) q
-    (λ (r : Progress). progress_by h keys r steps) e in
-    subst (λ (x : Step). is_allowed h keys p x ≡ true) (sym is) one.0
-allowed_at h keys p q (step ∷ steps) (suc k) s e below is =
-    let one = step_first (is_allowed h keys p step) (with_step p step) q
-    (λ (r : Progress). progress_by h keys r steps) e in
-    allowed_at h keys (with_step p step) q steps k s one.1 (omega arith) is
+allowed_at h terms p q [] k s e below is = absurd (omega arith)
+allowed_at h terms p q (step ∷ steps) zero s e below is =
+    let one = step_first (is_allowed h terms p step) (with_step p step) q
+    (λ (r : Progress). progress_by h terms r steps) e in
+    subst (λ (x : Step). is_allowed h terms p x ≡ true) (sym is) one.0
+allowed_at h terms p q (step ∷ steps) (suc k) s e below is =
+    let one = step_first (is_allowed h terms p step) (with_step p step) q
+    (λ (r : Progress). progress_by h terms r steps) e in
+    allowed_at h terms (with_step p step) q steps k s one.1 (omega arith) is
 
 -- ---- what is hashed
 
@@ -164,12 +165,13 @@ prefix_at h entries (n ∷ ns) m x (suc k) below is one =
 
 -- ---- what is allowed shows
 
-pub sign_checks : (h : HashFunction) (keys : ℕ) (p : Progress) (index start end : ℕ) (hash : Hash)
-    (proof : List Hash) → is_allowed h keys p (Sign index start end hash proof) ≡ true
+pub sign_checks : (h : HashFunction) (terms : KeyTerms) (p : Progress) (index start end : ℕ)
+    (hash : Hash)
+    (proof : List Hash) → is_allowed h terms p (Sign index start end hash proof) ≡ true
     → Checks h start end p.held.size hash p.held.root proof
-sign_checks h keys p index start end hash proof e =
+sign_checks h terms p index start end hash proof e =
     let one = and_parts (index == p.next) _ e in
-    let two = and_parts (nat_lt index keys) _ one.1 in
+    let two = and_parts (nat_lt index (keys_by terms p)) _ one.1 in
     ((CheckpointsAreShown_always h).subtree p.held start end hash proof).0 two.1
 
 pub record IsAdvanceFrom (h : HashFunction) (held : Checkpoint) (size : ℕ) (root : Hash)
@@ -177,10 +179,10 @@ pub record IsAdvanceFrom (h : HashFunction) (held : Checkpoint) (size : ℕ) (ro
   pub more : held.size < size
   pub shown : (held.size ≡ 0) ⊎ Checks h 0 held.size size held.root root proof
 
-pub advance_checks : (h : HashFunction) (keys : ℕ) (p : Progress) (size : ℕ) (root : Hash)
-    (proof : List Hash) → is_allowed h keys p (Advance size root proof) ≡ true
+pub advance_checks : (h : HashFunction) (terms : KeyTerms) (p : Progress) (size : ℕ) (root : Hash)
+    (proof : List Hash) → is_allowed h terms p (Advance size root proof) ≡ true
     → IsAdvanceFrom h p.held size root proof
-advance_checks h keys p size root proof e =
+advance_checks h terms p size root proof e =
     let one = and_parts (nat_lt p.held.size size) _ e in
     record {
       more = ltb-true p.held.size size one.0;
@@ -192,54 +194,54 @@ advance_checks h keys p size root proof e =
 
 -- ---- sizes rise
 
-pub rises : (h : HashFunction) (keys : ℕ) (p q : Progress) (steps : List Step)
-    → progress_by h keys p steps ≡ Some q → p.held.size ≤ (with_steps p steps).held.size
+pub rises : (h : HashFunction) (terms : KeyTerms) (p q : Progress) (steps : List Step)
+    → progress_by h terms p steps ≡ Some q → p.held.size ≤ (with_steps p steps).held.size
 unfolding progress_by with_steps
-rises h keys p q [] e = omega arith
-rises h keys p q (Advance size root proof ∷ steps) e =
+rises h terms p q [] e = omega arith
+rises h terms p q (Advance size root proof ∷ steps) e =
     let s = Advance size root proof in
-    let one = step_first (is_allowed h keys p s) (with_step p s) q
-    (λ (r : Progress). progress_by h keys r steps) e in
-    let more = (advance_checks h keys p size root proof one.0).more in
-    let rest = rises h keys (with_step p s) q steps one.1 in
+    let one = step_first (is_allowed h terms p s) (with_step p s) q
+    (λ (r : Progress). progress_by h terms r steps) e in
+    let more = (advance_checks h terms p size root proof one.0).more in
+    let rest = rises h terms (with_step p s) q steps one.1 in
     omega arith
-rises h keys p q (Sign index start end hash proof ∷ steps) e =
+rises h terms p q (Sign index start end hash proof ∷ steps) e =
     let s = Sign index start end hash proof in
-    let one = step_first (is_allowed h keys p s) (with_step p s) q
-    (λ (r : Progress). progress_by h keys r steps) e in
-    rises h keys (with_step p s) q steps one.1
+    let one = step_first (is_allowed h terms p s) (with_step p s) q
+    (λ (r : Progress). progress_by h terms r steps) e in
+    rises h terms (with_step p s) q steps one.1
 
-pub rises_to : (h : HashFunction) (keys : ℕ) (p q : Progress) (steps : List Step) (k : ℕ)
-    → progress_by h keys p steps ≡ Some q
+pub rises_to : (h : HashFunction) (terms : KeyTerms) (p q : Progress) (steps : List Step) (k : ℕ)
+    → progress_by h terms p steps ≡ Some q
     → (with_steps p (take k steps)).held.size ≤ (with_steps p steps).held.size
 unfolding progress_by with_steps
-rises_to h keys p q steps zero e = rises h keys p q steps e
-rises_to h keys p q [] (suc k) e = omega arith
-rises_to h keys p q (s ∷ steps) (suc k) e =
-    let one = step_first (is_allowed h keys p s) (with_step p s) q
-    (λ (r : Progress). progress_by h keys r steps) e in
-    rises_to h keys (with_step p s) q steps k one.1
+rises_to h terms p q steps zero e = rises h terms p q steps e
+rises_to h terms p q [] (suc k) e = omega arith
+rises_to h terms p q (s ∷ steps) (suc k) e =
+    let one = step_first (is_allowed h terms p s) (with_step p s) q
+    (λ (r : Progress). progress_by h terms r steps) e in
+    rises_to h terms (with_step p s) q steps k one.1
 
 -- where no entries are held, no Advance was taken
-pub none_held : (h : HashFunction) (keys : ℕ) (p q : Progress) (steps : List Step) (k : ℕ)
-    → progress_by h keys p steps ≡ Some q → (with_steps p (take k steps)).held.size ≡ 0
+pub none_held : (h : HashFunction) (terms : KeyTerms) (p q : Progress) (steps : List Step) (k : ℕ)
+    → progress_by h terms p steps ≡ Some q → (with_steps p (take k steps)).held.size ≡ 0
     → (with_steps p (take k steps)).held ≡ p.held
 unfolding progress_by with_steps
-none_held h keys p q steps zero e none = refl
-none_held h keys p q [] (suc k) e none = refl
-none_held h keys p q (Advance size root proof ∷ steps) (suc k) e none =
+none_held h terms p q steps zero e none = refl
+none_held h terms p q [] (suc k) e none = refl
+none_held h terms p q (Advance size root proof ∷ steps) (suc k) e none =
     let s = Advance size root proof in
-    let one = step_first (is_allowed h keys p s) (with_step p s) q
-    (λ (r : Progress). progress_by h keys r steps) e in
-    let more = (advance_checks h keys p size root proof one.0).more in
-    let same = none_held h keys (with_step p s) q steps k one.1 none in
+    let one = step_first (is_allowed h terms p s) (with_step p s) q
+    (λ (r : Progress). progress_by h terms r steps) e in
+    let more = (advance_checks h terms p size root proof one.0).more in
+    let same = none_held h terms (with_step p s) q steps k one.1 none in
     let empty : size ≡ 0 = sym (ap (λ (c : Checkpoint). c.size) same) ∙ none in
     absurd (omega arith)
-none_held h keys p q (Sign index start end hash proof ∷ steps) (suc k) e none =
+none_held h terms p q (Sign index start end hash proof ∷ steps) (suc k) e none =
     let s = Sign index start end hash proof in
-    let one = step_first (is_allowed h keys p s) (with_step p s) q
-    (λ (r : Progress). progress_by h keys r steps) e in
-    none_held h keys (with_step p s) q steps k one.1 none
+    let one = step_first (is_allowed h terms p s) (with_step p s) q
+    (λ (r : Progress). progress_by h terms r steps) e in
+    none_held h terms (with_step p s) q steps k one.1 none
 
 pub sizes_take : (steps : List Step) (k m : ℕ) → Contains (held_sizes (take k steps)) m
     → Contains (held_sizes steps) m

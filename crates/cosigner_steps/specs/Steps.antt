@@ -14,6 +14,7 @@ use Rattle.cosigner_core.specs.Progress.{first_progress, progress_by, with_step}
 use Rattle.cosigner_core.specs.declared.progress.Progress.{Progress}
 use Rattle.cosigner_core.specs.declared.step.Step.{Step}
 use Rattle.cosigner_core.specs.declared.step.Step.TheVariants.{Advance, Sign}
+use Rattle.cosigner_core.specs.declared.terms.KeyTerms.{KeyTerms}
 
 -- How far steps bring a cosigner, whether they are allowed or not.
 unfoldable pub with_steps : Progress → List Step → Progress
@@ -27,11 +28,11 @@ held_by h steps = (with_steps (first_progress h) steps).held
 abbrev pub held_by_first : HashFunction → List Step → ℕ → Checkpoint
 held_by_first h steps count = held_by h (take count steps)
 
--- Each step is allowed after those before it, to a cosigner with some number of one-time keys.
+-- Each step is allowed after those before it, to a cosigner with a key of some terms.
 pub record AreSteps (h : HashFunction) (steps : List Step) : Type 0 where
-  pub keys : ℕ
+  pub terms : KeyTerms
   pub done : Progress
-  pub each : progress_by h keys (first_progress h) steps ≡ Some done
+  pub each : progress_by h terms (first_progress h) steps ≡ Some done
 
 -- The first entries of a list are those of a checkpoint: there are as many, with its tree hash.
 pub record HasPrefix (h : HashFunction) (entries : List Text) (c : Checkpoint) : Type 0 where

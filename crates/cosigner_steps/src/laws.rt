@@ -1,6 +1,6 @@
 //! Laws of a cosigner's steps: the clauses are the laws, and the functions do nothing.
 
-ghost use Rattle.std.specs.Prelude.{◌≡◌, ℕ, IfSome, List, Ok, Option, Some};
+ghost use Rattle.std.specs.Prelude.{◌≡◌, IfSome, List, Ok, Option, Some};
 ghost use Rattle.std.specs.List.{AllByRecursion};
 ghost use Rattle.byte_formats.specs.Offsets.{IsBytes};
 ghost use Rattle.byte_formats.specs.Types.{HashFunction, Text};
@@ -9,6 +9,7 @@ ghost use Rattle.cosigner_core.specs.Progress.{first_progress, progress_by};
 ghost use Rattle.cosigner_core.specs.declared.lists.Export.{Export};
 ghost use Rattle.cosigner_core.specs.declared.progress.Progress.{Progress};
 ghost use Rattle.cosigner_core.specs.declared.step.Step.{Step};
+ghost use Rattle.cosigner_core.specs.declared.terms.KeyTerms.{KeyTerms};
 ghost use Rattle.cosigner_steps.specs.Laws.{HasHashes, OneListAfter};
 ghost use Rattle.cosigner_steps.specs.Steps.{AreSteps, held_by};
 
@@ -26,8 +27,8 @@ pub fn law_exports_have_allowed_steps()
 
 /// What is held at last by steps that are allowed is the checkpoint to which they lead.
 pub fn law_steps_lead_to_what_is_held()
-    ensures { (h : HashFunction) (keys : ℕ) (done : Progress) (steps : List Step)
-        → progress_by h keys (first_progress h) steps ≡ Some done → held_by h steps ≡ done.held }
+    ensures { (h : HashFunction) (terms : KeyTerms) (done : Progress) (steps : List Step)
+        → progress_by h terms (first_progress h) steps ≡ Some done → held_by h steps ≡ done.held }
 {}
 
 /// One list and a cosigner: if the list begins with what is held at last by steps that are allowed,

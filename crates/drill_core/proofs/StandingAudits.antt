@@ -39,12 +39,13 @@ use Rattle.policy_core.specs.declared.refusal.Refusal.{Refusal}
 use Rattle.policy_core.specs.declared.refusal.Refusal.TheVariants.{Grammar, ProofGrammar}
 use Rattle.policy_core.specs.declared.refusal.Refusal.TheVariants.{ProofShape}
 use Rattle.policy_core.specs.declared.store.Store.{Store}
-use Rattle.cosigner_core.specs.ExportReading.{export_of, signing_keys}
+use Rattle.cosigner_core.specs.ExportReading.{export_of, signing_terms}
 use Rattle.cosigner_core.specs.Folds.{CosignerState, cosigner_of, progress_of}
 use Rattle.cosigner_core.specs.Progress.{first_progress, progress_by, steps_in}
 use Rattle.cosigner_core.specs.declared.lists.Export.{Export}
 use Rattle.cosigner_core.specs.declared.step.Step.{Step}
 use Rattle.cosigner_core.specs.declared.step.Step.TheVariants.{Sign}
+use Rattle.cosigner_core.specs.declared.terms.KeyTerms.{KeyTerms}
 use Rattle.cosigner_core.proofs.ExportAgain.{export_again}
 use Rattle.cosigner_steps.specs.Steps.{held_by}
 use Rattle.authority_core.specs.Certificates.{parts_with, proof_for}
@@ -249,8 +250,8 @@ module _ (h : HashFunction) (number last size larger index : ℕ) (marks : List 
       let again = export_again h bytes list s are stands made in
       let steps : List Step = again.0 in
       let e : Export = export_of s steps in
-      let led = then_some (λ (keys : ℕ). progress_by h keys (first_progress h) steps)
-      (signing_keys e.public) (progress_of s) again.3 in
+      let led = then_some (λ (terms : KeyTerms). progress_by h terms (first_progress h) steps)
+      (signing_terms e.public) (progress_of s) again.3 in
       let holds : held_by h steps ≡ s.held = held_at_last h led.0 (progress_of s) steps led.2 in
       let last_size : (held_by h steps).size ≡ length (entries_to h larger) =
       ap (λ (k : Checkpoint). k.size) (holds ∙ held) ∙ sym (entries_length h larger) in

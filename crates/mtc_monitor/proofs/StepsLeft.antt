@@ -1,5 +1,5 @@
 -- How far steps bring a cosigner, step by step.
-use Rattle.std.proofs.Common.{◌≡◌, ℕ, ◌+◌, ◌<◌, ◌≤◌, List, length, drop, get_or, sym, ap, ◌∙◌}
+use Rattle.std.proofs.Common.{◌≡◌, ℕ, ◌+◌, ◌<◌, ◌≤◌, List, length, drop, get_or, None, sym, ap, ◌∙◌}
 use Rattle.std.proofs.Common.{arith}
 use Rattle.std.proofs.lemmas.List.{drop_all, drop_more}
 use Rattle.byte_formats.specs.Types.{Hash}
@@ -10,15 +10,15 @@ use Rattle.cosigner_core.specs.declared.step.Step.TheVariants.{Advance, Sign}
 use Rattle.cosigner_steps.specs.Steps.{with_steps}
 use Rattle.tree_proofs.specs.declared.checkpoint.Checkpoint.{Checkpoint}
 
--- A cosigner that holds this and has made so many signatures.
+-- A cosigner that holds this and has made so many signatures, with a key of one level.
 abbrev come_to : Checkpoint → ℕ → Progress
-come_to held signs = record { held = held; next = signs }
+come_to held signs = record { held = held; next = signs; children = 0; low = None }
 
 -- The steps from this one on bring a cosigner that has come so far to where all steps bring it, and
 -- each signature is one of the steps before.
 pub record Reaches (first : Progress) (steps : List Step) (index : ℕ) (held : Checkpoint)
     (signs : ℕ) : Type 0 where
-  pub whole : with_steps (record { held = held; next = signs }) (drop index steps)
+  pub whole : with_steps (come_to held signs) (drop index steps)
       ≡ with_steps first steps
   pub few : signs ≤ index
 
@@ -26,7 +26,7 @@ pub record Reaches (first : Progress) (steps : List Step) (index : ℕ) (held : 
 pub reaches_more : (first : Progress) (steps : List Step) (index : ℕ) (held later : Checkpoint)
     (signs more : ℕ) (step : Step) → Reaches first steps index held signs
     → index < length steps → step ≡ get_or steps index step
-    → record { held = later; next = more } ≡ with_step (record { held = held; next = signs }) step
+    → come_to later more ≡ with_step (come_to held signs) step
     → more ≤ signs + 1 → Reaches first steps (index + 1) later more
 unfolding with_steps
 reaches_more first steps index held later signs more step so_far within is next one =
@@ -34,8 +34,8 @@ reaches_more first steps index held later signs more step so_far within is next 
     let rest : List Step = drop (index + 1) steps in
     record {
       whole = ap (λ p. with_steps p rest) (next
-          ∙ ap (λ s. with_step (record { held = held; next = signs }) s) is)
-          ∙ ap (with_steps (record { held = held; next = signs }))
+          ∙ ap (λ s. with_step (come_to held signs) s) is)
+          ∙ ap (with_steps (come_to held signs))
           (sym (drop_more steps index step within))
           ∙ so_far.whole;
       few = omega arith;
@@ -71,8 +71,8 @@ reaches_sign first steps index held later signs more step key start end hash pro
 -- all steps
 pub reaches_all : (first : Progress) (steps : List Step) (index : ℕ) (held : Checkpoint)
     (signs : ℕ) → Reaches first steps index held signs → length steps ≤ index
-    → record { held = held; next = signs } ≡ with_steps first steps
+    → come_to held signs ≡ with_steps first steps
 unfolding with_steps
 reaches_all first steps index held signs so_far all =
-    ap (with_steps (record { held = held; next = signs })) (sym (drop_all index steps all))
+    ap (with_steps (come_to held signs)) (sym (drop_all index steps all))
     ∙ so_far.whole

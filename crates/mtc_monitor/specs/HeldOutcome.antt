@@ -1,12 +1,12 @@
 -- The outcome of `held EXPORT`: what the steps of an export say of its cosigner.
-use Rattle.std.specs.Prelude.{ℕ, ◌-◌, [], ◌++◌, codes, Option, None, Some}
+use Rattle.std.specs.Prelude.{ℕ, ◌-◌, [], ◌++◌, codes, Option, None, Some, option_map}
 use Rattle.std.specs.Fmt.{decimal}
 use Rattle.std.specs.List.{flat_map}
 use Rattle.base64.specs.Engines.{standard}
 use Rattle.base64.specs.GeneralPurpose.{encode_of}
 use Rattle.byte_formats.specs.Types.{HashFunction, Text}
-use Rattle.cosigner_core.specs.ExportReading.{export_in, signing_keys}
-use Rattle.cosigner_core.specs.Progress.{first_progress}
+use Rattle.cosigner_core.specs.ExportReading.{export_in, signing_terms}
+use Rattle.cosigner_core.specs.Progress.{first_progress, keys_by}
 use Rattle.cosigner_core.specs.declared.lists.Export.{Export}
 use Rattle.cosigner_core.specs.declared.progress.Progress.{Progress}
 use Rattle.cosigner_core.specs.declared.step.Step.{Step}
@@ -43,7 +43,8 @@ signed_line (Sign index start end hash proof) = codes "signed " ++ (decimal inde
 -- What it holds, how many one-time keys have signed and how many have not, and each signature.
 abbrev pub progress_lines : Export → Progress → Text
 progress_lines e p = checkpoint_lines p.held.size p.held.root ++ (signs_line p.next
-    ++ (left_line (signing_keys e.public) p.next ++ flat_map signed_line e.steps))
+    ++ (left_line (option_map (λ terms. keys_by terms p) (signing_terms e.public)) p.next
+    ++ flat_map signed_line e.steps))
 
 abbrev pub export_lines : HashFunction → Export → Text
 export_lines h e = party_lines e ++ progress_lines e (with_steps (first_progress h) e.steps)

@@ -1,11 +1,12 @@
 //! The lines of what an export says.
 
-ghost use Rattle.std.specs.Prelude.{◌≡◌, ◌++◌, IfOk, OnOk, option_map, string_bytes};
+ghost use Rattle.std.specs.Prelude.{◌≡◌, ◌++◌, None, IfOk, OnOk, option_map, string_bytes};
 ghost use Rattle.std.specs.List.{flat_map};
 ghost use Rattle.base64.specs.Engines.{standard};
 ghost use Rattle.base64.specs.GeneralPurpose.{encode_of};
-ghost use Rattle.cosigner_core.specs.ExportReading.{signing_keys};
-ghost use Rattle.cosigner_core.specs.Progress.{first_progress};
+ghost use Rattle.cosigner_core.specs.ExportReading.{signing_terms};
+ghost use Rattle.cosigner_core.specs.Progress.{first_progress, keys_by};
+ghost use Rattle.cosigner_core.specs.declared.progress.Progress.{Progress};
 ghost use Rattle.cosigner_steps.specs.Steps.{with_steps};
 ghost use Rattle.mtc_io.specs.Streams.{joined};
 ghost use Rattle.mtc_lines.specs.CheckpointLines.{checkpoint_lines};
@@ -28,9 +29,10 @@ struct Reached {
 }
 
 // How many one-time keys there are, where the public key says it.
-#[tactic(auto, unfolding(cosigner_core::specs::ExportReading::signing_keys))]
+#[tactic(auto, unfolding(cosigner_core::specs::ExportReading::signing_terms))]
 fn key_count(public: &[u8]) -> Option<u32>
-    ensures { result ≡ signing_keys public.now }
+    ensures { (p : Progress) → result
+        ≡ option_map (λ terms. keys_by terms p) (signing_terms public.now) }
 {
     match read_key(public) {
         Some((1, lms, _)) if lms.is_signing_height() => Some(lms.leaves()),
@@ -40,7 +42,7 @@ fn key_count(public: &[u8]) -> Option<u32>
 
 // How far the steps bring a cosigner that holds nothing.
 fn steps_made<H: TreeHash>(steps: &[Step]) -> Reached
-    ensures { record { held = result.held; next = result.signs }
+    ensures { record { held = result.held; next = result.signs; children = 0; low = None }
         ≡ with_steps (first_progress H.hash) steps.now }
 {
     let mut held = Checkpoint::empty::<H>();

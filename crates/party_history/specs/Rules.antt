@@ -1,15 +1,14 @@
 -- The rules of the records of logs and cosigners, by what begins them.
-use Rattle.std.specs.Prelude.{◌≡◌, ◌⊎◌, ◌^◌, Bool, List, Some, Ok, IsOk, None}
+use Rattle.std.specs.Prelude.{◌≡◌, ◌⊎◌, Bool, List, Some, Ok, IsOk, None}
 use Rattle.byte_formats.specs.Types.{Text, HashFunction}
 use Rattle.cosigner_core.specs.Folds.{CosignerState, cosigner_of}
 use Rattle.cosigner_core.specs.Openings.{cosigner_read}
-use Rattle.cosigner_core.specs.Progress.{may_follow_cosigner}
+use Rattle.cosigner_core.specs.Progress.{may_follow_cosigner, terms_of}
 use Rattle.cosigner_core.specs.Records.{cosigner_in}
 use Rattle.hss_keys.specs.Keys.{public_of, signing_key}
 use Rattle.issuance_log.specs.Folds.{LogState, log_of, may_follow_log}
 use Rattle.issuance_log.specs.Openings.{log_read}
 use Rattle.issuance_log.specs.Records.{settings_in}
-use Rattle.lms_core.specs.Heights.{height}
 use Rattle.party_history.specs.declared.start.PartyStart.{PartyStart}
 use Rattle.party_history.specs.declared.start.PartyStart.TheVariants.{Log, Cosigner}
 
@@ -17,7 +16,7 @@ use Rattle.party_history.specs.declared.start.PartyStart.TheVariants.{Log, Cosig
 abbrev pub may_follow : HashFunction → PartyStart → List Text → Bool
 may_follow h (Log settings) bodies = may_follow_log h settings bodies
 may_follow h (Cosigner settings public) bodies =
-    may_follow_cosigner h (2 ^ height settings.lms) bodies
+    may_follow_cosigner h (terms_of settings.lms None) bodies
 
 -- The first record of a party's journal says how it began: the settings of a log, or the settings
 -- of a cosigner and a secret, to which its public key belongs.

@@ -30,8 +30,8 @@ pub sign_carried : (h : HashFunction) (steps : List Step) (k index start end : �
     → IsCarried h start end hash (held_by_first h steps k) (proof_inputs h steps) proof
 unfolding held_by
 sign_carried h steps k index start end hash proof are below is whole = record {
-  checks = sign_checks h are.keys (with_steps (first_progress h) (take k steps)) index start end
-      hash proof (allowed_at h are.keys (first_progress h) are.done steps k
+  checks = sign_checks h are.terms (with_steps (first_progress h) (take k steps)) index start end
+      hash proof (allowed_at h are.terms (first_progress h) are.done steps k
       (Sign index start end hash proof) are.each below is);
   inputs = λ t within. inputs_at h (first_progress h) steps k (Sign index start end hash proof) t
       below is within;
@@ -52,8 +52,8 @@ pub leads_onward : (h : HashFunction) (steps : List Step) (k size : ℕ) (root :
     → IsOnward h (held_by_first h steps k) (proof_inputs h steps) size root proof
 unfolding held_by
 leads_onward h steps k size root proof are below is some =
-    let shown = advance_checks h are.keys (with_steps (first_progress h) (take k steps)) size root
-    proof (allowed_at h are.keys (first_progress h) are.done steps k (Advance size root proof)
+    let shown = advance_checks h are.terms (with_steps (first_progress h) (take k steps)) size root
+    proof (allowed_at h are.terms (first_progress h) are.done steps k (Advance size root proof)
     are.each below is) in
     let more = shown.more in
     record {

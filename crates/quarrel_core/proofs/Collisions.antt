@@ -187,7 +187,7 @@ key_is h steps k index start end hash proof are at =
     let p = with_steps (first_progress h) (take k steps) in
     let s : Step = Sign index start end hash proof in
     let below = slice_get_within steps k (Sign index start end hash proof) at in
-    let allowed = allowed_at h are.keys (first_progress h) are.done steps k
+    let allowed = allowed_at h are.terms (first_progress h) are.done steps k
     (Sign index start end hash proof) are.each below
     (read_at steps k (Sign index start end hash proof) at) in
     eqb-true index p.next (and_parts (index == p.next) _ allowed).0
