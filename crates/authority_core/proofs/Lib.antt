@@ -9,6 +9,7 @@ pub mod Marks
 mod Sizes
 pub mod Issued
 pub mod IssuedLists
+mod SwitchedLogs
 pub mod Accepted
 pub mod Modelled
 mod Answered

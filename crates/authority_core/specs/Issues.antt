@@ -35,8 +35,8 @@ abbrev pub issued_batch : HashFunction → LogView → List RequestParts → Tex
 issued_batch h v requests = batch_record (issued_items h v requests)
 
 -- The log with these items.
-abbrev pub issued_list : HashFunction → LogView → List RequestParts → LogState → LogState
-issued_list h v requests s = with_items (issued_items h v requests) s
+abbrev pub issued_log_of_all : HashFunction → LogView → List RequestParts → LogState → LogState
+issued_log_of_all h v requests s = with_items (issued_items h v requests) s
 
 -- The answer as one of the log.
 abbrev pub of_log : Result ℕ IssueError → Result ℕ LogError

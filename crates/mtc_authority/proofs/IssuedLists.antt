@@ -20,7 +20,7 @@ use Rattle.issuance_log.specs.declared.error.LogError.TheVariants.{Full, TooLarg
 use Rattle.issuance_log.specs.declared.error.LogError.TheVariants.{TooMany}
 use Rattle.issuance_log.specs.declared.log.Log.{Log as OpenLog}
 use Rattle.authority_core.specs.Issues.{BatchKeepsToOrMemory, issued_batch, issued_items}
-use Rattle.authority_core.specs.Issues.{issued_list, of_log}
+use Rattle.authority_core.specs.Issues.{issued_log_of_all, of_log}
 use Rattle.authority_core.specs.declared.issuing.error.IssueError.{IssueError}
 use Rattle.authority_core.specs.declared.issuing.error.IssueError.TheVariants.{Log}
 use Rattle.authority_core.specs.Requests.{RequestParts}
@@ -99,12 +99,13 @@ module _ {H D : Type 0} {hashes : Hashes H} {g : Ghosts D} (h : HashFunction) (r
   -- what the call leaves, by its answer
   abbrev pub HasIssuedList : Result ℕ LogError → Type 0
   HasIssuedList result = LogAppends body (more_entries (length rs))
-      (issued_list h (view_of old) rs) old new result
+      (issued_log_of_all h (view_of old) rs) old new result
 
   pub list_issued_so : (index : ℕ) → refusal ≡ None → HasIssuedList (Ok index)
       → HasWorkedOnLog name (issue_list_says h rs) old new (replied (said Done line))
   list_issued_so index free run = done_so outcome_by refusal_by name old new ready body
-      line (more_entries (length rs)) (issued_list h (view_of old) rs) (λ list. refl) free index run
+      line (more_entries (length rs)) (issued_log_of_all h (view_of old) rs) (λ list. refl) free
+      index run
 
   contents : (why : LogError) → refusal ≡ Some why → log_disk new ≡ log_disk old
       → HasWorkedOnLog name (issue_list_says h rs) old new
@@ -125,7 +126,7 @@ module _ {H D : Type 0} {hashes : Hashes H} {g : Ghosts D} (h : HashFunction) (r
       contents (Append append_error.Broken) is run.journal.leaves.disk
   list_refused_so (Log (Append append_error.Failed)) run is =
       failed_so outcome_by refusal_by name old new ready body line (more_entries (length rs))
-      (issued_list h (view_of old) rs) (λ list. refl) is run
+      (issued_log_of_all h (view_of old) rs) (λ list. refl) is run
   list_refused_so (Log Memory) run is =
       out_of_memory_so outcome_by refusal_by name old new ready run.journal.leaves.disk
   list_refused_so (Log other) run is = absurd is
@@ -163,7 +164,7 @@ module _ {H D : Type 0} {hashes : Hashes H} {g : Ghosts D} (h : HashFunction) (r
   -- the record makes a log with those before it
   abbrev pub IsSoundAfter : List Text → Type 0
   IsSoundAfter list = log_of h (list ++ body ∷ [])
-      ≡ Ok (issued_list h (view_of old) rs (shown_with (view_of old) list))
+      ≡ Ok (issued_log_of_all h (view_of old) rs (shown_with (view_of old) list))
 
   adds_valid : (list : List Text) (why : Option LogError) → (why ≡ None → IsSoundAfter list)
       → AddsValid (IsLog h) (journaled_by (outcome_by (view_of old) list why))

@@ -69,7 +69,7 @@ pub fn law_issued_lists_keep_to_the_rules()
     ensures { (h : HashFunction) (list : List Text) (s : LogState) (rs : List RequestParts)
         → ((bytes : Text) → length (h bytes) ≡ 32) → IsAnchorId s.settings.id
         → AllByRecursion CanBeIssued rs → 1 ≤ length rs
-        → log_of h list ≡ Ok s → IsSound h s → length s.entries + length rs ≤ s.settings.limit
+        → log_of h list ≡ Ok s → length s.entries + length rs ≤ s.settings.limit
         → fitting most_listed (issued_items h (view_in s) rs) ≡ length rs
         → has_large (issued_items h (view_in s) rs) ≡ false
         → log_of h (list ++ issued_batch h (view_in s) rs ∷ [])

@@ -12,7 +12,7 @@ ghost use Rattle.issuance_log.specs.Words.{log_end, log_broken, log_records, log
 ghost use Rattle.issuance_log.specs.Words.{modelled_state, view_of, LogAppends};
 ghost use Rattle.authority_core.specs.Acceptance.{IsOwnEntry};
 ghost use Rattle.authority_core.specs.Issues.{BatchKeepsToOrMemory, HasIssuedAll, issued_batch};
-ghost use Rattle.authority_core.specs.Issues.{issued_items, issued_list, of_log};
+ghost use Rattle.authority_core.specs.Issues.{issued_items, issued_log_of_all, of_log};
 ghost use Rattle.authority_core.specs.Issuing.{entry_for};
 
 use crate::issuing::entry::entry_of_request;
@@ -89,7 +89,7 @@ pub fn issue_list<H: TreeHash, D: Disk, T: Disk>(
     requires { 1 ≤ length requests.now }
     ensures appends { LogAppends (issued_batch H.hash (view_of log.old) requests.now)
         (more_entries (length requests.now))
-        (issued_list H.hash (view_of log.old) requests.now) log.old log.new (of_log result) }
+        (issued_log_of_all H.hash (view_of log.old) requests.now) log.old log.new (of_log result) }
     ensures tiles { log_tiles_disk log.new ≡ log_tiles_disk log.old }
     ensures index { IfOk result (λ index. index ≡ (view_of log.old).size) }
     ensures issued { IfOk result (λ index. IfSome (modelled_state log.new)
@@ -102,7 +102,7 @@ pub fn issue_list<H: TreeHash, D: Disk, T: Disk>(
         (issued_items H.hash (view_of log.old) requests.now) ≡ None
         → IfSome (log_records log.old) (λ list. log_of H.hash
         (list ++ issued_batch H.hash (view_of log.old) requests.now ∷ [])
-        ≡ Ok (issued_list H.hash (view_of log.old) requests.now
+        ≡ Ok (issued_log_of_all H.hash (view_of log.old) requests.now
         (shown_with (view_of log.old) list))) }
 {
     log.law_sound();

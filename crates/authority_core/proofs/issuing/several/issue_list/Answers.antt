@@ -10,7 +10,7 @@ use Rattle.issuance_log.specs.Words.{LogAppends, modelled_state, view_of}
 use Rattle.issuance_log.specs.declared.error.LogError.{LogError}
 use Rattle.issuance_log.specs.declared.error.LogError.TheVariants.{Memory}
 use Rattle.issuance_log.proofs.Asked.{not_touched}
-use Rattle.authority_core.specs.Issues.{issued_batch, issued_items, issued_list}
+use Rattle.authority_core.specs.Issues.{issued_batch, issued_items, issued_log_of_all}
 use Rattle.authority_core.proofs.Answered.{of_refusal}
 use Rattle.authority_core.proofs.IssuedLists.{count_issued, issued_known, items_of_log, own_of_log}
 use Rattle.authority_core.proofs.issuing.several.issue_list.Goals as goal
@@ -25,7 +25,7 @@ returns-clause-appends g c =
     let same = c.as_slice.ensures.value ∙ c.in_ok-items.ensures.items
     ∙ items_of_log h _ _ (view_of log) rs c.form-form.ensures named in
     subst (λ (n : ℕ). LogAppends (issued_batch h (view_of log) rs) (more_entries n)
-    (issued_list h (view_of log) rs) log c.add_all.new.self (Ok c.in_ok-index.index))
+    (issued_log_of_all h (view_of log) rs) log c.add_all.new.self (Ok c.in_ok-index.index))
     (count_issued h (log_form (view_of log)) (view_of log).settings.id rs)
     (subst (λ (xs : List (Text × Text)). LogAppends (batch_record xs) (more_entries (length xs))
     (with_items xs) log c.add_all.new.self (Ok c.in_ok-index.index)) same
@@ -71,10 +71,10 @@ returns-in_err-items-clause-appends g c =
     let h = g.H.TreeHash.hash in
     let rs = c.args.requests.now in
     of_refusal (λ (o : Result ℕ LogError). LogAppends (issued_batch h (view_of log) rs)
-    (more_entries (length rs)) (issued_list h (view_of log) rs) log log o)
+    (more_entries (length rs)) (issued_log_of_all h (view_of log) rs) log log o)
     c.from_residual.result Memory c.from_residual.ensures.1
     (not_touched log (issued_batch h (view_of log) rs) (more_entries (length rs))
-    (issued_list h (view_of log) rs) (g.met.D.Disk.only_now _))
+    (issued_log_of_all h (view_of log) rs) (g.met.D.Disk.only_now _))
 
 pub returns-in_err-index-clause-appends : goal.returns-in_err-index-clause-appends
 returns-in_err-index-clause-appends g c =
@@ -87,10 +87,10 @@ returns-in_err-index-clause-appends g c =
     let same = c.as_slice.ensures.value ∙ c.in_ok-items.ensures.items
     ∙ items_of_log h _ _ (view_of log) rs c.form-form.ensures named in
     of_refusal (λ (o : Result ℕ LogError). LogAppends (issued_batch h (view_of log) rs)
-    (more_entries (length rs)) (issued_list h (view_of log) rs) log c.add_all.new.self o)
+    (more_entries (length rs)) (issued_log_of_all h (view_of log) rs) log c.add_all.new.self o)
     c.from_residual-in_err-index.result why c.from_residual-in_err-index.ensures.1
     (subst (λ (n : ℕ). LogAppends {X = ℕ} (issued_batch h (view_of log) rs) (more_entries n)
-    (issued_list h (view_of log) rs) log c.add_all.new.self (Err why))
+    (issued_log_of_all h (view_of log) rs) log c.add_all.new.self (Err why))
     (count_issued h (log_form (view_of log)) (view_of log).settings.id rs)
     (subst (λ (xs : List (Text × Text)). LogAppends {X = ℕ} (batch_record xs)
     (more_entries (length xs)) (with_items xs) log c.add_all.new.self (Err why)) same
