@@ -11,8 +11,8 @@ use Rattle.mtc_command.specs.Answers.{Ending, no_memory, replied, room_failed, s
 use Rattle.mtc_command.specs.declared.answer.Said.TheVariants.{Done}
 use Rattle.mtc_command.specs.declared.answer.Stop.{Stop}
 
--- What of a text has gone out where there is no reply: where a file failed a prefix of it; and where
--- memory was refused a prefix that isn't all of it, since nothing is left to do after the last byte.
+-- What of a text has gone out where there is no reply: where a file failed a prefix of it, and
+-- where memory was refused one that isn't all of it: nothing is left to do after its last byte.
 abbrev pub WentOutBefore : Ending → Option Text → Option Text → Text → Type 0
 WentOutBefore (replied reply) old new text = ⊥
 WentOutBefore (room_failed file) old new text = AppendsPrefix old new text
