@@ -268,8 +268,8 @@ fn answer<'a, H: TreeHash, R: Room, O: Sink>(
 /// no more. Tests come in the order of the program's steps: the arguments, the input files, their
 /// grammars (a certificate's with its judgement), the journal, the log's tiles, and the command's
 /// own. A failure of `err` changes no status. `entries`, `entries-from` and `export` write while
-/// they read their journal: with 5 and 8 a prefix of the text may have gone out, after all that is
-/// done with the journal but read it.
+/// they read their journal: with 5 and 8 a prefix of the text may have gone out, with 8 not its
+/// last byte. After it is opened that journal is only read.
 ///
 /// What follows of each run, and how it ends as steps of a party, is [`crate::law_runs_are_steps`].
 pub fn run<H: TreeHash, R: Room, O: Sink, E: Sink>(
