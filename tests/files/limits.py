@@ -1,5 +1,7 @@
 """Limits on memory and on the size of inputs."""
 
+import functools
+import hashlib
 import resource
 import signal
 import subprocess
@@ -107,12 +109,42 @@ def check_extensions(scene, _kills):
     scene.notes.append(f"{spent:.1f} s of the processor")
 
 
+def entries_of(text):
+    """The entries of a list of items, each before its key."""
+    while text:
+        size = int.from_bytes(text[:2], "big")
+        yield text[2:2 + size]
+        text = text[2 + size:]
+        text = text[2 + int.from_bytes(text[:2], "big"):]
+
+
+def root_lines(text, entry, count):
+    """What `root` prints of a list of this text and of so many items more with one entry (RFC 9162, 2.1.1)."""
+    leaves = [hashlib.sha256(b"\0" + it).digest() for it in [*entries_of(text), entry]]
+    before = len(leaves) - 1
+
+    @functools.cache
+    def root_from(start, size):
+        if size == 1:
+            return leaves[start]
+        left = 1 << (size - 1).bit_length() - 1
+        return hashlib.sha256(b"\1" + root_of(start, left) + root_of(start + left, size - left)).digest()
+
+    def root_of(start, size):
+        return root_from(min(start, before), size)
+
+    return f"size {before + count}\nroot {root_of(0, before + count).hex()}\n"
+
+
 def check_long_entries(scene, _kills):
-    """The entries of an `audit` and of `trust-landmarks` may have more than 16,777,216 bytes, and those of another input may not"""
+    """The entries of `audit`, `trust-landmarks` and `root` may have more than 16,777,216 bytes, and those of another input may not"""
     # An entry that isn't in its form is taken as it is, without a key.
-    more = b"\xff\xff" + b"\xff" * 0xFFFF + b"\0\0"
-    scene.write("long", scene.bytes("entries") + more * (MOST // len(more) + 1))
+    entry = b"\xff" * 0xFFFF
+    more = b"\xff\xff" + entry + b"\0\0"
+    count = MOST // len(more) + 1
+    scene.write("long", scene.bytes("entries") + more * count)
     yield from unlike("they are longer", len(scene.bytes("long")) > MOST, True)
+    yield from unlike("root", scene.run("root long"), (0, root_lines(scene.bytes("entries"), entry, count), ""))
     yield from unlike("audit", scene.run(f"audit light trusting {NOW} long none"), (0, "stands 1\n", ""))
     # The store of the scene has the tables of the same log's first entries.
     head, tables = f'[log]\nid = "{LOG}"\n', scene.bytes("trusting").decode()
@@ -128,6 +160,7 @@ def check_many_items(scene, _kills):
     scene.write("many", scene.bytes("entries") + bytes(2 * MOST))
     limit = 1 << 24
     tables = scene.said("trust-landmarks list 2 entries").decode()
-    for words, text in ((f"audit light trusting {NOW} many none", "stands 1\n"), ("trust-landmarks list 2 many", tables)):
+    root = root_lines(scene.bytes("entries"), b"", 2 * MOST // 4)
+    for words, text in ((f"audit light trusting {NOW} many none", "stands 1\n"), ("trust-landmarks list 2 many", tables), ("root many", root)):
         found = scene.run(words, preexec_fn=lambda: resource.setrlimit(resource.RLIMIT_AS, (limit, limit)))
         yield from unlike(words.split()[0], found, (0, text, ""))
