@@ -11,7 +11,7 @@ trap 'rm -rf "$folder"' EXIT
 # Else each command of the tour would try to build it again.
 "$root/mtc" member "$root/examples/first.member" >/dev/null || exit 70
 mkdir "$folder/clone"
-for name in mtc examples; do
+for name in mtc examples tools; do
     ln -s "$root/$name" "$folder/clone/$name"
 done
 
