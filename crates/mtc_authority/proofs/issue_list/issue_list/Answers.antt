@@ -1,4 +1,4 @@
-use Rattle.std.proofs.Common.{[], ◌∷◌, ◌≡◌, ◌≢◌, Err, Ok, inl, inr, refl, subst, sym}
+use Rattle.std.proofs.Common.{[], ◌∷◌, ◌≡◌, ◌≢◌, ◌∙◌, Err, Ok, ap, inl, inr, refl, subst, sym}
 use Rattle.std.proofs.lemmas.Result.{err_from_is_err_and}
 use Rattle.byte_formats.specs.Types.{Text}
 use Rattle.authority_core.specs.RequestLists.{requests_of}
@@ -42,16 +42,17 @@ returns-in-Ok-clause-serves g c =
     let old = c.args.room.now in
     let mid = c.read_input.new.room in
     let read = c.in_ok-text.ensures in
-    let is : requests_of c.in_ok-text.text ≡ Ok c.in-Ok.requests.items =
+    let rs = c.from_vec.result in
+    let is : requests_of c.in_ok-text.text ≡ Ok rs =
     subst (λ (t : Text). requests_of t ≡ Ok c.in-Ok.requests.items) c.as_slice.ensures
-    c.in-Ok.ensures.ok in
+    c.in-Ok.ensures.ok ∙ ap Ok (sym c.from_vec.ensures) in
     following rooms g.R.Dsk.Disk (journal ∷ tiles ∷ file ∷ []) (journal ∷ tiles ∷ []) (journal ∷ [])
     (tiles ∷ []) (issue_list_outcome h journal file (rooms.file old))
     (log_outcome h journal (rooms.file mid journal) (rooms.file mid tiles)
-    (IssueList c.in-Ok.requests.items)) old mid
+    (IssueList rs)) old mid
     c.on_log.new.room (ending_of c.on_log.result) read.all_closed
     (λ t. all_asked_so h journal file (rooms.file old) c.in_ok-text.text (read.bytes t).0
-    (read.bytes t).1 (rooms.file mid journal) (rooms.file mid tiles) c.in-Ok.requests.items is
+    (read.bytes t).1 (rooms.file mid journal) (rooms.file mid tiles) rs is
     (read.all_closed.others journal tt).bytes (read.all_closed.others tiles tt).bytes)
     (λ name is. elim is [
       | inl same ↦ inl same
@@ -92,16 +93,17 @@ returns-in-Ok-clause-valid g c =
     let old = c.args.room.now in
     let mid = c.read_input.new.room in
     let read = c.in_ok-text.ensures in
-    let is : requests_of c.in_ok-text.text ≡ Ok c.in-Ok.requests.items =
+    let rs = c.from_vec.result in
+    let is : requests_of c.in_ok-text.text ≡ Ok rs =
     subst (λ (t : Text). requests_of t ≡ Ok c.in-Ok.requests.items) c.as_slice.ensures
-    c.in-Ok.ensures.ok in
+    c.in-Ok.ensures.ok ∙ ap Ok (sym c.from_vec.ensures) in
     after_valid rooms g.R.Dsk.Disk (IsLog h) (journal ∷ [])
     (issue_list_outcome h journal file (rooms.file old))
     (log_outcome h journal (rooms.file mid journal) (rooms.file mid tiles)
-    (IssueList c.in-Ok.requests.items)) old mid
+    (IssueList rs)) old mid
     c.on_log.new.room read.all_closed
     (λ t. all_asked_so h journal file (rooms.file old) c.in_ok-text.text (read.bytes t).0
-    (read.bytes t).1 (rooms.file mid journal) (rooms.file mid tiles) c.in-Ok.requests.items is
+    (read.bytes t).1 (rooms.file mid journal) (rooms.file mid tiles) rs is
     (read.all_closed.others journal tt).bytes (read.all_closed.others tiles tt).bytes)
     c.on_log.ensures.valid
 
@@ -162,16 +164,17 @@ returns-in-Ok-clause-stores g c =
     let old = c.args.room.now in
     let mid = c.read_input.new.room in
     let read = c.in_ok-text.ensures in
-    let is : requests_of c.in_ok-text.text ≡ Ok c.in-Ok.requests.items =
+    let rs = c.from_vec.result in
+    let is : requests_of c.in_ok-text.text ≡ Ok rs =
     subst (λ (t : Text). requests_of t ≡ Ok c.in-Ok.requests.items) c.as_slice.ensures
-    c.in-Ok.ensures.ok in
+    c.in-Ok.ensures.ok ∙ ap Ok (sym c.from_vec.ensures) in
     after_stored (HasTilesOf h) (IsLog h) rooms g.R.Dsk.Disk (journal ∷ []) (tiles ∷ [])
     (issue_list_outcome h journal file (rooms.file old))
     (log_outcome h journal (rooms.file mid journal) (rooms.file mid tiles)
-    (IssueList c.in-Ok.requests.items)) old mid
+    (IssueList rs)) old mid
     c.on_log.new.room read.all_closed
     (λ t. all_asked_so h journal file (rooms.file old) c.in_ok-text.text (read.bytes t).0
-    (read.bytes t).1 (rooms.file mid journal) (rooms.file mid tiles) c.in-Ok.requests.items is
+    (read.bytes t).1 (rooms.file mid journal) (rooms.file mid tiles) rs is
     (read.all_closed.others journal tt).bytes (read.all_closed.others tiles tt).bytes)
     c.on_log.ensures.stores
 

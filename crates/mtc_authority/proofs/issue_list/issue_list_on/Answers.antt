@@ -1,7 +1,7 @@
 use Rattle.std.proofs.Common.{inl, refl, ◌≡◌, ◌∙◌, ℕ, List, length, ap, subst, sym}
 use Rattle.byte_formats.specs.Types.{Text}
 use Rattle.authority_core.specs.Requests.{RequestParts}
-use Rattle.mtc_command.specs.Answers.{Ending, replied, said}
+use Rattle.mtc_command.specs.Answers.{Ending, replied, said, stop_ending}
 use Rattle.mtc_command.specs.declared.answer.Said.TheVariants.{Done}
 use Rattle.mtc_authority.specs.ListOutcomes.{issue_list_says, issued_lines}
 use Rattle.mtc_authority.specs.Works.{HasWorkedOnLog, StaysLog}
@@ -37,8 +37,8 @@ returns-in-Err-clause-works g c =
     let old = c.args.log.now in
     let new = c.issue_list.new.log in
     let rs = c.as_slice-requests.result.now in
-    subst (λ (xs : List RequestParts). HasWorkedOnLog name (issue_list_says h xs) old new _)
-    c.as_slice-requests.ensures.value
+    subst (λ (xs : List RequestParts). HasWorkedOnLog name (issue_list_says h xs) old new
+    (stop_ending c.refuse_entries.result)) c.as_slice-requests.ensures.value
     (subst (λ (e : Ending). HasWorkedOnLog name (issue_list_says h rs) old new e)
     (sym c.refuse_entries.ensures)
     (list_refused_so h rs name old new c.requires c.in-Err.why c.in-Err.ensures.appends
