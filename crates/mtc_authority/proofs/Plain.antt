@@ -2,7 +2,7 @@
 use Rattle.std.proofs.Common.{◌≡◌, ◌≢◌, ◌^◌, ◌≤◌, ℕ, List, [], ◌∷◌, ◌++◌, length, Option, None}
 use Rattle.std.proofs.Common.{Some, Ok, Err, refl, subst, sym, ap, ◌∙◌, arith}
 use Rattle.std.specs.Int.{w8, w16, w64}
-use Rattle.std.specs.Prelude.{map}
+use Rattle.std.specs.Prelude.{flat_map, map}
 use Rattle.std.proofs.lemmas.List.{length-map, map-append}
 use Rattle.byte_formats.specs.Types.{HashFunction, Text}
 use Rattle.byte_formats.proofs.Steps.{ok_is}
@@ -19,8 +19,9 @@ use Rattle.issuance_log.specs.Folds.{LogState, LogView, log_after_step, log_fold
 use Rattle.issuance_log.specs.Folds.{next_log, takes_items, takes_landmark, takes_switch, view_in}
 use Rattle.issuance_log.specs.Folds.{with_items, with_mark, with_switch}
 use Rattle.issuance_log.specs.LogSteps.{log_step}
-use Rattle.issuance_log.specs.Records.{added_in, entry_record, entry_tag, landmark_record}
-use Rattle.issuance_log.specs.Records.{landmark_tag, mark_in, size_in, size_record, tagged}
+use Rattle.issuance_log.specs.Records.{added_in, batch_record, batch_tag, entry_record, entry_tag}
+use Rattle.issuance_log.specs.Records.{item_text, landmark_record, landmark_tag, mark_in, size_in}
+use Rattle.issuance_log.specs.Records.{size_record, tagged}
 use Rattle.issuance_log.specs.Records.{switch_in, tiled_in, tiles_tag}
 use Rattle.issuance_log.specs.declared.error.LogError.{LogError}
 use Rattle.issuance_log.proofs.After.{when}
@@ -30,21 +31,29 @@ use Rattle.mtc_command.specs.Made.{Journaled, appended, reads, started, untouche
 use Rattle.mtc_command.specs.Works.{journaled_by}
 use Rattle.mtc_authority.specs.IssueOutcome.{issued_by}
 use Rattle.mtc_authority.specs.LandmarkOutcomes.{marked_by}
+use Rattle.mtc_authority.specs.ListOutcomes.{list_issued_by}
 use Rattle.mtc_authority.specs.StoredTiles.{HasTilesOf}
 use Rattle.mtc_authority.specs.SwitchOutcome.{switched_by}
 use Rattle.mtc_authority.specs.Works.{found_log, log_says}
 use Rattle.mtc_authority.specs.declared.work.Work.{Work}
-use Rattle.mtc_authority.specs.declared.work.Work.TheVariants.{Cert, Checkpoint, Consist, Entries}
-use Rattle.mtc_authority.specs.declared.work.Work.TheVariants.{EntriesFrom}
-use Rattle.mtc_authority.specs.declared.work.Work.TheVariants.{Issue, Landmark, Landmarks}
-use Rattle.mtc_authority.specs.declared.work.Work.TheVariants.{LightCert, Subtree, Switch, Tile}
+use Rattle.mtc_authority.specs.declared.work.Work.TheVariants.{Cert, Certs, Checkpoint, Consist}
+use Rattle.mtc_authority.specs.declared.work.Work.TheVariants.{Entries, EntriesFrom, Issue}
+use Rattle.mtc_authority.specs.declared.work.Work.TheVariants.{IssueList, Landmark, Landmarks}
+use Rattle.mtc_authority.specs.declared.work.Work.TheVariants.{LightCert, LightCerts, Subtree}
+use Rattle.mtc_authority.specs.declared.work.Work.TheVariants.{Switch, Tile}
 
--- an Entry and a Landmark are no Tiles
+-- an Entry, a Batch and a Landmark are no Tiles
 entry_plain : (entry key : Text) → tiled_in (entry_record entry key) ≡ None
 unfolding size_in entry_record
 entry_plain entry key = ap (tagged tiles_tag (number_at w64))
     ((number_form w8 (2 ^ 8) wide8).again entry_tag 0 (vector w16 entry ++ vector w16 key)
     (omega arith) tt)
+
+batch_plain : (items : List (Text × Text)) → tiled_in (batch_record items) ≡ None
+unfolding size_in batch_record
+batch_plain items = ap (tagged tiles_tag (number_at w64))
+    ((number_form w8 (2 ^ 8) wide8).again batch_tag 0
+    (number w16 (length items) ++ flat_map item_text items) (omega arith) tt)
 
 mark_plain : (size : ℕ) → tiled_in (landmark_record size) ≡ None
 unfolding size_in size_record
@@ -118,6 +127,11 @@ module _ (h : HashFunction) where
     issue_plain r v None = λ t. plain_goes h s within t list _ made (entry_plain _ _)
     issue_plain r v (Some why) = tt
 
+    list_plain : (rs : List RequestParts) (v : LogView) (why : Option LogError)
+        → IsPlain (journaled_by (list_issued_by h rs v list why))
+    list_plain rs v None = λ t. plain_goes h s within t list _ made (batch_plain _)
+    list_plain rs v (Some why) = tt
+
     landmark_plain : (v : LogView) (why : Option LogError)
         → IsPlain (journaled_by (marked_by v list why))
     landmark_plain v None = λ t. plain_goes h s within t list _ made (mark_plain _)
@@ -142,4 +156,7 @@ module _ (h : HashFunction) where
     says_plain Landmarks other = tt
     says_plain (LightCert index) other = tt
     says_plain (Cert index start end signatures) other = tt
+    says_plain (IssueList requests) other = list_plain _ (view_in s) _
+    says_plain (LightCerts first last) other = tt
+    says_plain (Certs first last start end signatures) other = tt
     says_plain Tile other = absurd (other refl)
