@@ -2,12 +2,13 @@
 
 import hashlib
 import io
+import json
 import re
 import shutil
 import subprocess
 import tarfile
 
-from .scene import ROOT, TOOLS, LeftOut, differ, lacks, refused
+from .scene import DATES, KEY, LOG, ROOT, TOOLS, LeftOut, differ, lacks, refused
 
 LINE = "rt: 1234 passed, 0 failed"
 INSTALLED = "/usr/local/lib/mtc"
@@ -34,6 +35,33 @@ def check_units(scene):
     bad = scene.file("bad.service", units[0].read_text().replace("ExecStart=", "ExecStart=/nowhere"))
     status, _, err = scene.ended("systemd-analyze", "verify", bad)
     yield from differ("a wrong unit", status != 0 or err != "", True)
+
+
+def check_container(scene):
+    """in the root that the container file makes, with the C library and its loader alone of the image, the program keeps a log"""
+    lacks("unshare", "ldd")
+    text = (TOOLS / "Containerfile").read_text()
+    steps = dict(line.split(maxsplit=1) for line in text.splitlines() if not line.startswith("#"))
+    yield from differ("its steps", list(steps), ["FROM", "COPY", "VOLUME", "WORKDIR", "ENTRYPOINT"])
+    yield from differ("where it runs", steps["WORKDIR"], steps["VOLUME"])
+    root, (source, target) = scene.path / "root", steps["COPY"].split()
+    yield from differ("what is copied", source, "mtc")
+    libraries = re.findall(r"(/\S+) \(0x", scene.run("ldd", scene.program).decode())
+    yield from differ("its libraries", sorted(path.split("/")[-1] for path in libraries), ["ld-linux-x86-64.so.2", "libc.so.6"])
+    for path, place in [*((path, path) for path in libraries), (scene.program, target)]:
+        (root / place[1:]).parent.mkdir(parents=True, exist_ok=True)
+        shutil.copy(path, root / place[1:])
+    volume = root / steps["VOLUME"][1:]
+    volume.mkdir()
+    contained = ["unshare", "--map-root-user", f"--root={root}", f"--wd={steps['WORKDIR']}"]
+    if scene.ended(*contained[:2], "true")[0]:
+        raise LeftOut("unshare: not allowed here")
+    contained += json.loads(steps["ENTRYPOINT"])
+    (volume / "r").write_text(f'{DATES}dns = ["a.example"]\nkey = "{KEY}"\n')
+    for words, wanted in (("init-log j 32473.1 7 1000", f"log {LOG}\n"), ("issue j r", "issued 1\n")):
+        yield from differ(words, scene.ended(*contained, *words.split()), (0, wanted.encode(), ""))
+    yield from differ("the log outside", scene.mtc("checkpoint", volume / "j"), scene.run(*contained, "checkpoint", "j"))
+    yield from differ("a file outside", scene.ended(*contained, "show", scene.program)[0] != 0, True)
 
 
 def packed(scene, out, *more, **options):
