@@ -3,8 +3,8 @@
 
 pub use crate::beginning::{LogBeginError, LogNotBegun, begin_log};
 pub use authority_core::{
-    Field, IssueError, Names, Request, RequestError, WriteError, cert, issue, light_cert,
-    read_request,
+    Field, IssueError, Names, Request, RequestError, RequestListError, SeveralError, WriteError,
+    cert, certs, issue, issue_list, light_cert, light_certs, read_request, read_requests,
 };
 pub use cert_time::Validity;
 pub use disk_core::{Disk, FileDisk, MemDisk};
