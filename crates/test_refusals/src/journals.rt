@@ -67,6 +67,7 @@ fn records_and_tiles(rt: HostRuntime) -> Result<(), Fail> {
 
 const LOG: &str = "\
 Full
+TooMany 7
 TooLarge
 NoSuchEntry
 NothingNew
@@ -84,6 +85,7 @@ fn journals_that_grow(rt: HostRuntime) -> Result<(), Fail> {
     assert!(rt; shown(rt.alloc(), &list)?.as_str() == "Read\nWrite\n");
     let list = [
         LogError::Full,
+        LogError::TooMany(7),
         LogError::TooLarge,
         LogError::NoSuchEntry,
         LogError::NothingNew,

@@ -1,7 +1,7 @@
 //! Refusals of an authority, a cosigner, a relying party and a monitor, and of a command's words.
 
 use crate::shown::shown;
-use authority_core::{Field, IssueError, RequestError, WriteError};
+use authority_core::{Field, IssueError, RequestError, RequestListError, SeveralError, WriteError};
 use cosigner_core::{CosignError, FormError, ReadExportError};
 use issuance_log::LogError;
 use journal_core::AppendError;
@@ -57,6 +57,29 @@ fn requests(rt: HostRuntime) -> Result<(), Fail> {
     Ok(())
 }
 
+const REQUESTS: &str = "\
+NotToml
+UnknownKey
+Missing Requests
+BadValue Requests
+Missing Dns 3
+Memory
+";
+
+#[test]
+fn lists_of_requests(rt: HostRuntime) -> Result<(), Fail> {
+    let list = [
+        RequestListError::NotToml,
+        RequestListError::UnknownKey,
+        RequestListError::Missing,
+        RequestListError::BadValue,
+        RequestListError::OfRequest(RequestError::Missing(Field::Dns), 3),
+        RequestListError::Memory,
+    ];
+    assert!(rt; shown(rt.alloc(), &list)?.as_str() == REQUESTS);
+    Ok(())
+}
+
 const WRITE: &str = "\
 NoSuchEntry
 NullEntry
@@ -85,8 +108,18 @@ fn certificates(rt: HostRuntime) -> Result<(), Fail> {
         WriteError::Memory,
     ];
     assert!(rt; shown(rt.alloc(), &list)?.as_str() == WRITE);
+    let list = [
+        SeveralError::NothingNew,
+        SeveralError::OfEntry(WriteError::Beyond(8), 3),
+        SeveralError::JournalFailed,
+        SeveralError::TilesFailed,
+        SeveralError::Memory,
+    ];
+    assert!(rt; shown(rt.alloc(), &list)?.as_str() == SEVERAL);
     Ok(())
 }
+
+const SEVERAL: &str = "NothingNew\nBeyond 8 3\nFailed\nFailed\nMemory\n";
 
 const STEP: &str = "\
 WrongLog

@@ -7,7 +7,7 @@ use crate::scripts::{Outcome, outcome_after};
 // key of 44, each after its length. TWO is the record of a Batch of two of them, of which the body
 // has 1 + 2 + 2 * (2 + 131 + 2 + 44) = 361 bytes. Roots and certificates are those that a reader
 // computes that was written apart from the program: tests/reference.
-const NAMES: &str = r#"
+pub(crate) const NAMES: &str = r#"
 name SETTINGS 6d74632d6a6f75726e616c2f76310a00010000000e010481fd59010000000200000004
 name ENTRY
   0001a003020102301931173015060a2b0601040182da4b2f010c0733323437332e31301e170d32363031303130

@@ -226,6 +226,17 @@ file r
 | not_after = "2026-01-08T00:00:00Z"
 | dns = ["a.example"]
 | key = "MCowBQYDK2VwAyEAAAAAAAAAAAAAAAAAAAAAAAAAAAAAAAAAAAAAAAAAAAA="
+file two
+| [[request]]
+| not_before = "2026-01-01T00:00:00Z"
+| not_after = "2026-01-08T00:00:00Z"
+| dns = ["a.example"]
+| key = "MCowBQYDK2VwAyEAAAAAAAAAAAAAAAAAAAAAAAAAAAAAAAAAAAAAAAAAAAA="
+| [[request]]
+| not_before = "2026-01-01T00:00:00Z"
+| not_after = "2026-01-08T00:00:00Z"
+| dns = ["a.example"]
+| key = "MCowBQYDK2VwAyEAAAAAAAAAAAAAAAAAAAAAAAAAAAAAAAAAAAAAAAAAAAA="
 file j 6d74632d6a6f75726e616c2f76310a00010000000e010481fd59010000000200000040 00
 "#;
 
@@ -244,6 +255,13 @@ const ISSUE: Appending = Appending {
     said: b"issued 1\n",
     failed: b"mtc: issue: j: Failed\n",
     length: 221,
+};
+
+const ISSUE_LIST: Appending = Appending {
+    words: "issue-list j two",
+    said: b"issued 1\nissued 2\n",
+    failed: b"mtc: issue-list: j: Failed\n",
+    length: 402,
 };
 
 const LANDMARK: Appending = Appending {
@@ -324,7 +342,7 @@ fn wrong_call(alloc: Global, appending: &Appending, count: u64) -> Option<u64> {
 // One call fails alone; or the device stops at it, so that none after it is answered.
 #[test]
 fn a_device_fails_an_append(rt: HostRuntime) {
-    for appending in [ISSUE, LANDMARK, SWITCH] {
+    for appending in [ISSUE, ISSUE_LIST, LANDMARK, SWITCH] {
         for count in [1, 2 * CALLS] {
             let wrong = wrong_call(rt.alloc(), &appending, count);
             assert!(rt;

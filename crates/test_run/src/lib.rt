@@ -6,6 +6,8 @@
 #[cfg(test)]
 mod audits;
 #[cfg(test)]
+mod batch_bounds;
+#[cfg(test)]
 mod batches;
 #[cfg(test)]
 mod blocks;

@@ -47,6 +47,11 @@ cosign s r t => WrongCount 3 2
 advance s -r => BadWord 2
 cert j 1 0 4 => WrongCount 4 5
 cert j 1 0 x s => BadNumber 4
+issue-list j => WrongCount 1 2
+light-certs j 01 2 => BadNumber 2
+light-certs j 1 02 => BadNumber 3
+certs j 1 2 0 x s => BadNumber 5
+certs j.tiles 1 2 0 2 s => TilesName 1
 drill => WrongCount 0 1
 drill 7 7 => WrongCount 2 1
 drill -7 => BadWord 1
@@ -122,7 +127,7 @@ fn arguments_are_refused_by_their_first_fault(rt: HostRuntime) {
         assert!(rt; is_refused(rt.alloc(), line) == Some(true), "{line}");
         count = count.saturating_add(1);
     }
-    assert!(rt; count == 67);
+    assert!(rt; count == 72);
 }
 
 #[test]
