@@ -5,10 +5,11 @@ import shutil
 
 from .scene import DATES, IN_TIME, KEY, LOG, TOOLS, differ, lacks, refused
 
+LATE = 'not_before = "2026-01-08T00:00:00Z"\nnot_after = "2026-01-01T00:00:00Z"\n'
 
 
-def request(name):
-    return f'{DATES}dns = ["{name}"]\nkey = "{KEY}"\n'
+def request(*names, dates=DATES):
+    return f'{dates}dns = {list(names)}\nkey = "{KEY}"\n'.replace("'", '"')
 
 
 def names_in(folder):
@@ -38,33 +39,58 @@ def make_authority(scene):
 
 
 def check_authority_hour(scene):
-    """authority_hour issues what waits, once over each stop, sends back what `issue` refuses, and publishes"""
+    """authority_hour issues what waits by lists, once over each stop, sends back what `issue` refuses, and publishes"""
     lacks("openssl", "flock")
     make_authority(scene)
     folder = scene.path / "a"
-    for name, text in (("1", request("a.example")), ("2", "not_before = 1\n"), ("3", request("b.example")), ("4", " " * 65537)):
-        scene.file(f"a/requests/{name}.request", text)
+    texts = (request("a.example"), "not_before = 1\n", request("b.example"), " " * 65537)
+    for number, text in enumerate(texts, 1):
+        scene.file(f"a/requests/{number}.request", text)
     os.symlink("../log", folder / "requests/5.request")
     (folder / "requests/6.request").mkdir()
     os.mkfifo(folder / "requests/7.request")
+    scene.file("a/requests/8.request", request("c.example", dates=LATE))
     scene.file("a/requests/a b.request", request("c.example"))
-    status, out, err = hour(scene)
+    given = f'[[ "$1" != issue* && "$1" != light-cert* ]] || echo "$1" >>{scene.path}/commands'
+    status, out, err = hour(scene, **stand_in(scene, given))
     yield from differ("an hour", (status, out), (0, b"landmark 1 3\npublished 3: 2 files\n"))
     yield from differ("what it says", err.count("\n"), 1)
+    commands = (scene.path / "commands").read_text().split()
+    yield from differ("by", commands, ["issue", "issue-list", "issue", "issue-list", "light-certs"])
     yield from differ("what waits", names_in(folder / "requests"), ["a b.request"])
     yield from differ("issued", names_in(folder / "issued"), ["1.request", "2.request"])
-    sent_back = sorted(f"{number}.{end}" for number in (2, 4, 5, 6, 7) for end in ("request", "why"))
+    yield from differ("the second", (folder / "issued/2.request").read_text(), request("b.example"))
+    sent_back = sorted(f"{number}.{end}" for number in (2, 4, 5, 6, 7, 8) for end in ("request", "why"))
     yield from differ("sent back", names_in(folder / "refused"), sent_back)
-    yield from differ("why", (folder / "refused/2.why").read_text(), "mtc: issue: begun.request: BadValue NotBefore\n")
+    for number, why in ((2, "BadValue NotBefore"), (8, "DatesReversed")):
+        found = (folder / f"refused/{number}.why").read_text()
+        yield from differ("why", found, f"mtc: issue: begun/{number}.request: {why}\n")
     yield from differ("certificates", names_in(folder / "certs"), ["1.cert", "2.cert"])
-    yield from differ("one of them", (folder / "certs/2.cert").read_bytes(), scene.mtc("light-cert", "a/log", 2))
+    for index in (1, 2):
+        found = (folder / f"certs/{index}.cert").read_bytes()
+        yield from differ(f"that of {index}", found, scene.mtc("light-cert", "a/log", index))
     yield from differ("public", names_in(folder / "public"), ["checkpoint", "entries", "landmarks", "tile"])
     yield from differ("its entries", (folder / "public/entries").read_bytes(), scene.mtc("entries", "a/log", 3))
     yield from differ("to a cosigner", (folder / "cosigners/one/subtree").read_bytes(), scene.mtc("subtree", "a/log", 0, 3, 3))
     before = (folder / "log").read_bytes()
     yield from differ("again", hour(scene)[:2], (0, b"published 3: 0 files\n"))
     yield from differ("its log", (folder / "log").read_bytes(), before)
+    yield from large_lists(scene, folder)
     yield from wrong_stops(scene, folder)
+
+
+def large_lists(scene, folder):
+    """More requests than one record holds: of these it holds five."""
+    names = [f"{number:03}{'.x' * 120}" for number in range(99)]
+    wanted = [request(f"n{number}.example", *names) for number in range(8)]
+    for number, text in enumerate(wanted):
+        scene.file(f"a/requests/{number}.request", text)
+    commands = scene.file("commands", "")
+    given = f'[[ "$1" != issue* ]] || echo "$1" >>{commands}'
+    yield from differ("large ones", (hour(scene, **stand_in(scene, given))[0], size_of(scene)), (0, 11))
+    yield from differ("by", commands.read_text().split(), ["issue-list"] * 3)
+    found = [(folder / f"issued/{index}.request").read_text() for index in range(3, 11)]
+    yield from differ("each", found, wanted)
 
 
 def wrong_stops(scene, folder):
@@ -72,28 +98,40 @@ def wrong_stops(scene, folder):
     issued = f'"{scene.program}" "$@" >/dev/null'
     for what, line, grown in (("before the record", "exit 5", 0), ("after it", f"{issued}; exit 6", 1),
                               ("by a signal after it", f"{issued}; kill -9 $$", 1), ("by a signal to all", f"{issued}; kill -9 0", 1)):
-        line = f'[ "$1" != issue ] || {{ {line}; }}'
-        size = size_of(scene)
-        scene.file("a/requests/x.request", request("x.example"))
-        ended = scene.tool("authority_hour.sh", "a", env=stand_in(scene, line), start_new_session=True)
-        yield from differ(f"{what}: ended", ended[0] != 0, True)
-        yield from differ(f"{what}: the log", size_of(scene), size + grown)
-        yield from differ(f"{what}: then", hour(scene)[0], 0)
-        yield from differ(f"{what}: the log then", size_of(scene), size + 1)
-        yield from differ(f"{what}: issued", (folder / f"issued/{size}.request").read_text(), request("x.example"))
-        yield from differ(f"{what}: its certificate", (folder / f"certs/{size}.cert").is_file(), True)
-        yield from differ(f"{what}: what waits", names_in(folder / "requests"), ["a b.request"])
-        yield from differ(f"{what}: what is begun", [path.name for path in folder.glob("begun*")], [])
+        for several in (1, 3):
+            yield from wrong_stop(scene, folder, f"{what}, of {several}", f'[[ "$1" != issue* ]] || {{ {line}; }}', grown * several, several)
     yield from wrong_disks(scene, folder)
-    scene.file("a/begun", f"{size_of(scene) - 2} x.request\n")
-    scene.file("a/begun.request", request("x.example"))
-    yield from refused("entries of others", hour(scene), 20, "x.request was begun at")
-    (folder / "begun.request").unlink()
+    scene.file("a/begun/given", f"{size_of(scene) - 2}\nx.request\n")
+    scene.file("a/begun/x.request", request("x.example"))
+    yield from refused("entries of others", hour(scene), 20, "x.request were given to the log at")
+    shutil.rmtree(folder / "begun")
     yield from differ("none of it", (hour(scene)[0], (folder / "begun").exists()), (0, False))
+    scene.file("a/begun", "2 x.request\n")
+    yield from refused("of an earlier version", hour(scene), 20, "earlier version")
+    (folder / "begun").unlink()
     yield from refused("no folder", scene.tool("authority_hour.sh", "b"), 64, "FOLDER")
     (folder / "log").rename(folder / "gone")
     scene.file("a/log", "no journal")
     yield from refused("no journal", hour(scene), 2, "NotJournal")
+
+
+def wrong_stop(scene, folder, what, line, grown, several):
+    """The program ends so where it would issue so many requests: the next run ends what was begun."""
+    size = size_of(scene)
+    wanted = [request(f"x{number}.example") for number in range(several)]
+    for number, text in enumerate(wanted):
+        scene.file(f"a/requests/x{number}.request", text)
+    ended = scene.tool("authority_hour.sh", "a", env=stand_in(scene, line), start_new_session=True)
+    yield from differ(f"{what}: ended", ended[0] != 0, True)
+    yield from differ(f"{what}: the log", size_of(scene), size + grown)
+    yield from differ(f"{what}: then", hour(scene)[0], 0)
+    yield from differ(f"{what}: the log then", size_of(scene), size + several)
+    issued = [(folder / f"issued/{size + number}.request").read_text() for number in range(several)]
+    yield from differ(f"{what}: issued", issued, wanted)
+    has = [(folder / f"certs/{size + number}.cert").is_file() for number in range(several)]
+    yield from differ(f"{what}: their certificates", has, [True] * several)
+    yield from differ(f"{what}: what waits", names_in(folder / "requests"), ["a b.request"])
+    yield from differ(f"{what}: what is begun", [path.name for path in folder.glob("begun*")], [])
 
 
 def failing(scene, tool, word):
@@ -104,22 +142,28 @@ def failing(scene, tool, word):
 
 
 def wrong_disks(scene, folder):
-    """A disk that fails after a record, and before one; a name that is used again meanwhile; a certificate that can't be made."""
+    """A disk that fails after a record, and before one; a name that is used again meanwhile; certificates that can't be made."""
     size = size_of(scene)
-    scene.file("a/requests/x.request", request("x.example"))
+    first, second = request("x.example"), request("y.example")
+    for name, text in (("x", first), ("y", second)):
+        scene.file(f"a/requests/{name}.request", text)
     for number in range(2):
-        yield from differ(f"no mv {number}", hour(scene, **failing(scene, "mv", "issued/"))[0], 1)
-        yield from differ(f"no mv {number}: the log", size_of(scene), size + 1)
-    scene.file("a/requests/x.request", request("y.example"))
-    yield from differ("a name used again", (hour(scene)[0], size_of(scene)), (0, size + 2))
-    issued = [(folder / f"issued/{index}.request").read_text() for index in (size, size + 1)]
-    yield from differ("both requests", issued, [request("x.example"), request("y.example")])
-    scene.file("a/requests/x.request", request("x.example"))
-    yield from differ("no sync", (hour(scene, **failing(scene, "sync", "begun"))[0], size_of(scene)), (1, size + 2))
-    line = 'if [ "$1" = light-cert ]; then exit 5; fi'
-    yield from differ("no certificate", (hour(scene, **stand_in(scene, line))[0], size_of(scene)), (5, size + 3))
+        # The second one's place is missed, and then the first one's is there.
+        yield from differ(f"no mv {number}", hour(scene, **failing(scene, "mv", f"issued/{size + 1}"))[0], 1)
+        yield from differ(f"no mv {number}: the log", size_of(scene), size + 2)
+    scene.file("a/requests/y.request", first)
+    yield from differ("a name used again", (hour(scene)[0], size_of(scene)), (0, size + 3))
+    issued = [(folder / f"issued/{size + number}.request").read_text() for number in range(3)]
+    yield from differ("all requests", issued, [first, second, first])
+    scene.file("a/requests/x.request", first)
+    yield from differ("no sync", (hour(scene, **failing(scene, "sync", "begun"))[0], size_of(scene)), (1, size + 3))
+    scene.file("a/requests/y.request", second)
+    line = 'if [[ "$1" = light-cert* ]]; then exit 5; fi'
+    yield from differ("no certificate", (hour(scene, **stand_in(scene, line))[0], size_of(scene)), (5, size + 5))
     yield from differ("nothing half", [path.name for path in folder.rglob("*.new")], [])
-    yield from differ("then", (hour(scene)[0], (folder / f"certs/{size + 2}.cert").is_file()), (0, True))
+    line = 'if [[ "$1" = light-certs ]]; then exit 4; fi'
+    has = lambda: [(folder / f"certs/{size + number}.cert").is_file() for number in (3, 4)]
+    yield from differ("one by one", (hour(scene, **stand_in(scene, line))[0], has()), (0, [True, True]))
 
 
 def day(scene, **env):
