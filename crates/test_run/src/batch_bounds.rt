@@ -128,6 +128,13 @@ file m SETTINGS 0100000009050000000000000001 TWO 00
 $ checkpoint m
 status 2
 ! mtc: checkpoint: m: BadRecord 2
+# In a cosigner's journal a Batch is no record, whatever stands before it.
+file s 6d74632d6a6f75726e616c2f76310a00 0100000043 11 0481fd5902 0481fd5901 00000005 00000004
+  303030303030303030303030303030303030303030303030303030303030303030303030303030303030303030303030
+  TWO 00
+$ export s
+status 2
+! mtc: export: s: BadRecord 1
 # An item above 65,535 bytes is no fault where it stands: a key of 65,406, a body of 65,544.
 file n SETTINGS 0100010008060001 0083
   0001a003020102301931173015060a2b0601040182da4b2f010c0733323437332e31301e170d32363031303130
@@ -150,5 +157,5 @@ fn bounds_of_a_list(rt: HostRuntime) {
 #[test]
 fn lists_after_other_records(rt: HostRuntime) {
     let outcome = outcome_after(rt.alloc(), NAMES, LATER);
-    assert!(rt; outcome == Ok(Outcome::Passed(12)), "{outcome:?}");
+    assert!(rt; outcome == Ok(Outcome::Passed(13)), "{outcome:?}");
 }
