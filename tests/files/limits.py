@@ -118,10 +118,13 @@ def entries_of(text):
         text = text[2 + int.from_bytes(text[:2], "big"):]
 
 
-def root_lines(text, entry, count):
-    """What `root` prints of a list of this text and of so many items more with one entry (RFC 9162, 2.1.1)."""
-    leaves = [hashlib.sha256(b"\0" + it).digest() for it in [*entries_of(text), entry]]
-    before = len(leaves) - 1
+def leaf(entry):
+    return hashlib.sha256(b"\0" + entry).digest()
+
+
+def tree_of(leaves):
+    """The root of so many leaves from one on: these, and from there on always the last of them (RFC 9162, 2.1.1)."""
+    last = len(leaves) - 1
 
     @functools.cache
     def root_from(start, size):
@@ -131,9 +134,23 @@ def root_lines(text, entry, count):
         return hashlib.sha256(b"\1" + root_of(start, left) + root_of(start + left, size - left)).digest()
 
     def root_of(start, size):
-        return root_from(min(start, before), size)
+        return root_from(min(start, last), size)
 
-    return f"size {before + count}\nroot {root_of(0, before + count).hex()}\n"
+    return root_of
+
+
+def root_lines(text, entry, count):
+    """What `root` prints of a list of this text and of so many items more with one entry."""
+    leaves = [leaf(it) for it in [*entries_of(text), entry]]
+    size = len(leaves) - 1 + count
+    return f"size {size}\nroot {tree_of(leaves)(0, size).hex()}\n"
+
+
+def held(entry, count):
+    """The root of so many equal entries, and the line of a monitor's state that has seen them: their number and peaks."""
+    root_of = tree_of([leaf(entry)])
+    peaks = [root_of(0, 1 << bit).hex() for bit in reversed(range(count.bit_length())) if count >> bit & 1]
+    return root_of(0, count), " ".join(["state", LOG, str(count), *peaks]) + "\n"
 
 
 def check_long_entries(scene, _kills):
@@ -148,19 +165,28 @@ def check_long_entries(scene, _kills):
     yield from unlike("audit", scene.run(f"audit light trusting {NOW} long none"), (0, "stands 1\n", ""))
     # The store of the scene has the tables of the same log's first entries.
     head, tables = f'[log]\nid = "{LOG}"\n', scene.bytes("trusting").decode()
-    yield from unlike("trust-landmarks", scene.run("trust-landmarks list 2 long"), (0, tables.removeprefix(head), ""))
+    yield from unlike("trust-landmarks", scene.run("trust-landmarks marks 2 long"), (0, tables.removeprefix(head), ""))
     yield from unlike("cert", scene.run("cert j 1 0 4 long"), (9, "", "mtc: cert: long: TooLong\n"))
     yield from unlike("a certificate", scene.run(f"audit long trusting {NOW} entries none"),
                       (9, "", "mtc: audit: long: TooLong\n"))
 
 
 def check_many_items(scene, _kills):
-    """Entries of 32 MiB whose items have four bytes each are read within 16 MiB of memory"""
-    # Items without an entry and a key, of which each is as small as an item can be.
+    """Entries of 32 MiB whose items have four or six bytes each are read within 16 MiB of memory"""
+    # Items without an entry and a key, of which each is as small as an item can be; and null entries, of which a monitor prints nothing.
     scene.write("many", scene.bytes("entries") + bytes(2 * MOST))
+    null, count = bytes(2), 2 * MOST // 6
+    scene.write("nulls", (b"\0\2" + null + bytes(2)) * count)
+    root, state = held(null, count)
+    advance = scene.bytes("all")
+    scene.write("next", advance[:1 + advance[0]] + count.to_bytes(8, "big") + root + bytes(2))
+    wanted = {
+        f"audit light trusting {NOW} many none": "stands 1\n",
+        "trust-landmarks marks 2 many": scene.said("trust-landmarks marks 2 entries").decode(),
+        "root many": root_lines(scene.bytes("entries"), b"", 2 * MOST // 4),
+        "monitor state watch next nulls": state,
+    }
     limit = 1 << 24
-    tables = scene.said("trust-landmarks list 2 entries").decode()
-    root = root_lines(scene.bytes("entries"), b"", 2 * MOST // 4)
-    for words, text in ((f"audit light trusting {NOW} many none", "stands 1\n"), ("trust-landmarks list 2 many", tables), ("root many", root)):
+    for words, text in wanted.items():
         found = scene.run(words, preexec_fn=lambda: resource.setrlimit(resource.RLIMIT_AS, (limit, limit)))
         yield from unlike(words.split()[0], found, (0, text, ""))

@@ -367,23 +367,32 @@ times 1395 41414141
 | "
 $ issue j q
 | issued 1
+file q
+| not_before = "2026-01-01T00:00:00Z"
+| not_after = "2026-01-08T00:00:00Z"
+| dns = ["b.example"]
+|= key = "MIIQZDAFBgMrZXADghBZ
+times 1395 41414141
+| "
 $ issue j q
 | issued 2
 name NULL 000200000000
-# The entry, which holds the SHA-256 of the key, and the key.
-name ITEM 0083
+# The entries up to their names, with the SHA-256 of the key; and the key.
+name HEAD 0083
   0001a003020102301931173015060a2b0601040182da4b2f010c0733323437332e31301e170d3236303130
   313030303030305a170d3236303130383030303030305a30000420
   5b604e55998b9ee7656c3120acb854a17f87c9c617f93afdb17d295d3f686a8e
-  a31b301930170603551d110101ff040d300b8209612e6578616d706c65
-  1068 30821064300506032b657003821059
+  a31b301930170603551d110101ff040d300b8209
+name KEY 1068 30821064300506032b657003821059
 times 4185 00
-name PART ITEM
+name ONE HEAD 612e6578616d706c65 KEY
+name OTHER HEAD 622e6578616d706c65 KEY
+name PART OTHER
 cut 1000
 file nothing
-file first NULL ITEM
-file more NULL ITEM PART
-file all NULL ITEM ITEM
+file first NULL ONE
+file more NULL ONE PART
+file all NULL ONE OTHER
 "#;
 
 fn long_log(alloc: Global) -> Option<Desk> {
