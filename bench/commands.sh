@@ -1,13 +1,14 @@
 #!/bin/bash
-# What each command takes over a log of 1,048,576 entries, the most that one may have: seconds of the processor, the most memory that it
-# held, and, where valgrind is, the instructions that it executed in user mode, which other work on the machine doesn't change. Commands
-# that append run over a copy of a log that has room for one entry more. The cosigner's key has height 10 and width 8. Of the seconds
-# the least of three runs count, or of as many as the variable ROUNDS says, since work can only be held up; valgrind's one run takes
-# some fifty times as long.
-# Needs python3 and GNU time. Not part of the gate.
-# Usage: bench/commands.sh [--write] [ENTRIES]   with --write the figures go into bench/commands/figures.txt
-# The variable PROGRAM names another program than that of ./mtc; with INSTRUCTIONS=S only those of commands that take at most S seconds
-# are counted.
+# What each command takes over a log of 1,048,576 entries, the most that one may have: seconds of the processor, the least of three
+# runs, or of as many as the variable ROUNDS says, since work can only be held up, and the most memory that it held. Commands that
+# append run over a copy of a log that has room for what they append. The cosigner's key has height 10 and width 8.
+# With --instructions it counts in place of that the instructions that each command executes in user mode, which other work on the
+# machine doesn't change, by valgrind: that takes some fifty times as long, so as many run side by side as there are processors, or
+# as the variable WORKERS says; each holds some 100 MB more than the command.
+# Needs python3, and GNU time or valgrind. Not part of the gate.
+# Usage: bench/commands.sh [--instructions] [--write] [ENTRIES]   with --write the figures go into bench/commands/figures.txt or
+#        instructions.txt
+# The variable PROGRAM names another program than that of ./mtc.
 set -eu
 root=$(cd "$(dirname "$0")/.." && pwd)
 work=$(mktemp -d)
@@ -15,14 +16,20 @@ trap 'rm -rf "$work"' EXIT
 # shellcheck source=bench/program.sh
 . "$root/bench/program.sh"
 
-write=
-if [ "${1-}" = --write ]; then
-    write=1
+write='' what=times
+while [[ ${1-} == --* ]]; do
+    case $1 in
+        --instructions) what=instructions ;;
+        --write) write=1 ;;
+        *) echo "usage: bench/commands.sh [--instructions] [--write] [ENTRIES]" >&2 && exit 2 ;;
+    esac
     shift
-fi
+done
 [ -n "${PROGRAM-}" ] || "$root/mtc" member "$root/examples/first.member" >/dev/null || exit 70
 program=${PROGRAM:-$root/crates/mtc_main/out/mtc_main}
-python3 -B "$root/bench/commands/time_commands.py" "$program" "$work" "${1-1048576}" | tee "$work/figures"
-if [ -n "$write" ]; then
-    keep_figures commands "WORK|OF|SECONDS|MEMORY|INSTRUCTIONS" <"$work/figures"
+python3 -B "$root/bench/commands/time_commands.py" "$what" "$program" "$work" "${1-1048576}" | tee "$work/figures"
+if [ -n "$write" ] && [ "$what" = times ]; then
+    keep_figures commands "WORK|OF|SECONDS|MEMORY" <"$work/figures"
+elif [ -n "$write" ]; then
+    keep_figures commands "WORK|OF|INSTRUCTIONS" instructions <"$work/figures"
 fi

@@ -8,17 +8,19 @@ folder=$(mktemp -d)
 trap 'rm -rf "$folder"' EXIT
 page=docs/SPEED.md
 
-# The figures of some scripts, each line after its script's name.
+# The figures of some scripts, each line after its script's name. SCRIPT/FILE is another file than figures.txt.
 figures() {
-    local name
+    local name file
     for name; do
-        grep -hv "^#" "bench/$name/figures.txt" 2>/dev/null | sed "s/^/$name|/"
+        file=${name#*/}
+        [ "$file" != "$name" ] || file=figures
+        grep -hv "^#" "bench/${name%/*}/$file.txt" 2>/dev/null | sed "s/^/${name%/*}|/"
     done
 }
 
 # Lines SCRIPT|WORK|AGAINST|LOW|HIGH|as it is shown, of lines SCRIPT|WORK|AGAINST|RATIO ..|DAY.
 ranges() {
-    figures hashes signatures judging proofs opening quarrel | awk -F '|' '
+    figures hashes signatures judging proofs opening audit/ratios quarrel | awk -F '|' '
         function shown(ratio) { return ratio < 1000 ? ratio : sprintf("%d,000", ratio / 1000 + 0.5) }
         {
             count = split($4, ratio, " ")
@@ -41,34 +43,54 @@ ranges >"$folder/ranges"
 {
     echo "| Work | Of | Seconds | Memory | Script |"
     echo "|---|---|---|---|---|"
-    figures log cosigners trust audit extensions | awk -F '|' '{ print "| " $2 " | " $3 " | " $4 " | " $5 " | `bench/" $1 ".sh` |" }' |
+    figures log cosigners trust audit monitor extensions | awk -F '|' '{ print "| " $2 " | " $3 " | " $4 " | " $5 " | `bench/" $1 ".sh` |" }' |
         sed -E ':again; s/([0-9])([0-9]{3})($|[^0-9])/\1,\2\3/; t again'
 } >"$folder/times"
 
 python3 -B bench/sizes.py >"$folder/sizes" || exit 1
+# Numbers as they are shown, and how many a second that makes.
+# shellcheck disable=SC2016
+shown='
+    function spaced(text) {
+        while (text !~ /Ed25519/ && match(text, /[0-9][0-9][0-9][0-9]([ ,]|$)/))
+            text = substr(text, 1, RSTART) "," substr(text, RSTART + 1)
+        return text
+    }
+    function a_second(many, seconds,    rate) {
+        if (seconds <= 0)
+            return ""
+        rate = many / seconds
+        return rate < 10 ? sprintf("%.2f", rate) : spaced(sprintf("%.0f", rate))
+    }
+    function count_of(text) {
+        gsub(/[^0-9 ]/, "", text)
+        return text + 0 ? text + 0 : 1
+    }'
 {
-    echo "| Work | Of | Seconds | A second | Syncs, s |"
-    echo "|---|---|---|---|---|"
-    # So many a second as the first number of the second field says.
-    figures verifying issuing | awk -F '|' '
-        function spaced(text) {
-            while (match(text, /[0-9][0-9][0-9][0-9]([ ,]|$)/))
-                text = substr(text, 1, RSTART) "," substr(text, RSTART + 1)
-            return text
-        }
+    echo "| Certificates, and the log | Issued, s | Certified, s | Verified, s | All, by the clock, s | Syncs, s | A second |"
+    echo "|---|---|---|---|---|---|---|"
+    # The lines of one way stand one below the other: issuing, certifying, verifying and all of it.
+    figures issuing | awk -F '|' "$shown"'
+        $3 !~ / certificates?, at / { next }
+        $2 == "`verify`" { verified = $4; next }
+        $2 !~ /^from / { seconds[++parts] = $4; split($6, sync, " "); syncs += sync[1]; calls += sync[3]; next }
         {
-            many = $3
-            gsub(/[^0-9 ]/, "", many)
-            split(many, one, " ")
-            rate = $4 > 0 ? one[1] / $4 : 0
-            shown = !rate ? "" : rate < 10 ? sprintf("%.2f", rate) : spaced(sprintf("%.0f", rate))
-            printf "| %s | %s | %s | %s | %s |\n", $2, $3 ~ /entries/ ? spaced($3) : $3, $4, shown, $5
+            clock = $5 != "" ? $5 : ""
+            printf "| %s | %s | %s | %s | %s | %s | %s |\n", spaced($3), seconds[1], seconds[2], verified, clock,
+                calls ? sprintf("%.3f in %d", syncs, calls) : "", a_second(count_of($3), clock != "" ? clock : $4)
+            parts = syncs = calls = 0
         }'
+    printf '\n| Work alone | Of | Processor, s | By the clock, s | Syncs, s | A second |\n|---|---|---|---|---|---|\n'
+    figures verifying issuing | awk -F '|' "$shown"'
+        $3 ~ / certificates?, at / { next }
+        { printf "| %s | %s | %s | %s | %s | %s |\n", $2, spaced($3), $4, $5, $6, a_second(count_of($3), $5 != "" ? $5 : $4) }'
 } >"$folder/rates"
 {
     echo "| Command | Of | Seconds | Memory | Instructions |"
     echo "|---|---|---|---|---|"
-    figures commands | awk -F '|' '{ print "| " $2 " | " $3 " | " $4 " | " $5 " | " $6 " |" }'
+    { figures commands/instructions | sed "s/^/counted|/"; figures commands; } | awk -F '|' '
+        $1 == "counted" { instructions[$3, $4] = $5; next }
+        { print "| " $2 " | " $3 " | " $4 " | " $5 " | " instructions[$2, $3] " |" }'
 } >"$folder/commands"
 
 # The page with these tables between their marks.
@@ -103,9 +125,9 @@ awk -F '|' '
     END {
         if (!rows)
             exit 1
-        left = 430; octave = 90; high_row = 26; top = 40
+        left = 680; octave = 90; high_row = 26; top = 40
         bottom = top + rows * high_row
-        printf "<svg xmlns=\"http://www.w3.org/2000/svg\" viewBox=\"0 0 900 %d\" ", bottom + 20
+        printf "<svg xmlns=\"http://www.w3.org/2000/svg\" viewBox=\"0 0 1150 %d\" ", bottom + 20
         print "font-family=\"sans-serif\" font-size=\"13\">"
         print "<rect width=\"100%\" height=\"100%\" fill=\"white\"/>"
         for (at = -2; at <= 2; at++) {

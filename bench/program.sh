@@ -40,14 +40,14 @@ run_again() {
     (cd "$work/crates/bench_$1" && rt run 2>/dev/null)
 }
 
-# Runs a command five times, each of which has to end with this status, and prints SECONDS|MEMORY: the least seconds of the
-# processor, its own and the system's, and the most memory that it held. least_of_five STATUS COMMAND.. What the command wrote
-# is in $work/found.
+# Runs a command five times, or as often as the variable ROUNDS says, each of which has to end with this status, and prints
+# SECONDS|MEMORY: the least seconds of the processor, its own and the system's, and the most memory that it held.
+# least_of_five STATUS COMMAND.. What the command wrote is in $work/found.
 least_of_five() {
     local wanted=$1 status
     shift
     : >"$work/runs"
-    for _ in 1 2 3 4 5; do
+    for _ in $(seq "${ROUNDS:-5}"); do
         status=0
         /usr/bin/time -q -f '%U %S %M' -a -o "$work/runs" "$@" >"$work/found" 2>"$work/said" || status=$?
         if [ "$status" -ne "$wanted" ]; then
@@ -60,10 +60,11 @@ least_of_five() {
         END { printf least < 0.01 ? "below 0.01" : "%.2f", least; printf "|%d MB\n", held * 1024 / 1000000 }' "$work/runs"
 }
 
-# Writes what a run found into bench/NAME/figures.txt, from lines of fields between bars: keep_figures NAME FIELDS. The first
-# two fields say what was measured, and the day is put after them all. What this run has no line for stays as it was.
+# Writes what a run found into bench/NAME/figures.txt, or another FILE.txt there, from lines of fields between bars:
+# keep_figures NAME FIELDS [FILE]. The first two fields say what was measured, and the day is put after them all. What this run
+# has no line for stays as it was.
 keep_figures() {
-    local file=$root/bench/$1/figures.txt
+    local file=$root/bench/$1/${3-figures}.txt
     touch "$file"
     awk -F '|' -v fields="$2" -v name="$1" -v day="$(date -u +%F)" '
         BEGIN { print "# " fields "|DAY. Written by bench/" name ".sh --write; docs/SPEED.md is made from it." }

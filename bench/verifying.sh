@@ -23,7 +23,7 @@ awk '
     $1 == "0" { work = "judging by the C library"; of = "1 certificate without signatures" }
     $1 ~ "/" { split($1, by, "/"); work = "judging by the C library"; of = "1 certificate with " by[1] " cosignatures of width " by[2] }
     $1 !~ "^[0-9]+(/|$)" { work = "OpenSSL, `X509_verify_cert`"; of = "1 chain of two certificates, " $1 }
-    { sub(/1 cosignatures/, "1 cosignature", of); printf "%s|%s|%.7f|\n", work, of, $2 / 1e9 }' "$work/took" | tee "$work/figures"
+    { sub(/1 cosignatures/, "1 cosignature", of); printf "%s|%s|%.7f||\n", work, of, $2 / 1e9 }' "$work/took" | tee "$work/figures"
 if [ "${1-}" = --write ]; then
-    keep_figures verifying "WORK|OF|SECONDS|SYNCS" <"$work/figures"
+    keep_figures verifying "WORK|OF|SECONDS|CLOCK|SYNCS" <"$work/figures"
 fi

@@ -1,20 +1,26 @@
-"""Runs each command over a log of so many entries: time_commands.py PROGRAM FOLDER ENTRIES. Prints lines
-WORK|OF|SECONDS|MEMORY|INSTRUCTIONS, in the order of the table of docs/COMMANDS.md, and fails where a command of it has no line."""
+"""Runs each command over a log of so many entries, in the order of the table of docs/COMMANDS.md, and fails where a command of it
+has no line.
+
+Usage: time_commands.py times PROGRAM FOLDER ENTRIES           prints lines WORK|OF|SECONDS|MEMORY
+       time_commands.py instructions PROGRAM FOLDER ENTRIES    prints lines WORK|OF|INSTRUCTIONS
+"""
 
 import os
 import re
 import shutil
 import subprocess
 import sys
+import tempfile
+from concurrent.futures import ThreadPoolExecutor
 from pathlib import Path
 
 ROOT = Path(__file__).resolve().parents[2]
 LOG, COSIGNER, NOW = "32473.1", "32473.2", "1767571200"
 ROUNDS = int(os.environ.get("ROUNDS", "3"))
+WORKERS = int(os.environ.get("WORKERS", os.cpu_count() or 1))
 # So many requests a list has, and so many certificates.
 MANY = 700
 APPENDING = {"init-log", "issue", "issue-list", "landmark", "switch", "tile", "init-cosigner", "advance", "cosign"}
-
 SOURCES = {"issue": "short", "issue-list": "brief", "switch": "short", "advance": "early", "cosign": "early-held"}
 
 
@@ -29,21 +35,21 @@ class Bench:
         if ended.returncode:
             sys.exit(f"wrong: {' '.join(map(str, words))}: status {ended.returncode} {ended.stderr.decode()}")
 
-    def begin(self, words):
+    def begin(self, words, folder):
         """Where a command appends, its journal and the file of tiles are new copies."""
         if words[0] in APPENDING:
             for end in ("", ".tiles"):
-                (self.folder / f"new{end}").unlink(missing_ok=True)
+                (folder / f"new{end}").unlink(missing_ok=True)
                 if not words[0].startswith("init-"):
                     source = self.folder / SOURCES.get(words[0], "log")
                     if Path(f"{source}{end}").exists():
-                        shutil.copy(f"{source}{end}", self.folder / f"new{end}")
+                        shutil.copy(f"{source}{end}", folder / f"new{end}")
 
     def measured(self, words):
-        """(seconds, bytes, instructions): the least of some runs, and those of one run by valgrind."""
+        """Seconds and memory: the least of some runs, and the most."""
         took = []
         for _ in range(ROUNDS):
-            self.begin(words)
+            self.begin(words, self.folder)
             with open(os.devnull, "wb") as none:
                 ended = subprocess.run(["/usr/bin/time", "-q", "-f", "%U %S %M", "-o", "time", self.program, *words], cwd=self.folder,
                                        stdout=none, stderr=subprocess.PIPE)
@@ -52,16 +58,23 @@ class Bench:
             user, system, held = (self.folder / "time").read_text().split()
             took.append((float(user) + float(system), int(held) * 1024))
         seconds = min(one for one, _ in took)
-        return seconds, max(two for _, two in took), self.instructions(words, seconds)
+        held = max(two for _, two in took)
+        return f"{seconds:.2f}" if seconds >= 0.01 else "below 0.01", f"{(held + 500000) // 1000000} MB"
 
-    def instructions(self, words, seconds):
-        if seconds > float(os.environ.get("INSTRUCTIONS", "inf")) or not shutil.which("valgrind"):
-            return None
-        self.begin(words)
+    def counted(self, words):
+        """Instructions of one run, as valgrind counts them. Its files are copies, since other commands run meanwhile."""
+        own = Path(tempfile.mkdtemp(dir=self.folder))
+        for name in (f"{word}{end}" for word in words for end in ("", ".tiles")):
+            if (self.folder / name).is_file():
+                shutil.copy(self.folder / name, own / name)
+        self.begin(words, own)
         tool = ["valgrind", "--tool=cachegrind", "--cache-sim=no", "--cachegrind-out-file=/dev/null"]
-        ended = subprocess.run([*tool, self.program, *words], cwd=self.folder, stdout=subprocess.DEVNULL, stderr=subprocess.PIPE)
+        ended = subprocess.run([*tool, self.program, *words], cwd=own, stdout=subprocess.DEVNULL, stderr=subprocess.PIPE)
         counted = re.search(r"I\s+refs:\s+([0-9,]+)", ended.stderr.decode())
-        return int(counted.group(1).replace(",", "")) if counted and ended.returncode == 0 else None
+        if ended.returncode or not counted:
+            sys.exit(f"wrong: {' '.join(words)}: status {ended.returncode} {ended.stderr.decode()}")
+        shutil.rmtree(own)
+        return (f"{int(counted.group(1).replace(',', '')) / 1e6:,.1f} million",)
 
 
 def make_files(bench):
@@ -104,12 +117,13 @@ def lines(bench):
     return [
         ("member first.member", ""), ("show cert", "1 cosignature"), (f"verify cert store {NOW}", "1 cosignature"),
         (f"verify light trusting {NOW}", "a certificate without signatures"), (f"init-log new {LOG} 2 1048576", ""),
-        ("issue new www.request", ""), ("issue-list new requests", f"{MANY} requests"), ("checkpoint log", ""), (f"entries log {n}", "all entries"),
-        (f"entries-from log {max(1, n - 256)} {n}", "the last 256"), (f"consist log {n // 2 + 1} {n}", ""),
+        ("issue new www.request", ""), ("issue-list new requests", f"{MANY} requests"), ("checkpoint log", ""),
+        (f"entries log {n}", "all entries"), (f"entries-from log {max(1, n - 256)} {n}", "the last 256"), (f"consist log {n // 2 + 1} {n}", ""),
         (f"subtree log 0 {n} {n}", ""), ("keygen 10 8 secret", "height 10, width 8"),
         (f"init-cosigner new {COSIGNER} {LOG} 10 8 secret", "height 10, width 8"), ("advance new consist", ""),
         ("cosign new subtree", "height 10, width 8"), ("export cosigner", "1 signature"), ("landmark new", ""), ("landmarks marked", ""),
-        (f"light-cert marked {last}", ""), (f"light-certs marked {n - MANY} {n}", f"{MANY} certificates"), ("switch new", ""), ("tile new", "all tiles"), ("trust-landmarks list 2 entries", "1 landmark"),
+        (f"light-cert marked {last}", ""), (f"light-certs marked {n - MANY} {n}", f"{MANY} certificates"),
+        ("switch new", ""), ("tile new", "all tiles"), ("trust-landmarks list 2 entries", "1 landmark"),
         (f"cert log {last} 0 {n} signature", ""), (f"certs log {n - MANY} {n} 0 {n} signature", f"{MANY} certificates"),
         (f"audit cert store {NOW} entries export", "1 cosignature"), ("quarrel export", "1 signature"),
         ("drill 7", ""), ("root entries", ""), ("held export", "1 signature"), (f"monitor-init {LOG}", ""),
@@ -117,7 +131,7 @@ def lines(bench):
     ]
 
 
-def main(program, folder, entries):
+def main(what, program, folder, entries):
     bench = Bench(program, folder, entries)
     make_files(bench)
     rows = lines(bench)
@@ -125,11 +139,10 @@ def main(program, folder, entries):
     lacking = set(re.findall(r"^\| `([a-z-]+)[ `]", table, re.M)) - {words.split()[0] for words, _ in rows}
     if lacking:
         sys.exit(f"wrong: no line for {', '.join(sorted(lacking))}")
-    for words, of in rows:
-        seconds, held, instructions = bench.measured(words.split())
-        counted = f"{instructions / 1e6:,.1f} million" if instructions is not None else ""
-        print(f"`{words.split()[0]}`", of, f"{seconds:.2f}" if seconds >= 0.01 else "below 0.01", f"{(held + 500000) // 1000000} MB", counted,
-              sep="|", flush=True)
+    measured, workers = (bench.measured, 1) if what == "times" else (bench.counted, WORKERS)
+    with ThreadPoolExecutor(workers) as runs:
+        for (words, of), found in zip(rows, runs.map(measured, (words.split() for words, _ in rows))):
+            print(f"`{words.split()[0]}`", of, *found, sep="|", flush=True)
 
 
 if __name__ == "__main__":

@@ -1,5 +1,5 @@
 // Appends entries to a log as sumdb/tlog keeps it: a file with each hash that StoredHashes gives, and one sync a batch. Prints for each
-// size of a log and each batch a line ENTRIES BATCH SECONDS SYNC, the median of some rounds: processor time of all, and the sync by
+// size of a log and each batch a line ENTRIES BATCH SECONDS CLOCK SYNC, the median of some rounds: processor time of all, and the sync by
 // the clock.
 // Usage: go run . FOLDER ROUNDS ENTRIES ..
 package main
@@ -74,9 +74,9 @@ func processor() float64 {
 	return float64(used.Utime.Nano()+used.Stime.Nano()) / 1e9
 }
 
-// Appends a batch: processor seconds until it is synced, and those of the sync by the clock.
-func (s stored) append(count *int64, batch int) (float64, float64) {
-	start := processor()
+// Appends a batch: processor seconds until it is synced, seconds by the clock, and those of the sync by the clock.
+func (s stored) append(count *int64, batch int) (float64, float64, float64) {
+	start, began := processor(), time.Now()
 	for done := 0; done < batch; done++ {
 		more, err := tlog.StoredHashes(*count, entry, s)
 		need(err)
@@ -90,7 +90,7 @@ func (s stored) append(count *int64, batch int) (float64, float64) {
 	}
 	written := time.Now()
 	need(s.file.Sync())
-	return processor() - start, time.Since(written).Seconds()
+	return processor() - start, time.Since(began).Seconds(), time.Since(written).Seconds()
 }
 
 func median(of []float64) float64 {
@@ -106,12 +106,12 @@ func main() {
 		need(err)
 		log := made(filepath.Join(os.Args[1], "hashes"), count)
 		for _, batch := range []int{1, 10, 100, 700} {
-			var all, syncs []float64
+			var all, clocks, syncs []float64
 			for round := 0; round < rounds; round++ {
-				one, sync := log.append(&count, batch)
-				all, syncs = append(all, one), append(syncs, sync)
+				one, clock, sync := log.append(&count, batch)
+				all, clocks, syncs = append(all, one), append(clocks, clock), append(syncs, sync)
 			}
-			fmt.Printf("%s %d %.6f %.6f\n", word, batch, median(all), median(syncs))
+			fmt.Printf("%s %d %.6f %.6f %.6f\n", word, batch, median(all), median(clocks), median(syncs))
 		}
 		need(log.file.Close())
 	}
