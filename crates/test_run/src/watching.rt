@@ -309,6 +309,7 @@ fails 1
 $ monitor s w r e
 status 5
 ! mtc: monitor: e: Failed
+file e SEVENTH EIGHTH
 $ monitor s w r e
 status 2
 ! mtc: monitor: s: BadLine 0
