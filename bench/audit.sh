@@ -54,7 +54,7 @@ grouped() {
 ratios() {
     awk -v work="$1" -v seconds="$2" -v share="$(($3 * 1000 / largest))" -v openssl="$by_openssl" -v own="$by_own" '
         function row(against, each) {
-            if (seconds > 0 && each > 0)
+            if (seconds + 0 > 0 && each + 0 > 0)
                 printf "%s|reading and hashing six blocks an item once, by %s|%.2f\n", work, against, seconds / (each * share / 1000)
         }
         BEGIN { row("openssl", openssl); row("the program'"'"'s hash", own) }' | tee -a against
