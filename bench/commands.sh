@@ -3,9 +3,10 @@
 # runs, or of as many as the variable ROUNDS says, since work can only be held up, and the most memory that it held. Commands that
 # append run over a copy of a log that has room for what they append. The cosigner's key has height 10 and width 8.
 # With --instructions it counts in place of that the instructions that each command executes in user mode, which other work on the
-# machine doesn't change, by valgrind: that takes some fifty times as long, so as many run side by side as there are processors, or
-# as the variable WORKERS says; each holds some 100 MB more than the command.
-# Needs python3, and GNU time or valgrind. Not part of the gate.
+# machine doesn't change: by qemu-x86_64 (Debian's qemu-user 7.2) with bench/commands/count.c, where it is here with a C compiler,
+# in some eight times the time of the command, and else by valgrind, in three times that. As many run side by side as there are
+# processors, or as the variable WORKERS says; each holds some 100 MB more than the command.
+# Needs python3, and GNU time or one of these. Not part of the gate.
 # Usage: bench/commands.sh [--instructions] [--write] [ENTRIES]   with --write the figures go into bench/commands/figures.txt or
 #        instructions.txt
 # The variable PROGRAM names another program than that of ./mtc.

@@ -27,7 +27,7 @@ SOURCES = {"issue": "short", "issue-list": "brief", "switch": "short", "advance"
 class Bench:
     def __init__(self, program, folder, entries):
         self.program, self.folder, self.entries = str(Path(program).resolve()), Path(folder), int(entries)
-        self.last = self.entries - 1
+        self.last, self.counts_by = self.entries - 1, None
 
     def run(self, *words, into=os.devnull):
         with open(self.folder / into, "wb") as out:
@@ -61,16 +61,27 @@ class Bench:
         held = max(two for _, two in took)
         return f"{seconds:.2f}" if seconds >= 0.01 else "below 0.01", f"{(held + 500000) // 1000000} MB"
 
+    def counting(self):
+        """The words before a command that count its instructions, and how the count is printed: by QEMU with a plugin, where both are
+        here, since valgrind takes three times as long."""
+        plugin = self.folder / "count.so"
+        source = Path(__file__).parent / "count.c"
+        if shutil.which("qemu-x86_64") and not subprocess.run(["cc", "-O2", "-shared", "-fPIC", "-o", plugin, source]).returncode:
+            tool = ["qemu-x86_64", "-plugin", str(plugin)]
+            if b"instructions " in subprocess.run([*tool, self.program, "version"], capture_output=True).stderr:
+                return tool, r"^instructions (\d+)$"
+        return ["valgrind", "--tool=cachegrind", "--cache-sim=no", "--cachegrind-out-file=/dev/null"], r"I\s+refs:\s+([0-9,]+)"
+
     def counted(self, words):
-        """Instructions of one run, as valgrind counts them. Its files are copies, since other commands run meanwhile."""
+        """Instructions of one run. Its files are copies, since other commands run meanwhile."""
         own = Path(tempfile.mkdtemp(dir=self.folder))
         for name in (f"{word}{end}" for word in words for end in ("", ".tiles")):
             if (self.folder / name).is_file():
                 shutil.copy(self.folder / name, own / name)
         self.begin(words, own)
-        tool = ["valgrind", "--tool=cachegrind", "--cache-sim=no", "--cachegrind-out-file=/dev/null"]
+        tool, shown = self.counts_by
         ended = subprocess.run([*tool, self.program, *words], cwd=own, stdout=subprocess.DEVNULL, stderr=subprocess.PIPE)
-        counted = re.search(r"I\s+refs:\s+([0-9,]+)", ended.stderr.decode())
+        counted = re.search(shown, ended.stderr.decode(), re.M)
         if ended.returncode or not counted:
             sys.exit(f"wrong: {' '.join(words)}: status {ended.returncode} {ended.stderr.decode()}")
         shutil.rmtree(own)
@@ -140,6 +151,8 @@ def main(what, program, folder, entries):
     if lacking:
         sys.exit(f"wrong: no line for {', '.join(sorted(lacking))}")
     measured, workers = (bench.measured, 1) if what == "times" else (bench.counted, WORKERS)
+    if what == "instructions":
+        bench.counts_by = bench.counting()
     with ThreadPoolExecutor(workers) as runs:
         for (words, of), found in zip(rows, runs.map(measured, (words.split() for words, _ in rows))):
             print(f"`{words.split()[0]}`", of, *found, sep="|", flush=True)
