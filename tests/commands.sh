@@ -33,6 +33,20 @@ printf '[log]\nid = "32473.1"\nalgorithm_from = 2\n' >switched
 : >empty
 echo a.example >names
 
+# Six entries that are no certificates', two more, and requests to hold six and eight: n0_4 is the node over the first four.
+n0_4=d37ee418976dd95753c1c73862b9398fa2a2cf9b4ff0fdfe8b30cd95209614b7
+n4_6=0ebc5d3437fbe2db158b9f126a1d118e308181031d0a949f8dededebc558ef6a
+bytes() {
+    # shellcheck disable=SC2059
+    printf "$(printf %s "$@" | sed 's/../\\x&/g')"
+}
+bytes 00000000000100000000011000000002202100000002303100000004404142430000 >six
+bytes 000850515253545556570000 0010606162636465666768696a6b6c6d6e6f0000 >last_two
+bytes 0481fd59010000000000000006 76e67dadbcdf1e10e1b74ddc608abd2f98dfb16fbce75277b5232a127f2087ef 0000 >to_6
+bytes 0481fd59010000000000000008 5dc9da79a70659a9ad559cb701ded9a2ab9d823aad2f4960cfe370eff4604328 \
+    0060 "$n4_6" ca854ea128ed050b41b35ffc1b87b8eb2bde461e9e3b5596ece6b9d5975a0ae0 "$n0_4" >to_8
+echo "state 32473.1 6 $n0_4" >one_peak
+
 wrong=0
 count=0
 while IFS='|' read -r words status hash line; do
@@ -251,6 +265,9 @@ monitor v names b y|4|-|mtc: monitor: BadProof
 monitor e names a z|2|-|mtc: monitor: e: BadLine 0
 monitor v secret a z|2|-|mtc: monitor: secret: BadLine 0
 monitor v k a z|7|-|mtc: monitor: k: Absent
+monitor v names to_6 six >kept|0|e9231f17aa2f2559|
+monitor kept names to_8 last_two|0|25fa5d710ed6cfa0|
+monitor one_peak names to_8 last_two|2|-|mtc: monitor: one_peak: BadLine 0
 --help|1|-|mtc: UnknownCommand
 help x|1|-|mtc: help: WrongCount 1 0
 version|0|227bcb5ed9ef0bd3|
