@@ -4,7 +4,7 @@
 tests/allocations.py does so over real files. Here the program of crates/test_tables runs each command, and a preloaded
 library refuses one of its allocations. Some of these are its own: they read the line or write the answer, and where one
 of them is refused no answer comes. All others are those of the command and of what it works on. The command then ends
-with status 8, a long listing maybe behind some of its items; or as if nothing had been refused; or, only where a file
+with status 8, a long listing maybe after some of its items; or as if nothing had been refused; or, only where a file
 or an output found no memory, with status 5 or 6, or with a line that is cut. Its journals then have their records from
 before, or these and the one of the command. Of a drill, which makes many, one allocation in so many is refused.
 
