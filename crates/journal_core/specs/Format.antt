@@ -13,7 +13,7 @@ header = 109 ∷ 116 ∷ 99 ∷ 45 ∷ 106 ∷ 111 ∷ 117 ∷ 114 ∷ 110 ∷ 9
 
 -- a journal file has at most so many bytes
 abbrev pub most_bytes : ℕ
-most_bytes = 2 ^ 31
+most_bytes = 2 ^ 33
 
 -- at this offset stand an open commit byte, the length of the body and the body
 pub record IsRecordAt (bytes : Text) (place : ℕ) (body : Text) : Type 0 where

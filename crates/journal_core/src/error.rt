@@ -90,7 +90,7 @@ impl Error for OpenError {}
 pub enum AppendError {
     /// An earlier append on this value answered `Failed`.
     Broken,
-    /// The file would pass 2^31 bytes.
+    /// The file would pass 2^33 bytes.
     Full,
     /// The disk failed: the journal holds the old records, or these and the new one, and the caller
     /// has to open it again, over a disk that is opened again. An open file whose sync failed

@@ -19,7 +19,7 @@ use disk_core::{Disk, read_part, write_synced};
 use mtc_io::Failed;
 
 // A journal file has at most so many bytes.
-const LIMIT: u64 = 1 << 31;
+const LIMIT: u64 = 1 << 33;
 
 /// A journal on a disk: all its records are on the disk, unless an append has failed.
 pub struct Journal<D: Disk> {
@@ -59,7 +59,7 @@ impl<D: Disk> Journal<D> {
     /// record.
     ///
     /// Errors, in the order of the tests: `Broken` where an earlier call answered `Failed`; `Full`
-    /// where the file would pass 2^31 bytes; `Failed`. The first two make no call of the disk. It
+    /// where the file would pass 2^33 bytes; `Failed`. The first two make no call of the disk. It
     /// takes no memory.
     pub fn append(&mut self, body: &[u8]) -> Result<(), AppendError>
         requires some { 1 ≤ length body.now }

@@ -7,4 +7,4 @@ most_active = 10000
 
 -- so many entries
 abbrev pub most_entries : ℕ
-most_entries = 1048576
+most_entries = 16777216

@@ -4,4 +4,4 @@
 pub const MOST_ACTIVE: u32 = 10_000;
 
 /// The most entries that a log may have.
-pub const MOST_ENTRIES: u32 = 1_048_576;
+pub const MOST_ENTRIES: u32 = 16_777_216;

@@ -31,7 +31,7 @@ returns-in_err-append-clause-records g c =
     c.append.new.self c.args.machine.now c.args.body.now c.in_err-append.field-0.0
     c.in_err-append.ensures c.requires.made)
 
--- the file doesn't pass 2^31 bytes with the record
+-- the file doesn't pass 2^33 bytes with the record
 pub take-requires-clause-fits : goal.take-requires-clause-fits
 take-requires-clause-fits g c =
     let end = end_of c.args.journal.now + 5 + length c.args.body.now in
