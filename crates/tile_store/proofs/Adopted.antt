@@ -16,8 +16,8 @@ use Rattle.frame_pool.specs.Frames.{PoolState}
 use Rattle.tile_store.proofs.Bytes.{part-part}
 use Rattle.tile_store.proofs.Kept.{sound-stored}
 use Rattle.tile_store.proofs.Numbers.{full-low, full-more, full-number, number-full}
-use Rattle.tile_store.specs.Causes.{HasCauseOf, IsFirstBad, IsNewTile, StandsIn}
-use Rattle.tile_store.specs.Comparing.{HasTileReason, HaveMatched}
+use Rattle.tile_store.specs.Causes.{BeginsWithin, HasCauseOf, IsFirstBad, IsNewTile, StandsIn}
+use Rattle.tile_store.specs.Comparing.{BeginsBelow, HasTileReason, HaveMatched}
 use Rattle.tile_store.specs.Contents.{HoldsTiles, IsTile, stored_leaves}
 use Rattle.tile_store.specs.Frames.{FramesHold}
 use Rattle.tile_store.specs.Layout.{tile_at, tile_number, tiles_in}
@@ -44,7 +44,7 @@ part-there place count bytes whole some =
     omega arith
 
 -- a tile of the numbers in between is new, and a new one is of these
-between : (adopted size level place : ℕ) → size < 2 ^ 32 → IsNewTile adopted size level place
+pub between : (adopted size level place : ℕ) → size < 2 ^ 32 → IsNewTile adopted size level place
     → (level ≤ 2) × ((tiles_in adopted ≤ tile_number level place)
     × (tile_number level place < tiles_in size))
 between adopted size level place few new =
@@ -100,6 +100,11 @@ pub on-ok-map : {A E : Type 0} {P Q : Type 0} (r : Result A E) → OnOk r P → 
 on-ok-map (Ok x) p from = from p
 on-ok-map (Err e) p from = tt
 
+pub if-err-both : {A E : Type 0} (P Q R : E → Type 0) (r : Result A E) → IfErr r P → IfErr r Q
+    → ((e : E) → P e → Q e → R e) → IfErr r R
+if-err-both P Q R (Ok x) p q from = tt
+if-err-both P Q R (Err e) p q from = from e p q
+
 pub if-err-map : {A E : Type 0} (P Q : E → Type 0) (r : Result A E) → IfErr r P
     → ((e : E) → P e → Q e) → IfErr r Q
 if-err-map P Q (Ok x) p from = tt
@@ -152,6 +157,16 @@ cause-from {hashes = hashes} {g = g} old rows disk size (BadTile level place) fe
             earlier);
       }),
 )
+
+-- a bad tile is one of the new ones
+pub begins-within : {T : Type 0} (g : Ghosts T) (h : List ℕ → List ℕ) (rows : RowsState)
+    (adopted size : ℕ) (old new : T) (pool : PoolState) (e : TileError)
+    → HasTileReason g h rows (tiles_in adopted) (tiles_in size) old new pool e
+    → BeginsBelow (g.known new) e → BeginsWithin adopted size (g.known new) e
+begins-within g h rows adopted size old new pool Failed reason begins = tt
+begins-within g h rows adopted size old new pool (BadTile level place) reason begins =
+    let is = reason.1 in
+    (new-between adopted size level place is.low is.following is.below, begins)
 
 -- more nodes stand in the tiles of more leaves
 pub gone-more : (less more level : ℕ) → less ≤ more → gone_of less level ≤ gone_of more level

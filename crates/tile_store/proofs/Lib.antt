@@ -12,3 +12,4 @@ pub mod Kept
 pub mod Compared
 pub mod Adopted
 pub mod Parents
+pub mod Renewed

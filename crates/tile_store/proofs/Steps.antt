@@ -1,12 +1,12 @@
 -- Tiles written one after the other.
-use Rattle.std.proofs.Common.{◌≡◌, ℕ, ◌+◌, ◌*◌, ◌<◌, ◌≤◌, inl, inr, ⊎_elim, max, List}
+use Rattle.std.proofs.Common.{◌≡◌, ℕ, ◌+◌, ◌-◌, ◌*◌, ◌<◌, ◌≤◌, inl, inr, ⊎_elim, max, List}
 use Rattle.std.proofs.Common.{length}
 use Rattle.std.proofs.Common.{take, drop, ◌++◌, append_assoc, Some, None, refl, sym, ◌∙◌, ap, subst}
 use Rattle.std.proofs.Common.{arith}
 use Rattle.std.specs.Prelude.{IfSome, Option, is_some, option_map}
 use Rattle.std.proofs.Math.Seq.{drop-append_seam, take-append_seam}
 use Rattle.std.proofs.lemmas.Bool.{cases_lt}
-use Rattle.std.proofs.lemmas.List.{length-take}
+use Rattle.std.proofs.lemmas.List.{drop-drop, length-append, length-take}
 use Rattle.disk_core.proofs.Times.{joined, left_now, started, weaker}
 use Rattle.disk_core.specs.Disk.{Only, overwritten, part}
 use Rattle.disk_core.specs.Times.{LeavesOnly, OnlyReads}
@@ -43,6 +43,36 @@ over-part place piece old within =
     (ap (λ n. drop n (take place old ++ (piece ++ drop (place + length piece) old))) (sym size)
     ∙ drop-append_seam (take place old) (piece ++ drop (place + length piece) old))
     ∙ take-append_seam piece (drop (place + length piece) old)
+
+-- and those after them
+over-after : (place : ℕ) (piece old : List ℕ) → place ≤ length old
+    → drop (place + length piece) (overwritten place piece old)
+    ≡ drop (place + length piece) old
+over-after place piece old within =
+    let size : length (take place old ++ piece) ≡ place + length piece =
+    length-append (take place old) piece ∙ ap (λ n. n + length piece)
+    (length-take place old ∙ omega arith) in
+    ap (λ n. drop n (overwritten place piece old)) (sym size)
+    ∙ drop-append_seam (take place old ++ piece) (drop (place + length piece) old)
+
+-- what is the same from an offset on is the same from a later one on
+pub same-after : (low high : ℕ) (a b : List ℕ) → low ≤ high → drop low a ≡ drop low b
+    → drop high a ≡ drop high b
+same-after low high a b within same =
+    let rest : low + (high - low) ≡ high = omega arith in
+    sym (drop-drop (high - low) low a ∙ ap (λ n. drop n a) rest)
+    ∙ ap (drop (high - low)) same
+    ∙ drop-drop (high - low) low b
+    ∙ ap (λ n. drop n b) rest
+
+-- a tile was written in between
+after-more : (low high place : ℕ) (tile first mid : List ℕ) → low ≤ high
+    → place + length tile ≤ high → place ≤ length mid → drop low mid ≡ drop low first
+    → drop high (overwritten place tile mid) ≡ drop high first
+after-more low high place tile first mid order end within same =
+    same-after (place + length tile) high (overwritten place tile mid) mid end
+    (over-after place tile mid within)
+    ∙ same-after low high mid first order same
 
 -- one tile more
 pub holds-more : (h : List ℕ → List ℕ) (leaves : List (List ℕ)) (number l p : ℕ)
@@ -104,6 +134,9 @@ module _ {T : Type 0} (g : Ghosts T) where
       holds = λ before after contents_old contents_now leaves are first.
           let same : before ≡ after = cc in
           subst (HoldsFirst h leaves from) same first;
+      after = λ before now contents_old contents_now.
+          let same : before ≡ now = cc in
+          ap (drop (8192 * max from from)) (sym same);
     };
     faults = refl;
   }
@@ -121,7 +154,7 @@ module _ {T : Type 0} (g : Ghosts T) where
             (prefix-less low high is.before crash_state within is.keeps);
       }
 
-  times-on : (old mid new : T) (low high : ℕ)
+  pub times-on : (old mid new : T) (low high : ℕ)
       → ((t : ℕ) (c : List ℕ) → t ≤ g.clock_at mid → g.may_leave mid c → g.left_since mid t c)
       → low ≤ high → LeavesOnly g old mid (IsCrashStateAfter g old low)
       → LeavesOnly g mid new (IsCrashStateAfter g mid high)
@@ -178,6 +211,15 @@ module _ {T : Type 0} (g : Ghosts T) where
               (holds-more h leaves number l p written.tile at.0 low is (omega arith)
               (written.is leaves are)
               (sofar.written.holds first at.0 contents_old at.1.0 leaves are held));
+          after = λ first now contents_old contents_now.
+              let at = mapped-some (overwritten (tile_at l p) written.tile) (g.contents mid) now
+              (sym contents_now ∙ written.contents) in
+              let within = there at.0 at.1.0 in
+              let size = written.size in
+              ap (drop (8192 * max from (number + 1))) at.1.1
+              ∙ after-more (8192 * max from number) (8192 * max from (number + 1)) (tile_at l p)
+              written.tile first at.0 (omega arith) (omega arith) (omega arith)
+              (sofar.written.after first at.0 contents_old at.1.0);
         };
         faults = faults ∙ sofar.faults;
       }

@@ -39,3 +39,9 @@ module _ {H T : Type 0} {hashes : Hashes H} {g : Ghosts T} where
       (g.faults disk ≡ g.faults (tiles_disk old))
       × IfSome (g.contents (tiles_disk old)) (λ bytes. IfSome (tiles_leaves old) (λ leaves.
       IsFirstBad hashes.hash leaves bytes (tiles_adopted old) size level place))
+
+-- Over any device a bad tile is one of the new ones, and it begins within the known length.
+abbrev pub BeginsWithin : ℕ → ℕ → ℕ → TileError → Type 0
+BeginsWithin adopted size known Failed = Unit {0}
+BeginsWithin adopted size known (BadTile level place) =
+    IsNewTile adopted size level place × (tile_at level place ≤ known)

@@ -60,3 +60,8 @@ abbrev pub HasTileReason : {T : Type 0} → Ghosts T → HashFunction → RowsSt
 HasTileReason g h rows from to old new pool Failed = Rose (g.faults old) (g.faults new)
 HasTileReason g h rows from to old new pool (BadTile level place) =
     (g.faults new ≡ g.faults old) × IsFirstOther g h rows from to old pool level place
+
+-- A tile that was not found begins within the known length.
+abbrev pub BeginsBelow : ℕ → TileError → Type 0
+BeginsBelow known Failed = Unit {0}
+BeginsBelow known (BadTile level place) = tile_at level place ≤ known

@@ -1,6 +1,6 @@
 -- What writing tiles leaves of a file.
 use Rattle.std.specs.Prelude.{◌≡◌, ℕ, ◌*◌, ◌^◌, ◌≤◌, ◌<◌, min, max, List, length, take, Option}
-use Rattle.std.specs.Prelude.{Some, is_some, option_map}
+use Rattle.std.specs.Prelude.{Some, is_some, option_map, drop}
 use Rattle.byte_formats.specs.Types.{Hash, HashFunction, Text}
 use Rattle.disk_core.specs.Disk.{overwritten, part}
 use Rattle.disk_core.specs.Times.{LeavesOnly}
@@ -22,6 +22,11 @@ pub record IsCrashStateAfter {T : Type 0} (g : Ghosts T) (old : T) (place : ℕ)
   pub left : g.may_leave old before
   pub keeps : KeepsPrefix place before crash_state
 
+-- The bytes from an offset on are what they were, as far as the model knows them.
+abbrev pub KeepsAfter : {T : Type 0} → Ghosts T → ℕ → T → T → Type 0
+KeepsAfter g place old new = (before now : Text) → g.contents old ≡ Some before
+    → g.contents new ≡ Some now → drop place now ≡ drop place before
+
 -- What writing from an offset on leaves of a disk, at any time, even if a call fails.
 pub record WritesAfter {T : Type 0} (g : Ghosts T) (place : ℕ) (old new : T) : Type 0 where
   pub any_time : LeavesOnly g old new (IsCrashStateAfter g old place)
@@ -41,6 +46,7 @@ pub record HaveTiles (rows : RowsState) (from to : ℕ) : Type 0 where
 pub record IsTileWritten (h : HashFunction) (rows : RowsState) (level place : ℕ)
     (old new : Option Text) : Type 0 where
   pub tile : Text
+  pub size : length tile ≡ 8192
   pub contents : new ≡ option_map (overwritten (tile_at level place) tile) old
   pub is : (leaves : List Hash) → AreRowsOf h leaves rows → IsTile h leaves level place tile
 
@@ -51,10 +57,12 @@ HoldsFirst h leaves count bytes = (level place : ℕ) → level ≤ 2
     → IsTile h leaves level place (part (tile_at level place) 8192 bytes)
 
 -- The tiles of the numbers from one on up to another were written, and the known length comes to
--- their end: where the file had those before them, it has all up to there.
+-- their end: where the file had those before them, it has all up to there. The bytes after them
+-- stay.
 pub record TilesAreWritten {T : Type 0} (g : Ghosts T) (h : HashFunction) (rows : RowsState)
     (from to : ℕ) (old new : T) : Type 0 where
   pub known : g.known new ≡ max (8192 * to) (g.known old)
   pub holds : (before after : Text) → g.contents old ≡ Some before → g.contents new ≡ Some after
       → (leaves : List Hash) → AreRowsOf h leaves rows → HoldsFirst h leaves from before
       → HoldsFirst h leaves to after
+  pub after : KeepsAfter g (8192 * max from to) old new

@@ -6,7 +6,8 @@ ghost use Rattle.disk_core.specs.Disk.{part};
 ghost use Rattle.frame_pool.specs.declared.key.TileKey.{TileKey as Key};
 ghost use Rattle.frame_pool.specs.Frames.{IsUnheld};
 ghost use Rattle.mtc_io.specs.Counts.{HasCause};
-ghost use Rattle.tile_store.specs.Comparing.{HasTileReason, HaveCompared, HaveMatched, OverEach};
+ghost use Rattle.tile_store.specs.Comparing.{BeginsBelow, HasTileReason, HaveCompared};
+ghost use Rattle.tile_store.specs.Comparing.{HaveMatched, OverEach};
 ghost use Rattle.tile_store.specs.Contents.{IsTile};
 ghost use Rattle.tile_store.specs.Frames.{HasNoPins};
 ghost use Rattle.tile_store.specs.declared.error.TileError.TheVariants.{BadTile};
@@ -81,6 +82,7 @@ fn compare<H: TreeHash, T: Disk>(
     ensures fine { OnOk result (T.faults disk.new ≡ T.faults disk.old) }
     ensures err { IfErr result
         (HasTileReason T.Disk H.hash rows.now from to disk.old disk.new pool.old) }
+    ensures begins { IfErr result (BeginsBelow (T.known disk.new)) }
 {
     for number in from..to {
         let key = tile_with(number);
@@ -101,6 +103,7 @@ pub(crate) fn check<H: TreeHash, T: Disk>(
 ) -> Result<(), TileError>
     requires rows { HaveTiles rows.now from to }
     requires order { from < to }
+    requires place { 8192 * from ≤ T.known disk.old }
     requires unheld { (key : Key) → from ≤ tile_number key.level key.place
         → IsUnheld pool.old key }
     requires some { 1 ≤ length pool.old.keys }
@@ -111,6 +114,7 @@ pub(crate) fn check<H: TreeHash, T: Disk>(
     ensures fine { OnOk result (T.faults disk.new ≡ T.faults disk.old) }
     ensures err { IfErr result
         (HasTileReason T.Disk H.hash rows.now from to disk.old disk.new pool.old) }
+    ensures begins { IfErr result (BeginsBelow (T.known disk.new)) }
 {
     let whole = read_len(disk)? / TILE;
     compare::<H, T>(disk, pool, rows, from, to.min(whole))?;

@@ -16,7 +16,7 @@ const CYCLE: u64 = 65793;
 const ROUND: u64 = 257;
 
 // The number of a tile.
-fn number_of(key: TileKey) -> u64
+pub(crate) fn number_of(key: TileKey) -> u64
     requires low { key.level ≤ 2 }
     requires few { key.place < 2 ^ 24 }
     ensures number { result ≡ tile_number key.level key.place }

@@ -5,12 +5,13 @@ ghost use Rattle.std.specs.Prelude.{length, Some, IsSome, IfSome, IfOk, IfErr};
 ghost use Rattle.std.specs.Prelude.{IsOk, OnOk, OnErr};
 ghost use Rattle.std.proofs.Props.{props};
 ghost use Rattle.byte_formats.specs.Types.{Text};
-ghost use Rattle.disk_core.specs.Times.{OnlyReads};
+ghost use Rattle.disk_core.specs.Disk.{Only};
+ghost use Rattle.disk_core.specs.Times.{LeavesOnly, OnlyReads};
 ghost use Rattle.frame_pool.specs.Frames.{HoldsKey, IsUnheld};
 ghost use Rattle.frame_pool.specs.declared.key.TileKey.{TileKey as Key};
 ghost use Rattle.mtc_io.specs.Counts.{HasCause, Rose};
 ghost use Rattle.tile_store.specs.Frames.{HasNoPins};
-ghost use Rattle.tile_store.specs.Layout.{IsFull, tiles_end};
+ghost use Rattle.tile_store.specs.Layout.{IsFull, tiles_end, tiles_in};
 ghost use Rattle.tile_store.specs.Sound.{IsSoundOver, IsSoundOver-prop};
 ghost use Rattle.tree_cache.specs.Rows.{count_of, filled_of, gone_at};
 ghost use Rattle.tree_cache.specs.Tiled.{gone_of};
@@ -18,10 +19,10 @@ ghost use Rattle.tree_cache.specs.Tiled.{gone_of};
 use crate::TileError;
 use crate::checking::check;
 use crate::inside::FrameNodes;
-use crate::layout::{count_tiles, is_full, tile_of};
+use crate::layout::{count_tiles, is_full, number_of, tile_of};
 use crate::reading::load;
 use crate::writing::write_tiles;
-use disk_core::Disk;
+use disk_core::{Disk, make_durable};
 use frame_pool::{Pool, Slot, TileKey};
 use mtc_io::{Failed, Memory};
 use std::alloc::Global;
@@ -80,11 +81,14 @@ impl<H: TreeHash, T: Disk + Drop> Drop for Tiles<H, T> {
 
 impl<H: TreeHash, T: Disk> Tiles<H, T> {
     ghost use Rattle.tile_store.specs.Calls.{HasLeafMore, HasSameLeaves, HasSameTiles, OnlyStores};
-    ghost use Rattle.tile_store.specs.Calls.{TilesAreAdopted, TilesAreNotAdopted, TilesAreStored};
-    ghost use Rattle.tile_store.specs.Causes.{HasCauseOf, IsNewTile, StandsIn};
+    ghost use Rattle.tile_store.specs.Calls.{OnlyWrites, RenewsTiles, TilesAreAdopted};
+    ghost use Rattle.tile_store.specs.Calls.{TilesAreNotAdopted, TilesAreRenewed, TilesAreStored};
+    ghost use Rattle.tile_store.specs.Causes.{BeginsWithin, HasCauseOf, IsFirstBad, IsNewTile};
+    ghost use Rattle.tile_store.specs.Causes.{StandsIn};
     ghost use Rattle.tile_store.specs.Contents.{HoldsTiles, IsTile};
     ghost use Rattle.tile_store.specs.Frames.{IsHeld};
-    ghost use Rattle.tile_store.specs.Layout.{tile_level, tile_offset};
+    ghost use Rattle.tile_store.specs.Layout.{tile_at, tile_level, tile_offset};
+    ghost use Rattle.tile_store.specs.Writing.{HoldsFirst, IsCrashStateAfter, KeepsAfter};
     ghost use Rattle.tile_store.specs.Store.{IsAvailable, TilesStay, tiles_adopted, tiles_count};
     ghost use Rattle.tile_store.specs.Store.{tiles_disk, tiles_filled, tiles_filled_to};
     ghost use Rattle.tile_store.specs.Store.{tiles_leaves, tiles_pool, tiles_spare, tiles_stored};
@@ -268,9 +272,33 @@ impl<H: TreeHash, T: Disk> Tiles<H, T> {
         ensures cause { HasCause (T.faults (tiles_disk self.old)) (T.faults (tiles_disk self.new))
             result }
     {
+        self.write_from(count_tiles(self.stored), size)
+    }
+
+    // The same from the tile of a number on. If the model knows the bytes of the device, the stored
+    // tiles come before it.
+    fn write_from(&mut self, from: u64, size: u64) -> Result<(), Failed>
+        requires within { size ≤ tiles_count self.old }
+        requires new { tiles_in (tiles_adopted self.old) ≤ from }
+        requires place { 8192 * from ≤ T.known (tiles_disk self.old) }
+        requires following { (b : Text) → T.contents (tiles_disk self.old) ≡ Some b
+            → tiles_in (tiles_stored self.old) ≤ from }
+        ensures leaves { HasSameLeaves (tiles_filled_to size self.old) self.old self.new }
+        ensures only { OnlyWrites from size self.old self.new }
+        ensures stored { tiles_stored self.new ≡ tiles_stored self.old }
+        ensures known { OnOk result (T.known (tiles_disk self.new)
+            ≡ max (tiles_end size) (T.known (tiles_disk self.old))) }
+        ensures holds { OnOk result (IfSome (T.contents (tiles_disk self.old)) (λ before.
+            IfSome (tiles_leaves self.old) (λ leaves. HoldsFirst H.hash leaves from before
+            → (c : Text) → T.may_leave (tiles_disk self.new) c
+            → HoldsTiles H.hash leaves size c))) }
+        ensures after { OnOk result (KeepsAfter T.Disk (8192 * max from (tiles_in size))
+            (tiles_disk self.old) (tiles_disk self.new)) }
+        ensures cause { HasCause (T.faults (tiles_disk self.old)) (T.faults (tiles_disk self.new))
+            result }
+    {
         self.rows.fill::<H>(size);
-        let (from, to) = (count_tiles(self.stored), count_tiles(size));
-        write_tiles::<H, T>(&mut self.disk, &self.rows, from, to)
+        write_tiles::<H, T>(&mut self.disk, &self.rows, from, count_tiles(size))
     }
 
     /// Reads back each tile that the first `size` leaves fill and that is not adopted yet, in the
@@ -316,10 +344,72 @@ impl<H: TreeHash, T: Disk> Tiles<H, T> {
         ensures fine { OnOk result (T.faults (tiles_disk self.new)
             ≡ T.faults (tiles_disk self.old)) }
         ensures cause { IfErr result (HasCauseOf self.old (tiles_disk self.new) size) }
+        ensures begins { IfErr result (BeginsWithin (tiles_adopted self.old) size
+            (T.known (tiles_disk self.new))) }
     {
         self.rows.fill::<H>(size);
         let (from, to) = (count_tiles(self.adopted), count_tiles(size));
         check::<H, T>(&mut self.disk, &mut self.pool, &self.rows, from, to)
+    }
+
+    /// Reads back each tile that the first `size` leaves fill and that is not adopted yet, as
+    /// [`Tiles::adopt`] does, and adopts them. If the file doesn't have one of them, the tiles are
+    /// written from this one on instead, and none is adopted. All is made durable. At any time a
+    /// crash leaves what it might have left before, but for what follows the start of that tile.
+    /// `Failed` comes only if the device's count of failures rose. It takes no memory.
+    pub fn renew(&mut self, size: u64) -> Result<(), Failed>
+        requires multiple { size % 256 ≡ 0 }
+        requires within { size ≤ tiles_count self.old }
+        ensures leaves { HasSameLeaves (tiles_filled_to size self.old) self.old self.new }
+        ensures spare { tiles_spare self.new ≡ tiles_spare self.old }
+        ensures renews { RenewsTiles size self.old self.new }
+        ensures renewed { OnOk result (TilesAreRenewed size self.old self.new) }
+        ensures cause { HasCause (T.faults (tiles_disk self.old)) (T.faults (tiles_disk self.new))
+            result }
+    {
+        match self.adopt(size) {
+            Ok(()) => self.sync_file(),
+            Err(TileError::BadTile { level, place }) => self.rewrite(
+                TileKey { level, place },
+                size,
+            ),
+            Err(TileError::Failed) => Err(Failed),
+        }
+    }
+
+    // Makes durable what is there.
+    fn sync_file(&mut self) -> Result<(), Failed>
+        ensures stays { TilesStay self.old self.new }
+        ensures spare { tiles_spare self.new ≡ tiles_spare self.old }
+        ensures filled { tiles_filled self.new ≡ tiles_filled self.old }
+        ensures leaves { tiles_leaves self.new ≡ tiles_leaves self.old }
+        ensures durable { OnOk result (IfSome (T.contents (tiles_disk self.new))
+            (λ b. Only b (T.may_leave (tiles_disk self.new)))) }
+        ensures cause { HasCause (T.faults (tiles_disk self.old)) (T.faults (tiles_disk self.new))
+            result }
+    {
+        make_durable(&mut self.disk)
+    }
+
+    // Writes the tiles of so many leaves from a bad one on.
+    fn rewrite(&mut self, key: TileKey, size: u64) -> Result<(), Failed>
+        requires within { size ≤ tiles_count self.old }
+        requires new { IsNewTile (tiles_adopted self.old) size key.level key.place }
+        requires place { tile_at key.level key.place ≤ T.known (tiles_disk self.old) }
+        requires bad { IfSome (T.contents (tiles_disk self.old)) (λ bytes.
+            IfSome (tiles_leaves self.old) (λ leaves. IsFirstBad H.hash leaves bytes
+            (tiles_adopted self.old) size key.level key.place)) }
+        ensures leaves { HasSameLeaves (tiles_filled_to size self.old) self.old self.new }
+        ensures spare { tiles_spare self.new ≡ tiles_spare self.old }
+        ensures any_time { LeavesOnly T.Disk (tiles_disk self.old) (tiles_disk self.new)
+            (IsCrashStateAfter T.Disk (tiles_disk self.old) (tile_at key.level key.place)) }
+        ensures renewed { OnOk result (TilesAreRenewed size self.old self.new) }
+        ensures cause { HasCause (T.faults (tiles_disk self.old)) (T.faults (tiles_disk self.new))
+            result }
+    {
+        self.write_from(number_of(key), size)?;
+        self.stored = self.stored.max(size);
+        Ok(())
     }
 
     /// The device, for another use.

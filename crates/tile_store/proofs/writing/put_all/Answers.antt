@@ -1,7 +1,8 @@
-use Rattle.std.proofs.Common.{◌*◌, ◌≤◌, sym, subst, arith}
+use Rattle.std.proofs.Common.{◌≡◌, ◌*◌, ◌≤◌, max, sym, subst, arith}
 use Rattle.tile_store.proofs.Numbers.{full-number, gone-kept, number-full}
 use Rattle.tile_store.proofs.Steps.{following-put, put-none, put-on}
 use Rattle.tile_store.specs.Layout.{tile_at}
+use Rattle.tile_store.specs.Writing.{KeepsAfter}
 use Rattle.tree_cache.specs.Rows.{filled_of}
 use Rattle.tile_store.proofs.writing.put_all.Goals as goal
 
@@ -64,4 +65,10 @@ returns-clause-written g c =
       holds = λ before after contents_old contents_now leaves are first level place low below full.
           written.holds before after contents_old contents_now leaves are first level place low
           (omega arith) full;
+      after =
+          let order = c.loop-number.auto.number in
+          let all : max c.args.from c.loop-number.number ≡ max c.args.from c.args.to =
+          omega arith in
+          subst (λ n. KeepsAfter g.T.Disk (8192 * n) c.args.disk.now c.loop-number.disk) all
+          written.after;
     }

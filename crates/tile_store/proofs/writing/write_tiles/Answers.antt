@@ -36,6 +36,9 @@ returns-clause-written g c =
       holds = λ before after contents_old contents_new leaves are first.
           written.holds before after (c.make_durable.ensures.only_reads.contents ∙ contents_old)
           (sym c.make_durable-2.ensures.only_reads.contents ∙ contents_new) leaves are first;
+      after = λ before now contents_old contents_new.
+          written.after before now (c.make_durable.ensures.only_reads.contents ∙ contents_old)
+          (sym c.make_durable-2.ensures.only_reads.contents ∙ contents_new);
     })
 
 pub returns-clause-prefix : goal.returns-clause-prefix

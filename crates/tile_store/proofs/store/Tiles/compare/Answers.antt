@@ -1,5 +1,6 @@
 use Rattle.std.proofs.Common.{ℕ, sym, ◌∙◌, subst, arith}
-use Rattle.tile_store.proofs.Adopted.{both-contents, cause-from, if-err-map, on-ok-map, stand-in}
+use Rattle.tile_store.proofs.Adopted.{begins-within, both-contents, cause-from, if-err-both}
+use Rattle.tile_store.proofs.Adopted.{if-err-map, on-ok-map, stand-in}
 use Rattle.tile_store.proofs.Grown.{sound-still}
 use Rattle.tile_store.proofs.Numbers.{full-low, full-number}
 use Rattle.tile_store.specs.Causes.{IsNewTile, StandsIn}
@@ -108,3 +109,18 @@ returns-clause-cause g c =
     c.check.new.disk tiles.pool e) c.count_tiles-from.ensures
     (subst (λ n. HasTileReason g.T.Disk h c.fill.new.self c.count_tiles-from.result n tiles.disk
     c.check.new.disk tiles.pool e) c.count_tiles-to.ensures reason)))
+
+pub returns-clause-begins : goal.returns-clause-begins
+returns-clause-begins g c =
+    let tiles = c.args.self.now in
+    let h = g.H.TreeHash.hash in
+    if-err-both
+    (HasTileReason g.T.Disk h c.fill.new.self c.count_tiles-from.result c.count_tiles-to.result
+    tiles.disk c.check.new.disk tiles.pool)
+    _ _ c.check.result c.check.ensures.err c.check.ensures.begins (λ e reason begins.
+    begins-within g.T.Disk h c.fill.new.self tiles.adopted c.args.size tiles.disk
+    c.check.new.disk tiles.pool e
+    (subst (λ n. HasTileReason g.T.Disk h c.fill.new.self n (tiles_in c.args.size) tiles.disk
+    c.check.new.disk tiles.pool e) c.count_tiles-from.ensures
+    (subst (λ n. HasTileReason g.T.Disk h c.fill.new.self c.count_tiles-from.result n tiles.disk
+    c.check.new.disk tiles.pool e) c.count_tiles-to.ensures reason)) begins)
