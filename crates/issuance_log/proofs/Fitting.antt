@@ -2,17 +2,16 @@
 use Rattle.std.proofs.Common.{◌≡◌, ℕ, zero, suc, ◌+◌, ◌-◌, ◌*◌, ◌<◌, ◌≤◌, nat_le, nat_lt, List, []}
 use Rattle.std.proofs.Common.{◌∷◌, ◌++◌, length, Bool, true, false, Option, Some, None, refl, ap}
 use Rattle.std.proofs.Common.{sym}
-use Rattle.std.proofs.Common.{subst, ◌∙◌, ◌||◌, add-one, take, arith, drop, get_or, if◌then◌else◌}
+use Rattle.std.proofs.Common.{◌∙◌, ◌||◌, add-one, take, arith, drop, get_or, if◌then◌else◌}
 use Rattle.std.specs.Prelude.{flat_map}
-use Rattle.std.specs.List.{AllByRecursion, list_any}
+use Rattle.std.specs.List.{list_any}
 use Rattle.std.proofs.lemmas.Bool.{le-leb, leb-false, leb-true, ltb-false}
 use Rattle.std.proofs.lemmas.Bool.Decides.{nat_tests}
 use Rattle.std.proofs.lemmas.List.{drop_all, drop_more, length-append}
-use Rattle.byte_formats.specs.Forms.{FitsBoth}
 use Rattle.byte_formats.specs.Types.{Text}
 use Rattle.issuance_log.specs.Batches.{fitting, has_large, is_large, most_listed}
 use Rattle.issuance_log.specs.Folds.{LogView}
-use Rattle.issuance_log.specs.Records.{CanBeBatch, HaveShortItems, IsShort, batch_record, item_text}
+use Rattle.issuance_log.specs.Records.{CanBeBatch, HaveShortItems, batch_record, item_text}
 use Rattle.issuance_log.specs.Refusals.{batch_refusal}
 use Rattle.issuance_log.specs.Settings.{most_item}
 use Rattle.issuance_log.specs.declared.error.LogError.{LogError}

@@ -14,6 +14,7 @@ mod Leaving
 mod Made
 mod Opening
 mod ReadViews
+mod Renewing
 mod Resting
 mod Pushing
 mod Rereading

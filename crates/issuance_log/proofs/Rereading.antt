@@ -6,7 +6,9 @@ use Rattle.std.proofs.Common.{ap, subst, sym, ◌∙◌, arith, nat_lt}
 use Rattle.std.specs.Prelude.{if◌then◌else◌, Bool, IfErr, OnOk, Result}
 use Rattle.std.proofs.lemmas.Bool.{le-ltb, lt-ltb}
 use Rattle.std.specs.Result.{IsErrAnd}
-use Rattle.std.proofs.lemmas.List.{get_or-map, get_or-take, take-append-le, take_all}
+use Rattle.std.proofs.lemmas.List.{drop-drop, drop-take, get_or-map, get_or-take, take-append-le}
+use Rattle.std.proofs.lemmas.List.{take-take, take_all}
+use Rattle.disk_core.specs.Disk.{part}
 use Rattle.byte_formats.specs.Types.{Hash, HashFunction, Text}
 use Rattle.byte_formats.specs.Offsets.{At, at}
 use Rattle.byte_formats.proofs.Steps.{bind_ok, ok_is}
@@ -15,7 +17,7 @@ use Rattle.tls_wire.specs.Reading.{vector_at}
 use Rattle.tls_wire.specs.declared.cursor.Short.{Short}
 use Rattle.journal_core.specs.Words.{HoldsBody}
 use Rattle.std.specs.Int.{w16, from_be_bytes}
-use Rattle.issuance_log.specs.Entries.{IsNoAnswer, IsVectorAt}
+use Rattle.issuance_log.specs.Entries.{IsLengthAt, IsNoAnswer}
 use Rattle.issuance_log.specs.Folds.{LogState, LogView, null_entry}
 use Rattle.issuance_log.specs.Items.{AreKept}
 use Rattle.issuance_log.specs.ItemOffsets.{IsAtOffset, offsets_of}
@@ -23,8 +25,8 @@ use Rattle.issuance_log.specs.Records.{entry_at}
 use Rattle.issuance_log.specs.Refusals.{GivesItem, item_at}
 use Rattle.issuance_log.specs.Shown.{recorded_items, shown_with}
 use Rattle.issuance_log.specs.declared.error.LogError.{LogError}
-use Rattle.issuance_log.specs.declared.error.LogError.TheVariants.{Full, TooLarge, NoSuchEntry}
-use Rattle.issuance_log.specs.declared.error.LogError.TheVariants.{NothingNew, Failed, Append}
+use Rattle.issuance_log.specs.declared.error.LogError.TheVariants.{NoSuchEntry}
+use Rattle.issuance_log.specs.declared.error.LogError.TheVariants.{Failed}
 use Rattle.issuance_log.specs.declared.error.LogError.TheVariants.{Memory}
 use Rattle.issuance_log.proofs.After.{entries_of, keys_of}
 use Rattle.issuance_log.proofs.Inside.{vector_read}
@@ -153,77 +155,89 @@ gives_item h v offsets leaves (Some list) kept index place entry key some there 
 gives_item h v offsets leaves (Some list) kept index place entry key some there is (Err why) none
     gives = gives_nothing h v offsets leaves (Some list) kept index why entry key there none
 
--- the bytes after their length inside a body, by what was read at both places
-vector_found : (place : ℕ) (first out : List ℕ) (list : List Text)
-    → HoldsBody place first list → length first ≡ 2 → HoldsBody (place + 2) out list
-    → length out ≡ from_be_bytes w16 first → IsVectorAt place out list
-vector_found place first out list one two next long prefix body back inside bytes later split
-    place_is read =
-    let v = vector_read body inside bytes later read in
-    let head : first ≡ take 2 (drop inside body) =
-    one prefix body back inside split (omega (arith, place_is)) (omega (arith, v.within, two))
-    ∙ ap (λ (n : ℕ). take n (drop inside body)) two in
-    let same : length out ≡ length bytes =
-    long ∙ ap (from_be_bytes w16) head ∙ sym v.counted in
-    let out_is : out ≡ take (length out) (drop (inside + 2) body) =
-    next prefix body back (inside + 2) split (omega (arith, place_is))
-    (omega (arith, v.within, same)) in
-    v.part ∙ ap (λ (n : ℕ). take n (drop (inside + 2) body)) (sym same) ∙ sym out_is
+-- the length that two bytes are, by what was read there
+pub length_back : (place size : ℕ) (read : Text) (o : Option (List Text)) → length read ≡ 2
+    → size ≡ from_be_bytes w16 read → IfSome o (HoldsBody place read)
+    → IfSome o (IsLengthAt place size)
+length_back place size read None two is holds = tt
+length_back place size read (Some list) two is holds = λ prefix body back inside split place_is
+    within.
+    is ∙ ap (from_be_bytes w16) (holds prefix body back inside split (omega (arith, place_is))
+    (omega (arith, within, two)) ∙ ap (λ (n : ℕ). part inside n body) two)
 
-pub vector_back : (place size : ℕ) (first out items : List ℕ) (o later : Option (List Text))
-    (len : ℕ) → IfSome o (HoldsBody place first) → length first ≡ 2
-    → size ≡ from_be_bytes w16 first → later ≡ o → IfSome later (HoldsBody (place + 2) out)
-    → length out ≡ size → length items ≡ size → len ≡ size
-    → IfSome o (IsVectorAt place (take len (out ++ drop (length out) items)))
-vector_back place size first out items o later len one two sized same next of_out of_items of_len =
-    each o one (subst (λ p. IfSome p (HoldsBody (place + 2) out)) same next)
-  where
-    whole : out ≡ take len (out ++ drop (length out) items)
-    whole =
-        sym (take-append-le len out (drop (length out) items) (omega arith)
-        ∙ take_all len out (omega arith))
+-- all bytes of a vector were read
+pub bytes_back : (place size len : ℕ) (out items : Text) (o : Option (List Text))
+    → length out ≡ size → length items ≡ size → len ≡ size → IfSome o (HoldsBody place out)
+    → IfSome o (HoldsBody place (take len (out ++ drop (length out) items)))
+bytes_back place size len out items o of_out of_items of_len holds =
+    subst (λ (t : Text). IfSome o (HoldsBody place t)) (sym
+    (take-append-le len out (drop (length out) items) (omega arith)
+    ∙ take_all len out (omega arith))) holds
 
-    each : (p : Option (List Text)) → IfSome p (HoldsBody place first)
-        → IfSome p (HoldsBody (place + 2) out)
-        → IfSome p (IsVectorAt place (take len (out ++ drop (length out) items)))
-    each None holds after = tt
-    each (Some list) holds after =
-        subst (λ (t : Text). IsVectorAt place t list) whole
-        (vector_found place first out list holds two after (of_out ∙ sized))
-
--- the item at an offset, by its two vectors
-item_found : (place : ℕ) (first second : Text) (list : List Text) → IsVectorAt place first list
-    → IsVectorAt (place + 2 + length first) second list → (item : Text × Text)
-    → IsAtOffset list place item → item ≡ (first, second)
+-- the item at an offset, by the length of its entry, by the entry with the length of its key, and
+-- by the key
+item_found : (place size : ℕ) (first second : Text) (list : List Text) → IsLengthAt place size list
+    → HoldsBody (place + 2) first list → length first ≡ size + 2
+    → HoldsBody (place + 2 + (size + 2)) second list
+    → length second ≡ from_be_bytes w16 (drop size first) → (item : Text × Text)
+    → IsAtOffset list place item → item ≡ (take size first, second)
 unfolding entry_at
-item_found place first second list one two item there =
+item_found place size first second list sized one long two counted item there =
     let a = at there.body there.inside in
+    let body = there.body in
+    let inside = there.inside in
     let head = bind_ok (vector_at w16 a) _ (item, there.later) there.is in
     let rest = bind_ok (vector_at w16 head.0.1) _ (item, there.later) head.2 in
     let same = ok_is Short ((head.0.0, rest.0.0), rest.0.1) (item, there.later) rest.2 in
-    let first_is : head.0.0 ≡ first =
-    one there.prefix there.body there.back there.inside head.0.0 head.0.1 there.split
-    there.offset_is head.1 in
-    let moved = (vector_read there.body there.inside head.0.0 head.0.1 head.1).next in
-    let count = ap length first_is in
-    let second_is : rest.0.0 ≡ second =
-    two there.prefix there.body there.back (there.inside + 2 + length head.0.0) rest.0.0 rest.0.1
-    there.split (omega (arith, there.offset_is, count)) (ap (vector_at w16) (sym moved) ∙ rest.1) in
+    let entry = vector_read body inside head.0.0 head.0.1 head.1 in
+    let key = vector_read body (inside + 2 + length head.0.0) rest.0.0 rest.0.1
+    (ap (vector_at w16) (sym entry.next) ∙ rest.1) in
+    let size_is : size ≡ length head.0.0 =
+    sized there.prefix body there.back inside there.split there.offset_is
+    (omega (arith, entry.within)) ∙ sym entry.counted in
+    let read : first ≡ take (size + 2) (drop (inside + 2) body) =
+    one there.prefix body there.back (inside + 2) there.split (omega (arith, there.offset_is))
+    (omega (arith, key.within, long, size_is))
+    ∙ ap (λ (n : ℕ). take n (drop (inside + 2) body)) long in
+    let entry_is : head.0.0 ≡ take size first =
+    entry.part ∙ ap (λ (n : ℕ). take n (drop (inside + 2) body)) (sym size_is)
+    ∙ sym (take-take size (size + 2) (drop (inside + 2) body) (omega arith))
+    ∙ ap (take size) (sym read) in
+    let length_is : drop size first ≡ take 2 (drop (inside + 2 + length head.0.0) body) =
+    ap (drop size) read ∙ drop-take size 2 (drop (inside + 2) body)
+    ∙ ap (take 2) (drop-drop size (inside + 2) body)
+    ∙ ap (λ (n : ℕ). take 2 (drop (inside + 2 + n) body)) size_is in
+    let long_key : length second ≡ length rest.0.0 =
+    counted ∙ ap (from_be_bytes w16) length_is ∙ sym key.counted in
+    let second_is : second ≡ take (length second) (drop (inside + 2 + (size + 2)) body) =
+    two there.prefix body there.back (inside + 2 + (size + 2)) there.split
+    (omega (arith, there.offset_is)) (omega (arith, key.within, long_key, size_is)) in
+    let place_is : inside + 2 + length head.0.0 + 2 ≡ inside + 2 + (size + 2) =
+    omega (arith, size_is) in
+    let key_is : rest.0.0 ≡ second =
+    key.part ∙ ap (λ (n : ℕ). take (length rest.0.0) (drop n body)) place_is
+    ∙ ap (λ (n : ℕ). take n (drop (inside + 2 + (size + 2)) body)) (sym long_key)
+    ∙ sym second_is in
     sym (ap (λ (v : (Text × Text) × At). v.0) same)
-    ∙ ap (λ (t : Text). (t, rest.0.0)) first_is ∙ ap (λ (t : Text). (first, t)) second_is
+    ∙ ap (λ (t : Text). (t, rest.0.0)) entry_is ∙ ap (λ (t : Text). (take size first, t)) key_is
 
-pub item_back : (place after : ℕ) (first second : Text) (o later : Option (List Text))
-    → IfSome o (IsVectorAt place first) → after ≡ place + 2 + length first → later ≡ o
-    → IfSome later (IsVectorAt after second)
+pub item_back : (place size after : ℕ) (first second : Text) (o o' o'' : Option (List Text))
+    → IfSome o (IsLengthAt place size) → o' ≡ o → IfSome o' (HoldsBody (place + 2) first)
+    → length first ≡ size + 2 → after ≡ place + 2 + length first → o'' ≡ o'
+    → IfSome o'' (HoldsBody after second)
+    → length second ≡ from_be_bytes w16 (drop size first)
     → IfSome o (λ list. (item : Text × Text) → IsAtOffset list place item
-    → item ≡ (first, second))
-item_back place after first second o later one after_is same two =
-    each o one (subst (λ (n : ℕ). IfSome o (IsVectorAt n second)) after_is
-    (subst (λ p. IfSome p (IsVectorAt after second)) same two))
+    → item ≡ (take size first, second))
+item_back place size after first second o o' o'' sized same one long after_is same' two counted =
+    each o sized (subst (λ p. IfSome p (HoldsBody (place + 2) first)) same one)
+    (subst (λ (n : ℕ). IfSome o (HoldsBody n second)) (after_is ∙ ap (λ (n : ℕ). place + 2 + n)
+    long) (subst (λ p. IfSome p (HoldsBody after second)) (same' ∙ same) two))
   where
-    each : (p : Option (List Text)) → IfSome p (IsVectorAt place first)
-        → IfSome p (IsVectorAt (place + 2 + length first) second)
+    each : (p : Option (List Text)) → IfSome p (IsLengthAt place size)
+        → IfSome p (HoldsBody (place + 2) first)
+        → IfSome p (HoldsBody (place + 2 + (size + 2)) second)
         → IfSome p (λ list. (item : Text × Text) → IsAtOffset list place item
-        → item ≡ (first, second))
-    each None head rest = tt
-    each (Some list) head rest = item_found place first second list head rest
+        → item ≡ (take size first, second))
+    each None head mid rest = tt
+    each (Some list) head mid rest =
+        item_found place size first second list head mid long rest counted

@@ -1,21 +1,18 @@
 -- An entry that is read back from a journal.
-use Rattle.std.specs.Prelude.{◌≡◌, ℕ, ◌+◌, List, ◌∷◌, ◌++◌, Result, Ok, Err}
-use Rattle.std.specs.Int.{w16}
+use Rattle.std.specs.Prelude.{◌≡◌, ℕ, ◌+◌, ◌≤◌, List, ◌∷◌, ◌++◌, length, Result, Ok, Err}
+use Rattle.std.specs.Int.{w16, from_be_bytes}
 use Rattle.byte_formats.specs.Types.{Text}
-use Rattle.byte_formats.specs.Offsets.{At, at}
+use Rattle.disk_core.specs.Disk.{part}
 use Rattle.journal_core.specs.Format.{following}
 use Rattle.mtc_io.specs.Counts.{Rose}
-use Rattle.tls_wire.specs.Reading.{vector_at}
 use Rattle.issuance_log.specs.declared.error.LogError.{LogError}
 use Rattle.issuance_log.specs.declared.error.LogError.TheVariants.{Failed, Memory}
 
--- The bytes are those that follow their length of two bytes at an offset, if one of these records
--- has such bytes there, inside its body.
-abbrev pub IsVectorAt : ℕ → Text → List Text → Type 0
-IsVectorAt place read list = (prefix : List Text) (body : Text) (back : List Text) (inside : ℕ)
-    (bytes : Text) (later : At) → list ≡ prefix ++ body ∷ back
-    → place ≡ following 16 prefix + 5 + inside → vector_at w16 (at body inside) ≡ Ok (bytes, later)
-    → bytes ≡ read
+-- The number is that in two bytes at an offset, if one of these records has these inside its body.
+abbrev pub IsLengthAt : ℕ → ℕ → List Text → Type 0
+IsLengthAt place size list = (prefix : List Text) (body : Text) (back : List Text) (inside : ℕ)
+    → list ≡ prefix ++ body ∷ back → place ≡ following 16 prefix + 5 + inside
+    → inside + 2 ≤ length body → size ≡ from_be_bytes w16 (part inside 2 body)
 
 -- Nothing is said of the item: memory was refused, or a disk failed.
 abbrev pub IsNoAnswer : LogError → Type 0

@@ -11,6 +11,7 @@ pub mod Machine
 pub mod Marks
 pub mod Opened
 pub mod Openings
+pub mod Rebuilt
 pub mod ItemOffsets
 pub mod Records
 pub mod Refusals

@@ -19,7 +19,7 @@ use Rattle.issuance_log.specs.declared.error.LogError.TheVariants.{NothingNew, F
 use Rattle.issuance_log.specs.declared.error.LogError.TheVariants.{AlreadySwitched, Memory, TooMany}
 
 -- The refusal of a record that the journal determines, the first that holds: of a journal that an
--- append has broken, and of one whose file would pass 2^31 bytes.
+-- append has broken, and of one whose file would pass 2^33 bytes.
 abbrev pub append_refusal : Bool → ℕ → Text → Option AppendError
 append_refusal broken end body =
     if broken then Some append_error.Broken

@@ -15,7 +15,8 @@
 //! is the [`Nodes`](tree_proofs::Nodes) of the tree over its entries, in
 //! [`Tiles`](tile_store::Tiles) on a second disk: [`Log::tile`] stores those that are full and then
 //! appends their size, and the next opening adopts them where it reads that record. So an opening
-//! keeps the nodes over the entries after the last such record alone.
+//! keeps the nodes over the entries after the last such record alone. [`rebuild_tiles`] writes the
+//! tiles of the last size again where that disk doesn't have all of them.
 #![tactic(auto)]
 
 mod batch;
@@ -30,6 +31,7 @@ mod machine;
 mod nodes;
 mod numbers;
 mod preparing;
+mod rebuilding;
 mod record;
 mod settings;
 
@@ -38,4 +40,5 @@ pub use creation::{create, pack};
 pub use error::{LogError, LogOpenError, LogRefused};
 pub use following::may_follow;
 pub use log::Log;
+pub use rebuilding::{Rebuilt, rebuild_tiles};
 pub use settings::LogSettings;

@@ -80,7 +80,7 @@ pub struct Log<H: TreeHash, D: Disk, T: Disk> {
 }
 
 // A log whose records are not read.
-fn not_opened<D, T>(refused: StateRefused<D, TileRest<T>>) -> LogRefused<D, T>
+pub(crate) fn not_opened<D, T>(refused: StateRefused<D, TileRest<T>>) -> LogRefused<D, T>
     ensures disk { result.disk ≡ refused.disk }
     ensures tiles { result.tiles ≡ refused.rest.disk }
     ensures why { result.why ≡ open_refusal refused.why refused.rest.refusal }

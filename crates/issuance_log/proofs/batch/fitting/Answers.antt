@@ -1,5 +1,4 @@
-use Rattle.std.proofs.Common.{◌+◌, arith}
-use Rattle.issuance_log.specs.Batches.{fitting, most_listed}
+use Rattle.std.proofs.Common.{arith}
 use Rattle.issuance_log.proofs.Fitting.{fits_end, fits_not, fits_on}
 use Rattle.issuance_log.proofs.batch.fitting.Goals as goal
 

@@ -1,5 +1,5 @@
-use Rattle.std.proofs.Common.{◌≡◌, ◌∙◌, arith, length, sym}
-use Rattle.issuance_log.specs.Batches.{fitting, most_listed}
+use Rattle.std.proofs.Common.{◌∙◌, arith, sym}
+use Rattle.issuance_log.specs.Batches.{most_listed}
 use Rattle.issuance_log.proofs.Fitting.{can_be, fitting_most}
 use Rattle.issuance_log.proofs.preparing.prepare_items.Goals as goal
 

@@ -1,4 +1,4 @@
-use Rattle.std.proofs.Common.{◌+◌, ◌∙◌, length, true, false, arith, refl, sym}
+use Rattle.std.proofs.Common.{◌∙◌, true, false, arith, refl, sym}
 use Rattle.issuance_log.proofs.Leading.{counted_end, counted_on, filled_end}
 use Rattle.issuance_log.proofs.record.count_items.Goals as goal
 

@@ -1,4 +1,4 @@
-use Rattle.std.proofs.Common.{◌+◌, length, ap, arith, sym, ◌∙◌}
+use Rattle.std.proofs.Common.{length, ap, arith, sym, ◌∙◌}
 use Rattle.std.proofs.lemmas.List.{length-append}
 use Rattle.byte_formats.specs.Offsets.{at}
 use Rattle.byte_formats.specs.Types.{Text}

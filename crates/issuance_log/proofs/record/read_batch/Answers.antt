@@ -1,4 +1,4 @@
-use Rattle.std.proofs.Common.{◌≡◌, ◌≢◌, ◌∙◌, sym}
+use Rattle.std.proofs.Common.{◌∙◌, sym}
 use Rattle.issuance_log.proofs.Leading.{batch_found, items_bytes, leading_short, none_counted}
 use Rattle.issuance_log.proofs.Leading.{not_counted, not_filled}
 use Rattle.issuance_log.proofs.record.read_batch.Goals.{in_default-via-in-Some+then-there-count+else-count-ne0}

@@ -1,4 +1,4 @@
-use Rattle.std.proofs.Common.{◌+◌, ◌-◌, ◌++◌, ◌∷◌, [], List, length, option_map, ap, arith, sym}
+use Rattle.std.proofs.Common.{◌++◌, ◌∷◌, [], List, option_map, ap, arith, sym}
 use Rattle.std.proofs.Common.{◌∙◌}
 use Rattle.byte_formats.specs.Types.{Hash}
 use Rattle.issuance_log.specs.Items.{items_leaves}

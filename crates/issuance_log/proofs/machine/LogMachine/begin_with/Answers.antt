@@ -1,7 +1,6 @@
 use Rattle.std.proofs.Common.{ℕ, ◌+◌, List, [], ◌∷◌, ◌++◌, length, ap, subst, sym, ◌∙◌, arith}
-use Rattle.std.proofs.Common.{Some, refl}
+use Rattle.std.proofs.Common.{refl}
 use Rattle.state_journal.specs.Steps.{IsLeftBy}
-use Rattle.issuance_log.specs.Folds.{null_entry}
 use Rattle.issuance_log.specs.Items.{AreBelow, items_leaves, items_offsets}
 use Rattle.issuance_log.specs.Machine.{TilesAreLeft, TilesAreRead, rest_of_seed}
 use Rattle.issuance_log.proofs.Keeping.{kept_first}
