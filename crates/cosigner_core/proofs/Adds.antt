@@ -20,7 +20,8 @@ use Rattle.cosigner_core.specs.Refusals.{journal_refusal}
 use Rattle.cosigner_core.specs.declared.error.CosignError.{CosignError}
 use Rattle.cosigner_core.specs.declared.error.CosignError.TheVariants.{WrongLog, NotNewer}
 use Rattle.cosigner_core.specs.declared.error.CosignError.TheVariants.{BadSubtree, Beyond, BadProof}
-use Rattle.cosigner_core.specs.declared.error.CosignError.TheVariants.{Exhausted, Append}
+use Rattle.cosigner_core.specs.declared.error.CosignError.TheVariants.{NeedsChild, Exhausted}
+use Rattle.cosigner_core.specs.declared.error.CosignError.TheVariants.{Append}
 use Rattle.cosigner_core.specs.declared.keyless.KeylessCosigner.{KeylessCosigner}
 use Rattle.state_journal.proofs.Owners.{owner_grows, owner_refused, owner_stays}
 use Rattle.state_journal.proofs.Answered.{AnswersSo, answered_so}
@@ -47,6 +48,7 @@ none_of_journal (NotNewer held) kind = refl
 none_of_journal BadSubtree kind = refl
 none_of_journal (Beyond held) kind = refl
 none_of_journal BadProof kind = refl
+none_of_journal NeedsChild kind = refl
 none_of_journal Exhausted kind = refl
 none_of_journal (Append why) kind = absurd kind
 
@@ -90,6 +92,7 @@ keeps_itself (NotNewer held) kind = refl
 keeps_itself BadSubtree kind = refl
 keeps_itself (Beyond held) kind = refl
 keeps_itself BadProof kind = refl
+keeps_itself NeedsChild kind = refl
 keeps_itself Exhausted kind = refl
 keeps_itself (Append why) kind = absurd kind
 

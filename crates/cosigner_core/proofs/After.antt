@@ -1,16 +1,16 @@
 -- The records after the first one of a cosigner, taken one by one.
 use Rattle.std.proofs.Common.{◌≡◌, ℕ, ◌+◌, ◌<◌, ◌≤◌, Bool, true, false, List, [], ◌∷◌, ◌++◌}
 use Rattle.std.proofs.Common.{length, drop, get_or, Option, Some, None, Result, Ok, Err, is_ok}
-use Rattle.std.proofs.Common.{option_map, option_and_then, refl, ap, sym, ◌∙◌, slice_get}
+use Rattle.std.proofs.Common.{option_map, option_and_then, refl, ap, sym, ◌∙◌}
 use Rattle.std.proofs.lemmas.Option.{none-some, same_Some}
 use Rattle.std.specs.Prelude.{if◌then◌else◌, is_some}
-use Rattle.byte_formats.specs.Types.{HashFunction, Text}
+use Rattle.byte_formats.specs.Types.{Hash, HashFunction, Text}
 use Rattle.byte_formats.specs.Readings.{◌>>=◌, some_or}
 use Rattle.byte_formats.proofs.Steps.{bind_ok, ok_is, some_or_ok}
 use Rattle.byte_formats.proofs.Values.{when_some}
 use Rattle.journal_core.specs.Folds.{state_after, taken_from}
 use Rattle.journal_core.proofs.Bodies.{none_left, rest_at}
-use Rattle.cosigner_core.specs.Counts.{indices_in}
+use Rattle.cosigner_core.specs.Counts.{AreCounted, FollowsItsTree}
 use Rattle.cosigner_core.specs.Folds.{CosignerState, after_step, begun_cosigner, cosigner_fold}
 use Rattle.cosigner_core.specs.Folds.{cosigner_of}
 use Rattle.cosigner_core.specs.Folds.{new_cosigner, next_state, progress_of, terms_by}
@@ -22,8 +22,9 @@ use Rattle.cosigner_core.specs.Records.{cosigner_in, step_in}
 use Rattle.cosigner_core.specs.declared.progress.Progress.{Progress}
 use Rattle.cosigner_core.specs.declared.settings.CosignerSettings.{CosignerSettings}
 use Rattle.cosigner_core.specs.declared.step.Step.{Step}
+use Rattle.cosigner_core.specs.declared.step.Step.TheVariants.{Sign}
 use Rattle.cosigner_core.specs.declared.terms.KeyTerms.{KeyTerms}
-use Rattle.cosigner_core.proofs.Counts.{indices_count_up}
+use Rattle.cosigner_core.proofs.Counts.{follows_tree, records_count_up}
 use Rattle.cosigner_core.proofs.Brought.{comes_to}
 
 -- how far these records bring a cosigner that has come so far
@@ -108,13 +109,13 @@ begins_with h terms bodies = refl
 
 -- by the test of a step
 by_test : (h : HashFunction) (k : ℕ) (s t : CosignerState) (terms : KeyTerms) (p : Progress)
-    (bodies : List Text) (b : Bool)
-    → is_ok (taken_from (cosigner_fold h) (k + 1) t bodies) ≡ is_some (brought h terms p bodies)
+    (bodies : List Text) (b : Bool) → (b ≡ true
+    → is_ok (taken_from (cosigner_fold h) (k + 1) t bodies) ≡ is_some (brought h terms p bodies))
     → is_ok (some_or k (if b then Some t else None)
     >>= λ (u : CosignerState). taken_from (cosigner_fold h) (k + 1) u bodies)
     ≡ is_some (option_and_then (λ (q : Progress). brought h terms q bodies)
     (if b then Some p else None))
-by_test h k s t terms p bodies true same = same
+by_test h k s t terms p bodies true same = same refl
 by_test h k s t terms p bodies false same = refl
 
 by_step : (h : HashFunction) (k : ℕ) (s : CosignerState) (bodies : List Text) (o : Option Step)
@@ -128,8 +129,8 @@ by_step h k s bodies None rest = refl
 by_step h k s bodies (Some step) rest =
     let next = with_step (progress_of s) step in
     by_test h k s (with_progress s next) (terms_by s) next bodies
-    (is_allowed h (terms_by s) (progress_of s) step) (rest (with_progress s next)
-    ∙ ap (λ (p : Progress). is_some (brought h (terms_by s) p bodies)) (comes_to s step))
+    (is_allowed h (terms_by s) (progress_of s) step) (λ fits. rest (with_progress s next)
+    ∙ ap (λ (p : Progress). is_some (brought h (terms_by s) p bodies)) (comes_to h s step fits))
 
 after_agrees : (h : HashFunction) (k : ℕ) (s : CosignerState) (bodies : List Text)
     → is_ok (taken_from (cosigner_fold h) k s bodies)
@@ -154,7 +155,7 @@ step_brings h s t (Some step) is =
     (Some (with_progress s next)) t is in
     let same = same_Some (with_progress s next) t made.1 in (
       ap (λ (b : Bool). if b then Some next else None) made.0
-          ∙ (ap (λ (p : Progress). Some p) (sym (comes_to s step))
+          ∙ (ap (λ (p : Progress). Some p) (sym (comes_to h s step made.0))
           ∙ ap (λ (u : CosignerState). Some (progress_of u)) same),
       ap terms_by (sym same),
     )
@@ -179,14 +180,14 @@ brings h k s (body ∷ bodies) t is =
 
 new_agrees : (h : HashFunction) (s : CosignerSettings) (secret : Text) (bodies : List Text)
     → is_ok (taken_from (cosigner_fold h) 1 (new_cosigner h s secret) bodies)
-    ≡ may_follow_cosigner h (terms_of s.lms None) bodies
+    ≡ may_follow_cosigner h (terms_of s.lms s.low) bodies
 new_agrees h s secret bodies =
     after_agrees h 1 (new_cosigner h s secret) bodies
-    ∙ ap (λ (o : Option Progress). is_some o) (begins_with h (terms_of s.lms None) bodies)
+    ∙ ap (λ (o : Option Progress). is_some o) (begins_with h (terms_of s.lms s.low) bodies)
 
 pub begins_so : (h : HashFunction) (first : Text) (s : CosignerSettings) (secret : Text)
     (bodies : List Text) → cosigner_in first ≡ Some (s, secret)
-    → is_ok (cosigner_of h (first ∷ bodies)) ≡ may_follow_cosigner h (terms_of s.lms None) bodies
+    → is_ok (cosigner_of h (first ∷ bodies)) ≡ may_follow_cosigner h (terms_of s.lms s.low) bodies
 unfolding state_after begun_cosigner
 begins_so h first s secret bodies is =
     ap (λ (o : Option (CosignerSettings × Text)). is_ok (some_or 0 (option_map
@@ -206,7 +207,7 @@ pub only_begins : (h : HashFunction) (list : List Text) (t : CosignerState)
     → cosigner_of h list ≡ Ok t → (first : Text) × ((bodies : List Text)
     × ((s : CosignerSettings) × ((secret : Text) × ((list ≡ first ∷ bodies)
     × (cosigner_in first ≡ Some (s, secret))
-    × (may_follow_cosigner h (terms_of s.lms None) bodies ≡ true)))))
+    × (may_follow_cosigner h (terms_of s.lms s.low) bodies ≡ true)))))
 unfolding state_after begun_cosigner
 only_begins h [] t is = absurd (no_cosigner 0 t is)
 only_begins h (first ∷ bodies) t is = go (cosigner_in first) refl
@@ -224,7 +225,7 @@ only_begins h (first ∷ bodies) t is = go (cosigner_in first) refl
     go : (o : Option (CosignerSettings × Text)) → cosigner_in first ≡ o → (f : Text)
         × ((bs : List Text) × ((s : CosignerSettings) × ((secret : Text)
         × ((first ∷ bodies ≡ f ∷ bs) × (cosigner_in f ≡ Some (s, secret))
-        × (may_follow_cosigner h (terms_of s.lms None) bs ≡ true)))))
+        × (may_follow_cosigner h (terms_of s.lms s.low) bs ≡ true)))))
     go None read = absurd (none-some (went None read).0 (went None read).1)
     go (Some x) read = (
       first,
@@ -251,9 +252,20 @@ found_ok (Ok t) is = (t, refl)
 found_ok (Err k) is = let wrong : false ≡ true = is in absurd cc
 
 pub once_each : (h : HashFunction) (s : CosignerSettings) (bodies : List Text)
-    → may_follow_cosigner h (terms_of s.lms None) bodies ≡ true → (i index : ℕ)
-    → slice_get (indices_in bodies) i ≡ Some index → index ≡ i
-once_each h s bodies may i index found =
+    → may_follow_cosigner h (terms_of s.lms s.low) bodies ≡ true → AreCounted bodies
+once_each h s bodies may =
     let made = found_ok (taken_from (cosigner_fold h) 1 (new_cosigner h s []) bodies)
     (new_agrees h s [] bodies ∙ may) in
-    indices_count_up h s [] bodies made.0 made.1 i index found
+    records_count_up h s [] bodies made.0 made.1
+
+-- a Sign follows the Child of its lower tree
+pub after_its_tree : (h : HashFunction) (s : CosignerSettings) (before : List Text) (body : Text)
+    (after : List Text) (index start end : ℕ) (hash : Hash) (proof : List Hash)
+    → may_follow_cosigner h (terms_of s.lms s.low) (before ++ body ∷ after) ≡ true
+    → step_in body ≡ Some (Sign index start end hash proof)
+    → FollowsItsTree s.lms s.low before index
+after_its_tree h s before body after index start end hash proof may said =
+    let bodies : List Text = before ++ body ∷ after in
+    let made = found_ok (taken_from (cosigner_fold h) 1 (new_cosigner h s []) bodies)
+    (new_agrees h s [] bodies ∙ may) in
+    follows_tree h s [] before body after made.0 index start end hash proof made.1 said

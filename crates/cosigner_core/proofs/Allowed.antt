@@ -28,13 +28,13 @@ use Rattle.cosigner_core.proofs.Encoded.{step_added, step_again}
 use Rattle.cosigner_core.proofs.Brought.{keys_agree}
 
 -- a test that doesn't refuse leaves the answer to the next one
-pub passed : (b : Bool) (why : CosignError) (o : Option CosignError)
+pub passed : {E : Type 0} (b : Bool) (why : E) (o : Option E)
     → (if b then Some why else o) ≡ None → (b ≡ false) × (o ≡ None)
 passed true why o is = let wrong : Some why ≡ None = is in cc
 passed false why o is = (refl, is)
 
 -- where neither of two refuses, the first doesn't
-pub none_first : (one two : Option CosignError) → earlier one two ≡ None → one ≡ None
+pub none_first : {E : Type 0} (one two : Option E) → earlier one two ≡ None → one ≡ None
 none_first None two is = refl
 none_first (Some why) two is = is
 

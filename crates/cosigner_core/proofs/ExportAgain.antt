@@ -18,6 +18,7 @@ use Rattle.journal_core.specs.Format.{AreRecordsAt, IsRecordAt, Represents}
 use Rattle.lmots_core.specs.Strings.{u32_at}
 use Rattle.lms_core.specs.Heights.{height}
 use Rattle.lms_core.specs.Trees.{lms_public}
+use Rattle.lms_core.specs.declared.heights.LmsType.{LmsType}
 use Rattle.lms_core.specs.declared.private_key.PrivateKey.{PrivateKey}
 use Rattle.lms_core.proofs.Verifies.{key_types-lms_public, length-lms_public}
 use Rattle.hss_core.specs.Hss.{hss_key_types, one_level_public}
@@ -41,11 +42,10 @@ use Rattle.cosigner_core.specs.declared.progress.Progress.{Progress}
 use Rattle.cosigner_core.specs.declared.settings.CosignerSettings.{CosignerSettings}
 use Rattle.cosigner_core.specs.declared.step.Step.{Step}
 use Rattle.cosigner_core.specs.declared.terms.KeyTerms.{KeyTerms}
-use Rattle.cosigner_core.specs.declared.terms.KeyTerms.TheVariants.{OneLevel}
-use Rattle.cosigner_core.proofs.After.{brings}
 use Rattle.cosigner_core.proofs.FirstRecords.{cosigner_takes}
 use Rattle.cosigner_core.proofs.Brought.{comes_to}
-use Rattle.hss_keys.specs.Keys.{SigningKey, public_of}
+use Rattle.cosigner_core.proofs.Shown.{allowed_shown, shown_by, shown_terms}
+use Rattle.hss_keys.specs.Keys.{SigningKey, public_of, public_with}
 
 -- ---- the records
 
@@ -66,8 +66,9 @@ record IsAgain (h : HashFunction) (s t : CosignerState) (bodies : List Text)
   pub steps : List Step
   pub said : steps_in bodies ≡ Some steps
   pub end : At
-  pub read : all_exported_at h (terms_by s) most k (progress_of s)
+  pub read : all_exported_at h (shown_by s) most k (progress_of s)
       (record { place = place; rest = records_text bodies }) ≡ Ok (steps, end)
+  pub comes : progress_by h (shown_by s) (progress_of s) steps ≡ Some (progress_of t)
   pub id : t.id ≡ s.id
   pub log : t.log ≡ s.log
   pub key : t.key.key ≡ s.key.key
@@ -77,12 +78,13 @@ AreShort = AllByRecursion (λ body. length body < 2 ^ 32)
 
 again_none : (h : HashFunction) (s t : CosignerState) (most k place : ℕ) → s ≡ t
     → IsAgain h s t [] most k place
-unfolding all_exported_at steps_in
+unfolding all_exported_at steps_in progress_by
 again_none h s t zero k place same = record {
   steps = [];
   said = refl;
   end = record { place = place; rest = [] };
   read = refl;
+  comes = ap (λ (u : CosignerState). Some (progress_of u)) same;
   id = ap (λ (u : CosignerState). u.id) (sym same);
   log = ap (λ (u : CosignerState). u.log) (sym same);
   key = ap (λ (u : CosignerState). u.key.key) (sym same);
@@ -92,6 +94,7 @@ again_none h s t (suc most) k place same = record {
   said = refl;
   end = record { place = place; rest = [] };
   read = refl;
+  comes = ap (λ (u : CosignerState). Some (progress_of u)) same;
   id = ap (λ (u : CosignerState). u.id) (sym same);
   log = ap (λ (u : CosignerState). u.log) (sym same);
   key = ap (λ (u : CosignerState). u.key.key) (sym same);
@@ -103,14 +106,14 @@ again_more : (h : HashFunction) (s t : CosignerState) (most k place : ℕ) (body
     → IsAgain h (with_progress s (with_step (progress_of s) x)) t bodies most (k + 1)
     (place + length (vector w32 body))
     → IsAgain h s t (body ∷ bodies) (suc most) k place
-unfolding all_exported_at steps_in
+unfolding all_exported_at steps_in progress_by
 again_more h s t most k place body bodies x short said fits rest = record {
   steps = x ∷ rest.steps;
   said = rw (said, rest.said) refl;
   end = rest.end;
   read =
-      let one = exported_again h (terms_by s) k place (progress_of s) body (records_text bodies) x
-      short said fits in
+      let one = exported_again h (shown_by s) k place (progress_of s) body (records_text bodies) x
+      short said shown in
       let long : length (vector w32 body ++ records_text bodies) ≢ 0 = omega (
         arith,
         length-append (vector w32 body) (records_text bodies),
@@ -118,13 +121,20 @@ again_more h s t most k place body bodies x short said fits rest = record {
       ) in
       let next : At =
       record { place = place + length (vector w32 body); rest = records_text bodies } in
-      let more = subst (λ (p : Progress). all_exported_at h (terms_by s) most (k + 1) p next
-      ≡ Ok (rest.steps, rest.end)) (comes_to s x) rest.read in
+      let more = subst (λ (p : Progress). all_exported_at h (shown_by s) most (k + 1) p next
+      ≡ Ok (rest.steps, rest.end)) (comes_to h s x fits) rest.read in
       rw (ne_eqb (length (vector w32 body ++ records_text bodies)) 0 long, one, more) refl;
+  comes =
+      let more = subst (λ (p : Progress). progress_by h (shown_by s) p rest.steps
+      ≡ Some (progress_of t)) (comes_to h s x fits) rest.comes in
+      rw shown more;
   id = rest.id;
   log = rest.log;
   key = rest.key;
 }
+  where
+    shown : is_allowed h (shown_by s) (progress_of s) x ≡ true
+    shown = allowed_shown h s.key.key.top.lms s.key.key.low (progress_of s) x fits
 
 steps_again : (h : HashFunction) (s t : CosignerState) (n most k place : ℕ) (bodies : List Text)
     → AreShort bodies → taken_from (cosigner_fold h) n s bodies ≡ Ok t
@@ -196,18 +206,25 @@ prefix_again id log key rest terms fits other short is =
           ∙ rw (one, two, three) refl,
     )
 
-public_keys : (k : PrivateKey) → length k.id ≡ 16 → height k.lms ≤ 10
-    → signing_terms (one_level_public k) ≡ Some (OneLevel k.lms)
+public_keys : (k : PrivateKey) (low : Option LmsType) → length k.id ≡ 16 → height k.lms ≤ 10
+    → signing_terms (public_with k low) ≡ Some (shown_terms k.lms low)
 unfolding signing_terms hss_key_types one_level_public u32_at
-public_keys k size small =
+public_keys k None size small =
     let all : length (to_be_bytes w32 1 ++ lms_public k) ≡ 60 =
     omega (arith, length-append (to_be_bytes w32 1) (lms_public k), length-lms_public k size) in
     rw (all, key_types-lms_public k size, le-leb (height k.lms) 10 small) refl
+public_keys k (Some low) size small =
+    let all : length (to_be_bytes w32 2 ++ lms_public k) ≡ 60 =
+    omega (arith, length-append (to_be_bytes w32 2) (lms_public k), length-lms_public k size) in
+    rw (all, key_types-lms_public k size, le-leb (height k.lms) 10 small) refl
 
-public_size : (k : PrivateKey) → length k.id ≡ 16 → length (one_level_public k) ≡ 60
+public_size : (k : PrivateKey) (low : Option LmsType) → length k.id ≡ 16
+    → length (public_with k low) ≡ 60
 unfolding one_level_public
-public_size k size =
+public_size k None size =
     omega (arith, length-append (to_be_bytes w32 1) (lms_public k), length-lms_public k size)
+public_size k (Some low) size =
+    omega (arith, length-append (to_be_bytes w32 2) (lms_public k), length-lms_public k size)
 
 -- ---- the whole
 
@@ -226,32 +243,32 @@ are_short bytes place (body ∷ bodies) there =
 
 read_whole : (h : HashFunction) (s u : CosignerState) (bodies : List Text)
     → IsAnchorId u.id → IsAnchorId u.log
-    → signing_terms (public_of u.key.key) ≡ Some (terms_by u)
+    → signing_terms (public_of u.key.key) ≡ Some (shown_by u)
     → length (public_of u.key.key) ≡ 60
-    → progress_of u ≡ first_progress h → taken_from (cosigner_fold h) 1 u bodies ≡ Ok s
+    → progress_of u ≡ first_progress h
     → ((place : ℕ) → IsAgain h u s bodies (length (records_text bodies)) 1 place)
     → (steps : List Step) × (steps_in bodies ≡ Some steps)
     × (export_in h (prefix_text s.id s.log (public_of s.key.key) ++ records_text bodies)
     ≡ Ok (Some (export_of s steps)))
     × (export_progress h (export_of s steps) ≡ Some (progress_of s))
 unfolding export_in steps_left
-read_whole h s u bodies id log known size begins taken again =
+read_whole h s u bodies id log known size begins again =
     let there = again 0 in
     let public : Text = public_of s.key.key in
     let own : IsAnchorId s.id = subst IsAnchorId (sym there.id) id in
     let other : IsAnchorId s.log = subst IsAnchorId (sym there.log) log in
-    let terms : signing_terms public ≡ Some (terms_by u) =
+    let terms : signing_terms public ≡ Some (shown_by u) =
     ap (λ (k : SigningKey). signing_terms (public_of k)) there.key ∙ known in
     let short : length public < 2 ^ 16 =
     let sixty : length public ≡ 60 =
     ap (λ (k : SigningKey). length (public_of k)) there.key ∙ size in
     omega arith in
     let text : Text = records_text bodies in
-    let prefix = prefix_again s.id s.log public text (terms_by u) own other short terms in
+    let prefix = prefix_again s.id s.log public text (shown_by u) own other short terms in
     let here = again prefix.0 in
-    let read : all_exported_at h (terms_by u) (length text) 1 (first_progress h)
+    let read : all_exported_at h (shown_by u) (length text) 1 (first_progress h)
     (record { place = prefix.0; rest = text }) ≡ Ok (here.steps, here.end) =
-    ap (λ (p : Progress). all_exported_at h (terms_by u) (length text) 1 p
+    ap (λ (p : Progress). all_exported_at h (shown_by u) (length text) 1 p
     (record { place = prefix.0; rest = text })) (sym begins) ∙ here.read in
     let long : length (prefix_text s.id s.log public ++ text) ≢ 0 = omega (
       arith,
@@ -263,9 +280,8 @@ read_whole h s u bodies id log known size begins taken again =
       here.said,
       rw (ne_eqb (length (prefix_text s.id s.log public ++ text)) 0 long, prefix.1, read) refl,
       ap (option_and_then (λ (t : KeyTerms). progress_by h t (first_progress h) here.steps)) terms
-          ∙ ap (λ (p : Progress). progress_by h (terms_by u) p here.steps) (sym begins)
-          ∙ sym (ap (option_and_then (progress_by h (terms_by u) (progress_of u))) here.said)
-          ∙ brings h 1 u bodies s taken,
+          ∙ ap (λ (p : Progress). progress_by h (shown_by u) p here.steps) (sym begins)
+          ∙ here.comes,
     )
 
 pub export_again : (h : HashFunction) (bytes : Text) (list : List Text) (s : CosignerState)
@@ -299,8 +315,8 @@ export_again h bytes (first ∷ bodies) s are stands is =
         let taken : taken_from (cosigner_fold h) 1 new bodies ≡ Ok s =
         subst (λ (v : CosignerState). taken_from (cosigner_fold h) 1 v bodies ≡ Ok s) (sym same)
         rest in
-        let top = new.key.key.top in
-        read_whole h s new bodies fits.id fits.log (public_keys top size fits.small)
-        (public_size top size) refl taken
+        let key = new.key.key in
+        read_whole h s new bodies fits.id fits.log (public_keys key.top key.low size fits.small)
+        (public_size key.top key.low size) refl
         (λ place. steps_again h new s 1 (length (records_text bodies)) 1 place bodies
         (are_short bytes (16 + 5 + length first) bodies stands.holds.1) taken (omega arith))

@@ -19,11 +19,12 @@ use Rattle.cosigner_core.specs.ExportReading.{IsExport, all_exported_at, export_
 use Rattle.cosigner_core.specs.ExportReading.{terms_of_types, signing_terms, steps_left}
 use Rattle.cosigner_core.specs.Exports.{prefix_text, records_text}
 use Rattle.cosigner_core.specs.Progress.{first_progress, is_allowed, progress_by, with_step}
-use Rattle.cosigner_core.specs.Records.{FitsStep, advance_record, sign_record, step_record}
+use Rattle.cosigner_core.specs.Records.{FitsStep, advance_record, child_record, height_text}
+use Rattle.cosigner_core.specs.Records.{sign_record, step_record}
 use Rattle.cosigner_core.specs.declared.lists.Export.{Export}
 use Rattle.cosigner_core.specs.declared.progress.Progress.{Progress}
 use Rattle.cosigner_core.specs.declared.step.Step.{Step}
-use Rattle.cosigner_core.specs.declared.step.Step.TheVariants.{Advance, Sign}
+use Rattle.cosigner_core.specs.declared.step.Step.TheVariants.{Advance, Child, Sign}
 use Rattle.cosigner_core.specs.declared.terms.KeyTerms.{KeyTerms}
 use Rattle.cosigner_core.proofs.ExportAgain.{exported_again, prefix_again}
 use Rattle.cosigner_core.proofs.Encoded.{step_again}
@@ -48,7 +49,7 @@ hashes_size items all =
     )
 
 step_short : (step : Step) → FitsStep step → length (step_record step) < 2 ^ 32
-unfolding advance_record sign_record
+unfolding advance_record sign_record child_record
 step_short (Advance size root proof) fits =
     let sized = fits.sized in
     let few = fits.all_hashes.1 in
@@ -72,6 +73,12 @@ step_short (Sign index start end hash proof) fits =
       length-append (number w64 end) (hash ++ hashes proof),
       length-append hash (hashes proof),
       hashes_size proof fits.all_hashes.0,
+    )
+step_short (Child child low) fits =
+    omega (
+      arith,
+      length-append (number w8 0x14) (number w32 child ++ height_text low),
+      length-append (number w32 child) (height_text low),
     )
 
 types_size : (key : Text) (terms : KeyTerms) → terms_of_types (hss_key_types key) ≡ Some terms

@@ -1,5 +1,5 @@
 -- The export of a cosigner: what stands before its records, and the records after the first one.
-use Rattle.std.proofs.Common.{◌≡◌, ℕ, ◌+◌, min, List, [], ◌∷◌, ◌++◌, length, drop, Option, Some}
+use Rattle.std.proofs.Common.{◌≡◌, ℕ, min, List, [], ◌∷◌, ◌++◌, length, drop, Option, Some}
 use Rattle.std.proofs.Common.{None, IfSome, option_map, Ok, Err, refl, ap, subst}
 use Rattle.std.specs.Io.KnownBytes.{Appends}
 use Rattle.std.proofs.KnownBytes.{Appends-trans}
@@ -29,7 +29,8 @@ same_text (body ∷ bodies) = ap (λ (rest : Text). sized body ++ rest) (same_te
 
 -- this is the end after the first record of such a cosigner, or that of its journal
 abbrev pub IsFirstEnd : CosignerState → ℕ → ℕ → Type 0
-IsFirstEnd s from end = (first : Text) → length first ≡ first_record_length s.id s.log
+IsFirstEnd s from end = (first : Text)
+    → length first ≡ first_record_length s.id s.log s.key.key.low
     → from ≡ min (end_offset (first ∷ [])) end
 
 module _ (h : HashFunction) (s : CosignerState) (from end : ℕ) (is : IsFirstEnd s from end) where

@@ -1,40 +1,17 @@
 -- How many one-time keys a cosigner has.
-use Rattle.std.proofs.Common.{◌≡◌, ℕ, ◌*◌, ◌≤◌, ◌^◌, List, ◌∷◌, Ok, ap, arith, subst, sym}
+use Rattle.std.proofs.Common.{◌≡◌, ℕ, ◌*◌, ◌≤◌, ◌^◌, List, Ok, arith}
 use Rattle.std.specs.Prelude.{Option, Some, None, IfSome}
 use Rattle.byte_formats.specs.Types.{HashFunction, Text}
 use Rattle.lms_core.specs.Heights.{IsSigningHeight, height}
 use Rattle.lms_core.specs.declared.heights.LmsType.{LmsType}
 use Rattle.lms_core.specs.declared.heights.LmsType.TheVariants.{H5, H10, H15, H20, H25}
-use Rattle.hss_keys.specs.Keys.{CountsKeys, SigningKey, SigningState, keys_there, most_children}
+use Rattle.hss_keys.specs.Keys.{CountsKeys, SigningState, keys_there, most_children}
 use Rattle.cosigner_core.specs.Folds.{CosignerState, cosigner_of, key_count}
-use Rattle.cosigner_core.proofs.After.{only_begins}
-use Rattle.cosigner_core.proofs.Names.{Began, began_first}
-
-few_leaves : (l : LmsType) → 2 ^ height l ≤ 2 ^ 25
-few_leaves H5 = omega arith
-few_leaves H10 = omega arith
-few_leaves H15 = omega arith
-few_leaves H20 = omega arith
-few_leaves H25 = omega arith
-
--- A cosigner that records make has few enough that each number of one fits in four bytes.
-pub few_keys : (h : HashFunction) (list : List Text) (s : CosignerState)
-    → cosigner_of h list ≡ Ok s → key_count s ≤ 2 ^ 25
-few_keys h list s is =
-    let begins = only_begins h list s is in
-    let first = begins.0 in
-    let bodies = begins.1.0 in
-    let settings = begins.1.1.0 in
-    let secret = begins.1.1.1.0 in
-    let made = subst (λ (all : List Text). cosigner_of h all ≡ Ok s) begins.1.1.1.1.0 is in
-    let same = ap (λ (x : Began). x.2)
-    (began_first h settings first secret bodies s begins.1.1.1.1.1 made) in
-    subst (λ (k : SigningKey). keys_there k.top.lms k.low s.key.children ≤ 2 ^ 25) (sym same)
-    (few_leaves settings.lms)
+use Rattle.cosigner_core.proofs.Counts.{counts_up}
 
 -- ---- keys with trees of height 5 or 10
 
-small_leaves : (l : LmsType) → height l ≤ 10 → 2 ^ height l ≤ 1024
+pub small_leaves : (l : LmsType) → height l ≤ 10 → 2 ^ height l ≤ 1024
 small_leaves H5 small = omega arith
 small_leaves H10 small = omega arith
 small_leaves H15 small = absurd (omega arith)
@@ -50,16 +27,29 @@ small_below H20 children small few = absurd (omega arith)
 small_below H25 children small few = absurd (omega arith)
 
 -- They are at most 2^20.
-pub few_there : (s : SigningState) → CountsKeys s → s.next ≤ 2 ^ 20
-few_there s counts =
-    go s.key.low counts.low counts.few counts.to
+pub few_keys_there : (s : SigningState) → CountsKeys s
+    → keys_there s.key.top.lms s.key.low s.children ≤ 2 ^ 20
+few_keys_there s counts =
+    go s.key.low counts.low counts.few
   where
     go : (low : Option LmsType) → IfSome low IsSigningHeight
         → s.children ≤ most_children s.key.top.lms low
-        → s.next ≤ keys_there s.key.top.lms low s.children → s.next ≤ 2 ^ 20
-    go None small few to =
-        let leaves = small_leaves s.key.top.lms counts.top in omega (arith, leaves, to)
-    go (Some low) small few to =
+        → keys_there s.key.top.lms low s.children ≤ 2 ^ 20
+    go None small few =
+        let leaves = small_leaves s.key.top.lms counts.top in omega (arith, leaves)
+    go (Some low) small few =
         let leaves = small_leaves s.key.top.lms counts.top in
-        let below = small_below low s.children small (omega (arith, leaves, few)) in
-        omega (arith, below, to)
+        small_below low s.children small (omega (arith, leaves, few))
+
+-- So are those that have signed.
+pub few_there : (s : SigningState) → CountsKeys s → s.next ≤ 2 ^ 20
+few_there s counts =
+    let all = few_keys_there s counts in
+    let to = counts.to in
+    omega arith
+
+-- A cosigner that records make has few enough that each number of one fits in four bytes.
+pub few_keys : (h : HashFunction) (list : List Text) (s : CosignerState)
+    → cosigner_of h list ≡ Ok s → key_count s ≤ 2 ^ 25
+few_keys h list s is =
+    let few = few_keys_there s.key (counts_up h list s is).1 in omega (arith, few)

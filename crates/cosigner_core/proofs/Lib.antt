@@ -2,6 +2,7 @@ pub mod Adds
 pub mod Allowed
 pub mod After
 pub mod Brought
+pub mod Children
 pub mod Counts
 pub mod ExportAgain
 pub mod ExportForm
@@ -12,8 +13,12 @@ pub mod FirstRecords
 pub mod Forms
 pub mod Keeps
 pub mod Keys
+pub mod KeySteps
 pub mod Lengths
 pub mod Names
+pub mod Shown
 pub mod Encoded
 pub mod Tagged
+pub mod Taken
+pub mod UpperKeys
 pub mod Writes

@@ -1,4 +1,4 @@
--- A cosigner keeps the ids and the key of its first record, and the ids determine how long it is.
+-- A cosigner keeps the ids and the key of its first record, and these determine how long it is.
 use Rattle.std.proofs.Common.{◌≡◌, ℕ, ◌+◌, List, [], ◌∷◌, length, Option, Some, None, Ok}
 use Rattle.std.proofs.Common.{option_map, option_and_then, refl, sym, ap, ◌∙◌, arith}
 use Rattle.std.proofs.lemmas.Option.{same_Some}
@@ -14,7 +14,7 @@ use Rattle.cosigner_core.specs.Folds.{cosigner_of}
 use Rattle.cosigner_core.specs.Folds.{new_cosigner, next_state, progress_of, terms_by}
 use Rattle.cosigner_core.specs.Folds.{with_progress}
 use Rattle.cosigner_core.specs.Progress.{is_allowed, with_step}
-use Rattle.cosigner_core.specs.Records.{cosigner_in, first_record_length, step_in}
+use Rattle.cosigner_core.specs.Records.{cosigner_in, first_record_length, low_length, step_in}
 use Rattle.cosigner_core.specs.declared.settings.CosignerSettings.{CosignerSettings}
 use Rattle.cosigner_core.specs.declared.step.Step.{Step}
 use Rattle.cosigner_core.proofs.FirstRecords.{cosigner_takes}
@@ -51,7 +51,8 @@ same_cosigner h k s t (body ∷ bodies) is =
 pub began_first : (h : HashFunction) (settings : CosignerSettings) (first secret : Text)
     (bodies : List Text) (s : CosignerState) → cosigner_in first ≡ Some (settings, secret)
     → cosigner_of h (first ∷ bodies) ≡ Ok s
-    → began s ≡ (settings.id, settings.log, signing_key settings.lms None settings.ots secret)
+    → began s
+    ≡ (settings.id, settings.log, signing_key settings.lms settings.low settings.ots secret)
 unfolding state_after begun_cosigner
 began_first h settings first secret bodies s begins is =
     same_cosigner h 1 (new_cosigner h settings secret) s bodies
@@ -60,27 +61,30 @@ began_first h settings first secret bodies s begins is =
     >>= λ (u : CosignerState). taken_from (cosigner_fold h) 1 u bodies) begins) ∙ is)
 
 begun_long : (h : HashFunction) (first : Text) (s : CosignerState) → IsBytes first
-    → begun_cosigner h first ≡ Some s → length first ≡ first_record_length s.id s.log
+    → begun_cosigner h first ≡ Some s
+    → length first ≡ first_record_length s.id s.log s.key.key.low
 unfolding begun_cosigner
 begun_long h first s bytes is = go (cosigner_in first) refl is
   where
     go : (o : Option (CosignerSettings × Text)) → cosigner_in first ≡ o
         → option_map (λ x. new_cosigner h x.0 x.1) o ≡ Some s
-        → length first ≡ first_record_length s.id s.log
+        → length first ≡ first_record_length s.id s.log s.key.key.low
     go None read is = let wrong : None ≡ Some s = is in cc
     go (Some x) read is =
         let took = cosigner_takes first x.0 x.1 bytes read in
         let same = same_Some (new_cosigner h x.0 x.1) s is in
         let id : length x.0.id ≡ length s.id = ap (λ (v : CosignerState). length v.id) same in
         let log : length x.0.log ≡ length s.log = ap (λ (v : CosignerState). length v.log) same in
+        let low : low_length x.0.low ≡ low_length s.key.key.low =
+        ap (λ (v : CosignerState). low_length v.key.key.low) same in
         let long = ap length took.0 ∙ length-cosigner x.0 x.1 in
         let secret = took.1.sized in
-        omega (arith, long, secret, id, log)
+        omega (arith, long, secret, id, log, low)
 
--- The first record is as long as its ids determine.
+-- The first record is as long as its ids and its levels determine.
 pub first-long : (h : HashFunction) (first : Text) (bodies : List Text) (s : CosignerState)
     → IsBytes first → cosigner_of h (first ∷ bodies) ≡ Ok s
-    → length first ≡ first_record_length s.id s.log
+    → length first ≡ first_record_length s.id s.log s.key.key.low
 unfolding state_after
 first-long h first bodies s bytes is =
     let step = bind_ok (some_or 0 (begun_cosigner h first))
@@ -90,4 +94,5 @@ first-long h first bodies s bytes is =
     let same = same_cosigner h 1 step.0 s bodies step.2 in
     let id = ap (λ (x : Began). length x.0) same in
     let log = ap (λ (x : Began). length x.1) same in
-    omega (arith, long, id, log)
+    let low = ap (λ (x : Began). low_length x.2.low) same in
+    omega (arith, long, id, log, low)

@@ -1,5 +1,5 @@
 -- Reading an export, with its faults in their order.
-use Rattle.std.specs.Prelude.{◌≡◌, ◌≢◌, ℕ, zero, suc, ◌+◌, ◌==◌, ◌&&◌, nat_le, List, [], ◌∷◌}
+use Rattle.std.specs.Prelude.{◌≡◌, ◌≢◌, ℕ, zero, suc, ◌+◌, ◌==◌, nat_le, List, [], ◌∷◌}
 use Rattle.std.specs.Prelude.{length, Option, Some, None, option_and_then, Result, Ok, Err}
 use Rattle.std.specs.Prelude.{if◌then◌else◌, map, ◌++◌}
 use Rattle.std.specs.Int.{w8, w16, w32}
@@ -27,13 +27,19 @@ use Rattle.cosigner_core.specs.declared.lists.Export.{Export}
 use Rattle.cosigner_core.specs.declared.progress.Progress.{Progress}
 use Rattle.cosigner_core.specs.declared.step.Step.{Step}
 use Rattle.cosigner_core.specs.declared.terms.KeyTerms.{KeyTerms}
-use Rattle.cosigner_core.specs.declared.terms.KeyTerms.TheVariants.{OneLevel}
+use Rattle.cosigner_core.specs.declared.terms.KeyTerms.TheVariants.{OneLevel, TwoLevels}
 
--- the terms of a key of one level, whose tree has height 5 or 10
+-- the terms of a key of one level or of two; it doesn't show which height its lower trees have
+abbrev pub terms_of_levels : ℕ → LmsType → Option KeyTerms
+terms_of_levels levels lms =
+    if levels == 1 then Some (OneLevel lms)
+    else (if levels == 2 then Some (TwoLevels lms None) else None)
+
+-- the same of the types that a public key names, where its top tree has height 5 or 10
 abbrev pub terms_of_types : Option (ℕ × LmsType × OtsType) → Option KeyTerms
 terms_of_types None = None
 terms_of_types (Some (levels, lms, ots)) =
-    if (levels == 1) && nat_le (height lms) 10 then Some (OneLevel lms) else None
+    if nat_le (height lms) 10 then terms_of_levels levels lms else None
 
 -- the same of a public key, which has to be in its grammar (RFC 8554, section 6.1)
 unfoldable pub signing_terms : Text → Option KeyTerms

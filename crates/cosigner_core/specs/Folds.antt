@@ -1,5 +1,6 @@
 -- What the records of a journal make of a cosigner. The first one begins it, and each later one is
--- an Advance or a Sign that its state allows. Its key counts up as RFC 8554, section 5.2 has it.
+-- an Advance, a Sign or a Child that its state allows. Its key counts up as RFC 8554, section 5.2
+-- has it.
 use Rattle.std.specs.Prelude.{ℕ, ◌+◌, List, Option, Some, None, option_map, option_and_then}
 use Rattle.std.specs.Prelude.{Result, if◌then◌else◌}
 use Rattle.byte_formats.specs.Types.{Hash, HashFunction, Text}
@@ -29,7 +30,7 @@ new_cosigner h s secret = record {
   id = s.id;
   log = s.log;
   held = empty_checkpoint h;
-  key = signing_state s.lms None s.ots secret 0 0;
+  key = signing_state s.lms s.low s.ots secret 0 0;
 }
 
 -- this checkpoint instead of the one that is held
@@ -44,6 +45,15 @@ having_signed s = record {
   log = s.log;
   held = s.held;
   key = record { key = s.key.key; children = s.key.children; next = s.key.next + 1 };
+}
+
+-- there is one lower tree more
+abbrev pub having_child : CosignerState → CosignerState
+having_child s = record {
+  id = s.id;
+  log = s.log;
+  held = s.held;
+  key = record { key = s.key.key; children = s.key.children + 1; next = s.key.next };
 }
 
 -- how many one-time keys there are

@@ -9,7 +9,8 @@ use Rattle.cosigner_core.specs.Folds.{CosignerState}
 use Rattle.cosigner_core.specs.declared.error.CosignError.{CosignError}
 use Rattle.cosigner_core.specs.declared.error.CosignError.TheVariants.{WrongLog, NotNewer}
 use Rattle.cosigner_core.specs.declared.error.CosignError.TheVariants.{BadSubtree, Beyond, BadProof}
-use Rattle.cosigner_core.specs.declared.error.CosignError.TheVariants.{Exhausted, Append}
+use Rattle.cosigner_core.specs.declared.error.CosignError.TheVariants.{NeedsChild, Exhausted}
+use Rattle.cosigner_core.specs.declared.error.CosignError.TheVariants.{Append}
 use Rattle.cosigner_core.specs.declared.keyless.KeylessCosigner.{KeylessCosigner}
 
 -- the journal's refusal, where it is one
@@ -19,6 +20,7 @@ of_cosigner_journal (NotNewer held) = None
 of_cosigner_journal BadSubtree = None
 of_cosigner_journal (Beyond held) = None
 of_cosigner_journal BadProof = None
+of_cosigner_journal NeedsChild = None
 of_cosigner_journal Exhausted = None
 of_cosigner_journal (Append why) = Some why
 

@@ -1,3 +1,4 @@
+pub mod Children
 pub mod Counts
 pub mod ExportReading
 pub mod Exports

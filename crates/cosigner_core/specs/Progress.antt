@@ -1,17 +1,18 @@
 -- How far its steps bring a cosigner: what it holds of its log, the number of the one-time key that
 -- signs next, and how many lower trees its key has, of which height. It is the same of the records
 -- of a journal and of the steps of an export.
-use Rattle.std.specs.Prelude.{ℕ, zero, suc, ◌+◌, ◌*◌, ◌^◌, ◌==◌, ◌&&◌, nat_lt, Bool, List, [], ◌∷◌}
+use Rattle.std.specs.Prelude.{ℕ, zero, suc, ◌+◌, ◌*◌, ◌^◌, ◌==◌, ◌&&◌, nat_lt, Bool, true, false}
+use Rattle.std.specs.Prelude.{List, [], ◌∷◌}
 use Rattle.std.specs.Prelude.{Option, Some, None, option_map, option_and_then, is_some}
 use Rattle.std.specs.Prelude.{if◌then◌else◌}
 use Rattle.byte_formats.specs.Types.{HashFunction, Text}
 use Rattle.tree_proofs.specs.Checkpoints.{empty_checkpoint, has_subtree, is_prefix_of}
-use Rattle.lms_core.specs.Heights.{height}
+use Rattle.lms_core.specs.Heights.{height, lms_code}
 use Rattle.lms_core.specs.declared.heights.LmsType.{LmsType}
 use Rattle.cosigner_core.specs.Records.{step_in}
 use Rattle.cosigner_core.specs.declared.progress.Progress.{Progress}
 use Rattle.cosigner_core.specs.declared.step.Step.{Step}
-use Rattle.cosigner_core.specs.declared.step.Step.TheVariants.{Advance, Sign}
+use Rattle.cosigner_core.specs.declared.step.Step.TheVariants.{Advance, Child, Sign}
 use Rattle.cosigner_core.specs.declared.terms.KeyTerms.{KeyTerms}
 use Rattle.cosigner_core.specs.declared.terms.KeyTerms.TheVariants.{OneLevel, TwoLevels}
 
@@ -39,17 +40,34 @@ keys_by (TwoLevels top low) p = keys_below p.low p.children
 abbrev pub first_progress : HashFunction → Progress
 first_progress h = record { held = empty_checkpoint h; next = 0; children = 0; low = None }
 
+-- the height, where it is known, is this one
+abbrev pub fits_height : Option LmsType → LmsType → Bool
+fits_height None low = true
+fits_height (Some known) low = lms_code known == lms_code low
+
+-- The next lower tree may be made: the key has two levels, the number is that of the lower trees so
+-- far, the upper tree has a one-time key for it, each one-time key of those lower trees has signed,
+-- and the height is that of the lower trees.
+abbrev pub takes_child : KeyTerms → Progress → ℕ → LmsType → Bool
+takes_child (OneLevel lms) p child low = false
+takes_child (TwoLevels top known) p child low =
+    (child == p.children) && (nat_lt child (2 ^ height top)
+    && ((p.next == keys_below p.low p.children)
+    && (fits_height known low && fits_height p.low low)))
+
 -- For a cosigner with a key of these terms: an Advance needs a larger size, and a proof that what
 -- is held is a prefix of that log. A Sign needs the number of the next one-time key, which is
--- there, and a proof of the subtree in what is held.
+-- there, and a proof of the subtree in what is held. A Child needs a key that takes it.
 abbrev pub is_allowed : HashFunction → KeyTerms → Progress → Step → Bool
 is_allowed h terms p (Advance size root proof) =
     nat_lt p.held.size size && is_prefix_of h p.held size root proof
 is_allowed h terms p (Sign index start end hash proof) =
     (index == p.next) && (nat_lt index (keys_by terms p)
     && has_subtree h p.held start end hash proof)
+is_allowed h terms p (Child child low) = takes_child terms p child low
 
--- an Advance is held instead of what was held, and a Sign counts one one-time key more
+-- an Advance is held instead of what was held, a Sign counts one one-time key more, and a Child one
+-- lower tree, whose height it shows
 abbrev pub with_step : Progress → Step → Progress
 with_step p (Advance size root proof) = record {
   held = record { size = size; root = root };
@@ -59,6 +77,8 @@ with_step p (Advance size root proof) = record {
 }
 with_step p (Sign index start end hash proof) =
     record { held = p.held; next = p.next + 1; children = p.children; low = p.low }
+with_step p (Child child low) =
+    record { held = p.held; next = p.next; children = p.children + 1; low = Some low }
 
 -- after one step more, if it is allowed
 abbrev pub progress_after : HashFunction → KeyTerms → Progress → Step → Option Progress

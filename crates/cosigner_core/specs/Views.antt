@@ -4,7 +4,7 @@ use Rattle.cosigner_core.specs.declared.requests.SubtreeRequest.{SubtreeRequest}
 use Rattle.cosigner_core.specs.declared.step.StepRef.{StepRef}
 use Rattle.cosigner_core.specs.declared.step.StepRef.TheVariants as step_ref
 use Rattle.cosigner_core.specs.declared.step.Step.{Step}
-use Rattle.cosigner_core.specs.declared.step.Step.TheVariants.{Advance, Sign}
+use Rattle.cosigner_core.specs.declared.step.Step.TheVariants.{Advance, Child, Sign}
 use Rattle.cosigner_core.specs.Requests.{AdvanceParts, SubtreeParts}
 
 -- A request to hold a larger log.
@@ -25,3 +25,4 @@ subtree_parts r = record {
 abbrev pub step_said : StepRef → Step
 step_said (step_ref.Advance size root proof) = Advance size root proof.now
 step_said (step_ref.Sign index start end hash proof) = Sign index start end hash proof.now
+step_said (step_ref.Child child low) = Child child low

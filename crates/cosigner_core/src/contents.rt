@@ -1,23 +1,29 @@
 //! What the records of a journal make of a cosigner.
 
-ghost use Rattle.std.specs.Prelude.{◌≡◌, ◌≢◌, ◌<◌, ◌≤◌, Err, length, IfOk, IfErr, OnOk, ◌^◌};
+ghost use Rattle.std.specs.Prelude.{◌≡◌, ◌≢◌, ◌-◌, ◌<◌, ◌≤◌, nat_lt, Err, length, IfOk, IfErr};
+ghost use Rattle.std.specs.Prelude.{OnOk, ◌^◌};
 ghost use Rattle.byte_formats.specs.Refusals.{answer_of};
+ghost use Rattle.hss_keys.specs.Keys.{CountsKeys, most_children, public_of};
+ghost use Rattle.lms_core.specs.Heights.{IsSigningHeight};
 ghost use Rattle.mtc_proof.specs.Inputs.{signed_text};
+ghost use Rattle.cosigner_core.specs.Children.{TestsChild};
 ghost use Rattle.cosigner_core.specs.Folds.{begun_cosigner, key_count, next_state};
 ghost use Rattle.cosigner_core.specs.Records.{FitsSign, sign_record};
-ghost use Rattle.cosigner_core.specs.Refusals.{IsOfRequest, advance_refusal, subtree_refusal};
+ghost use Rattle.cosigner_core.specs.Refusals.{IsOfRequest, advance_refusal, exhaustion};
+ghost use Rattle.cosigner_core.specs.Refusals.{subtree_refusal};
 ghost use Rattle.cosigner_core.specs.Results.{CosignerFinds, CosignerTakes};
 ghost use Rattle.cosigner_core.specs.Views.{advance_parts, subtree_parts};
 ghost use Rattle.cosigner_core.specs.declared.error.RecordError.TheVariants.{Memory as RecordMemory};
 
-use crate::error::{CosignError, RecordError};
+use crate::error::{ChildError, CosignError, RecordError};
 use crate::progress::Progress;
 use crate::record::{read_settings, read_step};
 use crate::requests::{AdvanceRequest, SubtreeRequest};
 use crate::settings::CosignerSettings;
 use crate::step_record::StepRecord;
+use hss_core::PUBLIC_KEY_LEN;
 use hss_keys::HssKey;
-use lms_core::Secret;
+use lms_core::{LmsType, Secret};
 use mtc_io::Memory;
 use mtc_proof::{InputBuf, signature_input};
 use std::alloc::Global;
@@ -34,7 +40,6 @@ pub(crate) struct Contents {
 }
 
 impl Model for Contents {
-    ghost use Rattle.std.specs.Prelude.{None};
     ghost use Rattle.hss_keys.specs.Keys.{signing_state};
     ghost use Rattle.cosigner_core.specs.Folds.{CosignerState};
     ghost use Rattle.cosigner_core.specs.Sound.{IsKey};
@@ -45,12 +50,12 @@ impl Model for Contents {
       id = c.settings.id;
       log = c.settings.log;
       held = c.progress.held;
-      key = signing_state c.settings.lms None c.settings.ots c.secret c.progress.children
-          c.progress.next;
+      key = signing_state c.settings.lms c.settings.low c.settings.ots c.secret
+          c.progress.children c.progress.next;
     } };
 
-    ghost invariant = { λ c. IsKey (signing_state c.settings.lms None c.settings.ots c.secret
-        c.progress.children c.progress.next) c.progress };
+    ghost invariant = { λ c. IsKey (signing_state c.settings.lms c.settings.low c.settings.ots
+        c.secret c.progress.children c.progress.next) c.progress };
 }
 
 impl Contents {
@@ -100,12 +105,28 @@ impl Contents {
         HssKey::make(
             alloc,
             self.settings.lms,
-            None,
+            self.settings.low,
             self.settings.ots,
             &self.secret,
             self.progress.children,
             self.next(),
         )
+    }
+
+    /// The public key of the cosigner, for which the top tree alone is made.
+    pub(crate) fn public(&self, alloc: Global) -> Result<[u8; PUBLIC_KEY_LEN], Memory>
+        ensures { IfOk result (λ public. public ≡ public_of self.now.key.key) }
+    {
+        let unused = HssKey::make(
+            alloc,
+            self.settings.lms,
+            self.settings.low,
+            self.settings.ots,
+            &self.secret,
+            0,
+            0,
+        )?;
+        Ok(unused.public())
     }
 
     pub(crate) fn id(&self) -> &AnchorId
@@ -183,10 +204,73 @@ impl Contents {
         {
             return Err(CosignError::BadProof);
         }
-        if self.progress.next >= self.progress.keys(self.settings.terms()) {
-            return Err(CosignError::Exhausted);
+        if self.left() == 0 {
+            return Err(self.exhaustion());
         }
         Ok(())
+    }
+
+    // How many one-time keys are left: of two levels, in the newest lower tree.
+    fn left(&self) -> u32
+        ensures { result ≡ key_count self.now - self.now.key.next }
+    {
+        (self.progress.keys(self.settings.terms()) - self.progress.next) as u32
+    }
+
+    // What the key lacks whose one-time keys have all signed.
+    fn exhaustion(&self) -> CosignError
+        ensures { result ≡ exhaustion self.now }
+    {
+        if self.children_left() {
+            CosignError::NeedsChild
+        } else {
+            CosignError::Exhausted
+        }
+    }
+
+    // Whether the upper tree has a one-time key for a further lower tree.
+    fn children_left(&self) -> bool
+        ensures { result ≡ nat_lt self.now.key.children
+            (most_children self.now.key.key.top.lms self.now.key.key.low) }
+    {
+        match self.settings.low {
+            None => false,
+            Some(_) => self.progress.children < self.settings.lms.leaves(),
+        }
+    }
+
+    /// How many lower trees the key has.
+    pub(crate) fn children(&self) -> u32
+        ensures { result ≡ self.now.key.children }
+    {
+        self.progress.children
+    }
+
+    /// The height of the lower trees, if the key has two levels.
+    pub(crate) fn low(&self) -> Option<LmsType>
+        ensures { result ≡ self.now.key.key.low }
+    {
+        self.settings.low
+    }
+
+    /// Whether a further lower tree is to be made: then it answers the height of the lower trees.
+    #[tactic(auto, unfolding(crate::specs::Children::child_refusal))]
+    pub(crate) fn test_child(&self) -> Result<LmsType, ChildError>
+        ensures tests { TestsChild self.now result }
+        ensures small { IfOk result IsSigningHeight }
+        ensures counts { CountsKeys self.now.key }
+    {
+        let Some(low) = self.settings.low else {
+            return Err(ChildError::OneLevel);
+        };
+        let left = self.left();
+        if left != 0 {
+            return Err(ChildError::ChildLeft(left));
+        }
+        if !self.children_left() {
+            return Err(ChildError::Exhausted);
+        }
+        Ok(low)
     }
 
     /// The body of the Sign of a request, with the number of the one-time key that signs next.

@@ -8,10 +8,13 @@ ghost use Rattle.mtc_io.specs.Streams.{AppendsPrefix};
 ghost use Rattle.disk_core.specs.Times.{OnlyReads};
 ghost use Rattle.journal_core.specs.Copies.{AppendsSome, HasCopyCause};
 ghost use Rattle.hss_core.specs.Hss.{Verifies};
-ghost use Rattle.hss_keys.specs.Keys.{public_of};
+ghost use Rattle.hss_keys.specs.Keys.{CountsKeys, public_of};
 ghost use Rattle.mtc_proof.specs.Inputs.{signed_text};
+ghost use Rattle.journal_core.specs.Owners.{OwnerAppends};
+ghost use Rattle.cosigner_core.specs.Children.{ChildKeepsTo, PreparesChild, child_refused};
+ghost use Rattle.cosigner_core.specs.Children.{next_child, of_child_journal};
 ghost use Rattle.cosigner_core.specs.Exports.{export_text};
-ghost use Rattle.cosigner_core.specs.Folds.{cosigner_of, having_signed, holding};
+ghost use Rattle.cosigner_core.specs.Folds.{cosigner_of, having_child, having_signed, holding};
 ghost use Rattle.cosigner_core.specs.Keyless.{keyless_owner};
 ghost use Rattle.cosigner_core.specs.Openings.{CosignerIsNotOpened, CosignerIsOpened};
 ghost use Rattle.cosigner_core.specs.Records.{advance_record, sign_record};
@@ -19,12 +22,12 @@ ghost use Rattle.cosigner_core.specs.Refusals.{CosignKeepsTo, advance_refused, c
 ghost use Rattle.cosigner_core.specs.Signatures.{signature_by};
 ghost use Rattle.cosigner_core.specs.Views.{advance_parts, subtree_parts};
 
-use crate::error::{CosignError, CosignerOpenError};
+use crate::error::{ChildError, CosignError, CosignerOpenError};
 use crate::keyless::KeylessCosigner;
 use crate::requests::{AdvanceRequest, SubtreeRequest};
 use disk_core::Disk;
 use hss_core::{PUBLIC_KEY_LEN, SigBuf};
-use hss_keys::HssKey;
+use hss_keys::{HssKey, Lower};
 use journal_core::{CopyError, OpenError, Refused};
 use mtc_io::{Memory, Sink};
 use mtc_proof::InputBuf;
@@ -133,8 +136,10 @@ impl<H: TreeHash, D: Disk> Cosigner<H, D> {
     ///
     /// Errors, in the order of the tests: `WrongLog` where the request names another log;
     /// `BadSubtree` where the interval is no subtree; `Beyond` with the held size where the subtree
-    /// ends above it; `BadProof` where the consistency proof does not check; `Exhausted` where each
-    /// one-time key has signed; and what [`Journal::append`] refuses. After each of them `out` is
+    /// ends above it; `BadProof` where the consistency proof does not check; `NeedsChild` where the
+    /// key has two levels, each one-time key of its lower trees has signed, and the upper tree has
+    /// a one-time key for a further one; `Exhausted` where each one-time key of the cosigner has
+    /// signed; and what [`Journal::append`] refuses. After each of them `out` is
     /// empty, and the cosigner is as it was. After `Append(Failed)` it shows what it showed before,
     /// and each further call that passes its tests answers `Append(Broken)`. It takes no memory.
     pub fn cosign(
@@ -177,6 +182,54 @@ impl<H: TreeHash, D: Disk> Cosigner<H, D> {
             }
             Err(why) => Err(why),
         }
+    }
+
+    /// Makes the next lower tree of a key of two levels, whose one-time keys sign from then on: it
+    /// answers its number. The memory for it is taken first. The tree is part of the key once every
+    /// crash state of the disk holds its Child record: at Ok a crash leaves the records with it; at
+    /// any time of the call it leaves the old records, or these and that one. The upper tree's
+    /// signature of its public key is a function of the secret and the number, so it is the same
+    /// bytes each time that it is made.
+    ///
+    /// Errors, in the order of the tests: `OneLevel` where the key has one level; `ChildLeft` with
+    /// the number of one-time keys left, where the newest lower tree has some; `Exhausted` where
+    /// there are as many lower trees as the upper tree has one-time keys; `Memory`; and what
+    /// [`Journal::append`] refuses. A refusal leaves the cosigner as it was. After
+    /// `Append(Failed)` it shows what it showed before, and each further call that passes its tests
+    /// answers `Append(Broken)`.
+    pub fn child(&mut self, alloc: Global) -> Result<u32, ChildError>
+        ensures appends { OwnerAppends D.Disk of_child_journal
+            (next_child (cosigner_state self.old)) (having_child (cosigner_state self.old))
+            (cosigner_owner self.old)
+            (cosigner_owner self.new) result }
+        ensures answer { ChildKeepsTo (cosigner_state self.old) (cosigner_broken self.old)
+            (cosigner_end self.old) result }
+        ensures valid { child_refused (cosigner_state self.old) (cosigner_broken self.old)
+            (cosigner_end self.old) ≡ None
+            → IfSome (cosigner_records self.old) (λ list. cosigner_of H.hash (list
+            ++ next_child (cosigner_state self.old) ∷ [])
+            ≡ Ok (having_child (cosigner_state self.old))) }
+        ensures number { IfOk result (λ n. n ≡ (cosigner_state self.old).key.children) }
+        ensures records { OnErr result (cosigner_records self.new ≡ cosigner_records self.old) }
+    {
+        let lower = self.prepare(alloc)?;
+        match self.keyless.child() {
+            Ok(number) => {
+                self.key.adopt(lower);
+                Ok(number)
+            }
+            Err(why) => Err(why),
+        }
+    }
+
+    // Makes the next lower tree, if one is to be made, without counting it.
+    fn prepare(&self, alloc: Global) -> Result<Lower, ChildError>
+        ensures prepares { PreparesChild (cosigner_state self.now) result }
+        ensures counts { CountsKeys (cosigner_state self.now).key }
+    {
+        self.keyless.test_child()?;
+        let lower = self.key.prepare(alloc)?;
+        Ok(lower)
     }
 
     /// Writes what others may know of the cosigner: its id and that of its log, each after its

@@ -25,7 +25,8 @@ pub fn pack(
     settings: &CosignerSettings,
     secret: &Secret,
 ) -> Result<FirstRecord, Memory>
-    requires { IsSigningHeight settings.now.lms }
+    requires small { IsSigningHeight settings.now.lms }
+    requires low { IfSome settings.now.low IsSigningHeight }
     ensures body { IfOk result (λ it. first_body it ≡ cosigner_record settings.now secret.now) }
     ensures valid { (h : HashFunction)
         → cosigner_of h (cosigner_record settings.now secret.now ∷ [])
@@ -46,7 +47,8 @@ pub fn create<D: Disk>(
     settings: &CosignerSettings,
     secret: &Secret,
 ) -> Result<Journal<D>, Refused<D, StartError>>
-    requires { IsSigningHeight settings.now.lms }
+    requires small { IsSigningHeight settings.now.lms }
+    requires low { IfSome settings.now.low IsSigningHeight }
     ensures ok { IfOk result (HasStarted (cosigner_record settings.now secret.now) disk) }
     ensures err { IfErr result (λ e. IsNotStarted D.Disk disk e.disk e.why) }
     ensures spared { IfErr result (λ e. IfSome (D.contents disk)

@@ -2,6 +2,8 @@
 
 ghost use Rattle.std.specs.Prelude.{◌≡◌};
 ghost use Rattle.cosigner_core.specs.declared.error.CosignError.TheVariants.{Append as NotAppended};
+ghost use Rattle.cosigner_core.specs.declared.error.ChildError.TheVariants.{Append as ChildNotAppended};
+ghost use Rattle.cosigner_core.specs.declared.error.ChildError.TheVariants.{Memory as NoMemory};
 ghost use Rattle.cosigner_core.specs.declared.error.RecordError.TheVariants.{Unfit};
 ghost use Rattle.cosigner_core.specs.declared.error.RecordError.TheVariants.{Memory as RecordMemory};
 ghost use Rattle.cosigner_core.specs.declared.error.ReadExportError.TheVariants.{Memory as ExportMemory};
@@ -29,6 +31,8 @@ pub enum CosignError {
     Beyond(u64),
     /// The consistency proof does not check.
     BadProof,
+    /// Each one-time key of the lower trees has signed, and the next lower tree may be made.
+    NeedsChild,
     /// Each one-time key of the cosigner has signed.
     Exhausted,
     /// The record was not appended.
@@ -48,6 +52,7 @@ impl fmt::Display for CosignError {
             CosignError::BadSubtree => f.write_str("BadSubtree"),
             CosignError::Beyond(held) => write!(f, "Beyond {held}"),
             CosignError::BadProof => f.write_str("BadProof"),
+            CosignError::NeedsChild => f.write_str("NeedsChild"),
             CosignError::Exhausted => f.write_str("Exhausted"),
             CosignError::Append(why) => why.fmt(f),
         }
@@ -55,6 +60,40 @@ impl fmt::Display for CosignError {
 }
 
 impl Error for CosignError {}
+
+/// Why a cosigner makes no further lower tree. The call says in which order it tests.
+#[derive(Clone, Copy, Debug, PartialEq, Eq)]
+pub enum ChildError {
+    /// The key has one level.
+    OneLevel,
+    /// The newest lower tree has so many one-time keys left.
+    ChildLeft(u32),
+    /// Each one-time key of the cosigner has signed, and it has all its lower trees.
+    Exhausted,
+    /// The record was not appended.
+    Append(AppendError),
+    /// Memory was refused.
+    Memory,
+}
+
+impl fmt::Display for ChildError {
+    ghost use Rattle.std.specs.Prelude.{Some};
+    ghost use Rattle.cosigner_core.specs.Reasons.{child_fault_text};
+
+    ghost output = { λ why. Some (child_fault_text why) };
+
+    fn fmt<W: fmt::Write>(&self, f: &mut fmt::Formatter<W>) -> fmt::Result {
+        match self {
+            ChildError::OneLevel => f.write_str("OneLevel"),
+            ChildError::ChildLeft(left) => write!(f, "ChildLeft {left}"),
+            ChildError::Exhausted => f.write_str("Exhausted"),
+            ChildError::Append(why) => why.fmt(f),
+            ChildError::Memory => f.write_str("Memory"),
+        }
+    }
+}
+
+impl Error for ChildError {}
 
 /// Why bytes are no export. They are read from the left, and the first fault is answered.
 #[derive(Clone, Copy, Debug, PartialEq, Eq)]
@@ -104,6 +143,22 @@ impl From<AppendError> for CosignError {
 
     fn from(why: AppendError) -> Self {
         CosignError::Append(why)
+    }
+}
+
+impl From<AppendError> for ChildError {
+    ghost from_gives = { λ why e. e ≡ ChildNotAppended why };
+
+    fn from(why: AppendError) -> Self {
+        ChildError::Append(why)
+    }
+}
+
+impl From<Memory> for ChildError {
+    ghost from_gives = { λ _ e. e ≡ NoMemory };
+
+    fn from(_: Memory) -> Self {
+        ChildError::Memory
     }
 }
 

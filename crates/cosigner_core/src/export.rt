@@ -13,17 +13,26 @@ use crate::contents::Contents;
 use hss_core::PUBLIC_KEY_LEN;
 use mtc_io::{Failed, Sink, write_pieces};
 
-// The tag of the first record, the lengths of the ids, the two typecodes and the secret.
+// The tag of the first record, the lengths of the ids, the typecodes of the tree and of the
+// one-time keys, and the secret.
 const FIRST_FIELDS: u64 = 59;
+
+// The typecode of the lower trees.
+const LOW_FIELD: u64 = 4;
 
 /// The length of the first record, as the settings determine it. The call doesn't read the disk, so
 /// whatever that gives, the secret in that record isn't copied.
 pub(crate) fn first_size(contents: &Contents) -> u64
-    ensures value { result ≡ first_record_length contents.now.id contents.now.log }
+    ensures value { result ≡ first_record_length contents.now.id contents.now.log
+        contents.now.key.key.low }
     ensures few { result ≤ 131072 }
 {
     let ids = contents.id().as_bytes().len() + contents.log().as_bytes().len();
-    FIRST_FIELDS + ids as u64
+    let low = match contents.low() {
+        None => 0,
+        Some(_) => LOW_FIELD,
+    };
+    FIRST_FIELDS + ids as u64 + low
 }
 
 /// Writes the ids of a cosigner and of its log, and its public key, which is given.

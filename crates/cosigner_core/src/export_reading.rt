@@ -6,7 +6,7 @@ ghost use Rattle.byte_formats.specs.Readings.{Answers, Moves};
 ghost use Rattle.tls_wire.specs.Reading.{vector_at};
 ghost use Rattle.cosigner_core.specs.ExportReading.{MovesUnless, export_prefix_at, export_id_at};
 ghost use Rattle.cosigner_core.specs.ExportReading.{export_in, export_key_at, exported_at};
-ghost use Rattle.cosigner_core.specs.ExportReading.{signing_terms, steps_left};
+ghost use Rattle.cosigner_core.specs.ExportReading.{signing_terms, steps_left, terms_of_levels};
 ghost use Rattle.cosigner_core.specs.Progress.{with_step};
 ghost use Rattle.cosigner_core.specs.Views.{step_said};
 ghost use Rattle.cosigner_core.specs.declared.error.ReadExportError.TheVariants.{Memory as NoCapacity};
@@ -17,21 +17,34 @@ use crate::progress::Progress;
 use crate::record::read_step;
 use crate::step::{Step, StepRef};
 use crate::terms::KeyTerms;
-use hss_core::{PUBLIC_KEY_LEN, read_key};
+use hss_core::{LmsType, PUBLIC_KEY_LEN, read_key};
 use mtc_io::Memory;
 use std::alloc::Global;
 use tls_wire::{AnchorBytesError, AnchorId, Cursor, Short};
 use tree_core::TreeHash;
 use tree_proofs::Hashes;
 
-// The terms of a public key of one level, whose tree has height 5 or 10.
+// The terms of a public key of one level or of two, whose top tree has height 5 or 10.
 #[tactic(auto, unfolding(crate::specs::ExportReading::signing_terms))]
 fn signing_terms(public: &[u8]) -> Option<KeyTerms>
     ensures exact { result ≡ signing_terms public.now }
     ensures length { IfSome result (λ terms. length public.now ≡ 60) }
 {
     match read_key(public) {
-        Some((1, lms, _)) if lms.is_signing_height() => Some(KeyTerms::OneLevel(lms)),
+        Some((levels, lms, _)) if lms.is_signing_height() => terms_of_levels(levels, lms),
+        _ => None,
+    }
+}
+
+fn terms_of_levels(levels: u32, lms: LmsType) -> Option<KeyTerms>
+    ensures { result ≡ terms_of_levels levels lms }
+{
+    match levels {
+        1 => Some(KeyTerms::OneLevel(lms)),
+        2 => Some(KeyTerms::TwoLevels {
+            top: lms,
+            low: None,
+        }),
         _ => None,
     }
 }
@@ -136,6 +149,10 @@ fn owned(alloc: Global, step: &StepRef<'_>) -> Result<Step, Memory>
             hash: *hash,
             proof: Hashes::from_vec(Vec::from_slice(alloc, proof)?),
         }),
+        StepRef::Child { number, low } => Ok(Step::Child {
+            number: *number,
+            low: *low,
+        }),
     }
 }
 
@@ -171,9 +188,10 @@ fn read_steps<H: TreeHash>(
 ///
 /// Errors, of which the first that is met is answered: `Short` with the offset of the id, the key
 /// or the record that doesn't fit; `BadId` for an id that is no anchor id; `BadKey` for a key that
-/// isn't one of one level whose tree has height 5 or 10; `BadRecord` with the number, counted from
-/// 1, of a record that says no step, or one that is not allowed after those before it. `Memory` may
-/// come instead of any answer.
+/// isn't one of one level or of two whose top tree has height 5 or 10; `BadRecord` with the number,
+/// counted from 1, of a record that says no step, or one that is not allowed after those before it.
+/// `Memory` may come instead of any answer. The lower trees of a key of two levels have the height
+/// that the first of them shows.
 #[tactic(auto, unfolding(crate::specs::ExportReading::export_in))]
 pub fn read_export<H: TreeHash>(
     alloc: Global,

@@ -1,6 +1,6 @@
 //! Which records may follow the first one of a cosigner's journal.
 
-ghost use Rattle.std.specs.Prelude.{◌≡◌, [], ◌∷◌, ◌++◌, None, option_and_then};
+ghost use Rattle.std.specs.Prelude.{◌≡◌, [], ◌∷◌, ◌++◌, option_and_then};
 ghost use Rattle.cosigner_core.specs.Progress.{may_follow_cosigner, progress_after, terms_of};
 ghost use Rattle.cosigner_core.specs.Records.{step_in};
 
@@ -27,7 +27,7 @@ fn next_progress<H: TreeHash>(progress: &Progress, terms: KeyTerms, body: &[u8])
 /// these settings. Its secret has no part in it. It takes no memory.
 pub fn may_follow<H: TreeHash>(settings: &CosignerSettings, bodies: &[Bytes], body: &[u8]) -> bool
     ensures { result
-        ≡ may_follow_cosigner H.hash (terms_of settings.now.lms None)
+        ≡ may_follow_cosigner H.hash (terms_of settings.now.lms settings.now.low)
         (bodies.now ++ body.now ∷ []) }
 {
     let terms = settings.terms();

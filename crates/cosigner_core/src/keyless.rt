@@ -1,7 +1,7 @@
 //! A cosigner without its key, which holds the roots of larger logs and signs nothing.
 
 ghost use Rattle.std.specs.Prelude.{◌≡◌, ◌<◌, ◌++◌, ℕ, List, [], ◌∷◌, None, Some, Ok, IfSome, IfOk};
-ghost use Rattle.std.specs.Prelude.{◌^◌, IfErr, OnOk, OnErr};
+ghost use Rattle.std.specs.Prelude.{◌≢◌, ◌^◌, Err, IfErr, OnOk, OnErr};
 ghost use Rattle.std.proofs.Props.{props};
 ghost use Rattle.std.specs.Io.KnownBytes.{Appends};
 ghost use Rattle.mtc_io.specs.Streams.{AppendsPrefix};
@@ -9,17 +9,21 @@ ghost use Rattle.disk_core.specs.Times.{OnlyReads};
 ghost use Rattle.journal_core.specs.Copies.{AppendsSome, HasCopyCause};
 ghost use Rattle.journal_core.specs.Owners.{OwnerAppends};
 ghost use Rattle.journal_core.specs.Words.{disk_of, end_of};
-ghost use Rattle.hss_keys.specs.Keys.{public_of};
+ghost use Rattle.hss_keys.specs.Keys.{CountsKeys, public_of};
 ghost use Rattle.mtc_proof.specs.Inputs.{signed_text};
+ghost use Rattle.cosigner_core.specs.Children.{ChildKeepsTo, TestsChild, child_refused, next_child};
+ghost use Rattle.cosigner_core.specs.Children.{of_child_journal};
 ghost use Rattle.cosigner_core.specs.DurableRecords.{IsDurableAs, IsDurableAs-prop};
 ghost use Rattle.cosigner_core.specs.Exports.{export_text};
-ghost use Rattle.cosigner_core.specs.Folds.{cosigner_of, having_signed, holding, key_count};
+ghost use Rattle.cosigner_core.specs.Folds.{cosigner_of, having_child, having_signed, holding};
+ghost use Rattle.cosigner_core.specs.Folds.{key_count};
 ghost use Rattle.cosigner_core.specs.Openings.{CosignerIsNotOpened, CosignerIsOpened};
 ghost use Rattle.cosigner_core.specs.Records.{advance_record, sign_record};
 ghost use Rattle.cosigner_core.specs.Refusals.{CosignKeepsTo, advance_refused, cosign_refused};
 ghost use Rattle.cosigner_core.specs.Views.{advance_parts, subtree_parts};
+ghost use Rattle.cosigner_core.specs.declared.error.ChildError.TheVariants.{Memory as NoMemory};
 
-use crate::error::{CosignError, CosignerOpenError};
+use crate::error::{ChildError, CosignError, CosignerOpenError};
 use crate::export::{first_size, write_prefix};
 use crate::machine::Machine;
 use crate::requests::{AdvanceRequest, SubtreeRequest};
@@ -28,6 +32,7 @@ use disk_core::Disk;
 use hss_core::PUBLIC_KEY_LEN;
 use hss_keys::HssKey;
 use journal_core::{CopyError, Journal, Refused, copy_after};
+use lms_core::LmsType;
 use mtc_io::{Failed, Memory, Sink};
 use mtc_proof::InputBuf;
 use state_journal::{append_to, open_state};
@@ -147,6 +152,48 @@ impl<H: TreeHash, D: Disk> KeylessCosigner<H, D> {
         Ok(())
     }
 
+    /// Appends the Child of the next lower tree, and answers its number: a key that is rebuilt
+    /// afterwards has that tree. It makes no tree and takes no memory. At Ok a crash leaves the
+    /// records with the Child; at any time of the call it leaves the old records, or these and that
+    /// one.
+    ///
+    /// Errors, in the order of the tests: `OneLevel` if the key has one level; `ChildLeft` with the
+    /// number of one-time keys left, if the newest lower tree has some; `Exhausted` if there are as
+    /// many lower trees as the upper tree has one-time keys; and what [`Journal::append`] refuses.
+    /// A refusal leaves the cosigner as it was. After `Append(Failed)` it shows what it showed
+    /// before, and each further call that passes its tests answers `Append(Broken)`.
+    pub fn child(&mut self) -> Result<u32, ChildError>
+        ensures appends { let old = keyless_owner self.old in
+            OwnerAppends D.Disk of_child_journal (next_child old.state) (having_child old.state) old
+            (keyless_owner self.new) result }
+        ensures answer { let old = keyless_owner self.old in
+            ChildKeepsTo old.state old.broken old.end result }
+        ensures never { result ≢ Err NoMemory }
+        ensures valid { let old = keyless_owner self.old in
+            child_refused old.state old.broken old.end ≡ None
+            → IfSome old.records (λ list. cosigner_of H.hash (list ++ next_child old.state ∷ [])
+            ≡ Ok (having_child old.state)) }
+        ensures number { IfOk result (λ n. n ≡ (keyless_owner self.old).state.key.children) }
+        ensures records { OnErr result ((keyless_owner self.new).records
+            ≡ (keyless_owner self.old).records) }
+        ensures state { OnErr result ((keyless_owner self.new).state
+            ≡ (keyless_owner self.old).state) }
+    {
+        let low = self.machine.contents.test_child()?;
+        let number = self.machine.contents.children();
+        let body = StepRecord::child(number, low);
+        append_to(&mut self.journal, &mut self.machine, body.as_slice())?;
+        Ok(number)
+    }
+
+    /// Whether a further lower tree is to be made: then it answers the height of the lower trees.
+    pub(crate) fn test_child(&self) -> Result<LmsType, ChildError>
+        ensures tests { TestsChild (keyless_owner self.now).state result }
+        ensures counts { CountsKeys (keyless_owner self.now).state.key }
+    {
+        self.machine.contents.test_child()
+    }
+
     /// What the signature of a request signs.
     pub(crate) fn put_input(&self, request: &SubtreeRequest<'_>, out: &mut InputBuf)
         ensures { let state = (keyless_owner self.now).state in
@@ -158,9 +205,22 @@ impl<H: TreeHash, D: Disk> KeylessCosigner<H, D> {
             .put_input(request.start, request.end, &request.hash, out);
     }
 
-    /// Writes the export of the cosigner, whose public key this is. The errors are those of
-    /// [`Cosigner::export`](crate::Cosigner::export).
-    pub(crate) fn export_with<O: Sink>(
+    /// The public key of its signatures (RFC 8554, section 6.1). It makes the top tree, and no
+    /// lower one.
+    ///
+    /// The one error is `Memory`, for the tree.
+    pub fn public(&self, alloc: Global) -> Result<[u8; PUBLIC_KEY_LEN], Memory>
+        ensures { IfOk result (λ public. public
+            ≡ public_of (keyless_owner self.now).state.key.key) }
+    {
+        self.machine.contents.public(alloc)
+    }
+
+    /// Writes the export of the cosigner, whose public key is given: what
+    /// [`Cosigner::export`](crate::Cosigner::export) writes. It makes no tree and takes no memory.
+    /// The errors are those of that call: `Read` where the disk fails, and `Write` where the sink
+    /// does. A prefix of the export is written then.
+    pub fn export_with<O: Sink>(
         &mut self,
         public: &[u8; PUBLIC_KEY_LEN],
         out: &mut O,

@@ -9,6 +9,10 @@
 //! key, once every crash state of the disk holds the record with its number: so no one-time key
 //! signs twice, whenever the machine stops.
 //!
+//! The key has one level or two. With two levels one-time keys sign messages while the newest lower
+//! tree has some left, and [`Cosigner::child`] makes the next one, once every crash state of the
+//! disk holds its Child record.
+//!
 //! What the records of a journal make of a cosigner is one function of them. A cosigner follows it:
 //! unless an append has failed, what it holds and its next one-time key are what the records on its
 //! disk make.
@@ -43,7 +47,7 @@ mod writing;
 
 pub use cosigner::Cosigner;
 pub use creation::{create, pack};
-pub use error::{CosignError, CosignerOpenError, ReadExportError};
+pub use error::{ChildError, CosignError, CosignerOpenError, ReadExportError};
 pub use export_reading::read_export;
 pub use fault::FormError;
 pub use following::may_follow;

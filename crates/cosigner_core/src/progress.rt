@@ -1,7 +1,8 @@
 //! How far its steps bring a cosigner.
 
-ghost use Rattle.std.specs.Prelude.{◌≡◌};
-ghost use Rattle.cosigner_core.specs.Progress.{first_progress, keys_by, progress_after};
+ghost use Rattle.std.specs.Prelude.{◌≡◌, ◌<◌, ◌^◌, IsTrue};
+ghost use Rattle.cosigner_core.specs.Progress.{first_progress, fits_height, keys_by};
+ghost use Rattle.cosigner_core.specs.Progress.{progress_after, takes_child};
 ghost use Rattle.cosigner_core.specs.Views.{step_said};
 
 use crate::step::StepRef;
@@ -87,6 +88,45 @@ impl Progress {
                     low: self.low,
                 })
             }
+            StepRef::Child { number, low } => {
+                if !self.takes_child(terms, *number, *low) {
+                    return None;
+                }
+                Some(Progress {
+                    held: self.held,
+                    next: self.next,
+                    children: self.children + 1,
+                    low: Some(*low),
+                })
+            }
         }
+    }
+
+    // Whether the next lower tree of a key of these terms may be made, and has this number and this
+    // height.
+    fn takes_child(&self, terms: KeyTerms, number: u32, low: LmsType) -> bool
+        ensures exact { result ≡ takes_child terms self.now number low }
+        ensures few { IsTrue result → self.now.children < 2 ^ 25 }
+    {
+        match terms {
+            KeyTerms::OneLevel(_) => false,
+            KeyTerms::TwoLevels { top, low: known } => {
+                number == self.children
+                    && number < top.leaves()
+                    && self.next == self.keys(terms)
+                    && fits_height(known, low)
+                    && fits_height(self.low, low)
+            }
+        }
+    }
+}
+
+// Whether a height, where it is known, is this one.
+fn fits_height(known: Option<LmsType>, low: LmsType) -> bool
+    ensures { result ≡ fits_height known low }
+{
+    match known {
+        None => true,
+        Some(known) => known.typecode() == low.typecode(),
     }
 }

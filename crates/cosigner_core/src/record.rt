@@ -6,7 +6,8 @@ ghost use Rattle.lms_core.specs.Heights.{IsSigningHeight};
 ghost use Rattle.tls_wire.specs.Reading.{bytes_at};
 ghost use Rattle.cosigner_core.specs.Records.{advance_step_at, cosigner_at, cosigner_in, founded};
 ghost use Rattle.cosigner_core.specs.Records.{cosigner_settings_with, sign_step_at, signing_type};
-ghost use Rattle.cosigner_core.specs.Records.{step_in, advance_of, sign_of};
+ghost use Rattle.cosigner_core.specs.Records.{advance_of, child_of, child_step_at, low_at};
+ghost use Rattle.cosigner_core.specs.Records.{low_type, sign_of, step_in};
 ghost use Rattle.cosigner_core.specs.Results.{CosignerFinds};
 ghost use Rattle.cosigner_core.specs.declared.error.RecordError.TheVariants.{Memory as RecordMemory};
 ghost use Rattle.cosigner_core.specs.Views.{step_said};
@@ -25,6 +26,10 @@ pub(crate) const ADVANCE: u8 = 0x12;
 
 pub(crate) const SIGN: u8 = 0x13;
 
+pub(crate) const CHILD: u8 = 0x14;
+
+pub(crate) const COSIGNER_2: u8 = 0x15;
+
 // The secret of a key.
 fn secret(cursor: &mut Cursor<'_>) -> Result<Secret, Short>
     ensures { Moves (λ secret. secret) (bytes_at 48) cursor.old result cursor.new }
@@ -36,20 +41,49 @@ fn secret(cursor: &mut Cursor<'_>) -> Result<Secret, Short>
     }
 }
 
-// The two ids, the two typecodes and the secret after the tag, in their order.
+// The typecode of lower trees, where there are two levels.
+fn low_code(cursor: &mut Cursor<'_>, two: bool) -> Result<Option<u32>, Short>
+    ensures { Moves (λ low. low) (low_at two) cursor.old result cursor.new }
+{
+    if two {
+        let code = cursor.u32()?;
+        Ok(Some(code))
+    } else {
+        Ok(None)
+    }
+}
+
+// What stands after the tag of a first record.
+#[derive(Drop)]
+struct FirstFields<'a> {
+    id: &'a [u8],
+    log: &'a [u8],
+    lms: u32,
+    low: Option<u32>,
+    ots: u32,
+    secret: Secret,
+}
+
+// The two ids, the typecodes and the secret after the tag, in their order.
 #[tactic(auto, unfolding(crate::specs::Records::cosigner_at))]
-fn cosigner_fields<'a>(
-    cursor: &mut Cursor<'a>,
-) -> Result<(&'a [u8], &'a [u8], u32, u32, Secret), Short>
-    ensures { Moves (λ x. (x.0.now, (x.1.now, (x.2, (x.3, x.4))))) cosigner_at cursor.old
-        result cursor.new }
+fn cosigner_fields<'a>(cursor: &mut Cursor<'a>, two: bool) -> Result<FirstFields<'a>, Short>
+    ensures { Moves (λ x. (x.id.now, (x.log.now, (x.lms, (x.low, (x.ots, x.secret))))))
+        (cosigner_at two) cursor.old result cursor.new }
 {
     let id = cursor.vec8()?;
     let log = cursor.vec8()?;
     let lms = cursor.u32()?;
+    let low = low_code(cursor, two)?;
     let ots = cursor.u32()?;
     let secret = secret(cursor)?;
-    Ok((id, log, lms, ots, secret))
+    Ok(FirstFields {
+        id,
+        log,
+        lms,
+        low,
+        ots,
+        secret,
+    })
 }
 
 // The size, the root and the proof after the tag of an Advance.
@@ -112,7 +146,34 @@ fn sign_step(mut cursor: Cursor<'_>) -> Result<StepRef<'_>, RecordError>
     })
 }
 
-/// What an Advance or a Sign says, in the body of a record after the first one.
+// The number and the typecode after the tag of a Child.
+#[tactic(auto, unfolding(crate::specs::Records::child_step_at))]
+fn child_fields(cursor: &mut Cursor<'_>) -> Result<(u32, u32), FormError>
+    ensures { Moves (λ x. (x.0, x.1)) child_step_at cursor.old result cursor.new }
+{
+    let number = cursor.u32()?;
+    let code = cursor.u32()?;
+    Ok((number, code))
+}
+
+// A Child that ends where the record does.
+fn child_step(mut cursor: Cursor<'_>) -> Result<StepRef<'_>, RecordError>
+    ensures found { CosignerFinds step_said (option_and_then child_of
+        (whole_of (child_step_at cursor.entry)))
+        result }
+    ensures never { result ≢ Err RecordMemory }
+{
+    let (number, code) = child_fields(&mut cursor)?;
+    if cursor.left() != 0 {
+        return Err(RecordError::Unfit);
+    }
+    match signing_type(code) {
+        Some(low) => Ok(StepRef::Child { number, low }),
+        None => Err(RecordError::Unfit),
+    }
+}
+
+/// What an Advance, a Sign or a Child says, in the body of a record after the first one.
 #[tactic(auto, unfolding(crate::specs::Records::step_in))]
 pub(crate) fn read_step(body: &[u8]) -> Result<StepRef<'_>, RecordError>
     ensures found { CosignerFinds step_said (step_in body.now) result }
@@ -122,6 +183,7 @@ pub(crate) fn read_step(body: &[u8]) -> Result<StepRef<'_>, RecordError>
     match cursor.u8()? {
         ADVANCE => advance_step(cursor),
         SIGN => sign_step(cursor),
+        CHILD => child_step(cursor),
         _ => Err(RecordError::Unfit),
     }
 }
@@ -138,17 +200,37 @@ fn signing_type(code: u32) -> Option<LmsType>
     }
 }
 
+// The height of lower trees, if there are any.
+fn low_type(code: Option<u32>) -> Option<Option<LmsType>>
+    ensures exact { result ≡ low_type code }
+    ensures signs { IfSome result (λ low. IfSome low IsSigningHeight) }
+{
+    match code {
+        None => Some(None),
+        Some(code) => match signing_type(code) {
+            Some(low) => Some(Some(low)),
+            None => None,
+        },
+    }
+}
+
 fn settings_with(
     alloc: Global,
     id: &[u8],
     log: &[u8],
     lms: u32,
+    low: Option<u32>,
     ots: u32,
 ) -> Result<CosignerSettings, RecordError>
-    ensures found { CosignerFinds (λ s. s) (cosigner_settings_with id.now log.now lms ots) result }
+    ensures found { CosignerFinds (λ s. s) (cosigner_settings_with id.now log.now lms low ots)
+        result }
     ensures signs { IfOk result (λ s. IsSigningHeight s.lms) }
+    ensures low_signs { IfOk result (λ s. IfSome s.low IsSigningHeight) }
 {
     let Some(lms) = signing_type(lms) else {
+        return Err(RecordError::Unfit);
+    };
+    let Some(low) = low_type(low) else {
         return Err(RecordError::Unfit);
     };
     let Some(ots) = OtsType::from_typecode(ots) else {
@@ -156,25 +238,44 @@ fn settings_with(
     };
     let id = AnchorId::from_bytes(alloc, id)?;
     let log = AnchorId::from_bytes(alloc, log)?;
-    Ok(CosignerSettings { id, log, lms, ots })
+    Ok(CosignerSettings {
+        id,
+        log,
+        lms,
+        low,
+        ots,
+    })
 }
 
-// The settings and the secret after the tag of a Cosigner, if nothing else stands there.
-fn founded(alloc: Global, mut cursor: Cursor<'_>) -> Result<(CosignerSettings, Secret), RecordError>
+// The settings and the secret after the tag of a first record, if nothing else stands there.
+fn founded(
+    alloc: Global,
+    mut cursor: Cursor<'_>,
+    two: bool,
+) -> Result<(CosignerSettings, Secret), RecordError>
     ensures found { CosignerFinds (λ x. x) (option_and_then founded
-        (whole_of (cosigner_at cursor.entry)))
+        (whole_of (cosigner_at two cursor.entry)))
         result }
     ensures signs { IfOk result (λ x. IsSigningHeight x.0.lms) }
+    ensures low_signs { IfOk result (λ x. IfSome x.0.low IsSigningHeight) }
 {
-    let (id, log, lms, ots, secret) = cosigner_fields(&mut cursor)?;
+    let FirstFields {
+        id,
+        log,
+        lms,
+        low,
+        ots,
+        secret,
+    } = cosigner_fields(&mut cursor, two)?;
     if cursor.left() != 0 {
         return Err(RecordError::Unfit);
     }
-    let settings = settings_with(alloc, id, log, lms, ots)?;
+    let settings = settings_with(alloc, id, log, lms, low, ots)?;
     Ok((settings, secret))
 }
 
-/// The settings and the secret in the body of a Cosigner, the first record of a journal.
+/// The settings and the secret in the body of a Cosigner or a Cosigner2, the first record of a
+/// journal.
 #[tactic(auto, unfolding(crate::specs::Records::cosigner_in))]
 pub(crate) fn read_settings(
     alloc: Global,
@@ -182,10 +283,12 @@ pub(crate) fn read_settings(
 ) -> Result<(CosignerSettings, Secret), RecordError>
     ensures found { CosignerFinds (λ x. x) (cosigner_in body.now) result }
     ensures signs { IfOk result (λ x. IsSigningHeight x.0.lms) }
+    ensures low_signs { IfOk result (λ x. IfSome x.0.low IsSigningHeight) }
 {
     let mut cursor = Cursor::new(body);
-    if cursor.u8()? != COSIGNER {
-        return Err(RecordError::Unfit);
+    match cursor.u8()? {
+        COSIGNER => founded(alloc, cursor, false),
+        COSIGNER_2 => founded(alloc, cursor, true),
+        _ => Err(RecordError::Unfit),
     }
-    founded(alloc, cursor)
 }

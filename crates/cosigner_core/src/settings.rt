@@ -1,6 +1,6 @@
 //! What is fixed when a cosigner begins.
 
-ghost use Rattle.std.specs.Prelude.{◌≡◌, None};
+ghost use Rattle.std.specs.Prelude.{◌≡◌};
 ghost use Rattle.cosigner_core.specs.Progress.{terms_of};
 
 use crate::terms::KeyTerms;
@@ -14,8 +14,11 @@ pub struct CosignerSettings {
     pub id: AnchorId,
     /// The name of the log whose subtrees it signs.
     pub log: AnchorId,
-    /// The height of its key's tree, 5 or 10: it signs 32 or 1,024 times.
+    /// The height of its key's tree, 5 or 10. A key of one level signs 32 or 1,024 times; with two
+    /// levels it has up to as many lower trees.
     pub lms: LmsType,
+    /// The height of the lower trees, 5 or 10, if its key has two levels.
+    pub low: Option<LmsType>,
     /// The width of its one-time keys.
     pub ots: OtsType,
 }
@@ -23,8 +26,14 @@ pub struct CosignerSettings {
 impl CosignerSettings {
     /// The terms of its key.
     pub(crate) fn terms(&self) -> KeyTerms
-        ensures { result ≡ terms_of self.now.lms None }
+        ensures { result ≡ terms_of self.now.lms self.now.low }
     {
-        KeyTerms::OneLevel(self.lms)
+        match self.low {
+            None => KeyTerms::OneLevel(self.lms),
+            Some(low) => KeyTerms::TwoLevels {
+                top: self.lms,
+                low: Some(low),
+            },
+        }
     }
 }

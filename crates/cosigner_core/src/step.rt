@@ -1,5 +1,6 @@
 //! What the records of a cosigner's journal say after the first one.
 
+use lms_core::LmsType;
 use tree_proofs::Hashes;
 
 /// A step of a cosigner: what a record after the first one says.
@@ -21,6 +22,11 @@ pub enum Step {
         hash: [u8; 32],
         proof: Hashes,
     },
+    /// A further lower tree is there to sign: its number and its height.
+    Child {
+        number: u32,
+        low: LmsType,
+    },
 }
 
 /// A step as it is read. The hashes of the proof lie in the record.
@@ -39,5 +45,10 @@ pub(crate) enum StepRef<'a> {
         end: u64,
         hash: [u8; 32],
         proof: &'a [[u8; 32]],
+    },
+    /// A further lower tree is there to sign.
+    Child {
+        number: u32,
+        low: LmsType,
     },
 }

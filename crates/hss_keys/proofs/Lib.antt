@@ -1,1 +1,1 @@
-mod Newest
+pub mod Newest

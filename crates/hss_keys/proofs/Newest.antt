@@ -162,7 +162,7 @@ signed_verifies s message id few left =
     (below_most s.key.top.lms s.key.low s.children s.next few left)
 
 -- what a signature has of the upper tree
-upper_is : (top : PrivateKey) (low : LmsType) (c r : ℕ) (message : Text)
+pub upper_is : (top : PrivateKey) (low : LmsType) (c r : ℕ) (message : Text)
     → upper_part top (two_level_signature top (lower_key top low c) c r message)
     ≡ to_be_bytes w32 1 ++ lms_signature top c (lms_public (lower_key top low c))
     ++ lms_public (lower_key top low c)

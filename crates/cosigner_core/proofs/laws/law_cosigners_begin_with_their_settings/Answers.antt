@@ -1,4 +1,4 @@
-use Rattle.cosigner_core.proofs.After.{begins_so, once_each, only_begins}
+use Rattle.cosigner_core.proofs.After.{begins_so, after_its_tree, once_each, only_begins}
 use Rattle.cosigner_core.proofs.laws.law_cosigners_begin_with_their_settings.Goals as goal
 
 pub returns-clause-following : goal.returns-clause-following
@@ -9,3 +9,6 @@ returns-clause-only c = only_begins
 
 pub returns-clause-once : goal.returns-clause-once
 returns-clause-once c = once_each
+
+pub returns-clause-trees : goal.returns-clause-trees
+returns-clause-trees c = after_its_tree
