@@ -1,0 +1,15 @@
+pub mod Counted
+pub mod Durable
+pub mod Folds
+pub mod Kept
+pub mod Machine
+pub mod Opened
+pub mod Openings
+pub mod Places
+pub mod Reasons
+pub mod Records
+pub mod Refusals
+pub mod Results
+pub mod Rules
+pub mod Staying
+pub mod Words
